@@ -31,13 +31,13 @@ abbrev pub GivesNoText : Choice → Reading → Error → Type 0
 GivesNoText c gives error = IsRefusedBy c.options gives error
 
 -- the text of the file's module was written once, and the write answered this
-abbrev pub WritesText : {W : Type 0} → Choice → Reading → TextWrite W → W → W → Result (Unit {0}) IoError → Type 0
-WritesText c gives takes old new answer = (text : List ℕ) × GivesText c gives text × takes old (Some text) answer new
+abbrev pub WritesModuleText : {W : Type 0} → Choice → Reading → TextWrite W → W → W → Result (Unit {0}) IoError → Type 0
+WritesModuleText c gives takes old new answer = (text : List ℕ) × GivesText c gives text × takes old (Some text) answer new
 
 -- the module isn't printed: there is no text of it, and nothing was written; or the one write of its text failed
 abbrev pub FailsToWrite : {W : Type 0} → Choice → Reading → TextWrite W → W → W → Error → Type 0
 FailsToWrite c gives takes old new error = (GivesNoText c gives error × (new ≡ old))
-    ⊎ ((failure : IoError) × WritesText c gives takes old new (Err failure) × (error ≡ Printer failure))
+    ⊎ ((failure : IoError) × WritesModuleText c gives takes old new (Err failure) × (error ≡ Printer failure))
 
 -- the text was written once, whatever the write answered
 abbrev pub Tells : {W : Type 0} → TextWrite W → W → W → Option (List ℕ) → Type 0
@@ -59,16 +59,20 @@ Rendering X = X → List ℕ → Type 0
 abbrev pub TellsError : {V X : Type 0} → TextWrite V → V → V → Rendering X → X → Type 0
 TellsError tells old new renders error = (text : List ℕ) × renders error text × Tells tells old new (Some (error_line text))
 
--- What a run with these words leads to, where errors have the texts that `renders` says: the status is 2 exactly where the words don't name one
--- file beside options that there are, and then the output stays as it was and the usage line is told; it is 0 only where the text of the module in the
--- named file, as the words choose it, was written whole and nothing was told; and 1 only where it wasn't, and the error for which it wasn't was told.
+-- What a run with these words leads to, where errors have the texts that `renders` says: the status is 2 exactly where the words don't name
+-- one file beside options that there are, and then the output stays as it was and the usage line is told; it is 0 only where the text of
+-- the module in the named file, as the words choose it, was written whole and nothing was told; and 1 only where it wasn't, and the error
+-- for which it wasn't was told.
 pub record HasOutcome {W V : Type 0} (gives : List ℕ → Reading) (takes : TextWrite W) (tells : TextWrite V) (renders : Rendering Error)
     (words : List (List ℕ)) (out new_out : W) (err new_err : V) (status : ℕ) : Type 0 where
   pub usage : (status ≡ 2) ↔ (named_file words ≡ None)
   pub bound : status ≤ 2
   pub silent : status ≡ 2 → new_out ≡ out
   pub misused : status ≡ 2 → Tells tells err new_err (Some usage_line)
-  pub printed : status ≡ 0 → (file : List ℕ) × (named_file words ≡ Some file) × WritesText (choice_of words) (gives file) takes out new_out (Ok tt)
+  pub printed : status ≡ 0 →
+      (file : List ℕ) × (named_file words ≡ Some file) × WritesModuleText (choice_of words) (gives file) takes out new_out (Ok tt)
   pub quiet : status ≡ 0 → new_err ≡ err
-  pub refused : status ≡ 1 → (file : List ℕ) × (error : Error) × (named_file words ≡ Some file) × FailsToWrite (choice_of words) (gives file) takes out new_out error
+  pub refused : status ≡ 1 →
+      (file : List ℕ) × (error : Error) × (named_file words ≡ Some file)
+      × FailsToWrite (choice_of words) (gives file) takes out new_out error
       × TellsError tells err new_err renders error

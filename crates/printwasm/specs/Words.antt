@@ -34,7 +34,8 @@ color_option = codes "--color"
 
 -- an option that there is, or a file
 abbrev pub is_known : List ℕ → Bool
-is_known word = not (is_option word) || has (offsets_option ∷ (skeleton_option ∷ (name_unnamed_option ∷ (fold_option ∷ (color_option ∷ []))))) word
+is_known word =
+    not (is_option word) || has (offsets_option ∷ (skeleton_option ∷ (name_unnamed_option ∷ (fold_option ∷ (color_option ∷ []))))) word
 
 -- the words that are files
 abbrev pub files : List (List ℕ) → List (List ℕ)

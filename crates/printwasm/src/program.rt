@@ -4,7 +4,7 @@ ghost use Rattle.std.specs.Iterator.{IsFinite};
 ghost use Rattle.std.specs.Process.{exit_status};
 ghost use Rattle.std.specs.declared.io.Error.{Error as IoError};
 ghost use Rattle.printwasm.specs.Words.{AreWordsOf, WantsWords, is_option, is_known, named_file, has, choice_of};
-ghost use Rattle.printwasm.specs.Outcome.{IsTextBy, GivesText, GivesNoText, WritesText, FailsToWrite, TellsError, HasOutcome};
+ghost use Rattle.printwasm.specs.Outcome.{IsTextBy, GivesText, GivesNoText, WritesModuleText, FailsToWrite, TellsError, HasOutcome};
 ghost use Rattle.wasmprinter.specs.Outcome.{HasTextCause, IsTrueOfText};
 
 use crate::rendering::Render;
@@ -193,7 +193,7 @@ fn write_file<S: Source, O: Sink>(
     file: &str,
     out: &mut O,
 ) -> Result<(), Error>
-    ensures written { OnOk result (WritesText choice.now (S.gives source.now file.now) O.takes out.old out.new (Ok tt)) }
+    ensures written { OnOk result (WritesModuleText choice.now (S.gives source.now file.now) O.takes out.old out.new (Ok tt)) }
     ensures refused { IfErr result (FailsToWrite choice.now (S.gives source.now file.now) O.takes out.old out.new) }
 {
     let text = print_file(source, alloc, choice, file)?;

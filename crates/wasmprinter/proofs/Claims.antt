@@ -1,21 +1,20 @@
 -- Claims that were all answered no: the layout is that of a module of which no custom section is claimed.
-use Rattle.std.specs.Prelude.{◌≡◌, ℕ, ◌+◌, List, [], ◌∷◌, ◌++◌, ◌||◌, map, codes, Bool, true, false, Option, Some, None, refl}
+use Rattle.std.specs.Prelude.{◌≡◌, ℕ, ◌+◌, List, [], ◌∷◌, ◌++◌, flat_map, ◌||◌, map, codes, Bool, true, false, Option, Some, None, refl}
 use Rattle.std.specs.List.{AllByRecursion}
 use Rattle.std.proofs.Common.{sym, ap, ap₂, ◌∙◌, subst}
 use Rattle.wasmprinter_spec.specs.Call.{Call, Text, Newline, Line, Start, Claim, IsUnclaimed, calls_of_bytes, atoms}
-use Rattle.wasmprinter_spec.specs.Kinds.{Kind, TypeSection, ImportSection, FunctionSection, TableSection, MemorySection, TagSection, GlobalSection, ExportSection, StartSection, ElementSection, CodeSection, DataSection}
+use Rattle.wasmprinter_spec.specs.Kinds.{Kind}
 use Rattle.wasmprinter_spec.specs.Placed.{CustomEntry, PlacedModule}
 use Rattle.wasmprinter_spec.specs.Names.{Names}
 use Rattle.wasmprinter_spec.specs.ModuleNames.{module_names}
 use Rattle.wasmprinter_spec.specs.Options.{Options, Answers}
 use Rattle.wasmprinter_spec.specs.Piece.{Piece, Begin, Feed, Open, all_calls}
-use Rattle.wasmprinter_spec.specs.Layout.{module_parts, module_pieces_of, module_pieces_with, module_pieces, layout, refusal}
+use Rattle.wasmprinter_spec.specs.Layout.{early_scope, section_pieces, section_order, section_parts, module_parts, module_pieces_of, module_pieces_with, module_pieces, layout, refusal}
 use Rattle.wasmprinter_spec.specs.Layout.Groups.{close, has_break, group_at}
 use Rattle.wasmprinter_spec.specs.Layout.Identifiers.{leading_mark_pieces}
 use Rattle.wasmprinter_spec.specs.Layout.Customs.{Part, Shown, Stops, Laid, laid_parts, custom_part, same_place, parts_at}
 use Rattle.wasmprinter_spec.proofs.Each.{all_both, all_parts}
 use Rattle.wasmprinter_print.specs.PrintsLaws.{all_calls-append}
-use Rattle.wasmprinter_sections.specs.Sections.{fields_of, first_scope, section_parts}
 use Rattle.wasmprinter.specs.Printed.{no_claims}
 
 -- ---- of calls that are alike
@@ -108,15 +107,17 @@ module _ (o : Options) where
     customs_same : (place : Option Kind) → IsSameIf (parts_at o.skeleton answers place 0 m.customs) (parts_at o.skeleton no_claims place 0 m.customs)
     customs_same place h = place_same answers place 0 m.customs h
 
-    section_same : (k : Kind) → IsSameIf (section_parts o (first_scope o names m) m answers k) (section_parts o (first_scope o names m) m no_claims k)
-    section_same k = field_same (Shown (fields_of o (first_scope o names m) m k)) (customs_same (Some k))
+    section_same : (k : Kind) → IsSameIf (section_parts o (early_scope o names m) m answers k) (section_parts o (early_scope o names m) m no_claims k)
+    section_same k = field_same (Shown (section_pieces o (early_scope o names m) m k)) (customs_same (Some k))
+
+    sections_same : (ks : List Kind) →
+        IsSameIf (flat_map (section_parts o (early_scope o names m) m answers) ks) (flat_map (section_parts o (early_scope o names m) m no_claims) ks)
+    sections_same [] h = refl
+    sections_same (k ∷ ks) h = both_same (section_same k) (sections_same ks) h
 
     parts_same : IsSameIf (module_parts o answers names m) (module_parts o no_claims names m)
-    parts_same =
-        both_same (both_same (both_same (both_same (both_same (both_same (both_same (both_same (both_same (both_same (both_same (both_same (customs_same None)
-        (section_same TypeSection)) (section_same ImportSection)) (customs_same (Some FunctionSection))) (section_same TableSection)) (section_same MemorySection))
-        (section_same TagSection)) (section_same GlobalSection)) (section_same ExportSection)) (section_same StartSection)) (section_same ElementSection))
-        (section_same CodeSection)) (section_same DataSection)
+    unfolding module_parts
+    parts_same = both_same (customs_same None) (sections_same section_order)
 
   -- the pieces of a module's group among all
   inner_unclaimed : (names : Names) (size : ℕ) (ps : List Piece) → AreUnclaimedIn (module_pieces_of o names size ps None) → AreUnclaimedIn ps

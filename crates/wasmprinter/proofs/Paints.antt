@@ -1,17 +1,16 @@
 -- What of a layout doesn't depend on whether texts of folded operators carry sequences of colours: where it is refused, and the calls of its pieces.
-use Rattle.std.specs.Prelude.{◌≡◌, ℕ, List, [], ◌∷◌, ◌++◌, Bool, true, false, Option, Some, None, refl}
+use Rattle.std.specs.Prelude.{◌≡◌, ℕ, List, [], ◌∷◌, ◌++◌, flat_map, Bool, true, false, Option, Some, None, refl}
 use Rattle.std.proofs.Common.{sym, ap, ap₂, ◌∙◌}
-use Rattle.wasmprinter_spec.specs.Kinds.{Kind, TypeSection, ImportSection, FunctionSection, TableSection, MemorySection, TagSection, GlobalSection, ExportSection, StartSection, ElementSection, CodeSection, DataSection}
+use Rattle.wasmprinter_spec.specs.Kinds.{Kind}
 use Rattle.wasmprinter_spec.specs.Placed.{PlacedModule}
 use Rattle.wasmprinter_spec.specs.Names.{Names}
 use Rattle.wasmprinter_spec.specs.ModuleNames.{module_names}
 use Rattle.wasmprinter_spec.specs.Call.{Call}
 use Rattle.wasmprinter_spec.specs.Options.{Options, Answers, in_colours}
 use Rattle.wasmprinter_spec.specs.Piece.{Piece, Begin, Feed, Break, Gap, Open, OpenGap, OpenPlain, OpenBare, OpenTypeGap, OpenNote, OpenNoteGap, OpenRun, Shut, Word, TypeWord, TypeWordGap, GapTypeWord, Number, Constant, Literals, GapLiterals, Float, NumberRemark, BeginName, EndStyle, Quoted, QuotedBytes, Identifier, NameNote, Remark, Ending, PlainEnding, HintNote, Claimed, calls, all_calls}
-use Rattle.wasmprinter_spec.specs.Layout.{module_parts, refusal}
+use Rattle.wasmprinter_spec.specs.Layout.{early_scope, section_order, section_parts, module_parts, refusal}
 use Rattle.wasmprinter_spec.specs.Layout.Customs.{Part, Laid, laid_parts, parts_at}
 use Rattle.wasmprinter_annotations.proofs.Parts.{laid_behind, joined-append}
-use Rattle.wasmprinter_sections.specs.Sections.{first_scope, section_parts}
 
 -- ---- calls
 
@@ -79,16 +78,19 @@ module _ (o : Options) (b c : Bool) (answers : Answers) (names : Names) (m : Pla
   customs_end : (place : Option Kind) → HaveSameEnd (parts_at o.skeleton answers place 0 m.customs) (parts_at o.skeleton answers place 0 m.customs)
   customs_end place = record { end = refl }
 
-  section_end : (k : Kind) → HaveSameEnd (section_parts (in_colours o b) (first_scope (in_colours o b) names m) m answers k)
-      (section_parts (in_colours o c) (first_scope (in_colours o c) names m) m answers k)
+  abbrev parts_by : Bool → Kind → List Part
+  parts_by paints = section_parts (in_colours o paints) (early_scope (in_colours o paints) names m) m answers
+
+  section_end : (k : Kind) → HaveSameEnd (parts_by b k) (parts_by c k)
   section_end k = record { end = refl }
 
+  sections_end : (ks : List Kind) → HaveSameEnd (flat_map (parts_by b) ks) (flat_map (parts_by c) ks)
+  sections_end [] = record { end = refl }
+  sections_end (k ∷ ks) = both_end (section_end k) (sections_end ks)
+
   parts_end : HaveSameEnd (module_parts (in_colours o b) answers names m) (module_parts (in_colours o c) answers names m)
-  parts_end =
-      both_end (both_end (both_end (both_end (both_end (both_end (both_end (both_end (both_end (both_end (both_end (both_end (customs_end None)
-      (section_end TypeSection)) (section_end ImportSection)) (customs_end (Some FunctionSection))) (section_end TableSection)) (section_end MemorySection))
-      (section_end TagSection)) (section_end GlobalSection)) (section_end ExportSection)) (section_end StartSection)) (section_end ElementSection))
-      (section_end CodeSection)) (section_end DataSection)
+  unfolding module_parts
+  parts_end = both_end (customs_end None) (sections_end section_order)
 
 -- a layout is refused in colours where it is without
 pub refusal-paints : (o : Options) (b c : Bool) (answers : Answers) (m : PlacedModule) → refusal (in_colours o b) answers m ≡ refusal (in_colours o c) answers m

@@ -10,8 +10,9 @@ use Rattle.wasmprinter_spec.specs.Coloured.{coloured_text}
 use Rattle.wasmprinter_spec.specs.Folding.Refusals.{IsFoldable}
 use Rattle.wasmprinter.specs.Printed.{HasTextBy, no_claims}
 
--- The bytes are the text, with the sequences of each style, in the texts of folded operators or outside, of the layout of the module that is spelled,
--- of which no custom section is claimed and no `dylink.0` section is refused. Where the indent is blank, what stays of them when the sequences are deleted is the module's text.
+-- The bytes are the text, with the sequences of each style, in the texts of folded operators or outside, of the layout of the module that
+-- is spelled, of which no custom section is claimed and no `dylink.0` section is refused. Where the indent is blank, what stays of them
+-- when the sequences are deleted is the module's text.
 pub record HasColouredTextBy (o : Options) (bytes text : List ℕ) : Type 0 where
   pub placed : PlacedModule
   pub spelled : Spells bytes placed

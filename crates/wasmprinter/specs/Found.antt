@@ -21,7 +21,8 @@ place_at operators number = option_map (λ (o : Placed Operator). o.place) (slic
 abbrev pub NamesItsLine : PlacedModule → List TextLine → ℕ → ℕ → Option (ℕ × ℕ) → Type 0
 NamesItsLine m lines function operator result =
     (number place : ℕ) → result ≡ Some (number, place) →
-    (o : Placed Operator) × (operator_at m function operator ≡ Some o) × (place ≡ o.place) × (slice_get (line_places lines) number ≡ Some (Some place))
+    (o : Placed Operator) × (operator_at m function operator ≡ Some o) × (place ≡ o.place)
+    × (slice_get (line_places lines) number ≡ Some (Some place))
 
 -- the lines are all that were given of bytes that spell the module, with its bodies, which aren't folded
 pub record AreLinesOf (m : PlacedModule) (lines : List TextLine) : Type 0 where

@@ -1,3 +1,4 @@
+-- What the contracts of the library cite: each promise of printing, and what a refusal leaves.
 pub mod Coloured
 pub mod Found
 pub mod Lined

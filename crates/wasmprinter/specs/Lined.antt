@@ -8,8 +8,8 @@ use Rattle.wasmprinter_tracker.specs.declared.lines.LineStart.{LineStart}
 use Rattle.wasmprinter_tracker.specs.Cuts.{lines_at_starts}
 use Rattle.wasmprinter.specs.Printed.{HasTextBy, no_claims}
 
--- The text of the module that the bytes spell stands behind the old text. The lines are those of its layout: joined they are that text, and where
--- bodies are printed flat each function has its header, its locals and its operators on lines of their own.
+-- The text of the module that the bytes spell stands behind the old text. The lines are those of its layout: joined they are that text, and
+-- where bodies are printed flat each function has its header, its locals and its operators on lines of their own.
 pub record HasLinesBy (o : Options) (bytes old storage : List ℕ) (lines : List TextLine) : Type 0 where
   pub text : List ℕ
   pub printed : HasTextBy o bytes text

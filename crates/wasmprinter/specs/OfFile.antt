@@ -14,7 +14,8 @@ Reading = Option (List ℕ) → Type 0
 abbrev pub IsTextOf : Reading → List ℕ → Type 0
 IsTextOf gives text = (wasm : List ℕ) × gives (Some wasm) × HasText wasm text
 
--- by these options there is no text of the file: the read failed, and the error says so; or the bytes that it gave are refused, for a cause that is true of them
+-- by these options there is no text of the file: the read failed, and the error says so; or the bytes that it gave are refused, for a cause
+-- that is true of them
 abbrev pub IsRefusedBy : Options → Reading → Error → Type 0
 IsRefusedBy o gives error =
     (gives None × (error ≡ Unreadable)) ⊎ ((wasm : List ℕ) × gives (Some wasm) × IsTrueOfText o wasm error × HasTextCause o wasm error)

@@ -4,7 +4,7 @@ use Rattle.std.specs.List.{Contains}
 use Rattle.std.specs.declared.io.Error.{Error as IoError}
 use Rattle.wasmprinter_spec.specs.Binary.{Spells, IsComponent}
 use Rattle.wasmprinter_spec.specs.Placed.{CustomEntry, PlacedModule}
-use Rattle.wasmprinter_spec.specs.Customs.{Refused, role_of}
+use Rattle.wasmprinter_spec.specs.Customs.{Refused, custom_role_of}
 use Rattle.wasmprinter_spec.specs.Limits.{IsWithinLimits, most_functions}
 use Rattle.wasmprinter_spec.specs.Call.{Call}
 use Rattle.wasmprinter_spec.specs.Meaning.{Meaning, Run, Failed}
@@ -19,13 +19,15 @@ use Rattle.wasmprinter_wasm.specs.Modules.{bodies_of}
 use Rattle.wasmprinter_entries.specs.Refusals.{AnyIsOver, FirstIsEmpty}
 use Rattle.wasmprinter_wasm.specs.Decoding.{HoldsSome, module_reasons}
 
--- One of these is a `dylink.0` section in which a subsection with this id stands whole before any fault, and it is the first that isn't known.
+-- One of these is a `dylink.0` section in which a subsection with this id stands whole before any fault, and it is the first that isn't
+-- known.
 abbrev pub AnyIsUnknown : ℕ → List CustomEntry → Type 0
 AnyIsUnknown id [] = ⊥
-AnyIsUnknown id (c ∷ cs) = (role_of c.section.value ≡ Refused id) ⊎ AnyIsUnknown id cs
+AnyIsUnknown id (c ∷ cs) = (custom_role_of c.section.value ≡ Refused id) ⊎ AnyIsUnknown id cs
 
--- The reasons for the errors of printing, beside those for which decoding may be refused: a call on the printer failed with this error; a `dylink.0`
--- section is refused for a subsection with this id; at this place stands an operator of the older `try`, which can't be folded, or a branch hint.
+-- The reasons for the errors of printing, beside those for which decoding may be refused: a call on the printer failed with this error; a
+-- `dylink.0` section is refused for a subsection with this id; at this place stands an operator of the older `try`, which can't be folded,
+-- or a branch hint.
 pub record PrintReasons : Type 1 where
   pub failed : IoError → Type 0
   pub unknown : ℕ → Type 0
@@ -89,20 +91,31 @@ abbrev pub MayGrow : Options → PlacedModule → Type 0
 MayGrow o m = HoldsSome m ⊎ (o.folds ≡ true)
 
 -- The error is answered for a cause, if bytes spell a module at all: such a one, where growths are refused only for a module that holds
--- something, or where operators are folded; a `dylink.0` section has the subsection that is refused; something can't be folded; or a call on the printer failed with the error that
--- is answered.
+-- something, or where operators are folded; a `dylink.0` section has the subsection that is refused; something can't be folded; or a call
+-- on the printer failed with the error that is answered.
 abbrev pub HasCause : {P : Type 0} → Meaning P → Options → List ℕ → P → P → Error → Type 0
 HasCause m o bytes old new e =
-    (placed : PlacedModule) → Spells bytes placed → HasPrintReason (print_reasons o placed (PrinterFailed m old new)) (causes (MayGrow o placed) placed) e
+    (placed : PlacedModule) → Spells bytes placed →
+    HasPrintReason (print_reasons o placed (PrinterFailed m old new)) (causes (MayGrow o placed) placed) e
 
 -- The same where the text is made in memory: a growth may be refused for any module, and no printer fails.
 abbrev pub HasTextCause : Options → List ℕ → Error → Type 0
-HasTextCause o bytes e = (placed : PlacedModule) → Spells bytes placed → HasPrintReason (print_reasons o placed (λ x. ⊥)) (causes (Unit {0}) placed) e
+HasTextCause o bytes e =
+    (placed : PlacedModule) → Spells bytes placed → HasPrintReason (print_reasons o placed (λ x. ⊥)) (causes (Unit {0}) placed) e
 
 -- an error as a printer gives it that fails only where it can't grow
 abbrev pub as_growth : Error → Error
+as_growth (Malformed place) = Malformed place
+as_growth Component = Component
+as_growth (TooManyLocals place) = TooManyLocals place
+as_growth (TooManyFunctions count) = TooManyFunctions count
+as_growth (EmptyTableInit place) = EmptyTableInit place
+as_growth (FoldLegacy place) = FoldLegacy place
+as_growth (FoldHint place) = FoldHint place
+as_growth (DylinkSubsection id) = DylinkSubsection id
+as_growth Unreadable = Unreadable
 as_growth (Printer e) = Memory
-as_growth e = e
+as_growth Memory = Memory
 
 -- the bytes spell a module within the limits
 pub record ArePrintable (bytes : List ℕ) : Type 0 where
@@ -130,10 +143,11 @@ bytes_reasons o bytes failed = record {
 abbrev pub folding_reasons : Options → List ℕ → Reasons → Reasons
 folding_reasons o bytes decoding = record decoding { memory = decoding.memory ⊎ ((o.folds ≡ true) × ArePrintable bytes) }
 
--- Of any bytes: the decoder's refusal is true; the printer's, that of a `dylink.0` section, and of what can't be folded, come only where a module
--- within the limits is spelled, of a section only where it has one, of what can't be folded only where it stands there.
+-- Of any bytes: the decoder's refusal is true; the printer's, that of a `dylink.0` section, and of what can't be folded, come only where a
+-- module within the limits is spelled, of a section only where it has one, of what can't be folded only where it stands there.
 abbrev pub IsTrueOf : Options → List ℕ → Error → Type 0
-IsTrueOf o bytes e = HasPrintReason (bytes_reasons o bytes (λ x. ArePrintable bytes)) (folding_reasons o bytes (module_reasons bytes (IsComponent bytes))) e
+IsTrueOf o bytes e =
+    HasPrintReason (bytes_reasons o bytes (λ x. ArePrintable bytes)) (folding_reasons o bytes (module_reasons bytes (IsComponent bytes))) e
 
 -- The same where the text is made in memory: a growth is refused to the decoder, or where a module within the limits is spelled.
 abbrev pub text_reasons : List ℕ → Reasons → Reasons
@@ -142,8 +156,8 @@ text_reasons bytes decoding = record decoding { memory = decoding.memory ⊎ Are
 abbrev pub IsTrueOfText : Options → List ℕ → Error → Type 0
 IsTrueOfText o bytes e = HasPrintReason (bytes_reasons o bytes (λ x. ⊥)) (text_reasons bytes (module_reasons bytes (IsComponent bytes))) e
 
--- A module within the limits, which the bytes spell and which can be folded, if it is, was being printed, and this is so of it with the answers to its
--- claims.
+-- A module within the limits, which the bytes spell and which can be folded, if it is, was being printed, and this is so of it with the
+-- answers to its claims.
 pub record WhilePrinting (o : Options) (bytes : List ℕ) (Left : PlacedModule → Answers → Type 0) : Type 0 where
   pub placed : PlacedModule
   pub spelled : Spells bytes placed
@@ -153,7 +167,8 @@ pub record WhilePrinting (o : Options) (bytes : List ℕ) (Left : PlacedModule �
   pub left : Left placed answers
 
 -- the calls of a layout that ends at this refusal were made
-pub record MadeUpTo {P : Type 0} (m : Meaning P) (old new : P) (id : ℕ) (o : Options) (placed : PlacedModule) (answers : Answers) : Type 0 where
+pub record MadeUpTo {P : Type 0} (m : Meaning P) (old new : P) (id : ℕ) (o : Options) (placed : PlacedModule)
+    (answers : Answers) : Type 0 where
   pub ends : refusal o answers placed ≡ Some id
   pub made : Whole m old new (layout o answers placed)
 
@@ -171,12 +186,13 @@ each_reason so = record {
 -- no call was made, or operators are folded, and the calls made are a beginning of the layout, up to cutting
 abbrev pub LeavesBeginning : {P : Type 0} → Meaning P → Bool → Options → List ℕ → P → P → Type 0
 LeavesBeginning m colours o bytes old new =
-    (new ≡ old) ⊎ ((o.folds ≡ true) × WhilePrinting o bytes (λ placed answers. Begun m old new (layout (in_colours o colours) answers placed)))
+    (new ≡ old)
+    ⊎ ((o.folds ≡ true) × WhilePrinting o bytes (λ placed answers. Begun m old new (layout (in_colours o colours) answers placed)))
 
 -- What a refusal leaves. Where a call on the printer failed, a module was being printed: the calls before it, followed by it, are a
--- beginning of the layout, up to cutting, which has sequences of colours in the texts of folded operators exactly where the printer can write them.
--- Where a `dylink.0` section was refused, the calls are those of the layout up to it. Where a growth was refused to what folds, the calls made are a
--- beginning of the layout. After any other refusal no call was made.
+-- beginning of the layout, up to cutting, which has sequences of colours in the texts of folded operators exactly where the printer can
+-- write them. Where a `dylink.0` section was refused, the calls are those of the layout up to it. Where a growth was refused to what folds,
+-- the calls made are a beginning of the layout. After any other refusal no call was made.
 abbrev pub Leaves : {P : Type 0} → Meaning P → Bool → Options → List ℕ → P → P → Error → Type 0
 Leaves m colours o bytes old new e =
     HasPrintReason

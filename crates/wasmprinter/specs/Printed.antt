@@ -22,12 +22,12 @@ use Rattle.wasmprinter_spec.specs.Read.{read}
 abbrev pub no_claims : Answers
 no_claims = λ n. false
 
--- The printer's state is a run from the old one over calls that are alike the layout of the module that the bytes spell, in which no `dylink.0`
--- section is refused, and everything can be folded, if it is. Sequences of colours are in the texts of folded operators exactly where the printer
--- can write colours as text. Where the indent is blank, the calls of the layout, colour sequences deleted from each text, are those of the layout
--- without them, and so is the text of the calls; it reads as exactly the module, where every used index is declared, bodies are printed, the indent is
--- blank and no custom section was claimed. Where bodies are printed and the indent is blank, its branch hints are those of the module, if the hint
--- section is well formed.
+-- The printer's state is a run from the old one over calls that are alike the layout of the module that the bytes spell, in which no
+-- `dylink.0` section is refused, and everything can be folded, if it is. Sequences of colours are in the texts of folded operators exactly
+-- where the printer can write colours as text. Where the indent is blank, the calls of the layout, colour sequences deleted from each text,
+-- are those of the layout without them, and so is the text of the calls; it reads as exactly the module, where every used index is
+-- declared, bodies are printed, the indent is blank and no custom section was claimed. Where bodies are printed and the indent is blank,
+-- its branch hints are those of the module, if the hint section is well formed.
 pub record Printed {P : Type 0} (m : Meaning P) (colours : Bool) (o : Options) (bytes : List ℕ) (old new : P) : Type 0 where
   pub placed : PlacedModule
   pub spelled : Spells bytes placed
@@ -46,9 +46,9 @@ pub record Printed {P : Type 0} (m : Meaning P) (colours : Bool) (o : Options) (
       text_hints (uncolour (text_of calls)) ≡ Some hs
   pub plain : IsBlank o.indent → colours ≡ false → IsPlainText (text_of calls)
 
--- The text is that of the layout of the module that the bytes spell, of which no custom section is claimed and no `dylink.0` section is refused, and
--- everything can be folded, if it is. Where the indent is blank it is plain, and where bodies are printed too, it reads as exactly that module, if
--- every used index is declared, and has its branch hints, if the hint section is well formed.
+-- The text is that of the layout of the module that the bytes spell, of which no custom section is claimed and no `dylink.0` section is
+-- refused, and everything can be folded, if it is. Where the indent is blank it is plain, and where bodies are printed too, it reads as
+-- exactly that module, if every used index is declared, and has its branch hints, if the hint section is well formed.
 pub record HasTextBy (o : Options) (bytes text : List ℕ) : Type 0 where
   pub placed : PlacedModule
   pub spelled : Spells bytes placed
@@ -60,9 +60,9 @@ pub record HasTextBy (o : Options) (bytes text : List ℕ) : Type 0 where
   pub reads : IsIndexed (module_of placed) → o.skeleton ≡ false → IsBlank o.indent → read text ≡ Some (module_of placed)
   pub hints : (hs : List OperatorHint) → o.skeleton ≡ false → IsBlank o.indent → module_hints placed ≡ Some hs → text_hints text ≡ Some hs
 
--- The text is that of the layout with the defaults, of the module that the bytes spell, of which no custom section is claimed and no `dylink.0`
--- section is refused. It is plain, reads as exactly that module, where every used index is declared, and has its branch hints, if the hint section
--- is well formed.
+-- The text is that of the layout with the defaults, of the module that the bytes spell, of which no custom section is claimed and no
+-- `dylink.0` section is refused. It is plain, reads as exactly that module, where every used index is declared, and has its branch hints,
+-- if the hint section is well formed.
 pub record HasText (bytes text : List ℕ) : Type 0 where
   pub placed : PlacedModule
   pub spelled : Spells bytes placed

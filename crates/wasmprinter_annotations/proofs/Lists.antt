@@ -5,7 +5,7 @@ use Rattle.std.proofs.Math.Dec.{eqb-suc-zero}
 use Rattle.std.proofs.lemmas.Bool.{eq-eqb, ne_eqb}
 use Rattle.wasmprinter_spec.specs.Grammar.{Placed}
 use Rattle.wasmprinter_spec.specs.Customs.Producers.{Value, Field}
-use Rattle.wasmprinter_spec.specs.Customs.Dylink.{ExportInfo, ImportInfo, Content, Sizes, Needed, Exports, Imports, Paths, Other, Subsection}
+use Rattle.wasmprinter_spec.specs.Customs.Dylink.{ExportInfo, ImportInfo, SubsectionContent, Sizes, Needed, Exports, Imports, Paths, Other, Subsection}
 use Rattle.wasmprinter_spec.specs.Piece.{Piece, Gap, Word, Break, OpenGap, Quoted, Shut}
 use Rattle.wasmprinter_spec.specs.Layout.Groups.{has_break}
 use Rattle.wasmprinter_spec.specs.Layout.Customs.{gap_quoted, gap_quoted_list, values_pieces, fields_pieces, flags_pieces, sizes_pieces, names_pieces, exports_pieces, import_infos_pieces, content_pieces, subsections_pieces}
@@ -111,13 +111,13 @@ module _ (place : ℕ) where
   imports-break (x ∷ is) = sym (ap not (eqb-suc-zero (length is)))
 
   -- a subsection has a line but for lists without items
-  abbrev pub has_content_lines : Content → Bool
+  abbrev pub has_content_lines : SubsectionContent → Bool
   has_content_lines (Exports es) = not (length es == 0)
   has_content_lines (Imports is) = not (length is == 0)
   has_content_lines (Other id) = false
   has_content_lines _ = true
 
-  pub content-break : (c : Content) → has_break (content_pieces place c) ≡ has_content_lines c
+  pub content-break : (c : SubsectionContent) → has_break (content_pieces place c) ≡ has_content_lines c
   unfolding sizes_pieces names_pieces
   content-break (Sizes m) = refl
   content-break (Needed ns) = refl
@@ -140,10 +140,10 @@ subsections-break : (ss rest : List Subsection) (s : Subsection) → ss ≡ s �
 subsections-break ss rest s e = ap has_break (subsections-next ss rest s e) ∙ has_break-append (content_pieces s.place s.value) (subsections_pieces rest)
 
 -- by a test of the first one, as it is shown
-module _ (ss rest : List Subsection) (s : Subsection) (shown : Content) (test : Bool) (next : ss ≡ s ∷ rest) (is : shown ≡ s.value)
+module _ (ss rest : List Subsection) (s : Subsection) (shown : SubsectionContent) (test : Bool) (next : ss ≡ s ∷ rest) (is : shown ≡ s.value)
     (tells : (place : ℕ) → test ≡ has_break (content_pieces place shown)) where
   first-break : has_break (content_pieces s.place s.value) ≡ test
-  first-break = sym (ap (λ (c : Content). has_break (content_pieces s.place c)) is) ∙ sym (tells s.place)
+  first-break = sym (ap (λ (c : SubsectionContent). has_break (content_pieces s.place c)) is) ∙ sym (tells s.place)
 
   pub subsections-break-found : test ≡ true → has_break (subsections_pieces ss) ≡ true
   subsections-break-found e = subsections-break ss rest s next ∙ ap (λ b. b || has_break (subsections_pieces rest)) (first-break ∙ e)

@@ -2,11 +2,11 @@
 use Rattle.std.specs.Prelude.{◌≡◌, ℕ, suc, ◌+◌, ◌==◌, List, [], ◌∷◌, Bool, true, false, Option, Some, None, slice_get, cond, refl}
 use Rattle.std.proofs.Common.{sym, ap, ap₂, ◌∙◌, arith}
 use Rattle.std.proofs.lemmas.Bool.{eq-eqb, ne_eqb}
-use Rattle.wasmprinter_spec.specs.Kinds.{Kind, CustomSection, TypeSection, ImportSection, FunctionSection, TableSection, MemorySection, TagSection, GlobalSection, ExportSection, StartSection, ElementSection, DataCountSection, CodeSection, DataSection, same_kind}
+use Rattle.wasmprinter_spec.specs.Kinds.{Kind}
 use Rattle.wasmprinter_spec.specs.Placed.{CustomEntry}
 use Rattle.wasmprinter_spec.specs.Options.{Answers}
 use Rattle.wasmprinter_spec.specs.Layout.Customs.{Part, custom_part, same_place, parts_at}
-use Rattle.wasmprinter_spec.proofs.SameKinds.{same_kind-is}
+use Rattle.wasmprinter_spec.proofs.SameKinds.{same_kind-is, same_kind-refl}
 
 -- ---- one place
 
@@ -16,22 +16,6 @@ same_place-is None None e = refl
 same_place-is (Some j) (Some k) e = ap (λ (x : Kind). Some x) (same_kind-is j k e)
 same_place-is None (Some k) e = absurd cc
 same_place-is (Some j) None e = absurd cc
-
-same_kind-refl : (k : Kind) → same_kind k k ≡ true
-same_kind-refl CustomSection = refl
-same_kind-refl TypeSection = refl
-same_kind-refl ImportSection = refl
-same_kind-refl FunctionSection = refl
-same_kind-refl TableSection = refl
-same_kind-refl MemorySection = refl
-same_kind-refl TagSection = refl
-same_kind-refl GlobalSection = refl
-same_kind-refl ExportSection = refl
-same_kind-refl StartSection = refl
-same_kind-refl ElementSection = refl
-same_kind-refl DataCountSection = refl
-same_kind-refl CodeSection = refl
-same_kind-refl DataSection = refl
 
 same_place-refl : (a : Option Kind) → same_place a a ≡ true
 same_place-refl None = refl

@@ -8,7 +8,7 @@ use Rattle.wasmprinter_spec.specs.Call.{Claim}
 use Rattle.wasmprinter_spec.specs.Meaning.{Meaning, Succeeded, Failed}
 use Rattle.wasmprinter_spec.specs.Options.{Options}
 use Rattle.wasmprinter_spec.specs.Placed.{Custom, CustomEntry}
-use Rattle.wasmprinter_spec.specs.Customs.{Role, Silent, Listed, Linked, Refused, Raw, Faulted, role_of}
+use Rattle.wasmprinter_spec.specs.Customs.{CustomRole, Silent, Listed, Linked, Refused, Raw, Faulted, custom_role_of}
 use Rattle.wasmprinter_spec.specs.Piece.{Piece, Claimed}
 use Rattle.wasmprinter_spec.specs.Layout.Groups.{has_break}
 use Rattle.wasmprinter_spec.specs.Layout.Customs.{Shown, Stops, Laid, before_laid, laid_parts, raw_pieces, faulted_pieces, role_part, custom_part}
@@ -26,7 +26,7 @@ abbrev pub claim_of : Custom → Bool → Piece
 claim_of s answer = Claimed s.name s.bytes.place s.bytes.value answer
 
 -- what stands behind the claim, by the section's role
-behind_claim : (skeleton : Bool) (claim : Piece) (c : CustomEntry) (r : Role) →
+behind_claim : (skeleton : Bool) (claim : Piece) (c : CustomEntry) (r : CustomRole) →
     laid_parts (role_part skeleton claim c r ∷ []) ≡ before_laid (claim ∷ []) (laid_parts (unclaimed_part skeleton c r ∷ []))
 behind_claim skeleton claim c Silent = refl
 behind_claim skeleton claim c (Listed fields) = refl
@@ -78,11 +78,11 @@ module _ {P : Type 0} (m : Meaning P) (o : Options) where
 
     -- it doesn't
     pub left_to_us : {a s t : P} {r : Result Bool Error} → let x : Custom = c.section.value in
-        Succeeded m a (Claim x.name x.bytes.place x.bytes.value false) s → PrintsPart m o s t false r (unclaimed_part skeleton c (role_of x)) →
+        Succeeded m a (Claim x.name x.bytes.place x.bytes.value false) s → PrintsPart m o s t false r (unclaimed_part skeleton c (custom_role_of x)) →
         PrintsPart m o a t false r (custom_part skeleton false c)
     left_to_us {a} {s} {t} {r} v w =
         let x : Custom = c.section.value in
-        let same = behind_claim skeleton (claim_of x false) c (role_of x) in
+        let same = behind_claim skeleton (claim_of x false) c (custom_role_of x) in
         record {
           prints = subst (λ (l : Laid). PrintsLaid m o a t false r l) (sym same) (laid_then m (claimed false v) w.prints);
           lines = subst (λ (l : Laid). IfOk r (λ lines. lines ≡ has_break l.pieces)) (sym same) w.lines;

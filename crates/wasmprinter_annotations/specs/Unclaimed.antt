@@ -1,12 +1,12 @@
 -- What stands behind the claim of a custom section that the printer doesn't take.
 use Rattle.std.specs.Prelude.{[], ◌∷◌, Bool, codes, Some}
 use Rattle.wasmprinter_spec.specs.Placed.{CustomEntry}
-use Rattle.wasmprinter_spec.specs.Customs.{Role, Silent, Listed, Linked, Refused, Raw, Faulted}
+use Rattle.wasmprinter_spec.specs.Customs.{CustomRole, Silent, Listed, Linked, Refused, Raw, Faulted}
 use Rattle.wasmprinter_spec.specs.Piece.{Break}
 use Rattle.wasmprinter_spec.specs.Layout.Customs.{Part, Shown, Stops, note, fields_pieces, subsections_pieces, raw_pieces, faulted_pieces}
 
 -- by the section's role
-abbrev pub unclaimed_part : Bool → CustomEntry → Role → Part
+abbrev pub unclaimed_part : Bool → CustomEntry → CustomRole → Part
 unclaimed_part skeleton c Silent = Shown []
 unclaimed_part skeleton c (Listed fields) = Shown (Break (Some c.section.place) 1 ∷ note (codes "producers") (fields_pieces fields))
 unclaimed_part skeleton c (Linked ss) = Shown (Break (Some c.section.place) 1 ∷ note (codes "dylink.0") (subsections_pieces ss))

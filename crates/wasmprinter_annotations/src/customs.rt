@@ -1,7 +1,7 @@
 //! Custom sections in their places among the others: each is first offered to the printer.
 ghost use Rattle.std.specs.Prelude.{◌≡◌, ◌↔◌, Bool, false, IsTrue};
 ghost use Rattle.wasmprinter_spec.specs.Options.{Answers};
-ghost use Rattle.wasmprinter_spec.specs.Customs.{role_of};
+ghost use Rattle.wasmprinter_spec.specs.Customs.{custom_role_of};
 ghost use Rattle.wasmprinter_spec.specs.Layout.Customs.{custom_part, parts_at};
 ghost use Rattle.wasmprinter_entries.specs.Places.{place_view};
 ghost use Rattle.wasmprinter_customs.specs.Roles.{role_view};
@@ -21,7 +21,7 @@ use wasmprinter_print::Print;
 
 /// What a section is to the text.
 fn role_of<'a>(section: &Custom<'a>) -> CustomRole<'a>
-    ensures { role_view result ≡ role_of section.now.value }
+    ensures { role_view result ≡ custom_role_of section.now.value }
 {
     let content = section.cursor();
     prove!(content.end() <= u64::MAX);

@@ -10,7 +10,7 @@ use wasmprinter_entries::places::{CustomEntry, SectionKind};
 use wasmprinter_lines::lines::break_line;
 use wasmprinter_lines::options::PrintOptions;
 use wasmprinter_print::Print;
-use wasmprinter_text::data::write_shown_bytes;
+use wasmprinter_text::data_strings::write_shown_bytes;
 use wasmprinter_words::annotations::{open_note_gap, plain_ending};
 use wasmprinter_words::strings::write_string;
 use wasmprinter_words::words::{gap, open_plain, shut, word};

@@ -5,4 +5,6 @@ use Rattle.wasmprinter_spec.specs.Module.{without_places, imported_types, func_i
 
 -- a function or a tag is imported
 abbrev pub ImportsSome : PlacedModule → Type 0
-ImportsSome m = (0 < length (imported_types func_import (without_places m.imports))) ⊎ (0 < length (imported_types tag_import (without_places m.imports)))
+ImportsSome m =
+    (0 < length (imported_types func_import (without_places m.imports)))
+    ⊎ (0 < length (imported_types tag_import (without_places m.imports)))

@@ -3,7 +3,8 @@ use Rattle.std.proofs.Common.{◌≡◌, ℕ, zero, suc, ◌+◌, ◌-◌, ◌<�
 use Rattle.std.specs.Prelude.{MatchOption}
 use Rattle.wasmprinter_spec.specs.Grammar.{Input, ◌>>=◌}
 use Rattle.wasmprinter_spec.specs.Name.{u32}
-use Rattle.wasmprinter_spec.specs.Repeated.{some_or, items_at, items_of, skip_at, HasItems}
+use Rattle.wasmprinter_spec.specs.Repeated.{some_or, items_at}
+use Rattle.wasmprinter_bytes.specs.Items.{items_of, skip_at, HasItems}
 use Rattle.wasmprinter_bytes.specs.Lists.{vec_at}
 
 -- items and where reading stands behind them

@@ -3,14 +3,8 @@ use Rattle.std.proofs.Common.{◌≡◌, ℕ, ◌+◌, ◌-◌, ◌*◌, ◌^◌
 use Rattle.std.specs.Prelude.{ℤ, pos, neg_ℤ, ◌+ℤ◌, ◌*ℤ◌, ◌≤ℤ◌, ◌<ℤ◌}
 use Rattle.std.proofs.Common.{to_z, of_z, w64}
 use Rattle.std.proofs.lemmas.Int.{ints}
-use Rattle.std.proofs.lemmas.Nat.{pow-add}
 use Rattle.std.proofs.Math.Pow.{pow_mono}
-
--- seven bits more are 128 times as many numbers
-pub pow_seven : (bits : ℕ) → 7 ≤ bits → 2 ^ bits ≡ 128 * 2 ^ (bits - 7)
-pow_seven bits le =
-    let e : bits ≡ 7 + (bits - 7) = omega arith in
-    ap (λ (n : ℕ). 2 ^ n) e ∙ pow-add 2 7 (bits - 7)
+use Rattle.wasmprinter_spec.proofs.Powers.{pow_seven}
 
 -- a byte from 128 on and bits - 7 bits above it make bits bits
 pub joined_fits : (bits b h : ℕ) → 7 < bits → b < 256 → h < 2 ^ (bits - 7) → b - 128 + 128 * h < 2 ^ bits

@@ -9,11 +9,11 @@ use Rattle.wasmprinter_error.specs.Reasons.{Reasons, HasReason}
 
 -- a count, and so many values
 abbrev pub count_and_items_at : {A : Type 0} → (Input → Option (A × Input)) → Input → Option ((ℕ × List A) × Input)
-count_and_items_at parse at = u32.parse at >>= λ n. items_at parse n.0 n.1 >>= λ xs. Some ((n.0, xs.0), xs.1)
+count_and_items_at parse at = u32.parse at >>= λ (count, behind). items_at parse count behind >>= λ (xs, after). Some ((count, xs), after)
 
 -- the values alone: `(vec g).parse` is `vec_at g.parse`
 abbrev pub vec_at : {A : Type 0} → (Input → Option (A × Input)) → Input → Option (List A × Input)
-vec_at parse at = count_and_items_at parse at >>= λ x. Some (x.0.1, x.1)
+vec_at parse at = count_and_items_at parse at >>= λ ((count, xs), after). Some (xs, after)
 
 -- a count above zero stands there
 pub record CountsItems (at : Input) : Type 0 where

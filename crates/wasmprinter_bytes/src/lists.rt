@@ -115,7 +115,7 @@ pub struct Items<'a, T: Spelled> {
 
 impl<'a, T: Spelled> Model for Items<'a, T> {
     ghost use Rattle.std.specs.Prelude.{List};
-    ghost use Rattle.wasmprinter_spec.specs.Repeated.{items_of, HasItems};
+    ghost use Rattle.wasmprinter_bytes.specs.Items.{items_of, HasItems};
 
     ghost Value = { List T };
 

@@ -2,23 +2,22 @@
 use Rattle.std.proofs.Common.{◌≡◌, ℕ, List, [], ◌∷◌, ◌++◌, map, codes, refl, ap, ap₂, subst, ◌∙◌}
 use Rattle.wasmprinter_spec.specs.Call.{Call, Text, Newline, Line, Start, Claim, text_of}
 use Rattle.wasmprinter_spec.specs.Coloured.{bare_call}
-use Rattle.wasmprinter_spec.specs.Plain.{IsPlainText}
+use Rattle.wasmprinter_spec.specs.Plain.{IsPlainByte, IsPlainText}
 use Rattle.wasmprinter_spec.specs.Options.{Options}
 use Rattle.wasmprinter_spec.specs.Piece.{Piece, calls, all_calls}
 use Rattle.wasmprinter_spec.proofs.Texts.{text_of-append}
 use Rattle.wasmprinter_lexical.proofs.Plain.{uncolour-plain}
+use Rattle.wasmprinter_spec.proofs.Each.{all_parts}
 use Rattle.wasmprinter_writers.proofs.Uncoloured.{colours_keep_text}
 use Rattle.wasmprinter_colours.proofs.Painted.{Painted, none, same, node}
 
 -- ---- plain text in two parts
 
 front_plain : (a b : List ℕ) → IsPlainText (a ++ b) → IsPlainText a
-front_plain [] b h = tt
-front_plain (x ∷ a) b h = (h.0, front_plain a b h.1)
+front_plain a b h = (all_parts IsPlainByte a b h).0
 
 behind_plain : (a b : List ℕ) → IsPlainText (a ++ b) → IsPlainText b
-behind_plain [] b h = h
-behind_plain (x ∷ a) b h = behind_plain a b h.1
+behind_plain a b h = (all_parts IsPlainByte a b h).1
 
 -- ---- calls
 

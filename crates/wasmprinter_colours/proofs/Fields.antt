@@ -5,7 +5,7 @@ use Rattle.wasmprinter_spec.specs.Types.{MemoryType, ExternType, FuncExtern, Tab
 use Rattle.wasmprinter_spec.specs.Row as row
 use Rattle.wasmprinter_spec.specs.Row.{Space}
 use Rattle.wasmprinter_spec.specs.Operator.{Operator}
-use Rattle.wasmprinter_spec.specs.Placed.{Import, Table, Global, Export, Mode, Passive, Declared, Active, Items, Functions, Expressions, ElementEntry, DataMode, PassiveData, ActiveData, Data}
+use Rattle.wasmprinter_spec.specs.Placed.{Import, Table, Global, Export, ElementMode, Passive, Declared, Active, Items, Functions, Expressions, ElementEntry, DataMode, PassiveData, ActiveData, Data}
 use Rattle.wasmprinter_spec.specs.Layout.ValTypes.{ref_pieces}
 use Rattle.wasmprinter_spec.specs.Layout.Declarations.{Scope, Folding, item_declaration, item_index}
 use Rattle.wasmprinter_spec.specs.Layout.Operators.{expression_pieces}
@@ -18,7 +18,8 @@ use Rattle.wasmprinter_spec.specs.Layout.Imports.{Numbers, number_of, numbers_be
 use Rattle.wasmprinter_spec.specs.Layout.Exports.{kind_word, extern_index_pieces, export_pieces}
 use Rattle.wasmprinter_spec.specs.Layout.Elements.{named_table, mode_pieces, function_items, expression_items, items_pieces, shown_items, element_pieces}
 use Rattle.wasmprinter_spec.specs.Layout.DataSegments.{named_memory, data_mode_pieces, shown_bytes, data_pieces}
-use Rattle.wasmprinter_spec.specs.Layout.{tag_pieces, start_pieces}
+use Rattle.wasmprinter_spec.specs.Layout.Tags.{tag_pieces}
+use Rattle.wasmprinter_spec.specs.Layout.Start.{start_pieces}
 use Rattle.wasmprinter_colours.proofs.Painted.{Painted, none, same, same_all, both, behind, closed, in_group_gap, in_line_group_gap}
 use Rattle.wasmprinter_colours.proofs.Nodes.{Bared, constant_so}
 
@@ -70,7 +71,7 @@ module _ (x y : Option Folding) (d : Bared x y) (s : Scope) where
   named_table_so true t = same_all (named_table s true t)
   named_table_so false t = none
 
-  mode_so : (names : Bool) (m : Mode (Placed Operator)) → Painted (mode_pieces (in_way s x) names m) (mode_pieces (in_way s y) names m)
+  mode_so : (names : Bool) (m : ElementMode (Placed Operator)) → Painted (mode_pieces (in_way s x) names m) (mode_pieces (in_way s y) names m)
   unfolding mode_pieces
   mode_so names Passive = none
   mode_so names Declared = same (same none)

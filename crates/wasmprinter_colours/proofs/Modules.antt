@@ -1,25 +1,26 @@
 -- A module whose folded operators carry colours in their text, and the same module without them.
-use Rattle.std.proofs.Common.{◌≡◌, ℕ, ◌+◌, ◌||◌, List, [], ◌∷◌, ◌++◌, Bool, true, false, Option, Some, None, cond, codes, length, refl, subst}
+use Rattle.std.proofs.Common.{◌≡◌, ℕ, ◌+◌, ◌||◌, List, [], ◌∷◌, ◌++◌, Bool, true, false, Option, Some, None, cond, codes, refl, subst}
+use Rattle.std.specs.List.{flat_map}
 use Rattle.wasmprinter_spec.specs.Grammar.{Placed}
 use Rattle.wasmprinter_spec.specs.Types.{signature_at}
 use Rattle.wasmprinter_spec.specs.Row.{Func}
-use Rattle.wasmprinter_spec.specs.Kinds.{Kind, TypeSection, ImportSection, FunctionSection, TableSection, MemorySection, TagSection, GlobalSection, ExportSection, StartSection, ElementSection, CodeSection, DataSection}
+use Rattle.wasmprinter_spec.specs.Kinds.{Kind, CustomSection, TypeSection, ImportSection, FunctionSection, TableSection, MemorySection, TagSection, GlobalSection, ExportSection, StartSection, ElementSection, DataCountSection, CodeSection, DataSection}
 use Rattle.wasmprinter_spec.specs.Customs.Hints.{Hint, FunctionHints, hints_of, next_hints, hints_behind}
 use Rattle.wasmprinter_spec.specs.Names.{Names}
 use Rattle.wasmprinter_spec.specs.ModuleNames.{module_names}
 use Rattle.wasmprinter_spec.specs.Indexed.{parameter_count}
-use Rattle.wasmprinter_spec.specs.Placed.{Import, Body, PlacedFunction, PlacedModule}
-use Rattle.wasmprinter_spec.specs.Module.{imported_types, func_import, table_import, memory_import, global_import, tag_import, without_places}
+use Rattle.wasmprinter_spec.specs.Placed.{Body, PlacedFunction, PlacedModule}
 use Rattle.wasmprinter_spec.specs.Options.{Options, Answers}
 use Rattle.wasmprinter_spec.specs.Piece.{Piece}
 use Rattle.wasmprinter_spec.specs.Folding.Arities.{Signatures, signatures_within}
 use Rattle.wasmprinter_spec.specs.Layout.Groups.{group_at, group_gap_at}
 use Rattle.wasmprinter_spec.specs.Layout.Identifiers.{leading_mark_pieces}
-use Rattle.wasmprinter_spec.specs.Layout.Declarations.{Scope, Folding, folding_of}
+use Rattle.wasmprinter_spec.specs.Layout.Declarations.{Scope, scope_of_function, Folding, folding_of}
+use Rattle.wasmprinter_spec.specs.Layout.Types.{type_section_pieces}
 use Rattle.wasmprinter_spec.specs.Layout.Functions.{local_pieces, over_lines, result_count, body_pieces, inner_pieces, function_group, function_pieces, functions_pieces}
 use Rattle.wasmprinter_spec.specs.Layout.Imports.{no_numbers}
 use Rattle.wasmprinter_spec.specs.Layout.Customs.{Part, Shown, Stops, parts_at, Laid, laid_parts}
-use Rattle.wasmprinter_spec.specs.Layout.{early_scope, late_scope, module_parts, module_pieces_of, module_pieces_with, module_pieces}
+use Rattle.wasmprinter_spec.specs.Layout.{early_scope, section_pieces, section_order, section_parts, module_parts, module_pieces_of, module_pieces_with, module_pieces}
 use Rattle.wasmprinter_colours.proofs.Painted.{Painted, none, same, same_all, both, behind, closed, in_line_group_gap, numbered_so}
 use Rattle.wasmprinter_colours.proofs.Nodes.{Bared, flat, folded, body_so}
 use Rattle.wasmprinter_colours.proofs.Fields.{in_way, table_so, global_so, element_so, data_so, imports_same, memory_same, header_same, tag_same, export_same, start_same}
@@ -30,19 +31,23 @@ unpainted o = record o { paints = false }
 
 -- ---- functions
 
-in_group_gap_at : {ps qs : List Piece} (offsets : Bool) (place nesting : ℕ) (w : List ℕ) → Painted ps qs → Painted (group_gap_at offsets place nesting w ps) (group_gap_at offsets place nesting w qs)
+in_group_gap_at : {ps qs : List Piece} (offsets : Bool) (place nesting : ℕ) (w : List ℕ) → Painted ps qs →
+    Painted (group_gap_at offsets place nesting w ps) (group_gap_at offsets place nesting w qs)
 unfolding group_gap_at
 in_group_gap_at offsets place nesting w h = same (closed (Some place) nesting (λ b. offsets || b) h)
 
 module _ (x y : Option Folding) (d : Bared x y) where
-  body_pieces_so : (s : Scope) (t : ℕ) (hs : List (Placed Hint)) (b : Placed Body) → Painted (body_pieces (in_way s x) t hs b) (body_pieces (in_way s y) t hs b)
+  body_pieces_so : (s : Scope) (t : ℕ) (hs : List (Placed Hint)) (b : Placed Body) →
+      Painted (body_pieces (in_way s x) t hs b) (body_pieces (in_way s y) t hs b)
   unfolding body_pieces
   body_pieces_so s t hs b = body_so d (result_count s t) (over_lines s b.place) hs b.value.operators
 
-  inner_so : (s : Scope) (hs : List (Placed Hint)) (f : PlacedFunction) → Painted (inner_pieces (in_way s x) hs f) (inner_pieces (in_way s y) hs f)
+  inner_so : (s : Scope) (hs : List (Placed Hint)) (f : PlacedFunction) →
+      Painted (inner_pieces (in_way s x) hs f) (inner_pieces (in_way s y) hs f)
   unfolding inner_pieces
   inner_so s hs f =
-      behind (local_pieces s.names s.function (parameter_count (signature_at s.types f.type_index)) f.body.value.locals) (body_pieces_so s f.type_index hs f.body)
+      behind (local_pieces s.names s.function (parameter_count (signature_at s.types f.type_index)) f.body.value.locals)
+      (body_pieces_so s f.type_index hs f.body)
 
   group_so : (skeleton offsets : Bool) (s : Scope) (hs : List (Placed Hint)) (f : PlacedFunction) →
       Painted (function_group skeleton offsets (in_way s x) hs f) (function_group skeleton offsets (in_way s y) hs f)
@@ -50,12 +55,13 @@ module _ (x y : Option Folding) (d : Bared x y) where
   group_so true offsets s hs f =
       in_line_group_gap (codes "func") (both (header_same x y s Func (Some s.function) s.function f.type_index) (same (same none)))
   group_so false offsets s hs f =
-      in_group_gap_at offsets f.body.value.end 1 (codes "func") (both (header_same x y s Func (Some s.function) s.function f.type_index) (inner_so s hs f))
+      in_group_gap_at offsets f.body.value.end 1 (codes "func")
+      (both (header_same x y s Func (Some s.function) s.function f.type_index) (inner_so s hs f))
 
   function_so : (o : Options) (s : Scope) (i : ℕ) (hs : List (Placed Hint)) (f : PlacedFunction) →
       Painted (function_pieces o (in_way s x) i hs f) (function_pieces (unpainted o) (in_way s y) i hs f)
   unfolding function_pieces
-  function_so o s i hs f = same (group_so o.skeleton o.offsets (record s { function = i }) hs f)
+  function_so o s i hs f = same (group_so o.skeleton o.offsets (scope_of_function s i) hs f)
 
   functions_so : (o : Options) (s : Scope) (es : List FunctionHints) (i : ℕ) (fs : List PlacedFunction) →
       Painted (functions_pieces o (in_way s x) es i fs) (functions_pieces (unpainted o) (in_way s y) es i fs)
@@ -83,39 +89,54 @@ infixl 65 ◌and_then◌
 ◌and_then◌ (shown e h) k = shown e (h and_then k)
 
 -- Their pieces up to a refusal are so too, and the refusal is the same.
-laid_so : {ps qs : List Part} → PaintedParts ps qs → Painted (laid_parts ps).pieces (laid_parts qs).pieces × ((laid_parts ps).refused ≡ (laid_parts qs).refused)
+laid_so : {ps qs : List Part} → PaintedParts ps qs →
+    Painted (laid_parts ps).pieces (laid_parts qs).pieces × ((laid_parts ps).refused ≡ (laid_parts qs).refused)
 laid_so no_parts = (none, refl)
 laid_so (same_part {part = Shown a} h) = let rest = laid_so h in (behind a rest.0, rest.1)
 laid_so (same_part {part = Stops a id} h) = (same_all a, refl)
 laid_so (shown e h) = let rest = laid_so h in (both e rest.0, rest.1)
 
+-- ---- sections
+
+module _ (o : Options) (answers : Answers) (m : PlacedModule) (x y : Option Folding) (d : Bared x y) (s : Scope) where
+  -- the fields of each section
+  fields_so : (kind : Kind) → Painted (section_pieces o (in_way s x) m kind) (section_pieces (unpainted o) (in_way s y) m kind)
+  fields_so TypeSection = same_all (type_section_pieces s.names 0 m.types)
+  fields_so ImportSection = imports_same x y s no_numbers m.imports
+  fields_so FunctionSection = none
+  fields_so TableSection = numbered_so _ _ (table_so x y d s) _ m.tables
+  fields_so MemorySection = numbered_so _ _ (memory_same x y s) _ m.memories
+  fields_so TagSection = numbered_so _ _ (tag_same x y s) _ m.tags
+  fields_so GlobalSection = numbered_so _ _ (global_so x y d s) _ m.globals
+  fields_so ExportSection = numbered_so _ _ (λ i e. export_same x y s e) 0 m.exports
+  fields_so StartSection = start_same x y s m.start
+  fields_so ElementSection = numbered_so _ _ (element_so x y d s o.skeleton) 0 m.elements
+  fields_so DataCountSection = none
+  fields_so CodeSection = functions_so x y d o s (hints_of m.customs) _ m.functions
+  fields_so DataSection = numbered_so _ _ (data_so x y d (scope_of_function s _) o.skeleton) 0 m.datas
+  fields_so CustomSection = none
+
+  -- The custom sections behind each are the same.
+  sections_so : (kinds : List Kind) →
+      PaintedParts (flat_map (section_parts o (in_way s x) m answers) kinds)
+      (flat_map (section_parts (unpainted o) (in_way s y) m answers) kinds)
+  sections_so [] = no_parts
+  sections_so (kind ∷ kinds) =
+      shown (fields_so kind) (same_parts (parts_at o.skeleton answers (Some kind) 0 m.customs)) and_then sections_so kinds
+
 folding_bared : (folds paints : Bool) (signatures : Option ℕ → Signatures) →
-    Bared (cond folds (Some (record { paints = paints; signatures = signatures })) None) (cond folds (Some (record { paints = false; signatures = signatures })) None)
+    Bared (cond folds (Some (record { paints = paints; signatures = signatures })) None)
+    (cond folds (Some (record { paints = false; signatures = signatures })) None)
 folding_bared true paints signatures = folded
 folding_bared false paints signatures = flat
 
 module_parts_so : (o : Options) (answers : Answers) (names : Names) (m : PlacedModule) →
     PaintedParts (module_parts o answers names m) (module_parts (unpainted o) answers names m)
+unfolding module_parts
 module_parts_so o answers names m =
-    let is : List Import = without_places m.imports in
-    let x : Option Folding = folding_of o m in
-    let y : Option Folding = folding_of (unpainted o) m in
-    let d : Bared x y = folding_bared o.folds o.paints (signatures_within m) in
-    let s : Scope = early_scope o names m in
-    let customs : Option Kind → List Part = λ place. parts_at o.skeleton answers place 0 m.customs in
-    same_parts (customs None)
-    and_then same_part (same_parts (customs (Some TypeSection)))
-    and_then shown (imports_same x y s no_numbers m.imports) (same_parts (customs (Some ImportSection)))
-    and_then same_parts (customs (Some FunctionSection))
-    and_then shown (numbered_so _ _ (table_so x y d s) (length (imported_types table_import is)) m.tables) (same_parts (customs (Some TableSection)))
-    and_then shown (numbered_so _ _ (memory_same x y s) (length (imported_types memory_import is)) m.memories) (same_parts (customs (Some MemorySection)))
-    and_then shown (numbered_so _ _ (tag_same x y s) (length (imported_types tag_import is)) m.tags) (same_parts (customs (Some TagSection)))
-    and_then shown (numbered_so _ _ (global_so x y d s) (length (imported_types global_import is)) m.globals) (same_parts (customs (Some GlobalSection)))
-    and_then shown (numbered_so _ _ (λ i e. export_same x y s e) 0 m.exports) (same_parts (customs (Some ExportSection)))
-    and_then shown (start_same x y s m.start) (same_parts (customs (Some StartSection)))
-    and_then shown (numbered_so _ _ (element_so x y d s o.skeleton) 0 m.elements) (same_parts (customs (Some ElementSection)))
-    and_then shown (functions_so x y d o s (hints_of m.customs) (length (imported_types func_import is)) m.functions) (same_parts (customs (Some CodeSection)))
-    and_then shown (numbered_so _ _ (data_so x y d (late_scope o names m) o.skeleton) 0 m.datas) (same_parts (customs (Some DataSection)))
+    let d : Bared (folding_of o m) (folding_of (unpainted o) m) = folding_bared o.folds o.paints (signatures_within m) in
+    same_parts (parts_at o.skeleton answers None 0 m.customs)
+    and_then sections_so o answers m (folding_of o m) (folding_of (unpainted o) m) d (early_scope o names m) section_order
 
 -- ---- the module
 
@@ -127,12 +148,14 @@ pieces_of_so o names size None h =
 pieces_of_so o names size (Some id) h = same (same (behind (leading_mark_pieces names.module_name) h))
 
 -- The pieces of a module with colours in their text are those without, but for the sequences of some styles.
-pub module_so : (o : Options) (answers : Answers) (m : PlacedModule) → Painted (module_pieces o answers m) (module_pieces (unpainted o) answers m)
+pub module_so : (o : Options) (answers : Answers) (m : PlacedModule) →
+    Painted (module_pieces o answers m) (module_pieces (unpainted o) answers m)
 unfolding module_pieces module_pieces_with
 module_so o answers m =
     let names : Names = module_names o.invents m in
     let a : Laid = laid_parts (module_parts o answers names m) in
     let b : Laid = laid_parts (module_parts (unpainted o) answers names m) in
     let h : Painted a.pieces b.pieces × (a.refused ≡ b.refused) = laid_so (module_parts_so o answers names m) in
-    subst (λ (r : Option ℕ). Painted (module_pieces_of o names m.size a.pieces a.refused) (module_pieces_of (unpainted o) names m.size b.pieces r)) h.1
+    let coloured : List Piece = module_pieces_of o names m.size a.pieces a.refused in
+    subst (λ (r : Option ℕ). Painted coloured (module_pieces_of (unpainted o) names m.size b.pieces r)) h.1
     (pieces_of_so o names m.size a.refused h.0)

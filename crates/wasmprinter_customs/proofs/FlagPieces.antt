@@ -1,16 +1,16 @@
 -- Flags are laid out as their words and the other bits.
 use Rattle.std.proofs.Common.{◌≡◌, ℕ, ◌-◌, List, [], ◌∷◌, ◌++◌, Bool, true, false, refl, ap}
 use Rattle.wasmprinter_spec.specs.Piece.{Piece, Gap, Word}
-use Rattle.wasmprinter_spec.specs.Layout.Customs.{flag_words, has_bit, flags_by, flags_pieces}
+use Rattle.wasmprinter_spec.specs.Layout.Customs.{flag_words, has_flag, flags_by, flags_pieces}
 use Rattle.wasmprinter_customs.specs.Flags.{words_by, others_by}
 use Rattle.wasmprinter_customs.specs.FlagPieces.{words_pieces, others_pieces}
 
 pieces_by : (rows : List (ℕ × List ℕ)) (rest : ℕ) → flags_by rows rest ≡ words_pieces (words_by rows rest) ++ others_pieces (others_by rows rest)
 unfolding flags_by words_by others_by words_pieces others_pieces
 pieces_by [] rest = refl
-pieces_by (row ∷ rows) rest = by (has_bit rest row.0) refl (pieces_by rows (rest - row.0)) (pieces_by rows rest)
+pieces_by (row ∷ rows) rest = by (has_flag rest row.0) refl (pieces_by rows (rest - row.0)) (pieces_by rows rest)
   where
-    by : (t : Bool) → has_bit rest row.0 ≡ t
+    by : (t : Bool) → has_flag rest row.0 ≡ t
         → flags_by rows (rest - row.0) ≡ words_pieces (words_by rows (rest - row.0)) ++ others_pieces (others_by rows (rest - row.0))
         → flags_by rows rest ≡ words_pieces (words_by rows rest) ++ others_pieces (others_by rows rest)
         → flags_by (row ∷ rows) rest ≡ words_pieces (words_by (row ∷ rows) rest) ++ others_pieces (others_by (row ∷ rows) rest)

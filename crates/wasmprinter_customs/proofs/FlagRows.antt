@@ -6,7 +6,7 @@ use Rattle.std.proofs.lemmas.Bool.{eq-eqb, ne_eqb}
 use Rattle.std.proofs.lemmas.List.{drop_all, drop_more, get_or-map, length-map}
 use Rattle.std.proofs.lemmas.Nat.{pow_pos}
 use Rattle.std.proofs.lemmas.Nat.Bits.{and_pow, bit_at-lt}
-use Rattle.wasmprinter_spec.specs.Layout.Customs.{flag_words, has_bit}
+use Rattle.wasmprinter_spec.specs.Layout.Customs.{flag_words, has_flag}
 use Rattle.wasmprinter_customs.specs.Flags.{words_by, others_by}
 
 -- one bit
@@ -23,8 +23,8 @@ module _ (rest bit : ℕ) (one : IsBit bit) where
   both : bit_and rest bit ≡ bit_at rest k * bit
   both = ap (bit_and rest) one.power ∙ and_pow rest k ∙ ap (λ (b : ℕ). bit_at rest k * b) (sym one.power)
 
-  at_bit : has_bit rest bit ≡ (bit_at rest k == 1)
-  at_bit = ap (has_bit rest) one.power
+  at_bit : has_flag rest bit ≡ (bit_at rest k == 1)
+  at_bit = ap (has_flag rest) one.power
 
   some : 0 < bit
   some = subst (λ (b : ℕ). 0 < b) (sym one.power) (pow_pos k)
@@ -35,7 +35,7 @@ module _ (rest bit : ℕ) (one : IsBit bit) where
   set_by (suc zero) lt e = eq-eqb (bit_and rest bit) bit (omega (arith, e))
   set_by (suc (suc b)) lt e = absurd (omega (arith, lt))
 
-  pub contains_bit : (bit_and rest bit == bit) ≡ has_bit rest bit
+  pub contains_bit : (bit_and rest bit == bit) ≡ has_flag rest bit
   contains_bit = set_by (bit_at rest k) (bit_at-lt rest k) both ∙ sym at_bit
 
 -- ---- each flag is a bit
@@ -93,10 +93,10 @@ module _ {X : Type 0} (shown : X → ℕ × List ℕ) (items : List X) (all : ma
   row_is_bit = first_is_bit (drop i flag_words) (drop (i + 1) flag_words) (shown item) row_there (bits_behind i flag_words flags_are_bits)
 
   module _ (rest bits : ℕ) (same : bits ≡ (shown item).0) where
-    set : bit_and rest bits ≡ bits → has_bit rest bits ≡ true
+    set : bit_and rest bits ≡ bits → has_flag rest bits ≡ true
     set e = sym (contains_bit rest bits (subst IsBit (sym same) row_is_bit)) ∙ eq-eqb (bit_and rest bits) bits e
 
-    unset : bit_and rest bits ≢ bits → has_bit rest bits ≡ false
+    unset : bit_and rest bits ≢ bits → has_flag rest bits ≡ false
     unset n = sym (contains_bit rest bits (subst IsBit (sym same) row_is_bit)) ∙ ne_eqb (bit_and rest bits) bits n
 
     abbrev row : ℕ × List ℕ

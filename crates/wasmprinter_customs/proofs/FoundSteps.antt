@@ -2,7 +2,7 @@
 use Rattle.std.proofs.Common.{◌≡◌, ◌≢◌, ◌∷◌, ◌<◌, [], length, Some, None, ap, subst, ◌∙◌}
 use Rattle.wasmprinter_spec.specs.Grammar.{Input}
 use Rattle.wasmprinter_spec.specs.Customs.Dylink.{Subsection, subsection, judgement_of, other_of}
-use Rattle.wasmprinter_customs.specs.Sound.{subsections_in, IsWhole}
+use Rattle.wasmprinter_customs.specs.Sound.{subsections_in, IsFaultless}
 use Rattle.wasmprinter_customs.specs.Judgements.{found_view, HasKnownId}
 use Rattle.wasmprinter_customs.specs.declared.dylink.Found.{Found}
 use Rattle.wasmprinter_customs.specs.declared.dylink.Found.TheVariants.{Known}
@@ -22,5 +22,5 @@ module _ (at after : Input) (some : at.bytes ≢ []) (found : Found) (s : Subsec
   pub known_outcome : outcome (judgement_of after) ≡ outcome (judgement_of at)
   known_outcome = outcome_goes_on at some (s, after) read id_known
 
-  pub known_whole : IsWhole (judgement_of at) → IsWhole (judgement_of after) × (subsections_in (judgement_of at) ≡ s ∷ subsections_in (judgement_of after))
+  pub known_whole : IsFaultless (judgement_of at) → IsFaultless (judgement_of after) × (subsections_in (judgement_of at) ≡ s ∷ subsections_in (judgement_of after))
   known_whole w = whole_goes_on at some (s, after) read id_known w

@@ -4,34 +4,30 @@ use Rattle.std.specs.Prelude.{◌==◌}
 use Rattle.std.proofs.lemmas.Bool.{eqb-true, eqb-false, eq-eqb, ne_eqb}
 use Rattle.std.proofs.lemmas.List.{length-append, nil_from_length}
 use Rattle.wasmprinter_spec.specs.Grammar.{Input}
-use Rattle.wasmprinter_spec.specs.Lenient.{Lenient, one, give, read_behind, unless_ended, repeat_at, continue_with}
-use Rattle.wasmprinter_spec.specs.Customs.Dylink.{Subsection, subsection, Judged, Whole, Unknown, Faulty, other_of, first_some, first_other, judgement_by, judgement_of}
-use Rattle.wasmprinter_customs.specs.Sound.{subsections_in, IsWhole}
-
--- what is read in one turn
-abbrev turn : Lenient Subsection
-turn = unless_ended (one (λ s. s ∷ []) subsection)
+use Rattle.wasmprinter_spec.specs.Lenient.{give, read_behind, repeat_at, continue_with}
+use Rattle.wasmprinter_spec.specs.Customs.Dylink.{Subsection, subsection, one_subsection, Judged, Whole, Unknown, Faulty, other_of, first_some, first_other, judgement_by, judgement_of}
+use Rattle.wasmprinter_customs.specs.Sound.{subsections_in, IsFaultless}
 
 -- each subsection takes a byte at least
 pub shrinks : (at : Input) (x : Subsection × Input) → subsection.parse at ≡ Some x → length x.1.bytes < length at.bytes
 shrinks at x e =
     let s = subsection.sound at x e in
-    let parts = s.spelled.1.2 in
-    omega (arith, ap length s.parts, length-append s.text x.1.bytes, ap length parts.2, length-append parts.0 parts.1, ap length parts.3)
+    let (begins, (value, kept, (front, behind, joined, id_spelled, spelled))) = s.spelled in
+    omega (arith, ap length s.parts, length-append s.text x.1.bytes, ap length joined, length-append front behind, ap length id_spelled)
 
 -- ---- the turns suffice
 
 -- behind the last byte
-ended : (n : ℕ) (at : Input) → length at.bytes ≡ 0 → repeat_at turn n at ≡ ([], Some at)
-ended zero at e = refl
-ended (suc n) at e = rw (eq-eqb (length at.bytes) 0 e, ended n at e) refl
+none_at_end : (n : ℕ) (at : Input) → length at.bytes ≡ 0 → repeat_at one_subsection n at ≡ ([], Some at)
+none_at_end zero at e = refl
+none_at_end (suc n) at e = rw (eq-eqb (length at.bytes) 0 e, none_at_end n at e) refl
 
 -- a subsection, and what is read behind it
 abbrev on_from : (Input → List Subsection × Option Input) → Option (Subsection × Input) → List Subsection × Option Input
 on_from k None = ([], None)
 on_from k (Some x) = (x.0 ∷ (k x.1).0, (k x.1).1)
 
-on_by : (k : Input → List Subsection × Option Input) (r : Option (Subsection × Input)) → continue_with turn (read_behind subsection (λ s. give (s ∷ [])) r) k ≡ on_from k r
+on_by : (k : Input → List Subsection × Option Input) (r : Option (Subsection × Input)) → continue_with one_subsection (read_behind subsection (λ s. give (s ∷ [])) r) k ≡ on_from k r
 on_by k None = refl
 on_by k (Some x) = refl
 
@@ -39,23 +35,23 @@ on_same : (j k : Input → List Subsection × Option Input) (r : Option (Subsect
 on_same j k None h = refl
 on_same j k (Some x) h = ap (λ (r : List Subsection × Option Input). (x.0 ∷ r.0, r.1)) (h x refl)
 
-step : (n : ℕ) (at : Input) → length at.bytes ≢ 0 → repeat_at turn (suc n) at ≡ on_from (λ mid. repeat_at turn n mid) (subsection.parse at)
-step n at some = rw (ne_eqb (length at.bytes) 0 some) (on_by (λ mid. repeat_at turn n mid) (subsection.parse at))
+step : (n : ℕ) (at : Input) → length at.bytes ≢ 0 → repeat_at one_subsection (suc n) at ≡ on_from (λ mid. repeat_at one_subsection n mid) (subsection.parse at)
+step n at some = rw (ne_eqb (length at.bytes) 0 some) (on_by (λ mid. repeat_at one_subsection n mid) (subsection.parse at))
 
 -- with as many turns as bytes more of them change nothing
-enough : (n m : ℕ) (at : Input) → length at.bytes ≤ n → length at.bytes ≤ m → repeat_at turn n at ≡ repeat_at turn m at
-enough zero m at le more = sym (ended m at (omega (arith, le)))
-enough (suc n) zero at le more = ended (suc n) at (omega (arith, more))
+enough : (n m : ℕ) (at : Input) → length at.bytes ≤ n → length at.bytes ≤ m → repeat_at one_subsection n at ≡ repeat_at one_subsection m at
+enough zero m at le more = sym (none_at_end m at (omega (arith, le)))
+enough (suc n) zero at le more = none_at_end (suc n) at (omega (arith, more))
 enough (suc n) (suc m) at le more = by (length at.bytes == 0) refl (λ x e. enough n m x.1 (omega (arith, le, shrinks at x e)) (omega (arith, more, shrinks at x e)))
   where
-    by : (t : Bool) → (length at.bytes == 0) ≡ t → ((x : Subsection × Input) → subsection.parse at ≡ Some x → repeat_at turn n x.1 ≡ repeat_at turn m x.1)
-        → repeat_at turn (suc n) at ≡ repeat_at turn (suc m) at
+    by : (t : Bool) → (length at.bytes == 0) ≡ t → ((x : Subsection × Input) → subsection.parse at ≡ Some x → repeat_at one_subsection n x.1 ≡ repeat_at one_subsection m x.1)
+        → repeat_at one_subsection (suc n) at ≡ repeat_at one_subsection (suc m) at
     by true none same =
         let e = eqb-true (length at.bytes) 0 none in
-        ended (suc n) at e ∙ sym (ended (suc m) at e)
+        none_at_end (suc n) at e ∙ sym (none_at_end (suc m) at e)
     by false some same =
         let ne = eqb-false (length at.bytes) 0 some in
-        step n at ne ∙ on_same (λ mid. repeat_at turn n mid) (λ mid. repeat_at turn m mid) (subsection.parse at) same ∙ sym (step m at ne)
+        step n at ne ∙ on_same (λ mid. repeat_at one_subsection n mid) (λ mid. repeat_at one_subsection m mid) (subsection.parse at) same ∙ sym (step m at ne)
 
 -- ---- the first subsection, and then the others
 
@@ -85,16 +81,16 @@ judged_on k (Some x) = decided_by x.0 (k x.1).0 (other_of x.0.value) (first_othe
 
 judged_some : (at : Input) → length at.bytes ≢ 0 → judgement_of at ≡ judged_from judgement_of (subsection.parse at)
 judged_some at some =
-    let all : Input → List Subsection × Option Input = λ mid. repeat_at turn (length mid.bytes) mid in
+    let all : Input → List Subsection × Option Input = λ mid. repeat_at one_subsection (length mid.bytes) mid in
     let n : ℕ = length at.bytes - 1 in
     let more : length at.bytes ≡ suc n = omega (arith, some) in
-    let read : repeat_at turn (length at.bytes) at ≡ on_from all (subsection.parse at) =
-    ap (λ (k : ℕ). repeat_at turn k at) more ∙ step n at some
-    ∙ on_same (λ mid. repeat_at turn n mid) all (subsection.parse at) (λ x e. enough n (length x.1.bytes) x.1 (omega (arith, more, shrinks at x e)) (omega arith)) in
+    let read : repeat_at one_subsection (length at.bytes) at ≡ on_from all (subsection.parse at) =
+    ap (λ (k : ℕ). repeat_at one_subsection k at) more ∙ step n at some
+    ∙ on_same (λ mid. repeat_at one_subsection n mid) all (subsection.parse at) (λ x e. enough n (length x.1.bytes) x.1 (omega (arith, more, shrinks at x e)) (omega arith)) in
     ap judged_read read ∙ judged_on all (subsection.parse at)
 
 pub judged_none : (at : Input) → at.bytes ≡ [] → judgement_of at ≡ Whole []
-judged_none at none = ap judged_read (ended (length at.bytes) at (ap length none))
+judged_none at none = ap judged_read (none_at_end (length at.bytes) at (ap length none))
 
 -- ---- a loop over them
 
@@ -129,27 +125,27 @@ module _ (at : Input) (some : at.bytes ≢ []) where
     pub outcome_goes_on : other_of x.0.value ≡ None → outcome (judgement_of x.1) ≡ outcome (judgement_of at)
     outcome_goes_on e = outcome_by (judgement_of x.1) ∙ ap outcome (sym (judged_known e))
 
-    whole_by : (others : Judged) → IsWhole (decided x.0 None others) → IsWhole others × (subsections_in (decided x.0 None others) ≡ x.0 ∷ subsections_in others)
+    whole_by : (others : Judged) → IsFaultless (decided x.0 None others) → IsFaultless others × (subsections_in (decided x.0 None others) ≡ x.0 ∷ subsections_in others)
     whole_by (Whole ss) w = (tt, refl)
     whole_by (Unknown id) w = absurd w
     whole_by Faulty w = absurd w
 
     -- a section without a fault goes on without one
-    pub whole_goes_on : other_of x.0.value ≡ None → IsWhole (judgement_of at) → IsWhole (judgement_of x.1) × (subsections_in (judgement_of at) ≡ x.0 ∷ subsections_in (judgement_of x.1))
+    pub whole_goes_on : other_of x.0.value ≡ None → IsFaultless (judgement_of at) → IsFaultless (judgement_of x.1) × (subsections_in (judgement_of at) ≡ x.0 ∷ subsections_in (judgement_of x.1))
     whole_goes_on e w =
         let known : judgement_of at ≡ decided x.0 None (judgement_of x.1) = judged_known e in
-        let p = whole_by (judgement_of x.1) (subst IsWhole known w) in
+        let p = whole_by (judgement_of x.1) (subst IsFaultless known w) in
         (p.0, ap subsections_in known ∙ p.1)
 
-    pub other_not_whole : (id : ℕ) → other_of x.0.value ≡ Some id → IsWhole (judgement_of at) → ⊥
-    other_not_whole id e w = subst IsWhole (other_decides id e) w
+    pub other_not_whole : (id : ℕ) → other_of x.0.value ≡ Some id → IsFaultless (judgement_of at) → ⊥
+    other_not_whole id e w = subst IsFaultless (other_decides id e) w
 
-  pub fault_not_whole : subsection.parse at ≡ None → IsWhole (judgement_of at) → ⊥
-  fault_not_whole e w = subst IsWhole (fault_decides e) w
+  pub fault_not_whole : subsection.parse at ≡ None → IsFaultless (judgement_of at) → ⊥
+  fault_not_whole e w = subst IsFaultless (fault_decides e) w
 
 -- ---- what the outcome says
 
-pub whole_is : (j : Judged) → outcome j ≡ Whole [] → IsWhole j × (j ≡ Whole (subsections_in j))
+pub whole_is : (j : Judged) → outcome j ≡ Whole [] → IsFaultless j × (j ≡ Whole (subsections_in j))
 whole_is (Whole ss) e = (tt, refl)
 whole_is (Unknown id) e = absurd cc
 whole_is Faulty e = absurd cc

@@ -3,7 +3,7 @@ use Rattle.wasmprinter_spec.specs.Customs.Dylink as d
 use Rattle.wasmprinter_customs.specs.declared.dylink.Content.{Content}
 use Rattle.wasmprinter_customs.specs.declared.dylink.Content.TheVariants.{MemInfo, Needed, Exports, Imports, RuntimePath}
 
-abbrev pub content_view : Content → d.Content
+abbrev pub content_view : Content → d.SubsectionContent
 content_view (MemInfo m) = d.Sizes m
 content_view (Needed names) = d.Needed names
 content_view (Exports es) = d.Exports es

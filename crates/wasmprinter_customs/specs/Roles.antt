@@ -3,7 +3,7 @@ use Rattle.wasmprinter_spec.specs.Customs as d
 use Rattle.wasmprinter_customs.specs.declared.role.CustomRole.{CustomRole}
 use Rattle.wasmprinter_customs.specs.declared.role.CustomRole.TheVariants as r
 
-abbrev pub role_view : CustomRole → d.Role
+abbrev pub role_view : CustomRole → d.CustomRole
 role_view r.Silent = d.Silent
 role_view (r.Producers fields) = d.Listed fields
 role_view (r.Dylink subsections) = d.Linked subsections

@@ -7,6 +7,6 @@ subsections_in (Whole ss) = ss
 subsections_in _ = []
 
 -- there is no fault, and each id is known
-abbrev pub IsWhole : Judged → Type 0
-IsWhole (Whole ss) = Unit {0}
-IsWhole _ = ⊥
+abbrev pub IsFaultless : Judged → Type 0
+IsFaultless (Whole ss) = Unit {0}
+IsFaultless _ = ⊥

@@ -308,13 +308,13 @@ pub struct Dylink<'a> {
 impl<'a> Model for Dylink<'a> {
     ghost use Rattle.std.specs.Prelude.{List};
     ghost use Rattle.wasmprinter_spec.specs.Customs.Dylink.{Subsection as SubsectionValue, judgement_of};
-    ghost use Rattle.wasmprinter_customs.specs.Sound.{subsections_in, IsWhole};
+    ghost use Rattle.wasmprinter_customs.specs.Sound.{subsections_in, IsFaultless};
 
     ghost Value = { List SubsectionValue };
 
     ghost view = { λ d. subsections_in (judgement_of d.cursor) };
 
-    ghost invariant = { λ d. IsWhole (judgement_of d.cursor) };
+    ghost invariant = { λ d. IsFaultless (judgement_of d.cursor) };
 }
 
 impl<'a> Dylink<'a> {

@@ -9,7 +9,7 @@ use wasmprinter_bytes::bytes::Cursor;
 use wasmprinter_error::Malformed;
 
 /// What values are read from: a cursor. (It keeps the cursor's lifetime out of the trait of the values.)
-pub trait Source: Drop {
+pub trait ValueSource: Drop {
     ghost use Rattle.wasmprinter_spec.specs.Grammar.{Input};
 
     /// Where reading stands.
@@ -24,7 +24,7 @@ pub trait Source: Drop {
         ensures { Reads (λ n. n) u32_grammar.parse (input self.old) result (input self.new) };
 }
 
-impl<'a> Source for Cursor<'a> {
+impl<'a> ValueSource for Cursor<'a> {
     ghost input = { λ cursor. cursor };
 
     fn again(&self) -> Cursor<'a> {
@@ -42,7 +42,7 @@ pub trait ReadFrom: Drop {
     ghost use Rattle.wasmprinter_spec.specs.Grammar.{Input};
 
     /// The cursor, with the lifetime of what it borrows.
-    type Source: Source;
+    type Source: ValueSource;
 
     /// How it is read.
     ghost parse: { Input → Option (Self × Input) };
@@ -61,7 +61,7 @@ pub struct ItemsIn<T: ReadFrom> {
 
 impl<T: ReadFrom> Model for ItemsIn<T> {
     ghost use Rattle.std.specs.Prelude.{List};
-    ghost use Rattle.wasmprinter_spec.specs.Repeated.{items_of, HasItems};
+    ghost use Rattle.wasmprinter_bytes.specs.Items.{items_of, HasItems};
 
     ghost Value = { List T };
 

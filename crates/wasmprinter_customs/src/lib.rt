@@ -14,7 +14,7 @@ mod runs;
 pub use dylink::{Content, Dylink, ExportInfo, ImportInfo, MemInfo, Subsection};
 pub use flags::{FlagWords, SymbolFlags};
 pub use hints::{FunctionHints, Hint, Hints, is_hint_section};
-pub use items::{ItemsIn, ReadFrom, Source};
+pub use items::{ItemsIn, ReadFrom, ValueSource};
 pub use names::DylinkNames;
 pub use producers::{Producers, ProducersField, Value, Values};
 pub use role::{CustomRole, custom_role};

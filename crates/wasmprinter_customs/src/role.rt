@@ -1,7 +1,7 @@
 //! What a custom section is to the text.
 ghost use Rattle.std.specs.Prelude.{◌≡◌, ◌+◌, ◌<◌, ◌^◌, length};
 ghost use Rattle.wasmprinter_spec.specs.Placed.{custom_of};
-ghost use Rattle.wasmprinter_spec.specs.Customs.{role_of, producers_role, dylink_role};
+ghost use Rattle.wasmprinter_spec.specs.Customs.{custom_role_of, producers_role, dylink_role};
 ghost use Rattle.wasmprinter_spec.specs.Customs.Producers.{producers};
 ghost use Rattle.wasmprinter_spec.specs.Customs.Dylink.{judgement_of};
 ghost use Rattle.wasmprinter_customs.specs.Roles.{role_view};
@@ -62,7 +62,7 @@ fn dylink_role(section: Cursor) -> CustomRole
 /// What the custom section of this name is to the text; its bytes behind the name begin at the place.
 pub fn custom_role<'a>(name: &str, place: u64, bytes: &'a [u8]) -> CustomRole<'a>
     requires { place + length bytes.now < 2 ^ 64 }
-    ensures { role_view result ≡ role_of (custom_of name.now (record { place = place; value = bytes.now })) }
+    ensures { role_view result ≡ custom_role_of (custom_of name.now (record { place = place; value = bytes.now })) }
 {
     match name {
         NAME_SECTION | HINT_SECTION => CustomRole::Silent,

@@ -1,22 +1,22 @@
--- Counts in front of lists.
+-- CountStands in front of lists.
 use Rattle.std.proofs.Common.{◌≡◌, ℕ, ◌<◌, List, length, Some, sym, ap, ◌∙◌, arith}
 use Rattle.wasmprinter_spec.specs.Grammar.{Input, Grammar, ◌>>=◌, bind_some, some_is, seq}
 use Rattle.wasmprinter_spec.specs.Name.{u32, vec}
 use Rattle.wasmprinter_spec.specs.Repeated.{items_at, times, times_sound}
 use Rattle.wasmprinter_bytes.specs.Lists.{CountsItems}
-use Rattle.wasmprinter_entries.specs.Contents.{Counts}
+use Rattle.wasmprinter_entries.specs.Contents.{CountStands}
 
 module _ {A : Type 0} (g : Grammar A) (at : Input) (x : List A × Input) (read : (vec g).parse at ≡ Some x) where
   -- in front of a list stands the number of its items
-  pub vec_counted : Counts at (length x.0)
+  pub vec_counted : CountStands at (length x.0)
   vec_counted =
-      let (listed, parsed, given) = bind_some ((seq u32 (λ n. times g n)).parse at) (λ a. Some (a.0.1, a.1)) x read in
-      let (counted, has_count, behind) = bind_some (u32.parse at) (λ n. items_at g.parse n.0 n.1 >>= λ xs. Some ((n.0, xs.0), xs.1)) listed parsed in
-      let (count, after) = counted in
+      let (listed, parsed, given) = bind_some ((seq u32 (λ n. times g n)).parse at) (λ ((_, xs), rest). Some (xs, rest)) x read in
+      let ((front, list), end) = listed in
+      let ((count, after), has_count, behind) =
+      bind_some (u32.parse at) (λ n. items_at g.parse n.0 n.1 >>= λ xs. Some ((n.0, xs.0), xs.1)) listed parsed in
       let (items, has_items, together) = bind_some (items_at g.parse count after) (λ xs. Some ((count, xs.0), xs.1)) listed behind in
-      let list : List A = listed.0.1 in
-      let first : items.0 ≡ list = ap (λ (y : (ℕ × List A) × Input). y.0.1) (some_is ((count, items.0), items.1) listed together) in
-      let made : list ≡ x.0 = ap (λ (y : List A × Input). y.0) (some_is (list, listed.1) x given) in
+      let first : items.0 ≡ list = ap (λ (((_, xs), _) : (ℕ × List A) × Input). xs) (some_is ((count, items.0), items.1) listed together) in
+      let made : list ≡ x.0 = ap (λ (y : List A × Input). y.0) (some_is (list, end) x given) in
       let same : count ≡ length x.0 = sym (times_sound g count after items has_items).spelled.0 ∙ ap length (first ∙ made) in
       record { after = after; counted = has_count ∙ ap (λ (n : ℕ). Some (n, after)) same }
 

@@ -16,8 +16,8 @@ module _ {A : Type 0} (g : Grammar A) (at : Input) where
   -- where a value stands alone, it stands
   pub alone_some : (a : A) → (alone g).parse at ≡ Some a → (after : Input) × (g.parse at ≡ Some (a, after))
   alone_some a e =
-      let b = bind_some (g.parse at) (λ y. value_at_end y.1.bytes y.0) a e in
-      (b.0.1, b.1 ∙ ap (λ (v : A). Some (v, b.0.1)) (ended_is b.0.1.bytes b.0.0 a b.2))
+      let ((value, after), parsed, ended) = bind_some (g.parse at) (λ y. value_at_end y.1.bytes y.0) a e in
+      (after, parsed ∙ ap (λ (v : A). Some (v, after)) (ended_is after.bytes value a ended))
 
   -- where none stands, none stands alone
   pub alone_none : g.parse at ≡ None → (alone g).parse at ≡ None
@@ -48,7 +48,9 @@ module _ (old mid part new : Input) (size : ℕ) (size_read : u32.parse old ≡ 
 
   -- the part ends within the whole
   pub part_within : end_of part ≤ end_of old
-  part_within = omega (arith, ap length old_parts.1, old_parts.2, length-append old_parts.0 (part.bytes ++ new.bytes), length-append part.bytes new.bytes)
+  part_within =
+      let (text, split, behind, spelled) = old_parts in
+      omega (arith, ap length split, behind, length-append text (part.bytes ++ new.bytes), length-append part.bytes new.bytes)
 
   module _ {A : Type 0} (w : Remainder A) where
     -- a size and a value of so many bytes
@@ -87,6 +89,7 @@ module _ (old mid part new : Input) (size : ℕ) (size_read : u32.parse old ≡ 
     -- and what is read is read of the part
     pub sized_some : (x : (ℕ × A) × Input) → sized.parse old ≡ Some x → w.parse part ≡ Some x.0.1
     sized_some x e =
-        let a = bind_some (w.parse part) (λ a. Some ((size, a), new)) x (sym sized_is ∙ e) in
-        let value : a.0 ≡ x.0.1 = ap (λ (y : (ℕ × A) × Input). y.0.1) (some_is ((size, a.0), new) x a.2) in
-        a.1 ∙ ap (λ (v : A). Some v) value
+        let ((front, value), after) = x in
+        let (own, parsed, given) = bind_some (w.parse part) (λ a. Some ((size, a), new)) x (sym sized_is ∙ e) in
+        let same : own ≡ value = ap (λ (((_, v), _) : (ℕ × A) × Input). v) (some_is ((size, own), new) x given) in
+        parsed ∙ ap (λ (v : A). Some v) same

@@ -27,10 +27,20 @@ HasNoEmpty t = HasNoEmptyInit t.value.init
 
 -- the section's bodies have no more locals than are allowed, there are no more functions, and no table has an empty initialiser
 abbrev pub IsSmall : SectionValue → Type 0
+IsSmall (holds CustomSection c) = Unit {0}
+IsSmall (holds TypeSection ts) = Unit {0}
+IsSmall (holds ImportSection is) = Unit {0}
 IsSmall (holds FunctionSection is) = length is ≤ most_functions
 IsSmall (holds TableSection ts) = AllByRecursion HasNoEmpty ts
+IsSmall (holds MemorySection ms) = Unit {0}
+IsSmall (holds TagSection ts) = Unit {0}
+IsSmall (holds GlobalSection gs) = Unit {0}
+IsSmall (holds ExportSection es) = Unit {0}
+IsSmall (holds StartSection f) = Unit {0}
+IsSmall (holds ElementSection es) = Unit {0}
+IsSmall (holds DataCountSection n) = Unit {0}
 IsSmall (holds CodeSection bs) = AllByRecursion HasFew bs
-IsSmall _ = Unit {0}
+IsSmall (holds DataSection ds) = Unit {0}
 
 -- how many items the section holds; a custom section is one itself, and the start function and the data count are none
 abbrev pub item_count : SectionValue → ℕ
@@ -90,7 +100,7 @@ TakesIndices items old (Err e) new = HasReason (indices_reasons old) e
 -- ---- all that a section holds
 
 -- a count stands there, and it is this
-pub record Counts (at : Input) (count : ℕ) : Type 0 where
+pub record CountStands (at : Input) (count : ℕ) : Type 0 where
   pub after : Input
   pub counted : u32.parse at ≡ Some (count, after)
 
@@ -102,7 +112,8 @@ whole_reasons {C} w made items functions at = record {
   malformed = λ place. (w.parse at ≡ None) × (place ≤ end_of at);
   component = ⊥;
   locals = λ place. HasManyLocals at place × ((x : C) → w.parse at ≡ Some x → HasOver place (made x));
-  functions = λ count. functions × Counts at count × (most_functions < count) × ((x : C) → w.parse at ≡ Some x → HasCount count (made x));
+  functions =
+      λ count. functions × CountStands at count × (most_functions < count) × ((x : C) → w.parse at ≡ Some x → HasCount count (made x));
   tables = λ place. HasEmptyInit at place × ((x : C) → w.parse at ≡ Some x → HasEmpty place (made x));
   memory = items × CountsItems at × ((x : C) → w.parse at ≡ Some x → 0 < item_count (made x));
 }

@@ -46,8 +46,11 @@ IsPage (Some exponent) = exponent < 64
 
 -- the same of a memory that is imported
 abbrev pub HasPage : ExternType → Type 0
+HasPage (x.Func i) = Unit {0}
+HasPage (x.Table t) = Unit {0}
 HasPage (x.Memory m) = IsPage m.page
-HasPage _ = Unit {0}
+HasPage (x.Global g) = Unit {0}
+HasPage (x.Tag i) = Unit {0}
 
 -- the kind of the definitions
 abbrev pub kind_view : ExternKind → DefinedKind

@@ -6,7 +6,7 @@ use Rattle.wasmprinter_spec.specs.Name.{u32, vec}
 use Rattle.wasmprinter_spec.specs.Types.{TableType}
 use Rattle.wasmprinter_spec.specs.Operator.{Operator}
 use Rattle.wasmprinter_spec.specs.Placed.{LocalEntry, Table, table_of, Body, Custom}
-use Rattle.wasmprinter_spec.specs.Sections.{Kind, CustomSection, StartSection, DataCountSection, kind_of, holds, section}
+use Rattle.wasmprinter_spec.specs.Sections.{Kind, CustomSection, TypeSection, ImportSection, FunctionSection, TableSection, MemorySection, TagSection, GlobalSection, ExportSection, StartSection, ElementSection, DataCountSection, CodeSection, DataSection, kind_of, holds, section}
 use Rattle.wasmprinter_spec.specs.Binary.Tables.{table}
 use Rattle.wasmprinter_spec.specs.Binary.Code.{local_entry}
 use Rattle.wasmprinter_spec.specs.Limits.{local_count, most_locals, HasNoEmptyInit}
@@ -38,9 +38,19 @@ pub record BeginsSection (at : Input) (kind : Kind) (count : ℕ) : Type 0 where
 -- sections of the kind hold a list of items
 abbrev pub HoldsItems : Kind → Type 0
 HoldsItems CustomSection = ⊥
+HoldsItems TypeSection = Unit {0}
+HoldsItems ImportSection = Unit {0}
+HoldsItems FunctionSection = Unit {0}
+HoldsItems TableSection = Unit {0}
+HoldsItems MemorySection = Unit {0}
+HoldsItems TagSection = Unit {0}
+HoldsItems GlobalSection = Unit {0}
+HoldsItems ExportSection = Unit {0}
 HoldsItems StartSection = ⊥
+HoldsItems ElementSection = Unit {0}
 HoldsItems DataCountSection = ⊥
-HoldsItems _ = Unit {0}
+HoldsItems CodeSection = Unit {0}
+HoldsItems DataSection = Unit {0}
 
 -- among the bytes begins a section, of a kind that holds items, with a count above zero
 pub record BeginsItems (at : Input) : Type 0 where

@@ -8,9 +8,8 @@ use Rattle.wasmprinter_spec.specs.Placed.{Table, Global}
 use Rattle.wasmprinter_spec.specs.Piece.{Gap}
 use Rattle.wasmprinter_spec.specs.Layout.Declarations.{Scope, item_declaration}
 use Rattle.wasmprinter_spec.specs.Layout.Expressions.{constant_pieces}
-use Rattle.wasmprinter_spec.specs.Layout.Globals.{global_type_pieces}
-use Rattle.wasmprinter_spec.specs.Layout.Tables.{table_type_pieces, init_pieces}
-use Rattle.wasmprinter_fields.specs.Parts.{declared_table, declared_global, table_parts, global_parts}
+use Rattle.wasmprinter_spec.specs.Layout.Globals.{global_type_pieces, declared_global, global_parts}
+use Rattle.wasmprinter_spec.specs.Layout.Tables.{table_type_pieces, init_pieces, declared_table, table_parts}
 
 -- a table is a declared table and its initialiser
 pub table-parts : (s : Scope) (i : ℕ) (t : Table (Placed Operator)) → table_parts s i t ≡ declared_table s i t.type ++ init_pieces s t.init

@@ -8,11 +8,11 @@ use Rattle.wasmprinter_spec.specs.Types.{ExternType, FuncExtern, TableExtern, Me
 use Rattle.wasmprinter_spec.specs.Placed.{Import}
 use Rattle.wasmprinter_spec.specs.Piece.{Piece, Break}
 use Rattle.wasmprinter_spec.specs.Layout.Declarations.{Scope}
-use Rattle.wasmprinter_spec.specs.Layout.Imports.{Numbers, number_of, numbers_behind, extern_pieces, import_pieces, imports_pieces}
+use Rattle.wasmprinter_spec.specs.Layout.Imports.{Numbers, number_of, numbers_behind, extern_pieces, import_pieces, imports_pieces, extern_parts, import_parts}
 use Rattle.wasmprinter_spec.specs.Layout.Exports.{kind_word}
 use Rattle.wasmprinter_spec.specs.Layout.Groups.{line_group_gap}
 use Rattle.wasmprinter_entries.specs.Externs.{kind_of_type}
-use Rattle.wasmprinter_fields.specs.Parts.{field_line, extern_parts, import_parts}
+use Rattle.wasmprinter_fields.specs.Parts.{field_line}
 use Rattle.wasmprinter_fields.proofs.LineGroups.{one_line}
 use Rattle.wasmprinter_fields.proofs.Unbroken.{import-unbroken}
 

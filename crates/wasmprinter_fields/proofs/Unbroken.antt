@@ -10,18 +10,20 @@ use Rattle.wasmprinter_spec.specs.Piece.{Piece, Gap}
 use Rattle.wasmprinter_spec.specs.Layout.Groups.{has_break}
 use Rattle.wasmprinter_spec.specs.Layout.Declarations.{Scope, item_declaration, item_index}
 use Rattle.wasmprinter_spec.specs.Layout.Functions.{header_pieces}
-use Rattle.wasmprinter_spec.specs.Layout.Tables.{init_pieces}
+use Rattle.wasmprinter_spec.specs.Layout.Tables.{init_pieces, declared_table, table_parts}
 use Rattle.wasmprinter_spec.specs.Layout.Expressions.{constant_pieces}
-use Rattle.wasmprinter_spec.specs.Layout.Elements.{named_table, function_items, mode_pieces, shown_items}
-use Rattle.wasmprinter_spec.specs.Layout.DataSegments.{named_memory, data_mode_pieces, shown_bytes}
+use Rattle.wasmprinter_spec.specs.Layout.Elements.{named_table, function_items, mode_pieces, shown_items, element_parts}
+use Rattle.wasmprinter_spec.specs.Layout.DataSegments.{named_memory, data_mode_pieces, shown_bytes, data_parts}
 use Rattle.wasmprinter_spec.specs.Layout.ValTypes.{ref_pieces}
 use Rattle.wasmprinter_spec.proofs.OneLine.{stays_unbroken, both_stay, then_stay, line_group_gap_stays, ref_stays}
 use Rattle.wasmprinter_places.proofs.FieldLines.{header_stays, item_stays, declared_stays, table_type_stays, memory_type_stays, global_type_stays, extern_stays, extern_index_stays, named_table_stays, function_items_stay, named_memory_stays, bytes_stay}
 use Rattle.wasmprinter_scope.proofs.Groups.{behind-line, before-line, or-false}
 use Rattle.wasmprinter_lines.proofs.Groups.{has_break-append, or-assoc}
-use Rattle.wasmprinter_fields.specs.Parts.{declared_table, declared_memory, declared_global, import_parts, table_parts, global_parts, element_parts, data_parts, export_parts}
+use Rattle.wasmprinter_spec.specs.Layout.Memories.{declared_memory}
+use Rattle.wasmprinter_spec.specs.Layout.Globals.{declared_global, global_parts}
+use Rattle.wasmprinter_spec.specs.Layout.Imports.{import_parts}
+use Rattle.wasmprinter_spec.specs.Layout.Exports.{export_parts, kind_word}
 use Rattle.wasmprinter_fields.proofs.Declared.{table-parts, global-parts}
-use Rattle.wasmprinter_spec.specs.Layout.Exports.{kind_word}
 
 -- ---- fields on one line
 

@@ -4,12 +4,10 @@ ghost use Rattle.wasmprinter_spec.specs.Row as row;
 ghost use Rattle.wasmprinter_spec.specs.Piece.{Gap};
 ghost use Rattle.wasmprinter_spec.specs.Layout.Declarations.{item_index};
 ghost use Rattle.wasmprinter_spec.specs.Layout.Expressions.{constant_group};
-ghost use Rattle.wasmprinter_spec.specs.Layout.Elements.{named_table, mode_pieces, function_items, expression_items};
-ghost use Rattle.wasmprinter_spec.specs.Layout.Elements.{items_pieces, shown_items};
+ghost use Rattle.wasmprinter_spec.specs.Layout.Elements.{named_table, mode_pieces, function_items, expression_items, items_pieces, shown_items, element_parts};
 ghost use Rattle.wasmprinter_print.specs.Prints.{PrintsAlways, PrintsOrStops, TellsLines};
 ghost use Rattle.wasmprinter_segments.specs.Segments.{element_mode_view, element_items_view, constants_of};
 ghost use Rattle.wasmprinter_scope.specs.Scopes.{scope_view, folds_in};
-ghost use Rattle.wasmprinter_fields.specs.Parts.{element_parts};
 
 use crate::fields::Field;
 use std::io;
@@ -21,7 +19,7 @@ use wasmprinter_ops::expression::Expression;
 use wasmprinter_print::Print;
 use wasmprinter_scope::expressions::write_constant_group;
 use wasmprinter_scope::scope::{
-    Scope, write_declaration, write_index, write_index_group, write_ref_type,
+    Scope, write_declaration_in, write_index_group_in, write_index_in, write_ref_type_in,
 };
 use wasmprinter_wasm::{Element, ElementItems, ElementMode};
 use wasmprinter_words::words::{gap, word};
@@ -39,7 +37,7 @@ fn write_named_table<P: Print>(
         return Ok(());
     }
     gap(p)?;
-    write_index_group(p, scope, "table", Space::Table, table)
+    write_index_group_in(p, scope, "table", Space::Table, table)
 }
 
 /// Writes what becomes of a segment, with a blank in front; `names_table` is whether the bytes name its table.
@@ -78,7 +76,7 @@ fn write_function_item<P: Print>(p: &mut P, scope: &Scope<'_, '_>, function: u32
         (Gap ∷ item_index (scope_view scope.now) row.Func function) }
 {
     gap(p)?;
-    write_index(p, scope, Space::Func, function)
+    write_index_in(p, scope, Space::Func, function)
 }
 
 /// Writes the indices of functions, a blank before each.
@@ -150,7 +148,7 @@ fn write_items<P: Print>(
             Ok(false)
         }
         ElementItems::Expressions(ref_type, expressions) => {
-            write_ref_type(p, scope, *ref_type)?;
+            write_ref_type_in(p, scope, *ref_type)?;
             write_expression_items(p, options, scope, expressions)
         }
     }
@@ -198,7 +196,7 @@ impl<'a> Field for Element<'a> {
         scope: &mut Scope<'_, '_>,
         number: u64,
     ) -> Result<bool, Error> {
-        write_declaration(p, scope, Space::Elem, number)?;
+        write_declaration_in(p, scope, Space::Elem, number)?;
         let offset = write_element_mode(p, options, scope, self.names_table(), self.mode())?;
         gap(p)?;
         let items = write_shown_items(p, options, scope, self.items())?;

@@ -1,13 +1,12 @@
 //! Exports (section 6.6 of the WebAssembly Core Specification, "Exports").
 ghost use Rattle.std.specs.Prelude.{◌≡◌, ℕ, codes};
 ghost use Rattle.wasmprinter_spec.specs.Indexed.{space_of};
-ghost use Rattle.wasmprinter_spec.specs.Layout.Exports.{kind_word, extern_index_pieces};
+ghost use Rattle.wasmprinter_spec.specs.Layout.Exports.{kind_word, extern_index_pieces, export_parts};
 ghost use Rattle.wasmprinter_spec.specs.Layout.Groups.{line_group_gap};
 ghost use Rattle.wasmprinter_print.specs.Prints.{PrintsAlways};
 ghost use Rattle.wasmprinter_entries.specs.Externs.{kind_view};
 ghost use Rattle.wasmprinter_labels.specs.Scan.{Scan, names_of};
 ghost use Rattle.wasmprinter_scope.specs.Scopes.{scope_view, item_in};
-ghost use Rattle.wasmprinter_fields.specs.Parts.{export_parts};
 
 use crate::fields::Field;
 use std::io;
@@ -15,7 +14,7 @@ use wasmprinter_error::Error;
 use wasmprinter_lines::options::PrintOptions;
 use wasmprinter_names::Space;
 use wasmprinter_print::Print;
-use wasmprinter_scope::scope::{Scope, write_index};
+use wasmprinter_scope::scope::{Scope, write_index_in};
 use wasmprinter_wasm::{Export, ExternKind};
 use wasmprinter_words::numbers::number_word;
 use wasmprinter_words::strings::write_string;
@@ -61,7 +60,7 @@ fn write_extern_index<P: Print>(
 {
     match kind {
         ExternKind::Tag => number_word(p, u64::from(index)),
-        _ => write_index(p, scope, space_of(kind), index),
+        _ => write_index_in(p, scope, space_of(kind), index),
     }
 }
 

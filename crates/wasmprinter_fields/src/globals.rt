@@ -1,11 +1,10 @@
 //! Globals (section 6.6 of the WebAssembly Core Specification, "Globals"), and their types (section 6.4, "Global Types").
 ghost use Rattle.std.specs.Prelude.{codes};
-ghost use Rattle.wasmprinter_spec.specs.Layout.Globals.{global_type_pieces};
+ghost use Rattle.wasmprinter_spec.specs.Layout.Globals.{global_type_pieces, declared_global, global_parts};
 ghost use Rattle.wasmprinter_print.specs.Prints.{PrintsAlways};
 ghost use Rattle.wasmprinter_entries.specs.Externs.{global_type_view};
 ghost use Rattle.wasmprinter_labels.specs.Scan.{names_of};
 ghost use Rattle.wasmprinter_scope.specs.Scopes.{scope_view};
-ghost use Rattle.wasmprinter_fields.specs.Parts.{declared_global, global_parts};
 
 use crate::fields::Field;
 use std::io;
@@ -14,7 +13,7 @@ use wasmprinter_lines::options::PrintOptions;
 use wasmprinter_names::Space;
 use wasmprinter_print::Print;
 use wasmprinter_scope::expressions::write_constant;
-use wasmprinter_scope::scope::{Scope, write_declaration, write_val_type};
+use wasmprinter_scope::scope::{Scope, write_declaration_in, write_val_type_in};
 use wasmprinter_wasm::{Global, GlobalType};
 use wasmprinter_words::words::{gap, open_type_gap, shut};
 
@@ -29,10 +28,10 @@ fn write_global_type<P: Print>(
         (global_type_pieces (names_of scope.now.labels) (global_type_view global_type)) }
 {
     if !global_type.mutable {
-        return write_val_type(p, scope, global_type.ty);
+        return write_val_type_in(p, scope, global_type.ty);
     }
     open_type_gap(p, "mut")?;
-    write_val_type(p, scope, global_type.ty)?;
+    write_val_type_in(p, scope, global_type.ty)?;
     shut(p)
 }
 
@@ -46,7 +45,7 @@ pub(crate) fn write_declared_global<P: Print>(
     ensures { PrintsAlways P.meaning p.old p.new result
         (declared_global (scope_view scope.now) number (global_type_view global_type)) }
 {
-    write_declaration(p, scope, Space::Global, number)?;
+    write_declaration_in(p, scope, Space::Global, number)?;
     gap(p)?;
     write_global_type(p, scope, global_type)
 }

@@ -3,7 +3,7 @@
 //! What answers `io::Result` fails with the error of the call on the printer that failed, and for no other reason.
 #![tactic(auto)]
 
-mod data;
+mod data_segments;
 mod elements;
 mod exports;
 pub mod fields;

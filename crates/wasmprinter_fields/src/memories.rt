@@ -2,11 +2,10 @@
 //! (section 6.4, "Memory Types").
 ghost use Rattle.std.specs.Prelude.{◌<◌, codes};
 ghost use Rattle.wasmprinter_spec.specs.Layout.Groups.{line_group_gap};
-ghost use Rattle.wasmprinter_spec.specs.Layout.Memories.{shared_pieces, page_pieces, memory_type_pieces};
+ghost use Rattle.wasmprinter_spec.specs.Layout.Memories.{shared_pieces, page_pieces, memory_type_pieces, page_parts, declared_memory};
 ghost use Rattle.wasmprinter_print.specs.Prints.{PrintsAlways};
 ghost use Rattle.wasmprinter_entries.specs.Externs.{memory_type_view, IsPage};
 ghost use Rattle.wasmprinter_scope.specs.Scopes.{scope_view};
-ghost use Rattle.wasmprinter_fields.specs.Parts.{page_parts, declared_memory};
 
 use crate::fields::Field;
 use crate::limits::{write_sizes, write_wide};
@@ -15,7 +14,7 @@ use wasmprinter_error::Error;
 use wasmprinter_lines::options::PrintOptions;
 use wasmprinter_names::Space;
 use wasmprinter_print::Print;
-use wasmprinter_scope::scope::{Scope, write_declaration};
+use wasmprinter_scope::scope::{Scope, write_declaration_in};
 use wasmprinter_wasm::{Memory, MemoryType};
 use wasmprinter_words::limits::page_size;
 use wasmprinter_words::words::{gap, gap_type_word, open_gap, shut};
@@ -81,7 +80,7 @@ pub(crate) fn write_declared_memory<P: Print>(
     ensures { PrintsAlways P.meaning p.old p.new result
         (declared_memory (scope_view scope.now) number (memory_type_view memory_type)) }
 {
-    write_declaration(p, scope, Space::Memory, number)?;
+    write_declaration_in(p, scope, Space::Memory, number)?;
     gap(p)?;
     write_memory_type(p, memory_type)
 }

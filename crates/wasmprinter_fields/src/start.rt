@@ -1,7 +1,7 @@
 //! The start function (section 6.6 of the WebAssembly Core Specification, "Start Function").
 ghost use Rattle.std.specs.Prelude.{◌≡◌, codes};
 ghost use Rattle.wasmprinter_spec.specs.Row as row;
-ghost use Rattle.wasmprinter_spec.specs.Layout.{start_pieces};
+ghost use Rattle.wasmprinter_spec.specs.Layout.Start.{start_pieces};
 ghost use Rattle.wasmprinter_spec.specs.Layout.Declarations.{item_index};
 ghost use Rattle.wasmprinter_print.specs.Prints.{PrintsOrStops};
 ghost use Rattle.wasmprinter_scope.specs.Scopes.{scope_view, folds_in};
@@ -11,7 +11,7 @@ use wasmprinter_error::Error;
 use wasmprinter_lines::options::PrintOptions;
 use wasmprinter_names::Space;
 use wasmprinter_print::Print;
-use wasmprinter_scope::scope::{Scope, write_index};
+use wasmprinter_scope::scope::{Scope, write_index_in};
 use wasmprinter_wasm::Start;
 
 impl Field for Start {
@@ -36,7 +36,7 @@ impl Field for Start {
         scope: &mut Scope<'_, '_>,
         _number: u64,
     ) -> Result<bool, Error> {
-        write_index(p, scope, Space::Func, self.function())?;
+        write_index_in(p, scope, Space::Func, self.function())?;
         Ok(false)
     }
 }
@@ -46,7 +46,7 @@ impl Field for Start {
 /// # Errors
 ///
 /// Those of [`write_each`](crate::fields::write_each).
-#[tactic(auto, unfolding(wasmprinter_spec::specs::Layout::start_pieces))]
+#[tactic(auto, unfolding(wasmprinter_spec::specs::Layout::Start::start_pieces))]
 pub fn write_start<P: Print>(
     p: &mut P,
     options: &PrintOptions,

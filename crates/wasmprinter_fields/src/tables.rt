@@ -1,11 +1,10 @@
 //! Tables (section 6.6 of the WebAssembly Core Specification, "Tables"), and their types (section 6.4, "Table Types").
 ghost use Rattle.std.specs.Prelude.{◌≡◌, codes};
-ghost use Rattle.wasmprinter_spec.specs.Layout.Tables.{table_type_pieces, init_pieces};
+ghost use Rattle.wasmprinter_spec.specs.Layout.Tables.{table_type_pieces, init_pieces, declared_table, table_parts};
 ghost use Rattle.wasmprinter_print.specs.Prints.{PrintsAlways, PrintsOrStops, TellsLines};
 ghost use Rattle.wasmprinter_entries.specs.Externs.{table_type_view};
 ghost use Rattle.wasmprinter_labels.specs.Scan.{names_of};
 ghost use Rattle.wasmprinter_scope.specs.Scopes.{scope_view, folds_in};
-ghost use Rattle.wasmprinter_fields.specs.Parts.{declared_table, table_parts};
 
 use crate::fields::Field;
 use crate::limits::{write_sizes, write_wide};
@@ -15,7 +14,7 @@ use wasmprinter_lines::options::PrintOptions;
 use wasmprinter_names::Space;
 use wasmprinter_print::Print;
 use wasmprinter_scope::expressions::write_constant;
-use wasmprinter_scope::scope::{Scope, write_declaration, write_ref_type};
+use wasmprinter_scope::scope::{Scope, write_declaration_in, write_ref_type_in};
 use wasmprinter_wasm::{Table, TableType};
 use wasmprinter_words::words::gap;
 
@@ -32,7 +31,7 @@ fn write_table_type<P: Print>(
     write_wide(p, table_type.wide)?;
     write_sizes(p, table_type.limits)?;
     gap(p)?;
-    write_ref_type(p, scope, table_type.element)
+    write_ref_type_in(p, scope, table_type.element)
 }
 
 /// Writes a table where it is declared, with its type.
@@ -45,7 +44,7 @@ pub(crate) fn write_declared_table<P: Print>(
     ensures { PrintsAlways P.meaning p.old p.new result
         (declared_table (scope_view scope.now) number (table_type_view table_type)) }
 {
-    write_declaration(p, scope, Space::Table, number)?;
+    write_declaration_in(p, scope, Space::Table, number)?;
     gap(p)?;
     write_table_type(p, scope, table_type)
 }

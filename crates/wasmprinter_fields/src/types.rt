@@ -14,7 +14,7 @@ use std::io;
 use wasmprinter_lines::lines::break_line;
 use wasmprinter_lines::options::PrintOptions;
 use wasmprinter_print::Print;
-use wasmprinter_scope::scope::{FIELD_NESTING, Scope, write_type};
+use wasmprinter_scope::scope::{FIELD_NESTING, Scope, write_type_in};
 use wasmprinter_types::composite::SubType;
 use wasmprinter_wasm::TypeGroup;
 use wasmprinter_words::words::{open, shut};
@@ -37,7 +37,7 @@ fn write_member<P: Print>(
         (member_pieces (names_of scope.now.labels) group.now.place number sub_type.now) }
 {
     break_line(p, options, Some(group.types_place()), MEMBER_NESTING)?;
-    write_type(p, scope, number, sub_type)
+    write_type_in(p, scope, number, sub_type)
 }
 
 /// Writes a type of a group.
@@ -55,7 +55,7 @@ fn write_listed<P: Print>(
     if group.is_written() {
         write_member(p, options, scope, group, number, sub_type)
     } else {
-        write_type(p, scope, number, sub_type)
+        write_type_in(p, scope, number, sub_type)
     }
 }
 

@@ -10,7 +10,7 @@ use Rattle.wasmprinter_spec.specs.Layout.ValTypes.{val_pieces, type_list}
 use Rattle.wasmprinter_spec.specs.Layout.Operators.{select_pieces}
 use Rattle.wasmprinter_spec.specs.Text.Items.{the_only}
 use Rattle.wasmprinter_types.specs.ValTypes.{type_view, types_view}
-use Rattle.wasmprinter_types.specs.declared.ValType.{ValType}
+use Rattle.wasmprinter_types.specs.declared.val_types.ValType.{ValType}
 
 -- the first of one value is that value
 pub only-first : {A : Type 0} (xs rest : List A) (r : Option A) → length xs ≡ 1 → YieldsFirst (λ ys. ys) xs r rest → r ≡ the_only xs

@@ -11,10 +11,10 @@ use Rattle.wasmprinter_spec.specs.Names.{Names}
 use Rattle.wasmprinter_spec.specs.Labels.{Label, labels_after, count_after}
 use Rattle.wasmprinter_spec.specs.Options.{Options}
 use Rattle.wasmprinter_spec.specs.Customs.Hints.{Hint, next_hint, hint_behind}
-use Rattle.wasmprinter_spec.specs.Piece.{Piece}
 use Rattle.wasmprinter_spec.specs.Meaning.{Meaning}
 use Rattle.wasmprinter_spec.specs.Layout.Groups.{has_break}
 use Rattle.wasmprinter_spec.specs.Layout.Operators.{Setting, level, before_word, operator_pieces, hint_pieces, operators_pieces}
+use Rattle.wasmprinter_spec.proofs.OneLine.{hint_breaks}
 use Rattle.wasmprinter_print.specs.Emits.{Through}
 use Rattle.wasmprinter_print.specs.Prints.{Written, Lacks}
 use Rattle.wasmprinter_print.specs.PrintsLaws.{no_piece, next_written, lacks_none}
@@ -134,17 +134,12 @@ module _ {P : Type 0} (m : Meaning P) {o : Options} {a t : P} {s : Setting} {sta
 
 -- ---- whether there is an operator
 
--- a hint stands on a line of its own, so what is behind it decides only where there is none
-hint-break : (nesting : ℕ) (h : Option (Placed Hint)) (ps : List Piece) → has_break ps ≡ true → has_break (hint_pieces nesting h ++ ps) ≡ true
-hint-break nesting None ps e = e
-hint-break nesting (Some h) ps e = refl
-
 module _ (signature : ℕ → Option FuncType) (nesting : ℕ) (names : Names) (function body : ℕ) (hints : List (Placed Hint)) where
   breaks-of : (os rest : List (Placed Operator)) (o : Placed Operator) → os ≡ o ∷ rest →
       has_break (over_lines signature nesting names function body hints os) ≡ true
   unfolding operators_pieces operator_pieces
   breaks-of os rest o e =
-      ap (λ ps. has_break (over_lines signature nesting names function body hints ps)) e ∙ hint-break (nesting + 0) (next_hint (o.place - body) hints) _ refl
+      ap (λ ps. has_break (over_lines signature nesting names function body hints ps)) e ∙ hint_breaks (nesting + 0) (next_hint (o.place - body) hints) _ refl
 
   breaks-nil : (os : List (Placed Operator)) → os ≡ [] → has_break (over_lines signature nesting names function body hints os) ≡ false
   unfolding operators_pieces

@@ -3,7 +3,7 @@ use Rattle.std.proofs.Common.{◌≡◌, ℕ, List, refl, sym, ◌∙◌, ap, su
 use Rattle.wasmprinter_spec.specs.Row as row
 use Rattle.wasmprinter_spec.specs.Row.{Role}
 use Rattle.wasmprinter_spec.specs.Labels.{labels_after}
-use Rattle.wasmprinter_spec.specs.Folding.Arities.{Counts}
+use Rattle.wasmprinter_spec.specs.Folding.Arities.{OperandCounts}
 use Rattle.wasmprinter_spec.specs.Folding.Tree.{NodesOf}
 use Rattle.wasmprinter_ops.specs.declared.opcode.Role.{Role as OpsRole}
 use Rattle.wasmprinter_ops.specs.declared.opcode.Role.TheVariants as ops
@@ -11,7 +11,7 @@ use Rattle.wasmprinter_ops.specs.Shapes.{role_view}
 use Rattle.wasmprinter_nodes.specs.declared.NodeText.{NodeText}
 use Rattle.wasmprinter_nodes.specs.declared.Node.{Node}
 use Rattle.wasmprinter_nodes.specs.declared.builder.Builder.{Builder}
-use Rattle.wasmprinter_nodes.specs.Building.{Open, Top, InBlock, InThen, InElse, StateOf, Step, Ends, start, state_at, step}
+use Rattle.wasmprinter_nodes.specs.Building.{OpenNodes, Top, InBlock, InThen, InElse, StateOf, Step, Ends, start, state_at, step}
 use Rattle.wasmprinter_nodes.specs.Heads.{AllStep}
 use Rattle.wasmprinter_nodes.specs.Mapping.{map_nodes, map_open, map_step}
 use Rattle.wasmprinter_nodes.specs.Frames.{State, Stands}
@@ -19,13 +19,13 @@ use Rattle.wasmprinter_nodes.specs.Postorder.{IsPostorder, forest_of}
 use Rattle.wasmprinter_nodes.proofs.Maps.{step-map}
 use Rattle.wasmprinter_nodes.proofs.AllHeads.{all_step, AllState-weaker, map_state-same}
 use Rattle.wasmprinter_node_text.specs.Shown.{Shown, shown_of_head, IsIn, AreIn}
-use Rattle.wasmprinter_node_text.specs.Buffers.{Grows}
+use Rattle.wasmprinter_node_text.specs.Buffers.{GrowsText}
 use Rattle.wasmprinter_fold.specs.declared.tree.GrowingTree.{GrowingTree}
-use Rattle.wasmprinter_fold.specs.Growing.{ShowsIn, Steps, shown_step}
+use Rattle.wasmprinter_fold.specs.Growing.{ShowsIn, GrowsByStep, shown_step}
 use Rattle.wasmprinter_node_text.proofs.NodeTexts.{in_grown, shown_grown}
 
 -- what is printed stays the same where the buffer grows
-pub shows-more : (old new : List ℕ) (b : Builder) (s : StateOf Shown) → Grows old new → ShowsIn old b s → ShowsIn new b s
+pub shows-more : (old new : List ℕ) (b : Builder) (s : StateOf Shown) → GrowsText old new → ShowsIn old b s → ShowsIn new b s
 shows-more old new b s g h = record {
   state = h.state;
   stands = h.stands;
@@ -52,21 +52,21 @@ shows-none buffer b h = record { state = start; stands = h; inside = (tt, tt); s
 
 -- ---- at the end
 
-only_top : {H K : Type 0} (v : H → K) (o : Open H) → map_open v o ≡ Top → o ≡ Top
+only_top : {H K : Type 0} (v : H → K) (o : OpenNodes H) → map_open v o ≡ Top → o ≡ Top
 only_top v Top e = refl
 only_top v (InBlock o b x q) e = absurd cc
 only_top v (InThen o b d x y q) e = absurd cc
 only_top v (InElse o b d x y q) e = absurd cc
 
 -- what is printed of nodes around which no block is open
-pub record Whole (buffer : List ℕ) (nodes : List Node) (f : NodesOf Shown) : Type 0 where
+pub record IsWholeTree (buffer : List ℕ) (nodes : List Node) (f : NodesOf Shown) : Type 0 where
   pub row : IsPostorder nodes
   pub inside : AreIn buffer (forest_of nodes)
   pub shows : map_nodes (shown_of_head buffer) (forest_of nodes) ≡ f
 
 pub whole : (buffer : List ℕ) (b : Builder) (nodes : List Node) (f : NodesOf Shown) →
     ((s : State) → Stands b s → IsPostorder nodes) → ((s : State) → Stands b s → s.outer ≡ Top → forest_of nodes ≡ s.groups) →
-    ShowsIn buffer b (state_at Top f) → Whole buffer nodes f
+    ShowsIn buffer b (state_at Top f) → IsWholeTree buffer nodes f
 whole buffer b nodes f p q h =
     let e = q h.state h.stands (only_top (shown_of_head buffer) h.state.outer (ap (λ (s : StateOf Shown). s.outer) h.shows)) in
     record {
@@ -77,15 +77,15 @@ whole buffer b nodes f p q h =
 
 -- ---- by role
 
-pub same_step : {T E : Type 0} (r : Result T E) (old new : GrowingTree) (a b : Step Shown) → a ≡ b → OnOk r (Steps old new a) → OnOk r (Steps old new b)
-same_step r old new a b e h = subst (λ (x : Step Shown). OnOk r (Steps old new x)) e h
+pub same_step : {T E : Type 0} (r : Result T E) (old new : GrowingTree) (a b : Step Shown) → a ≡ b → OnOk r (GrowsByStep old new a) → OnOk r (GrowsByStep old new b)
+same_step r old new a b e h = subst (λ (x : Step Shown). OnOk r (GrowsByStep old new x)) e h
 
 -- the step by the operator's role
-pub by_role : (r s : Role) (x then otherwise : Shown) (counts : Counts) → r ≡ s → shown_step r x then otherwise counts ≡ shown_step s x then otherwise counts
+pub by_role : (r s : Role) (x then otherwise : Shown) (counts : OperandCounts) → r ≡ s → shown_step r x then otherwise counts ≡ shown_step s x then otherwise counts
 by_role r s x then otherwise counts e = ap (λ (q : Role). shown_step q x then otherwise counts) e
 
 -- what is of no other role ends a block
-pub ends_role : (r : OpsRole) (s : Role) (x then otherwise : Shown) (counts : Counts) →
+pub ends_role : (r : OpsRole) (s : Role) (x then otherwise : Shown) (counts : OperandCounts) →
     (r ≡ ops.OpensTry) ⊎ ((r ≡ ops.Catches) ⊎ ((r ≡ ops.CatchesAll) ⊎ ((r ≡ ops.Delegates) ⊎ (r ≡ ops.Ends)))) → role_view r ≡ s →
     Ends ≡ shown_step s x then otherwise counts
 ends_role r s x then otherwise counts h e =

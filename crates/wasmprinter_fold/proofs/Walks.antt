@@ -14,7 +14,7 @@ use Rattle.wasmprinter_spec.specs.Options.{defaults}
 use Rattle.wasmprinter_spec.specs.Customs.Hints.{Hint, next_hint, hint_behind}
 use Rattle.wasmprinter_spec.specs.Layout.Operators.{Setting}
 use Rattle.wasmprinter_spec.specs.Layout.Folded.{item, items, folded_pieces, if_folded}
-use Rattle.wasmprinter_spec.specs.Folding.Arities.{Signatures, Counts, counts_of, label_of_block}
+use Rattle.wasmprinter_spec.specs.Folding.Arities.{Signatures, OperandCounts, counts_of, label_of_block}
 use Rattle.wasmprinter_spec.specs.Folding.Code.{Item, NestedCode, nested_code_of, role as item_role, is_try, AreWithoutTry, flat, IsFit}
 use Rattle.wasmprinter_spec.specs.Folding.Tree.{tree}
 use Rattle.wasmprinter_spec.proofs.FoldingCode.{nested_code_of-tree, nested_code_of-nested, nested_code_of-nests}
@@ -29,7 +29,7 @@ use Rattle.wasmprinter_nodes.specs.Mapping.{map_nodes}
 use Rattle.wasmprinter_nodes.proofs.Runs.{run-tree}
 use Rattle.wasmprinter_node_text.specs.Shown.{Shown, shown_head, row_pieces}
 use Rattle.wasmprinter_fold.specs.declared.tree.GrowingTree.{GrowingTree}
-use Rattle.wasmprinter_fold.specs.Growing.{Shows, Steps, shown_step, shown_operator, shown_keyword, operator_step, IsGrown}
+use Rattle.wasmprinter_fold.specs.Growing.{Shows, GrowsByStep, shown_step, shown_operator, shown_keyword, operator_step, IsGrown}
 use Rattle.wasmprinter_node_text.proofs.RowLaws.{rows_shown}
 
 -- ---- places and operators
@@ -38,7 +38,7 @@ use Rattle.wasmprinter_node_text.proofs.RowLaws.{rows_shown}
 
 -- what is printed of an operator, by its role
 step-shown : (paints : Bool) (s : Setting) (t : Signatures) (hint : Option (Placed Hint)) (l : Scan) (ls : List (Option ℕ)) (o : Placed Operator) (r : Role) →
-    let counts : Counts = counts_of t ls o.value in
+    let counts : OperandCounts = counts_of t ls o.value in
     step_of (shown_head paints) r (item s t hint (own_label l) l.labels ls o)
     ≡ shown_step r (shown_operator paints s l o.place (option_map (λ h. h.value.taken) hint) o.value)
     (shown_keyword paints o.place (codes "then")) (shown_keyword paints o.place (codes "else")) counts
@@ -59,7 +59,7 @@ step-next : (paints other : Bool) (s : Setting) (t : Signatures) (next : Option 
     ≡ shown_step r (shown_operator other (record s { names = names }) l o.place hint o.value)
     (shown_keyword other o.place (codes "then")) (shown_keyword other o.place (codes "else")) (counts_of t ls o.value)
 step-next paints other s t next hint names l ls o r e n q =
-    let counts : Counts = counts_of t ls o.value in
+    let counts : OperandCounts = counts_of t ls o.value in
     step-shown paints s t next l ls o r
     ∙ (ap (λ (ns : Names). shown_step r (shown_operator paints (record s { names = ns }) l o.place (option_map (λ h. h.value.taken) next) o.value)
     (shown_keyword paints o.place (codes "then")) (shown_keyword paints o.place (codes "else")) counts) (sym n)
@@ -146,7 +146,7 @@ module _ {paints : Bool} {s : Setting} {t : Signatures} {from : Scan} {hints : L
       pairs os ≡ x ∷ pairs rest → role ≡ role_of x.1.opcode → is_try role ≡ false → k ≡ behind_operator role l → behind ≡ hint_behind (x.0 - s.body) left →
       hint ≡ option_map (λ h. h.value.taken) (next_hint (x.0 - s.body) left) → n.texts.paints ≡ g.texts.paints →
       n.labels ≡ labels_after (role_of x.1.opcode) (label_of_block t x.1) g.labels →
-      Steps g n (operator_step g.texts.paints (record s { names = names_of l }) l x.0 hint x.1 (counts_of t g.labels x.1)) →
+      GrowsByStep g n (operator_step g.texts.paints (record s { names = names_of l }) l x.0 hint x.1 (counts_of t g.labels x.1)) →
       Progress paints s t from hints all rest behind k n
   goes_on rest x role k behind n hint e r y b h q w c f =
       let o : Placed Operator = placed_view x in

@@ -7,7 +7,7 @@ use Rattle.wasmprinter_spec.specs.Piece.{all_calls}
 use Rattle.wasmprinter_spec.specs.Row as row
 use Rattle.wasmprinter_spec.specs.Row.{Role}
 use Rattle.wasmprinter_spec.specs.Table.{role_of}
-use Rattle.wasmprinter_spec.specs.Folding.Arities.{Counts}
+use Rattle.wasmprinter_spec.specs.Folding.Arities.{OperandCounts}
 use Rattle.wasmprinter_spec.specs.Folding.Code.{NestedCode}
 use Rattle.wasmprinter_spec.specs.Folding.Tree.{tree}
 use Rattle.wasmprinter_spec.specs.Layout.Operators.{Setting}
@@ -32,8 +32,8 @@ abbrev pub Shows : GrowingTree → StateOf Shown → Type 0
 Shows t s = ShowsIn t.texts.bytes t.builder s
 
 -- the tree has grown by one step
-abbrev pub Steps : GrowingTree → GrowingTree → Step Shown → Type 0
-Steps old new x = (s : StateOf Shown) → Shows old s → Shows new (step s x)
+abbrev pub GrowsByStep : GrowingTree → GrowingTree → Step Shown → Type 0
+GrowsByStep old new x = (s : StateOf Shown) → Shows old s → Shows new (step s x)
 
 -- what is printed of an operator, where these labels are open in front of it
 abbrev pub shown_operator : Bool → Setting → Scan → ℕ → Option Bool → Operator → Shown
@@ -44,7 +44,7 @@ abbrev pub shown_keyword : Bool → ℕ → List ℕ → Shown
 shown_keyword paints place keyword = shown_of_calls place None paints (Text keyword ∷ [])
 
 -- a step by its role: by what is printed of the operator, of a `then` and of an `else`, and by the numbers of its operands and results
-abbrev pub shown_step : Role → Shown → Shown → Shown → Counts → Step Shown
+abbrev pub shown_step : Role → Shown → Shown → Shown → OperandCounts → Step Shown
 shown_step row.Plain x then otherwise counts = Plain x counts.takes counts.gives
 shown_step row.Opens x then otherwise counts = Opens x counts.gives
 shown_step row.OpensIf x then otherwise counts = OpensIf x then counts.gives
@@ -52,9 +52,10 @@ shown_step row.Turns x then otherwise counts = Turns otherwise
 shown_step _ x then otherwise counts = Ends
 
 -- the step of an operator, where these labels are open in front of it
-abbrev pub operator_step : Bool → Setting → Scan → ℕ → Option Bool → Operator → Counts → Step Shown
+abbrev pub operator_step : Bool → Setting → Scan → ℕ → Option Bool → Operator → OperandCounts → Step Shown
 operator_step paints s l place hint o counts =
-    shown_step (role_of o.opcode) (shown_operator paints s l place hint o) (shown_keyword paints place (codes "then")) (shown_keyword paints place (codes "else")) counts
+    shown_step (role_of o.opcode) (shown_operator paints s l place hint o) (shown_keyword paints place (codes "then"))
+    (shown_keyword paints place (codes "else")) counts
 
 -- the tree is that of the code, if there is code
 abbrev pub IsGrown : Bool → GrowingTree → Bool → Option NestedCode → Type 0

@@ -10,7 +10,7 @@ ghost use Rattle.wasmprinter_nodes.specs.Building.{StateOf, Plain, Opens, OpensI
 ghost use Rattle.wasmprinter_flat.specs.Settings.{setting_among};
 ghost use Rattle.wasmprinter_arities.specs.Counted.{counts_view};
 ghost use Rattle.wasmprinter_node_text.specs.Shown.{Shown};
-ghost use Rattle.wasmprinter_fold.specs.Growing.{Shows, Steps, operator_step, shown_operator, shown_keyword, IsGrown};
+ghost use Rattle.wasmprinter_fold.specs.Growing.{Shows, GrowsByStep, operator_step, shown_operator, shown_keyword, IsGrown};
 
 use std::alloc::{AllocError, Global};
 use wasmprinter_arities::blocks::label_of_block;
@@ -88,7 +88,7 @@ impl GrowingTree {
         requires shows { (s : StateOf Shown) × Shows self.old s }
         ensures paints { self.new.texts.paints ≡ self.old.texts.paints }
         ensures labels { self.new.labels ≡ self.old.labels }
-        ensures steps { OnOk result (Steps self.old self.new (Plain
+        ensures steps { OnOk result (GrowsByStep self.old self.new (Plain
             (shown_operator self.old.texts.paints (setting_among S.signature_at setting.now labels.now) labels.now place hint operator.now)
             counts.takes counts.gives)) }
     {
@@ -112,7 +112,7 @@ impl GrowingTree {
         requires shows { (s : StateOf Shown) × Shows self.old s }
         ensures paints { self.new.texts.paints ≡ self.old.texts.paints }
         ensures labels { self.new.labels ≡ self.old.labels }
-        ensures steps { OnOk result (Steps self.old self.new (Opens
+        ensures steps { OnOk result (GrowsByStep self.old self.new (Opens
             (shown_operator self.old.texts.paints (setting_among S.signature_at setting.now labels.now) labels.now place hint operator.now)
             counts.gives)) }
     {
@@ -136,7 +136,7 @@ impl GrowingTree {
         requires shows { (s : StateOf Shown) × Shows self.old s }
         ensures paints { self.new.texts.paints ≡ self.old.texts.paints }
         ensures labels { self.new.labels ≡ self.old.labels }
-        ensures steps { OnOk result (Steps self.old self.new (OpensIf
+        ensures steps { OnOk result (GrowsByStep self.old self.new (OpensIf
             (shown_operator self.old.texts.paints (setting_among S.signature_at setting.now labels.now) labels.now place hint operator.now)
             (shown_keyword self.old.texts.paints place (codes "then")) counts.gives)) }
     {
@@ -152,7 +152,7 @@ impl GrowingTree {
         requires { (s : StateOf Shown) × Shows self.old s }
         ensures paints { self.new.texts.paints ≡ self.old.texts.paints }
         ensures labels { self.new.labels ≡ self.old.labels }
-        ensures steps { OnOk result (Steps self.old self.new (Turns
+        ensures steps { OnOk result (GrowsByStep self.old self.new (Turns
             (shown_keyword self.old.texts.paints place (codes "else")))) }
     {
         let head = self.texts.write_keyword("else", place)?;
@@ -164,7 +164,7 @@ impl GrowingTree {
         requires { (s : StateOf Shown) × Shows self.old s }
         ensures paints { self.new.texts.paints ≡ self.old.texts.paints }
         ensures labels { self.new.labels ≡ self.old.labels }
-        ensures steps { OnOk result (Steps self.old self.new Ends) }
+        ensures steps { OnOk result (GrowsByStep self.old self.new Ends) }
     {
         self.builder.end()
     }
@@ -184,7 +184,7 @@ impl GrowingTree {
         requires shows { (s : StateOf Shown) × Shows self.old s }
         ensures paints { self.new.texts.paints ≡ self.old.texts.paints }
         ensures labels { self.new.labels ≡ self.old.labels }
-        ensures steps { OnOk result (Steps self.old self.new (operator_step self.old.texts.paints
+        ensures steps { OnOk result (GrowsByStep self.old self.new (operator_step self.old.texts.paints
             (setting_among S.signature_at setting.now labels.now) labels.now place hint operator.now (counts_view counts))) }
     {
         match operator.opcode.role() {
@@ -214,7 +214,7 @@ impl GrowingTree {
         ensures paints { self.new.texts.paints ≡ self.old.texts.paints }
         ensures labels { OnOk result (self.new.labels ≡ labels_after (role_of operator.now.opcode)
             (label_of_block (signatures_within callees.now own) operator.now) self.old.labels) }
-        ensures steps { OnOk result (Steps self.old self.new (operator_step self.old.texts.paints
+        ensures steps { OnOk result (GrowsByStep self.old self.new (operator_step self.old.texts.paints
             (setting_among S.signature_at setting.now labels.now) labels.now place hint operator.now
             (counts_of (signatures_within callees.now own) self.old.labels operator.now))) }
     {

@@ -53,9 +53,9 @@ other_at f n x e a b = absurd (true≢false (sym both ∙ e))
 -- behind a label that isn't in front of the block nor its own, there is none
 none_behind : (f n : ℕ) (x : NamedLabel) (xs : List NamedLabel) → f ≤ x.function → (f ≡ x.function → n ≤ x.number) → AllByRecursion (IsBefore x) xs → label_at xs f n ≡ None
 none_behind f n x [] le lt h = refl
-none_behind f n x (y ∷ xs) le lt h =
-    let miss = not_at f n y (λ a b. absurd (omega (arith, a, b, le, lt, h.0.0, h.0.1))) in
-    rw miss (none_behind f n x xs le lt h.1)
+none_behind f n x (y ∷ xs) le lt ((rise, less), later) =
+    let miss = not_at f n y (λ a b. absurd (omega (arith, a, b, le, lt, rise, less))) in
+    rw miss (none_behind f n x xs le lt later)
 
 -- the label with the index, if it is the block's
 abbrev picked : ℕ → ℕ → Option NamedLabel → Option Named
@@ -70,15 +70,15 @@ at_cursor f n zero (x ∷ xs) c a = by (is_at f n x) refl
     by true e = refl
     by false e = sym (none_behind f n x xs c.0 c.1 a.0)
 at_cursor f n (suc k) [] c a = absurd c
-at_cursor f n (suc k) (x ∷ xs) c a =
-    let miss = not_at f n x (λ p q. absurd (omega (arith, p, q, c.0.0, c.0.1))) in
-    at_cursor f n k xs c.1 a.1 ∙ sym (ap (λ (b : Bool). if b then Some x.name else label_at xs f n) miss)
+at_cursor f n (suc k) (x ∷ xs) ((le, lt), behind) a =
+    let miss = not_at f n x (λ p q. absurd (omega (arith, p, q, le, lt))) in
+    at_cursor f n k xs behind a.1 ∙ sym (ap (λ (b : Bool). if b then Some x.name else label_at xs f n) miss)
 
 -- ---- one block more
 
 ahead_hit : (f n : ℕ) (x : NamedLabel) (xs : List NamedLabel) → x.function ≡ f → x.number ≡ n → AllByRecursion (IsBefore x) xs → IsAhead f (suc n) xs
 ahead_hit f n x [] p q h = tt
-ahead_hit f n x (y ∷ xs) p q h = (omega (arith, p, h.0.0), λ e. let lt = h.0.1 (p ∙ e) in omega (arith, lt, q))
+ahead_hit f n x (y ∷ xs) p q ((rise, less), later) = (omega (arith, p, rise), λ e. let lt = less (p ∙ e) in omega (arith, lt, q))
 
 cursor_hit : (f n k : ℕ) (xs : List NamedLabel) (x : NamedLabel) → IsCursor f n k xs → Ascend xs → slice_get xs k ≡ Some x → is_at f n x ≡ true → IsCursor f (suc n) (suc k) xs
 cursor_hit f n zero [] x c a e h = absurd cc
@@ -86,13 +86,15 @@ cursor_hit f n zero (y ∷ xs) x c a e h =
     let p = at_both f n y (subst (λ (z : NamedLabel). is_at f n z ≡ true) (sym (some_is y x e)) h) in
     ((omega (arith, p.0), λ q. omega (arith, p.1)), ahead_hit f n y xs p.0 p.1 a.0)
 cursor_hit f n (suc k) [] x c a e h = absurd c
-cursor_hit f n (suc k) (y ∷ xs) x c a e h = ((c.0.0, λ q. let lt = c.0.1 q in omega (arith, lt)), cursor_hit f n k xs x c.1 a.1 e h)
+cursor_hit f n (suc k) (y ∷ xs) x ((le, less), behind) a e h =
+    ((le, λ q. let lt = less q in omega (arith, lt)), cursor_hit f n k xs x behind a.1 e h)
 
 cursor_miss : (f n k : ℕ) (xs : List NamedLabel) → IsCursor f n k xs → ((x : NamedLabel) → slice_get xs k ≡ Some x → is_at f n x ≡ false) → IsCursor f (suc n) k xs
 cursor_miss f n zero [] c h = tt
 cursor_miss f n zero (x ∷ xs) c h = (c.0, λ e. let d = other_at f n x (h x refl) (sym e) in let le = c.1 e in omega (arith, d, le))
 cursor_miss f n (suc k) [] c h = absurd c
-cursor_miss f n (suc k) (x ∷ xs) c h = ((c.0.0, λ e. let lt = c.0.1 e in omega (arith, lt)), cursor_miss f n k xs c.1 h)
+cursor_miss f n (suc k) (x ∷ xs) ((le, less), behind) h =
+    ((le, λ e. let lt = less e in omega (arith, lt)), cursor_miss f n k xs behind h)
 
 -- ---- by the program's labels
 
@@ -179,8 +181,8 @@ not_picked f n (suc k) (y ∷ xs) x e h = not_picked f n k xs x e h
 
 pub cursor_named : (f n k : ℕ) (xs : List NumberedLabel) (ls : List NamedLabel) (x : NumberedLabel) → map view xs ≡ ls → Ascend ls → label_of xs k f n ≡ Some x → IsCursor f n k ls → IsCursor f (suc n) (suc k) ls
 cursor_named f n k xs ls x lists a e c =
-    let p = picked_view f n k xs x e in
-    cursor_hit f n k ls (view x) c a (ap (λ l. slice_get l k) (sym lists) ∙ p.0) p.1
+    let (seen, hit, found) = picked_view f n k xs x e in
+    cursor_hit f n k ls (view x) c a (ap (λ l. slice_get l k) (sym lists) ∙ seen) hit
 
 pub cursor_unnamed : (f n k : ℕ) (xs : List NumberedLabel) (ls : List NamedLabel) → map view xs ≡ ls → label_of xs k f n ≡ None → IsCursor f n k ls → IsCursor f (suc n) k ls
 cursor_unnamed f n k xs ls lists e c = cursor_miss f n k ls c (λ x h. not_picked f n k xs x e (ap (λ l. slice_get l k) lists ∙ h))
@@ -188,6 +190,6 @@ cursor_unnamed f n k xs ls lists e c = cursor_miss f n k ls c (λ x h. not_picke
 -- the label that is next is one of all
 pub next_is_one : (f n k : ℕ) (xs : List NumberedLabel) (x : NumberedLabel) → label_of xs k f n ≡ Some x → Contains xs x × (k < length xs)
 next_is_one f n k xs x e =
-    let p = picked_view f n k xs x e in
-    let lt = slice_get_within xs k x p.2 in
-    ((k, lt, get_or_from_slice_get xs k x x p.2), lt)
+    let (seen, hit, found) = picked_view f n k xs x e in
+    let lt = slice_get_within xs k x found in
+    ((k, lt, get_or_from_slice_get xs k x x found), lt)

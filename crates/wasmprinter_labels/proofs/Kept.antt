@@ -14,7 +14,7 @@ use Rattle.std.specs.declared.cmp.Ordering.TheVariants.{Less, Equal, Greater}
 use Rattle.std.specs.Ordering.{nat_cmp, ordering_index}
 use Rattle.std.specs.Option.{option_eq}
 use Rattle.wasmprinter_spec.specs.Grammar.{some_is}
-use Rattle.wasmprinter_labels.specs.Stack.{Block, depths, AreBelow, Descend, StandsAt}
+use Rattle.wasmprinter_labels.specs.Stack.{Block, depths, AreBelow, Descend, StandsAtDepth}
 use Rattle.wasmprinter_labels.specs.Blocks.{block_view, blocks_view, innermost_of, Hide, AreKept}
 use Rattle.wasmprinter_labels.specs.declared.blocks.NamedBlock.{NamedBlock}
 
@@ -45,16 +45,22 @@ kept_push bs b last old new k below few hides le = record {
     by a o lt false e = get_or-set_other last b.alike a (Some (length bs)) o (nat_eq-other b.alike a e) ∙ k.innermost a o lt
 
 kept_pop : (bs : List NamedBlock) (b : NamedBlock) (last : List (Option ℕ)) (room : ℕ) → AreKept (b ∷ bs) last room → AreKept bs (slice_set last b.alike b.hides) room
-kept_pop bs b last room k = record {
-  descend = k.descend.1;
-  hide = subst (λ (n : ℕ). Hide n bs) (sym (length-set last b.alike b.hides)) k.hide.2;
-  innermost = λ a o lt. by a o (omega (arith, lt, length-set last b.alike b.hides)) (nat_eq b.alike a) refl (k.innermost a o (omega (arith, lt, length-set last b.alike b.hides)));
-  room = omega (arith, k.room, length-set last b.alike b.hides);
-}
+kept_pop bs b last room k =
+    let (hides, few, others) = k.hide in
+    record {
+      descend = k.descend.1;
+      hide = subst (λ (n : ℕ). Hide n bs) (sym (length-set last b.alike b.hides)) others;
+      innermost = λ a o lt.
+          by a o (omega (arith, lt, length-set last b.alike b.hides)) (nat_eq b.alike a) refl
+          (k.innermost a o (omega (arith, lt, length-set last b.alike b.hides)));
+      room = omega (arith, k.room, length-set last b.alike b.hides);
+    }
   where
     by : (a : ℕ) (o : Option ℕ) → a < length last → (hit : Bool) → nat_eq b.alike a ≡ hit → get_or last a o ≡ (if hit then Some (length bs) else innermost_of a bs)
         → get_or (slice_set last b.alike b.hides) a o ≡ innermost_of a bs
-    by a o lt true e h = rw (← eqb-true b.alike a e) (get_or-set_same last b.alike b.hides o k.hide.1 ∙ k.hide.0)
+    by a o lt true e h =
+        let (hides, few, others) = k.hide in
+        rw (← eqb-true b.alike a e) (get_or-set_same last b.alike b.hides o few ∙ hides)
     by a o lt false e h = get_or-set_other last b.alike a b.hides o (nat_eq-other b.alike a e) ∙ h
 
 -- the same of the list that is kept, from the outside on
@@ -74,8 +80,8 @@ popped xs ys b last old new e k le =
 -- ---- a block among others
 
 hide_at : (limit : ℕ) (front rest : List NamedBlock) (b : NamedBlock) → Hide limit (front ++ b ∷ rest) → b.alike < limit
-hide_at limit [] rest b h = h.1
-hide_at limit (x ∷ front) rest b h = hide_at limit front rest b h.2
+hide_at limit [] rest b (hides, few, others) = few
+hide_at limit (x ∷ front) rest b (hides, few, others) = hide_at limit front rest b others
 
 -- the innermost one of its number stands there
 shown_at : (front rest : List NamedBlock) (b : NamedBlock) → innermost_of b.alike (front ++ b ∷ rest) ≡ Some (length rest) → list_any (λ x. nat_eq x.alike b.alike) (map block_view front) ≡ false
@@ -112,7 +118,7 @@ module _ (xs : List NamedBlock) (last : List (Option ℕ)) (room p d : ℕ) (b :
   pub alike_below : b.alike < length last
   alike_below = hide_at (length last) (reverse (drop (suc p) xs)) (reverse (take p xs)) b (subst (Hide (length last)) (split_at xs p b lt e) k.hide)
 
-  stands : (hidden : Bool) → nat_cmp b.depth d ≡ Equal → list_any (λ x. nat_eq x.alike b.alike) (map block_view (reverse (drop (suc p) xs))) ≡ hidden → StandsAt (blocks_view xs) d (block_view b) hidden
+  stands : (hidden : Bool) → nat_cmp b.depth d ≡ Equal → list_any (λ x. nat_eq x.alike b.alike) (map block_view (reverse (drop (suc p) xs))) ≡ hidden → StandsAtDepth (blocks_view xs) d (block_view b) hidden
   stands hidden same h = record {
     front = map block_view (reverse (drop (suc p) xs));
     rest = map block_view (reverse (take p xs));
@@ -127,10 +133,10 @@ module _ (xs : List NamedBlock) (last : List (Option ℕ)) (room p d : ℕ) (b :
   place : length (reverse (take p xs)) ≡ p
   place = omega (arith, length-reverse (take p xs), length-take p xs, lt)
 
-  pub is_shown : (o : Option ℕ) → o ≡ get_or last b.alike o → nat_cmp b.depth d ≡ Equal → o ≡ Some p → StandsAt (blocks_view xs) d (block_view b) false
+  pub is_shown : (o : Option ℕ) → o ≡ get_or last b.alike o → nat_cmp b.depth d ≡ Equal → o ≡ Some p → StandsAtDepth (blocks_view xs) d (block_view b) false
   is_shown o i same h = stands false same (shown_at (reverse (drop (suc p) xs)) (reverse (take p xs)) b (innermost_is o i ∙ (h ∙ ap (λ (n : ℕ). Some n) (sym place))))
 
-  pub is_hidden : (o : Option ℕ) → o ≡ get_or last b.alike o → nat_cmp b.depth d ≡ Equal → o ≢ Some p → StandsAt (blocks_view xs) d (block_view b) true
+  pub is_hidden : (o : Option ℕ) → o ≡ get_or last b.alike o → nat_cmp b.depth d ≡ Equal → o ≢ Some p → StandsAtDepth (blocks_view xs) d (block_view b) true
   is_hidden o i same h = stands true same (hidden_at (reverse (drop (suc p) xs)) (reverse (take p xs)) b (λ q. h (sym (innermost_is o i) ∙ (q ∙ ap (λ (n : ℕ). Some n) place))))
 
 pub found_same : (zs xs : List NamedBlock) (p d : ℕ) (b : NamedBlock) → zs ≡ xs → b ≡ get_or xs p b → ((e : NamedBlock) → nat_cmp (get_or zs p e).depth d ≡ Equal) → nat_cmp b.depth d ≡ Equal

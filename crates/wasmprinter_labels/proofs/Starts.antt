@@ -26,7 +26,7 @@ view x = label_view x.label
 
 rises_from : (x : NumberedLabel) (xs : List NumberedLabel) (j : ℕ) (e : NumberedLabel) → AllByRecursion (IsBefore (view x)) (map view xs) → j < length xs → function_of x ≤ function_of (get_or xs j e)
 rises_from x [] j e h lt = absurd (omega (arith, lt))
-rises_from x (y ∷ xs) zero e h lt = h.0.0
+rises_from x (y ∷ xs) zero e ((rise, less), later) lt = rise
 rises_from x (y ∷ xs) (suc j) e h lt = rises_from x xs j e h.1 (omega (arith, lt))
 
 rise : (xs : List NumberedLabel) → Ascend (map view xs) → IsNonDecreasingBy function_of xs

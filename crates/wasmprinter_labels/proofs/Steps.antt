@@ -7,7 +7,7 @@ use Rattle.wasmprinter_spec.specs.Labels.{Label, same_name}
 use Rattle.wasmprinter_names.specs.Views.{NamedItem, name_view}
 use Rattle.wasmprinter_labels.specs.Found.{found_named, found_among}
 use Rattle.wasmprinter_labels.specs.Scan.{Scan, behind_opening, behind_closing}
-use Rattle.wasmprinter_labels.specs.Stack.{Block, Stack, depths, AreBelow, Descend, without_block_at, StandsAt, unnamed_label, labels_from}
+use Rattle.wasmprinter_labels.specs.Stack.{Block, Stack, depths, AreBelow, Descend, without_block_at, StandsAtDepth, unnamed_label, labels_from}
 use Rattle.wasmprinter_labels.specs.Numbers.{given_of, AreNumbered}
 use Rattle.wasmprinter_labels.specs.Inside.{label_of, IsOf, IsKept}
 use Rattle.wasmprinter_labels.specs.declared.numbers.NumberedLabel.{NumberedLabel}
@@ -127,7 +127,7 @@ hidden_alike xs b (x ∷ front) rest m h =
 
 -- ---- what is found
 
-named_at : (invents : Bool) (d l e : ℕ) (bs : List Block) (b : Block) (hidden : Bool) (s : StandsAt bs e b hidden) → Descend (depths bs) → AreBelow d (depths bs) → l < d → e ≡ d - 1 - l
+named_at : (invents : Bool) (d l e : ℕ) (bs : List Block) (b : Block) (hidden : Bool) (s : StandsAtDepth bs e b hidden) → Descend (depths bs) → AreBelow d (depths bs) → l < d → e ≡ d - 1 - l
     → list_any (λ x. same_name x.name.given b.name.given) s.front ≡ hidden → found_among [] (labels_from invents bs d) l ≡ found_named b.name hidden
 named_at invents zero l e bs b hidden s descend below lt is h = absurd (omega (arith, lt))
 named_at invents (suc d) l e bs b hidden s descend below lt is h =
@@ -139,7 +139,7 @@ found_other invents zero l e bs h lt is = absurd (omega (arith, lt))
 found_other invents (suc d) l e bs h lt is = found_unnamed invents l d e bs h (omega (arith, is, lt))
 
 pub found_name : (named : List NamedItem) (xs : List NumberedLabel) (next f n d : ℕ) (s : Stack) → IsKept named xs next f n d s → (invents : Bool) (l e : ℕ) (b : Block) (hidden : Bool)
-    → StandsAt s.blocks e b hidden → Descend (depths s.blocks) → l < d → e ≡ d - 1 - l → found_among [] (labels_from invents s.blocks d) l ≡ found_named b.name hidden
+    → StandsAtDepth s.blocks e b hidden → Descend (depths s.blocks) → l < d → e ≡ d - 1 - l → found_among [] (labels_from invents s.blocks d) l ≡ found_named b.name hidden
 found_name named xs next f n d s k invents l e b hidden at descend lt is =
     named_at invents d l e s.blocks b hidden at descend k.below lt is
     (hidden_alike xs b at.front at.rest k.numbered (subst (AllByRecursion (IsOf xs)) at.is k.blocks) ∙ at.hides)

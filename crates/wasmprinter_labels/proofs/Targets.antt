@@ -5,7 +5,7 @@ use Rattle.std.specs.Prelude.{Bool, true, false, ◌||◌, nat_eq, Option, Some,
 use Rattle.std.specs.List.{AllByRecursion, list_any}
 use Rattle.wasmprinter_spec.specs.Labels.{Label, Named, same_name, hides, is_hidden, Around, Own, Nothing, behind, target}
 use Rattle.wasmprinter_labels.specs.Found.{Found, ByName, ByNumber, ToBlock, ToNothing, found_named, found_by, found_among}
-use Rattle.wasmprinter_labels.specs.Stack.{Block, depths, AreBelow, Descend, without_block_at, StandsAt, unnamed_label, label_here, labels_from}
+use Rattle.wasmprinter_labels.specs.Stack.{Block, depths, AreBelow, Descend, without_block_at, StandsAtDepth, unnamed_label, label_here, labels_from}
 
 nat_eq-is : (a b : ℕ) → a ≡ b → nat_eq a b ≡ true
 nat_eq-is a b h = by (nat_eq a b) refl
@@ -177,7 +177,7 @@ found_own l xs e = ap (found_by [] (length xs) l) (ap (λ n. target n xs) (sym e
 pub found_nothing : (l : ℕ) (xs : List Label) → length xs < l → found_among [] xs l ≡ ToNothing
 found_nothing l xs lt = ap (found_by [] (length xs) l) (target_nothing l xs lt)
 
-pub found_at_name : (invents : Bool) (l d : ℕ) (bs : List Block) (b : Block) (hidden : Bool) (s : StandsAt bs b.depth b hidden) → Descend (depths bs) → AreBelow (suc d) (depths bs) → b.depth + l ≡ d
+pub found_at_name : (invents : Bool) (l d : ℕ) (bs : List Block) (b : Block) (hidden : Bool) (s : StandsAtDepth bs b.depth b hidden) → Descend (depths bs) → AreBelow (suc d) (depths bs) → b.depth + l ≡ d
     → list_any (same_given b.name) s.front ≡ hidden → found_among [] (labels_from invents bs (suc d)) l ≡ found_named b.name hidden
 found_at_name invents l d bs b hidden s descend below e h =
     let m = means_named invents l d s.front s.rest b (subst (λ cs. Descend (depths cs)) s.is descend) (subst (λ cs. AreBelow (suc d) (depths cs)) s.is below) e in

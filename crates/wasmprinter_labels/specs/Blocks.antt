@@ -2,7 +2,7 @@
 use Rattle.std.specs.Prelude.{◌≡◌, ◌≢◌, ℕ, ◌<◌, ◌≤◌, ◌==◌, List, [], ◌∷◌, length, map, reverse, true, false, Option, Some, None, if◌then◌else◌, slice_index_or}
 use Rattle.std.specs.List.{AllByRecursion}
 use Rattle.wasmprinter_names.specs.Views.{name_view}
-use Rattle.wasmprinter_labels.specs.Stack.{Block, depths, Descend, StandsAt}
+use Rattle.wasmprinter_labels.specs.Stack.{Block, depths, Descend, StandsAtDepth}
 use Rattle.wasmprinter_labels.specs.declared.blocks.NamedBlock.{NamedBlock}
 use Rattle.wasmprinter_labels.specs.declared.blocks.NameAt.{NameAt}
 use Rattle.wasmprinter_labels.specs.declared.blocks.NameAt.TheVariants.{Shown, Hidden, Unnamed}
@@ -33,6 +33,6 @@ pub record AreKept (bs : List NamedBlock) (last : List (Option ℕ)) (space : �
 
 -- what stands at a depth
 abbrev pub IsNameAt : List Block → ℕ → NameAt → Type 0
-IsNameAt bs d (Shown name) = (b : Block) × StandsAt bs d b false × (b.name ≡ name_view name)
-IsNameAt bs d Hidden = (b : Block) × StandsAt bs d b true
+IsNameAt bs d (Shown name) = (b : Block) × StandsAtDepth bs d b false × (b.name ≡ name_view name)
+IsNameAt bs d Hidden = (b : Block) × StandsAtDepth bs d b true
 IsNameAt bs d Unnamed = AllByRecursion (λ b. b.depth ≢ d) bs

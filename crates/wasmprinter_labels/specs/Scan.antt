@@ -38,7 +38,8 @@ at_start_again f s = scan_from s.named s.invents f
 
 -- behind an operator that opens a block
 abbrev pub behind_opening : Scan → Scan
-behind_opening s = record { named = s.named; invents = s.invents; function = s.function; count = suc s.count; labels = own_label s ∷ s.labels }
+behind_opening s =
+    record { named = s.named; invents = s.invents; function = s.function; count = suc s.count; labels = own_label s ∷ s.labels }
 
 abbrev pub without_first : List Label → List Label
 without_first [] = []

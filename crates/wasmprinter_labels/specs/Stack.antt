@@ -38,7 +38,7 @@ without_block_at d [] = []
 without_block_at d (b ∷ bs) = if b.depth == d then bs else b ∷ bs
 
 -- the block at a depth, and whether one further in has its number
-pub record StandsAt (bs : List Block) (d : ℕ) (b : Block) (hidden : Bool) : Type 0 where
+pub record StandsAtDepth (bs : List Block) (d : ℕ) (b : Block) (hidden : Bool) : Type 0 where
   pub front : List Block
   pub rest : List Block
   pub is : bs ≡ front ++ b ∷ rest

@@ -1,7 +1,7 @@
 -- The texts of floats read back.
 use Rattle.std.proofs.Common.{◌≡◌, ℕ, zero, suc, ◌+◌, ◌*◌, ◌/◌, ◌%◌, ◌^◌, ◌-◌, ◌<◌, ◌≤◌, Bool, true, false, cond, eqb, ltb, List, [], ◌∷◌, ◌++◌, length, Some, option_map, refl, sym, ap, ◌∙◌, subst, arith, decimal, codes, lit<, lit≤, pow_pos, pow-add, pow-suc, mod-lt, div-add-mod', mul_assoc, mul_right_comm, mul-div_cancel, add-mul, le-mul_of_pos_right, lt-ltb, le-ltb, ltb-false, ltb-true, eqb-true, ⊎_elim}
 use Rattle.std.proofs.Math.Nat.{one-le-pow, mul-mod_left, eq_of_mul-eq-mul_right, pow-zero, pow-le-pow_right}
-use Rattle.std.proofs.lemmas.Bool.{and_from, and_parts, cases_lt, false_from_ne_true, eqb-false}
+use Rattle.std.proofs.lemmas.Bool.{cases_lt, false_from_ne_true, eqb-false}
 use Rattle.std.proofs.lemmas.Nat.{div_below, shr_below}
 use Rattle.std.proofs.lemmas.Str.{digit_value-digit_char}
 use Rattle.std.specs.Char.{digit_value}
@@ -13,9 +13,10 @@ use Rattle.wasmprinter_spec.specs.Numeral.{numeral}
 use Rattle.wasmprinter_spec.specs.Float.{Width, IsWidth, single, double, bias, greatest_exponent, sign_bit, magnitude, Scaled, split_at, is_power, with_digits_behind, exponent_of, hexfloat, least_exponent, units, bits_by_halving, bits_of, bits_with_units, unsigned_float, float}
 use Rattle.wasmprinter_spec.specs.FloatText.{digits_behind, digit_count, fraction_digits, exponent_text, behind_point, normal_text, doublings, shift, shifted_fraction, subnormal_text, special_text, finite_text, unsigned_text, float_text}
 use Rattle.wasmprinter_spec.proofs.Fractions.{power_16, digits_hold, filled_fraction-below, IsShift, shift-IsShift, shifted_fraction-below}
-use Rattle.wasmprinter_spec.specs.Quoted.{runs, all_run}
+use Rattle.wasmprinter_spec.specs.Quoted.{all_run}
+use Rattle.wasmprinter_spec.proofs.Runs.{all_run-append, all_run-digits}
 use Rattle.wasmprinter_lexical.proofs.Runs.{is_word}
-use Rattle.wasmprinter_lexical.proofs.Numbers.{all_run_digits, run_hexadecimal, is_numeral_digits, without_underscores_digits, numeral-decimal, numeral-digits}
+use Rattle.wasmprinter_lexical.proofs.Numbers.{run_hexadecimal, is_numeral_digits, without_underscores_digits, numeral-decimal, numeral-digits}
 
 -- ---- the digits behind a point
 
@@ -74,12 +75,6 @@ digits_lack_power (d ∷ ds) h = (rw (not_digit d 112 h.0 (lit≤ tt), not_digit
 
 -- ---- bytes of words
 
-run_both : (a b : List ℕ) → all_run a ≡ true → all_run b ≡ true → all_run (a ++ b) ≡ true
-run_both [] b h k = k
-run_both (c ∷ cs) b h k =
-    let parts : (runs (class c) ≡ true) × (all_run cs ≡ true) = and_parts (runs (class c)) (all_run cs) h in
-    and_from (runs (class c)) (all_run (cs ++ b)) parts.0 (run_both cs b parts.1 k)
-
 run_pointed : (ds : List ℕ) → all_run ds ≡ true → all_run (behind_point ds) ≡ true
 unfolding class
 run_pointed [] h = refl
@@ -116,7 +111,9 @@ record HasExponent (up down : ℕ) : Type 0 where
   same : rises + down ≡ up + falls
 
 run_decimal : (n : ℕ) → n < 2 ^ 64 → all_run (decimal n) ≡ true
-run_decimal n h = all_run_digits (decimal n) (decimal_is_IsNumeral n h).0.1
+run_decimal n h =
+    let ((some, are_digits), value) = decimal_is_IsNumeral n h in
+    all_run-digits (decimal n) are_digits
 
 steps : (up down : ℕ) → up < 2 ^ 64 → down < 2 ^ 64 → HasExponent up down
 unfolding class
@@ -254,7 +251,7 @@ normal-reads w is x fraction some high h =
     after_x w (49 ∷ (behind_point (fraction_digits w fraction) ++ (112 ∷ exponent_text x (bias w)))) (one_and (fraction_digits w fraction) s.rises s.falls) (magnitude w x fraction)
     (hexfloat-normal (fraction_digits w fraction) (exponent_text x (bias w)) s.rises s.falls f.digits s.reads)
     (ap (bits_with_units w) exact ∙ bits ∙ ap (λ t. Some (x * 2 ^ w.fraction + t)) same)
-    (run_both (behind_point (fraction_digits w fraction)) (112 ∷ exponent_text x (bias w)) (run_pointed (fraction_digits w fraction) (run_hexadecimal (fraction_digits w fraction) f.digits)) s.run)
+    (all_run-append (behind_point (fraction_digits w fraction)) (112 ∷ exponent_text x (bias w)) (run_pointed (fraction_digits w fraction) (run_hexadecimal (fraction_digits w fraction) f.digits)) s.run)
 
 subnormal-reads : (w : Width) → IsWidth w → (fraction : ℕ) → 0 < fraction → fraction < 2 ^ w.fraction → Reads w (subnormal_text w fraction) (magnitude w 0 fraction)
 unfolding class
@@ -278,7 +275,7 @@ subnormal-reads w is fraction some h =
     after_x w (49 ∷ (46 ∷ (fraction_digits w m ++ (112 ∷ exponent_text 1 (bias w + k))))) (one_and (fraction_digits w m) s.rises s.falls) (magnitude w 0 fraction)
     (hexfloat-behind_point (fraction_digits w m) (exponent_text 1 (bias w + k)) s.rises s.falls f.digits s.reads)
     (ap (bits_with_units w) exact ∙ bits_of-small w fraction h ∙ ap Some (omega arith))
-    (run_both (fraction_digits w m) (112 ∷ exponent_text 1 (bias w + k)) (run_hexadecimal (fraction_digits w m) f.digits) s.run)
+    (all_run-append (fraction_digits w m) (112 ∷ exponent_text 1 (bias w + k)) (run_hexadecimal (fraction_digits w m) f.digits) s.run)
 
 zero-reads : (w : Width) → Reads w (codes "0x0p+0") (magnitude w 0 0)
 unfolding numeral class
@@ -314,7 +311,8 @@ unfolding unsigned_float float class
 payload-reads w is fraction some h =
     let wide : 2 ^ w.fraction ≤ 2 ^ 64 = pow-le-pow_right (lit< tt) is.fraction.1 in
     let read : numeral 16 (digits 16 false fraction) ≡ Some fraction = numeral-digits fraction (omega arith) in
-    let run : all_run (digits 16 false fraction) ≡ true = run_hexadecimal (digits 16 false fraction) (digits_is_IsNumeral 16 false (lit≤ tt) (lit≤ tt) fraction (omega arith)).0.1 in
+    let ((nonempty, are_digits), value) = digits_is_IsNumeral 16 false (lit≤ tt) (lit≤ tt) fraction (omega arith) in
+    let run : all_run (digits 16 false fraction) ≡ true = run_hexadecimal (digits 16 false fraction) are_digits in
     record {
       unsigned = rw (read, lt-ltb 0 fraction some, lt-ltb fraction (2 ^ w.fraction) h);
       plain = rw (read, lt-ltb 0 fraction some, lt-ltb fraction (2 ^ w.fraction) h);

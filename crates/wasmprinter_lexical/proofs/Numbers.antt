@@ -11,6 +11,7 @@ use Rattle.wasmprinter_spec.specs.Character.{Class, class, Plain}
 use Rattle.wasmprinter_spec.specs.Numeral.{is_underscore, is_digit, follows_digit, is_numeral, without_underscores, numeral, natural, integer, unsigned_integer}
 use Rattle.wasmprinter_spec.specs.Quoted.{runs, all_run}
 use Rattle.wasmprinter_spec.proofs.Classes.{digit_class}
+use Rattle.wasmprinter_spec.proofs.Runs.{all_run-digits}
 use Rattle.wasmprinter_lexical.proofs.Runs.{is_quiet, is_plain_class, all_quiet, is_word}
 
 -- ---- a digit
@@ -28,17 +29,14 @@ plain_is_quiet _ h = absurd (true≢false (sym h))
 
 -- ---- digits
 
-pub all_run_digits : (ds : List ℕ) → AllDigits 10 ds → all_run ds ≡ true
-all_run_digits [] h = refl
-all_run_digits (c ∷ cs) h = and_from (runs (class c)) (all_run cs) (plain_runs (class c) (digit_is_plain c h.0)) (all_run_digits cs h.1)
-
 all_quiet_digits : (ds : List ℕ) → AllDigits 10 ds → all_quiet ds ≡ true
 all_quiet_digits [] h = refl
 all_quiet_digits (c ∷ cs) h = and_from (is_quiet (class c)) (all_quiet cs) (plain_is_quiet (class c) (digit_is_plain c h.0)) (all_quiet_digits cs h.1)
 
 is_word_digits : (ds : List ℕ) → IsNumeral 10 ds → is_word ds ≡ true
 is_word_digits [] h = absurd (omega (arith, h.0))
-is_word_digits (c ∷ cs) h = and_from (is_plain_class (class c)) (all_run cs) (digit_is_plain c h.1.0) (all_run_digits cs h.1.1)
+is_word_digits (c ∷ cs) (some, (first, others)) =
+    and_from (is_plain_class (class c)) (all_run cs) (digit_is_plain c first) (all_run-digits cs others)
 
 -- a digit is no underscore
 not_underscore : (base c : ℕ) → base ≤ 36 → digit_value c < base → is_underscore c ≡ false
@@ -54,7 +52,8 @@ follows_digits base (c ∷ cs) h = rw (digit_true base c h.0, follows_digits bas
 
 pub is_numeral_digits : (base : ℕ) (ds : List ℕ) → IsNumeral base ds → is_numeral base ds ≡ true
 is_numeral_digits base [] h = absurd (omega (arith, h.0))
-is_numeral_digits base (c ∷ cs) h = and_from (is_digit base c) (follows_digit base cs) (digit_true base c h.1.0) (follows_digits base cs h.1.1)
+is_numeral_digits base (c ∷ cs) (some, (first, others)) =
+    and_from (is_digit base c) (follows_digit base cs) (digit_true base c first) (follows_digits base cs others)
 
 pub without_underscores_digits : (base : ℕ) (ds : List ℕ) → base ≤ 36 → AllDigits base ds → without_underscores ds ≡ ds
 without_underscores_digits base [] small h = refl
@@ -96,17 +95,21 @@ pub is_word-decimal : (n : ℕ) → n < 2 ^ 64 → is_word (decimal n) ≡ true
 is_word-decimal n h = is_word_digits (decimal n) (decimal_is_IsNumeral n h).0
 
 pub all_quiet-decimal : (n : ℕ) → n < 2 ^ 64 → all_quiet (decimal n) ≡ true
-all_quiet-decimal n h = all_quiet_digits (decimal n) (decimal_is_IsNumeral n h).0.1
+all_quiet-decimal n h =
+    let ((some, are_digits), value) = decimal_is_IsNumeral n h in
+    all_quiet_digits (decimal n) are_digits
 
 -- ---- with a sign
 
 is_word_minus : (ds : List ℕ) → AllDigits 10 ds → is_word (45 ∷ ds) ≡ true
 unfolding class
-is_word_minus ds h = all_run_digits ds h
+is_word_minus ds h = all_run-digits ds h
 
 pub is_word-signed_decimal : (z : ℤ) → mag z < 2 ^ 63 → is_word (signed_decimal z) ≡ true
 is_word-signed_decimal (pos n) h = is_word-decimal n (omega arith)
-is_word-signed_decimal (negsuc n) h = is_word_minus (decimal (suc n)) (decimal_is_IsNumeral (suc n) (omega arith)).0.1
+is_word-signed_decimal (negsuc n) h =
+    let ((some, are_digits), value) = decimal_is_IsNumeral (suc n) (omega arith) in
+    is_word_minus (decimal (suc n)) are_digits
 
 not_at : (c : ℕ) (sign : ℕ) → digit_value c < 10 → sign < 48 → eqb c sign ≡ false
 not_at c sign h low =
@@ -116,7 +119,7 @@ not_at c sign h low =
 integer_plain : (bits n : ℕ) (ds : List ℕ) → IsNumeral 10 ds → natural ds ≡ Some n → integer bits ds ≡ unsigned_integer bits n
 unfolding integer
 integer_plain bits n [] h e = absurd (omega (arith, h.0))
-integer_plain bits n (c ∷ cs) h e = rw (not_at c 45 h.1.0 (lit< tt), not_at c 43 h.1.0 (lit< tt), e)
+integer_plain bits n (c ∷ cs) (some, (first, others)) e = rw (not_at c 45 first (lit< tt), not_at c 43 first (lit< tt), e)
 
 -- a signed number of bits + 1 bits, positive
 pub integer-positive : (bits n : ℕ) → n < 2 ^ (bits - 1) → 2 ^ (bits - 1) ≤ 2 ^ bits → n < 2 ^ 64 → integer bits (decimal n) ≡ Some (pos n)
@@ -143,7 +146,9 @@ no_brace_digits [] h = refl
 no_brace_digits (c ∷ cs) h = and_from (not (eqb c 125)) (no_brace cs) (not_brace c h.0) (no_brace_digits cs h.1)
 
 pub no_brace-digits : (n : ℕ) → n < 16 ^ 64 → no_brace (digits 16 false n) ≡ true
-no_brace-digits n h = no_brace_digits (digits 16 false n) (digits_is_IsNumeral 16 false (lit≤ tt) (lit≤ tt) n h).0.1
+no_brace-digits n h =
+    let ((some, are_digits), value) = digits_is_IsNumeral 16 false (lit≤ tt) (lit≤ tt) n h in
+    no_brace_digits (digits 16 false n) are_digits
 
 pub numeral-digits : (n : ℕ) → n < 16 ^ 64 → numeral 16 (digits 16 false n) ≡ Some n
 numeral-digits n h =
@@ -179,4 +184,6 @@ natural-hexadecimal n h = numeral-digits n h
 
 pub is_word-hexadecimal : (n : ℕ) → n < 16 ^ 64 → is_word (codes "0x" ++ digits 16 false n) ≡ true
 unfolding class
-is_word-hexadecimal n h = run_hexadecimal (digits 16 false n) (digits_is_IsNumeral 16 false (lit≤ tt) (lit≤ tt) n h).0.1
+is_word-hexadecimal n h =
+    let ((some, are_digits), value) = digits_is_IsNumeral 16 false (lit≤ tt) (lit≤ tt) n h in
+    run_hexadecimal (digits 16 false n) are_digits

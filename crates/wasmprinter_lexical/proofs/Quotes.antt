@@ -7,7 +7,7 @@ use Rattle.std.specs.Char.{digit_value}
 use Rattle.std.specs.Fmt.{digits, digit_glyph}
 use Rattle.std.specs.List.{AllByRecursion}
 use Rattle.wasmprinter_spec.specs.Character.{Class, Tab, Feed, Quote, Backslash, Control, class}
-use Rattle.wasmprinter_spec.specs.Token.{string, Part, AsString, Clear, InQuoted, InBrace, Next, in_quoted, in_brace, in_hex, end_brace, with_char, in_escape, lex, escape, Escape, Digit}
+use Rattle.wasmprinter_spec.specs.Token.{string, RunKind, AsString, Clear, InQuoted, InBrace, Next, in_quoted, in_brace, in_hex, end_brace, with_char, in_escape, lex, escape, Escape, Digit}
 use Rattle.wasmprinter_spec.specs.Quoted.{char_text, byte_text, is_plain, quoted_text, quoted_bytes}
 use Rattle.wasmprinter_lexical.proofs.Runs.{tight_clears, delimited}
 use Rattle.wasmprinter_lexical.proofs.Numbers.{no_brace, no_brace-digits, numeral-digits}
@@ -21,7 +21,7 @@ stands Feed = false
 stands Control = false
 stands _ = true
 
-in_quoted_stands : (p : Part) (s : List ℕ) (c : Class) (b : ℕ) (k : Next) → stands c ≡ true → in_quoted p s c b k ≡ k (InQuoted p (s ++ (b ∷ [])))
+in_quoted_stands : (p : RunKind) (s : List ℕ) (c : Class) (b : ℕ) (k : Next) → stands c ≡ true → in_quoted p s c b k ≡ k (InQuoted p (s ++ (b ∷ [])))
 unfolding stands
 in_quoted_stands p s Quote b k h = absurd (true≢false (sym h))
 in_quoted_stands p s Backslash b k h = absurd (true≢false (sym h))
@@ -52,13 +52,13 @@ plain_stands c h =
     rw h at e
 
 -- a plain byte, by itself
-plain_lexes : (p : Part) (s : List ℕ) (c : ℕ) (rest : List ℕ) → is_plain c ≡ true → lex (InQuoted p s) (c ∷ rest) ≡ lex (InQuoted p (s ++ (c ∷ []))) rest
+plain_lexes : (p : RunKind) (s : List ℕ) (c : ℕ) (rest : List ℕ) → is_plain c ≡ true → lex (InQuoted p s) (c ∷ rest) ≡ lex (InQuoted p (s ++ (c ∷ []))) rest
 unfolding lex
 plain_lexes p s c rest h = in_quoted_stands p s (class c) c (λ next. lex next rest) (plain_stands c h)
 
 -- ---- characters
 
-brace_goes_on : (p : Part) (s d w rest : List ℕ) → no_brace w ≡ true → lex (InBrace p s d) (w ++ rest) ≡ lex (InBrace p s (d ++ w)) rest
+brace_goes_on : (p : RunKind) (s d w rest : List ℕ) → no_brace w ≡ true → lex (InBrace p s d) (w ++ rest) ≡ lex (InBrace p s (d ++ w)) rest
 unfolding lex
 brace_goes_on p s d [] rest h = ap (λ t. lex (InBrace p s t) rest) (sym (append-nil d))
 brace_goes_on p s d (b ∷ bs) rest h =
@@ -72,7 +72,7 @@ brace_goes_on p s d (b ∷ bs) rest h =
     not_end false b bs rest g k = refl
 
 -- a character by its number
-escaped : (p : Part) (s : List ℕ) (c : ℕ) (rest : List ℕ) → scalar c ≡ true → lex (InQuoted p s) (92 ∷ (117 ∷ (123 ∷ (digits 16 false c ++ (125 ∷ rest))))) ≡ lex (InQuoted p (s ++ encode_utf8 c)) rest
+escaped : (p : RunKind) (s : List ℕ) (c : ℕ) (rest : List ℕ) → scalar c ≡ true → lex (InQuoted p s) (92 ∷ (117 ∷ (123 ∷ (digits 16 false c ++ (125 ∷ rest))))) ≡ lex (InQuoted p (s ++ encode_utf8 c)) rest
 unfolding lex class escape
 escaped p s c rest h =
     let small : c < 16 ^ 64 = lt_trans (scalar_fits c h) (lit< tt) in
@@ -80,7 +80,7 @@ escaped p s c rest h =
     ∙ ap (λ o. end_brace p s o (λ next. lex next rest)) (numeral-digits c small)
     ∙ ap (λ t. with_char p s t c (λ next. lex next rest)) h
 
-one_char : (p : Part) (s : List ℕ) (c : ℕ) (rest : List ℕ) → scalar c ≡ true → lex (InQuoted p s) (char_text c ++ rest) ≡ lex (InQuoted p (s ++ encode_utf8 c)) rest
+one_char : (p : RunKind) (s : List ℕ) (c : ℕ) (rest : List ℕ) → scalar c ≡ true → lex (InQuoted p s) (char_text c ++ rest) ≡ lex (InQuoted p (s ++ encode_utf8 c)) rest
 unfolding char_text
 one_char p s c rest h = by (is_plain c) refl
   where
@@ -92,7 +92,7 @@ one_char p s c rest h = by (is_plain c) refl
         ap (λ t. lex (InQuoted p s) (92 ∷ (117 ∷ (123 ∷ t)))) (append_assoc (digits 16 false c) (125 ∷ []) rest)
         ∙ escaped p s c rest h
 
-pub chars_lex : (p : Part) (s cs rest : List ℕ) → scalars cs ≡ true → lex (InQuoted p s) (flat_map char_text cs ++ rest) ≡ lex (InQuoted p (s ++ encode_utf8_all cs)) rest
+pub chars_lex : (p : RunKind) (s cs rest : List ℕ) → scalars cs ≡ true → lex (InQuoted p s) (flat_map char_text cs ++ rest) ≡ lex (InQuoted p (s ++ encode_utf8_all cs)) rest
 chars_lex p s [] rest h = ap (λ t. lex (InQuoted p t) rest) (sym (append-nil s))
 chars_lex p s (c ∷ cs) rest h =
     let parts : (scalar c ≡ true) × (scalars cs ≡ true) = and_parts (scalar c) (scalars cs) h in
@@ -144,7 +144,7 @@ glyph d h =
     }
 
 -- a byte by its two digits
-hex_lexes : (p : Part) (s : List ℕ) (high low : ℕ) (rest : List ℕ) → high < 16 → low < 16 →
+hex_lexes : (p : RunKind) (s : List ℕ) (high low : ℕ) (rest : List ℕ) → high < 16 → low < 16 →
     lex (InQuoted p s) (92 ∷ (digit_glyph false high ∷ (digit_glyph false low ∷ rest))) ≡ lex (InQuoted p (s ++ ((high * 16 + low) ∷ []))) rest
 unfolding lex class
 hex_lexes p s high low rest h l =
@@ -155,7 +155,7 @@ hex_lexes p s high low rest h l =
     ∙ ap (λ t. in_hex p s high t (digit_glyph false low) (λ next. lex next rest)) is_hex
     ∙ ap (λ d. lex (InQuoted p (s ++ ((high * 16 + d) ∷ []))) rest) second.value
 
-one_byte : (p : Part) (s : List ℕ) (b : ℕ) (rest : List ℕ) → b < 256 → lex (InQuoted p s) (byte_text b ++ rest) ≡ lex (InQuoted p (s ++ (b ∷ []))) rest
+one_byte : (p : RunKind) (s : List ℕ) (b : ℕ) (rest : List ℕ) → b < 256 → lex (InQuoted p s) (byte_text b ++ rest) ≡ lex (InQuoted p (s ++ (b ∷ []))) rest
 unfolding byte_text
 one_byte p s b rest h = by (is_plain b) refl
   where
@@ -165,7 +165,7 @@ one_byte p s b rest h = by (is_plain b) refl
         hex_lexes p s (b / 16) (b % 16) rest (omega arith) (omega arith)
         ∙ ap (λ n. lex (InQuoted p (s ++ (n ∷ []))) rest) (omega arith)
 
-bytes_lex : (p : Part) (s bs rest : List ℕ) → AllByRecursion (λ b. b < 256) bs → lex (InQuoted p s) (flat_map byte_text bs ++ rest) ≡ lex (InQuoted p (s ++ bs)) rest
+bytes_lex : (p : RunKind) (s bs rest : List ℕ) → AllByRecursion (λ b. b < 256) bs → lex (InQuoted p s) (flat_map byte_text bs ++ rest) ≡ lex (InQuoted p (s ++ bs)) rest
 bytes_lex p s [] rest h = ap (λ t. lex (InQuoted p t) rest) (sym (append-nil s))
 bytes_lex p s (b ∷ bs) rest h =
     ap (lex (InQuoted p s)) (append_assoc (byte_text b) (flat_map byte_text bs) rest)

@@ -181,12 +181,12 @@ same_space entries e s outer h =
 
 -- ---- an entry more in a store
 
-pub added : (entries : List Entry) (a b : NamesBuilder) (e : Entry) (g : Given) (p : Place) (x : StoredName)
+pub Holds-entry : (entries : List Entry) (a b : NamesBuilder) (e : Entry) (g : Given) (p : Place) (x : StoredName)
     → (g.subsection ≡ e.subsection) × (g.outer ≡ e.outer) × (g.name.now ≡ e.name) → (p.subsection ≡ e.subsection) × (p.outer ≡ e.outer) × (p.index ≡ e.index)
     → set.Updates given_cmp a.given b.given g true → Gains a.names b.names p x
     → stored_view x ≡ entry_name e.subsection (names_given [] (entries_in e.subsection e.outer entries)) e
     → Holds entries a → Holds (entries ++ e ∷ []) b
-added entries a b e g p x gs ps given names is h = record {
+Holds-entry entries a b e g p x gs ps given names is h = record {
   given = λ q.
       given.0 q ∙ or_if (is_at (given_cmp g) q) (contains given_cmp a.given q)
       ∙ ap (λ (t : Bool). t || contains given_cmp a.given q) (same_given g q ∙ ap (λ (k : ℕ). (nat_eq k q.subsection && nat_eq g.outer q.outer) && bytes_eq g.name.now q.name.now) gs.0

@@ -35,4 +35,6 @@ Ascend (x ∷ xs) = AllByRecursion (IsBefore x) xs × Ascend xs
 
 -- the identifier of a label with a name is made of that name and the label's number
 abbrev pub AreOfLabels : List NamedItem → Type 0
-AreOfLabels items = (f n : ℕ) (x : Named) → name_at items label_subsection f n ≡ Some x → (invents : Bool) (d : ℕ) → label_named invents n d x.given ≡ Some x
+AreOfLabels items =
+    (f n : ℕ) (x : Named) → name_at items label_subsection f n ≡ Some x → (invents : Bool) (d : ℕ) →
+    label_named invents n d x.given ≡ Some x

@@ -12,7 +12,8 @@ use Rattle.wasmprinter_names.specs.declared.store.Name.{Name}
 use Rattle.wasmprinter_names.specs.declared.store.StoredName.{StoredName}
 
 abbrev pub given_cmp : Given → Given → Ordering
-given_cmp a b = ordering_then (nat_cmp a.subsection b.subsection) (ordering_then (nat_cmp a.outer b.outer) (slice_cmp nat_cmp a.name.now b.name.now))
+given_cmp a b =
+    ordering_then (nat_cmp a.subsection b.subsection) (ordering_then (nat_cmp a.outer b.outer) (slice_cmp nat_cmp a.name.now b.name.now))
 
 abbrev pub place_cmp : Place → Place → Ordering
 place_cmp a b = ordering_then (nat_cmp a.subsection b.subsection) (ordering_then (nat_cmp a.outer b.outer) (nat_cmp a.index b.index))

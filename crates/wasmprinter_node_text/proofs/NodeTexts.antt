@@ -12,7 +12,7 @@ use Rattle.wasmprinter_nodes.specs.declared.NodeText.{NodeText}
 use Rattle.wasmprinter_nodes.specs.Mapping.{map_nodes}
 use Rattle.wasmprinter_node_text.specs.declared.semicolons.Semicolons.{Semicolons}
 use Rattle.wasmprinter_node_text.specs.Shown.{Shown, shown_of_calls, shown_of_head, IsIn, AreIn}
-use Rattle.wasmprinter_node_text.specs.Buffers.{View, no_semicolons, see, see_all, with_text_begun, Grows}
+use Rattle.wasmprinter_node_text.specs.Buffers.{View, no_semicolons, see, see_all, with_text_begun, GrowsText}
 use Rattle.wasmprinter_node_text.proofs.TextLaws.{Adds}
 
 -- ---- where a text lies
@@ -70,21 +70,21 @@ abbrev shown_by : NodeText → List ℕ → Shown
 shown_by l text = record { place = l.place; hint = l.hint; text = text; comment = l.comment }
 
 -- A text stays where it lies when the buffer grows,
-pub in_grown : (old new : List ℕ) (l : NodeText) → Grows old new → IsIn old l → IsIn new l
+pub in_grown : (old new : List ℕ) (l : NodeText) → GrowsText old new → IsIn old l → IsIn new l
 in_grown old new l g h = in_longer old l h g.more new g.is_text g.parts
 
 -- and what is printed of its node stays the same.
-pub shown_grown : (old new : List ℕ) (l : NodeText) → Grows old new → IsIn old l → shown_of_head new l ≡ shown_of_head old l
+pub shown_grown : (old new : List ℕ) (l : NodeText) → GrowsText old new → IsIn old l → shown_of_head new l ≡ shown_of_head old l
 shown_grown old new l g h =
     ap (shown_by l) (text_there_longer old l h g.more new g.parts ∙ sym (text_there old l h))
 
 -- The same of all heads of nodes.
-pub are_grown : (old new : List ℕ) (f : NodesOf NodeText) → Grows old new → AreIn old f → AreIn new f
+pub are_grown : (old new : List ℕ) (f : NodesOf NodeText) → GrowsText old new → AreIn old f → AreIn new f
 are_grown old new Nil g h = tt
 are_grown old new (Snoc before l results held) g h =
     (are_grown old new before g h.0, in_grown old new l g h.1, are_grown old new held g h.2)
 
-pub all_shown_grown : (old new : List ℕ) (f : NodesOf NodeText) → Grows old new → AreIn old f → map_nodes (shown_of_head new) f ≡ map_nodes (shown_of_head old) f
+pub all_shown_grown : (old new : List ℕ) (f : NodesOf NodeText) → GrowsText old new → AreIn old f → map_nodes (shown_of_head new) f ≡ map_nodes (shown_of_head old) f
 all_shown_grown old new Nil g h = refl
 all_shown_grown old new (Snoc before l results held) g h =
     rw (all_shown_grown old new before g h.0, all_shown_grown old new held g h.2, shown_grown old new l g h.1) refl

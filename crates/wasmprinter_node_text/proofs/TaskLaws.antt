@@ -13,7 +13,7 @@ use Rattle.wasmprinter_nodes.specs.Postorder.{forest_of, IsPostorder}
 use Rattle.wasmprinter_nodes.specs.Rows.{IsLast}
 use Rattle.wasmprinter_nodes.proofs.Postorders.{length-row}
 use Rattle.wasmprinter_node_text.specs.Shown.{shown_of_head, IsIn, AreIn, node_front, row_pieces}
-use Rattle.wasmprinter_node_text.specs.Tasks.{pieces_of_row, task_front, task_rest, task_pieces, pieces_left, IsSoundRow, IsSound, AllSound, steps_of, steps_left}
+use Rattle.wasmprinter_node_text.specs.Tasks.{pieces_of_row, task_front, task_rest, task_pieces, pieces_left, IsSoundRow, IsSound, AllSound, StacksRow, StacksRest, KeepsSoundRow, KeepsSound, steps_of, steps_left}
 use Rattle.wasmprinter_node_text.specs.declared.tasks.Task.{Task}
 use Rattle.wasmprinter_node_text.specs.declared.tasks.Task.TheVariants as task
 use Rattle.wasmprinter_node_text.proofs.RowLaws.{nil_mapped, row_last, row_none}
@@ -79,14 +79,13 @@ on_ok (Err e) f h = tt
 
 -- the task of a row
 module _ (new old : List Task) (nodes : Bor (List Node)) (first : Bool) (depth : ℕ) (e : new ≡ old ++ task.Row nodes first depth ∷ []) where
-  pub pieces_pushed : (form : Form) (nesting : ℕ) (buffer : List ℕ) →
-      pieces_left form nesting buffer new ≡ pieces_of_row form nesting buffer nodes.now first depth ++ pieces_left form nesting buffer old
+  pub pieces_pushed : StacksRow nodes.now first depth old new
   pieces_pushed form nesting buffer = ap (pieces_left form nesting buffer) e ∙ pieces_left-append form nesting buffer old (task.Row nodes first depth ∷ [])
 
   pub steps_pushed : steps_left new ≤ 4 * length nodes.now + 1 + steps_left old
   steps_pushed = omega (arith, ap steps_left e, steps_left-append old (task.Row nodes first depth ∷ []))
 
-  pub sound_pushed : (buffer : List ℕ) (bound : ℕ) → IsSoundRow buffer bound nodes.now depth → AllSound buffer bound old → AllSound buffer bound new
+  pub sound_pushed : KeepsSoundRow nodes.now depth old new
   sound_pushed buffer bound row h =
       subst (AllSound buffer bound) (sym e) (AllSound-append buffer bound old (task.Row nodes first depth ∷ []) h (row, tt))
 
@@ -136,21 +135,17 @@ module _ (new mid old : List Task) (nodes rest : List Node) (before : Bor (List 
 
 -- once no node is left
 module _ (tasks old : List Task) (nodes rest : List Node) (first : Bool) (depth : ℕ) (none : rest ≡ []) (so : IsPut tasks old nodes rest first depth) where
-  pub pieces_all_put : (form : Form) (nesting : ℕ) (buffer : List ℕ) →
-      pieces_left form nesting buffer tasks ≡ pieces_of_row form nesting buffer nodes first depth ++ pieces_left form nesting buffer old
+  pub pieces_all_put : StacksRow nodes first depth old tasks
   pieces_all_put form nesting buffer =
       sym (ap (λ (l : List Piece). l ++ pieces_left form nesting buffer tasks) (pieces_none form nesting buffer rest first depth none))
       ∙ so.pieces form nesting buffer
 
-  pub sound_all_put : (buffer : List ℕ) (bound : ℕ) → IsSoundRow buffer bound nodes depth → AllSound buffer bound old → AllSound buffer bound tasks
+  pub sound_all_put : KeepsSoundRow nodes depth old tasks
   sound_all_put buffer bound row h = (so.sound buffer bound row h).1
 
 -- the tasks of what a node holds: those of the row are put on top of the closing one
 module _ (new mid old : List Task) (head : NodeText) (held : Bor (List Node)) (leads : Bool) (depth : ℕ) (e : mid ≡ old ++ task.Close ∷ []) where
-  pub pieces_one : ((form : Form) (nesting : ℕ) (buffer : List ℕ) →
-      pieces_left form nesting buffer new ≡ pieces_of_row form nesting buffer held.now false (depth + 1) ++ pieces_left form nesting buffer mid) →
-      (form : Form) (nesting : ℕ) (buffer : List ℕ) →
-      pieces_left form nesting buffer new ≡ task_rest form nesting buffer (task.One head held leads depth) ++ pieces_left form nesting buffer old
+  pub pieces_one : StacksRow held.now false (depth + 1) mid new → StacksRest (task.One head held leads depth) old new
   pieces_one row form nesting buffer =
       let inner = pieces_of_row form nesting buffer held.now false (depth + 1) in
       row form nesting buffer
@@ -160,8 +155,7 @@ module _ (new mid old : List Task) (head : NodeText) (held : Bor (List Node)) (l
   pub steps_one : steps_left new ≤ 4 * length held.now + 1 + steps_left mid → steps_left new < steps_of (task.One head held leads depth) + steps_left old
   steps_one row = omega (arith, row, ap steps_left e, steps_left-append old (task.Close ∷ []))
 
-  pub sound_one : ((buffer : List ℕ) (bound : ℕ) → IsSoundRow buffer bound held.now (depth + 1) → AllSound buffer bound mid → AllSound buffer bound new) →
-      (buffer : List ℕ) (bound : ℕ) → IsSound buffer bound (task.One head held leads depth) → AllSound buffer bound old → AllSound buffer bound new
+  pub sound_one : KeepsSoundRow held.now (depth + 1) mid new → KeepsSound (task.One head held leads depth) old new
   sound_one put buffer bound is h =
       put buffer bound is.1 (subst (AllSound buffer bound) (sym e) (AllSound-append buffer bound old (task.Close ∷ []) h (tt, tt)))
 

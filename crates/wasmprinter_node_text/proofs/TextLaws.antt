@@ -19,7 +19,7 @@ use Rattle.wasmprinter_print.specs.Puts.{Marks, answer_of, end_behind}
 use Rattle.wasmprinter_spec.specs.Options.{defaults}
 use Rattle.wasmprinter_spec.specs.Piece.{Piece, all_calls}
 use Rattle.wasmprinter_node_text.specs.declared.semicolons.Semicolons.{Semicolons}
-use Rattle.wasmprinter_node_text.specs.Buffers.{View, see, see_all, with_text, with_sequences, view_after, IsTextual, texts_meaning, Grows}
+use Rattle.wasmprinter_node_text.specs.Buffers.{View, see, see_all, with_text, with_sequences, view_after, IsTextual, texts_meaning, GrowsText}
 
 -- ---- text of lists of calls
 
@@ -190,7 +190,7 @@ text_adds s t text u e = run_adds s (Text text ∷ []) t (t, record { step = (e,
 -- bytes are added alone, and with or without sequences as before
 pub record Keeps (old new : View) : Type 0 where
   pub paints : new.paints ≡ old.paints
-  pub grows : Grows old.bytes new.bytes
+  pub grows : GrowsText old.bytes new.bytes
 
 adds_keeps : (s t : View) (calls : List Call) → Adds s calls t → Keeps s t
 adds_keeps s t calls a = record { paints = a.paints; grows = record { more = painted_text s.paints calls; parts = a.bytes; is_text = a.is_text } }

@@ -50,8 +50,10 @@ view_after v (Claim name place bytes answer) = v
 -- what a call hands over is text, and no custom section is taken
 abbrev pub IsTextual : Call → Type 0
 IsTextual (Text s) = IsUtf8 s
+IsTextual Newline = Unit {0}
+IsTextual (Line place) = Unit {0}
+IsTextual (Start style) = Unit {0}
 IsTextual (Claim name place bytes answer) = answer ≡ false
-IsTextual _ = Unit {0}
 
 -- the meaning of a buffer: only what may write text can fail, and a call that fails wants memory, and leaves it as it was
 abbrev pub texts_meaning : Meaning View
@@ -63,7 +65,7 @@ texts_meaning = record {
 }
 
 -- new bytes are old ones and text behind them
-pub record Grows (old new : List ℕ) : Type 0 where
+pub record GrowsText (old new : List ℕ) : Type 0 where
   pub more : List ℕ
   pub parts : new ≡ old ++ more
   pub is_text : IsUtf8 more

@@ -19,7 +19,8 @@ pub record Shown : Type 0 where
 
 -- by its place, its hint, whether styles are in the text, and the calls of its text
 abbrev pub shown_of_calls : ℕ → Option Bool → Bool → List Call → Shown
-shown_of_calls place hint paints cs = record { place = place; hint = hint; text = painted_text paints cs; comment = has_line_comment (text_of cs) }
+shown_of_calls place hint paints cs =
+    record { place = place; hint = hint; text = painted_text paints cs; comment = has_line_comment (text_of cs) }
 
 -- what is printed of a node with this head
 abbrev pub shown_head : Bool → Head → Shown
@@ -27,7 +28,8 @@ shown_head paints h = shown_of_calls (head_place h) (option_map (λ x. x.value.t
 
 -- what is printed of a node with this head, its text taken from the buffer of texts
 abbrev pub shown_of_head : List ℕ → NodeText → Shown
-shown_of_head buffer l = record { place = l.place; hint = l.hint; text = take (l.stop - l.start) (drop l.start buffer); comment = l.comment }
+shown_of_head buffer l =
+    record { place = l.place; hint = l.hint; text = take (l.stop - l.start) (drop l.start buffer); comment = l.comment }
 
 -- ---- where the texts lie
 

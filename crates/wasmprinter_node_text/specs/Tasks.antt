@@ -18,7 +18,8 @@ module _ (form : Form) (nesting : ℕ) (buffer : List ℕ) where
   -- what is written of a task when its turn comes
   abbrev pub task_front : Task → List Piece
   task_front (task.Row nodes first depth) = []
-  task_front (task.One head held leads depth) = node_front form leads (is_nil (forest_of held.now)) (nesting + depth) (shown_of_head buffer head)
+  task_front (task.One head held leads depth) =
+      node_front form leads (is_nil (forest_of held.now)) (nesting + depth) (shown_of_head buffer head)
   task_front task.Close = Shut ∷ []
 
   -- and what then is left of it

@@ -45,7 +45,7 @@ impl Texts {
     ghost use Rattle.wasmprinter_print.specs.Emits.{Made, Through};
     ghost use Rattle.wasmprinter_flat.specs.Settings.{word_pieces_among};
     ghost use Rattle.wasmprinter_node_text.specs.Shown.{shown_of_calls, shown_of_head, IsIn};
-    ghost use Rattle.wasmprinter_node_text.specs.Buffers.{Grows, with_text_begun, with_text, with_sequences, no_semicolons, texts_meaning};
+    ghost use Rattle.wasmprinter_node_text.specs.Buffers.{GrowsText, with_text_begun, with_text, with_sequences, no_semicolons, texts_meaning};
 
     /// No text; with the sequences of styles, or without. Takes no memory.
     pub fn new(alloc: Global, paints: bool) -> Texts
@@ -115,7 +115,7 @@ impl Texts {
     ) -> Result<(), AllocError>
         requires { length labels.now.labels + 1 < 2 ^ 64 }
         ensures paints { self.new.paints ≡ self.old.paints }
-        ensures grows { Grows self.old.bytes self.new.bytes }
+        ensures grows { GrowsText self.old.bytes self.new.bytes }
         ensures made { OnOk result (Made texts_meaning self.old self.new Through
             (all_calls defaults (word_pieces_among S.signature_at setting.now labels.now operator.now))) }
     {
@@ -142,7 +142,7 @@ impl Texts {
     ) -> Result<NodeText, AllocError>
         requires { length labels.now.labels + 1 < 2 ^ 64 }
         ensures paints { self.new.paints ≡ self.old.paints }
-        ensures grows { Grows self.old.bytes self.new.bytes }
+        ensures grows { GrowsText self.old.bytes self.new.bytes }
         ensures inside { IfOk result (λ head. IsIn self.new.bytes head) }
         ensures shows { IfOk result (λ head. shown_of_head self.new.bytes head ≡ shown_of_calls place hint self.old.paints
             (all_calls defaults (word_pieces_among S.signature_at setting.now labels.now operator.now))) }
@@ -159,7 +159,7 @@ impl Texts {
     /// Where memory is refused. The texts are then as they were.
     pub fn write_keyword(&mut self, keyword: &str, place: u64) -> Result<NodeText, AllocError>
         ensures paints { self.new.paints ≡ self.old.paints }
-        ensures grows { Grows self.old.bytes self.new.bytes }
+        ensures grows { GrowsText self.old.bytes self.new.bytes }
         ensures inside { IfOk result (λ head. IsIn self.new.bytes head) }
         ensures shows { IfOk result (λ head. shown_of_head self.new.bytes head
             ≡ shown_of_calls place None self.old.paints (Text keyword.now ∷ [])) }

@@ -2,7 +2,7 @@
 use Rattle.std.proofs.Common.{◌≡◌, ℕ, refl, subst}
 use Rattle.wasmprinter_spec.specs.Folding.Tree.{NodesOf, Nil, Snoc, row_of_both, front, last, OperandsOf, Fit, Passed, Short, operand_search, with_operands}
 use Rattle.wasmprinter_spec.proofs.Folding.{AreLast, AreLast-operand_search}
-use Rattle.wasmprinter_nodes.specs.Building.{Open, Top, InBlock, InThen, InElse, StateOf, Step, Plain, Opens, OpensIf, Turns, Ends, state_after_else, state_after_end, step}
+use Rattle.wasmprinter_nodes.specs.Building.{OpenNodes, Top, InBlock, InThen, InElse, StateOf, Step, Plain, Opens, OpensIf, Turns, Ends, state_after_else, state_after_end, step}
 use Rattle.wasmprinter_nodes.specs.Mapping.{map_nodes, map_open, map_state}
 use Rattle.wasmprinter_nodes.specs.Heads.{AllNodes, AllOpen, AllState, AllStep}
 
@@ -29,13 +29,13 @@ module _ {H : Type 0} (P : H → Type 0) where
   all_with_operands f x gives Passed e h p = (h, p, tt)
   all_with_operands f x gives Short e h p = (h, p, tt)
 
-  all_turned : (otherwise : H) (o : Open H) (f : NodesOf H) → AllOpen P o → AllNodes P f → P otherwise → AllState P (state_after_else otherwise o f)
+  all_turned : (otherwise : H) (o : OpenNodes H) (f : NodesOf H) → AllOpen P o → AllNodes P f → P otherwise → AllState P (state_after_else otherwise o f)
   all_turned otherwise Top f h g p = (h, g)
   all_turned otherwise (InBlock o b x q) f h g p = (h, g)
   all_turned otherwise (InThen o b d x y q) f h g p = ((h.0, h.1, (h.2, h.4, g), h.3, p), tt)
   all_turned otherwise (InElse o b d x y q) f h g p = (h, g)
 
-  all_closed : (o : Open H) (f : NodesOf H) → AllOpen P o → AllNodes P f → AllState P (state_after_end o f)
+  all_closed : (o : OpenNodes H) (f : NodesOf H) → AllOpen P o → AllNodes P f → AllState P (state_after_end o f)
   all_closed Top f h g = (h, g)
   all_closed (InBlock o b x q) f h g = (h.0, (h.1, h.2, g))
   all_closed (InThen o b d x y q) f h g = (h.0, (h.1, h.3, (h.2, h.4, g)))
@@ -54,7 +54,7 @@ module _ {H : Type 0} (P Q : H → Type 0) (weaker : (x : H) → P x → Q x) wh
   AllNodes-weaker Nil h = tt
   AllNodes-weaker (Snoc b x r held) h = (AllNodes-weaker b h.0, weaker x h.1, AllNodes-weaker held h.2)
 
-  AllOpen-weaker : (o : Open H) → AllOpen P o → AllOpen Q o
+  AllOpen-weaker : (o : OpenNodes H) → AllOpen P o → AllOpen Q o
   AllOpen-weaker Top h = tt
   AllOpen-weaker (InBlock o b x q) h = (AllOpen-weaker o h.0, AllNodes-weaker b h.1, weaker x h.2)
   AllOpen-weaker (InThen o b d x y q) h =
@@ -71,7 +71,7 @@ module _ {H K : Type 0} (v w : H → K) where
   map_nodes-same Nil h = refl
   map_nodes-same (Snoc b x r held) h = rw (map_nodes-same b h.0, h.1, map_nodes-same held h.2) refl
 
-  map_open-same : (o : Open H) → AllOpen (λ x. v x ≡ w x) o → map_open v o ≡ map_open w o
+  map_open-same : (o : OpenNodes H) → AllOpen (λ x. v x ≡ w x) o → map_open v o ≡ map_open w o
   map_open-same Top h = refl
   map_open-same (InBlock o b x q) h = rw (map_open-same o h.0, map_nodes-same b h.1, h.2) refl
   map_open-same (InThen o b d x y q) h =

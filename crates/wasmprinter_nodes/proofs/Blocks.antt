@@ -11,43 +11,43 @@ use Rattle.wasmprinter_nodes.specs.declared.builder.Arm.{Arm}
 use Rattle.wasmprinter_nodes.specs.declared.builder.Arm.TheVariants as arm
 use Rattle.wasmprinter_nodes.specs.Postorder.{postorder, forest_of, IsPostorder}
 use Rattle.wasmprinter_nodes.specs.Rows.{outcome, IsPlace}
-use Rattle.wasmprinter_nodes.specs.Building.{Open, Top, InBlock, InThen, InElse, state_at, state_after_end, state_after_else}
+use Rattle.wasmprinter_nodes.specs.Building.{OpenNodes, Top, InBlock, InThen, InElse, state_at, state_after_end, state_after_else}
 use Rattle.wasmprinter_nodes.specs.Frames.{State, base, frame_behind, frames, StandsAt, with_node, with_if}
 use Rattle.wasmprinter_nodes.proofs.Postorders.{forest_of-postorder, length-postorder, postorder-row_of_both, count-row_of_both, IsPostorder-postorder}
 
 -- ---- the innermost block
 
 -- its frame stands last
-abbrev pub IsTop : Open NodeText → List Frame → Frame → Type 0
+abbrev pub IsTop : OpenNodes NodeText → List Frame → Frame → Type 0
 IsTop Top rest t = ⊥
 IsTop (InBlock o b x q) rest t = (rest ≡ frames o) × (t ≡ frame_behind (base o ++ postorder b) [] arm.Block x q)
 IsTop (InThen o b d x y q) rest t = (rest ≡ frames o) × (t ≡ frame_behind (base o ++ postorder b) (postorder d) (arm.Then y) x q)
 IsTop (InElse o b d x y q) rest t = (rest ≡ frames o) × (t ≡ frame_behind (base o ++ postorder b) (postorder d) (arm.Else y) x q)
 
-is_top : (o : Open NodeText) (rest : List Frame) (t : Frame) → frames o ≡ rest ++ t ∷ [] → IsTop o rest t
+is_top : (o : OpenNodes NodeText) (rest : List Frame) (t : Frame) → frames o ≡ rest ++ t ∷ [] → IsTop o rest t
 is_top Top rest t e = absurd (omega (arith, ap length e, length-append rest (t ∷ [])))
 is_top (InBlock o b x q) rest t e = let p = same_from_push _ _ _ _ e in (sym p.0, sym p.1)
 is_top (InThen o b d x y q) rest t e = let p = same_from_push _ _ _ _ e in (sym p.0, sym p.1)
 is_top (InElse o b d x y q) rest t e = let p = same_from_push _ _ _ _ e in (sym p.0, sym p.1)
 
 -- where the nodes of the open part begin
-start-top : (o : Open NodeText) (rest : List Frame) (t : Frame) → IsTop o rest t → t.start ≡ length (base o)
+start-top : (o : OpenNodes NodeText) (rest : List Frame) (t : Frame) → IsTop o rest t → t.start ≡ length (base o)
 start-top Top rest t h = absurd h
 start-top (InBlock o b x q) rest t h =
     ap (λ (u : Frame). u.start) h.1 ∙ ap length (append-nil (base o ++ postorder b))
 start-top (InThen o b d x y q) rest t h = ap (λ (u : Frame). u.start) h.1
 start-top (InElse o b d x y q) rest t h = ap (λ (u : Frame). u.start) h.1
 
-pub start_some : (o : Open NodeText) (all rest : List Frame) (t : Frame) → all ≡ frames o → all ≡ rest ++ t ∷ [] → t.start ≡ length (base o)
+pub start_some : (o : OpenNodes NodeText) (all rest : List Frame) (t : Frame) → all ≡ frames o → all ≡ rest ++ t ∷ [] → t.start ≡ length (base o)
 start_some o all rest t e h = start-top o rest t (is_top o rest t (sym e ∙ h))
 
-length-frames : (o : Open NodeText) → length (frames o) ≡ 0 → length (base o) ≡ 0
+length-frames : (o : OpenNodes NodeText) → length (frames o) ≡ 0 → length (base o) ≡ 0
 length-frames Top e = refl
 length-frames (InBlock o b x q) e = absurd (omega (arith, e, length-append {A = Frame}))
 length-frames (InThen o b d x y q) e = absurd (omega (arith, e, length-append {A = Frame}))
 length-frames (InElse o b d x y q) e = absurd (omega (arith, e, length-append {A = Frame}))
 
-pub start_none : (o : Open NodeText) (all : List Frame) → all ≡ frames o → length all ≡ 0 → 0 ≡ length (base o)
+pub start_none : (o : OpenNodes NodeText) (all : List Frame) → all ≡ frames o → length all ≡ 0 → 0 ≡ length (base o)
 start_none o all e h = sym (length-frames o (sym (ap length e) ∙ h))
 
 -- ---- one node more
@@ -188,7 +188,7 @@ pub record Turned (nodes : List Node) (rest : List Frame) (t : Frame) (case othe
   pub stands : (mid : List Node) → mid ≡ with_node nodes case 0 t.start
       → StandsAt mid (rest ++ record t { arm = arm.Else otherwise; start = length mid } ∷ []) s
 
-ClosesBlock-at : (o : Open NodeText) (b f : NodesOf NodeText) (x : NodeText) (q : ℕ) (nodes : List Node)
+ClosesBlock-at : (o : OpenNodes NodeText) (b f : NodesOf NodeText) (x : NodeText) (q : ℕ) (nodes : List Node)
     → nodes ≡ (base o ++ postorder b) ++ postorder f
     → ClosesBlock nodes (frames o) (frame_behind (base o ++ postorder b) [] arm.Block x q) (state_after_end (InBlock o b x q) f)
 ClosesBlock-at o b f x q nodes e =
@@ -197,7 +197,7 @@ ClosesBlock-at o b f x q nodes e =
       stands = λ new n. record { rows = n ∙ wrapped (base o) b f x q _ nodes e refl; open_blocks = refl };
     }
 
-ClosesIf-at : (o : Open NodeText) (b d f : NodesOf NodeText) (a : Arm) (x y : NodeText) (q : ℕ) (nodes : List Node)
+ClosesIf-at : (o : OpenNodes NodeText) (b d f : NodesOf NodeText) (a : Arm) (x y : NodeText) (q : ℕ) (nodes : List Node)
     → nodes ≡ ((base o ++ postorder b) ++ postorder d) ++ postorder f
     → ClosesIf nodes (frames o) (frame_behind (base o ++ postorder b) (postorder d) a x q) y (state_at o (Snoc b x q (Snoc d y 0 f)))
 ClosesIf-at o b d f a x y q nodes e =
@@ -210,7 +210,7 @@ ClosesIf-at o b d f a x y q nodes e =
           λ new n. record { rows = n ∙ wrapped (base o) b (Snoc d y 0 f) x q _ _ case refl; open_blocks = refl };
     }
 
-Turned-at : (o : Open NodeText) (b d f : NodesOf NodeText) (x y z : NodeText) (q : ℕ) (nodes : List Node)
+Turned-at : (o : OpenNodes NodeText) (b d f : NodesOf NodeText) (x y z : NodeText) (q : ℕ) (nodes : List Node)
     → nodes ≡ ((base o ++ postorder b) ++ postorder d) ++ postorder f
     → Turned nodes (frames o) (frame_behind (base o ++ postorder b) (postorder d) (arm.Then y) x q) y z (state_after_else z (InThen o b d x y q) f)
 Turned-at o b d f x y z q nodes e =
@@ -228,14 +228,14 @@ Turned-at o b d f x y z q nodes e =
     }
 
 -- by the frame that was last
-block_top : (o : Open NodeText) (f : NodesOf NodeText) (nodes : List Node) (rest : List Frame) (t : Frame)
+block_top : (o : OpenNodes NodeText) (f : NodesOf NodeText) (nodes : List Node) (rest : List Frame) (t : Frame)
     → nodes ≡ base o ++ postorder f → IsTop o rest t → t.arm ≡ arm.Block → ClosesBlock nodes rest t (state_after_end o f)
 block_top Top f nodes rest t e h a = absurd h
 block_top (InBlock o b x q) f nodes rest t e h a = rw (h.0, h.1) (ClosesBlock-at o b f x q nodes e)
 block_top (InThen o b d x y q) f nodes rest t e h a = absurd (cc (ap (λ (u : Frame). u.arm) h.1))
 block_top (InElse o b d x y q) f nodes rest t e h a = absurd (cc (ap (λ (u : Frame). u.arm) h.1))
 
-then_top : (o : Open NodeText) (f : NodesOf NodeText) (nodes : List Node) (rest : List Frame) (t : Frame) (z : NodeText)
+then_top : (o : OpenNodes NodeText) (f : NodesOf NodeText) (nodes : List Node) (rest : List Frame) (t : Frame) (z : NodeText)
     → nodes ≡ base o ++ postorder f → IsTop o rest t → t.arm ≡ arm.Then z → ClosesIf nodes rest t z (state_after_end o f)
 then_top Top f nodes rest t z e h a = absurd h
 then_top (InBlock o b x q) f nodes rest t z e h a = absurd (cc (ap (λ (u : Frame). u.arm) h.1))
@@ -244,7 +244,7 @@ then_top (InThen o b d x y q) f nodes rest t z e h a =
     rw (h.0, h.1, same) (ClosesIf-at o b d f (arm.Then y) x y q nodes e)
 then_top (InElse o b d x y q) f nodes rest t z e h a = absurd (cc (ap (λ (u : Frame). u.arm) h.1))
 
-else_top : (o : Open NodeText) (f : NodesOf NodeText) (nodes : List Node) (rest : List Frame) (t : Frame) (z : NodeText)
+else_top : (o : OpenNodes NodeText) (f : NodesOf NodeText) (nodes : List Node) (rest : List Frame) (t : Frame) (z : NodeText)
     → nodes ≡ base o ++ postorder f → IsTop o rest t → t.arm ≡ arm.Else z → ClosesIf nodes rest t z (state_after_end o f)
 else_top Top f nodes rest t z e h a = absurd h
 else_top (InBlock o b x q) f nodes rest t z e h a = absurd (cc (ap (λ (u : Frame). u.arm) h.1))
@@ -253,7 +253,7 @@ else_top (InElse o b d x y q) f nodes rest t z e h a =
     let same : z ≡ y = cc (ap (λ (u : Frame). u.arm) h.1) in
     rw (h.0, h.1, same) (ClosesIf-at o b d f (arm.Else y) x y q nodes e)
 
-turn_top : (o : Open NodeText) (f : NodesOf NodeText) (nodes : List Node) (rest : List Frame) (t : Frame) (z otherwise : NodeText)
+turn_top : (o : OpenNodes NodeText) (f : NodesOf NodeText) (nodes : List Node) (rest : List Frame) (t : Frame) (z otherwise : NodeText)
     → nodes ≡ base o ++ postorder f → IsTop o rest t → t.arm ≡ arm.Then z
     → Turned nodes rest t z otherwise (state_after_else otherwise o f)
 turn_top Top f nodes rest t z w e h a = absurd h

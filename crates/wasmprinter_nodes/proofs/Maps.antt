@@ -2,7 +2,7 @@
 use Rattle.std.proofs.Common.{◌≡◌, ℕ, zero, suc, List, [], ◌∷◌, map, refl, sym, ◌∙◌, ap, Bool, true, false, cond, ltb, eqb}
 use Rattle.wasmprinter_spec.specs.Folding.Arities.{saturating_sum}
 use Rattle.wasmprinter_spec.specs.Folding.Tree.{NodesOf, Nil, Snoc, front, last, OperandsOf, Fit, Passed, Short, with_last, operands_from, operand_search, with_operands}
-use Rattle.wasmprinter_nodes.specs.Building.{Open, Top, InBlock, InThen, InElse, StateOf, Step, Plain, Opens, OpensIf, Turns, Ends, state_at, state_after_else, state_after_end, step, run_all}
+use Rattle.wasmprinter_nodes.specs.Building.{OpenNodes, Top, InBlock, InThen, InElse, StateOf, Step, Plain, Opens, OpensIf, Turns, Ends, state_at, state_after_else, state_after_end, step, run_all}
 use Rattle.wasmprinter_nodes.specs.Mapping.{map_nodes, map_operands, map_open, map_state, map_step}
 
 module _ {H K : Type 0} (v : H → K) where
@@ -52,14 +52,14 @@ module _ {H K : Type 0} (v : H → K) where
   folded-map f h takes gives =
       ap (with_operands (map_nodes v f) (v h) gives) (operand_search-map takes f) ∙ with_operands-map f h gives (operand_search takes f)
 
-  state_after_else-map : (otherwise : H) (o : Open H) (f : NodesOf H)
+  state_after_else-map : (otherwise : H) (o : OpenNodes H) (f : NodesOf H)
       → map_state v (state_after_else otherwise o f) ≡ state_after_else (v otherwise) (map_open v o) (map_nodes v f)
   state_after_else-map otherwise Top f = refl
   state_after_else-map otherwise (InBlock o b x q) f = refl
   state_after_else-map otherwise (InThen o b d x y q) f = refl
   state_after_else-map otherwise (InElse o b d x y q) f = refl
 
-  state_after_end-map : (o : Open H) (f : NodesOf H) → map_state v (state_after_end o f) ≡ state_after_end (map_open v o) (map_nodes v f)
+  state_after_end-map : (o : OpenNodes H) (f : NodesOf H) → map_state v (state_after_end o f) ≡ state_after_end (map_open v o) (map_nodes v f)
   state_after_end-map Top f = refl
   state_after_end-map (InBlock o b x q) f = refl
   state_after_end-map (InThen o b d x y q) f = refl

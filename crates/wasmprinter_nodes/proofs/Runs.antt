@@ -7,7 +7,7 @@ use Rattle.wasmprinter_nodes.specs.declared.NodeText.{NodeText}
 use Rattle.wasmprinter_nodes.specs.declared.Node.{Node}
 use Rattle.wasmprinter_nodes.specs.declared.builder.Frame.{Frame}
 use Rattle.wasmprinter_nodes.specs.Postorder.{postorder, forest_of, IsPostorder}
-use Rattle.wasmprinter_nodes.specs.Building.{Open, Top, InBlock, InThen, InElse, StateOf, Step, start, state_at, step, step_of, steps, run_all}
+use Rattle.wasmprinter_nodes.specs.Building.{OpenNodes, Top, InBlock, InThen, InElse, StateOf, Step, start, state_at, step, step_of, steps, run_all}
 use Rattle.wasmprinter_nodes.specs.Mapping.{map_nodes, map_step}
 use Rattle.wasmprinter_nodes.specs.Frames.{State, base, StandsAt}
 use Rattle.wasmprinter_nodes.proofs.Postorders.{postorder-row_of_both, forest_of-postorder, IsPostorder-postorder}
@@ -16,13 +16,13 @@ use Rattle.wasmprinter_nodes.proofs.Maps.{front-map, last-map, folded-map}
 -- ---- the nodes of a state
 
 -- the nodes of all open parts, one row behind another
-abbrev pub base_row : Open NodeText → NodesOf NodeText
+abbrev pub base_row : OpenNodes NodeText → NodesOf NodeText
 base_row Top = Nil
 base_row (InBlock o b x q) = row_of_both (base_row o) b
 base_row (InThen o b d x y q) = row_of_both (row_of_both (base_row o) b) d
 base_row (InElse o b d x y q) = row_of_both (row_of_both (base_row o) b) d
 
-postorder-base_row : (o : Open NodeText) → base o ≡ postorder (base_row o)
+postorder-base_row : (o : OpenNodes NodeText) → base o ≡ postorder (base_row o)
 postorder-base_row Top = refl
 postorder-base_row (InBlock o b x q) =
     ap (λ (l : List Node). l ++ postorder b) (postorder-base_row o) ∙ sym (postorder-row_of_both (base_row o) b)
@@ -49,7 +49,7 @@ stands_whole nodes blocks s h =
 pub stands_closed : (nodes : List Node) (blocks : List Frame) (s : State) → StandsAt nodes blocks s → s.outer ≡ Top
     → forest_of nodes ≡ s.groups
 stands_closed nodes blocks s h e =
-    ap forest_of (h.rows ∙ ap (λ (o : Open NodeText). base o ++ postorder s.groups) e) ∙ forest_of-postorder s.groups
+    ap forest_of (h.rows ∙ ap (λ (o : OpenNodes NodeText). base o ++ postorder s.groups) e) ∙ forest_of-postorder s.groups
 
 -- ---- code
 
@@ -79,7 +79,7 @@ module _ {H : Type 0} (v : Head → H) where
       ∙ (run_all-append s (steps v (flat code)) (steps v xs) ∙ ap (λ (u : StateOf H). run_all u (steps v xs)) e)
 
   -- well-nested operators leave the open blocks as they are, and their nodes behind those that were there
-  pub run-flat : (o : Open H) (f : Nodes) (code : NestedCode) → IsFit code
+  pub run-flat : (o : OpenNodes H) (f : Nodes) (code : NestedCode) → IsFit code
       → run_all (state_at o (map_nodes v f)) (steps v (flat code)) ≡ state_at o (map_nodes v (tree_behind f code))
   run-flat o f Done h = refl
   run-flat o f (Plain x rest) h =
@@ -87,14 +87,14 @@ module _ {H : Type 0} (v : Head → H) where
       ∙ (ap (λ (g : NodesOf H). run_all (state_at o g) (steps v (flat rest))) (folded-map v f (Of x) x.takes x.gives)
       ∙ run-flat o (with_operator f x) rest h.1)
   run-flat o f (Block x body end rest) h =
-      let inner : Open H = InBlock o (map_nodes v f) (v (Of x)) x.gives in
+      let inner : OpenNodes H = InBlock o (map_nodes v f) (v (Of x)) x.gives in
       run-item (state_at o (map_nodes v f)) x (flat body ++ end ∷ flat rest) row.Opens h.0
       ∙ (run-behind (state_at inner Nil) (state_at inner (map_nodes v (tree_behind Nil body))) body (end ∷ flat rest) (run-flat inner Nil body h.1)
       ∙ (run-item (state_at inner (map_nodes v (tree_behind Nil body))) end (flat rest) row.Ends h.2
       ∙ run-flat o (Snoc f (Of x) x.gives (tree_behind Nil body)) rest h.3))
   run-flat o f (If x body end rest) h =
-      let inner : NodesOf H → NodesOf H → Open H = λ a b. InThen o a b (v (Of x)) (v (ThenCase x)) x.gives in
-      let mine : Open H = inner (map_nodes v (front f)) (map_nodes v (last f)) in
+      let inner : NodesOf H → NodesOf H → OpenNodes H = λ a b. InThen o a b (v (Of x)) (v (ThenCase x)) x.gives in
+      let mine : OpenNodes H = inner (map_nodes v (front f)) (map_nodes v (last f)) in
       run-item (state_at o (map_nodes v f)) x (flat body ++ end ∷ flat rest) row.OpensIf h.0
       ∙ (ap (λ (a : NodesOf H). run_all (state_at (inner a (last (map_nodes v f))) Nil) (steps v (flat body ++ end ∷ flat rest))) (front-map v f)
       ∙ (ap (λ (b : NodesOf H). run_all (state_at (inner (map_nodes v (front f)) b) Nil) (steps v (flat body ++ end ∷ flat rest))) (last-map v f)
@@ -102,10 +102,10 @@ module _ {H : Type 0} (v : Head → H) where
       ∙ (run-item (state_at mine (map_nodes v (tree_behind Nil body))) end (flat rest) row.Ends h.2
       ∙ run-flat o (Snoc (front f) (Of x) x.gives (Snoc (last f) (ThenCase x) 0 (tree_behind Nil body))) rest h.3))))
   run-flat o f (IfElse x body turn other end rest) h =
-      let inner : NodesOf H → NodesOf H → Open H = λ a b. InThen o a b (v (Of x)) (v (ThenCase x)) x.gives in
-      let mine : Open H = inner (map_nodes v (front f)) (map_nodes v (last f)) in
+      let inner : NodesOf H → NodesOf H → OpenNodes H = λ a b. InThen o a b (v (Of x)) (v (ThenCase x)) x.gives in
+      let mine : OpenNodes H = inner (map_nodes v (front f)) (map_nodes v (last f)) in
       let cases : Nodes = Snoc (last f) (ThenCase x) 0 (tree_behind Nil body) in
-      let second : Open H = InElse o (map_nodes v (front f)) (map_nodes v cases) (v (Of x)) (v (ElseCase turn)) x.gives in
+      let second : OpenNodes H = InElse o (map_nodes v (front f)) (map_nodes v cases) (v (Of x)) (v (ElseCase turn)) x.gives in
       let behind : List Item = turn ∷ (flat other ++ end ∷ flat rest) in
       run-item (state_at o (map_nodes v f)) x (flat body ++ behind) row.OpensIf h.0
       ∙ (ap (λ (a : NodesOf H). run_all (state_at (inner a (last (map_nodes v f))) Nil) (steps v (flat body ++ behind))) (front-map v f)

@@ -9,14 +9,14 @@ use Rattle.wasmprinter_spec.specs.Folding.Tree.{Head, Of, ThenCase, ElseCase, No
 -- The open blocks, the innermost first: each with those around it, the nodes before it, what stands first in its node, and its
 -- results. An `if` has its predicate too and what stands first in the node of its open case; behind its `else` the node of its
 -- `then` stands behind the predicate.
-pub data Open (H : Type 0) : Type 0 where
-  Top : Open H
-  InBlock : Open H → NodesOf H → H → ℕ → Open H
-  InThen : Open H → NodesOf H → NodesOf H → H → H → ℕ → Open H
-  InElse : Open H → NodesOf H → NodesOf H → H → H → ℕ → Open H
+pub data OpenNodes (H : Type 0) : Type 0 where
+  Top : OpenNodes H
+  InBlock : OpenNodes H → NodesOf H → H → ℕ → OpenNodes H
+  InThen : OpenNodes H → NodesOf H → NodesOf H → H → H → ℕ → OpenNodes H
+  InElse : OpenNodes H → NodesOf H → NodesOf H → H → H → ℕ → OpenNodes H
 
 pub record StateOf (H : Type 0) : Type 0 where
-  pub outer : Open H
+  pub outer : OpenNodes H
   pub groups : NodesOf H
 
 -- an operator: a plain one with the numbers of its operands and results, one that opens a block of so many results, an `else` and an `end`
@@ -27,14 +27,14 @@ pub data Step (H : Type 0) : Type 0 where
   Turns : H → Step H
   Ends : Step H
 
-abbrev pub state_at : {H : Type 0} → Open H → NodesOf H → StateOf H
+abbrev pub state_at : {H : Type 0} → OpenNodes H → NodesOf H → StateOf H
 state_at o f = record { outer = o; groups = f }
 
 abbrev pub start : {H : Type 0} → StateOf H
 start = state_at Top Nil
 
 -- an `else` closes the first case of an `if`, and changes nothing where there is none
-abbrev pub state_after_else : {H : Type 0} → H → Open H → NodesOf H → StateOf H
+abbrev pub state_after_else : {H : Type 0} → H → OpenNodes H → NodesOf H → StateOf H
 state_after_else otherwise Top f = state_at Top f
 state_after_else otherwise (InBlock o before head gives) f = state_at (InBlock o before head gives) f
 state_after_else otherwise (InThen o before cases head case gives) f =
@@ -42,7 +42,7 @@ state_after_else otherwise (InThen o before cases head case gives) f =
 state_after_else otherwise (InElse o before cases head case gives) f = state_at (InElse o before cases head case gives) f
 
 -- an `end` closes the innermost block, and changes nothing where there is none
-abbrev pub state_after_end : {H : Type 0} → Open H → NodesOf H → StateOf H
+abbrev pub state_after_end : {H : Type 0} → OpenNodes H → NodesOf H → StateOf H
 state_after_end Top f = state_at Top f
 state_after_end (InBlock o before head gives) f = state_at o (Snoc before head gives f)
 state_after_end (InThen o before cases head case gives) f = state_at o (Snoc before head gives (Snoc cases case 0 f))

@@ -7,13 +7,13 @@ use Rattle.wasmprinter_nodes.specs.declared.builder.Arm.TheVariants as arm
 use Rattle.wasmprinter_nodes.specs.declared.builder.Frame.{Frame}
 use Rattle.wasmprinter_nodes.specs.declared.builder.Builder.{Builder}
 use Rattle.wasmprinter_nodes.specs.Postorder.{postorder}
-use Rattle.wasmprinter_nodes.specs.Building.{Open, Top, InBlock, InThen, InElse, StateOf}
+use Rattle.wasmprinter_nodes.specs.Building.{OpenNodes, Top, InBlock, InThen, InElse, StateOf}
 
 abbrev pub State : Type 0
 State = StateOf NodeText
 
 -- the nodes before those of the open part
-abbrev pub base : Open NodeText → List Node
+abbrev pub base : OpenNodes NodeText → List Node
 base Top = []
 base (InBlock o before head gives) = base o ++ postorder before
 base (InThen o before cases head case gives) = (base o ++ postorder before) ++ postorder cases
@@ -25,7 +25,7 @@ frame_behind before cases arm head gives =
     record { arm = arm; head = head; gives = gives; from = length before; start = length (before ++ cases) }
 
 -- the open blocks, the innermost last
-abbrev pub frames : Open NodeText → List Frame
+abbrev pub frames : OpenNodes NodeText → List Frame
 frames Top = []
 frames (InBlock o before head gives) = frames o ++ frame_behind (base o ++ postorder before) [] arm.Block head gives ∷ []
 frames (InThen o before cases head case gives) =

@@ -1,12 +1,12 @@
 -- What holds of all that stands first in nodes.
 use Rattle.wasmprinter_spec.specs.Folding.Tree.{NodesOf, Nil, Snoc}
-use Rattle.wasmprinter_nodes.specs.Building.{Open, Top, InBlock, InThen, InElse, StateOf, Step, Plain, Opens, OpensIf, Turns, Ends}
+use Rattle.wasmprinter_nodes.specs.Building.{OpenNodes, Top, InBlock, InThen, InElse, StateOf, Step, Plain, Opens, OpensIf, Turns, Ends}
 
 abbrev pub AllNodes : {H : Type 0} → (H → Type 0) → NodesOf H → Type 0
 AllNodes P Nil = Unit {0}
 AllNodes P (Snoc before head results held) = AllNodes P before × P head × AllNodes P held
 
-abbrev pub AllOpen : {H : Type 0} → (H → Type 0) → Open H → Type 0
+abbrev pub AllOpen : {H : Type 0} → (H → Type 0) → OpenNodes H → Type 0
 AllOpen P Top = Unit {0}
 AllOpen P (InBlock o before head gives) = AllOpen P o × AllNodes P before × P head
 AllOpen P (InThen o before cases head case gives) = AllOpen P o × AllNodes P before × AllNodes P cases × P head × P case

@@ -1,6 +1,6 @@
 -- The same nodes, with something else first in each.
 use Rattle.wasmprinter_spec.specs.Folding.Tree.{NodesOf, Nil, Snoc, OperandsOf, Fit, Passed, Short}
-use Rattle.wasmprinter_nodes.specs.Building.{Open, Top, InBlock, InThen, InElse, StateOf, Step, Plain, Opens, OpensIf, Turns, Ends}
+use Rattle.wasmprinter_nodes.specs.Building.{OpenNodes, Top, InBlock, InThen, InElse, StateOf, Step, Plain, Opens, OpensIf, Turns, Ends}
 
 abbrev pub map_nodes : {H K : Type 0} → (H → K) → NodesOf H → NodesOf K
 map_nodes v Nil = Nil
@@ -11,7 +11,7 @@ map_operands v (Fit before run) = Fit (map_nodes v before) (map_nodes v run)
 map_operands v Passed = Passed
 map_operands v Short = Short
 
-abbrev pub map_open : {H K : Type 0} → (H → K) → Open H → Open K
+abbrev pub map_open : {H K : Type 0} → (H → K) → OpenNodes H → OpenNodes K
 map_open v Top = Top
 map_open v (InBlock o before head gives) = InBlock (map_open v o) (map_nodes v before) (v head) gives
 map_open v (InThen o before cases head case gives) =

@@ -13,7 +13,8 @@ postorder (Snoc before head results parts) =
 abbrev pub parts_at_last : ℕ → NodesOf NodeText → NodesOf NodeText × NodesOf NodeText
 parts_at_last zero f = (f, Nil)
 parts_at_last (suc n) Nil = (Nil, Nil)
-parts_at_last (suc n) (Snoc before head results parts) = let c = parts_at_last (n - count parts) before in (c.0, Snoc c.1 head results parts)
+parts_at_last (suc n) (Snoc before head results parts) =
+    let c = parts_at_last (n - count parts) before in (c.0, Snoc c.1 head results parts)
 
 -- a node holds the last `size - 1` nodes
 abbrev pub grow : NodesOf NodeText → Node → NodesOf NodeText

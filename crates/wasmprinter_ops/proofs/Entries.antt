@@ -16,14 +16,15 @@ module _ {A : Type 0} (g : Grammar A) where
   first_of : (at : Input) (xs : List A) → (at.bytes ≡ [] → ⊥) → Entries g at.place at.bytes xs → FirstEntry at xs
   first_of at [] some s = absurd (some s)
   first_of at (x ∷ xs) some s =
-      let after : Input = input (at.place + length s.0) s.1 in
+      let (text, behind, joined, takes, spelled, all_spelled) = s in
+      let after : Input = input (at.place + length text) behind in
       record {
         item = x;
         others = xs;
         after = after;
         is = refl;
-        first = g.complete at (x, after) (record { text = s.0; parts = s.2; ends = refl; spelled = s.4 });
-        rest = (until_end g).complete after xs s.5;
+        first = g.complete at (x, after) (record { text = text; parts = joined; ends = refl; spelled = spelled });
+        rest = (until_end g).complete after xs all_spelled;
       }
 
   pub first_entry : (at : Input) (xs : List A) → (at.bytes ≡ [] → ⊥) → (until_end g).parse at ≡ Some xs → FirstEntry at xs
@@ -33,7 +34,8 @@ module _ {A : Type 0} (g : Grammar A) where
   pub entries-few : (p : ℕ) (text : List ℕ) (xs : List A) → Entries g p text xs → length xs ≤ length text
   entries-few p text [] s = omega arith
   entries-few p text (x ∷ xs) s =
-      omega (arith, ap length s.2, length-append s.0 s.1, s.3, entries-few (p + length s.0) s.1 xs s.5)
+      let (first, behind, joined, takes, spelled, all_spelled) = s in
+      omega (arith, ap length joined, length-append first behind, takes, entries-few (p + length first) behind xs all_spelled)
 
   -- one more item at the end
   entries-push : (xs : List A) (p : ℕ) (t u : List ℕ) (x : A) → Entries g p t xs → 0 < length u → g.spells (p + length t) u x → Entries g p (t ++ u) (xs ++ x ∷ [])
@@ -43,9 +45,11 @@ module _ {A : Type 0} (g : Grammar A) where
       let at_p : g.spells p u x = subst (λ (q : ℕ). g.spells q u x) z here in
       subst (λ (r : List ℕ). Entries g p (r ++ u) (x ∷ [])) (sym s) (u, [], sym (append-nil u), some, at_p, refl)
   entries-push (y ∷ ys) p t u x s some last =
-      let l : p + length t ≡ p + length s.0 + length s.1 = omega (arith, ap length s.2, length-append s.0 s.1) in
-      let more : Entries g (p + length s.0) (s.1 ++ u) (ys ++ x ∷ []) = entries-push ys (p + length s.0) s.1 u x s.5 some (subst (λ (q : ℕ). g.spells q u x) l last) in
-      (s.0, s.1 ++ u, ap (λ (r : List ℕ). r ++ u) s.2 ∙ append_assoc s.0 s.1 u, s.3, s.4, more)
+      let (first, behind, joined, takes, spelled, all_spelled) = s in
+      let l : p + length t ≡ p + length first + length behind = omega (arith, ap length joined, length-append first behind) in
+      let more : Entries g (p + length first) (behind ++ u) (ys ++ x ∷ []) =
+      entries-push ys (p + length first) behind u x all_spelled some (subst (λ (q : ℕ). g.spells q u x) l last) in
+      (first, behind ++ u, ap (λ (r : List ℕ). r ++ u) joined ∙ append_assoc first behind u, takes, spelled, more)
 
   -- the same between two places
   pub spans-push : (start mid after : Input) (xs : List A) (x : A) → Spans (Entries g) start (xs, mid) → (s : Spans g.spells mid (x, after)) → 0 < length s.text → Spans (Entries g) start (xs ++ x ∷ [], after)

@@ -142,7 +142,8 @@ module _ (old part new : Input) (end : ℕ) (s : OperatorsAndEnd old end new) (c
   read_cut : ReadExpression old part new
   read_cut =
       let ops : operators_in part ≡ s.items = operators_are part s.items there in
-      let nests : Nests Sequence (roles s.items) = (expression.sound old (record { items = s.items; end = end }, new) s.is).spelled.3 in
+      let whole = expression.sound old (record { items = s.items; end = end }, new) s.is in
+      let (front, closed, items, nests, ends) = whole.spelled in
       let same : read_as s.items end new ≡ read_as (operators_in part) (end_of part) new = rw (ops, part_end) refl in
       record {
         has = (has_operators part s.items there, subst (λ (xs : List (Placed Operator)). Nests Sequence (roles xs)) (sym ops) nests);

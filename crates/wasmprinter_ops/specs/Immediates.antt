@@ -1,8 +1,9 @@
 -- Immediates as the definitions see them, and the shapes that they have.
-use Rattle.std.specs.Prelude.{MatchOption}
+use Rattle.std.specs.Prelude.{IsTrue, MatchOption}
 use Rattle.wasmprinter_spec.specs.Operator.{Opcode, NoImmediates, Block, TryTable, Index, Indices, BranchTable, Types, Heap, Cast, Memory, MemoryLane, Lane, I32, I64, F32, F64, Bytes}
 use Rattle.wasmprinter_spec.specs.Operator.{Immediates as ImmediatesValue}
-use Rattle.wasmprinter_spec.specs.Row.{Shape, NoneShape, FenceShape, BlockShape, TryTableShape, IndexShape, DefaultIndexShape, PairShape, FieldShape, CountShape, CallShape, SegmentShape, CopyShape, BranchTableShape, SelectShape, HeapShape, RefShape, CastShape, MemoryShape, MemoryLaneShape, LaneShape, I32Shape, I64Shape, F32Shape, F64Shape, VectorShape, LanesShape}
+use Rattle.wasmprinter_spec.specs.Row.{Shape}
+use Rattle.wasmprinter_spec.specs.Shapes.{has_shape}
 use Rattle.wasmprinter_spec.specs.Table.{by_opcode}
 use Rattle.wasmprinter_ops.specs.Blocks.{block_type_view, catches_view}
 use Rattle.wasmprinter_ops.specs.Operands.{source_type, target_type}
@@ -32,34 +33,8 @@ immediates_view (i.Bytes bs) = Bytes bs
 
 -- the immediates have the shape
 abbrev pub HasShape : Shape → ImmediatesValue → Type 0
-HasShape NoneShape NoImmediates = Unit {0}
-HasShape FenceShape NoImmediates = Unit {0}
-HasShape BlockShape (Block t) = Unit {0}
-HasShape TryTableShape (TryTable t cs) = Unit {0}
-HasShape (IndexShape space) (Index n) = Unit {0}
-HasShape (DefaultIndexShape space) (Index n) = Unit {0}
-HasShape (PairShape first second) (Indices n k) = Unit {0}
-HasShape FieldShape (Indices n k) = Unit {0}
-HasShape CountShape (Indices n k) = Unit {0}
-HasShape CallShape (Indices n k) = Unit {0}
-HasShape (SegmentShape segments space) (Indices n k) = Unit {0}
-HasShape (CopyShape space) (Indices n k) = Unit {0}
-HasShape BranchTableShape (BranchTable ls l) = Unit {0}
-HasShape SelectShape (Types ts) = Unit {0}
-HasShape HeapShape (Heap t) = Unit {0}
-HasShape (RefShape null) (Heap t) = Unit {0}
-HasShape CastShape (Cast l s t) = Unit {0}
-HasShape (MemoryShape natural) (Memory m) = Unit {0}
-HasShape (MemoryLaneShape natural) (MemoryLane m k) = Unit {0}
-HasShape LaneShape (Lane k) = Unit {0}
-HasShape I32Shape (I32 n) = Unit {0}
-HasShape I64Shape (I64 n) = Unit {0}
-HasShape F32Shape (F32 bits) = Unit {0}
-HasShape F64Shape (F64 bits) = Unit {0}
-HasShape VectorShape (Bytes bs) = Unit {0}
-HasShape LanesShape (Bytes bs) = Unit {0}
-HasShape _ _ = ⊥
+HasShape s i = IsTrue (has_shape s i)
 
 -- the table lists the opcode with immediates of this shape
-abbrev pub IsListed : Opcode → ImmediatesValue → Type 0
-IsListed o i = MatchOption (by_opcode o) ⊥ (λ r. HasShape r.shape i)
+abbrev pub IsListedAs : Opcode → ImmediatesValue → Type 0
+IsListedAs o i = MatchOption (by_opcode o) ⊥ (λ r. HasShape r.shape i)

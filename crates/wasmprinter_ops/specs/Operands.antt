@@ -2,7 +2,7 @@
 use Rattle.std.specs.Prelude.{ℕ, Bool, ◌/◌, ◌%◌, ◌==◌}
 use Rattle.wasmprinter_spec.specs.Types.{RefType, ref_type}
 use Rattle.wasmprinter_types.specs.ValTypes.{heap_view}
-use Rattle.wasmprinter_types.specs.declared.HeapType.{HeapType}
+use Rattle.wasmprinter_types.specs.declared.val_types.HeapType.{HeapType}
 
 -- the lowest bit of the flags
 abbrev pub source_null : ℕ → Bool

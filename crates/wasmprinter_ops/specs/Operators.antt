@@ -33,8 +33,8 @@ PassesOperator old (Ok role) new = (o : Operator) × (operator.parse old ≡ Som
 PassesOperator old (Err e) new = operator.parse old ≡ None
 
 -- this is so of each place from which the opcode is read up to here
-abbrev pub Behind : Opcode → Input → (Input → Type 0) → Type 0
-Behind o here IsSo = (at : Input) → opcode_grammar.parse at ≡ Some (o, here) → IsSo at
+abbrev pub BehindOpcode : Opcode → Input → (Input → Type 0) → Type 0
+BehindOpcode o here IsSo = (at : Input) → opcode_grammar.parse at ≡ Some (o, here) → IsSo at
 
 -- operators up to the end of the bytes, each with its place
 abbrev pub operators : Remainder (List (Placed Operator))

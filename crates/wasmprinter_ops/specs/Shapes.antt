@@ -62,7 +62,7 @@ optional_shape_view (Some s) = Some (shape_view s)
 -- the word, the shape and the arity of an opcode that may be missing
 abbrev pub entry_view : Option (Bor (List ℕ) × ProgramShape × ProgramArity) → Option (List ℕ × Shape × Arity)
 entry_view None = None
-entry_view (Some e) = Some (e.0.now, shape_view e.1, arity_view e.2)
+entry_view (Some (word, shape, arity)) = Some (word.now, shape_view shape, arity_view arity)
 
 -- the role of the definitions
 abbrev pub role_view : ProgramRole → Role

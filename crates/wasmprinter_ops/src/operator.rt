@@ -5,7 +5,7 @@ ghost use Rattle.wasmprinter_spec.specs.Row.{FenceShape, TryTableShape, FieldSha
 ghost use Rattle.wasmprinter_spec.specs.Instructions.{operator, immediates as immediates_grammar, indices, cast};
 ghost use Rattle.wasmprinter_bytes.specs.Reads.{Reads, IsWithin, end_of};
 ghost use Rattle.wasmprinter_ops.specs.Immediates.{immediates_view, HasShape};
-ghost use Rattle.wasmprinter_ops.specs.Operators.{placed_view, Behind, Passes, PassesOperator};
+ghost use Rattle.wasmprinter_ops.specs.Operators.{placed_view, BehindOpcode, Passes, PassesOperator};
 ghost use Rattle.wasmprinter_ops.specs.Shapes.{shape_view};
 
 use crate::blocks::{BlockType, Catches, Targets, read_block_type, read_catches};
@@ -67,13 +67,13 @@ pub struct Operator<'a> {
 
 impl<'a> Model for Operator<'a> {
     ghost use Rattle.wasmprinter_spec.specs.Operator.{Operator as OperatorValue};
-    ghost use Rattle.wasmprinter_ops.specs.Immediates.{immediates_view, IsListed};
+    ghost use Rattle.wasmprinter_ops.specs.Immediates.{immediates_view, IsListedAs};
 
     ghost Value = { OperatorValue };
 
     ghost view = { λ o. record { opcode = o.opcode; immediates = immediates_view o.immediates } };
 
-    ghost invariant = { λ o. IsListed o.opcode (immediates_view o.immediates) };
+    ghost invariant = { λ o. IsListedAs o.opcode (immediates_view o.immediates) };
 }
 
 impl<'a> Immediates<'a> {
@@ -140,7 +140,7 @@ fn pass_immediates(cursor: &mut Cursor, shape: Shape) -> Result<(), Malformed>
 #[inline(always)]
 fn pass_behind(cursor: &mut Cursor, place: u64, opcode: Opcode) -> Result<Role, Malformed>
     requires { place ≤ end_of cursor.now }
-    ensures reads { Behind opcode cursor.old (λ at. PassesOperator at result cursor.new) }
+    ensures reads { BehindOpcode opcode cursor.old (λ at. PassesOperator at result cursor.new) }
     ensures within { IsWithin cursor.old result }
     ensures end { end_of cursor.new ≡ end_of cursor.old }
 {
@@ -270,7 +270,7 @@ impl<'a> Operator<'a> {
     #[inline(always)]
     fn read_behind(cursor: &mut Cursor<'a>, place: u64, opcode: Opcode) -> Result<Self, Malformed>
         requires { place ≤ end_of cursor.now }
-        ensures reads { Behind opcode cursor.old (λ at. Reads (λ o. o) operator.parse at result cursor.new) }
+        ensures reads { BehindOpcode opcode cursor.old (λ at. Reads (λ o. o) operator.parse at result cursor.new) }
         ensures within { IsWithin cursor.old result }
         ensures end { end_of cursor.new ≡ end_of cursor.old }
     {

@@ -18,7 +18,7 @@ use Rattle.wasmprinter_spec.specs.Options.{Options}
 use Rattle.wasmprinter_spec.specs.Piece.{Piece}
 use Rattle.wasmprinter_spec.specs.Layout.Groups.{has_break, close, group_gap_at}
 use Rattle.wasmprinter_spec.specs.Layout.Variables.{Variables, Alone, Together, with_variable, variable_groups, variables_pieces, groups_pieces}
-use Rattle.wasmprinter_spec.specs.Layout.Declarations.{Scope, Folding}
+use Rattle.wasmprinter_spec.specs.Layout.Declarations.{Scope, scope_of_function, Folding}
 use Rattle.wasmprinter_spec.specs.Layout.Operators.{OverLines, Setting}
 use Rattle.wasmprinter_spec.specs.Layout.Functions.{locals_place, local_line, local_pieces, header_pieces, over_lines, result_count, body_by, body_pieces, inner_pieces, function_group, function_pieces}
 use Rattle.wasmprinter_spec.specs.Lines.{places, is_among, lines_without}
@@ -134,7 +134,7 @@ group_begins false offsets s flat hs f e =
 
 pub function_begins : (o : Options) (s : Scope) → s.folding ≡ None → (i : ℕ) (hs : List (Placed Hint)) (f : PlacedFunction) → o.skeleton ≡ false → BeginsOwn hs f (flat_map starts (function_pieces o s i hs f))
 unfolding function_pieces
-function_begins o s flat i hs f whole = group_begins o.skeleton o.offsets (record s { function = i }) flat hs f whole
+function_begins o s flat i hs f whole = group_begins o.skeleton o.offsets (scope_of_function s i) flat hs f whole
 
 -- ---- they follow the places of its body
 
@@ -214,11 +214,12 @@ module _ (ps : List ℕ) where
       let operators : List (Placed Operator) = f.body.value.operators in
       let lines : List (Option ℕ) = operator_lines f.body.place hs operators in
       let closing : List (Option ℕ) = closing_lines f.body.value.end b in
-      let first = all_parts IsKept locals (places operators ++ (f.body.value.end ∷ [])) own.1 in
-      let second = all_parts IsKept (places operators) (f.body.value.end ∷ []) first.1 in
+      let (own_locals, behind_locals) = all_parts IsKept locals (places operators ++ (f.body.value.end ∷ [])) own.1 in
+      let (own_operators, (own_end, _)) = all_parts IsKept (places operators) (f.body.value.end ∷ []) behind_locals in
       kept_in ps (Some f.body.place) (some_all locals ++ (lines ++ closing)) own.0
       ∙ ap (λ (ls : List (Option ℕ)). Some f.body.place ∷ ls)
       (lines_without-append ps (some_all locals) (lines ++ closing)
-      ∙ ap₂ (λ (ls ms : List (Option ℕ)). ls ++ ms) (some_kept locals first.0)
+      ∙ ap₂ (λ (ls ms : List (Option ℕ)). ls ++ ms) (some_kept locals own_locals)
       (lines_without-append ps lines closing
-      ∙ ap₂ (λ (ls ms : List (Option ℕ)). ls ++ ms) (operators_kept f.body.place hs operators all second.0) (closing_kept f.body.value.end b second.1.0)))
+      ∙ ap₂ (λ (ls ms : List (Option ℕ)). ls ++ ms) (operators_kept f.body.place hs operators all own_operators)
+      (closing_kept f.body.value.end b own_end)))

@@ -9,7 +9,7 @@ use Rattle.wasmprinter_spec.specs.Repeated.{some_or, Entries}
 use Rattle.wasmprinter_spec.specs.Placed.{Body, Custom, CustomEntry, PlacedFunction, PlacedModule}
 use Rattle.wasmprinter_spec.specs.Kinds.{Kind}
 use Rattle.wasmprinter_spec.specs.Sections.{CustomSection, TypeSection, ImportSection, TableSection, MemorySection, TagSection, GlobalSection, ExportSection, StartSection, ElementSection, CodeSection, DataSection, Section, holds, section, are_above, content_of, content_in, place_behind, customs_behind}
-use Rattle.wasmprinter_spec.specs.Customs.{role_of}
+use Rattle.wasmprinter_spec.specs.Customs.{custom_role_of}
 use Rattle.wasmprinter_spec.specs.Customs.Hints.{hints_given, hints_by, last_named}
 use Rattle.wasmprinter_spec.specs.Binary.{type_indices_in, bodies_in, data_count_in, datas_in, customs_in, counts_data, function_pairs, module_from, module_of_sections}
 use Rattle.wasmprinter_spec.specs.Lines.{places_of_hints}
@@ -23,7 +23,7 @@ use Rattle.wasmprinter_places.proofs.Sections.{given_places, other_places, Lies-
 -- Places within bounds, of which each one has the property.
 all_inside : (P : ℕ → Type 0) (low high : ℕ) (xs : List ℕ) → ((x : ℕ) → low ≤ x → x ≤ high → P x) → Inside low xs high → AllByRecursion P xs
 all_inside P low high [] have h = tt
-all_inside P low high (x ∷ xs) have h = (have x h.0 h.1, all_inside P low high xs have h.2)
+all_inside P low high (x ∷ xs) have (above, below, others) = (have x above below, all_inside P low high xs have others)
 
 -- ---- the interval
 
@@ -54,14 +54,13 @@ code_lies [] older old p text before start end rise e = record {
   others = tt;
 }
 code_lies (s ∷ ss) older old p text before start end rise e =
-    let t : List ℕ = e.0 in
-    let u : List ℕ = e.1 in
-    let long : length text ≡ length t + length u = omega (arith, ap length e.2, length-append t u) in
+    let (t, u, joined, takes, spelled, all_spelled) = e in
+    let long : length text ≡ length t + length u = omega (arith, ap length joined, length-append t u) in
     elim (picks CodeSection s) [
       | inl other ↦
           let rest : CodeLies older old (p + length t) u before ss =
-          code_lies ss older old (p + length t) u before (omega (arith, start)) (omega (arith, end)) rise e.5 in
-          let own : Inside (p + 0) (other_places s) (p + length t) = Lies-other_section.lie p t s e.4 in
+          code_lies ss older old (p + length t) u before (omega (arith, start)) (omega (arith, end)) rise all_spelled in
+          let own : Inside (p + 0) (other_places s) (p + length t) = Lies-other_section.lie p t s spelled in
           let same : content_in CodeSection before (s ∷ ss) ≡ content_in CodeSection before ss =
           ap (λ (r : Option (List (Placed Body))). content_in CodeSection (some_or r before (λ x. x)) ss) other in
           record {
@@ -75,9 +74,9 @@ code_lies (s ∷ ss) older old p text before start end rise e =
           }
       | inr code ↦
           let own : Rises (p + 1) (flat_map body_places code.0) (p + length t) =
-          Lies-code_section.lie p t (holds CodeSection code.0) (subst (λ (x : Section). section.spells p t x) code.1 e.4) in
+          Lies-code_section.lie p t (holds CodeSection code.0) (subst (λ (x : Section). section.spells p t x) code.1 spelled) in
           let rest : CodeLies (p + 1) (p + length t) (p + length t) u code.0 ss =
-          code_lies ss (p + 1) (p + length t) (p + length t) u code.0 (omega (arith, e.3)) (omega arith) own e.5 in
+          code_lies ss (p + 1) (p + length t) (p + length t) u code.0 (omega (arith, takes)) (omega arith) own all_spelled in
           let same : content_in CodeSection before (s ∷ ss) ≡ content_in CodeSection code.0 ss =
           ap (λ (r : Option (List (Placed Body))). content_in CodeSection (some_or r before (λ x. x)) ss) (ap (content_of CodeSection) code.1) in
           record {
@@ -109,12 +108,12 @@ module _ (P : ℕ → Type 0) where
   record GivenHave (c : Custom) (place : ℕ) : Type 0 where
     section : P place
     content : P c.bytes.place
-    role : AllByRecursion P (role_places (role_of c))
+    role : AllByRecursion P (role_places (custom_role_of c))
     hints : AllByRecursion P (places_of_hints (hints_given c.bytes))
 
   given_parts : (c : Custom) (place : ℕ) → AllByRecursion P (given_places (record { place = place; value = c })) → GivenHave c place
   given_parts c place (section, (content, others)) =
-      let parts = all_parts P (role_places (role_of c)) (places_of_hints (hints_given c.bytes)) others in
+      let parts = all_parts P (role_places (custom_role_of c)) (places_of_hints (hints_given c.bytes)) others in
       record { section = section; content = content; role = parts.0; hints = parts.1 }
 
   customs_have : (cs : List CustomEntry) → HaveGiven cs → AllByRecursion P (flat_map custom_places cs)
@@ -144,27 +143,30 @@ bodies_paired : (is : List ℕ) (bs : List (Placed Body)) (fs : List PlacedFunct
 bodies_paired [] [] fs e = ap (λ (gs : List PlacedFunction). flat_map (λ f. body_places f.body) gs) (some_is [] fs e)
 bodies_paired (i ∷ is) (b ∷ bs) fs e =
     let first : PlacedFunction = record { type_index = i; body = b } in
-    let rest = bind_some (function_pairs is bs) (λ gs. Some (first ∷ gs)) fs e in
-    ap (λ (ps : List ℕ). body_places b ++ ps) (bodies_paired is bs rest.0 rest.1)
-    ∙ ap (λ (gs : List PlacedFunction). flat_map (λ f. body_places f.body) gs) (some_is (first ∷ rest.0) fs rest.2)
+    let (others, paired, result) = bind_some (function_pairs is bs) (λ gs. Some (first ∷ gs)) fs e in
+    ap (λ (ps : List ℕ). body_places b ++ ps) (bodies_paired is bs others paired)
+    ∙ ap (λ (gs : List PlacedFunction). flat_map (λ f. body_places f.body) gs) (some_is (first ∷ others) fs result)
 bodies_paired [] (b ∷ bs) fs e = absurd cc
 bodies_paired (i ∷ is) [] fs e = absurd cc
 
 module_apart : (size p : ℕ) (text : List ℕ) (ss : List Section) (m : PlacedModule) → 0 < p → size ≡ p + length text → module_of_sections size ss ≡ Some m → Entries section p text ss → IsApart m
 module_apart size p text ss m some ends e spelled =
     let ordered = tested (are_above 0 ss && counts_data (data_count_in ss) (length (datas_in ss))) (function_pairs (type_indices_in ss) (bodies_in ss) >>= λ fs. Some (module_from size ss fs)) m e in
-    let functions = bind_some (function_pairs (type_indices_in ss) (bodies_in ss)) (λ fs. Some (module_from size ss fs)) m ordered.1 in
+    let (functions, paired, result) =
+    bind_some (function_pairs (type_indices_in ss) (bodies_in ss)) (λ fs. Some (module_from size ss fs)) m ordered.1 in
     let code = code_lies ss p p p text [] (omega arith) (omega arith) (omega arith) spelled in
     let P : ℕ → Type 0 = IsOutside code.low code.high in
     let Q : Section → Type 0 = λ s. AllByRecursion P (other_places s) in
     let given : HaveGiven P (customs_in ss) = customs_each P None ss code.others in
-    subst IsApart (some_is (module_from size ss functions.0) m functions.2)
+    subst IsApart (some_is (module_from size ss functions) m result)
     (record {
       low = code.low;
       high = code.high;
       first = omega (arith, some, code.above);
       last = omega (arith, ends, code.below);
-      bodies = subst (λ (xs : List ℕ). Rises code.low xs code.high) (bodies_paired (type_indices_in ss) (bodies_in ss) functions.0 functions.1) code.rise;
+      bodies =
+          subst (λ (xs : List ℕ). Rises code.low xs code.high)
+          (bodies_paired (type_indices_in ss) (bodies_in ss) functions paired) code.rise;
       types = held_each TypeSection Q [] ss code.others tt;
       imports = held_each ImportSection Q [] ss code.others tt;
       tables = held_each TableSection Q [] ss code.others tt;

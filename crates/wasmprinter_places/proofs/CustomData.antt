@@ -7,14 +7,14 @@ use Rattle.std.proofs.lemmas.List.Concat.{flat_map-append}
 use Rattle.wasmprinter_spec.specs.Choices.{tested}
 use Rattle.wasmprinter_spec.specs.Grammar.{Input, input, Grammar, some_is, Placed, value_with_place}
 use Rattle.wasmprinter_spec.specs.Name.{u32, vec, name}
-use Rattle.wasmprinter_spec.specs.Lenient.{Lenient, one, repeat, unless_ended}
+use Rattle.wasmprinter_spec.specs.Lenient.{repeat}
 use Rattle.wasmprinter_spec.specs.Placed.{Custom}
-use Rattle.wasmprinter_spec.specs.Customs.{Role, Silent, Listed, Raw, name_section, hint_section, producers_section, dylink_section, producers_role, dylink_role, role_of}
+use Rattle.wasmprinter_spec.specs.Customs.{CustomRole, Silent, Listed, Raw, name_section, hint_section, producers_section, dylink_section, producers_role, dylink_role, custom_role_of}
 use Rattle.wasmprinter_spec.specs.Customs.Producers as p
 use Rattle.wasmprinter_spec.specs.Customs.Producers.{Field, are_runs}
-use Rattle.wasmprinter_spec.specs.Customs.Dylink.{Subsection, subsection, subsections, judgement_of, judgement_by, first_other}
+use Rattle.wasmprinter_spec.specs.Customs.Dylink.{Subsection, one_subsection, subsections, judgement_of, judgement_by, first_other}
 use Rattle.wasmprinter_spec.specs.Customs.Hints as h
-use Rattle.wasmprinter_spec.specs.Customs.Hints.{FunctionHints, hint, most_functions, most_hints, at_most, function_hints, or_none, hints_given}
+use Rattle.wasmprinter_spec.specs.Customs.Hints.{FunctionHints, hint, most_hinted_functions, most_hints, at_most, function_hints, or_none, hints_given}
 use Rattle.wasmprinter_spec.specs.Lines.{places, places_of_hints}
 use Rattle.wasmprinter_spec.specs.Apart.{role_places}
 use Rattle.wasmprinter_places.proofs.Order.{inside, Inside, inside_both, inside_wider}
@@ -43,49 +43,46 @@ record Reads (a e : ℕ) (xs : List Subsection) (mid : Input) : Type 0 where
   low : a ≤ mid.place
   high : mid.place + length mid.bytes ≤ e
 
-abbrev one_subsection : Lenient Subsection
-one_subsection = unless_ended (one (λ s. s ∷ []) subsection)
-
 step_reads : (a e : ℕ) (at mid : Input) (xs : List Subsection) → a ≤ at.place → at.place + length at.bytes ≤ e → one_subsection.gives at xs (Some mid) → Reads a e xs mid
 step_reads a e at mid xs low high s = elim s [
-  | inl ended ↦
-      let same : at ≡ mid = sym (some_is mid at ended.2) in
-      let none : Inside a (places xs) e = subst (λ (ys : List Subsection). Inside a (places ys) e) (sym ended.1) (omega (arith, low, high)) in
+  | inl (none_left, no_entry, stands) ↦
+      let same : at ≡ mid = sym (some_is mid at stands) in
+      let none : Inside a (places xs) e =
+      subst (λ (ys : List Subsection). Inside a (places ys) e) (sym no_entry) (omega (arith, low, high)) in
       subst (λ (i : Input). Reads a e xs i) same (record { lie = none; low = low; high = high })
   | inr more ↦ elim more.1 [
-    | inl found ↦
-        let x : Subsection × Input = found.0 in
-        let spans = found.1 in
-        let here : Inside a (places (x.0 ∷ [])) e = (omega (arith, low, spans.spelled.0), omega (arith, high, spans.spelled.0), omega (arith, low, high)) in
-        let same : x.1 ≡ mid = sym (some_is mid x.1 found.2.1) in
+    | inl ((own, after), spans, (one_entry, stands)) ↦
+        let here : Inside a (places (own ∷ [])) e =
+        (omega (arith, low, spans.spelled.0), omega (arith, high, spans.spelled.0), omega (arith, low, high)) in
+        let same : after ≡ mid = sym (some_is mid after stands) in
         subst (λ (i : Input). Reads a e xs i) same
         (record {
-          lie = subst (λ (ys : List Subsection). Inside a (places ys) e) (sym found.2.0) here;
+          lie = subst (λ (ys : List Subsection). Inside a (places ys) e) (sym one_entry) here;
           low = omega (arith, low, spans.ends);
-          high = omega (arith, high, spans.ends, ap length spans.parts, length-append spans.text x.1.bytes);
+          high = omega (arith, high, spans.ends, ap length spans.parts, length-append spans.text after.bytes);
         })
-    | inr lacks ↦ absurd (let clash : ◌≡◌ {A = Option Input} (Some mid) None = lacks.2 in cc)
+    | inr (lacking, no_entry, ended) ↦ absurd (let clash : ◌≡◌ {A = Option Input} (Some mid) None = ended in cc)
   ]
 ]
 
 none_read : (a e : ℕ) (at : Input) (xs : List Subsection) → a ≤ e → one_subsection.gives at xs None → Inside a (places xs) e
 none_read a e at xs le s = elim s [
-  | inl ended ↦ absurd (let clash : ◌≡◌ {A = Option Input} None (Some at) = ended.2 in cc)
+  | inl (none_left, no_entry, stands) ↦ absurd (let clash : ◌≡◌ {A = Option Input} None (Some at) = stands in cc)
   | inr more ↦ elim more.1 [
-    | inl found ↦ absurd (let clash : ◌≡◌ {A = Option Input} None (Some found.0.1) = found.2.1 in cc)
-    | inr lacks ↦ subst (λ (ys : List Subsection). Inside a (places ys) e) (sym lacks.1) le
+    | inl ((own, after), spans, (one_entry, stands)) ↦ absurd (let clash : ◌≡◌ {A = Option Input} None (Some after) = stands in cc)
+    | inr (lacking, no_entry, ended) ↦ subst (λ (ys : List Subsection). Inside a (places ys) e) (sym no_entry) le
   ]
 ]
 
 repeats_inside : (n a e : ℕ) (at : Input) (xs : List Subsection) (end : Option Input) → a ≤ at.place → at.place + length at.bytes ≤ e → (repeat one_subsection n).gives at xs end → Inside a (places xs) e
 repeats_inside zero a e at xs end low high s = subst (λ (ys : List Subsection). Inside a (places ys) e) (sym s.0) (omega (arith, low, high))
 repeats_inside (suc n) a e at xs end low high s = elim s [
-  | inl more ↦
-      let first = step_reads a e at more.2 more.0 low high more.3 in
-      let rest : Inside a (places more.1) e = repeats_inside n a e more.2 more.1 end first.low first.high more.4 in
-      let joined : places (more.0 ++ more.1) ≡ places more.0 ++ places more.1 = flat_map-append (λ (x : Subsection). x.place ∷ []) more.0 more.1 in
-      subst (λ (ys : List Subsection). Inside a (places ys) e) (sym more.5)
-      (subst (λ (ps : List ℕ). Inside a ps e) (sym joined) (inside_both a e (places more.0) (places more.1) first.lie rest))
+  | inl (ys, zs, mid, given, repeated, joined) ↦
+      let first = step_reads a e at mid ys low high given in
+      let rest : Inside a (places zs) e = repeats_inside n a e mid zs end first.low first.high repeated in
+      let both : places (ys ++ zs) ≡ places ys ++ places zs = flat_map-append (λ (x : Subsection). x.place ∷ []) ys zs in
+      subst (λ (us : List Subsection). Inside a (places us) e) (sym joined)
+      (subst (λ (ps : List ℕ). Inside a ps e) (sym both) (inside_both a e (places ys) (places zs) first.lie rest))
   | inr fault ↦ none_read a e at xs (omega (arith, low, high)) fault.0
 ]
 
@@ -102,11 +99,11 @@ Lies-function_hints =
 hints_inside_of : (p : ℕ) (text : List ℕ) (r : Option (List FunctionHints)) → h.hint_section.parse (input p text) ≡ r → Inside p (places_of_hints (or_none r)) (p + length text)
 hints_inside_of p text None e = omega arith
 hints_inside_of p text (Some es) e =
-    let s = h.hint_section.sound (input p text) es e in
+    let (listed, few, spelled) = h.hint_section.sound (input p text) es e in
     let all : Lies inside 0 (vec function_hints) (λ xs. places_of_hints xs) = Lies-less 1 0 (omega arith) (Lies-vec Lies-function_hints) in
-    let same : s.0 ≡ es = at_most_is most_functions s.0 es s.1 in
+    let same : listed ≡ es = at_most_is most_hinted_functions listed es few in
     inside_wider p (p + 0) (p + length text) (p + length text) (places_of_hints es) (omega arith) (omega arith)
-    (subst (λ (xs : List FunctionHints). Inside (p + 0) (places_of_hints xs) (p + length text)) same (all.lie p text s.0 s.2))
+    (subst (λ (xs : List FunctionHints). Inside (p + 0) (places_of_hints xs) (p + length text)) same (all.lie p text listed spelled))
 
 -- The hints that data gives lie within it.
 pub hints_inside : (d : Placed (List ℕ)) → Inside d.place (places_of_hints (hints_given d)) (d.place + length d.value)
@@ -115,10 +112,10 @@ hints_inside d = hints_inside_of d.place d.value (h.hint_section.parse (input d.
 -- ---- by the role
 
 module _ (a e : ℕ) (le : a ≤ e) where
-  abbrev LiesAs : Role → Type 0
+  abbrev LiesAs : CustomRole → Type 0
   LiesAs r = Inside a (role_places r) e
 
-  if_lies : (b : Bool) (r s : Role) → LiesAs r → LiesAs s → LiesAs (if b then r else s)
+  if_lies : (b : Bool) (r s : CustomRole) → LiesAs r → LiesAs s → LiesAs (if b then r else s)
   if_lies true r s h k = h
   if_lies false r s h k = k
 
@@ -132,7 +129,7 @@ module _ (a e : ℕ) (le : a ≤ e) where
   dylink_lie ss None None h = le
 
 -- What is read for the lines of a custom section lies within its data.
-pub role_inside : (c : Custom) → Inside c.bytes.place (role_places (role_of c)) (c.bytes.place + length c.bytes.value)
+pub role_inside : (c : Custom) → Inside c.bytes.place (role_places (custom_role_of c)) (c.bytes.place + length c.bytes.value)
 role_inside c =
     let a : ℕ = c.bytes.place in
     let e : ℕ = c.bytes.place + length c.bytes.value in

@@ -5,13 +5,13 @@ use Rattle.std.specs.List.{AllByRecursion, flat_map}
 use Rattle.wasmprinter_spec.specs.Grammar.{Placed}
 use Rattle.wasmprinter_spec.specs.Kinds.{Kind}
 use Rattle.wasmprinter_spec.specs.Placed.{Custom, CustomEntry}
-use Rattle.wasmprinter_spec.specs.Customs.{Role, Silent, Listed, Linked, Refused, Raw, Faulted, role_of}
+use Rattle.wasmprinter_spec.specs.Customs.{CustomRole, Silent, Listed, Linked, Refused, Raw, Faulted, custom_role_of}
 use Rattle.wasmprinter_spec.specs.Customs.Producers.{Value, Field}
-use Rattle.wasmprinter_spec.specs.Customs.Dylink.{MemInfo, ExportInfo, ImportInfo, Content, Sizes, Needed, Exports, Imports, Paths, Other, Subsection}
+use Rattle.wasmprinter_spec.specs.Customs.Dylink.{MemInfo, ExportInfo, ImportInfo, SubsectionContent, Sizes, Needed, Exports, Imports, Paths, Other, Subsection}
 use Rattle.wasmprinter_spec.specs.Options.{Answers}
 use Rattle.wasmprinter_spec.specs.Piece.{Piece, Claimed}
 use Rattle.wasmprinter_spec.specs.Layout.Groups.{close, has_break}
-use Rattle.wasmprinter_spec.specs.Layout.Customs.{place_pieces, raw_pieces, faulted_pieces, note, gap_quoted_list, values_pieces, fields_pieces, has_bit, flag_words, flags_by, flags_pieces, sizes_group, sizes_pieces, names_pieces, exports_pieces, import_infos_pieces, content_pieces, subsections_pieces, Part, Shown, Stops, role_part, custom_part, same_place, parts_at}
+use Rattle.wasmprinter_spec.specs.Layout.Customs.{place_pieces, raw_pieces, faulted_pieces, note, gap_quoted_list, values_pieces, fields_pieces, has_flag, flag_words, flags_by, flags_pieces, sizes_group, sizes_pieces, names_pieces, exports_pieces, import_infos_pieces, content_pieces, subsections_pieces, Part, Shown, Stops, role_part, custom_part, same_place, parts_at}
 use Rattle.wasmprinter_spec.specs.Lines.{places}
 use Rattle.wasmprinter_spec.specs.Apart.{IsOutside, role_places, custom_places}
 use Rattle.wasmprinter_places.proofs.Indexes.{AreElsewhere}
@@ -34,7 +34,7 @@ quoted_list_stays (s ∷ ss) = then_stay refl (then_stay refl (quoted_list_stays
 flags_by_stay : (rows : List (ℕ × List ℕ)) (rest : ℕ) → IsOneLine (flags_by rows rest)
 unfolding flags_by
 flags_by_stay [] rest = cond_stays (rest == 0) nothing_stays (then_stay refl (alone_stays refl))
-flags_by_stay (row ∷ rows) rest = cond_stays (has_bit rest row.0) (then_stay refl (then_stay refl (flags_by_stay rows (rest - row.0)))) (flags_by_stay rows rest)
+flags_by_stay (row ∷ rows) rest = cond_stays (has_flag rest row.0) (then_stay refl (then_stay refl (flags_by_stay rows (rest - row.0)))) (flags_by_stay rows rest)
 
 flags_stay : (flags : ℕ) → IsOneLine (flags_pieces flags)
 unfolding flags_pieces
@@ -106,7 +106,7 @@ module _ (low high : ℕ) where
   sizes_elsewhere place m h =
       (h, stay_elsewhere low high (both_stay (sizes_group_stays (codes "memory") m.memory_size m.memory_alignment) (both_stay (sizes_group_stays (codes "table") m.table_size m.table_alignment) (alone_stays refl))))
 
-  content_elsewhere : (place : ℕ) (c : Content) → IsOutside low high place → Elsewhere (content_pieces place c)
+  content_elsewhere : (place : ℕ) (c : SubsectionContent) → IsOutside low high place → Elsewhere (content_pieces place c)
   content_elsewhere place (Sizes m) h = sizes_elsewhere place m h
   content_elsewhere place (Needed ns) h = names_elsewhere (codes "needed") place ns h
   content_elsewhere place (Exports es) h = exports_elsewhere place es h
@@ -122,7 +122,7 @@ module _ (low high : ℕ) where
 
   -- ---- each section
 
-  role_elsewhere : (skeleton : Bool) (name : List ℕ) (place : ℕ) (bytes : List ℕ) (answer : Bool) (c : CustomEntry) (r : Role) → IsOutside low high c.section.place → IsOutside low high c.section.value.bytes.place →
+  role_elsewhere : (skeleton : Bool) (name : List ℕ) (place : ℕ) (bytes : List ℕ) (answer : Bool) (c : CustomEntry) (r : CustomRole) → IsOutside low high c.section.place → IsOutside low high c.section.value.bytes.place →
       AllByRecursion (IsOutside low high) (role_places r) → AreElsewhere low high (part_starts (role_part skeleton (Claimed name place bytes answer) c r))
   role_elsewhere skeleton name place bytes answer c Silent h k l = tt
   role_elsewhere skeleton name place bytes answer c (Listed fields) h k l = (h, note_elsewhere (codes "producers") (fields_pieces fields) (fields_elsewhere fields l))
@@ -133,9 +133,9 @@ module _ (low high : ℕ) where
 
   custom_elsewhere : (skeleton answer : Bool) (c : CustomEntry) → AllByRecursion (IsOutside low high) (custom_places c) → AreElsewhere low high (part_starts (custom_part skeleton answer c))
   custom_elsewhere skeleton true c h = tt
-  custom_elsewhere skeleton false c h =
+  custom_elsewhere skeleton false c (section, (content, others)) =
       let s : Custom = c.section.value in
-      role_elsewhere skeleton s.name s.bytes.place s.bytes.value false c (role_of s) h.0 h.1.0 h.1.1
+      role_elsewhere skeleton s.name s.bytes.place s.bytes.value false c (custom_role_of s) section content others
 
   if_elsewhere : (b : Bool) (part : Part) (parts : List Part) → AreElsewhere low high (part_starts part) → AreElsewhere low high (part_lines parts) →
       AreElsewhere low high (part_lines (if b then part ∷ parts else parts))

@@ -9,7 +9,7 @@ use Rattle.wasmprinter_spec.specs.Row.{Space, Func, Tag}
 use Rattle.wasmprinter_spec.specs.Names.{Names}
 use Rattle.wasmprinter_spec.specs.Operator.{Operator}
 use Rattle.wasmprinter_spec.specs.Indexed.{space_of}
-use Rattle.wasmprinter_spec.specs.Placed.{TypeGroup, Import, Table, Global, Mode, Passive, Declared, Active, Items, Functions, Expressions, ElementEntry, DataMode, PassiveData, ActiveData, Data, Export}
+use Rattle.wasmprinter_spec.specs.Placed.{TypeGroup, Import, Table, Global, ElementMode, Passive, Declared, Active, Items, Functions, Expressions, ElementEntry, DataMode, PassiveData, ActiveData, Data, Export}
 use Rattle.wasmprinter_spec.specs.Piece.{Piece, Break}
 use Rattle.wasmprinter_spec.specs.Layout.Groups.{has_break, close, group, numbered_pieces}
 use Rattle.wasmprinter_spec.specs.Layout.Declarations.{Scope, Folding, item_declaration, item_index}
@@ -25,7 +25,8 @@ use Rattle.wasmprinter_spec.specs.Layout.Imports.{Numbers, number_of, numbers_be
 use Rattle.wasmprinter_spec.specs.Layout.Exports.{kind_word, extern_index_pieces, export_pieces}
 use Rattle.wasmprinter_spec.specs.Layout.Elements.{named_table, mode_pieces, function_items, expression_items, items_pieces, shown_items, element_pieces}
 use Rattle.wasmprinter_spec.specs.Layout.DataSegments.{named_memory, data_mode_pieces, shown_bytes, data_pieces}
-use Rattle.wasmprinter_spec.specs.Layout.{tag_pieces, start_pieces}
+use Rattle.wasmprinter_spec.specs.Layout.Tags.{tag_pieces}
+use Rattle.wasmprinter_spec.specs.Layout.Start.{start_pieces}
 use Rattle.wasmprinter_spec.specs.Lines.{places}
 use Rattle.wasmprinter_spec.specs.Apart.{IsOutside, member_places, group_places, start_places}
 use Rattle.wasmprinter_places.proofs.Indexes.{AreElsewhere}
@@ -254,7 +255,7 @@ pub named_table_stays : (s : Scope) (b : Bool) (t : ℕ) → IsOneLine (named_ta
 named_table_stays s true t = then_stay refl (line_group_gap_stays (codes "table") (item_stays s row.Table t))
 named_table_stays s false t = nothing_stays
 
-mode_stays : (s : Scope) → s.folding ≡ None → (b : Bool) (m : Mode (Placed Operator)) → IsOneLine (mode_pieces s b m)
+mode_stays : (s : Scope) → s.folding ≡ None → (b : Bool) (m : ElementMode (Placed Operator)) → IsOneLine (mode_pieces s b m)
 unfolding mode_pieces
 mode_stays s flat b Passive = nothing_stays
 mode_stays s flat b Declared = then_stay refl (alone_stays refl)

@@ -21,7 +21,9 @@ line_has [] number place k e = absurd cc
 line_has (line ∷ lines) number place k e =
     elim (chosen (has_place place line.0) (Some number) (line_from (number + 1) place lines) (Some k) e) [
       | inl here ↦ (0, omega (arith, some_is number k here.1), ap (λ (x : Option ℕ). Some x) (has_place_true place line.0 here.0))
-      | inr on ↦ let rest = line_has lines (number + 1) place k on.1 in (suc rest.0, omega (arith, rest.1), rest.2)
+      | inr on ↦
+          let (index, counted, has) = line_has lines (number + 1) place k on.1 in
+          (suc index, omega (arith, counted), has)
     ]
 
 -- A line with the place is found.
@@ -41,30 +43,31 @@ line_found (line ∷ lines) number place (suc j) e =
 -- Whatever the lines are.
 pub finds_place : FindsPlace
 finds_place m lines i j number place e =
-    let o = bind_some (operator_at m i j) (λ o. line_from 0 o.place lines >>= λ k. Some (k, o.place)) (number, place) e in
-    let k = bind_some (line_from 0 o.0.place lines) (λ k. Some (k, o.0.place)) (number, place) o.2 in
-    let same = some_is (k.0, o.0.place) (number, place) k.2 in
-    let n : k.0 ≡ number = ap (λ (x : ℕ × ℕ). x.0) same in
-    let p : o.0.place ≡ place = ap (λ (x : ℕ × ℕ). x.1) same in
-    let has = line_has lines 0 o.0.place k.0 k.1 in
-    let index : has.0 ≡ number = omega (arith, has.1, n) in (
-      o.0,
-      o.1,
-      sym p,
-      subst (λ (x : ℕ). slice_get (line_places lines) x ≡ Some (Some place)) index
-          (subst (λ (q : ℕ). slice_get (line_places lines) has.0 ≡ Some (Some q)) p has.2),
+    let (own, is_there, rest) =
+    bind_some (operator_at m i j) (λ o. line_from 0 o.place lines >>= λ k. Some (k, o.place)) (number, place) e in
+    let (found, is_found, result) = bind_some (line_from 0 own.place lines) (λ k. Some (k, own.place)) (number, place) rest in
+    let same = some_is (found, own.place) (number, place) result in
+    let is_number : found ≡ number = ap (λ (x : ℕ × ℕ). x.0) same in
+    let is_place : own.place ≡ place = ap (λ (x : ℕ × ℕ). x.1) same in
+    let (index, counted, has) = line_has lines 0 own.place found is_found in
+    let is_index : index ≡ number = omega (arith, counted, is_number) in (
+      own,
+      is_there,
+      sym is_place,
+      subst (λ (x : ℕ). slice_get (line_places lines) x ≡ Some (Some place)) is_index
+          (subst (λ (q : ℕ). slice_get (line_places lines) index ≡ Some (Some q)) is_place has),
     )
 
 -- the only line with the place is found
 pub only_found : (m : PlacedModule) (lines : List TextLine) (i j number : ℕ) (a : Placed Operator) → operator_at m i j ≡ Some a → IsOnlyLine (line_places lines) a.place number →
     (n : ℕ) × (place_of m lines i j ≡ Some (n, a.place)) × IsOnlyLine (line_places lines) a.place n
 only_found m lines i j number a e only =
-    let found = line_found lines 0 a.place number only.has in
-    let has = line_has lines 0 a.place found.0 found.1 in
-    let same : number ≡ found.0 = omega (arith, has.1, only.only has.0 has.2) in (
-      found.0,
+    let (found, is_found) = line_found lines 0 a.place number only.has in
+    let (index, counted, has) = line_has lines 0 a.place found is_found in
+    let same : number ≡ found = omega (arith, counted, only.only index has) in (
+      found,
       ap (λ (x : Option (Placed Operator)). x >>= λ o. line_from 0 o.place lines >>= λ k. Some (k, o.place)) e
-          ∙ ap (λ (x : Option ℕ). x >>= λ k. Some (k, a.place)) found.1,
+          ∙ ap (λ (x : Option ℕ). x >>= λ k. Some (k, a.place)) is_found,
       subst (IsOnlyLine (line_places lines) a.place) same only,
     )
 
@@ -72,9 +75,9 @@ pub finds_line : FindsLine
 finds_line bytes m o answers spelled whole unfolded laid i j =
     let lines : List TextLine = lines_of (layout o answers m) in (
       λ a e.
-          let f = bind_some (slice_get m.functions i) (λ f. slice_get f.body.value.operators j) a e in
-          let has = function_lines bytes m o answers spelled whole unfolded laid i f.0 f.1 in
-          let line = (has.at_operator j a f.2).among_all in
+          let (own, is_there, operator) = bind_some (slice_get m.functions i) (λ f. slice_get f.body.value.operators j) a e in
+          let has = function_lines bytes m o answers spelled whole unfolded laid i own is_there in
+          let line = (has.at_operator j a operator).among_all in
           only_found m lines i j line.0 a e line.1,
       λ e. ap (λ (x : Option (Placed Operator)). x >>= λ o. line_from 0 o.place lines >>= λ k. Some (k, o.place)) e,
     )

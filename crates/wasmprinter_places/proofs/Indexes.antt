@@ -49,20 +49,9 @@ module _ (low high : ℕ) where
   abbrev pub AreElsewhere : List (Option ℕ) → Type 0
   AreElsewhere xs = AllByRecursion (IsElsewhere low high) xs
 
-  pub only_elsewhere : (p : ℕ) (xs : List (Option ℕ)) → AreElsewhere xs → RisesAmong low high p xs
-  only_elsewhere p [] h = tt
-  only_elsewhere p (x ∷ xs) h = inl (h.0, only_elsewhere p xs h.1)
-
   pub elsewhere_first : (p : ℕ) (xs ys : List (Option ℕ)) → AreElsewhere xs → RisesAmong low high p ys → RisesAmong low high p (xs ++ ys)
   elsewhere_first p [] ys h k = k
   elsewhere_first p (x ∷ xs) ys h k = inl (h.0, elsewhere_first p xs ys h.1 k)
-
-  pub elsewhere_last : (p : ℕ) (xs ys : List (Option ℕ)) → RisesAmong low high p xs → AreElsewhere ys → RisesAmong low high p (xs ++ ys)
-  elsewhere_last p [] ys h k = only_elsewhere p ys k
-  elsewhere_last p (x ∷ xs) ys h k = elim h [
-    | inl out ↦ inl (out.0, elsewhere_last p xs ys out.1 k)
-    | inr up ↦ inr (up.0, up.1, up.2, elsewhere_last (up.0 + 1) xs ys up.3 k)
-  ]
 
   -- A place of the interval that stands somewhere is not below the bound.
   at_least : (xs : List (Option ℕ)) (p n x : ℕ) → RisesAmong low high p xs → low ≤ x → x < high → slice_get xs n ≡ Some (Some x) → p ≤ x
@@ -73,13 +62,13 @@ module _ (low high : ℕ) where
         | inl out ↦
             let o : IsOutside low high x = subst (IsElsewhere low high) here out.0 in
             elim o [ inl less ↦ absurd (omega (arith, less, above)) | inr past ↦ absurd (omega (arith, past, below)) ]
-        | inr up ↦
-            let same : up.0 ≡ x = some_is up.0 x (sym up.1 ∙ here) in
-            omega (arith, up.2, same)
+        | inr (place, stands, from, rises) ↦
+            let same : place ≡ x = some_is place x (sym stands ∙ here) in
+            omega (arith, from, same)
       ]
   at_least (y ∷ xs) p (suc n) x h above below e = elim h [
     | inl out ↦ at_least xs p n x out.1 above below e
-    | inr up ↦ omega (arith, up.2, at_least xs (up.0 + 1) n x up.3 above below e)
+    | inr (place, stands, from, rises) ↦ omega (arith, from, at_least xs (place + 1) n x rises above below e)
   ]
 
   once_first : (y : Option ℕ) (xs : List (Option ℕ)) (p n x : ℕ) → RisesAmong low high p (y ∷ xs) → low ≤ x → x < high → ◌≡◌ {A = Option (Option ℕ)} (Some y) (Some (Some x)) → slice_get xs n ≡ Some (Some x) → ⊥
@@ -89,9 +78,9 @@ module _ (low high : ℕ) where
         | inl out ↦
             let o : IsOutside low high x = subst (IsElsewhere low high) here out.0 in
             elim o [ inl less ↦ omega (arith, less, above) | inr past ↦ omega (arith, past, below) ]
-        | inr up ↦
-            let same : up.0 ≡ x = some_is up.0 x (sym up.1 ∙ here) in
-            omega (arith, same, at_least xs (up.0 + 1) n x up.3 above below f)
+        | inr (place, stands, from, rises) ↦
+            let same : place ≡ x = some_is place x (sym stands ∙ here) in
+            omega (arith, same, at_least xs (place + 1) n x rises above below f)
       ]
 
   -- A place of the interval stands once.
@@ -102,7 +91,7 @@ module _ (low high : ℕ) where
   once (y ∷ xs) p (suc n) zero x h above below e f = absurd (once_first y xs p n x h above below f e)
   once (y ∷ xs) p (suc n) (suc k) x h above below e f = elim h [
     | inl out ↦ ap suc (once xs p n k x out.1 above below e f)
-    | inr up ↦ ap suc (once xs (up.0 + 1) n k x up.3 above below e f)
+    | inr (place, stands, from, rises) ↦ ap suc (once xs (place + 1) n k x rises above below e f)
   ]
 
   -- a lower bound
@@ -110,13 +99,19 @@ module _ (low high : ℕ) where
   among_from [] p q le h = tt
   among_from (x ∷ xs) p q le h = elim h [
     | inl out ↦ inl (out.0, among_from xs p q le out.1)
-    | inr up ↦ inr (up.0, up.1, omega (arith, le, up.2), up.3)
+    | inr (place, stands, from, rises) ↦ inr (place, stands, omega (arith, le, from), rises)
   ]
 
   dropped : (drop : Bool) (x : Option ℕ) (xs ys : List (Option ℕ)) (p : ℕ) → RisesAmong low high p (x ∷ xs) → ((q : ℕ) → RisesAmong low high q xs → RisesAmong low high q ys) →
       RisesAmong low high p (cond drop ys (x ∷ ys))
-  dropped false x xs ys p h rest = elim h [ inl out ↦ inl (out.0, rest p out.1) | inr up ↦ inr (up.0, up.1, up.2, rest (up.0 + 1) up.3) ]
-  dropped true x xs ys p h rest = elim h [ inl out ↦ rest p out.1 | inr up ↦ among_from ys p (up.0 + 1) (omega (arith, up.2)) (rest (up.0 + 1) up.3) ]
+  dropped false x xs ys p h rest = elim h [
+    | inl out ↦ inl (out.0, rest p out.1)
+    | inr (place, stands, from, rises) ↦ inr (place, stands, from, rest (place + 1) rises)
+  ]
+  dropped true x xs ys p h rest = elim h [
+    | inl out ↦ rest p out.1
+    | inr (place, stands, from, rises) ↦ among_from ys p (place + 1) (omega (arith, from)) (rest (place + 1) rises)
+  ]
 
   -- Some lines left out, the others rise still.
   pub rises_kept : (ps : List ℕ) (xs : List (Option ℕ)) (p : ℕ) → RisesAmong low high p xs → RisesAmong low high p (lines_without ps xs)
@@ -142,6 +137,12 @@ module _ (low high : ℕ) where
   -- lines with places elsewhere may stand between
   pub follows_elsewhere : (ls : List (Option ℕ)) → AreElsewhere ls → Follows [] ls
   follows_elsewhere ls out p more others h k = elsewhere_first p ls others out (k p h)
+
+  -- or behind them
+  pub follows_then : (ps : List ℕ) (ls ms : List (Option ℕ)) → Follows ps ls → AreElsewhere ms → Follows ps (ls ++ ms)
+  follows_then ps ls ms first out p more others h k =
+      subst (RisesAmong low high p) (sym (append_assoc ls ms others))
+      (first p more (ms ++ others) h (λ q rest. elsewhere_first q ms others out (k q rest)))
 
   pub follows_both : (ps qs : List ℕ) (ls ms : List (Option ℕ)) → Follows ps ls → Follows qs ms → Follows (ps ++ qs) (ls ++ ms)
   follows_both ps qs ls ms first second p more others h k =

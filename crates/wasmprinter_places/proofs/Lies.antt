@@ -5,7 +5,7 @@ use Rattle.std.proofs.lemmas.List.{length-append}
 use Rattle.wasmprinter_spec.specs.Grammar.{Grammar, Remainder, some_is, byte, seq, try_map, map_value, Placed, value_with_place}
 use Rattle.wasmprinter_spec.specs.Leb.{IsUnsigned}
 use Rattle.wasmprinter_spec.specs.Name.{u32, vec}
-use Rattle.wasmprinter_spec.specs.Repeated.{Items, times, Entries}
+use Rattle.wasmprinter_spec.specs.Repeated.{AreItems, times, Entries}
 use Rattle.wasmprinter_spec.specs.Sized.{alone, exactly}
 use Rattle.wasmprinter_spec.specs.Operator.{Operator}
 use Rattle.wasmprinter_spec.specs.Instructions.{end_byte, operator, expression}
@@ -34,21 +34,21 @@ Lies-u32 {o} = record { lie = λ p text n s. o.none (p + 1) (p + length text) (o
 pub Lies-seq : {o : Order} {A B : Type 0} {n m : ℕ} {g : Grammar A} {h : A → Grammar B} {f : A → List ℕ} {k : A → B → List ℕ} →
     Lies o n g f → ((a : A) → Lies o m (h a) (k a)) → Lies o n (seq g h) (λ x. f x.0 ++ k x.0 x.1)
 Lies-seq {o} {n} {m} {f} {k} first second = record {
-  lie = λ p text x s.
-      o.joined (p + n) (p + length s.0) (p + length text) (f x.0) (k x.0 x.1)
-      (first.lie p s.0 x.0 s.3)
-      (wider o (p + length s.0) (p + length s.0 + m) (p + length s.0 + length s.1) (p + length text) (k x.0 x.1)
-      (omega arith) (omega (arith, ap length s.2, length-append s.0 s.1)) ((second x.0).lie (p + length s.0) s.1 x.1 s.4));
+  lie = λ p text x (t, u, joined, first_spelled, second_spelled).
+      o.joined (p + n) (p + length t) (p + length text) (f x.0) (k x.0 x.1)
+      (first.lie p t x.0 first_spelled)
+      (wider o (p + length t) (p + length t + m) (p + length t + length u) (p + length text) (k x.0 x.1)
+      (omega arith) (omega (arith, ap length joined, length-append t u)) ((second x.0).lie (p + length t) u x.1 second_spelled));
 }
 
 -- A value that shows no place, and then another, whose places lie behind both their first bytes.
 pub Lies-behind : {o : Order} {A B : Type 0} {n m : ℕ} {g : Grammar A} {h : A → Grammar B} {k : A → B → List ℕ} →
     Lies o n g (λ a. []) → ((a : A) → Lies o m (h a) (k a)) → Lies o (n + m) (seq g h) (λ x. k x.0 x.1)
 Lies-behind {o} {n} {m} {k} first second = record {
-  lie = λ p text x s.
-      let long : p + n ≤ p + length s.0 = o.ends (p + n) (p + length s.0) [] (first.lie p s.0 x.0 s.3) in
-      wider o (p + (n + m)) (p + length s.0 + m) (p + length s.0 + length s.1) (p + length text) (k x.0 x.1)
-      (omega (arith, long)) (omega (arith, ap length s.2, length-append s.0 s.1)) ((second x.0).lie (p + length s.0) s.1 x.1 s.4);
+  lie = λ p text x (t, u, joined, first_spelled, second_spelled).
+      let long : p + n ≤ p + length t = o.ends (p + n) (p + length t) [] (first.lie p t x.0 first_spelled) in
+      wider o (p + (n + m)) (p + length t + m) (p + length t + length u) (p + length text) (k x.0 x.1)
+      (omega (arith, long)) (omega (arith, ap length joined, length-append t u)) ((second x.0).lie (p + length t) u x.1 second_spelled);
 }
 
 -- A bound on fewer bytes.
@@ -61,7 +61,8 @@ Lies-less {o} n m {f} le all = record {
 pub Lies-mapped : {o : Order} {A B : Type 0} {n : ℕ} {f : A → Option B} {g : Grammar A} {shown : A → List ℕ} {known : B → List ℕ} →
     ((a : A) (b : B) → f a ≡ Some b → shown a ≡ known b) → Lies o n g shown → Lies o n (try_map f g) known
 Lies-mapped {o} {n} same all = record {
-  lie = λ p text b s. subst (λ (xs : List ℕ). o.holds (p + n) xs (p + length text)) (same s.0 b s.1) (all.lie p text s.0 s.2);
+  lie = λ p text b (a, made, spelled).
+      subst (λ (xs : List ℕ). o.holds (p + n) xs (p + length text)) (same a b made) (all.lie p text a spelled);
 }
 
 pub Lies-map_value : {o : Order} {A B : Type 0} {n : ℕ} {f : A → B} {g : Grammar A} (shown : B → List ℕ) → Lies o n g (λ a. shown (f a)) → Lies o n (map_value f g) shown
@@ -90,15 +91,15 @@ LiesIn-alone all = record { lie = λ p text a s. all.lie p text a s }
 pub Lies-exactly : {o : Order} {A : Type 0} {n : ℕ} {w : Remainder A} {shown : A → List ℕ} → LiesIn o n w shown → (size : ℕ) → Lies o n (exactly w size) shown
 Lies-exactly all size = record { lie = λ p text a s. all.lie p text a s.1 }
 
--- Items that stand one after the other.
+-- AreItems that stand one after the other.
 pub items_lie : {o : Order} {A : Type 0} {g : Grammar A} {shown : A → List ℕ} → Lies o 0 g shown →
-    (xs : List A) (p : ℕ) (text : List ℕ) → Items g p text xs → o.holds p (flat_map shown xs) (p + length text)
+    (xs : List A) (p : ℕ) (text : List ℕ) → AreItems g p text xs → o.holds p (flat_map shown xs) (p + length text)
 items_lie {o} all [] p text s = o.none p (p + length text) (omega arith)
-items_lie {o} {shown} all (x ∷ xs) p text s =
-    o.joined p (p + length s.0) (p + length text) (shown x) (flat_map shown xs)
-    (wider o p (p + 0) (p + length s.0) (p + length s.0) (shown x) (omega arith) (omega arith) (all.lie p s.0 x s.3))
-    (wider o (p + length s.0) (p + length s.0) (p + length s.0 + length s.1) (p + length text) (flat_map shown xs)
-    (omega arith) (omega (arith, ap length s.2, length-append s.0 s.1)) (items_lie all xs (p + length s.0) s.1 s.4))
+items_lie {o} {shown} all (x ∷ xs) p text (t, u, joined, spelled, all_spelled) =
+    o.joined p (p + length t) (p + length text) (shown x) (flat_map shown xs)
+    (wider o p (p + 0) (p + length t) (p + length t) (shown x) (omega arith) (omega arith) (all.lie p t x spelled))
+    (wider o (p + length t) (p + length t) (p + length t + length u) (p + length text) (flat_map shown xs)
+    (omega arith) (omega (arith, ap length joined, length-append t u)) (items_lie all xs (p + length t) u all_spelled))
 
 pub Lies-times : {o : Order} {A : Type 0} {g : Grammar A} {shown : A → List ℕ} → Lies o 0 g shown → (n : ℕ) → Lies o 0 (times g n) (λ xs. flat_map shown xs)
 Lies-times {o} {shown} all n = record {
@@ -112,24 +113,23 @@ Lies-vec {shown} all = Lies-map_value (λ xs. flat_map shown xs) (Lies-less (1 +
 -- Operators up to the `end` that closes them, which has a place behind all of theirs.
 pub Lies-expression : {o : Order} → Lies o 0 (value_with_place operator) (λ x. x.place ∷ []) → Lies o 0 expression (λ x. flat_map (λ y. y.place ∷ []) x.items ++ (x.end ∷ []))
 Lies-expression {o} all = record {
-  lie = λ p text x s.
-      let t : List ℕ = s.0 in
+  lie = λ p text x (t, joined, all_spelled, nested, end_place).
       let shown : List ℕ = flat_map (λ (y : Placed Operator). y.place ∷ []) x.items in
-      let items : o.holds p shown (p + length t) = items_lie all x.items p t s.2 in
+      let items : o.holds p shown (p + length t) = items_lie all x.items p t all_spelled in
       let last : o.holds (p + length t) ((p + length t) ∷ []) (p + length text) =
-      o.one (p + length t) (p + length text) (omega (arith, ap length s.1, length-append t (end_byte ∷ []))) in
+      o.one (p + length t) (p + length text) (omega (arith, ap length joined, length-append t (end_byte ∷ []))) in
       let whole = o.joined p (p + length t) (p + length text) shown ((p + length t) ∷ []) items last in
       let named : o.holds p (shown ++ (x.end ∷ [])) (p + length text) =
-      subst (λ (q : ℕ). o.holds p (shown ++ (q ∷ [])) (p + length text)) (sym s.4) whole in
+      subst (λ (q : ℕ). o.holds p (shown ++ (q ∷ [])) (p + length text)) (sym end_place) whole in
       wider o (p + 0) p (p + length text) (p + length text) (shown ++ (x.end ∷ [])) (omega arith) (omega arith) named;
 }
 
--- Items up to the end of the bytes.
+-- AreItems up to the end of the bytes.
 pub entries_lie : {o : Order} {A : Type 0} {g : Grammar A} {shown : A → List ℕ} → Lies o 0 g shown →
     (xs : List A) (p : ℕ) (text : List ℕ) → Entries g p text xs → o.holds p (flat_map shown xs) (p + length text)
 entries_lie {o} all [] p text s = o.none p (p + length text) (omega arith)
-entries_lie {o} {shown} all (x ∷ xs) p text s =
-    o.joined p (p + length s.0) (p + length text) (shown x) (flat_map shown xs)
-    (wider o p (p + 0) (p + length s.0) (p + length s.0) (shown x) (omega arith) (omega arith) (all.lie p s.0 x s.4))
-    (wider o (p + length s.0) (p + length s.0) (p + length s.0 + length s.1) (p + length text) (flat_map shown xs)
-    (omega arith) (omega (arith, ap length s.2, length-append s.0 s.1)) (entries_lie all xs (p + length s.0) s.1 s.5))
+entries_lie {o} {shown} all (x ∷ xs) p text (t, u, joined, takes, spelled, all_spelled) =
+    o.joined p (p + length t) (p + length text) (shown x) (flat_map shown xs)
+    (wider o p (p + 0) (p + length t) (p + length t) (shown x) (omega arith) (omega arith) (all.lie p t x spelled))
+    (wider o (p + length t) (p + length t) (p + length t + length u) (p + length text) (flat_map shown xs)
+    (omega arith) (omega (arith, ap length joined, length-append t u)) (entries_lie all xs (p + length t) u all_spelled))

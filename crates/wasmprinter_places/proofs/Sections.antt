@@ -6,7 +6,7 @@ use Rattle.wasmprinter_spec.specs.Grammar.{Remainder, Placed, value_with_place, 
 use Rattle.wasmprinter_spec.specs.Name.{u32, vec}
 use Rattle.wasmprinter_spec.specs.Types.{SubType}
 use Rattle.wasmprinter_spec.specs.Placed.{TypeGroup, type_group, Custom, custom_of}
-use Rattle.wasmprinter_spec.specs.Customs.{role_of}
+use Rattle.wasmprinter_spec.specs.Customs.{custom_role_of}
 use Rattle.wasmprinter_spec.specs.Customs.Hints.{hints_given}
 use Rattle.wasmprinter_spec.specs.Binary.Types.{subtype, sub_type_behind, group}
 use Rattle.wasmprinter_spec.specs.Binary.Imports.{import}
@@ -35,29 +35,35 @@ all_same low q high (t ∷ ts) above below = (above, below, all_same low q high 
 members_lie : (b : Bool) (first p place : ℕ) (text : List ℕ) (g : TypeGroup) → place + 1 ≡ p →
     (choose b (map_value (type_group true) (vec subtype)) (map_value (λ t. type_group false (t ∷ [])) (sub_type_behind first))).spells p text g →
     Inside place (member_places g.written place g.types) (p + length text)
-members_lie true first p place text g next s =
+members_lie true first p place text g next (types, made, spelled) =
     let count : Lies inside 1 (vec subtype) (λ ts. flat_map (λ t. []) ts) = Lies-vec (Lies-any subtype) in
-    let long : p + 1 ≤ p + length text = inside_ends (p + 1) (p + length text) (flat_map (λ t. []) s.0) (count.lie p text s.0 s.2) in
-    subst (λ (x : TypeGroup). Inside place (member_places x.written place x.types) (p + length text)) (some_is (type_group true s.0) g s.1)
-    (all_same place (place + 2) (p + length text) s.0 (omega arith) (omega (arith, next, long)))
-members_lie false first p place text g next s =
-    subst (λ (x : TypeGroup). Inside place (member_places x.written place x.types) (p + length text)) (some_is (type_group false (s.0 ∷ [])) g s.1)
+    let long : p + 1 ≤ p + length text =
+    inside_ends (p + 1) (p + length text) (flat_map (λ t. []) types) (count.lie p text types spelled) in
+    subst (λ (x : TypeGroup). Inside place (member_places x.written place x.types) (p + length text))
+    (some_is (type_group true types) g made)
+    (all_same place (place + 2) (p + length text) types (omega arith) (omega (arith, next, long)))
+members_lie false first p place text g next (type, made, spelled) =
+    subst (λ (x : TypeGroup). Inside place (member_places x.written place x.types) (p + length text))
+    (some_is (type_group false (type ∷ [])) g made)
     (omega (arith, next))
 
 group_lies : (p : ℕ) (text : List ℕ) (g : Placed TypeGroup) → (value_with_place group).spells p text g → Inside p (group_places g) (p + length text)
-group_lies p text g s =
-    let parts = s.1.2 in
-    let a : ℕ × TypeGroup = s.1.0 in
-    let same : a.1 ≡ g.value = some_is a.1 g.value s.1.1 in
-    let one : length parts.0 ≡ 1 = ap length parts.3 in
-    let long : length text ≡ length parts.0 + length parts.1 = omega (arith, ap length parts.2, length-append parts.0 parts.1) in
-    let members : Inside p (member_places a.1.written p a.1.types) (p + length parts.0 + length parts.1) =
-    members_lie (a.0 == 0x4e) a.0 (p + length parts.0) p parts.1 a.1 (omega (arith, one)) parts.4 in
-    let named : Inside p (member_places g.value.written p g.value.types) (p + length parts.0 + length parts.1) =
-    subst (λ (x : TypeGroup). Inside p (member_places x.written p x.types) (p + length parts.0 + length parts.1)) same members in
-    let there : Inside p (member_places g.value.written g.place g.value.types) (p + length parts.0 + length parts.1) =
-    subst (λ (q : ℕ). Inside p (member_places g.value.written q g.value.types) (p + length parts.0 + length parts.1)) (sym s.0) named in
-    (omega (arith, s.0), omega (arith, s.0), inside_wider p p (p + length parts.0 + length parts.1) (p + length text) (member_places g.value.written g.place g.value.types) (omega arith) (omega (arith, long)) there)
+group_lies p text g (here, ((first, own), made, (front, back, joined, byte, spelled))) =
+    let same : own ≡ g.value = some_is own g.value made in
+    let one : length front ≡ 1 = ap length byte in
+    let long : length text ≡ length front + length back = omega (arith, ap length joined, length-append front back) in
+    let end : ℕ = p + length front + length back in
+    let members : Inside p (member_places own.written p own.types) end =
+    members_lie (first == 0x4e) first (p + length front) p back own (omega (arith, one)) spelled in
+    let named : Inside p (member_places g.value.written p g.value.types) end =
+    subst (λ (x : TypeGroup). Inside p (member_places x.written p x.types) end) same members in
+    let shown : List ℕ = member_places g.value.written g.place g.value.types in
+    let there : Inside p shown end =
+    subst (λ (q : ℕ). Inside p (member_places g.value.written q g.value.types) end) (sym here) named in (
+      omega (arith, here),
+      omega (arith, here),
+      inside_wider p p end (p + length text) shown (omega arith) (omega (arith, long)) there,
+    )
 
 Lies-group : Lies inside 0 (value_with_place group) group_places
 Lies-group = record { lie = λ p text g s. inside_wider (p + 0) p (p + length text) (p + length text) (group_places g) (omega arith) (omega arith) (group_lies p text g s) }
@@ -66,24 +72,24 @@ Lies-group = record { lie = λ p text g s. inside_wider (p + 0) p (p + length te
 
 -- what a custom section shows: its lines' places, and those of the hints that its data would give
 abbrev pub given_places : Placed Custom → List ℕ
-given_places c = c.place ∷ (c.value.bytes.place ∷ (role_places (role_of c.value) ++ places_of_hints (hints_given c.value.bytes)))
+given_places c = c.place ∷ (c.value.bytes.place ∷ (role_places (custom_role_of c.value) ++ places_of_hints (hints_given c.value.bytes)))
 
 LiesIn-custom : LiesIn inside 0 custom_section given_places
 LiesIn-custom = record {
   lie = λ p text c s.
-      let x = s.1.0 in
-      let parts = s.1.2 in
+      let (here, ((title, bytes), made, (front, back, joined, named, (data_place, all_left)))) = s in
       let own : Custom = c.value in
-      let same : custom_of x.0 x.1 ≡ own = some_is (custom_of x.0 x.1) own s.1.1 in
-      let place : own.bytes.place ≡ p + length parts.0 = ap (λ (y : Custom). y.bytes.place) (sym same) ∙ parts.4.0 in
-      let data_length : length own.bytes.value ≡ length parts.1 = ap (λ (y : Custom). length y.bytes.value) (sym same) ∙ ap length parts.4.1 in
-      let long : length text ≡ length parts.0 + length parts.1 = omega (arith, ap length parts.2, length-append parts.0 parts.1) in
+      let same : custom_of title bytes ≡ own = some_is (custom_of title bytes) own made in
+      let place : own.bytes.place ≡ p + length front = ap (λ (y : Custom). y.bytes.place) (sym same) ∙ data_place in
+      let data_length : length own.bytes.value ≡ length back =
+      ap (λ (y : Custom). length y.bytes.value) (sym same) ∙ ap length all_left in
+      let long : length text ≡ length front + length back = omega (arith, ap length joined, length-append front back) in
       let start : ℕ = own.bytes.place in
       let end : ℕ = own.bytes.place + length own.bytes.value in
-      let shown : List ℕ = role_places (role_of own) ++ places_of_hints (hints_given own.bytes) in
-      let both : Inside start shown end = inside_both start end (role_places (role_of own)) (places_of_hints (hints_given own.bytes)) (role_inside own) (hints_inside own.bytes) in
+      let shown : List ℕ = role_places (custom_role_of own) ++ places_of_hints (hints_given own.bytes) in
+      let both : Inside start shown end = inside_both start end (role_places (custom_role_of own)) (places_of_hints (hints_given own.bytes)) (role_inside own) (hints_inside own.bytes) in
       let inner : Inside (p + 0) shown (p + length text) = inside_wider (p + 0) start end (p + length text) shown (omega (arith, place)) (omega (arith, place, long, data_length)) both in
-      (omega (arith, s.0), omega (arith, s.0), (omega (arith, place), omega (arith, place, long), inner));
+      (omega (arith, here), omega (arith, here), (omega (arith, place), omega (arith, place, long), inner));
 }
 
 -- ---- sections

@@ -1,0 +1,1 @@
+-- This crate's laws are of the definitions alone: its contracts cite those of wasmprinter_spec.

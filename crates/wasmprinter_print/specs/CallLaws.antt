@@ -6,8 +6,8 @@ use Rattle.wasmprinter_spec.specs.Meaning.{Meaning, Succeeded, Failed}
 use Rattle.wasmprinter_print.specs.Emits.{Emits, Made, Ending, Through, AtCall}
 
 -- a function's answer is this error
-abbrev pub Answers : Result (Unit {0}) IoError → IoError → Type 0
-Answers r e = IsErrAnd r (λ y. y ≡ e)
+abbrev pub AnswersError : Result (Unit {0}) IoError → IoError → Type 0
+AnswersError r e = IsErrAnd r (λ y. y ≡ e)
 
 module _ {P : Type 0} (m : Meaning P) where
   -- ---- parts of a layout
@@ -18,11 +18,14 @@ module _ {P : Type 0} (m : Meaning P) where
 
   -- a part that failed, whatever would have come after it
   abbrev pub BreaksOff : Type 0
-  BreaksOff = (a t : P) (r : Result (Unit {0}) IoError) (e : IoError) (l k : List Call) → Made m a t (AtCall e) l → Answers r e → Emits m a t r (l ++ k)
+  BreaksOff =
+      (a t : P) (r : Result (Unit {0}) IoError) (e : IoError) (l k : List Call) → Made m a t (AtCall e) l → AnswersError r e →
+      Emits m a t r (l ++ k)
 
   -- the last part failed
   abbrev pub FailsAtLast : Type 0
-  FailsAtLast = (a t : P) (r : Result (Unit {0}) IoError) (e : IoError) (l : List Call) → Made m a t (AtCall e) l → Answers r e → Emits m a t r l
+  FailsAtLast =
+      (a t : P) (r : Result (Unit {0}) IoError) (e : IoError) (l : List Call) → Made m a t (AtCall e) l → AnswersError r e → Emits m a t r l
 
   -- no call
   abbrev pub Idle : Type 0
@@ -36,29 +39,40 @@ module _ {P : Type 0} (m : Meaning P) where
 
   -- one call that failed, whatever would have come after it
   abbrev pub CallBreaksOff : Type 0
-  CallBreaksOff = (a t : P) (r : Result (Unit {0}) IoError) (e : IoError) (c : Call) (k : List Call) → Made m a t (AtCall e) (c ∷ []) → Answers r e → Emits m a t r (c ∷ k)
+  CallBreaksOff =
+      (a t : P) (r : Result (Unit {0}) IoError) (e : IoError) (c : Call) (k : List Call) → Made m a t (AtCall e) (c ∷ []) →
+      AnswersError r e → Emits m a t r (c ∷ k)
 
   -- the last call
   abbrev pub CallDone : Type 0
   CallDone = (a t : P) (c : Call) → Succeeded m a c t → Made m a t Through (c ∷ [])
 
   abbrev pub CallFailed : Type 0
-  CallFailed = (a t : P) (r : Result (Unit {0}) IoError) (e : IoError) (c : Call) → Failed m a c e t → Answers r e → Emits m a t r (c ∷ [])
+  CallFailed =
+      (a t : P) (r : Result (Unit {0}) IoError) (e : IoError) (c : Call) → Failed m a c e t → AnswersError r e → Emits m a t r (c ∷ [])
 
   -- ---- texts, which may be cut anywhere
 
   -- the first part of a text, and then the rest
   abbrev pub TextThen : Type 0
-  TextThen = (a s t : P) (r : Ending) (x y : List ℕ) (k : List Call) → Made m a s Through (Text x ∷ []) → Made m s t r (Text y ∷ k) → Made m a t r (Text (x ++ y) ∷ k)
+  TextThen =
+      (a s t : P) (r : Ending) (x y : List ℕ) (k : List Call) → Made m a s Through (Text x ∷ []) → Made m s t r (Text y ∷ k) →
+      Made m a t r (Text (x ++ y) ∷ k)
 
   -- the first part of a text that failed, whatever would have come after it
   abbrev pub TextBreaksOff : Type 0
-  TextBreaksOff = (a t : P) (r : Result (Unit {0}) IoError) (e : IoError) (x y : List ℕ) (k : List Call) → Made m a t (AtCall e) (Text x ∷ []) → Answers r e → Emits m a t r (Text (x ++ y) ∷ k)
+  TextBreaksOff =
+      (a t : P) (r : Result (Unit {0}) IoError) (e : IoError) (x y : List ℕ) (k : List Call) → Made m a t (AtCall e) (Text x ∷ []) →
+      AnswersError r e → Emits m a t r (Text (x ++ y) ∷ k)
 
   -- the first byte of a text, and then the rest
   abbrev pub ByteThen : Type 0
-  ByteThen = (a s t : P) (r : Ending) (x : ℕ) (y : List ℕ) (k : List Call) → Made m a s Through (Text (x ∷ []) ∷ []) → Made m s t r (Text y ∷ k) → Made m a t r (Text (x ∷ y) ∷ k)
+  ByteThen =
+      (a s t : P) (r : Ending) (x : ℕ) (y : List ℕ) (k : List Call) → Made m a s Through (Text (x ∷ []) ∷ []) →
+      Made m s t r (Text y ∷ k) → Made m a t r (Text (x ∷ y) ∷ k)
 
   -- the first byte of a text that failed, whatever would have come after it
   abbrev pub ByteBreaksOff : Type 0
-  ByteBreaksOff = (a t : P) (r : Result (Unit {0}) IoError) (e : IoError) (x : ℕ) (y : List ℕ) (k : List Call) → Made m a t (AtCall e) (Text (x ∷ []) ∷ []) → Answers r e → Emits m a t r (Text (x ∷ y) ∷ k)
+  ByteBreaksOff =
+      (a t : P) (r : Result (Unit {0}) IoError) (e : IoError) (x : ℕ) (y : List ℕ) (k : List Call) →
+      Made m a t (AtCall e) (Text (x ∷ []) ∷ []) → AnswersError r e → Emits m a t r (Text (x ∷ y) ∷ k)

@@ -47,7 +47,8 @@ then_calls m a s t (AtCall e) l k w v = record {
   run = Run-append m a s v.before w.calls v.calls w.run v.run;
   failed = v.failed;
   alike =
-      ap (λ x. atoms x ++ v.rest) (append_assoc w.calls v.calls (v.call ∷ [])) ∙ glue w.calls (v.calls ++ v.call ∷ []) l k v.rest w.alike v.alike;
+      ap (λ x. atoms x ++ v.rest) (append_assoc w.calls v.calls (v.call ∷ []))
+      ∙ glue w.calls (v.calls ++ v.call ∷ []) l k v.rest w.alike v.alike;
 }
 then_calls m a s t Stopped l k w v = record {
   calls = w.calls ++ v.calls;
@@ -82,7 +83,8 @@ begun_longer m a t l k v = record {
 }
 
 -- where a function has stopped or failed with an error, what would have come after it
-pub halts : {P : Type 0} (m : Meaning P) {a t : P} (keeps : Bool) (e : Error) (l k : List Call) → Made m a t (halt_of keeps e) l → Made m a t (halt_of keeps e) (l ++ k)
+pub halts : {P : Type 0} (m : Meaning P) {a t : P} (keeps : Bool) (e : Error) (l k : List Call) → Made m a t (halt_of keeps e) l →
+    Made m a t (halt_of keeps e) (l ++ k)
 halts m keeps (Malformed place) l k v = absurd v.made
 halts m keeps Component l k v = absurd v.made
 halts m keeps (TooManyLocals place) l k v = absurd v.made
@@ -179,7 +181,8 @@ pays m {l = l} {k} o v = record {
   layout = o.layout ++ l;
   made = then m o.made v;
   alike =
-      ap (λ x. x ++ atoms k) (atoms-append o.layout l) ∙ append_assoc (atoms o.layout) (atoms l) (atoms k) ∙ ap (λ x. atoms o.layout ++ x) (sym (atoms-append l k)) ∙ o.alike;
+      ap (λ x. x ++ atoms k) (atoms-append o.layout l) ∙ append_assoc (atoms o.layout) (atoms l) (atoms k)
+      ∙ ap (λ x. atoms o.layout ++ x) (sym (atoms-append l k)) ∙ o.alike;
 }
 
 -- what is owed may be cut otherwise
@@ -195,7 +198,8 @@ settles m {whole = whole} {k} o v = alike m whole (atoms-append o.layout k ∙ o
 -- a text in two parts
 pub atoms-text : (x y : List ℕ) (k : List Call) → atoms (Text x ∷ Text y ∷ k) ≡ atoms (Text (x ++ y) ∷ k)
 atoms-text x y k =
-    sym (append_assoc (calls_of_bytes (Text x)) (calls_of_bytes (Text y)) (atoms k)) ∙ ap (λ b. b ++ atoms k) (sym (map-append (λ b. Text (b ∷ [])) x y))
+    sym (append_assoc (calls_of_bytes (Text x)) (calls_of_bytes (Text y)) (atoms k))
+    ∙ ap (λ b. b ++ atoms k) (sym (map-append (λ b. Text (b ∷ [])) x y))
 
 -- the first part of a text, and then the rest
 pub then_text : {P : Type 0} (m : Meaning P) {a s t : P} {r : Ending} {x y : List ℕ} {k : List Call} →

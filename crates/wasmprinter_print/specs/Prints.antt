@@ -9,12 +9,12 @@ use Rattle.wasmprinter_error.specs.declared.error.Error.{Error}
 use Rattle.wasmprinter_print.specs.Emits.{Made, Ending, Through, ending, halt}
 
 -- the calls of pieces were made, or a beginning of them
-unfoldable pub Laid : {P : Type 0} → Meaning P → Options → P → P → Ending → List Piece → Type 0
-Laid m o old new r pieces = Made m old new r (all_calls o pieces)
+unfoldable pub MadePieces : {P : Type 0} → Meaning P → Options → P → P → Ending → List Piece → Type 0
+MadePieces m o old new r pieces = Made m old new r (all_calls o pieces)
 
 -- the same, under the name by which lemmas go
 pub record Written {P : Type 0} (m : Meaning P) (o : Options) (old new : P) (r : Ending) (pieces : List Piece) : Type 0 where
-  pub laid : Laid m o old new r pieces
+  pub laid : MadePieces m o old new r pieces
 
 -- the calls that a function with this result has made are those of the pieces: `Emits` for their calls
 abbrev pub Prints : {P T : Type 0} → Meaning P → Options → P → P → Result T IoError → List Piece → Type 0

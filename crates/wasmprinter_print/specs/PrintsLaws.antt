@@ -9,7 +9,7 @@ use Rattle.wasmprinter_spec.specs.Meaning.{Meaning}
 use Rattle.wasmprinter_error.specs.declared.error.Error.{Error}
 use Rattle.wasmprinter_print.specs.Emits.{Made, Ending, Through, AtCall, Stopped, ending, halt_of}
 use Rattle.wasmprinter_print.specs.EmitsLaws.{then, ends, fails, halts, stops_first, nothing}
-use Rattle.wasmprinter_print.specs.Prints.{Laid, Written, Prints, PrintsOrStops, Lacks}
+use Rattle.wasmprinter_print.specs.Prints.{MadePieces, Written, Prints, PrintsOrStops, Lacks}
 
 -- calls go through `++`
 pub all_calls-append : (o : Options) (xs ys : List Piece) → all_calls o (xs ++ ys) ≡ all_calls o xs ++ all_calls o ys
@@ -20,13 +20,13 @@ all_calls-append o (x ∷ xs) ys =
 -- what was written of pieces was made of their calls
 pub written : {P : Type 0} (m : Meaning P) {o : Options} {a t : P} {r : Ending} {xs : List Piece} →
     Written m o a t r xs → Made m a t r (all_calls o xs)
-unfolding Laid
+unfolding MadePieces
 written m v = v.laid
 
 -- and the other way round
 pub writes : {P : Type 0} (m : Meaning P) (o : Options) {a t : P} {r : Ending} (xs : List Piece) →
     Made m a t r (all_calls o xs) → Written m o a t r xs
-unfolding Laid
+unfolding MadePieces
 writes m o xs v = record { laid = v }
 
 pub no_piece : {P : Type 0} (m : Meaning P) (o : Options) (a : P) → Written m o a a Through []
@@ -44,21 +44,26 @@ both_pieces m {o} {a} {t = t} {r} {xs} {ys} v w =
     writes m o (xs ++ ys) (subst (λ (l : List Call). Made m a t r l) (sym (all_calls-append o xs ys)) (then m (written m v) (written m w)))
 
 -- pieces of which one failed, whatever would have come after them
-pub pieces_end : {P U : Type 0} (m : Meaning P) {o : Options} {a t : P} (r : Result U IoError) {e : IoError} {xs : List Piece} (ys : List Piece) →
+pub pieces_end : {P U : Type 0} (m : Meaning P) {o : Options} {a t : P} (r : Result U IoError) {e : IoError} {xs : List Piece}
+    (ys : List Piece) →
     IsErrAnd r (λ y. y ≡ e) → Written m o a t (AtCall e) xs → Prints m o a t r (xs ++ ys)
 pieces_end m {o} {a} {t} r {xs = xs} ys f v =
-    writes m o (xs ++ ys) (subst (λ (l : List Call). Made m a t (ending r) l) (sym (all_calls-append o xs ys)) (ends m r (all_calls o ys) f (written m v)))
+    writes m o (xs ++ ys)
+    (subst (λ (l : List Call). Made m a t (ending r) l) (sym (all_calls-append o xs ys)) (ends m r (all_calls o ys) f (written m v)))
 
 -- pieces at which a function ended with this error, whatever would have come after them
-pub pieces_halt : {P U : Type 0} (m : Meaning P) {o : Options} {a t : P} (keeps : Bool) (r : Result U Error) (e : Error) {xs : List Piece} (ys : List Piece) →
+pub pieces_halt : {P U : Type 0} (m : Meaning P) {o : Options} {a t : P} (keeps : Bool) (r : Result U Error) (e : Error)
+    {xs : List Piece} (ys : List Piece) →
     IsErrAnd r (λ y. y ≡ e) → Written m o a t (halt_of keeps e) xs → PrintsOrStops m o a t keeps r (xs ++ ys)
 pieces_halt m keeps (Ok x) e ys f v = absurd f
 pieces_halt m {o} {a} {t} keeps (Err y) e {xs} ys f v =
     writes m o (xs ++ ys) (subst (λ (l : List Call). Made m a t (halt_of keeps y) l) (sym (all_calls-append o xs ys))
-    (halts m keeps y (all_calls o xs) (all_calls o ys) (subst (λ (z : Error). Made m a t (halt_of keeps z) (all_calls o xs)) (sym f) (written m v))))
+    (halts m keeps y (all_calls o xs) (all_calls o ys)
+    (subst (λ (z : Error). Made m a t (halt_of keeps z) (all_calls o xs)) (sym f) (written m v))))
 
 -- the last pieces, at which it ended
-pub last_pieces_halt : {P U : Type 0} (m : Meaning P) {o : Options} {a t : P} (keeps : Bool) (r : Result U Error) (e : Error) {xs : List Piece} →
+pub last_pieces_halt : {P U : Type 0} (m : Meaning P) {o : Options} {a t : P} (keeps : Bool) (r : Result U Error) (e : Error)
+    {xs : List Piece} →
     IsErrAnd r (λ y. y ≡ e) → Written m o a t (halt_of keeps e) xs → PrintsOrStops m o a t keeps r xs
 last_pieces_halt m keeps (Ok x) e f v = absurd f
 last_pieces_halt m {o} {a} {t} keeps (Err y) e {xs} f v = subst (λ (z : Error). Written m o a t (halt_of keeps z) xs) (sym f) v
@@ -73,7 +78,8 @@ pub last_pieces_end : {P U : Type 0} (m : Meaning P) {o : Options} {a t : P} (r 
 last_pieces_end m {o} r {xs = xs} f v = writes m o xs (fails m r f (written m v))
 
 -- in the end nothing is lacking
-pub lacks_none : {P : Type 0} (m : Meaning P) {o : Options} {a t : P} (whole : List Piece) → Lacks m o a t whole [] → Written m o a t Through whole
+pub lacks_none : {P : Type 0} (m : Meaning P) {o : Options} {a t : P} (whole : List Piece) → Lacks m o a t whole [] →
+    Written m o a t Through whole
 lacks_none m {o} {a} {t} whole l =
     subst (λ (xs : List Piece). Written m o a t Through xs) (sym (append-nil l.front) ∙ l.joined) l.written
 
@@ -90,11 +96,13 @@ rest_written m {o} {a} {t = t} {r} rest l v =
     subst (λ (xs : List Piece). Written m o a t r xs) l.joined (both_pieces m l.written v)
 
 -- writing the next of what is lacking failed
-pub next_fails : {P U : Type 0} (m : Meaning P) {o : Options} {a s t : P} {whole : List Piece} (xs ys : List Piece) (r : Result U IoError) {e : IoError} →
+pub next_fails : {P U : Type 0} (m : Meaning P) {o : Options} {a s t : P} {whole : List Piece} (xs ys : List Piece)
+    (r : Result U IoError) {e : IoError} →
     Lacks m o a s whole (xs ++ ys) → Written m o s t (AtCall e) xs → IsErrAnd r (λ y. y ≡ e) → Prints m o a t r whole
 next_fails m xs ys r l v f = rest_written m (xs ++ ys) l (pieces_end m r ys f v)
 
 -- writing the next of what is lacking ended with this error
-pub next_halts : {P U : Type 0} (m : Meaning P) {o : Options} {a s t : P} {whole : List Piece} (xs ys : List Piece) (keeps : Bool) (r : Result U Error) (e : Error) →
+pub next_halts : {P U : Type 0} (m : Meaning P) {o : Options} {a s t : P} {whole : List Piece} (xs ys : List Piece) (keeps : Bool)
+    (r : Result U Error) (e : Error) →
     Lacks m o a s whole (xs ++ ys) → Written m o s t (halt_of keeps e) xs → IsErrAnd r (λ y. y ≡ e) → PrintsOrStops m o a t keeps r whole
 next_halts m xs ys keeps r e l v f = rest_written m (xs ++ ys) l (pieces_halt m keeps r e ys f v)

@@ -30,7 +30,8 @@ Puttings m old None new behind layout = Made m old new (end_behind behind) layou
 Puttings m old (Some e) new behind layout = (new ≡ old) × (behind ≡ Some e)
 
 -- what a function has made to which an error is passed along: the name by which lemmas go
-pub record Puts {P : Type 0} (m : Meaning P) (old : P) (before : Option IoError) (new : P) (behind : Option IoError) (layout : List Call) : Type 0 where
+pub record Puts {P : Type 0} (m : Meaning P) (old : P) (before : Option IoError) (new : P) (behind : Option IoError)
+    (layout : List Call) : Type 0 where
   pub put : Puttings m old before new behind layout
 
 -- the same of pieces
@@ -39,21 +40,25 @@ Markings m o old None new behind pieces = Written m o old new (end_behind behind
 Markings m o old (Some e) new behind pieces = (new ≡ old) × (behind ≡ Some e)
 
 -- what such a function has made of pieces under these options: the name by which lemmas go
-pub record MarksUnder {P : Type 0} (m : Meaning P) (o : Options) (old : P) (before : Option IoError) (new : P) (behind : Option IoError) (pieces : List Piece) : Type 0 where
+pub record MarksUnder {P : Type 0} (m : Meaning P) (o : Options) (old : P) (before : Option IoError) (new : P)
+    (behind : Option IoError) (pieces : List Piece) : Type 0 where
   pub marked : Markings m o old before new behind pieces
 
 -- the same under any options, of a function that knows none
-pub record Marks {P : Type 0} (m : Meaning P) (old : P) (before : Option IoError) (new : P) (behind : Option IoError) (pieces : List Piece) : Type 0 where
+pub record Marks {P : Type 0} (m : Meaning P) (old : P) (before : Option IoError) (new : P) (behind : Option IoError)
+    (pieces : List Piece) : Type 0 where
   pub under : (o : Options) → MarksUnder m o old before new behind pieces
 
 -- of the text `whole` what stands in front of `rest` has been written
-pub record PutsBut {P : Type 0} (m : Meaning P) (old : P) (before : Option IoError) (new : P) (behind : Option IoError) (whole rest : List ℕ) : Type 0 where
+pub record PutsBut {P : Type 0} (m : Meaning P) (old : P) (before : Option IoError) (new : P) (behind : Option IoError)
+    (whole rest : List ℕ) : Type 0 where
   pub front : List ℕ
   pub put : Puts m old before new behind (Text front ∷ [])
   pub joined : front ++ rest ≡ whole
 
 -- of the layout `whole` the pieces in front of `rest` have been written, under any options
-pub record MarksBut {P : Type 0} (m : Meaning P) (old : P) (before : Option IoError) (new : P) (behind : Option IoError) (whole rest : List Piece) : Type 0 where
+pub record MarksBut {P : Type 0} (m : Meaning P) (old : P) (before : Option IoError) (new : P) (behind : Option IoError)
+    (whole rest : List Piece) : Type 0 where
   pub front : List Piece
   pub marks : Marks m old before new behind front
   pub joined : front ++ rest ≡ whole

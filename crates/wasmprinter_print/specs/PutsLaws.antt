@@ -1,4 +1,5 @@
--- What follows from `Puts`, `Marks` and `MarksUnder`, for any printer: how calls and pieces go together where the first error is passed along.
+-- What follows from `Puts`, `Marks` and `MarksUnder`, for any printer: how calls and pieces go together where the first error is passed
+-- along.
 use Rattle.std.specs.Prelude.{◌≡◌, ℕ, List, [], ◌∷◌, ◌++◌, Option, Some, None, is_some, true, false, Result, Ok, Err}
 use Rattle.std.specs.declared.io.Error.{Error as IoError}
 use Rattle.std.proofs.Common.{refl, sym, ap, ◌∙◌, subst, append_assoc, append-nil}
@@ -8,7 +9,7 @@ use Rattle.wasmprinter_spec.specs.Piece.{Piece, calls}
 use Rattle.wasmprinter_spec.specs.Meaning.{Meaning, Succeeded, Failed}
 use Rattle.wasmprinter_print.specs.Emits.{Emits, Made}
 use Rattle.wasmprinter_print.specs.EmitsLaws.{then, ends, called, call_fails, nothing, alike, atoms-text}
-use Rattle.wasmprinter_print.specs.Prints.{Written, Prints}
+use Rattle.wasmprinter_print.specs.Prints.{Written, Prints, PrintsAlways}
 use Rattle.wasmprinter_print.specs.PrintsLaws.{no_piece, one_piece, both_pieces, pieces_end}
 use Rattle.wasmprinter_print.specs.Puts.{Puts, PutsBut, Puttings, MarksUnder, Marks, MarksBut, Markings, end_behind, answer_of, kept}
 
@@ -43,7 +44,8 @@ pub put_texts : {P : Type 0} (m : Meaning P) {a s t : P} {d e f : Option IoError
     Puts m a d s e (Text x ∷ []) → Puts m s e t f (Text y ∷ k) → Puts m a d t f (Text (x ++ y) ∷ k)
 put_texts m {a} {s} {t} {d} {e} {f} {x} {y} {k} v w = record {
   put =
-      puttings_alike m a t d f (Text x ∷ Text y ∷ k) (Text (x ++ y) ∷ k) (atoms-text x y k) (puttings_then m a s t d e f (Text x ∷ []) (Text y ∷ k) v.put w.put);
+      puttings_alike m a t d f (Text x ∷ Text y ∷ k) (Text (x ++ y) ∷ k) (atoms-text x y k)
+      (puttings_then m a s t d e f (Text x ∷ []) (Text y ∷ k) v.put w.put);
 }
 
 puttings_none : {P : Type 0} (m : Meaning P) (a : P) (d : Option IoError) → Puttings m a d a d []
@@ -54,20 +56,24 @@ puttings_none m a (Some x) = (refl, refl)
 pub no_put : {P : Type 0} (m : Meaning P) (a : P) (d : Option IoError) → Puts m a d a d []
 no_put m a d = record { put = puttings_none m a d }
 
-puttings_done : {P : Type 0} (m : Meaning P) (a t : P) (d : Option IoError) (c : Call) → is_some d ≡ false → Succeeded m a c t → Puttings m a d t d (c ∷ [])
+puttings_done : {P : Type 0} (m : Meaning P) (a t : P) (d : Option IoError) (c : Call) → is_some d ≡ false → Succeeded m a c t →
+    Puttings m a d t d (c ∷ [])
 puttings_done m a t None c e s = called m s
 puttings_done m a t (Some x) c e s = cc
 
 -- a call on the printer
-pub put_called : {P : Type 0} (m : Meaning P) {a t : P} {d : Option IoError} {c : Call} → is_some d ≡ false → Succeeded m a c t → Puts m a d t d (c ∷ [])
+pub put_called : {P : Type 0} (m : Meaning P) {a t : P} {d : Option IoError} {c : Call} → is_some d ≡ false → Succeeded m a c t →
+    Puts m a d t d (c ∷ [])
 put_called m {a} {t} {d} {c} e s = record { put = puttings_done m a t d c e s }
 
-puttings_failed : {P : Type 0} (m : Meaning P) (a t : P) (d : Option IoError) (x : IoError) (c : Call) → is_some d ≡ false → Failed m a c x t → Puttings m a d t (Some x) (c ∷ [])
+puttings_failed : {P : Type 0} (m : Meaning P) (a t : P) (d : Option IoError) (x : IoError) (c : Call) → is_some d ≡ false →
+    Failed m a c x t → Puttings m a d t (Some x) (c ∷ [])
 puttings_failed m a t None x c e v = call_fails m (the_error x) x refl v
 puttings_failed m a t (Some y) x c e v = cc
 
 -- a call on the printer that failed
-pub put_fails : {P : Type 0} (m : Meaning P) {a t : P} {d : Option IoError} (x : IoError) {c : Call} → is_some d ≡ false → Failed m a c x t → Puts m a d t (Some x) (c ∷ [])
+pub put_fails : {P : Type 0} (m : Meaning P) {a t : P} {d : Option IoError} (x : IoError) {c : Call} → is_some d ≡ false →
+    Failed m a c x t → Puts m a d t (Some x) (c ∷ [])
 put_fails m {a} {t} {d} x {c} e v = record { put = puttings_failed m a t d x c e v }
 
 puttings_behind : {P : Type 0} (m : Meaning P) (a : P) (d : Option IoError) (l : List Call) → is_some d ≡ true → Puttings m a d a d l
@@ -138,12 +144,14 @@ markings_none m o a (Some x) = (refl, refl)
 pub no_mark_under : {P : Type 0} (m : Meaning P) (o : Options) (a : P) (d : Option IoError) → MarksUnder m o a d a d []
 no_mark_under m o a d = record { marked = markings_none m o a d }
 
-markings_behind : {P : Type 0} (m : Meaning P) (o : Options) (a : P) (d : Option IoError) (xs : List Piece) → is_some d ≡ true → Markings m o a d a d xs
+markings_behind : {P : Type 0} (m : Meaning P) (o : Options) (a : P) (d : Option IoError) (xs : List Piece) → is_some d ≡ true →
+    Markings m o a d a d xs
 markings_behind m o a None xs e = cc
 markings_behind m o a (Some y) xs e = (refl, refl)
 
 -- behind an error no piece is written
-pub mark_skipped_under : {P : Type 0} (m : Meaning P) (o : Options) (a : P) (d : Option IoError) (xs : List Piece) → is_some d ≡ true → MarksUnder m o a d a d xs
+pub mark_skipped_under : {P : Type 0} (m : Meaning P) (o : Options) (a : P) (d : Option IoError) (xs : List Piece) →
+    is_some d ≡ true → MarksUnder m o a d a d xs
 mark_skipped_under m o a d xs e = record { marked = markings_behind m o a d xs e }
 
 -- ---- pieces under any options
@@ -165,11 +173,13 @@ mark_skipped m a d xs e = record { under = λ o. mark_skipped_under m o a d xs e
 -- ---- a layout in parts
 
 -- nothing of it has been written
-pub lay_all : {P : Type 0} (m : Meaning P) (a : P) (d : Option IoError) (whole rest : List Piece) → rest ≡ whole → MarksBut m a d a d whole rest
+pub lay_all : {P : Type 0} (m : Meaning P) (a : P) (d : Option IoError) (whole rest : List Piece) → rest ≡ whole →
+    MarksBut m a d a d whole rest
 lay_all m a d whole rest e = record { front = []; marks = no_mark m a d; joined = e }
 
 -- a part more
-pub lay_more : {P : Type 0} (m : Meaning P) {a s t : P} {d e f : Option IoError} {whole : List Piece} (xs ys zs : List Piece) → zs ≡ xs ++ ys →
+pub lay_more : {P : Type 0} (m : Meaning P) {a s t : P} {d e f : Option IoError} {whole : List Piece} (xs ys zs : List Piece) →
+    zs ≡ xs ++ ys →
     MarksBut m a d s e whole zs → Marks m s e t f xs → MarksBut m a d t f whole ys
 lay_more m xs ys zs q v w = record {
   front = v.front ++ xs;
@@ -190,7 +200,8 @@ lay_last m {a} {s} {t} {d} {e} {f} whole xs v w = subst (λ (b : List Piece). Ma
 
 -- ---- answers
 
-emits_of : {P : Type 0} (m : Meaning P) (a t : P) (d f : Option IoError) (l : List Call) → d ≡ None → Puttings m a d t f l → Emits m a t (answer_of f) l
+emits_of : {P : Type 0} (m : Meaning P) (a t : P) (d f : Option IoError) (l : List Call) → d ≡ None → Puttings m a d t f l →
+    Emits m a t (answer_of f) l
 emits_of m a t None None l e v = v
 emits_of m a t None (Some x) l e v = v
 emits_of m a t (Some y) f l e v = cc
@@ -198,19 +209,23 @@ emits_of m a t (Some y) f l e v = cc
 -- the answer of a function that kept the first error, of which there was none before
 pub puts_answered : {P : Type 0} (m : Meaning P) {a t : P} {d f : Option IoError} (r : Result (Unit {0}) IoError) {l : List Call} →
     Puts m a d t f l → d ≡ None → r ≡ answer_of f → Emits m a t r l
-puts_answered m {a} {t} {d} {f} r {l} v e q = subst (λ (x : Result (Unit {0}) IoError). Emits m a t x l) (sym q) (emits_of m a t d f l e v.put)
+puts_answered m {a} {t} {d} {f} r {l} v e q =
+    subst (λ (x : Result (Unit {0}) IoError). Emits m a t x l) (sym q) (emits_of m a t d f l e v.put)
 
-prints_of : {P : Type 0} (m : Meaning P) (o : Options) (a t : P) (d f : Option IoError) (xs : List Piece) → d ≡ None → Markings m o a d t f xs → Prints m o a t (answer_of f) xs
+prints_of : {P : Type 0} (m : Meaning P) (o : Options) (a t : P) (d f : Option IoError) (xs : List Piece) → d ≡ None →
+    Markings m o a d t f xs → Prints m o a t (answer_of f) xs
 prints_of m o a t None None xs e v = v
 prints_of m o a t None (Some x) xs e v = v
 prints_of m o a t (Some y) f xs e v = cc
 
-pub marks_answered_under : {P : Type 0} (m : Meaning P) {o : Options} {a t : P} {d f : Option IoError} (r : Result (Unit {0}) IoError) {xs : List Piece} →
+pub marks_answered_under : {P : Type 0} (m : Meaning P) {o : Options} {a t : P} {d f : Option IoError} (r : Result (Unit {0}) IoError)
+    {xs : List Piece} →
     MarksUnder m o a d t f xs → d ≡ None → r ≡ answer_of f → Prints m o a t r xs
 marks_answered_under m {o} {a} {t} {d} {f} r {xs} v e q =
     subst (λ (x : Result (Unit {0}) IoError). Prints m o a t x xs) (sym q) (prints_of m o a t d f xs e v.marked)
 
-keeps_puts : {P : Type 0} (m : Meaning P) (a t : P) (d : Option IoError) (r : Result (Unit {0}) IoError) (l : List Call) → is_some d ≡ false → Emits m a t r l → Puttings m a d t (kept d r) l
+keeps_puts : {P : Type 0} (m : Meaning P) (a t : P) (d : Option IoError) (r : Result (Unit {0}) IoError) (l : List Call) →
+    is_some d ≡ false → Emits m a t r l → Puttings m a d t (kept d r) l
 keeps_puts m a t None (Ok x) l e v = v
 keeps_puts m a t None (Err x) l e v = v
 keeps_puts m a t (Some y) r l e v = cc
@@ -221,20 +236,24 @@ pub puts_keep : {P : Type 0} (m : Meaning P) {a t : P} {d f : Option IoError} (r
 puts_keep m {a} {t} {d} {f} r {l} v e q =
     record { put = subst (λ (x : Option IoError). Puttings m a d t x l) (sym q) (keeps_puts m a t d r l e v) }
 
-keeps_marks : {P : Type 0} (m : Meaning P) (o : Options) (a t : P) (d : Option IoError) (r : Result (Unit {0}) IoError) (xs : List Piece) → is_some d ≡ false → Prints m o a t r xs → Markings m o a d t (kept d r) xs
+keeps_marks : {P : Type 0} (m : Meaning P) (o : Options) (a t : P) (d : Option IoError) (r : Result (Unit {0}) IoError)
+    (xs : List Piece) →
+    is_some d ≡ false → Prints m o a t r xs → Markings m o a d t (kept d r) xs
 keeps_marks m o a t None (Ok x) xs e v = v
 keeps_marks m o a t None (Err x) xs e v = v
 keeps_marks m o a t (Some y) r xs e v = cc
 
-pub marks_keep_under : {P : Type 0} (m : Meaning P) {o : Options} {a t : P} {d f : Option IoError} (r : Result (Unit {0}) IoError) {xs : List Piece} →
+pub marks_keep_under : {P : Type 0} (m : Meaning P) {o : Options} {a t : P} {d f : Option IoError} (r : Result (Unit {0}) IoError)
+    {xs : List Piece} →
     Prints m o a t r xs → is_some d ≡ false → f ≡ kept d r → MarksUnder m o a d t f xs
 marks_keep_under m {o} {a} {t} {d} {f} r {xs} v e q =
     record { marked = subst (λ (x : Option IoError). Markings m o a d t x xs) (sym q) (keeps_marks m o a t d r xs e v) }
 
-pub marks_answered : {P : Type 0} (m : Meaning P) (o : Options) {a t : P} {d f : Option IoError} (r : Result (Unit {0}) IoError) {xs : List Piece} →
+pub marks_answered : {P : Type 0} (m : Meaning P) (o : Options) {a t : P} {d f : Option IoError} (r : Result (Unit {0}) IoError)
+    {xs : List Piece} →
     Marks m a d t f xs → d ≡ None → r ≡ answer_of f → Prints m o a t r xs
 marks_answered m o r v e q = marks_answered_under m r (v.under o) e q
 
 pub marks_keep : {P : Type 0} (m : Meaning P) {a t : P} {d f : Option IoError} (r : Result (Unit {0}) IoError) {xs : List Piece} →
-    ((o : Options) → Prints m o a t r xs) → is_some d ≡ false → f ≡ kept d r → Marks m a d t f xs
+    PrintsAlways m a t r xs → is_some d ≡ false → f ≡ kept d r → Marks m a d t f xs
 marks_keep m r v e q = record { under = λ o. marks_keep_under m r (v o) e q }

@@ -25,10 +25,10 @@ module _ {E : Type 0} (P : E → Type 0) where
 
   module _ {A : Type 0} {Q : A → Type 0} (g : Grammar A) (all : AllSpelled g Q) (h : A → Lenient E) (rest : (a : A) → Q a → AllGiven P (h a)) where
     follow_has : (at : Input) (xs : List E) (end : Option Input) → AreBytes at.bytes → (follow g h).gives at xs end → AllByRecursion P xs × Stays end
-    follow_has at xs end b (inl s) =
-        let parts = split_bytes s.1.text s.0.1.bytes (subst AreBytes s.1.parts b) in
-        (rest s.0.0 (all.has at.place s.1.text s.0.0 parts.0 s.1.spelled)).has s.0.1 xs end parts.1 s.2
-    follow_has at xs end b (inr s) = at_fault xs end s.1 s.2
+    follow_has at xs end b (inl ((value, after), spans, given)) =
+        let parts = split_bytes spans.text after.bytes (subst AreBytes spans.parts b) in
+        (rest value (all.has at.place spans.text value parts.0 spans.spelled)).has after xs end parts.1 given
+    follow_has at xs end b (inr (lacking, no_entry, ended)) = at_fault xs end no_entry ended
 
     pub AllGiven-follow : AllGiven P (follow g h)
     AllGiven-follow = record { has = follow_has }
@@ -40,10 +40,10 @@ module _ {E : Type 0} (P : E → Type 0) where
   module _ (l : Lenient E) (f : AllGiven P l) where
     repeat_has : (n : ℕ) (at : Input) (xs : List E) (end : Option Input) → AreBytes at.bytes → Repeats l n at xs end → AllByRecursion P xs × Stays end
     repeat_has zero at xs end b s = (subst (AllByRecursion P) (sym s.0) tt, subst Stays (sym s.1) b)
-    repeat_has (suc n) at xs end b (inl s) =
-        let one_more = f.has at s.0 (Some s.2) b s.3 in
-        let others = repeat_has n s.2 s.1 end one_more.1 s.4 in
-        (subst (AllByRecursion P) (sym s.5) (all_both P s.0 s.1 one_more.0 others.0), others.1)
+    repeat_has (suc n) at xs end b (inl (ys, zs, mid, given, repeated, joined)) =
+        let one_more = f.has at ys (Some mid) b given in
+        let others = repeat_has n mid zs end one_more.1 repeated in
+        (subst (AllByRecursion P) (sym joined) (all_both P ys zs one_more.0 others.0), others.1)
     repeat_has (suc n) at xs end b (inr s) = ((f.has at xs None b s.0).0, subst Stays (sym s.1) tt)
 
     pub AllGiven-repeat : (n : ℕ) → AllGiven P (repeat l n)
@@ -54,18 +54,18 @@ module _ {E : Type 0} (P : E → Type 0) where
     behind_stays (Some x) after b = b
 
     within_has : (n : ℕ) (at : Input) (xs : List E) (end : Option Input) → AreBytes at.bytes → (within l n).gives at xs end → AllByRecursion P xs × Stays end
-    within_has n at xs end b (inl s) =
-        let parts = split_bytes s.1.text s.0.1.bytes (subst AreBytes s.1.parts b) in (
-          (f.has (input at.place s.0.0) xs s.2 (subst AreBytes (sym s.1.spelled.1) parts.0) s.3).0,
-          subst Stays (sym s.4) (behind_stays s.2 s.0.1 parts.1),
+    within_has n at xs end b (inl ((front, after), spans, inner, given, ended)) =
+        let parts = split_bytes spans.text after.bytes (subst AreBytes spans.parts b) in (
+          (f.has (input at.place front) xs inner (subst AreBytes (sym spans.spelled.1) parts.0) given).0,
+          subst Stays (sym ended) (behind_stays inner after parts.1),
         )
-    within_has n at xs end b (inr s) = at_fault xs end s.1 s.2
+    within_has n at xs end b (inr (lacking, no_entry, ended)) = at_fault xs end no_entry ended
 
     pub AllGiven-within : (n : ℕ) → AllGiven P (within l n)
     AllGiven-within n = record { has = within_has n }
 
     ends_has : (at : Input) (xs : List E) (end : Option Input) → AreBytes at.bytes → (unless_ended l).gives at xs end → AllByRecursion P xs × Stays end
-    ends_has at xs end b (inl s) = (subst (AllByRecursion P) (sym s.1) tt, subst Stays (sym s.2) b)
+    ends_has at xs end b (inl (none_left, no_entry, ended)) = (subst (AllByRecursion P) (sym no_entry) tt, subst Stays (sym ended) b)
     ends_has at xs end b (inr s) = f.has at xs end b s.1
 
     pub AllGiven-unless_ended : AllGiven P (unless_ended l)

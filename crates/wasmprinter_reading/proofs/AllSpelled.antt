@@ -4,7 +4,7 @@ use Rattle.std.specs.List.{AllByRecursion}
 use Rattle.wasmprinter_spec.specs.Grammar.{Grammar, some_is, byte, seq, try_map, map_value, succeed, fail, choose, value_with_place}
 use Rattle.wasmprinter_spec.specs.FirstByte.{behind_first_byte, Peeked, by_first_byte}
 use Rattle.wasmprinter_spec.specs.Binary.ValTypes.{value_if_any}
-use Rattle.wasmprinter_spec.specs.Repeated.{Items, times, Entries}
+use Rattle.wasmprinter_spec.specs.Repeated.{AreItems, times, Entries}
 use Rattle.wasmprinter_spec.specs.Sized.{take_bytes, alone, exactly}
 use Rattle.wasmprinter_spec.specs.Binary.{AreBytes}
 use Rattle.wasmprinter_spec.proofs.Each.{all_parts}
@@ -43,15 +43,15 @@ Spelled-any g = record { has = λ p text a bytes s. tt }
 pub Spelled-seq : {kind : ByteStrings} {A B : Type 0} {g : Grammar A} {h : A → Grammar B} {P : A → Type 0} {Q : A → B → Type 0} →
     Spelled kind g P → ((a : A) → Spelled kind (h a) (Q a)) → Spelled kind (seq g h) (λ x. P x.0 × Q x.0 x.1)
 Spelled-seq {kind} first second = record {
-  has = λ p text x bytes s.
-      let parts = kind.split s.0 s.1 (subst kind.Are s.2 bytes) in
-      (first.has p s.0 x.0 parts.0 s.3, (second x.0).has (p + length s.0) s.1 x.1 parts.1 s.4);
+  has = λ p text x bytes (t, u, joined, first_spelled, second_spelled).
+      let parts = kind.split t u (subst kind.Are joined bytes) in
+      (first.has p t x.0 parts.0 first_spelled, (second x.0).has (p + length t) u x.1 parts.1 second_spelled);
 }
 
 -- The values under a function that may refuse.
 pub Spelled-try_map : {kind : ByteStrings} {A B : Type 0} {f : A → Option B} {g : Grammar A} {P : A → Type 0} {Q : B → Type 0} →
     Spelled kind g P → ((a : A) (b : B) → f a ≡ Some b → P a → Q b) → Spelled kind (try_map f g) Q
-Spelled-try_map all keeps = record { has = λ p text b bytes s. keeps s.0 b s.1 (all.has p text s.0 bytes s.2) }
+Spelled-try_map all keeps = record { has = λ p text b bytes (a, made, spelled). keeps a b made (all.has p text a bytes spelled) }
 
 -- The values under a function.
 pub Spelled-map_value : {kind : ByteStrings} {A B : Type 0} {f : A → B} {g : Grammar A} {P : A → Type 0} {Q : B → Type 0} →
@@ -119,21 +119,21 @@ Spelled-within {size = size} takes all n = record {
   has = λ p text a bytes s. (all.has p text a bytes s.1, subst (λ k. size a ≤ k) s.0 (takes p text a s.1));
 }
 
--- Items that stand one after the other.
+-- AreItems that stand one after the other.
 pub items_have : {kind : ByteStrings} {A : Type 0} {g : Grammar A} {P : A → Type 0} → Spelled kind g P →
-    (xs : List A) (p : ℕ) (text : List ℕ) → kind.Are text → Items g p text xs → AllByRecursion P xs
+    (xs : List A) (p : ℕ) (text : List ℕ) → kind.Are text → AreItems g p text xs → AllByRecursion P xs
 items_have all [] p text bytes s = tt
-items_have {kind} all (x ∷ xs) p text bytes s =
-    let parts = kind.split s.0 s.1 (subst kind.Are s.2 bytes) in
-    (all.has p s.0 x parts.0 s.3, items_have all xs (p + length s.0) s.1 parts.1 s.4)
+items_have {kind} all (x ∷ xs) p text bytes (t, u, joined, spelled, all_spelled) =
+    let parts = kind.split t u (subst kind.Are joined bytes) in
+    (all.has p t x parts.0 spelled, items_have all xs (p + length t) u parts.1 all_spelled)
 
--- Items up to the end of the bytes.
+-- AreItems up to the end of the bytes.
 pub entries_have : {kind : ByteStrings} {A : Type 0} {g : Grammar A} {P : A → Type 0} → Spelled kind g P →
     (xs : List A) (p : ℕ) (text : List ℕ) → kind.Are text → Entries g p text xs → AllByRecursion P xs
 entries_have all [] p text bytes s = tt
-entries_have {kind} all (x ∷ xs) p text bytes s =
-    let parts = kind.split s.0 s.1 (subst kind.Are s.2 bytes) in
-    (all.has p s.0 x parts.0 s.4, entries_have all xs (p + length s.0) s.1 parts.1 s.5)
+entries_have {kind} all (x ∷ xs) p text bytes (t, u, joined, takes, spelled, all_spelled) =
+    let parts = kind.split t u (subst kind.Are joined bytes) in
+    (all.has p t x parts.0 spelled, entries_have all xs (p + length t) u parts.1 all_spelled)
 
 -- So many items.
 pub Spelled-times : {kind : ByteStrings} {A : Type 0} {g : Grammar A} {P : A → Type 0} → Spelled kind g P →

@@ -30,6 +30,7 @@ refused-append behind (Stops ps id ∷ xs) ys = refl
 
 refused-parts : (o : Options) (folds : Bool) (answers : Answers) (names : Names) (m : PlacedModule) →
     refused_before None (module_parts o answers names m) ≡ refused_before None (module_parts (record o { folds = folds }) answers names m)
+unfolding module_parts
 refused-parts o folds answers names m = simp refused-append refl
 
 refusal-folds : (o : Options) (folds : Bool) (answers : Answers) (m : PlacedModule) → refusal o answers m ≡ refusal (record o { folds = folds }) answers m

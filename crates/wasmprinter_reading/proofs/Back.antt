@@ -5,11 +5,12 @@ use Rattle.std.proofs.lemmas.List.{length-map}
 use Rattle.wasmprinter_spec.specs.Grammar.{Placed}
 use Rattle.wasmprinter_spec.specs.Forest.{Forest, End, Word, Group, onto}
 use Rattle.wasmprinter_spec.specs.Types.{SubType, MemoryType, ExternKind, FuncKind, TableKind, MemoryKind, GlobalKind, TagKind, ExternType, FuncExtern, TableExtern, MemoryExtern, GlobalExtern, TagExtern, concat, all_types, signature_at}
+use Rattle.wasmprinter_spec.specs.Kinds.{Kind, CustomSection, TypeSection, ImportSection, FunctionSection, TableSection, MemorySection, TagSection, GlobalSection, ExportSection, StartSection, ElementSection, DataCountSection, CodeSection, DataSection}
 use Rattle.wasmprinter_spec.specs.Row as row
 use Rattle.wasmprinter_spec.specs.Row.{Space, Types, Func}
 use Rattle.wasmprinter_spec.specs.Names.{Names, AreApart, AreNamed, identifiers, identifiers_at, in_function}
 use Rattle.wasmprinter_spec.specs.Operator.{Operator}
-use Rattle.wasmprinter_spec.specs.Placed.{TypeGroup, Import, Export, Table, Global, Mode, Passive, Declared, Active, Items, Functions, Expressions, ElementEntry, DataMode, PassiveData, ActiveData, Data, PlacedFunction, PlacedModule}
+use Rattle.wasmprinter_spec.specs.Placed.{TypeGroup, Import, Export, Table, Global, ElementMode, Passive, Declared, Active, Items, Functions, Expressions, ElementEntry, DataMode, PassiveData, ActiveData, Data, PlacedFunction, PlacedModule}
 use Rattle.wasmprinter_spec.specs.Module.{func_import, table_import, memory_import, global_import, tag_import, without_places, each_value, mode_without_places, items_without_places, data_mode_without_places, groups_of, function_of, table_without_places, global_without_places, element_without_places, data_without_places, Module, module_of}
 use Rattle.wasmprinter_spec.specs.Limits.{HasNoEmptyInit}
 use Rattle.wasmprinter_spec.specs.Indexed as indexed
@@ -21,7 +22,7 @@ use Rattle.wasmprinter_spec.specs.Folding.Refusals.{Operators, init_list, offset
 use Rattle.wasmprinter_spec.specs.Layout.Declarations.{Scope, scope_of, folding_of}
 use Rattle.wasmprinter_spec.specs.Layout.Expressions.{in_line}
 use Rattle.wasmprinter_spec.specs.Layout.Imports.{Numbers, no_numbers, number_of, numbers_behind}
-use Rattle.wasmprinter_spec.specs.Layout.{early_scope, late_scope}
+use Rattle.wasmprinter_spec.specs.Layout.{early_scope, late_scope, section_order}
 use Rattle.wasmprinter_spec.specs.Text.Items.{each, identifier_in_front}
 use Rattle.wasmprinter_spec.specs.Text.Types as text
 use Rattle.wasmprinter_spec.specs.Text.Types.{read_group}
@@ -129,22 +130,22 @@ module _ (o : Options) (names : Names) (m : PlacedModule) where
   abbrev pub before : ExternKind → ℕ
   before kind = imports_of kind (without_places m.imports)
 
-  abbrev pub own_table : ℕ → Placed (Table (Placed Operator)) → Forest
+  abbrev own_table : ℕ → Placed (Table (Placed Operator)) → Forest
   own_table i t = table_items early i t.value
 
-  abbrev pub own_memory : ℕ → Placed MemoryType → Forest
+  abbrev own_memory : ℕ → Placed MemoryType → Forest
   own_memory i x = memory_items early i x.value
 
-  abbrev pub own_tag : ℕ → Placed ℕ → Forest
+  abbrev own_tag : ℕ → Placed ℕ → Forest
   own_tag i tag = tag_items early i tag.value
 
-  abbrev pub own_global : ℕ → Placed (Global (Placed Operator)) → Forest
+  abbrev own_global : ℕ → Placed (Global (Placed Operator)) → Forest
   own_global i g = global_items early i g.value
 
-  abbrev pub own_export : ℕ → Placed Export → Forest
+  abbrev own_export : ℕ → Placed Export → Forest
   own_export i e = export_items early e.value
 
-  abbrev pub own_element : Bool → ℕ → Placed ElementEntry → Forest
+  abbrev own_element : Bool → ℕ → Placed ElementEntry → Forest
   own_element skeleton i e = element_items early skeleton i e.value
 
   -- the hints that wait behind so many functions
@@ -159,23 +160,34 @@ module _ (o : Options) (names : Names) (m : PlacedModule) where
   abbrev pub own_function : Bool → ℕ → PlacedFunction → Forest
   own_function skeleton i f = function_items skeleton early i (own_hints i) f
 
-  abbrev pub own_data : Bool → ℕ → Placed (Data (Placed Operator)) → Forest
+  abbrev own_data : Bool → ℕ → Placed (Data (Placed Operator)) → Forest
   own_data skeleton i d = data_items late skeleton i d.value
 
-  -- what a module is written as behind its identifier, its functions and segments whole or not
+  -- what the fields of the section of a kind are written as, functions and segments whole or not
+  abbrev pub fields_items : Bool → Kind → Forest
+  fields_items skeleton TypeSection = type_section_items names 0 m.types
+  fields_items skeleton ImportSection = imports_items early no_numbers m.imports
+  fields_items skeleton FunctionSection = End
+  fields_items skeleton TableSection = field_rows (codes "table") own_table (before TableKind) m.tables
+  fields_items skeleton MemorySection = field_rows (codes "memory") own_memory (before MemoryKind) m.memories
+  fields_items skeleton TagSection = field_rows (codes "tag") own_tag (before TagKind) m.tags
+  fields_items skeleton GlobalSection = field_rows (codes "global") own_global (before GlobalKind) m.globals
+  fields_items skeleton ExportSection = field_rows (codes "export") own_export 0 m.exports
+  fields_items skeleton StartSection = start_items early m.start
+  fields_items skeleton ElementSection = field_rows (codes "elem") (own_element skeleton) 0 m.elements
+  fields_items skeleton DataCountSection = End
+  fields_items skeleton CodeSection = field_rows (codes "func") (own_function skeleton) (before FuncKind) m.functions
+  fields_items skeleton DataSection = field_rows (codes "data") (own_data skeleton) 0 m.datas
+  fields_items skeleton CustomSection = End
+
+  -- those of sections in order
+  abbrev pub kinds_items : Bool → List Kind → Forest
+  kinds_items skeleton [] = End
+  kinds_items skeleton (k ∷ ks) = onto (fields_items skeleton k) (kinds_items skeleton ks)
+
+  -- what a module is written as behind its identifier
   unfoldable pub module_items : Bool → Forest
-  module_items skeleton =
-      onto (type_section_items names 0 m.types)
-      (onto (imports_items early no_numbers m.imports)
-      (onto (field_rows (codes "table") own_table (before TableKind) m.tables)
-      (onto (field_rows (codes "memory") own_memory (before MemoryKind) m.memories)
-      (onto (field_rows (codes "tag") own_tag (before TagKind) m.tags)
-      (onto (field_rows (codes "global") own_global (before GlobalKind) m.globals)
-      (onto (field_rows (codes "export") own_export 0 m.exports)
-      (onto (start_items early m.start)
-      (onto (field_rows (codes "elem") (own_element skeleton) 0 m.elements)
-      (onto (field_rows (codes "func") (own_function skeleton) (before FuncKind) m.functions)
-      (onto (field_rows (codes "data") (own_data skeleton) 0 m.datas) End))))))))))
+  module_items skeleton = kinds_items skeleton section_order
 
   abbrev own_imports : List ImportField
   own_imports = imports_held early no_numbers m.imports
@@ -351,13 +363,16 @@ module _ (o : Options) (names : Names) (m : PlacedModule) where
 
     read_function-own : (i : ℕ) (f : PlacedFunction) → (IsRangedFunction f × Foldable o m f.body.value.operators) × IsIndexedFunction (module_of m) (function_of f) →
         read_function whole_context (own_function false i f) ≡ Some (function_of f)
-    read_function-own i f d =
+    read_function-own i f ((ranged, folds), indexes) =
         let few : variable_count (signature_at own_types f.type_index) f ≤ 2 ^ 64 =
-        variables_few _ f.body.value.locals (own_parameters_few m.types f.type_index h.each_group) d.0.0.body.groups d.0.0.body.locals in
-        read_function-items early whole_context own_counts (scoped early.function) i (own_hints i) d.1.type_index.0 f d.1.type_index.1 d.0.0 d.1.locals few d.1.operators d.0.1
+        variables_few _ f.body.value.locals (own_parameters_few m.types f.type_index h.each_group) ranged.body.groups ranged.body.locals in
+        let (type, is_type) = indexes.type_index in
+        read_function-items early whole_context own_counts (scoped early.function) i (own_hints i) type f is_type
+        ranged indexes.locals few indexes.operators folds
 
     read_tag-own : (i : ℕ) (tag : Placed ℕ) → (tag.value < 2 ^ 32) × NamesFunction (module_of m) tag.value → read_tag whole_context (own_tag i tag) ≡ Some tag.value
-    read_tag-own i tag d = read_tag-items early whole_context own_counts (scoped early.function) i d.1.0 tag.value d.1.1 d.0
+    read_tag-own i tag (small, (type, is_type)) =
+        read_tag-items early whole_context own_counts (scoped early.function) i type tag.value is_type small
 
     scoped_extern : (t : ExternType) → indexed.IsIndexedExtern (module_of m) t → IsScopedExtern early own_counts t
     scoped_extern (FuncExtern i) d = d
@@ -388,7 +403,8 @@ module _ (o : Options) (names : Names) (m : PlacedModule) where
 
     read_global-own : (i : ℕ) (g : Placed (Global (Placed Operator))) → (IsRangedGlobal g.value × Foldable o m g.value.init) × IsIndexedGlobal (module_of m) (global_without_places g.value) →
         read_global whole_context (own_global i g) ≡ Some (global_without_places g.value)
-    read_global-own i g d = read_global-items early whole_context own_counts (scoped early.function) i g.value d.0.0 d.1.type (d.1.init, d.0.1)
+    read_global-own i g ((ranged, folds), indexes) =
+        read_global-items early whole_context own_counts (scoped early.function) i g.value ranged indexes.type (indexes.init, folds)
 
     read_export-own : (i : ℕ) (e : Placed Export) → IsRangedExport e.value × IsIndexedExport (module_of m) e.value → read_export whole_context (own_export i e) ≡ Some e.value
     read_export-own i e d = read_export-items early whole_context own_counts (scoped early.function) e.value d.0 d.1
@@ -397,7 +413,7 @@ module _ (o : Options) (names : Names) (m : PlacedModule) where
     indexed_start None d = tt
     indexed_start (Some i) d = d
 
-    indexed_mode : (x : Mode (Placed Operator)) → indexed.IsIndexedMode (module_of m) (mode_without_places x) → AllFoldable o m (offset_list x) →
+    indexed_mode : (x : ElementMode (Placed Operator)) → indexed.IsIndexedMode (module_of m) (mode_without_places x) → AllFoldable o m (offset_list x) →
         elements.IsIndexedMode early whole_context own_counts (scoped early.function) x
     indexed_mode Passive d l = tt
     indexed_mode Declared d l = tt
@@ -415,19 +431,20 @@ module _ (o : Options) (names : Names) (m : PlacedModule) where
 
     read_element-own : (i : ℕ) (e : Placed ElementEntry) → (IsRangedElement e.value × AllFoldable o m (element_lists false e)) × IsIndexedElement (module_of m) (element_without_places e.value) →
         read_element whole_context (own_element false i e) ≡ Some (element_without_places e.value)
-    read_element-own i e d =
-        let parts = all_parts (Foldable o m) (offset_list e.value.element.mode) (item_lists e.value.element.items) d.0.1 in
-        read_element-items early whole_context own_counts (scoped early.function) i e.value d.0.0
-        (indexed_mode e.value.element.mode d.1.mode parts.0) (indexed_items e.value.element.items d.1.items parts.1)
+    read_element-own i e ((ranged, folds), indexes) =
+        let parts = all_parts (Foldable o m) (offset_list e.value.element.mode) (item_lists e.value.element.items) folds in
+        read_element-items early whole_context own_counts (scoped early.function) i e.value ranged
+        (indexed_mode e.value.element.mode indexes.mode parts.0) (indexed_items e.value.element.items indexes.items parts.1)
 
     indexed_data_mode : (x : DataMode (Placed Operator)) → indexed.IsIndexedDataMode (module_of m) (data_mode_without_places x) →
-        AllFoldable o m (elim x as (λ y. List Operators) [ PassiveData ↦ [] | ActiveData memory os ↦ os ∷ [] ]) → datas.IsIndexedMode late whole_context own_counts (scoped late.function) x
+        AllFoldable o m (elim x as (λ y. List Operators) [ PassiveData ↦ [] | ActiveData memory os ↦ os ∷ [] ]) → datas.IsIndexedDataMode late whole_context own_counts (scoped late.function) x
     indexed_data_mode PassiveData d l = tt
     indexed_data_mode (ActiveData memory offset) d l = (d.0, (d.1, l.0))
 
     read_data-own : (i : ℕ) (d : Placed (Data (Placed Operator))) → (IsRangedData d.value × AllFoldable o m (data_lists d)) × IsIndexedData (module_of m) (data_without_places d.value) →
         read_data whole_context (own_data false i d) ≡ Some (data_without_places d.value)
-    read_data-own i x d = read_data-items late whole_context own_counts (scoped late.function) i x.value d.0.0 (indexed_data_mode x.value.mode d.1 d.0.1)
+    read_data-own i x ((ranged, folds), indexes) =
+        read_data-items late whole_context own_counts (scoped late.function) i x.value ranged (indexed_data_mode x.value.mode indexes folds)
 
     -- ---- all fields of each kind
 
@@ -508,20 +525,22 @@ module _ (o : Options) (names : Names) (m : PlacedModule) where
         )
 
   -- no identifier stands before the fields
+  unidentified_fields : (k : Kind) (f : Forest) → IsUnidentified f → IsUnidentified (onto (fields_items false k) f)
+  unidentified_fields TypeSection f h = unidentified_types names 0 m.types f h
+  unidentified_fields ImportSection f h = unidentified_imports early no_numbers m.imports f h
+  unidentified_fields FunctionSection f h = h
+  unidentified_fields StartSection f h = unidentified_start early m.start f h
+  unidentified_fields DataCountSection f h = h
+  unidentified_fields CustomSection f h = h
+  unidentified_fields _ f h = unidentified_rows _ f h
+
+  unidentified_kinds : (ks : List Kind) → IsUnidentified (kinds_items false ks)
+  unidentified_kinds [] = refl
+  unidentified_kinds (k ∷ ks) = unidentified_fields k (kinds_items false ks) (unidentified_kinds ks)
+
   no_identifier : IsUnidentified (module_items false)
   unfolding module_items
-  no_identifier =
-      unidentified_types names 0 m.types _
-      (unidentified_imports early no_numbers m.imports _
-      (unidentified_rows _ _
-      (unidentified_rows _ _
-      (unidentified_rows _ _
-      (unidentified_rows _ _
-      (unidentified_rows _ _
-      (unidentified_start early m.start _
-      (unidentified_rows _ _
-      (unidentified_rows _ _
-      (unidentified_rows _ End refl))))))))))
+  no_identifier = unidentified_kinds section_order
 
   -- behind the word `module` stand the module's identifier and its fields
   pub module_reads : AreApart names → AreNamed names → CanFold o m → IsIndexed (module_of m) → IsRanged m → AllByRecursion (λ t. HasNoEmptyInit t.value.init) m.tables →

@@ -1,10 +1,8 @@
 -- Declarations with the identifiers that they have: parameters, locals and fields.
-use Rattle.std.proofs.Common.{◌≡◌, true, ℕ, zero, suc, ◌+◌, ◌≤◌, ◌^◌, List, [], ◌∷◌, ◌++◌, length, Option, Some, refl, ap, ◌∙◌, arith, option_map}
+use Rattle.std.proofs.Common.{◌≡◌, ℕ, zero, suc, ◌+◌, List, [], ◌∷◌, ◌++◌, length, Option, refl, ap, ◌∙◌, arith, option_map}
 use Rattle.wasmprinter_spec.specs.Labels.{Named}
-use Rattle.wasmprinter_spec.specs.IndexSpaces.{are_distinct, index_space}
-use Rattle.wasmprinter_spec.specs.Names.{AreDistinct, identifiers_at, identifiers}
+use Rattle.wasmprinter_spec.specs.Names.{identifiers_at}
 use Rattle.wasmprinter_spec.specs.Text.Items.{Declaration, declaration, ids_of, types_of}
-use Rattle.wasmprinter_reading.proofs.Names.Resolving.{identifiers_are_distinct}
 
 -- what a reader keeps of an identifier
 abbrev pub id : Option Named → Option (List ℕ)
@@ -34,10 +32,3 @@ identifiers_at-more named k (suc m) n =
     let f : suc (m + n) ≡ suc m + n = omega arith in
     ap (λ is. id (named k) ∷ is) (ap (λ j. identifiers_at named (k + 1) m ++ identifiers_at named j n) e ∙ identifiers_at-more named (k + 1) m n)
     ∙ ap (λ j. identifiers_at named k j) f
-
--- the first declarations are one space
-pub declared_space : {A : Type 0} (named : ℕ → Option Named) → AreDistinct named → (xs : List A) → length xs ≤ 2 ^ 64 →
-    index_space (ids_of (declared_from named 0 xs)) ≡ Some (identifiers named (length xs))
-declared_space named apart xs few =
-    let distinct : are_distinct (identifiers named (length xs)) ≡ true = identifiers_are_distinct named apart (length xs) few in
-    rw (ids_of-declared named 0 xs, distinct)

@@ -1,54 +1,49 @@
 -- A number that bytes spell in LEB128 with so many bits lies in the range of that many bits.
-use Rattle.std.proofs.Common.{◌≡◌, ℕ, ℤ, pos, negsuc, ◌+ℤ◌, ◌*ℤ◌, ◌+◌, ◌-◌, ◌*◌, ◌^◌, ◌<◌, ◌≤◌, List, [], ◌∷◌, inl, inr, ap, subst, ◌∙◌, arith}
+use Rattle.std.proofs.Common.{◌≡◌, ℕ, ℤ, pos, negsuc, ◌+ℤ◌, ◌*ℤ◌, ◌+◌, ◌-◌, ◌*◌, ◌^◌, ◌<◌, ◌≤◌, List, [], ◌∷◌, inl, inr, subst, arith}
 use Rattle.std.proofs.lemmas.Int.{ints}
-use Rattle.std.proofs.lemmas.Nat.{pow-add}
 use Rattle.wasmprinter_spec.specs.Leb.{Unsigned, unsigned, Signed, signed}
 use Rattle.wasmprinter_spec.specs.Binary.{AreBytes}
+use Rattle.wasmprinter_spec.proofs.Powers.{pow_seven}
 use Rattle.wasmprinter_reading.proofs.AllSpelled.{AllSpelled}
-use Rattle.wasmprinter_reading.specs.Listed.{IsSigned}
-
--- Seven bits more hold 128 times as much.
-pow_seven : (bits : ℕ) → 7 ≤ bits → 2 ^ bits ≡ 128 * 2 ^ (bits - 7)
-pow_seven bits more =
-    let e : bits ≡ 7 + (bits - 7) = omega arith in
-    ap (λ (n : ℕ). 2 ^ n) e ∙ pow-add 2 7 (bits - 7)
+use Rattle.wasmprinter_reading.specs.Listed.{FitsSigned}
 
 -- An unsigned number is below 2 ^ bits: its last byte is, and each byte before adds seven bits.
 unsigned_range : (text : List ℕ) (bits p n : ℕ) → AreBytes text → Unsigned bits p text n → n < 2 ^ bits
 unsigned_range [] bits p n bytes s = absurd s
 unsigned_range (b ∷ text) bits p n bytes s =
     elim s [
-      | inl last ↦ omega (arith, last.1, last.3)
-      | inr other ↦
-          let high : other.2 < 2 ^ (bits - 7) = unsigned_range text (bits - 7) p other.2 bytes.1 other.4 in
-          omega (arith, bytes.0, other.3, pow_seven bits (omega (arith, other.1)))
+      | inl (below, fits, last, is) ↦ omega (arith, fits, is)
+      | inr (above, room, high, is, spelled) ↦
+          let less : high < 2 ^ (bits - 7) = unsigned_range text (bits - 7) p high bytes.1 spelled in
+          omega (arith, bytes.0, is, pow_seven bits (omega (arith, room)))
     ]
 
 -- A number below 128 and 128 times a signed number is one of seven bits more.
-joined_range : (bits low : ℕ) (high z : ℤ) → 7 ≤ bits → low < 128 → IsSigned (bits - 7) high → z ≡ pos low +ℤ pos 128 *ℤ high → IsSigned bits z
+joined_range : (bits low : ℕ) (high z : ℤ) → 7 ≤ bits → low < 128 → FitsSigned (bits - 7) high → z ≡ pos low +ℤ pos 128 *ℤ high → FitsSigned bits z
 joined_range bits low high z more seven r e =
     let q = pow_seven bits more in
     (omega (arith, ints, q, r.0, r.1), omega (arith, ints, q, r.0, r.1))
 
 -- A last byte below 64 stands for itself.
-low_range : (bits b : ℕ) (z : ℤ) → b < 2 ^ bits → z ≡ pos b → IsSigned bits z
+low_range : (bits b : ℕ) (z : ℤ) → b < 2 ^ bits → z ≡ pos b → FitsSigned bits z
 low_range bits b z less e = (omega (arith, ints), omega (arith, ints))
 
 -- A last byte from 64 on stands for a negative number.
-high_range : (bits n : ℕ) (z : ℤ) → n < 2 ^ bits → z ≡ negsuc n → IsSigned bits z
+high_range : (bits n : ℕ) (z : ℤ) → n < 2 ^ bits → z ≡ negsuc n → FitsSigned bits z
 high_range bits n z less e = (omega (arith, ints), omega (arith, ints))
 
 -- A signed number is one of its bits, of which the highest is the sign.
-signed_range : (text : List ℕ) (bits p : ℕ) (z : ℤ) → AreBytes text → Signed bits p text z → IsSigned (bits - 1) z
+signed_range : (text : List ℕ) (bits p : ℕ) (z : ℤ) → AreBytes text → Signed bits p text z → FitsSigned (bits - 1) z
 signed_range [] bits p z bytes s = absurd s
 signed_range (b ∷ text) bits p z bytes s =
     elim s [
-      | inl last ↦ low_range (bits - 1) b z last.1 last.3
-      | inr (inl last) ↦ high_range (bits - 1) (127 - b) z last.2 last.4
-      | inr (inr other) ↦
-          let less : bits - 7 - 1 ≡ bits - 1 - 7 = omega (arith, other.1) in
-          let high : IsSigned (bits - 1 - 7) other.2 = subst (λ (n : ℕ). IsSigned n other.2) less (signed_range text (bits - 7) p other.2 bytes.1 other.4) in
-          joined_range (bits - 1) (b - 128) other.2 z (omega (arith, other.1)) (omega (arith, bytes.0)) high other.3
+      | inl (below, fits, last, is) ↦ low_range (bits - 1) b z fits is
+      | inr (inl (from, below, fits, last, is)) ↦ high_range (bits - 1) (127 - b) z fits is
+      | inr (inr (above, room, high, is, spelled)) ↦
+          let less : bits - 7 - 1 ≡ bits - 1 - 7 = omega (arith, room) in
+          let fits : FitsSigned (bits - 1 - 7) high =
+          subst (λ (n : ℕ). FitsSigned n high) less (signed_range text (bits - 7) p high bytes.1 spelled) in
+          joined_range (bits - 1) (b - 128) high z (omega (arith, room)) (omega (arith, bytes.0)) fits is
     ]
 
 -- An unsigned number of so many bits.
@@ -56,5 +51,5 @@ pub AllSpelled-unsigned : (bits : ℕ) → AllSpelled (unsigned bits) (λ n. n <
 AllSpelled-unsigned bits = record { has = λ p text n bytes s. unsigned_range text bits p n bytes s }
 
 -- A signed number of so many bits.
-pub AllSpelled-signed : (bits : ℕ) → AllSpelled (signed bits) (IsSigned (bits - 1))
+pub AllSpelled-signed : (bits : ℕ) → AllSpelled (signed bits) (FitsSigned (bits - 1))
 AllSpelled-signed bits = record { has = λ p text z bytes s. signed_range text bits p z bytes s }

@@ -8,7 +8,7 @@ use Rattle.wasmprinter_spec.specs.Call.{text_of}
 use Rattle.wasmprinter_spec.specs.Options.{Options, Answers, AreUnclaimed, IsBlank}
 use Rattle.wasmprinter_spec.specs.Plain.{IsPlainText}
 use Rattle.wasmprinter_spec.specs.Piece.{Piece, all_calls}
-use Rattle.wasmprinter_spec.specs.Kinds.{Kind, TypeSection, ImportSection, FunctionSection, TableSection, MemorySection, TagSection, GlobalSection, ExportSection, StartSection, ElementSection, CodeSection, DataSection}
+use Rattle.wasmprinter_spec.specs.Kinds.{Kind, CodeSection}
 use Rattle.wasmprinter_spec.specs.Types.{FuncKind}
 use Rattle.wasmprinter_spec.specs.Customs.{RawCustom, raw_customs}
 use Rattle.wasmprinter_spec.specs.Customs.Hints.{FunctionHints, hints_of, hints_behind}
@@ -18,7 +18,7 @@ use Rattle.wasmprinter_spec.specs.Labels.{Named}
 use Rattle.wasmprinter_spec.specs.Layout.Declarations.{Scope}
 use Rattle.wasmprinter_spec.specs.ModuleNames.{module_names}
 use Rattle.wasmprinter_spec.specs.Module.{Module, module_of}
-use Rattle.wasmprinter_spec.specs.Layout.{module_pieces_with, module_pieces, layout, refusal}
+use Rattle.wasmprinter_spec.specs.Layout.{section_order, module_pieces_with, module_pieces, layout, refusal}
 use Rattle.wasmprinter_spec.specs.Laws.{ReadsBack, TokensStay, PrintsPlainText}
 use Rattle.wasmprinter_spec.specs.Read.{read, read_groups, read_forest, read_customs}
 use Rattle.wasmprinter_spec.specs.Text.Items.{each}
@@ -36,8 +36,8 @@ use Rattle.wasmprinter_lexical.proofs.Writes.{Writes, pieces_tokens, writes_text
 use Rattle.wasmprinter_reading.proofs.Identifiers.{id_items}
 use Rattle.wasmprinter_reading.proofs.Fields.Functions.{functions_hinted}
 use Rattle.wasmprinter_reading.proofs.Customs.Notes.{at_place, RowReads, both_rows}
-use Rattle.wasmprinter_reading.proofs.Customs.Places.{raws_over_all}
-use Rattle.wasmprinter_reading.proofs.Written.{types_write, own_imports_write, tables_write, memories_write, tags_write, globals_write, exports_write, start_write, elements_write, datas_write, noting, noted, module_noted, laid, module_writes, Stands, module_stands}
+use Rattle.wasmprinter_reading.proofs.Customs.Places.{raws_over, raws_over_all}
+use Rattle.wasmprinter_reading.proofs.Written.{fields_noted, fields_write, noting, noted, kinds_noted, module_noted, laid, module_writes, Stands, module_stands}
 use Rattle.wasmprinter_reading.proofs.Foldable.{can_fold}
 use Rattle.wasmprinter_reading.proofs.Back.{early, before, module_items, module_reads}
 
@@ -89,31 +89,23 @@ module _ (o : Options) (names : Names) (named : AreNamed names) (m : PlacedModul
   unfolding own_noted raws
   place_row place = record { reads = (noting o names named m h plain answers place).reads unclaimed whole }
 
-  -- a part and the sections behind it
-  field_row : {f rest : Forest} {rs : List RawCustom} (place : Option Kind) → RawRow f [] → RawRow rest rs → RawRow (onto f (onto (own_noted place) rest)) (raws place ++ rs)
-  field_row place e r = raw_rows e (raw_rows (place_row place) r)
+  -- no custom section is among the fields
+  fields_row : (k : Kind) → RawRow (fields_noted o names named m h plain k) []
+  fields_row CodeSection =
+      record { reads = functions_row o.skeleton (early o names m) (hints_of m.customs) (before o names m FuncKind) m.functions }
+  fields_row k = plain_row (fields_write o names named m h plain k)
+
+  -- those behind the fields of sections in order
+  kinds_row : (ks : List Kind) → RawRow (kinds_noted o names named m h plain answers ks) (raws_over (map Some ks) m.customs)
+  unfolding own_noted raws
+  kinds_row [] = record { reads = refl }
+  kinds_row (k ∷ ks) = raw_rows (fields_row k) (raw_rows (place_row (Some k)) (kinds_row ks))
 
   module_row : RawRow (module_noted o names named m h plain answers) (raw_customs m.customs)
   unfolding module_noted own_noted raws
   module_row =
-      let functions : RawRow (functions_hinted o.skeleton (early o names m) (hints_of m.customs) (before o names m FuncKind) m.functions) [] =
-      record { reads = functions_row o.skeleton (early o names m) (hints_of m.customs) (before o names m FuncKind) m.functions } in
-      let last : RawRow (own_noted (Some DataSection)) (raws (Some DataSection) ++ []) =
-      subst (RawRow (own_noted (Some DataSection))) (sym (append-nil (raws (Some DataSection)))) (place_row (Some DataSection)) in
       subst (RawRow (module_noted o names named m h plain answers)) (raws_over_all 0 m.customs h.customs_in_order)
-      (raw_rows (place_row None)
-      (field_row (Some TypeSection) (plain_row (types_write o names named m h plain))
-      (field_row (Some ImportSection) (plain_row (own_imports_write o names named m h plain))
-      (raw_rows (place_row (Some FunctionSection))
-      (field_row (Some TableSection) (plain_row (tables_write o names named m h plain))
-      (field_row (Some MemorySection) (plain_row (memories_write o names named m h plain))
-      (field_row (Some TagSection) (plain_row (tags_write o names named m h plain))
-      (field_row (Some GlobalSection) (plain_row (globals_write o names named m h plain))
-      (field_row (Some ExportSection) (plain_row (exports_write o names named m h plain))
-      (field_row (Some StartSection) (plain_row (start_write o names named m h plain))
-      (field_row (Some ElementSection) (plain_row (elements_write o names named m h plain))
-      (field_row (Some CodeSection) functions
-      (raw_rows (plain_row (datas_write o names named m h plain)) last)))))))))))))
+      (raw_rows (place_row None) (kinds_row section_order))
 
   abbrev own_items : Forest
   own_items = Group (Word (codes "module") (onto (id_items names.module_name) (module_items o names m o.skeleton))) End

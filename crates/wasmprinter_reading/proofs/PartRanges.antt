@@ -12,7 +12,7 @@ use Rattle.wasmprinter_spec.specs.FirstByte.{only}
 use Rattle.wasmprinter_spec.specs.Name.{u32, name}
 use Rattle.wasmprinter_spec.specs.Types.{RefType, ref_type, Func}
 use Rattle.wasmprinter_spec.specs.Operator.{Operator}
-use Rattle.wasmprinter_spec.specs.Placed.{Mode, Passive, Declared, Items}
+use Rattle.wasmprinter_spec.specs.Placed.{ElementMode, Passive, Declared, Items}
 use Rattle.wasmprinter_spec.specs.Instructions.{constant, expression}
 use Rattle.wasmprinter_spec.specs.Binary.Types.{mutability}
 use Rattle.wasmprinter_spec.specs.Binary.Limits.{has_bit, limits}
@@ -61,7 +61,7 @@ pub AllSpelled-memory_type : AllSpelled memory_type IsRangedMemory
 AllSpelled-memory_type = Spelled-behind_first_byte (λ flags.
     Spelled-choose (ltb flags 16)
     (Spelled-map_value (Spelled-seq (AllSpelled-limits (has_bit 0 flags)) (λ _. AllSpelled-page (has_bit 3 flags)))
-    (λ x h. record { min = h.0.0; max = h.0.1; page = h.1 })) Spelled-fail)
+    (λ x ((min, max), page). record { min = min; max = max; page = page })) Spelled-fail)
 
 -- A tag: the index of its type.
 pub AllSpelled-tag : AllSpelled tag (λ i. i < 2 ^ 32)
@@ -96,7 +96,7 @@ AllSpelled-table_limits flags =
 AllSpelled-table_type : AllSpelled table_type IsRangedTableType
 AllSpelled-table_type =
     Spelled-map_value (Spelled-seq AllSpelled-reference_type (λ _. Spelled-behind_first_byte AllSpelled-table_limits))
-    (λ x h. record { min = h.1.0; max = h.1.1; element = h.0 })
+    (λ x (element, (min, max)). record { min = min; max = max; element = element })
 
 -- A table, with an initialiser or without.
 FewSpelled-table_by : (b : ℕ) → FewSpelled (table_by b) IsRangedTable
@@ -132,7 +132,7 @@ AllSpelled-extern_type_behind k =
 pub AllSpelled-import : AllSpelled import IsRangedImport
 AllSpelled-import =
     Spelled-map_value (Spelled-seq AllSpelled-name (λ _. Spelled-seq AllSpelled-name (λ _. Spelled-behind_first_byte AllSpelled-extern_type_behind)))
-    (λ x h. record { source = h.0; name = h.1.0; type = h.1.1 })
+    (λ x (source, (name, type)). record { source = source; name = name; type = type })
 
 -- ---- element segments
 
@@ -165,7 +165,7 @@ FewSpelled-of_type =
     items_behind : (t : RefType) → FewSpelled (binary.expression_items t) (λ is. IsRangedHeap t.heap → AreRangedItems is)
     items_behind t = Spelled-map_value (Spelled-vec FewSpelled-constant) (λ es h r. (r, h.each))
 
-FewSpelled-segment : (names : Bool) {mode : Grammar (Mode (Placed Operator))} {items : Grammar (Items (Placed Operator))} →
+FewSpelled-segment : (names : Bool) {mode : Grammar (ElementMode (Placed Operator))} {items : Grammar (Items (Placed Operator))} →
     FewSpelled mode (IsRangedMode names) → FewSpelled items AreRangedItems → FewSpelled (binary.segment names mode items) IsRangedElement
 FewSpelled-segment names m i = Spelled-map_value (Spelled-seq m (λ _. i)) (λ x h. record { mode = h.0; items = h.1 })
 
@@ -193,10 +193,10 @@ FewSpelled-data_mode flags =
     Spelled-fail))
 
 AllSpelled-byte_vec : AllSpelled segments.byte_vec AreBytes
-AllSpelled-byte_vec = Spelled-map_value (Spelled-seq AllSpelled-u32 (λ n. AllSpelled-take_bytes n)) (λ x h. h.1.1)
+AllSpelled-byte_vec = Spelled-map_value (Spelled-seq AllSpelled-u32 (λ n. AllSpelled-take_bytes n)) (λ x (_, (_, bytes)). bytes)
 
 pub FewSpelled-data : FewSpelled segments.segment IsRangedData
 FewSpelled-data =
     Spelled-map_value (Spelled-seq (Spelled-of_all AllSpelled-u32)
     (λ flags. Spelled-seq (FewSpelled-data_mode flags) (λ _. Spelled-of_all AllSpelled-byte_vec)))
-    (λ x h. record { mode = h.1.0; bytes = h.1.1 })
+    (λ x (_, (mode, bytes)). record { mode = mode; bytes = bytes })

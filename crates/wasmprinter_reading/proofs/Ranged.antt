@@ -9,7 +9,7 @@ use Rattle.wasmprinter_spec.specs.Operator.{Operator}
 use Rattle.wasmprinter_spec.specs.Nesting.{Nests, Sequence}
 use Rattle.wasmprinter_spec.specs.Instructions.{roles}
 use Rattle.wasmprinter_spec.specs.Module.{without_places}
-use Rattle.wasmprinter_spec.specs.Placed.{LocalEntry, Body, Export, Import, Custom, Table, Global, Mode, Passive, Declared, Active, Items, Functions, Expressions, ElementEntry, DataMode, PassiveData, ActiveData, Data, PlacedFunction, PlacedModule}
+use Rattle.wasmprinter_spec.specs.Placed.{LocalEntry, Body, Export, Import, Custom, Table, Global, ElementMode, Passive, Declared, Active, Items, Functions, Expressions, ElementEntry, DataMode, PassiveData, ActiveData, Data, PlacedFunction, PlacedModule}
 use Rattle.wasmprinter_reading.specs.Listed.{IsListed}
 use Rattle.wasmprinter_spec.specs.Binary.{AreBytes}
 use Rattle.wasmprinter_reading.proofs.Customs.Ordered.{AreInOrder}
@@ -69,7 +69,7 @@ abbrev pub IsNamedTable : Bool → ℕ → Type 0
 IsNamedTable true t = t < 2 ^ 32
 IsNamedTable false t = t ≡ 0
 
-abbrev pub IsRangedMode : Bool → Mode (Placed Operator) → Type 0
+abbrev pub IsRangedMode : Bool → ElementMode (Placed Operator) → Type 0
 IsRangedMode names Passive = Unit {0}
 IsRangedMode names Declared = Unit {0}
 IsRangedMode names (Active t offset) = IsNamedTable names t × IsRangedExpression offset

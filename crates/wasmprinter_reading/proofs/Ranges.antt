@@ -9,7 +9,7 @@ use Rattle.wasmprinter_spec.specs.Name.{u32}
 use Rattle.wasmprinter_spec.specs.Operator.{Operator}
 use Rattle.wasmprinter_spec.specs.Nesting.{Nests, Sequence}
 use Rattle.wasmprinter_spec.specs.Instructions.{roles, operator, operator_takes}
-use Rattle.wasmprinter_spec.specs.Repeated.{Items}
+use Rattle.wasmprinter_spec.specs.Repeated.{AreItems}
 use Rattle.wasmprinter_spec.specs.Module.{without_places}
 use Rattle.wasmprinter_spec.specs.Placed.{Body, Custom, custom_of, PlacedFunction, PlacedModule}
 use Rattle.wasmprinter_spec.specs.Sized.{exactly, alone}
@@ -59,7 +59,7 @@ IsRangedSection (holds DataSection ds) = IsVector (λ d. IsRangedData d.value) d
 AllSpelled-export : AllSpelled export IsRangedExport
 AllSpelled-export =
     Spelled-map_value (Spelled-seq AllSpelled-name (λ _. Spelled-seq (Spelled-any extern_kind) (λ _. AllSpelled-u32)))
-    (λ x h. record { name = h.0; index = h.1.1 })
+    (λ x (name, (_, index)). record { name = name; index = index })
 
 -- So many locals of a type.
 AllSpelled-local_entry : AllSpelled local_entry IsRangedLocal
@@ -73,26 +73,23 @@ AllSpelled-body =
 
 -- each operator of a body takes a byte
 body_takes : (p : ℕ) (text : List ℕ) (b : Placed Body) → (value_with_place body).spells p text b → length b.value.operators ≤ length text
-body_takes p text b s =
-    let x = s.1.0 in
-    let parts = s.1.2 in
-    let same : body_from x.0 x.1 ≡ b.value = some_is (body_from x.0 x.1) b.value s.1.1 in
-    let count : length x.1.items ≤ length parts.1 = expression_takes (p + length parts.0) parts.1 x.1 parts.4 in
-    omega (arith, count, ap (λ y. length y.operators) same, ap length parts.2, length-append parts.0 parts.1)
+body_takes p text b (here, ((locals, code), made, (t, u, joined, locals_spelled, code_spelled))) =
+    let same : body_from locals code ≡ b.value = some_is (body_from locals code) b.value made in
+    let count : length code.items ≤ length u = expression_takes (p + length t) u code code_spelled in
+    omega (arith, count, ap (λ y. length y.operators) same, ap length joined, length-append t u)
 
 -- one stands behind the other
-operators_placed : (os : List (Placed Operator)) (low p : ℕ) (text : List ℕ) → low ≤ p → Items (value_with_place operator) p text os → ArePlaced low os
+operators_placed : (os : List (Placed Operator)) (low p : ℕ) (text : List ℕ) → low ≤ p → AreItems (value_with_place operator) p text os → ArePlaced low os
 operators_placed [] low p text h s = tt
-operators_placed (o ∷ os) low p text h s =
-    let takes : 0 < length s.0 = operator_takes p s.0 o s.3 in
-    (omega (arith, h, s.3.0), operators_placed os (suc o.place) (p + length s.0) s.1 (omega (arith, takes, s.3.0)) s.4)
+operators_placed (o ∷ os) low p text h (t, u, joined, spelled, all_spelled) =
+    let takes : 0 < length t = operator_takes p t o spelled in
+    (omega (arith, h, spelled.0), operators_placed os (suc o.place) (p + length t) u (omega (arith, takes, spelled.0)) all_spelled)
 
 body_placed : (p : ℕ) (text : List ℕ) (b : Placed Body) → (value_with_place body).spells p text b → ArePlaced b.place b.value.operators
-body_placed p text b s =
-    let x = s.1.0 in
-    let parts = s.1.2 in
-    let same : body_from x.0 x.1 ≡ b.value = some_is (body_from x.0 x.1) b.value s.1.1 in
-    let placed : ArePlaced b.place x.1.items = operators_placed x.1.items b.place (p + length parts.0) parts.4.0 (omega (arith, s.0)) parts.4.2 in
+body_placed p text b (here, ((locals, code), made, (front, back, joined, locals_spelled, (t, closed, all_spelled, nested, end_place)))) =
+    let same : body_from locals code ≡ b.value = some_is (body_from locals code) b.value made in
+    let placed : ArePlaced b.place code.items =
+    operators_placed code.items b.place (p + length front) t (omega (arith, here)) all_spelled in
     subst (λ y. ArePlaced b.place y.operators) same placed
 
 AllSpelled-placed_body : AllSpelled (value_with_place body) (λ b. IsNestedBody b.value × ArePlaced b.place b.value.operators)
@@ -125,12 +122,10 @@ AllSpelled-few_sized made all keeps = Spelled-map_value (Spelled-seq AllSpelled-
 
 -- A custom section: a name, and all other bytes.
 custom_has : (p : ℕ) (text : List ℕ) (c : Placed Custom) → AreBytes text → custom_section.spells p text c → IsRangedCustom c.value
-custom_has p text c bytes s =
-    let x = s.1.0 in
-    let parts = s.1.2 in
-    let both = split_bytes parts.0 parts.1 (subst AreBytes parts.2 bytes) in
-    subst IsRangedCustom (some_is (custom_of x.0 x.1) c.value s.1.1)
-    (record { name = AllSpelled-name.has p parts.0 x.0 both.0 parts.3; bytes = subst AreBytes (sym parts.4.1) both.1 })
+custom_has p text c bytes (here, ((title, rest), made, (t, u, joined, title_spelled, (rest_place, all_left)))) =
+    let both = split_bytes t u (subst AreBytes joined bytes) in
+    subst IsRangedCustom (some_is (custom_of title rest) c.value made)
+    (record { name = AllSpelled-name.has p t title both.0 title_spelled; bytes = subst AreBytes (sym all_left) both.1 })
 
 AllSpelled-custom : (size : ℕ) → AllSpelled (exactly custom_section size) (λ c. IsRangedCustom c.value)
 AllSpelled-custom size = record { has = λ p text c bytes s. custom_has p text c bytes s.1 }
@@ -181,9 +176,9 @@ pairs_ranged : (is : List ℕ) (bs : List (Placed Body)) (fs : List PlacedFuncti
 pairs_ranged [] [] fs e indices bodies = subst (AreRangedFunctions 0) (some_is [] fs e) (refl, tt)
 pairs_ranged (i ∷ is) (b ∷ bs) fs e indices bodies =
     let first : PlacedFunction = record { type_index = i; body = b } in
-    let rest = bind_some (function_pairs is bs) (λ gs. Some (first ∷ gs)) fs e in
-    let ranged = pairs_ranged is bs rest.0 rest.1 indices.1 bodies.1 in
-    subst (AreRangedFunctions (length (i ∷ is))) (some_is (first ∷ rest.0) fs rest.2)
+    let (others, paired, result) = bind_some (function_pairs is bs) (λ gs. Some (first ∷ gs)) fs e in
+    let ranged = pairs_ranged is bs others paired indices.1 bodies.1 in
+    subst (AreRangedFunctions (length (i ∷ is))) (some_is (first ∷ others) fs result)
     (ap suc ranged.0, (record { type_index = indices.0; body = bodies.0 }, ranged.1))
 pairs_ranged [] (b ∷ bs) fs e indices bodies = absurd cc
 pairs_ranged (i ∷ is) [] fs e indices bodies = absurd cc
@@ -194,7 +189,8 @@ pairs_ranged (i ∷ is) [] fs e indices bodies = absurd cc
 module_ranged : (size : ℕ) (ss : List Section) (m : PlacedModule) → module_of_sections size ss ≡ Some m → AllByRecursion IsRangedSection ss → IsRanged m
 module_ranged size ss m e ranged =
     let ordered = tested (are_above 0 ss && counts_data (data_count_in ss) (length (datas_in ss))) (function_pairs (type_indices_in ss) (bodies_in ss) >>= λ fs. Some (module_from size ss fs)) m e in
-    let functions = bind_some (function_pairs (type_indices_in ss) (bodies_in ss)) (λ fs. Some (module_from size ss fs)) m ordered.1 in
+    let (functions, paired, result) =
+    bind_some (function_pairs (type_indices_in ss) (bodies_in ss)) (λ fs. Some (module_from size ss fs)) m ordered.1 in
     let types = held_each TypeSection IsRangedSection [] ss ranged (no_items (λ g. IsRangedGroup g.value)) in
     let imports = held_each ImportSection IsRangedSection [] ss ranged (no_items (λ i. IsRangedImport i.value)) in
     let type_indices = held_each FunctionSection IsRangedSection [] ss ranged (no_items (λ i. i < 2 ^ 32)) in
@@ -208,8 +204,8 @@ module_ranged size ss m e ranged =
     let bodies = held_each CodeSection IsRangedSection [] ss ranged (no_items IsRangedBody) in
     let customs = customs_each None ss ranged in
     let datas = held_each DataSection IsRangedSection [] ss ranged (no_items (λ d. IsRangedData d.value)) in
-    let pairs = pairs_ranged (type_indices_in ss) (bodies_in ss) functions.0 functions.1 type_indices.each bodies.each in
-    subst IsRanged (some_is (module_from size ss functions.0) m functions.2)
+    let pairs = pairs_ranged (type_indices_in ss) (bodies_in ss) functions paired type_indices.each bodies.each in
+    subst IsRanged (some_is (module_from size ss functions) m result)
     (record {
       types = types.count;
       imports = imports.count;
@@ -239,7 +235,6 @@ module_ranged size ss m e ranged =
 -- A module that bytes spell keeps to its ranges.
 pub ranged : (bytes : List ℕ) (m : PlacedModule) → Spells bytes m → IsRanged m
 ranged bytes m s =
-    let sections = s.spelled in
-    let parts = sections.2 in
-    let behind = split_bytes parts.0 parts.1 (subst AreBytes parts.2 s.are_bytes) in
-    module_ranged (0 + length bytes) sections.0.1 m sections.1 (entries_have AllSpelled-section sections.0.1 (0 + length parts.0) parts.1 behind.1 parts.4)
+    let ((marks, sections), made, (t, u, joined, preamble, entries)) = s.spelled in
+    let parts = split_bytes t u (subst AreBytes joined s.are_bytes) in
+    module_ranged (0 + length bytes) sections m made (entries_have AllSpelled-section sections (0 + length t) u parts.1 entries)

@@ -1,8 +1,9 @@
 -- The tokens of a layout do not depend on whether lines begin with their places.
 use Rattle.std.proofs.Common.{◌≡◌, ℕ, ◌+◌, Bool, true, false, ◌||◌, List, [], ◌∷◌, ◌++◌, Option, Some, None, length, refl, sym, ap, ap₂, subst, ◌∙◌, codes}
+use Rattle.std.specs.Prelude.{flat_map}
 use Rattle.wasmprinter_spec.specs.Grammar.{Placed}
 use Rattle.wasmprinter_spec.specs.Row.{Func}
-use Rattle.wasmprinter_spec.specs.Kinds.{Kind, TypeSection, ImportSection, FunctionSection, TableSection, MemorySection, TagSection, GlobalSection, ExportSection, StartSection, ElementSection, CodeSection, DataSection}
+use Rattle.wasmprinter_spec.specs.Kinds.{Kind, ElementSection, CodeSection, DataSection}
 use Rattle.wasmprinter_spec.specs.Names.{Names}
 use Rattle.wasmprinter_spec.specs.ModuleNames.{module_names}
 use Rattle.wasmprinter_spec.specs.Token.{Token, left, right, word}
@@ -11,14 +12,12 @@ use Rattle.wasmprinter_spec.specs.Customs.Hints.{Hint, FunctionHints, hints_of, 
 use Rattle.wasmprinter_spec.specs.Piece.{Piece, Feed}
 use Rattle.wasmprinter_spec.specs.Placed.{PlacedFunction, PlacedModule}
 use Rattle.wasmprinter_spec.specs.Module.{without_places, imported_types, func_import}
-use Rattle.wasmprinter_spec.specs.Layout.Groups.{group_at, group_gap_at, close, has_break, numbered_pieces}
+use Rattle.wasmprinter_spec.specs.Layout.Groups.{group_at, group_gap_at, close, has_break}
 use Rattle.wasmprinter_spec.specs.Layout.Identifiers.{leading_mark_pieces}
-use Rattle.wasmprinter_spec.specs.Layout.Declarations.{Scope}
+use Rattle.wasmprinter_spec.specs.Layout.Declarations.{Scope, scope_of_function}
 use Rattle.wasmprinter_spec.specs.Layout.Functions.{header_pieces, inner_pieces, function_pieces, functions_pieces, function_group}
-use Rattle.wasmprinter_spec.specs.Layout.Elements.{element_pieces}
-use Rattle.wasmprinter_spec.specs.Layout.DataSegments.{data_pieces}
 use Rattle.wasmprinter_spec.specs.Layout.Customs.{Part, Shown, Stops, parts_at, Laid, laid_parts}
-use Rattle.wasmprinter_spec.specs.Layout.{early_scope, late_scope, module_parts, module_pieces_of, module_pieces_with, module_pieces}
+use Rattle.wasmprinter_spec.specs.Layout.{early_scope, section_pieces, section_order, section_parts, module_parts, module_pieces_of, module_pieces_with, module_pieces}
 use Rattle.wasmprinter_lexical.proofs.Respelled.{all_lexed, all_lexed-append}
 
 -- the tokens of a keyword, of what a group holds and of its end
@@ -96,7 +95,7 @@ module _ (o r : Options) (same : o.skeleton ≡ r.skeleton) where
   function_pieces_stay : (s : Scope) (i : ℕ) (hs : List (Placed Hint)) (f : PlacedFunction) → all_lexed (function_pieces o s i hs f) ≡ all_lexed (function_pieces p s i hs f)
   unfolding function_pieces
   function_pieces_stay s i hs f =
-      let own : Scope = record s { function = i } in
+      let own : Scope = scope_of_function s i in
       ap (λ t. all_lexed (function_group t o.offsets own hs f)) same ∙ function_stays p.skeleton o.offsets p.offsets own hs f
 
   functions_stay : (s : Scope) (es : List FunctionHints) (i : ℕ) (fs : List PlacedFunction) → all_lexed (functions_pieces o s es i fs) ≡ all_lexed (functions_pieces p s es i fs)
@@ -112,24 +111,26 @@ module _ (o r : Options) (same : o.skeleton ≡ r.skeleton) where
         subst (λ t. PartsStay (parts_at o.skeleton answers place 0 m.customs) (parts_at t answers place 0 m.customs)) same
         (same_stay (parts_at o.skeleton answers place 0 m.customs))
 
-    -- a part, and the custom sections behind it
-    field_stays : {ps qs : List Piece} (place : Option Kind) → all_lexed ps ≡ all_lexed qs →
-        PartsStay (Shown ps ∷ parts_at o.skeleton answers place 0 m.customs) (Shown qs ∷ parts_at p.skeleton answers place 0 m.customs)
-    field_stays place e = both_shown e (customs_stay place)
+    -- of both
+    abbrev early : Scope
+    early = early_scope o names m
+
+    fields_stay : (k : Kind) → all_lexed (section_pieces o early m k) ≡ all_lexed (section_pieces p early m k)
+    fields_stay ElementSection = ap (λ t. all_lexed (section_pieces (record o { skeleton = t }) early m ElementSection)) same
+    fields_stay CodeSection =
+        functions_stay early (hints_of m.customs) (length (imported_types func_import (without_places m.imports))) m.functions
+    fields_stay DataSection = ap (λ t. all_lexed (section_pieces (record o { skeleton = t }) early m DataSection)) same
+    fields_stay _ = refl
+
+    -- the fields of sections in order, and the custom sections behind each
+    kinds_stay : (ks : List Kind) →
+        PartsStay (flat_map (section_parts o early m answers) ks) (flat_map (section_parts p early m answers) ks)
+    kinds_stay [] = no_parts
+    kinds_stay (k ∷ ks) = both_shown (fields_stay k) (parts_then (customs_stay (Some k)) (kinds_stay ks))
 
     parts_stay : PartsStay (module_parts o answers names m) (module_parts p answers names m)
-    parts_stay =
-        let s : Scope = early_scope o names m in
-        let elements : Bool → List Piece = λ t. numbered_pieces (element_pieces t s) 0 m.elements in
-        let datas : Bool → List Piece = λ t. numbered_pieces (data_pieces t (late_scope o names m)) 0 m.datas in
-        let functions = functions_stay s (hints_of m.customs) (length (imported_types func_import (without_places m.imports))) m.functions in
-        let first = parts_then (customs_stay None) (field_stays (Some TypeSection) refl) in
-        let second = parts_then (parts_then first (field_stays (Some ImportSection) refl)) (customs_stay (Some FunctionSection)) in
-        let third = parts_then (parts_then second (field_stays (Some TableSection) refl)) (field_stays (Some MemorySection) refl) in
-        let fourth = parts_then (parts_then third (field_stays (Some TagSection) refl)) (field_stays (Some GlobalSection) refl) in
-        let fifth = parts_then (parts_then fourth (field_stays (Some ExportSection) refl)) (field_stays (Some StartSection) refl) in
-        let sixth = parts_then (parts_then fifth (field_stays (Some ElementSection) (ap (λ t. all_lexed (elements t)) same))) (field_stays (Some CodeSection) functions) in
-        parts_then sixth (field_stays (Some DataSection) (ap (λ t. all_lexed (datas t)) same))
+    unfolding module_parts
+    parts_stay = parts_then (customs_stay None) (kinds_stay section_order)
 
     -- whole or up to a refusal
     pieces_stay : (r : Option ℕ) (ps qs : List Piece) → all_lexed ps ≡ all_lexed qs →

@@ -15,7 +15,8 @@ use Rattle.wasmprinter_spec.specs.Code.{part_words}
 use Rattle.wasmprinter_spec.specs.Text.TypeUses.{same_flag}
 use Rattle.wasmprinter_spec.specs.Text.Operators.{behind_prefix, is_option}
 use Rattle.wasmprinter_lexical.proofs.Runs.{is_word}
-use Rattle.wasmprinter_reading.specs.Listed.{has_shape, has_row_shape, IsListed}
+use Rattle.wasmprinter_spec.specs.Shapes.{has_shape, has_row_shape}
+use Rattle.wasmprinter_reading.specs.Listed.{IsListed}
 use Rattle.wasmprinter_reading.proofs.Bytes.{bytes_same}
 
 abbrev pub all : {A : Type 0} → (A → Bool) → List A → Bool

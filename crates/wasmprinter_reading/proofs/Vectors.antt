@@ -19,4 +19,4 @@ AllSpelled-u32 = AllSpelled-unsigned 32
 pub Spelled-vec : {kind : ByteStrings} {A : Type 0} {g : Grammar A} {P : A → Type 0} → Spelled kind g P → Spelled kind (vec g) (IsVector P)
 Spelled-vec all =
     Spelled-map_value (Spelled-seq (Spelled-of_all AllSpelled-u32) (λ n. Spelled-times all n))
-    (λ x h. record { count = omega (arith, h.0, h.1.0); each = h.1.1 })
+    (λ x (few, (long, each)). record { count = omega (arith, few, long); each = each })

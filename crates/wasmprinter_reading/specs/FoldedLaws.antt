@@ -46,6 +46,7 @@ FoldedOperatorsReadBack =
 abbrev pub FoldedModulesReadAsFlat : Type 0
 FoldedModulesReadAsFlat =
     (bytes : List ℕ) (m : PlacedModule) (o : Options) (answers : Answers) →
-    Spells bytes m → IsIndexed (module_of m) → AllByRecursion (λ t. HasNoEmptyInit t.value.init) m.tables → o.skeleton ≡ false → o.paints ≡ false → IsBlank o.indent → AreUnclaimed answers →
+    Spells bytes m → IsIndexed (module_of m) → AllByRecursion (λ t. HasNoEmptyInit t.value.init) m.tables → o.skeleton ≡ false →
+    o.paints ≡ false → IsBlank o.indent → AreUnclaimed answers →
     IsFoldable (record o { folds = true }) m → refusal o answers m ≡ None →
     read (text_of (layout (record o { folds = true }) answers m)) ≡ read (text_of (layout (record o { folds = false }) answers m))

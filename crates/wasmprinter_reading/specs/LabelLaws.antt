@@ -1,12 +1,12 @@
 -- The laws of labels by their identifiers (section 6.5 of the standard, "Labels").
 use Rattle.std.specs.Prelude.{◌≡◌, ℕ, ◌<◌, ◌^◌, List, [], ◌∷◌, ◌++◌, length, map, true, false, Some, option_map}
-use Rattle.wasmprinter_spec.specs.Labels.{Label, Named, Naming, AreApart, is_hidden, Around, target}
+use Rattle.wasmprinter_spec.specs.Labels.{Label, Named, LabelNaming, AreLabelsApart, is_hidden, Around, target}
 use Rattle.wasmprinter_spec.specs.Piece.{Gap, Number}
 use Rattle.wasmprinter_spec.specs.Layout.Operators.{label_name_pieces, label_pieces}
 use Rattle.wasmprinter_spec.specs.Text.Operators.{depth}
 
 -- the labels of open blocks, the innermost first: each is that of a block with so many blocks around it
-abbrev pub Opened : Naming → List Label → Type 0
+abbrev pub Opened : LabelNaming → List Label → Type 0
 Opened naming [] = Unit {0}
 Opened naming (x ∷ xs) = ((i : ℕ) × (naming i (length xs) ≡ x)) × (length xs < 2 ^ 64) × Opened naming xs
 
@@ -15,7 +15,7 @@ Opened naming (x ∷ xs) = ((i : ℕ) × (naming i (length xs) ≡ x)) × (lengt
 -- one was, the number is printed.
 abbrev pub LabelsMeanTheirBlocks : Type 0
 LabelsMeanTheirBlocks =
-    (naming : Naming) → AreApart naming → (inner xs : List Label) → Opened naming xs →
+    (naming : LabelNaming) → AreLabelsApart naming → (inner xs : List Label) → Opened naming xs →
     (l : ℕ) (n : Named) (further : List Label) → target l xs ≡ Around (Some n) further →
     (is_hidden n (inner ++ further) ≡ false → (label_pieces inner xs l ≡ Gap ∷ label_name_pieces n.given l n)
     × (depth n.content (map (λ x. option_map (λ m. m.content) x) xs) ≡ Some l))

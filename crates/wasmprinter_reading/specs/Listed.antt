@@ -1,15 +1,15 @@
 -- Operators that some bytes spell: opcodes that the table lists, with immediates of their shape, whose numbers lie in range.
-use Rattle.std.specs.Prelude.{◌≡◌, ℕ, ℤ, pos, neg_ℤ, ◌<◌, ◌^◌, ◌≤ℤ◌, ◌<ℤ◌, Bool, true, false, Option, Some, None, List, length}
+use Rattle.std.specs.Prelude.{◌≡◌, ℕ, ℤ, pos, neg_ℤ, ◌<◌, ◌^◌, ◌≤ℤ◌, ◌<ℤ◌, true, Option, Some, None, List, length}
 use Rattle.std.specs.List.{AllByRecursion}
 use Rattle.wasmprinter_spec.specs.Types.{FuncType}
 use Rattle.wasmprinter_spec.specs.Indexed.{IsDeclaredHeap, IsDeclaredRef, IsDeclaredVal, IsDeclaredFunc}
 use Rattle.wasmprinter_spec.specs.Operator.{BlockType, Empty, Value, OfType, Catch, One, OneRef, All, AllRef, MemArg, Immediates, NoImmediates, Block, TryTable, Index, Indices, BranchTable, Types, Heap, Cast, Memory, MemoryLane, Lane, I32, I64, F32, F64, Bytes, Operator}
-use Rattle.wasmprinter_spec.specs.Row.{Row, Shape, NoneShape, FenceShape, BlockShape, TryTableShape, IndexShape, DefaultIndexShape, PairShape, FieldShape, CountShape, CallShape, SegmentShape, CopyShape, BranchTableShape, SelectShape, HeapShape, RefShape, CastShape, MemoryShape, MemoryLaneShape, LaneShape, I32Shape, I64Shape, F32Shape, F64Shape, VectorShape, LanesShape}
+use Rattle.wasmprinter_spec.specs.Shapes.{has_row_shape}
 use Rattle.wasmprinter_spec.specs.Table.{by_opcode}
 
 -- a signed number of so many bits beside its sign
-abbrev pub IsSigned : ℕ → ℤ → Type 0
-IsSigned n z = (neg_ℤ (pos (2 ^ n)) ≤ℤ z) × (z <ℤ pos (2 ^ n))
+abbrev pub FitsSigned : ℕ → ℤ → Type 0
+FitsSigned n z = (neg_ℤ (pos (2 ^ n)) ≤ℤ z) × (z <ℤ pos (2 ^ n))
 
 -- a number of 32 bits
 abbrev pub IsU32 : ℕ → Type 0
@@ -53,8 +53,8 @@ AreInRange (Cast l r t) = IsU32 l × IsDeclaredRef (2 ^ 32) r × IsDeclaredRef (
 AreInRange (Memory m) = IsMemArgInRange m
 AreInRange (MemoryLane m k) = IsMemArgInRange m × IsByte k
 AreInRange (Lane k) = IsByte k
-AreInRange (I32 z) = IsSigned 31 z
-AreInRange (I64 z) = IsSigned 63 z
+AreInRange (I32 z) = FitsSigned 31 z
+AreInRange (I64 z) = FitsSigned 63 z
 AreInRange (F32 bits) = bits < 2 ^ 32
 AreInRange (F64 bits) = bits < 2 ^ 64
 AreInRange (Bytes bs) = IsVectorInRange bs
@@ -66,40 +66,6 @@ IsSignatureInRange (Some t) = IsDeclaredFunc (2 ^ 32) t
 
 abbrev pub AreSignaturesInRange : (ℕ → Option FuncType) → Type 0
 AreSignaturesInRange signature = (i : ℕ) → IsSignatureInRange (signature i)
-
--- whether immediates are of a shape: a line for each shape
-abbrev pub has_shape : Shape → Immediates → Bool
-has_shape NoneShape NoImmediates = true
-has_shape FenceShape NoImmediates = true
-has_shape BlockShape (Block t) = true
-has_shape TryTableShape (TryTable t cs) = true
-has_shape (IndexShape space) (Index n) = true
-has_shape (DefaultIndexShape space) (Index n) = true
-has_shape (PairShape first second) (Indices m n) = true
-has_shape FieldShape (Indices t n) = true
-has_shape CountShape (Indices t n) = true
-has_shape CallShape (Indices t n) = true
-has_shape (SegmentShape segments space) (Indices m n) = true
-has_shape (CopyShape space) (Indices m n) = true
-has_shape BranchTableShape (BranchTable ls l) = true
-has_shape SelectShape (Types ts) = true
-has_shape HeapShape (Heap h) = true
-has_shape (RefShape null) (Heap h) = true
-has_shape CastShape (Cast l r t) = true
-has_shape (MemoryShape natural) (Memory m) = true
-has_shape (MemoryLaneShape natural) (MemoryLane m k) = true
-has_shape LaneShape (Lane k) = true
-has_shape I32Shape (I32 z) = true
-has_shape I64Shape (I64 z) = true
-has_shape F32Shape (F32 bits) = true
-has_shape F64Shape (F64 bits) = true
-has_shape VectorShape (Bytes bs) = true
-has_shape LanesShape (Bytes bs) = true
-has_shape _ _ = false
-
-abbrev pub has_row_shape : Option Row → Immediates → Bool
-has_row_shape None i = false
-has_row_shape (Some r) i = has_shape r.shape i
 
 -- the table lists the opcode with immediates of this shape
 pub record IsListed (o : Operator) : Type 0 where

@@ -2,7 +2,7 @@
 use Rattle.std.specs.Prelude.{◌≡◌, ◌⊎◌, ℕ, List, map, length, ◌<◌, ◌≤◌, ◌^◌, Bool, true, Option, Some, None, IsUtf8}
 use Rattle.std.specs.List.{AllByRecursion}
 use Rattle.wasmprinter_spec.specs.Grammar.{Input, input, Placed, Spans, Grammar}
-use Rattle.wasmprinter_spec.specs.Repeated.{Items}
+use Rattle.wasmprinter_spec.specs.Repeated.{AreItems}
 use Rattle.wasmprinter_spec.specs.Lenient.{Lacks, repeat}
 use Rattle.wasmprinter_spec.specs.Binary.{AreBytes, Spells}
 use Rattle.wasmprinter_spec.specs.Placed.{PlacedModule}
@@ -23,15 +23,16 @@ NamesAreOneList = (at : Input) → (xs : List Entry) × GivesNames at xs × ((ys
 abbrev pub EntriesAreGiven : Type 0
 EntriesAreGiven = (d : Placed (List ℕ)) → GivesNames (input d.place d.value) (entries_given d)
 
--- Items that are counted, read as far as they stand: these are spelled one after the other, and then either the count is reached or
+-- AreItems that are counted, read as far as they stand: these are spelled one after the other, and then either the count is reached or
 -- no more is spelled behind them.
 abbrev pub Listed : {A : Type 0} → Grammar A → ℕ → Input → List A → Option Input → Type 0
-Listed g n at xs end = (behind : Input) × Spans (Items g) at (xs, behind)
+Listed g n at xs end = (behind : Input) × Spans (AreItems g) at (xs, behind)
     × (((length xs ≡ n) × (end ≡ Some behind)) ⊎ ((length xs < n) × Lacks g behind × (end ≡ None)))
 
 -- The entries of a name map are listed so.
 abbrev pub NameMapsAreListed : Type 0
-NameMapsAreListed = (s outer n : ℕ) (at : Input) (entries : List Entry) (end : Option Input) → (repeat (entry s outer) n).gives at entries end
+NameMapsAreListed =
+    (s outer n : ℕ) (at : Input) (entries : List Entry) (end : Option Input) → (repeat (entry s outer) n).gives at entries end
     → (xs : List (ℕ × List ℕ)) × Listed association n at xs end × (entries ≡ map (λ x. entry_of s outer x) xs)
 
 -- indices are numbers of 32 bits, and names UTF-8

@@ -2,7 +2,7 @@
 use Rattle.std.specs.Prelude.{ℕ, Bool, true, false, List, [], ◌∷◌, Option, option_map, is_some}
 use Rattle.wasmprinter_spec.specs.Labels.{Named}
 use Rattle.wasmprinter_spec.specs.Names.{name_in}
-use Rattle.wasmprinter_spec.specs.Layout.Declarations.{scope_of}
+use Rattle.wasmprinter_spec.specs.Layout.Declarations.{scope_of, scope_of_function}
 use Rattle.wasmprinter_spec.specs.Layout.Declarations as layout
 use Rattle.wasmprinter_spec.specs.Folding.Arities.{types_of}
 use Rattle.wasmprinter_names.specs.Spaces.{id_of, outer_of}
@@ -18,10 +18,6 @@ scope_view s = scope_of (types_of s.types.module.now) (names_of s.labels) s.func
 -- whether operators are folded
 abbrev pub folds_in : layout.Scope → Bool
 folds_in s = is_some s.folding
-
--- the same types and identifiers, for the locals and labels of a function
-abbrev pub scope_of_function : layout.Scope → ℕ → layout.Scope
-scope_of_function s f = record s { function = f }
 
 -- the scope of the definitions for the locals and labels of a function
 abbrev pub function_scope_view : Scope → ℕ → layout.Scope

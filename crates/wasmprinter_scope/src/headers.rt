@@ -6,7 +6,7 @@ ghost use Rattle.wasmprinter_spec.specs.Layout.Functions.{header_pieces};
 ghost use Rattle.wasmprinter_print.specs.Prints.{PrintsAlways};
 ghost use Rattle.wasmprinter_scope.specs.Scopes.{scope_view};
 
-use crate::scope::{Scope, write_declaration, write_type_use};
+use crate::scope::{Scope, write_declaration_in, write_type_use_in};
 use std::io;
 use wasmprinter_names::Space;
 use wasmprinter_print::Print;
@@ -22,8 +22,8 @@ pub fn write_function_header<P: Print>(
     ensures { PrintsAlways P.meaning p.old p.new result
         (header_pieces (scope_view scope.now) row.Func (Some number) number type_index) }
 {
-    write_declaration(p, scope, Space::Func, number)?;
-    write_type_use(p, scope, Some(number), type_index)
+    write_declaration_in(p, scope, Space::Func, number)?;
+    write_type_use_in(p, scope, Some(number), type_index)
 }
 
 /// Writes the head of a tag.
@@ -37,6 +37,6 @@ pub fn write_tag_header<P: Print>(
     ensures { PrintsAlways P.meaning p.old p.new result
         (header_pieces (scope_view scope.now) row.Tag None number type_index) }
 {
-    write_declaration(p, scope, Space::Tag, number)?;
-    write_type_use(p, scope, None, type_index)
+    write_declaration_in(p, scope, Space::Tag, number)?;
+    write_type_use_in(p, scope, None, type_index)
 }

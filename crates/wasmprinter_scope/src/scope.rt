@@ -71,7 +71,7 @@ impl<'s, 'a> Scope<'s, 'a> {
 }
 
 /// Writes an item of the module where it is declared.
-pub fn write_declaration<P: Print>(
+pub fn write_declaration_in<P: Print>(
     p: &mut P,
     scope: &Scope<'_, '_>,
     space: Space,
@@ -84,7 +84,7 @@ pub fn write_declaration<P: Print>(
 }
 
 /// Writes an index of an item of the module.
-pub fn write_index<P: Print>(
+pub fn write_index_in<P: Print>(
     p: &mut P,
     scope: &Scope<'_, '_>,
     space: Space,
@@ -97,7 +97,7 @@ pub fn write_index<P: Print>(
 }
 
 /// Writes an index of an item of the module as a group behind a keyword.
-pub fn write_index_group<P: Print>(
+pub fn write_index_group_in<P: Print>(
     p: &mut P,
     scope: &Scope<'_, '_>,
     keyword: &str,
@@ -111,7 +111,7 @@ pub fn write_index_group<P: Print>(
 }
 
 /// Writes a blank, the index of a type, and its signature where it is a function type. `owner` is the function that has the type.
-pub fn write_type_use<P: Print>(
+pub fn write_type_use_in<P: Print>(
     p: &mut P,
     scope: &Scope<'_, '_>,
     owner: Option<u64>,
@@ -124,7 +124,7 @@ pub fn write_type_use<P: Print>(
 }
 
 /// Writes a reference type.
-pub fn write_ref_type<P: Print>(
+pub fn write_ref_type_in<P: Print>(
     p: &mut P,
     scope: &Scope<'_, '_>,
     ref_type: RefType,
@@ -136,7 +136,7 @@ pub fn write_ref_type<P: Print>(
 }
 
 /// Writes a value type.
-pub fn write_val_type<P: Print>(
+pub fn write_val_type_in<P: Print>(
     p: &mut P,
     scope: &Scope<'_, '_>,
     value_type: ValType,
@@ -148,7 +148,7 @@ pub fn write_val_type<P: Print>(
 }
 
 /// Writes a type with its number.
-pub fn write_type<P: Print>(
+pub fn write_type_in<P: Print>(
     p: &mut P,
     scope: &Scope<'_, '_>,
     number: u64,

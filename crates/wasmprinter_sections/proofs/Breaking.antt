@@ -8,7 +8,8 @@ use Rattle.wasmprinter_spec.specs.Labels.{Named}
 use Rattle.wasmprinter_spec.specs.Names.{Names}
 use Rattle.wasmprinter_spec.specs.Operator.{Operator}
 use Rattle.wasmprinter_spec.specs.Placed.{TypeGroup, Import, Table, Global, Export, ElementEntry, Data}
-use Rattle.wasmprinter_spec.specs.Layout.{tag_pieces, start_pieces}
+use Rattle.wasmprinter_spec.specs.Layout.Tags.{tag_pieces}
+use Rattle.wasmprinter_spec.specs.Layout.Start.{start_pieces}
 use Rattle.wasmprinter_spec.specs.Layout.Groups.{has_break}
 use Rattle.wasmprinter_spec.specs.Layout.Identifiers.{leading_mark_pieces}
 use Rattle.wasmprinter_spec.specs.Layout.Declarations.{Scope}

@@ -13,7 +13,8 @@ use Rattle.wasmprinter_spec.specs.Layout.Groups.{numbered_pieces}
 use Rattle.wasmprinter_spec.specs.Layout.Customs.{Part, Shown, parts_at}
 use Rattle.wasmprinter_entries.specs.Externs.{imported_count}
 use Rattle.wasmprinter_fold.specs.Views.{FolderView, folding_view}
-use Rattle.wasmprinter_sections.specs.Sections.{Folds, fields_of, sections_parts}
+use Rattle.wasmprinter_spec.specs.Layout.{section_pieces}
+use Rattle.wasmprinter_sections.specs.Sections.{Folds, sections_parts}
 
 module _ (o : Options) (b : Bool) (s : Scope) where
   function-paint : (i : ℕ) (es : List FunctionHints) (f : PlacedFunction) → function_pieces o s i (next_hints i es) f ≡ function_pieces (in_colours o b) s i (next_hints i es) f
@@ -25,7 +26,7 @@ module _ (o : Options) (b : Bool) (s : Scope) where
   functions-paint es i [] = refl
   functions-paint es i (f ∷ fs) = ap₂ (λ (ps qs : List Piece). ps ++ qs) (function-paint i es f) (functions-paint (hints_behind i es) (i + 1) fs)
 
-  fields-paint : (m : PlacedModule) (k : Kind) → fields_of o s m k ≡ fields_of (in_colours o b) s m k
+  fields-paint : (m : PlacedModule) (k : Kind) → section_pieces o s m k ≡ section_pieces (in_colours o b) s m k
   fields-paint m TypeSection = refl
   fields-paint m ImportSection = refl
   fields-paint m FunctionSection = refl

@@ -15,7 +15,8 @@ use Rattle.wasmprinter_entries.specs.declared.places.SectionKind.{SectionKind}
 use Rattle.wasmprinter_entries.specs.declared.places.SectionKind.TheVariants as k
 use Rattle.wasmprinter_annotations.specs.Lines.{PrintsPartLines}
 use Rattle.wasmprinter_annotations.proofs.Parts.{part_lines_then, part_lines_end}
-use Rattle.wasmprinter_sections.specs.Sections.{section_parts, sections_parts, kinds}
+use Rattle.wasmprinter_spec.specs.Layout.{section_parts, section_order}
+use Rattle.wasmprinter_sections.specs.Sections.{sections_parts}
 
 module _ (o : Options) (s : Scope) (m : PlacedModule) where
   -- some sections, one more, and others behind it
@@ -44,7 +45,7 @@ module _ (o : Options) (s : Scope) (m : PlacedModule) where
 abbrev pub program_kinds : List SectionKind
 program_kinds = k.Type ∷ k.Import ∷ k.Function ∷ k.Table ∷ k.Memory ∷ k.Tag ∷ k.Global ∷ k.Export ∷ k.Start ∷ k.Element ∷ k.Code ∷ k.Data ∷ []
 
-pub kind_at : (i : ℕ) → i < length kinds → slice_get kinds i ≡ Some (section_kind_view (get_or program_kinds i k.Type))
+pub kind_at : (i : ℕ) → i < length section_order → slice_get section_order i ≡ Some (section_kind_view (get_or program_kinds i k.Type))
 kind_at i h = slice_get-map section_kind_view program_kinds i ∙ ap (option_map section_kind_view) (slice_get-get_or program_kinds i k.Type h)
 
 -- i sections have been written, with the custom sections in front of them and behind them
@@ -52,12 +53,12 @@ pub record Walked {P : Type 0} (n : Meaning P) (o : Options) (s : Scope) (m : Pl
   pub first : Answers
   pub answers : List Answers
   pub many : length answers ≡ i
-  pub written : PrintsPartLines n o old new keeps (Ok lines) (parts_at o.skeleton first None 0 m.customs ++ sections_parts o s m answers (take i kinds))
+  pub written : PrintsPartLines n o old new keeps (Ok lines) (parts_at o.skeleton first None 0 m.customs ++ sections_parts o s m answers (take i section_order))
 
 -- all of them have, up to the end that is answered
 abbrev pub WalkEnds : {P : Type 0} → Meaning P → Options → Scope → PlacedModule → Bool → P → P → Result Bool Error → Type 0
-WalkEnds n o s m keeps old new r = (first : Answers) × (answers : List Answers) × (length answers ≡ length kinds)
-    × PrintsPartLines n o old new keeps r (parts_at o.skeleton first None 0 m.customs ++ sections_parts o s m answers kinds)
+WalkEnds n o s m keeps old new r = (first : Answers) × (answers : List Answers) × (length answers ≡ length section_order)
+    × PrintsPartLines n o old new keeps r (parts_at o.skeleton first None 0 m.customs ++ sections_parts o s m answers section_order)
 
 module _ {P : Type 0} (n : Meaning P) {keeps : Bool} (o : Options) (s : Scope) (m : PlacedModule) where
   -- before the first
@@ -70,13 +71,13 @@ module _ {P : Type 0} (n : Meaning P) {keeps : Bool} (o : Options) (s : Scope) (
   }
 
   -- one more, and the custom sections behind it
-  pub walk_writes : {a b t : P} {i : ℕ} {lines more : Bool} (k : Kind) → slice_get kinds i ≡ Some k → Walked n o s m keeps a b i lines →
+  pub walk_writes : {a b t : P} {i : ℕ} {lines more : Bool} (k : Kind) → slice_get section_order i ≡ Some k → Walked n o s m keeps a b i lines →
       (answers : Answers) → PrintsPartLines n o b t keeps (Ok more) (section_parts o s m answers k) → Walked n o s m keeps a t (i + 1) (lines || more)
   walk_writes {a} {t = t} {i} {lines} {more} k e w answers v =
       let front : List Part = parts_at o.skeleton w.first None 0 m.customs in
-      let done : List Part = sections_parts o s m w.answers (take i kinds) in
-      let joined : (front ++ done) ++ section_parts o s m answers k ≡ front ++ sections_parts o s m (w.answers ++ (answers ∷ [])) (take (suc i) kinds) =
-      append_assoc front done (section_parts o s m answers k) ∙ ap (λ (ps : List Part). front ++ ps) (sym (take-some o s m kinds i k e w.answers answers w.many)) in
+      let done : List Part = sections_parts o s m w.answers (take i section_order) in
+      let joined : (front ++ done) ++ section_parts o s m answers k ≡ front ++ sections_parts o s m (w.answers ++ (answers ∷ [])) (take (suc i) section_order) =
+      append_assoc front done (section_parts o s m answers k) ∙ ap (λ (ps : List Part). front ++ ps) (sym (take-some o s m section_order i k e w.answers answers w.many)) in
       record {
         first = w.first;
         answers = w.answers ++ (answers ∷ []);
@@ -85,19 +86,19 @@ module _ {P : Type 0} (n : Meaning P) {keeps : Bool} (o : Options) (s : Scope) (
       }
 
   -- it ended amid one
-  pub walk_fails : {a b t : P} {i : ℕ} {lines : Bool} (r : Result Bool Error) {e : Error} (k : Kind) → i < length kinds → slice_get kinds i ≡ Some k → Walked n o s m keeps a b i lines →
+  pub walk_fails : {a b t : P} {i : ℕ} {lines : Bool} (r : Result Bool Error) {e : Error} (k : Kind) → i < length section_order → slice_get section_order i ≡ Some k → Walked n o s m keeps a b i lines →
       (answers : Answers) → PrintsPartLines n o b t keeps (Err e) (section_parts o s m answers k) → IsErrAnd r (λ y. y ≡ e) → WalkEnds n o s m keeps a t r
   walk_fails {a} {t = t} {i} r k h e w answers v f =
       let front : List Part = parts_at o.skeleton w.first None 0 m.customs in
-      let done : List Part = sections_parts o s m w.answers (take i kinds) in
-      let rest : List Answers = replicate (length kinds - (i + 1)) (λ x. false) in
-      let behind : List Part = sections_parts o s m rest (drop (suc i) kinds) in
-      let split : sections_parts o s m (w.answers ++ (answers ∷ rest)) kinds ≡ done ++ (section_parts o s m answers k ++ behind) =
-      rw w.many at (sections-split o s m w.answers answers rest kinds k (ap (slice_get kinds) w.many ∙ e)) in
-      let all : (front ++ done) ++ (section_parts o s m answers k ++ behind) ≡ front ++ sections_parts o s m (w.answers ++ (answers ∷ rest)) kinds =
+      let done : List Part = sections_parts o s m w.answers (take i section_order) in
+      let rest : List Answers = replicate (length section_order - (i + 1)) (λ x. false) in
+      let behind : List Part = sections_parts o s m rest (drop (suc i) section_order) in
+      let split : sections_parts o s m (w.answers ++ (answers ∷ rest)) section_order ≡ done ++ (section_parts o s m answers k ++ behind) =
+      rw w.many at (sections-split o s m w.answers answers rest section_order k (ap (slice_get section_order) w.many ∙ e)) in
+      let all : (front ++ done) ++ (section_parts o s m answers k ++ behind) ≡ front ++ sections_parts o s m (w.answers ++ (answers ∷ rest)) section_order =
       append_assoc front done (section_parts o s m answers k ++ behind) ∙ ap (λ (ps : List Part). front ++ ps) (sym split) in
-      let rests : length rest ≡ length kinds - (i + 1) = length-replicate (length kinds - (i + 1)) (λ x. false) in
-      let long : length (w.answers ++ (answers ∷ rest)) ≡ length kinds = length-append w.answers (answers ∷ rest) ∙ omega (arith, w.many, rests, h) in (
+      let rests : length rest ≡ length section_order - (i + 1) = length-replicate (length section_order - (i + 1)) (λ x. false) in
+      let long : length (w.answers ++ (answers ∷ rest)) ≡ length section_order = length-append w.answers (answers ∷ rest) ∙ omega (arith, w.many, rests, h) in (
         w.first,
         w.answers ++ (answers ∷ rest),
         long,
@@ -105,11 +106,11 @@ module _ {P : Type 0} (n : Meaning P) {keeps : Bool} (o : Options) (s : Scope) (
       )
 
   -- all are written
-  pub walk_ends : {a t : P} {i : ℕ} {lines : Bool} → i ≡ length kinds → Walked n o s m keeps a t i lines → WalkEnds n o s m keeps a t (Ok lines)
+  pub walk_ends : {a t : P} {i : ℕ} {lines : Bool} → i ≡ length section_order → Walked n o s m keeps a t i lines → WalkEnds n o s m keeps a t (Ok lines)
   walk_ends {a} {t} {i} {lines} e w =
       let front : List Part = parts_at o.skeleton w.first None 0 m.customs in (
         w.first,
         w.answers,
         w.many ∙ e,
-        subst (λ (j : ℕ). PrintsPartLines n o a t keeps (Ok lines) (front ++ sections_parts o s m w.answers (take j kinds))) e w.written,
+        subst (λ (j : ℕ). PrintsPartLines n o a t keeps (Ok lines) (front ++ sections_parts o s m w.answers (take j section_order))) e w.written,
       )

@@ -3,7 +3,7 @@
 ghost use Rattle.std.specs.Prelude.{◌≡◌, ◌∷◌, ◌++◌, List, Bool, true, None, length, IfOk, IfErr, is_some};
 ghost use Rattle.wasmprinter_error.specs.declared.error.Error.TheVariants.{Memory};
 ghost use Rattle.wasmprinter_spec.specs.Options.{Answers, in_colours};
-ghost use Rattle.wasmprinter_spec.specs.Layout.{module_parts};
+ghost use Rattle.wasmprinter_spec.specs.Layout.{module_parts, section_order, section_parts};
 ghost use Rattle.wasmprinter_spec.specs.Layout.Customs.{Shown, parts_at};
 ghost use Rattle.wasmprinter_spec.specs.Layout.Identifiers.{leading_mark_pieces};
 ghost use Rattle.wasmprinter_entries.specs.Places.{section_kind_view};
@@ -11,7 +11,7 @@ ghost use Rattle.wasmprinter_labels.specs.Scan.{names_of};
 ghost use Rattle.wasmprinter_annotations.specs.Parts.{PrintsLaid};
 ghost use Rattle.wasmprinter_annotations.specs.Lines.{PrintsPartLines};
 ghost use Rattle.wasmprinter_scope.specs.Scopes.{scope_view, folds_in};
-ghost use Rattle.wasmprinter_sections.specs.Sections.{section_parts, sections_parts, kinds, module_laid, Folds};
+ghost use Rattle.wasmprinter_sections.specs.Sections.{sections_parts, module_laid, Folds};
 
 use crate::sections::{has_fields, write_fields_of};
 use std::alloc::Global;
@@ -67,10 +67,10 @@ fn write_sections<P: Print>(
     module: &Module<'_>,
     scope: &mut Scope<'_, '_>,
 ) -> Result<bool, Error>
-    ensures { (first : Answers) × (answers : List Answers) × (length answers ≡ length kinds)
+    ensures { (first : Answers) × (answers : List Answers) × (length answers ≡ length section_order)
         × PrintsPartLines P.meaning options.now p.old p.new (folds_in (scope_view scope.old)) result
         (parts_at options.now.skeleton first None 0 module.now.customs
-        ++ sections_parts options.now (scope_view scope.old) module.now answers kinds) }
+        ++ sections_parts options.now (scope_view scope.old) module.now answers section_order) }
 {
     let mut lines = write_customs(p, options, module.customs(), None)?;
     for kind in &KINDS {

@@ -3,6 +3,7 @@ ghost use Rattle.std.specs.Prelude.{◌≡◌, ◌+◌, ◌<◌, ◌^◌, length
 ghost use Rattle.wasmprinter_spec.specs.Types.{FuncKind};
 ghost use Rattle.wasmprinter_spec.specs.Customs.Hints.{hints_of};
 ghost use Rattle.wasmprinter_spec.specs.Options.{Options};
+ghost use Rattle.wasmprinter_spec.specs.Layout.{section_pieces};
 ghost use Rattle.wasmprinter_spec.specs.Layout.Declarations.{Scope as FieldScope};
 ghost use Rattle.wasmprinter_spec.specs.Layout.DataSegments.{data_pieces};
 ghost use Rattle.wasmprinter_spec.specs.Layout.Functions.{functions_pieces};
@@ -12,7 +13,6 @@ ghost use Rattle.wasmprinter_entries.specs.Externs.{kind_view, imported_count};
 ghost use Rattle.wasmprinter_entries.specs.Places.{section_kind_view};
 ghost use Rattle.wasmprinter_scope.specs.Scopes.{scope_view, function_scope_view, folds_in};
 ghost use Rattle.wasmprinter_fields.specs.Parts.{field_line};
-ghost use Rattle.wasmprinter_sections.specs.Sections.{fields_of};
 
 use wasmprinter_bodies::functions::write_function;
 use wasmprinter_error::Error;
@@ -101,7 +101,7 @@ pub(crate) fn write_fields_of<P: Print>(
     kind: SectionKind,
 ) -> Result<(), Error>
     ensures pieces { PrintsOrStops P.meaning options.now p.old p.new (folds_in (scope_view scope.old)) result
-        (fields_of options.now (scope_view scope.old) module.now (section_kind_view kind)) }
+        (section_pieces options.now (scope_view scope.old) module.now (section_kind_view kind)) }
     ensures scope { scope_view scope.new ≡ scope_view scope.old }
 {
     use ExternKind as Extern;
@@ -128,7 +128,7 @@ pub(crate) fn write_fields_of<P: Print>(
 
 /// Whether the section of a kind has fields, each of which begins a line.
 pub(crate) fn has_fields(module: &Module<'_>, kind: SectionKind) -> bool
-    ensures { (o : Options) (s : FieldScope) → result ≡ has_break (fields_of o s module.now (section_kind_view kind)) }
+    ensures { (o : Options) (s : FieldScope) → result ≡ has_break (section_pieces o s module.now (section_kind_view kind)) }
 {
     match kind {
         SectionKind::Type => !module.types().is_empty(),

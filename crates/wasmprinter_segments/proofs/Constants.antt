@@ -45,7 +45,7 @@ with_count n r = r >>= λ xs. Some ((n, xs.0), xs.1)
 
 -- the items alone
 abbrev uncounted : {A : Type 0} → Option ((ℕ × List A) × Input) → Option (List A × Input)
-uncounted r = r >>= λ x. Some (x.0.1, x.1)
+uncounted r = r >>= λ ((_, xs), after). Some (xs, after)
 
 -- behind a count
 counted : (n : ℕ) (r : Option (List Code × Input)) → uncounted (with_count n (constants_read r)) ≡ constants_read (uncounted (with_count n r))

@@ -4,7 +4,7 @@ use Rattle.std.proofs.lemmas.Bool.{ne_eqb}
 use Rattle.wasmprinter_spec.specs.Grammar.{Input, Placed, value_with_place}
 use Rattle.wasmprinter_spec.specs.Name.{u32}
 use Rattle.wasmprinter_spec.specs.Operator.{Operator}
-use Rattle.wasmprinter_spec.specs.Placed.{Mode, Items, element_of, entry_of}
+use Rattle.wasmprinter_spec.specs.Placed.{ElementMode, Items, element_of, entry_of}
 use Rattle.wasmprinter_spec.specs.Binary.Elements.{segment, element_behind, element}
 use Rattle.wasmprinter_segments.specs.Segments.{names_table, mode_by, items_by}
 
@@ -46,7 +46,7 @@ module _ (old mid : Input) (flags : ℕ) (read : u32.parse old ≡ Some (flags, 
         let none : (element_behind flags).parse mid ≡ None = in_parts flags mid lt ∙ parts in
         rw (read, none) refl
 
-    module _ (after : Input) (mode : Mode (Placed Operator)) (first : (mode_by flags).parse mid ≡ Some (mode, after)) where
+    module _ (after : Input) (mode : ElementMode (Placed Operator)) (first : (mode_by flags).parse mid ≡ Some (mode, after)) where
       -- a mode, but no items
       pub element_no_items : (items_by flags).parse after ≡ None → (value_with_place element).parse old ≡ None
       element_no_items e =

@@ -3,7 +3,7 @@ use Rattle.std.proofs.Common.{◌≡◌, ℕ, ◌+◌, ◌<◌, ◌≤◌, get_o
 use Rattle.std.proofs.Math.ListN.{drop_of_length-le}
 use Rattle.std.proofs.lemmas.List.{at_drop_more}
 use Rattle.wasmprinter_spec.specs.Grammar.{Input, some_is, Placed, value_with_place}
-use Rattle.wasmprinter_spec.specs.Repeated.{Items}
+use Rattle.wasmprinter_spec.specs.Repeated.{AreItems}
 use Rattle.wasmprinter_spec.specs.Name.{vec}
 use Rattle.wasmprinter_spec.specs.Sections.{TableSection}
 use Rattle.wasmprinter_spec.specs.Operator.{Operator}
@@ -40,25 +40,28 @@ here_of p text behind x place s e =
     (there, subst (λ (q : ℕ). table.spells q text (table_of x.value.type (Some []))) (sym there) (subst (λ (v : Table (Placed Operator)). table.spells p text v) same s.1))
 
 -- it is one of the tables that were spelled
-among : (p : ℕ) (text : List ℕ) (ts : List PlacedTable) (place : ℕ) → Items (value_with_place table) p text ts → FirstIsEmpty place ts
+among : (p : ℕ) (text : List ℕ) (ts : List PlacedTable) (place : ℕ) → AreItems (value_with_place table) p text ts → FirstIsEmpty place ts
     → (at : Input) → (before behind : List ℕ) → at.bytes ≡ before ++ (text ++ behind) → p ≡ at.place + length before → HasEmptyInit at place
 among p text [] place s any at before behind parts starts = absurd any
 among p text (x ∷ xs) place s (inl here) at before behind parts starts =
-    let h = here_of p s.0 behind x place s.3 here in
-    let split : text ++ behind ≡ s.0 ++ (s.1 ++ behind) = ap (λ (t : List ℕ). t ++ behind) s.2 ∙ append_assoc s.0 s.1 behind in
+    let (first, others, joined, first_spelled, others_spelled) = s in
+    let h = here_of p first behind x place first_spelled here in
+    let split : text ++ behind ≡ first ++ (others ++ behind) = ap (λ (t : List ℕ). t ++ behind) joined ∙ append_assoc first others behind in
     record {
       before = before;
-      text = s.0;
-      behind = s.1 ++ behind;
+      text = first;
+      behind = others ++ behind;
       parts = parts ∙ ap (λ (t : List ℕ). before ++ t) split;
       starts = h.0 ∙ starts;
       type = x.value.type;
       spelled = h.1;
     }
 among p text (x ∷ xs) place s (inr there) at before behind parts starts =
-    let split : text ++ behind ≡ s.0 ++ (s.1 ++ behind) = ap (λ (t : List ℕ). t ++ behind) s.2 ∙ append_assoc s.0 s.1 behind in
-    among (p + length s.0) s.1 xs place s.4 there.1 at (before ++ s.0) behind
-    (parts ∙ ap (λ (t : List ℕ). before ++ t) split ∙ sym (append_assoc before s.0 (s.1 ++ behind))) (omega (arith, starts, length-append before s.0))
+    let (first, others, joined, first_spelled, others_spelled) = s in
+    let split : text ++ behind ≡ first ++ (others ++ behind) = ap (λ (t : List ℕ). t ++ behind) joined ∙ append_assoc first others behind in
+    among (p + length first) others xs place others_spelled there.1 at (before ++ first) behind
+    (parts ∙ ap (λ (t : List ℕ). before ++ t) split ∙ sym (append_assoc before first (others ++ behind)))
+    (omega (arith, starts, length-append before first))
 
 -- what is found among tables from one on is found among all of them
 abbrev pub FoundFrom : List PlacedTable → ℕ → Type 0
@@ -91,11 +94,14 @@ pub section_empty : (at after : Input) (ts : List PlacedTable) (place : ℕ) →
     → (content_reasons TableSection at).tables place
 section_empty at after ts place read any =
     let s = (vec (value_with_place table)).sound at (ts, after) read in
-    let same : s.spelled.0.1 ≡ ts = some_is s.spelled.0.1 ts s.spelled.1 in
-    let parts = s.spelled.2 in
-    let items : Items (value_with_place table) (at.place + length parts.0) parts.1 ts = subst (λ (xs : List PlacedTable). Items (value_with_place table) (at.place + length parts.0) parts.1 xs) same parts.4.1 in
-    let split : at.bytes ≡ parts.0 ++ (parts.1 ++ after.bytes) = s.parts ∙ ap (λ (t : List ℕ). t ++ after.bytes) parts.2 ∙ append_assoc parts.0 parts.1 after.bytes in (
-      among (at.place + length parts.0) parts.1 ts place items any at parts.0 after.bytes split refl,
+    let ((count, tables), kept, (front, rest, joined, count_spelled, (many, spelled))) = s.spelled in
+    let same : tables ≡ ts = some_is tables ts kept in
+    let behind : ℕ = at.place + length front in
+    let items : AreItems (value_with_place table) behind rest ts =
+    subst (λ (xs : List PlacedTable). AreItems (value_with_place table) behind rest xs) same spelled in
+    let split : at.bytes ≡ front ++ (rest ++ after.bytes) =
+    s.parts ∙ ap (λ (t : List ℕ). t ++ after.bytes) joined ∙ append_assoc front rest after.bytes in (
+      among behind rest ts place items any at front after.bytes split refl,
       λ x e.
           let b = alone_some (vec (value_with_place table)) at x e in
           let are : ts ≡ x = ap (λ (y : List PlacedTable × Input). y.0) (some_is (ts, after) (x, b.0) (sym read ∙ b.1)) in

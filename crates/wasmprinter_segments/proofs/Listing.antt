@@ -36,7 +36,7 @@ module _ {A : Type 0} (g : Grammar A) where
 
   -- the items alone
   abbrev uncounted : ℕ → Option (List A × Input) → Option (List A × Input)
-  uncounted n r = with_count n r >>= λ x. Some (x.0.1, x.1)
+  uncounted n r = with_count n r >>= λ ((_, xs), after). Some (xs, after)
 
   -- the count changes nothing
   uncount : (n : ℕ) (r : Option (List A × Input)) → uncounted n r ≡ r
@@ -74,13 +74,16 @@ module _ (old start at : Input) (count i : ℕ) (front : List (Placed Body)) (co
   any_over : (place : ℕ) → ((x : Placed Body × Input) → P at ≡ Some x → IsOver place x.0) → (x : List (Placed Body) × Input) → (vec code_entry).parse old ≡ Some x → AnyIsOver place x.0
   any_over place over x r =
       let m : ℕ = count - (i + 1) in
-      let y = bind_some (items_at P (suc m) at) (λ z. Some (front ++ z.0, z.1)) x (sym one_more ∙ r) in
-      let a = bind_some (P at) (λ a. items_at P m a.1 >>= λ b. Some (a.0 ∷ b.0, b.1)) y.0 y.1 in
-      let b = bind_some (items_at P m a.0.1) (λ b. Some (a.0.0 ∷ b.0, b.1)) y.0 a.2 in
-      let first : a.0.0 ∷ b.0.0 ≡ y.0.0 = ap (λ (z : List (Placed Body) × Input). z.0) (some_is (a.0.0 ∷ b.0.0, b.0.1) y.0 b.2) in
-      let all : front ++ y.0.0 ≡ x.0 = ap (λ (z : List (Placed Body) × Input). z.0) (some_is (front ++ y.0.0, y.0.1) x y.2) in
-      let here : AnyIsOver place (front ++ a.0.0 ∷ b.0.0) = any_behind place front b.0.0 a.0.0 (over a.0 a.1) in
-      let there : AnyIsOver place (front ++ y.0.0) = subst (λ (bs : List (Placed Body)). AnyIsOver place (front ++ bs)) first here in
+      let (behind_front, rest_parsed, whole) = bind_some (items_at P (suc m) at) (λ z. Some (front ++ z.0, z.1)) x (sym one_more ∙ r) in
+      let (rest, end) = behind_front in
+      let ((entry, mid), parsed, behind) =
+      bind_some (P at) (λ a. items_at P m a.1 >>= λ b. Some (a.0 ∷ b.0, b.1)) behind_front rest_parsed in
+      let ((others, after), others_parsed, result) = bind_some (items_at P m mid) (λ b. Some (entry ∷ b.0, b.1)) behind_front behind in
+      let first : entry ∷ others ≡ rest =
+      ap (λ (z : List (Placed Body) × Input). z.0) (some_is (entry ∷ others, after) behind_front result) in
+      let all : front ++ rest ≡ x.0 = ap (λ (z : List (Placed Body) × Input). z.0) (some_is (front ++ rest, end) x whole) in
+      let here : AnyIsOver place (front ++ entry ∷ others) = any_behind place front others entry (over (entry, mid) parsed) in
+      let there : AnyIsOver place (front ++ rest) = subst (λ (bs : List (Placed Body)). AnyIsOver place (front ++ bs)) first here in
       subst (λ (bs : List (Placed Body)). AnyIsOver place bs) all there
 
   -- a fault of an entry is one of all entries

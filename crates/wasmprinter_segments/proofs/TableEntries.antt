@@ -46,15 +46,24 @@ initialised = map_value (λ (_, (_, (type, init))). table_of type (Some init)) (
 plain_takes : (at : Input) (x : Table (Placed Operator) × Input) → plain.parse at ≡ Some x → length x.1.bytes < length at.bytes
 plain_takes at x e =
     let s = plain.sound at x e in
-    let parts = s.spelled.2.2 in
-    let head = parts.3.2 in
-    omega (arith, ap length s.parts, length-append s.text x.1.bytes, ap length parts.2, length-append parts.0 parts.1, ap length head.2, length-append head.0 head.1, ap length head.3)
+    let (type, kept, (read, made, (front, behind, joined, type_spelled, limits))) = s.spelled in
+    let (value, is, (first, rest, together, byte_spelled, heap)) = type_spelled in
+    omega (
+      arith,
+      ap length s.parts,
+      length-append s.text x.1.bytes,
+      ap length joined,
+      length-append front behind,
+      ap length together,
+      length-append first rest,
+      ap length byte_spelled,
+    )
 
 initialised_takes : (at : Input) (x : Table (Placed Operator) × Input) → initialised.parse at ≡ Some x → length x.1.bytes < length at.bytes
 initialised_takes at x e =
     let s = initialised.sound at x e in
-    let parts = s.spelled.2 in
-    omega (arith, ap length s.parts, length-append s.text x.1.bytes, ap length parts.2, length-append parts.0 parts.1, ap length parts.3.2)
+    let (entry, kept, (front, behind, joined, (byte, is, byte_spelled), spelled)) = s.spelled in
+    omega (arith, ap length s.parts, length-append s.text x.1.bytes, ap length joined, length-append front behind, ap length byte_spelled)
 
 chosen_takes : (c : Bool) (at : Input) (x : Table (Placed Operator) × Input) → (choose c initialised plain).parse at ≡ Some x → length x.1.bytes < length at.bytes
 chosen_takes true = initialised_takes

@@ -29,22 +29,29 @@ module _ (at mid : Input) (locals : Entries) (read : (vec (value_with_place loca
   -- the locals of the body
   body_locals : (x : Body × Input) → body.parse at ≡ Some x → x.0.locals ≡ locals
   body_locals x e =
-      let (parts, parsed, given) = bind_some ((seq (vec (value_with_place local_entry)) (λ _. expression)).parse at) (λ a. Some (body_from a.0.0 a.0.1, a.1)) x e in
-      let (own, has_own, behind) = bind_some ((vec (value_with_place local_entry)).parse at) (λ l. expression.parse l.1 >>= λ c. Some ((l.0, c.0), c.1)) parts parsed in
-      let (code, has_code, together) = bind_some (expression.parse own.1) (λ c. Some ((own.0, c.0), c.1)) parts behind in
-      let pair : Entries × Closed (Placed Operator) = parts.0 in
+      let (read_parts, parsed, given) =
+      bind_some ((seq (vec (value_with_place local_entry)) (λ _. expression)).parse at)
+      (λ ((ls, code), end). Some (body_from ls code, end)) x e in
+      let ((kept, closed), after) = read_parts in
+      let (own, has_own, behind) =
+      bind_some ((vec (value_with_place local_entry)).parse at) (λ l. expression.parse l.1 >>= λ c. Some ((l.0, c.0), c.1))
+      read_parts parsed in
+      let (code, has_code, together) = bind_some (expression.parse own.1) (λ c. Some ((own.0, c.0), c.1)) read_parts behind in
       let same : own.0 ≡ locals = ap (λ (y : Entries × Input). y.0) (some_is own (locals, mid) (sym has_own ∙ read)) in
-      let first : own.0 ≡ pair.0 = ap (λ (y : (Entries × Closed (Placed Operator)) × Input). y.0.0) (some_is ((own.0, code.0), code.1) parts together) in
-      let made : pair.0 ≡ x.0.locals = ap (λ (y : Body × Input). y.0.locals) (some_is (body_from pair.0 pair.1, parts.1) x given) in
+      let first : own.0 ≡ kept =
+      ap (λ (((ls, _), _) : (Entries × Closed (Placed Operator)) × Input). ls)
+      (some_is ((own.0, code.0), code.1) read_parts together) in
+      let made : kept ≡ x.0.locals = ap (λ (y : Body × Input). y.0.locals) (some_is (body_from kept closed, after) x given) in
       sym made ∙ sym first ∙ same
 
   -- the body has too many locals
   is_over : (place : ℕ) → place ≡ at.place → most_locals < local_count locals → (x : Placed Body × Input) → (value_with_place body).parse at ≡ Some x → IsOver place x.0
   is_over place begins many x e =
       let with_place : Body × Input → Placed Body × Input = λ a. (record { place = at.place; value = a.0 }, a.1) in
-      let a = bind_some (body.parse at) (λ a. Some (with_place a)) x e in
-      let here : IsOver place (with_place a.0).0 = (sym begins, subst (λ (ls : Entries). most_locals < local_count ls) (sym (body_locals a.0 a.1)) many) in
-      subst (λ (y : Placed Body × Input). IsOver place y.0) (some_is (with_place a.0) x a.2) here
+      let (read_body, parsed, placed) = bind_some (body.parse at) (λ a. Some (with_place a)) x e in
+      let here : IsOver place (with_place read_body).0 =
+      (sym begins, subst (λ (ls : Entries). most_locals < local_count ls) (sym (body_locals read_body parsed)) many) in
+      subst (λ (y : Placed Body × Input). IsOver place y.0) (some_is (with_place read_body) x placed) here
 
   -- too many locals were read
   pub body_over : (place : ℕ) → place ≡ at.place → most_locals < local_count locals → HasManyLocals at place × ((x : Placed Body × Input) → (value_with_place body).parse at ≡ Some x → IsOver place x.0)
@@ -79,16 +86,20 @@ module _ (old mid part new : Input) (size : ℕ) (size_read : u32.parse old ≡ 
   -- the body that stands in the entry is read of the part
   entry_body : (x : Placed Body × Input) → code_entry.parse old ≡ Some x → (after : Input) × ((value_with_place body).parse part ≡ Some (x.0, after))
   entry_body x e =
-      let (entry, parsed, given) = bind_some ((sized old mid part new size size_read cut begins (alone (value_with_place body))).parse old) (λ a. Some (a.0.1, a.1)) x e in
-      let read : Placed Body = entry.0.1 in
-      let same : read ≡ x.0 = ap (λ (y : Placed Body × Input). y.0) (some_is (read, entry.1) x given) in
-      alone_some (value_with_place body) part x.0 (sized_some old mid part new size size_read cut begins (alone (value_with_place body)) entry parsed ∙ ap (λ (b : Placed Body). Some b) same)
+      let (entry, parsed, given) =
+      bind_some ((sized old mid part new size size_read cut begins (alone (value_with_place body))).parse old)
+      (λ ((_, b), rest). Some (b, rest)) x e in
+      let ((own_size, read), after) = entry in
+      let same : read ≡ x.0 = ap (λ (y : Placed Body × Input). y.0) (some_is (read, after) x given) in
+      let there : (alone (value_with_place body)).parse part ≡ Some read =
+      sized_some old mid part new size size_read cut begins (alone (value_with_place body)) entry parsed in
+      alone_some (value_with_place body) part x.0 (there ∙ ap (λ (b : Placed Body). Some b) same)
 
   -- it has too many locals
   entry_over : (place : ℕ) → (body_reasons (value_with_place body).parse (HasBlocks part) part).locals place → (body_reasons code_entry.parse (HasEntryBlocks old) old).locals place
   entry_over place h =
-      let p = old_parts old mid part new size size_read cut begins in
-      (many_in_part old part p.0 new.bytes place p.1 p.2 h.0, λ x f. let b = entry_body x f in h.1 (x.0, b.0) b.1)
+      let (size_text, split, behind, spelled) = old_parts old mid part new size size_read cut begins in
+      (many_in_part old part size_text new.bytes place split behind h.0, λ x f. let b = entry_body x f in h.1 (x.0, b.0) b.1)
 
   -- none is spelled there
   entry_malformed : (place : ℕ) → (body_reasons (value_with_place body).parse (HasBlocks part) part).malformed place → (body_reasons code_entry.parse (HasEntryBlocks old) old).malformed place

@@ -6,7 +6,7 @@ use Rattle.wasmprinter_spec.specs.Grammar.{Grammar, Placed, succeed, choose}
 use Rattle.wasmprinter_spec.specs.Types.{ref_type, Func}
 use Rattle.wasmprinter_spec.specs.Operator.{Operator}
 use Rattle.wasmprinter_spec.specs.Instructions.{Closed}
-use Rattle.wasmprinter_spec.specs.Placed.{Mode, Passive, Declared, Active, Items, Functions, Expressions, PassiveData, ActiveData}
+use Rattle.wasmprinter_spec.specs.Placed.{ElementMode as DefinedElementMode, Passive, Declared, Active, Items, Functions, Expressions, PassiveData, ActiveData}
 use Rattle.wasmprinter_spec.specs.Placed.{DataMode as DefinedDataMode}
 use Rattle.wasmprinter_spec.specs.Binary.Limits.{has_bit}
 use Rattle.wasmprinter_spec.specs.Binary.Elements.{active, active_in, function_items, items_of_kind, expression_items, items_of_type}
@@ -15,8 +15,8 @@ use Rattle.wasmprinter_segments.specs.declared.elements.ElementMode.{ElementMode
 use Rattle.wasmprinter_segments.specs.declared.elements.ElementMode.TheVariants as m
 use Rattle.wasmprinter_segments.specs.declared.elements.ElementItems.{ElementItems}
 use Rattle.wasmprinter_segments.specs.declared.elements.ElementItems.TheVariants as i
-use Rattle.wasmprinter_segments.specs.declared.data.DataMode.{DataMode}
-use Rattle.wasmprinter_segments.specs.declared.data.DataMode.TheVariants as d
+use Rattle.wasmprinter_segments.specs.declared.data_segments.DataMode.{DataMode}
+use Rattle.wasmprinter_segments.specs.declared.data_segments.DataMode.TheVariants as d
 
 -- operators without the place of the `end` behind them
 abbrev pub Constant : Type 0
@@ -39,7 +39,7 @@ init_view None = None
 init_view (Some e) = Some (constant_of e.now)
 
 -- what becomes of an element segment
-abbrev pub element_mode_view : ElementMode → Mode (Placed Operator)
+abbrev pub element_mode_view : ElementMode → DefinedElementMode (Placed Operator)
 element_mode_view m.Passive = Passive
 element_mode_view m.Declared = Declared
 element_mode_view (m.Active table offset) = Active table (constant_of offset)
@@ -76,7 +76,7 @@ abbrev pub omits_kind : ℕ → Bool
 omits_kind flags = not (is_inactive flags) && not (is_explicit flags)
 
 -- what becomes of the segment
-abbrev pub mode_by : ℕ → Grammar (Mode (Placed Operator))
+abbrev pub mode_by : ℕ → Grammar (DefinedElementMode (Placed Operator))
 mode_by flags =
     choose (is_inactive flags) (choose (is_explicit flags) (succeed Declared) (succeed Passive))
     (choose (is_explicit flags) active_in active)

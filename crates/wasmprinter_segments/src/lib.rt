@@ -3,7 +3,7 @@
 #![tactic(auto)]
 
 pub mod code;
-pub mod data;
+pub mod data_segments;
 pub mod elements;
 pub mod globals;
 pub mod tables;

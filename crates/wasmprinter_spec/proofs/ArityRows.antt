@@ -1,16 +1,16 @@
 -- Worked rows of arities: how many operands operators take and how many results they give, and what the operators of a module name.
-use Rattle.std.specs.Prelude.{◌≡◌, ℕ, List, [], ◌∷◌, ◌++◌, map, length, ◌==◌, cond, true, codes, slice_get, Option, Some, None, option_map, refl}
-use Rattle.wasmprinter_spec.specs.Grammar.{input, ◌>>=◌}
+use Rattle.std.specs.Prelude.{◌≡◌, ℕ, List, [], ◌∷◌, map, length, ◌==◌, cond, true, codes, slice_get, Option, Some, None, option_map, refl}
+use Rattle.wasmprinter_spec.specs.Grammar.{◌>>=◌}
 use Rattle.wasmprinter_spec.specs.Types as types
 use Rattle.wasmprinter_spec.specs.Types.{FuncType, ValType, StructComposite, field_type, Val, final_type, FuncExtern, TagExtern}
-use Rattle.wasmprinter_spec.specs.Operator.{opcode, Empty, Value, OfType, NoImmediates, Index, Operator}
+use Rattle.wasmprinter_spec.specs.Operator.{Empty, Value, OfType, NoImmediates, Index, Operator}
 use Rattle.wasmprinter_spec.specs.Row.{OfBranchIf, OfBranchOnNull}
 use Rattle.wasmprinter_spec.specs.Table.{table}
-use Rattle.wasmprinter_spec.specs.Instructions.{expression}
 use Rattle.wasmprinter_spec.specs.Placed.{import_of, PlacedModule}
-use Rattle.wasmprinter_spec.specs.Folding.Arities.{Signatures, Counts, takes_and_gives, greatest, saturating_sum, label_of_block, counts, counts_of, signatures_within}
-use Rattle.wasmprinter_spec.proofs.Samples.{func, bare, empty_placed}
+use Rattle.wasmprinter_spec.specs.Folding.Arities.{Signatures, OperandCounts, takes_and_gives, greatest, saturating_sum, label_of_block, counts, counts_of, signatures_within}
+use Rattle.wasmprinter_spec.proofs.Samples.{func, bare, empty_placed, made}
 use Rattle.wasmprinter_spec.proofs.BlockSamples.{block, loop, if_op, try_table, nop}
+use Rattle.wasmprinter_spec.proofs.FromBytes.{spelled}
 
 -- ---- how many operands are taken, and how many results given
 
@@ -36,17 +36,14 @@ abbrev first_of : List Operator → Option Operator
 first_of [] = None
 first_of (o ∷ os) = Some o
 
-abbrev spelled : List ℕ → Option (List Operator)
-spelled bytes = option_map (λ x. map (λ o. o.value) x.0.items) (expression.parse (input 0 (bytes ++ 0x0b ∷ [])))
-
 -- of the first operator that the bytes spell
-abbrev counted : List ℕ → Option Counts
+abbrev counted : List ℕ → Option OperandCounts
 counted bytes = spelled bytes >>= first_of >>= λ o. Some (counts_of known open_labels o)
 
-abbrev all_counted : List (List ℕ) → List (Option Counts)
+abbrev all_counted : List (List ℕ) → List (Option OperandCounts)
 all_counted rows = map counted rows
 
-abbrev all_taking : List (ℕ × ℕ) → List (Option Counts)
+abbrev all_taking : List (ℕ × ℕ) → List (Option OperandCounts)
 all_taking rows = map (λ c. Some (takes_and_gives c.0 c.1)) rows
 
 fixed_counts : all_counted ((0x6a ∷ []) ∷ (0x01 ∷ []) ∷ (0x1c ∷ 0x00 ∷ []) ∷ (0xfc ∷ 0x0a ∷ 0x00 ∷ 0x00 ∷ []) ∷ []) ≡ all_taking ((2, 1) ∷ (0, 0) ∷ (3, 1) ∷ (3, 0) ∷ [])
@@ -102,7 +99,7 @@ block_counts : all_counted ((0x02 ∷ 0x7f ∷ 0x0b ∷ []) ∷ (0x03 ∷ 0x00 �
 unfolding table
 block_counts = refl
 
-end_counts : counts_of known open_labels (record { opcode = opcode 0 0x0b; immediates = NoImmediates }) ≡ takes_and_gives 0 0
+end_counts : counts_of known open_labels (made 0x0b NoImmediates) ≡ takes_and_gives 0 0
 unfolding table
 end_counts = refl
 
@@ -112,7 +109,7 @@ aggregate_counts : all_counted ((0xfb ∷ 0x00 ∷ 0x01 ∷ []) ∷ (0xfb ∷ 0x
 unfolding table
 aggregate_counts = refl
 
-unlisted_counts : counts_of known open_labels (record { opcode = opcode 0 0xff; immediates = NoImmediates }) ≡ takes_and_gives 0 0
+unlisted_counts : counts_of known open_labels (made 0xff NoImmediates) ≡ takes_and_gives 0 0
 unfolding table
 unlisted_counts = refl
 

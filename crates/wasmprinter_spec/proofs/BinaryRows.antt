@@ -1,5 +1,5 @@
 -- Worked rows of the binary format (section 5 of the standard): what single lists of bytes spell.
-use Rattle.std.specs.Prelude.{◌≡◌, ℕ, zero, suc, ◌+◌, List, [], ◌∷◌, ◌++◌, take, drop, length, codes, nat_lt, true, Option, Some, None, refl}
+use Rattle.std.specs.Prelude.{◌≡◌, ℕ, zero, suc, ◌+◌, List, [], ◌∷◌, ◌++◌, take, drop, length, codes, nat_lt, true, Some, None, refl}
 use Rattle.std.proofs.Common.{arith, ltb}
 use Rattle.std.proofs.lemmas.Bool.{and_parts, ltb-true}
 use Rattle.std.specs.List.{list_all}
@@ -12,9 +12,8 @@ use Rattle.wasmprinter_spec.specs.Binary.{binary, AreBytes, Spells, IsComponent}
 use Rattle.wasmprinter_spec.specs.Limits.{most_functions, IsWithinLimits}
 use Rattle.wasmprinter_spec.specs.Table.{table}
 use Rattle.wasmprinter_spec.proofs.Samples.{head_bytes, local_get, empty_placed, identity_bytes, identity_placed, stored_bytes_to_end, stored_bytes, stored_placed, mixed_bytes, mixed_placed, func, bare}
-
-abbrev parsed : List ℕ → Option PlacedModule
-parsed bytes = binary.parse (input 0 bytes)
+use Rattle.wasmprinter_spec.proofs.FromBytes.{parsed}
+use Rattle.wasmprinter_spec.proofs.Numbers.{number_if}
 
 -- ---- whole modules
 
@@ -60,13 +59,9 @@ without_end_unspelled : (m : PlacedModule) → Spells (stored_bytes_to_end ++ (0
 without_end_unspelled m = unspelled (stored_bytes_to_end ++ (0x0a ∷ [])) m without_end
 
 -- the numbers below n, from the lowest, at which a list of bytes cut there is a module
-abbrev length_if : Option PlacedModule → ℕ → List ℕ
-length_if None n = []
-length_if (Some m) n = n ∷ []
-
 abbrev lengths_below : ℕ → List ℕ → List ℕ
 lengths_below zero bytes = []
-lengths_below (suc n) bytes = lengths_below n bytes ++ length_if (parsed (take n bytes)) n
+lengths_below (suc n) bytes = lengths_below n bytes ++ number_if (parsed (take n bytes)) n
 
 -- of its proper beginnings only two are modules: the head alone, and the head with the type section
 cut_identity : lengths_below 35 identity_bytes ≡ 8 ∷ 16 ∷ []

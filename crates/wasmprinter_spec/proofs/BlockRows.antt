@@ -1,17 +1,15 @@
 -- Worked rows of operators that nest: what their bytes spell, how they are printed, and that the texts read back.
-use Rattle.std.specs.Prelude.{◌≡◌, ℕ, pos, List, [], ◌∷◌, ◌++◌, map, true, false, codes, Option, Some, option_map, refl}
+use Rattle.std.specs.Prelude.{◌≡◌, ℕ, pos, List, [], ◌∷◌, ◌++◌, map, true, codes, Some, refl}
 use Rattle.std.specs.Fmt.{digits}
 use Rattle.std.specs.Char.{encode_utf8}
 use Rattle.std.specs.Str.{is_utf8, chars}
-use Rattle.wasmprinter_spec.specs.Grammar.{input, Placed}
+use Rattle.wasmprinter_spec.specs.Grammar.{Placed}
 use Rattle.wasmprinter_spec.specs.Types as types
 use Rattle.wasmprinter_spec.specs.Types.{SubType, signature_at}
 use Rattle.wasmprinter_spec.specs.Operator.{Empty, Value, OfType, One, All, Operator}
 use Rattle.wasmprinter_spec.specs.Table.{table}
-use Rattle.wasmprinter_spec.specs.Instructions.{expression}
 use Rattle.wasmprinter_spec.specs.Placed.{PlacedModule}
 use Rattle.wasmprinter_spec.specs.Module.{Module}
-use Rattle.wasmprinter_spec.specs.Binary.{binary}
 use Rattle.wasmprinter_spec.specs.Character.{class}
 use Rattle.wasmprinter_spec.specs.Numeral.{numeral, natural, integer}
 use Rattle.wasmprinter_spec.specs.Token.{lex}
@@ -19,21 +17,19 @@ use Rattle.wasmprinter_spec.specs.Code.{head}
 use Rattle.wasmprinter_spec.specs.Text.Items.{groups}
 use Rattle.wasmprinter_spec.specs.Text.Types.{heap_of_word, ref_of_word, number_of_word}
 use Rattle.wasmprinter_spec.specs.Read.{read}
-use Rattle.wasmprinter_spec.specs.Call.{Call, Style, Text, Newline, Line, Start, Name, Keyword, TypeName, Comment, Reset, text_of, atoms}
+use Rattle.wasmprinter_spec.specs.Call.{Call, Newline, Line, Name, Keyword, TypeName, Comment, text_of, atoms}
 use Rattle.wasmprinter_spec.specs.Options.{defaults}
 use Rattle.wasmprinter_spec.specs.Piece.{all_calls, repetition_of, left_in, place_text}
-use Rattle.wasmprinter_spec.specs.Layout.{layout}
 use Rattle.wasmprinter_spec.specs.Layout.Operators.{Form, InLine, OverLines, Setting, expression_pieces}
 use Rattle.wasmprinter_spec.proofs.Computing.{composing}
 use Rattle.wasmprinter_spec.specs.Text.Exports.{kind_of_word}
 use Rattle.wasmprinter_spec.proofs.Samples.{head_bytes, lines, to, to_null, func, bare, i32_const, empty, empty_placed}
 use Rattle.wasmprinter_spec.proofs.BlockSamples.{all_samples, sample_types, nop, block, loop, if_op, else_op, try_op, catch_op, catch_all, end, br, delegate, try_table}
+use Rattle.wasmprinter_spec.proofs.FromBytes.{text_by, printed_by, spelled}
+use Rattle.wasmprinter_spec.proofs.StyledCalls.{plain, in_style}
 use Rattle.wasmprinter_spec.specs.Names.{no_names}
 
 -- ---- what bytes spell
-
-abbrev spelled : List ℕ → Option (List Operator)
-spelled bytes = option_map (λ x. map (λ o. o.value) x.0.items) (expression.parse (input 0 (bytes ++ 0x0b ∷ [])))
 
 samples_spelled : map (λ ss. map (λ s. spelled s.bytes) ss) all_samples ≡ map (λ ss. map (λ s. Some s.operators) ss) all_samples
 unfolding table
@@ -64,10 +60,7 @@ placed_module os = record empty_placed {
   size = 0;
 }
 
-abbrev printed : PlacedModule → List ℕ
-printed m = text_of (layout defaults (λ n. false) m)
-
-samples_printed : map (λ ss. map (λ s. printed (placed_module s.operators)) ss) all_samples ≡ map (λ ss. map (λ s. module_lines s.lines) ss) all_samples
+samples_printed : map (λ ss. map (λ s. text_by defaults (placed_module s.operators)) ss) all_samples ≡ map (λ ss. map (λ s. module_lines s.lines) ss) all_samples
 unfolding composing repetition_of digits table
 samples_printed = refl
 
@@ -124,12 +117,6 @@ no_signature = refl
 
 -- ---- calls
 
-abbrev plain : List ℕ → List Call
-plain s = Text s ∷ []
-
-abbrev in_style : Style → List ℕ → List Call
-in_style style s = Start style ∷ Text s ∷ Start Reset ∷ []
-
 abbrev calls_in_line : List SubType → List Operator → List Call
 calls_in_line ts os = all_calls defaults (expression_pieces (setting InLine ts) (map placed os))
 
@@ -180,7 +167,7 @@ branching_bytes =
     ++ (0x03 ∷ 0x02 ∷ 0x01 ∷ 0x00 ∷ [])
     ++ (0x0a ∷ 0x0b ∷ 0x01 ∷ 0x09 ∷ 0x00 ∷ 0x02 ∷ 0x40 ∷ 0x0c ∷ 0x00 ∷ 0x0c ∷ 0x01 ∷ 0x0b ∷ 0x0b ∷ [])
 
-with_places : option_map (λ m. text_of (layout (record defaults { offsets = true }) (λ n. false) m)) (binary.parse (input 0 branching_bytes)) ≡ Some (lines (
+with_places : printed_by (record defaults { offsets = true }) branching_bytes ≡ Some (lines (
     codes "(module"
     ∷ codes "(;@b     ;)  (type (;0;) (func))"
     ∷ codes "(;@16    ;)  (func (;0;) (type 0)"

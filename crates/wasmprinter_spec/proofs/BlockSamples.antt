@@ -3,13 +3,10 @@
 use Rattle.std.specs.Prelude.{ℕ, pos, List, [], ◌∷◌, codes}
 use Rattle.wasmprinter_spec.specs.Types as types
 use Rattle.wasmprinter_spec.specs.Types.{SubType}
-use Rattle.wasmprinter_spec.specs.Operator.{opcode, BlockType, Empty, Value, OfType, Catch, One, OneRef, All, AllRef, Immediates, NoImmediates, Block, TryTable, Index, BranchTable, Operator}
-use Rattle.wasmprinter_spec.proofs.Samples.{to, to_null, func, i32_const}
+use Rattle.wasmprinter_spec.specs.Operator.{BlockType, Empty, Value, OfType, Catch, One, OneRef, All, AllRef, NoImmediates, Block, TryTable, Index, BranchTable, Operator}
+use Rattle.wasmprinter_spec.proofs.Samples.{to, to_null, func, i32_const, made}
 
 -- ---- operators
-
-abbrev made : ℕ → Immediates → Operator
-made n i = record { opcode = opcode 0 n; immediates = i }
 
 abbrev pub nop : Operator
 nop = made 0x01 NoImmediates

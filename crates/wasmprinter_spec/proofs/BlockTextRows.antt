@@ -1,7 +1,6 @@
 -- Worked rows of operators that nest in the text format (section 6.5 of the standard): flat and folded blocks,
 -- labels, block types, catch clauses.
-use Rattle.std.specs.Prelude.{◌≡◌, ℕ, pos, List, [], ◌∷◌, ◌++◌, ◌+◌, codes, Option, Some, None, refl}
-use Rattle.wasmprinter_spec.specs.Grammar.{◌>>=◌}
+use Rattle.std.specs.Prelude.{◌≡◌, ℕ, pos, List, [], ◌∷◌, codes, Option, Some, None, refl}
 use Rattle.wasmprinter_spec.specs.Types as types
 use Rattle.wasmprinter_spec.specs.Types.{signature_at}
 use Rattle.wasmprinter_spec.specs.Operator.{Empty, Value, OfType, One, OneRef, All, AllRef, Operator}
@@ -9,14 +8,14 @@ use Rattle.wasmprinter_spec.specs.Table.{table}
 use Rattle.wasmprinter_spec.specs.Character.{class}
 use Rattle.wasmprinter_spec.specs.Numeral.{numeral, natural, integer}
 use Rattle.wasmprinter_spec.specs.Token.{lex}
-use Rattle.wasmprinter_spec.specs.Forest.{forest, without_annotations}
-use Rattle.wasmprinter_spec.specs.Code.{head, chunks_of_forest}
+use Rattle.wasmprinter_spec.specs.Code.{head}
 use Rattle.wasmprinter_spec.specs.IndexSpaces.{Context}
 use Rattle.wasmprinter_spec.specs.Text.Items.{groups}
 use Rattle.wasmprinter_spec.specs.Text.Types.{heap_of_word, ref_of_word, number_of_word}
-use Rattle.wasmprinter_spec.specs.Text.Operators.{read_operators}
 use Rattle.wasmprinter_spec.proofs.Samples.{to, to_null, local_get, i32_const, no_spaces}
 use Rattle.wasmprinter_spec.proofs.BlockSamples.{nop, block, loop, if_op, else_op, try_op, catch_op, throw, rethrow, end, br, br_if, br_table, delegate, catch_all, try_table, sample_types}
+use Rattle.wasmprinter_spec.proofs.FromText.{operators_beside}
+use Rattle.wasmprinter_spec.proofs.Numbers.{numbers_from}
 
 -- type 0 takes an i32, type 1 gives one and is called t; tag 1 is called e, and local 2 x
 abbrev around : Context
@@ -28,7 +27,7 @@ around = record {
 
 -- the operators of a text
 abbrev ops : List ℕ → Option (List Operator)
-ops text = forest text >>= λ f. chunks_of_forest (without_annotations f) >>= read_operators around
+ops text = operators_beside around text
 
 -- ---- folded blocks
 
@@ -132,17 +131,9 @@ one_reference = refl
 
 -- ---- what isn't read
 
-abbrev number_if : Option (List Operator) → ℕ → List ℕ
-number_if None n = []
-number_if (Some os) n = n ∷ []
-
-abbrev numbers_from : ℕ → List (List ℕ) → List ℕ
-numbers_from n [] = []
-numbers_from n (t ∷ ts) = number_if (ops t) n ++ numbers_from (n + 1) ts
-
 -- which of these texts are operators, counted from 0
 abbrev numbers_read : List (List ℕ) → List ℕ
-numbers_read ts = numbers_from 0 ts
+numbers_read ts = numbers_from ops 0 ts
 
 -- a text that reads is seen
 read_among : numbers_read (codes "end" ∷ codes "block end" ∷ codes "(then)" ∷ codes "" ∷ codes "nop" ∷ []) ≡ 1 ∷ 3 ∷ 4 ∷ []

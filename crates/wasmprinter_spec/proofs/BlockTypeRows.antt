@@ -1,16 +1,14 @@
 -- Worked rows of blocks over all types (section 2.4 of the standard, "Block types"): block types that name types of groups, types that are
 -- no function types, and references; from bytes to text and back, and which of them are declared.
-use Rattle.std.specs.Prelude.{◌≡◌, ℕ, ◌+◌, List, [], ◌∷◌, ◌++◌, length, map, replicate, false, codes, Option, Some, None, option_map, refl}
+use Rattle.std.specs.Prelude.{◌≡◌, ℕ, ◌+◌, List, [], ◌∷◌, ◌++◌, length, map, replicate, codes, Some, None, refl}
 use Rattle.std.proofs.Common.{arith}
 use Rattle.std.specs.Fmt.{digits}
 use Rattle.std.specs.Char.{encode_utf8}
 use Rattle.std.specs.Str.{is_utf8, chars}
-use Rattle.wasmprinter_spec.specs.Grammar.{input}
 use Rattle.wasmprinter_spec.specs.Types.{Func, Index, StructComposite, SubType, final_type}
 use Rattle.wasmprinter_spec.specs.Operator.{BlockType, Value, OfType, All, Operator}
 use Rattle.wasmprinter_spec.specs.Table.{table}
-use Rattle.wasmprinter_spec.specs.Module.{Module, module_of}
-use Rattle.wasmprinter_spec.specs.Binary.{binary}
+use Rattle.wasmprinter_spec.specs.Module.{Module}
 use Rattle.wasmprinter_spec.specs.Indexed.{IsIndexed}
 use Rattle.wasmprinter_spec.specs.Character.{class}
 use Rattle.wasmprinter_spec.specs.Numeral.{numeral, natural}
@@ -19,14 +17,12 @@ use Rattle.wasmprinter_spec.specs.Code.{head}
 use Rattle.wasmprinter_spec.specs.Text.Items.{groups}
 use Rattle.wasmprinter_spec.specs.Text.Types.{heap_of_word, ref_of_word, number_of_word}
 use Rattle.wasmprinter_spec.specs.Read.{read}
-use Rattle.wasmprinter_spec.specs.Call.{text_of}
-use Rattle.wasmprinter_spec.specs.Options.{defaults}
 use Rattle.wasmprinter_spec.specs.Piece.{repetition_of}
-use Rattle.wasmprinter_spec.specs.Layout.{layout}
 use Rattle.wasmprinter_spec.proofs.Computing.{composing}
 use Rattle.wasmprinter_spec.specs.Text.Exports.{kind_of_word}
 use Rattle.wasmprinter_spec.proofs.Samples.{head_bytes, lines, to, to_null, func, empty}
 use Rattle.wasmprinter_spec.proofs.BlockSamples.{block, loop, end, try_table}
+use Rattle.wasmprinter_spec.proofs.FromBytes.{decoded, printed}
 
 -- a module of the types that the first bytes spell, and of one function of type i, whose operators the last bytes spell
 abbrev module_bytes : List ℕ → ℕ → List ℕ → List ℕ
@@ -38,12 +34,6 @@ module_bytes types i code =
 
 abbrev one_function : List (List SubType) → ℕ → List Operator → Module
 one_function types i os = record empty { types = types; functions = record { type_index = i; locals = []; operators = os } ∷ []; exports = [] }
-
-abbrev decoded : List ℕ → Option Module
-decoded bytes = option_map module_of (binary.parse (input 0 bytes))
-
-abbrev printed : List ℕ → Option (List ℕ)
-printed bytes = option_map (λ m. text_of (layout defaults (λ n. false) m)) (binary.parse (input 0 bytes))
 
 abbrev structure : SubType
 structure = final_type (StructComposite [])
@@ -101,7 +91,7 @@ structure_undeclared i = i.functions.0.operators.0
 
 structure_of_try_table : IsIndexed (one_function ((structure ∷ []) ∷ (func [] [] ∷ []) ∷ []) 1 (try_table (OfType 0) [] ∷ end ∷ [])) → ⊥
 unfolding table
-structure_of_try_table i = i.functions.0.operators.0.0
+structure_of_try_table i = let (block, catches) = i.functions.0.operators.0 in block
 
 -- ---- the index of a type in a group: type indices count the types of all groups, not the groups
 
@@ -230,7 +220,7 @@ undeclared_null_reference i = omega (arith, i.functions.0.operators.0)
 
 undeclared_reference_of_try_table : IsIndexed (one_function ((func [] [] ∷ []) ∷ []) 0 (try_table (Value (to (Index 1))) (All 0 ∷ []) ∷ end ∷ [])) → ⊥
 unfolding table
-undeclared_reference_of_try_table i = omega (arith, i.functions.0.operators.0.0)
+undeclared_reference_of_try_table i = let (block, catches) = i.functions.0.operators.0 in omega (arith, block)
 
 undeclared_reference_read : read (codes "(module (type (func)) (func (type 0) block (result (ref 1)) end))") ≡ Some (with_block (Value (to (Index 1))))
 unfolding lex class numeral natural groups heap_of_word ref_of_word number_of_word table head is_utf8 chars encode_utf8 kind_of_word

@@ -1,11 +1,8 @@
 -- Worked rows of texts without colour sequences.
-use Rattle.std.specs.Prelude.{◌≡◌, ℕ, List, [], ◌∷◌, ◌++◌, codes, refl}
+use Rattle.std.specs.Prelude.{◌≡◌, [], ◌∷◌, ◌++◌, codes, refl}
 use Rattle.std.specs.Fmt.{digits}
 use Rattle.wasmprinter_spec.specs.Colour.{uncolour}
-
--- ESC, [ and a text
-abbrev escape : List ℕ → List ℕ
-escape s = 27 ∷ 91 ∷ s
+use Rattle.wasmprinter_spec.proofs.Sequences.{escape}
 
 no_sequence : uncolour (codes "(module)\n") ≡ codes "(module)\n"
 unfolding digits

@@ -1,49 +1,29 @@
 -- Worked rows of custom sections and branch hints: the texts that modules give, the calls that ask for claims, and that the
 -- texts read as the same modules.
 use Rattle.std.specs.Prelude.{◌≡◌, ℕ, List, [], ◌∷◌, ◌++◌, length, true, false, ◌==◌, codes, Option, Some, None, option_map, refl}
-use Rattle.wasmprinter_spec.specs.Grammar.{◌>>=◌, input}
-use Rattle.wasmprinter_spec.specs.Placed.{PlacedModule}
-use Rattle.wasmprinter_spec.specs.Binary.{binary}
-use Rattle.wasmprinter_spec.specs.Module.{Module, module_of}
+use Rattle.wasmprinter_spec.specs.Grammar.{◌>>=◌}
 use Rattle.wasmprinter_spec.specs.Call.{Call, Claim, text_of}
-use Rattle.wasmprinter_spec.specs.Options.{Options, defaults, Answers}
+use Rattle.wasmprinter_spec.specs.Options.{defaults, Answers}
 use Rattle.wasmprinter_spec.specs.Layout.{layout, refusal}
 use Rattle.wasmprinter_spec.specs.Read.{read}
 use Rattle.wasmprinter_spec.specs.HintsOfModule.{operator_hint, module_hints}
 use Rattle.wasmprinter_spec.specs.Text.Hints.{text_hints}
-use Rattle.wasmprinter_spec.proofs.Samples.{head_bytes, lines}
+use Rattle.wasmprinter_spec.proofs.Samples.{head_bytes, lines, section, custom, hinted}
 use Rattle.wasmprinter_spec.proofs.Computing.{composing, reading}
+use Rattle.wasmprinter_spec.proofs.FromBytes.{parsed, decoded, unclaimed, skeleton, printed_by, printed}
 
-abbrev decode : List ℕ → Option PlacedModule
-decode bytes = binary.parse (input 0 bytes)
-
-abbrev decoded : List ℕ → Option Module
-decoded bytes = option_map module_of (decode bytes)
-
-abbrev unclaimed : Answers
-unclaimed = λ n. false
-
-abbrev printed_by : Options → Answers → List ℕ → Option (List ℕ)
-printed_by o answers bytes = option_map (λ m. text_of (layout o answers m)) (decode bytes)
-
-abbrev printed : List ℕ → Option (List ℕ)
-printed bytes = printed_by defaults unclaimed bytes
+-- the text, where these sections are claimed
+abbrev printed_with : Answers → List ℕ → Option (List ℕ)
+printed_with answers bytes = option_map (λ m. text_of (layout defaults answers m)) (parsed bytes)
 
 abbrev refused : List ℕ → Option ℕ
-refused bytes = decode bytes >>= λ m. refusal defaults unclaimed m
+refused bytes = parsed bytes >>= λ m. refusal defaults unclaimed m
 
 -- the claims that are asked for
 abbrev claims : List Call → List Call
 claims [] = []
 claims (Claim name place bytes answer ∷ cs) = Claim name place bytes answer ∷ claims cs
 claims (c ∷ cs) = claims cs
-
--- a section of fewer than 128 bytes
-abbrev section : ℕ → List ℕ → List ℕ
-section id bytes = id ∷ length bytes ∷ bytes
-
-abbrev custom : List ℕ → List ℕ → List ℕ
-custom name bytes = section 0x00 (length name ∷ (name ++ bytes))
 
 abbrev memory : List ℕ
 memory = section 0x05 (0x01 ∷ 0x00 ∷ 0x01 ∷ [])
@@ -75,11 +55,11 @@ raw_reads = refl
 abbrev second : Answers
 second = λ n. n == 1
 
-claimed_prints : printed_by defaults second raw ≡ Some (lines (codes "(module" ∷ codes "  (@custom \"a\" (before first) \"\\01\")" ∷ codes "  (memory (;0;) 1)" ∷ codes ")" ∷ []))
+claimed_prints : printed_with second raw ≡ Some (lines (codes "(module" ∷ codes "  (@custom \"a\" (before first) \"\\01\")" ∷ codes "  (memory (;0;) 1)" ∷ codes ")" ∷ []))
 unfolding composing reading
 claimed_prints = refl
 
-claims_asked : option_map (λ m. claims (layout defaults second m)) (decode raw) ≡ Some (Claim (codes "a") 15 (0x01 ∷ []) false ∷ Claim (codes "b") 25 [] true ∷ [])
+claims_asked : option_map (λ m. claims (layout defaults second m)) (parsed raw) ≡ Some (Claim (codes "a") 15 (0x01 ∷ []) false ∷ Claim (codes "b") 25 [] true ∷ [])
 unfolding composing reading
 claims_asked = refl
 
@@ -87,11 +67,11 @@ claims_asked = refl
 abbrev three : List ℕ
 three = head_bytes ++ (custom (codes "a") [] ++ (custom (codes "dylink.0") (0x09 ∷ 0x00 ∷ []) ++ custom (codes "b") []))
 
-middle_prints : printed_by defaults second three ≡ Some (lines (codes "(module" ∷ codes "  (@custom \"a\" (before first) \"\")" ∷ codes "  (@custom \"b\" (before first) \"\")" ∷ codes ")" ∷ []))
+middle_prints : printed_with second three ≡ Some (lines (codes "(module" ∷ codes "  (@custom \"a\" (before first) \"\")" ∷ codes "  (@custom \"b\" (before first) \"\")" ∷ codes ")" ∷ []))
 unfolding composing reading
 middle_prints = refl
 
-middle_asked : option_map (λ m. claims (layout defaults second m)) (decode three)
+middle_asked : option_map (λ m. claims (layout defaults second m)) (parsed three)
     ≡ Some (Claim (codes "a") 12 [] false ∷ Claim (codes "dylink.0") 23 (0x09 ∷ 0x00 ∷ []) true ∷ Claim (codes "b") 29 [] false ∷ [])
 unfolding composing reading
 middle_asked = refl
@@ -101,7 +81,7 @@ middle_refused : refused three ≡ Some 9
 unfolding composing reading
 middle_refused = refl
 
-asked_up_to : option_map (λ m. claims (layout defaults unclaimed m)) (decode three) ≡ Some (Claim (codes "a") 12 [] false ∷ Claim (codes "dylink.0") 23 (0x09 ∷ 0x00 ∷ []) false ∷ [])
+asked_up_to : option_map (λ m. claims (layout defaults unclaimed m)) (parsed three) ≡ Some (Claim (codes "a") 12 [] false ∷ Claim (codes "dylink.0") 23 (0x09 ∷ 0x00 ∷ []) false ∷ [])
 unfolding composing reading
 asked_up_to = refl
 
@@ -121,12 +101,12 @@ unfolding reading
 twice_reads = refl
 
 -- a name that is no UTF-8 is no name
-odd_name : decode (head_bytes ++ section 0x00 (0x01 ∷ 0xff ∷ [])) ≡ None
+odd_name : parsed (head_bytes ++ section 0x00 (0x01 ∷ 0xff ∷ [])) ≡ None
 unfolding reading
 odd_name = refl
 
 -- in a skeleton three points stand for the bytes
-skeleton_prints : printed_by (record defaults { skeleton = true }) unclaimed raw ≡ Some (lines (
+skeleton_prints : printed_by skeleton raw ≡ Some (lines (
     codes "(module"
     ∷ codes "  (@custom \"a\" (before first) ...)"
     ∷ codes "  (memory (;0;) 1)"
@@ -246,7 +226,7 @@ unknown_stops : printed (with_dylink (0x09 ∷ 0x00 ∷ [])) ≡ Some (codes "(m
 unfolding composing reading
 unknown_stops = refl
 
-claimed_not_judged : printed_by defaults (λ n. true) (with_dylink (0x09 ∷ 0x00 ∷ [])) ≡ Some (codes "(module)\n")
+claimed_not_judged : printed_with (λ n. true) (with_dylink (0x09 ∷ 0x00 ∷ [])) ≡ Some (codes "(module)\n")
 unfolding composing reading
 claimed_not_judged = refl
 
@@ -275,15 +255,6 @@ unfolding composing reading
 left_over_first = refl
 
 -- ---- branch hints
-
--- a function of one parameter with an `if`, and hints
-abbrev hinted : List ℕ → List ℕ
-hinted bytes =
-    head_bytes
-    ++ (section 0x01 (0x01 ∷ 0x60 ∷ 0x01 ∷ 0x7f ∷ 0x00 ∷ [])
-    ++ (section 0x03 (0x01 ∷ 0x00 ∷ [])
-    ++ (custom (codes "metadata.code.branch_hint") bytes
-    ++ section 0x0a (0x01 ∷ 0x07 ∷ 0x00 ∷ 0x20 ∷ 0x00 ∷ 0x04 ∷ 0x40 ∷ 0x0b ∷ 0x0b ∷ []))))
 
 abbrev hinted_text : List (List ℕ) → List ℕ
 hinted_text ls = lines (
@@ -325,7 +296,7 @@ unfolding composing reading
 one_for_each = refl
 
 -- the hint of the module is that of its text
-hint_of_module : (decode (hinted (0x01 ∷ 0x00 ∷ 0x01 ∷ 0x03 ∷ 0x01 ∷ 0x01 ∷ [])) >>= module_hints) ≡ Some (operator_hint 0 1 true ∷ [])
+hint_of_module : (parsed (hinted (0x01 ∷ 0x00 ∷ 0x01 ∷ 0x03 ∷ 0x01 ∷ 0x01 ∷ [])) >>= module_hints) ≡ Some (operator_hint 0 1 true ∷ [])
 unfolding composing reading
 hint_of_module = refl
 
@@ -334,11 +305,11 @@ unfolding reading
 hint_of_text = refl
 
 -- offsets that don't rise, and one that is no operator's
-other_hints : (decode (hinted (0x01 ∷ 0x00 ∷ 0x02 ∷ 0x03 ∷ 0x01 ∷ 0x01 ∷ 0x03 ∷ 0x01 ∷ 0x00 ∷ [])) >>= module_hints) ≡ None
+other_hints : (parsed (hinted (0x01 ∷ 0x00 ∷ 0x02 ∷ 0x03 ∷ 0x01 ∷ 0x01 ∷ 0x03 ∷ 0x01 ∷ 0x00 ∷ [])) >>= module_hints) ≡ None
 unfolding composing reading
 other_hints = refl
 
-hint_of_the_last_end : (decode (hinted (0x01 ∷ 0x00 ∷ 0x01 ∷ 0x06 ∷ 0x01 ∷ 0x01 ∷ [])) >>= module_hints) ≡ None
+hint_of_the_last_end : (parsed (hinted (0x01 ∷ 0x00 ∷ 0x01 ∷ 0x06 ∷ 0x01 ∷ 0x01 ∷ [])) >>= module_hints) ≡ None
 unfolding composing reading
 hint_of_the_last_end = refl
 

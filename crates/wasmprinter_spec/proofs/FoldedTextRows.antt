@@ -1,29 +1,19 @@
 -- Worked rows of whole modules whose operators are folded: the texts that they give, that these texts read as the same modules, and
 -- what can't be folded in a module.
-use Rattle.std.specs.Prelude.{◌≡◌, ℕ, ◌+◌, List, [], ◌∷◌, ◌++◌, length, true, false, codes, Option, Some, option_map, refl}
+use Rattle.std.specs.Prelude.{◌≡◌, ℕ, ◌+◌, List, [], ◌∷◌, ◌++◌, length, true, codes, Some, option_map, refl}
 use Rattle.std.specs.List.{AllByRecursion}
-use Rattle.wasmprinter_spec.specs.Grammar.{input}
-use Rattle.wasmprinter_spec.specs.Binary.{binary}
-use Rattle.wasmprinter_spec.specs.Placed.{PlacedModule}
-use Rattle.wasmprinter_spec.specs.Module.{module_of}
-use Rattle.wasmprinter_spec.specs.Call.{text_of}
 use Rattle.wasmprinter_spec.specs.Options.{Options, defaults}
-use Rattle.wasmprinter_spec.specs.Layout.{layout}
 use Rattle.wasmprinter_spec.specs.Layout.Folded.{items, node_pieces, folded_pieces}
 use Rattle.wasmprinter_spec.specs.Folding.Refusals.{legacy_places, misplaced_hints}
 use Rattle.wasmprinter_spec.specs.Read.{read}
-use Rattle.wasmprinter_spec.proofs.Samples.{head_bytes, lines}
+use Rattle.wasmprinter_spec.proofs.Samples.{head_bytes, lines, section, custom}
 use Rattle.wasmprinter_spec.proofs.SectionSamples.{with_item, one_field}
 use Rattle.wasmprinter_spec.proofs.Computing.{composing, reading}
+use Rattle.wasmprinter_spec.proofs.FromBytes.{parsed, decoded, printed_by}
+use Rattle.wasmprinter_spec.proofs.Sequences.{escape}
 
 abbrev folded : Options
 folded = record defaults { folds = true }
-
-abbrev decode : List ℕ → Option PlacedModule
-decode bytes = binary.parse (input 0 bytes)
-
-abbrev printed_by : Options → List ℕ → Option (List ℕ)
-printed_by o bytes = option_map (λ m. text_of (layout o (λ n. false) m)) (decode bytes)
 
 -- the bytes of a module, and its text
 record Sample : Type 0 where
@@ -37,15 +27,7 @@ abbrev Prints : Sample → Type 0
 Prints s = printed_by folded s.bytes ≡ Some s.text
 
 abbrev ReadsBack : Sample → Type 0
-ReadsBack s = read s.text ≡ option_map module_of (decode s.bytes)
-
--- a section of fewer than 128 bytes
-abbrev section : ℕ → List ℕ → List ℕ
-section id bytes = id ∷ length bytes ∷ bytes
-
--- a custom section of a name of fewer than 128 bytes
-abbrev custom : List ℕ → List ℕ → List ℕ
-custom name bytes = section 0x00 (length name ∷ name ++ bytes)
+ReadsBack s = read s.text ≡ decoded s.bytes
 
 -- ---- fields
 
@@ -173,13 +155,9 @@ sum_with_places = refl
 
 -- ---- colours
 
--- the introducer of a sequence, and the rest of it
-abbrev sequence : List ℕ → List ℕ
-sequence s = 0x1b ∷ 0x5b ∷ s
-
 -- a literal is red; nothing outside of the parentheses of operators carries sequences
 painted_global : printed_by (record folded { paints = true }) (with_item 0x06 (0x7f ∷ 0x00 ∷ 0x41 ∷ 0x01 ∷ 0x0b ∷ []))
-    ≡ Some (one_field (codes "(global (;0;) i32 (i32.const" ++ (sequence (codes "0m") ++ (sequence (codes "31m") ++ (codes " 1" ++ (sequence (codes "0m") ++ codes "))"))))))
+    ≡ Some (one_field (codes "(global (;0;) i32 (i32.const" ++ (escape (codes "0m") ++ (escape (codes "31m") ++ (codes " 1" ++ (escape (codes "0m") ++ codes "))"))))))
 unfolding composing reading items node_pieces folded_pieces
 painted_global = refl
 
@@ -206,44 +184,44 @@ hinted_if = refl
 
 -- ---- what can't be folded
 
-abbrev skeleton : Options
-skeleton = record folded { skeleton = true }
+abbrev folded_skeleton : Options
+folded_skeleton = record folded { skeleton = true }
 
 -- an older `try` and its `catch_all`
 abbrev older_try : List ℕ
 older_try = plain_bytes (0x06 ∷ 0x40 ∷ 0x19 ∷ 0x0b ∷ 0x0b ∷ [])
 
-try_and_catch : option_map (legacy_places folded) (decode older_try) ≡ Some (0x17 ∷ 0x19 ∷ [])
+try_and_catch : option_map (legacy_places folded) (parsed older_try) ≡ Some (0x17 ∷ 0x19 ∷ [])
 unfolding composing reading
 try_and_catch = refl
 
 -- in a skeleton bodies aren't printed
-try_in_skeleton : option_map (legacy_places skeleton) (decode older_try) ≡ Some []
+try_in_skeleton : option_map (legacy_places folded_skeleton) (parsed older_try) ≡ Some []
 unfolding composing reading
 try_in_skeleton = refl
 
-no_try : option_map (legacy_places folded) (decode (plain_bytes (0x02 ∷ 0x40 ∷ 0x0b ∷ 0x0b ∷ []))) ≡ Some []
+no_try : option_map (legacy_places folded) (parsed (plain_bytes (0x02 ∷ 0x40 ∷ 0x0b ∷ 0x0b ∷ []))) ≡ Some []
 unfolding composing reading
 no_try = refl
 
 -- an older `try` in the initialiser of a global, also in a skeleton
-try_in_global : option_map (legacy_places skeleton) (decode (with_item 0x06 (0x7f ∷ 0x00 ∷ 0x06 ∷ 0x40 ∷ 0x18 ∷ 0x00 ∷ 0x0b ∷ []))) ≡ Some (0xd ∷ 0xf ∷ [])
+try_in_global : option_map (legacy_places folded_skeleton) (parsed (with_item 0x06 (0x7f ∷ 0x00 ∷ 0x06 ∷ 0x40 ∷ 0x18 ∷ 0x00 ∷ 0x0b ∷ []))) ≡ Some (0xd ∷ 0xf ∷ [])
 unfolding composing reading
 try_in_global = refl
 
 -- The hint of a `block`; that of an `if` is none of these.
-hint_of_block : option_map (misplaced_hints folded) (decode (with_hint 1 (0x02 ∷ 0x40 ∷ 0x0b ∷ 0x0b ∷ []))) ≡ Some (0x32 ∷ [])
+hint_of_block : option_map (misplaced_hints folded) (parsed (with_hint 1 (0x02 ∷ 0x40 ∷ 0x0b ∷ 0x0b ∷ []))) ≡ Some (0x32 ∷ [])
 unfolding composing reading
 hint_of_block = refl
 
-hint_of_end : option_map (misplaced_hints folded) (decode (with_hint 3 (0x02 ∷ 0x40 ∷ 0x0b ∷ 0x0b ∷ []))) ≡ Some (0x32 ∷ [])
+hint_of_end : option_map (misplaced_hints folded) (parsed (with_hint 3 (0x02 ∷ 0x40 ∷ 0x0b ∷ 0x0b ∷ []))) ≡ Some (0x32 ∷ [])
 unfolding composing reading
 hint_of_end = refl
 
-hint_of_if : option_map (misplaced_hints folded) (decode (with_hint 3 (0x20 ∷ 0x00 ∷ 0x04 ∷ 0x40 ∷ 0x0b ∷ 0x0b ∷ []))) ≡ Some []
+hint_of_if : option_map (misplaced_hints folded) (parsed (with_hint 3 (0x20 ∷ 0x00 ∷ 0x04 ∷ 0x40 ∷ 0x0b ∷ 0x0b ∷ []))) ≡ Some []
 unfolding composing reading
 hint_of_if = refl
 
-hint_in_skeleton : option_map (misplaced_hints skeleton) (decode (with_hint 1 (0x02 ∷ 0x40 ∷ 0x0b ∷ 0x0b ∷ []))) ≡ Some []
+hint_in_skeleton : option_map (misplaced_hints folded_skeleton) (parsed (with_hint 1 (0x02 ∷ 0x40 ∷ 0x0b ∷ 0x0b ∷ []))) ≡ Some []
 unfolding composing reading
 hint_in_skeleton = refl

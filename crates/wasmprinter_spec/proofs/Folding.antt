@@ -51,9 +51,19 @@ module _ {H : Type 0} where
   more : (wanted s : ℕ) (b : NodesOf H) (h : H) (q : ℕ) (held : NodesOf H) (o : OperandsOf H)
       → s < wanted → s ≤ greatest → IsAnswer wanted (saturating_sum s q) b o → IsAnswer wanted s (Snoc b h q held) (with_last h q held o)
   more wanted s b h q held (Fit before run) lt le a =
-      (ap (λ (x : NodesOf H). Snoc x h q held) a.0, sym (saturated_assoc s q (results_of run)) ∙ a.1, more_first wanted s run h q held lt le a.2)
+      let (joined, sum, first) = a in (
+        ap (λ (x : NodesOf H). Snoc x h q held) joined,
+        sym (saturated_assoc s q (results_of run)) ∙ sum,
+        more_first wanted s run h q held lt le first,
+      )
   more wanted s b h q held Passed lt le a =
-      (a.0, Snoc a.1 h q held, ap (λ (x : NodesOf H). Snoc x h q held) a.2, omega (arith, a.3, saturated_assoc s q (results_of a.1)), more_first wanted s a.1 h q held lt le a.4)
+      let (before, run, joined, passed, first) = a in (
+        before,
+        Snoc run h q held,
+        ap (λ (x : NodesOf H). Snoc x h q held) joined,
+        omega (arith, passed, saturated_assoc s q (results_of run)),
+        more_first wanted s run h q held lt le first,
+      )
   more wanted s b h q held Short lt le a =
       λ before run e. short before run e
     where
@@ -152,15 +162,27 @@ unfolding_of-tree_behind f (Plain x rest) h =
     unfolding_of-tree_behind (with_operator f x) rest h.1
     ∙ rw (unfolding_of-with_operator f x h.0, h.0) (append_assoc (unfolding_of f) (Some x ∷ []) (told_of (flat rest)))
 unfolding_of-tree_behind f (Block x body end rest) h =
-    unfolding_of-tree_behind (Snoc f (Of x) x.gives (tree_behind Nil body)) rest h.3
-    ∙ simp (unfolding_of-tree_behind Nil body h.1, told_of-append, append_assoc, h.0, h.2)
+    let (opens, fit_body, ends, fit_rest) = h in
+    unfolding_of-tree_behind (Snoc f (Of x) x.gives (tree_behind Nil body)) rest fit_rest
+    ∙ simp (unfolding_of-tree_behind Nil body fit_body, told_of-append, append_assoc, opens, ends)
 unfolding_of-tree_behind f (If x body end rest) h =
-    unfolding_of-tree_behind (Snoc (front f) (Of x) x.gives (Snoc (last f) (ThenCase x) 0 (tree_behind Nil body))) rest h.3
-    ∙ simp (unfolding_of-tree_behind Nil body h.1, told_of-append, append_assoc, h.0, h.2, ← unfolding_of-front-last f)
+    let (opens, fit_body, ends, fit_rest) = h in
+    unfolding_of-tree_behind (Snoc (front f) (Of x) x.gives (Snoc (last f) (ThenCase x) 0 (tree_behind Nil body))) rest fit_rest
+    ∙ simp (unfolding_of-tree_behind Nil body fit_body, told_of-append, append_assoc, opens, ends, ← unfolding_of-front-last f)
 unfolding_of-tree_behind f (IfElse x body turn other end rest) h =
-    unfolding_of-tree_behind
-    (Snoc (front f) (Of x) x.gives (Snoc (Snoc (last f) (ThenCase x) 0 (tree_behind Nil body)) (ElseCase turn) 0 (tree_behind Nil other))) rest h.5
-    ∙ simp (unfolding_of-tree_behind Nil body h.1, unfolding_of-tree_behind Nil other h.3, told_of-append, append_assoc, h.0, h.2, h.4, ← unfolding_of-front-last f)
+    let (opens, fit_body, turns, fit_other, ends, fit_rest) = h in
+    let cases : Nodes = Snoc (Snoc (last f) (ThenCase x) 0 (tree_behind Nil body)) (ElseCase turn) 0 (tree_behind Nil other) in
+    unfolding_of-tree_behind (Snoc (front f) (Of x) x.gives cases) rest fit_rest
+    ∙ simp (
+      unfolding_of-tree_behind Nil body fit_body,
+      unfolding_of-tree_behind Nil other fit_other,
+      told_of-append,
+      append_assoc,
+      opens,
+      turns,
+      ends,
+      ← unfolding_of-front-last f,
+    )
 
 -- folding loses nothing
 pub unfolding_of-tree : UnfoldingRule

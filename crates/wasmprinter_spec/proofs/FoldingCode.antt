@@ -4,7 +4,7 @@ use Rattle.std.proofs.lemmas.List.{append-nil, map-append}
 use Rattle.wasmprinter_spec.specs.Grammar.{◌>>=◌, bind_some, some_is}
 use Rattle.wasmprinter_spec.specs.Row as row
 use Rattle.wasmprinter_spec.specs.Row.{Role, Opens, OpensIf, OpensTry, Turns, Catches, CatchesAll, Delegates, Ends}
-use Rattle.wasmprinter_spec.specs.Nesting.{Part, Sequence, Handlers, Nests, none, plain, block, one_armed, two_armed, tried, delegated, no_handler, caught, caught_all}
+use Rattle.wasmprinter_spec.specs.Nesting.{FramePart, Sequence, Handlers, Nests, none, plain, block, one_armed, two_armed, tried, delegated, no_handler, caught, caught_all}
 use Rattle.wasmprinter_spec.specs.Folding.Code.{Item, NestedCode, Done, Plain, Block, If, IfElse, flat, role, Behind, Outside, InBlock, InIf, with_code, in_front, behind_of, whole, nested_code_of, IsFit, AreWithoutTry, CodeRule, UniqueCodeRule, NestedCodeRule, NestingCodeRule}
 
 -- ---- a tree, its list, and its tree again
@@ -40,28 +40,36 @@ behind_of-flat Done xs b h e = e ∙ ap (λ (b : Behind). Some b) (sym (with_cod
 behind_of-flat (Plain x rest) xs b h e =
     rw (behind_of-flat rest xs b h.1 e, h.0) (ap (λ (b : Behind). Some b) (with_code-twice (Plain x) (behind rest) b))
 behind_of-flat (Block x body end rest) xs b h e =
-    let after : behind_of (end ∷ (flat rest ++ xs)) ≡ Some (InBlock Done end (with_code (behind rest) b)) = rw (behind_of-flat rest xs b h.3 e, h.2) refl in
+    let (opens, fit_body, ends, fit_rest) = h in
+    let after : behind_of (end ∷ (flat rest ++ xs)) ≡ Some (InBlock Done end (with_code (behind rest) b)) =
+    rw (behind_of-flat rest xs b fit_rest e, ends) refl in
     let inner : behind_of (flat body ++ end ∷ (flat rest ++ xs)) ≡ Some (InBlock body end (with_code (behind rest) b)) =
-    behind_of-flat body (end ∷ (flat rest ++ xs)) (InBlock Done end (with_code (behind rest) b)) h.1 after
+    behind_of-flat body (end ∷ (flat rest ++ xs)) (InBlock Done end (with_code (behind rest) b)) fit_body after
     ∙ ap (λ (c : NestedCode). Some (InBlock c end (with_code (behind rest) b))) (behind-done body) in
-    rw (append_assoc (flat body) (end ∷ flat rest) xs, inner, h.0) (ap (λ (b : Behind). Some b) (with_code-twice (Block x body end) (behind rest) b))
+    rw (append_assoc (flat body) (end ∷ flat rest) xs, inner, opens)
+    (ap (λ (b : Behind). Some b) (with_code-twice (Block x body end) (behind rest) b))
 behind_of-flat (If x body end rest) xs b h e =
-    let after : behind_of (end ∷ (flat rest ++ xs)) ≡ Some (InBlock Done end (with_code (behind rest) b)) = rw (behind_of-flat rest xs b h.3 e, h.2) refl in
+    let (opens, fit_body, ends, fit_rest) = h in
+    let after : behind_of (end ∷ (flat rest ++ xs)) ≡ Some (InBlock Done end (with_code (behind rest) b)) =
+    rw (behind_of-flat rest xs b fit_rest e, ends) refl in
     let inner : behind_of (flat body ++ end ∷ (flat rest ++ xs)) ≡ Some (InBlock body end (with_code (behind rest) b)) =
-    behind_of-flat body (end ∷ (flat rest ++ xs)) (InBlock Done end (with_code (behind rest) b)) h.1 after
+    behind_of-flat body (end ∷ (flat rest ++ xs)) (InBlock Done end (with_code (behind rest) b)) fit_body after
     ∙ ap (λ (c : NestedCode). Some (InBlock c end (with_code (behind rest) b))) (behind-done body) in
-    rw (append_assoc (flat body) (end ∷ flat rest) xs, inner, h.0) (ap (λ (b : Behind). Some b) (with_code-twice (If x body end) (behind rest) b))
+    rw (append_assoc (flat body) (end ∷ flat rest) xs, inner, opens)
+    (ap (λ (b : Behind). Some b) (with_code-twice (If x body end) (behind rest) b))
 behind_of-flat (IfElse x body turn other end rest) xs b h e =
+    let (opens, fit_body, turns, fit_other, ends, fit_rest) = h in
     let far : Behind = with_code (behind rest) b in
-    let after : behind_of (end ∷ (flat rest ++ xs)) ≡ Some (InBlock Done end far) = rw (behind_of-flat rest xs b h.5 e, h.4) refl in
+    let after : behind_of (end ∷ (flat rest ++ xs)) ≡ Some (InBlock Done end far) = rw (behind_of-flat rest xs b fit_rest e, ends) refl in
     let second : behind_of (flat other ++ end ∷ (flat rest ++ xs)) ≡ Some (InBlock other end far) =
-    behind_of-flat other (end ∷ (flat rest ++ xs)) (InBlock Done end far) h.3 after
+    behind_of-flat other (end ∷ (flat rest ++ xs)) (InBlock Done end far) fit_other after
     ∙ ap (λ (c : NestedCode). Some (InBlock c end far)) (behind-done other) in
-    let between : behind_of (turn ∷ (flat other ++ end ∷ (flat rest ++ xs))) ≡ Some (InIf Done turn other end far) = rw (second, h.2) refl in
+    let between : behind_of (turn ∷ (flat other ++ end ∷ (flat rest ++ xs))) ≡ Some (InIf Done turn other end far) =
+    rw (second, turns) refl in
     let first : behind_of (flat body ++ turn ∷ (flat other ++ end ∷ (flat rest ++ xs))) ≡ Some (InIf body turn other end far) =
-    behind_of-flat body (turn ∷ (flat other ++ end ∷ (flat rest ++ xs))) (InIf Done turn other end far) h.1 between
+    behind_of-flat body (turn ∷ (flat other ++ end ∷ (flat rest ++ xs))) (InIf Done turn other end far) fit_body between
     ∙ ap (λ (c : NestedCode). Some (InIf c turn other end far)) (behind-done body) in
-    rw (append_assoc (flat body) (turn ∷ (flat other ++ end ∷ flat rest)) xs, append_assoc (flat other) (end ∷ flat rest) xs, first, h.0)
+    rw (append_assoc (flat body) (turn ∷ (flat other ++ end ∷ flat rest)) xs, append_assoc (flat other) (end ∷ flat rest) xs, first, opens)
     (ap (λ (b : Behind). Some b) (with_code-twice (IfElse x body turn other end) (behind rest) b))
 
 -- the tree of what a tree says is the tree
@@ -92,18 +100,21 @@ Leads r x b new = role x ≡ r → IsFitBehind b → IsTreeOf (x ∷ flat_behind
 
 plain_in_front : (x : Item) (b : Behind) → Leads row.Plain x b (with_code (Plain x) b)
 plain_in_front x (Outside c) e h = (refl, (e, h))
-plain_in_front x (InBlock c end b) e h = (refl, ((e, h.0), h.1, h.2))
-plain_in_front x (InIf c turn other end b) e h = (refl, ((e, h.0), h.1, h.2, h.3, h.4))
+plain_in_front x (InBlock c end b) e (fit, ends, fit_behind) = (refl, ((e, fit), ends, fit_behind))
+plain_in_front x (InIf c turn other end b) e (fit, turns, fit_other, ends, fit_behind) =
+    (refl, ((e, fit), turns, fit_other, ends, fit_behind))
 
 -- a constructor whose last part is the code behind it
 module _ (f : NestedCode → NestedCode) (xs : List Item) (flat_f : (d : NestedCode) → flat (f d) ≡ xs ++ flat d) (fit_f : (d : NestedCode) → IsFit d → IsFit (f d)) where
   closed_in_front : (b : Behind) → IsFitBehind b → IsTreeOf (xs ++ flat_behind b) (with_code f b)
   closed_in_front (Outside d) h = (flat_f d, fit_f d h)
-  closed_in_front (InBlock d end b) h =
-      (ap (λ (l : List Item). l ++ end ∷ flat_behind b) (flat_f d) ∙ append_assoc xs (flat d) (end ∷ flat_behind b), (fit_f d h.0, h.1, h.2))
-  closed_in_front (InIf d turn other end b) h = (
+  closed_in_front (InBlock d end b) (fit, ends, fit_behind) = (
+    ap (λ (l : List Item). l ++ end ∷ flat_behind b) (flat_f d) ∙ append_assoc xs (flat d) (end ∷ flat_behind b),
+    (fit_f d fit, ends, fit_behind),
+  )
+  closed_in_front (InIf d turn other end b) (fit, turns, fit_other, ends, fit_behind) = (
     ap (λ (l : List Item). l ++ turn ∷ (flat other ++ end ∷ flat_behind b)) (flat_f d) ∙ append_assoc xs (flat d) (turn ∷ (flat other ++ end ∷ flat_behind b)),
-    (fit_f d h.0, h.1, h.2, h.3, h.4),
+    (fit_f d fit, turns, fit_other, ends, fit_behind),
   )
 
 -- an operator, a part and another behind it, and a second part
@@ -112,14 +123,18 @@ in_two x a b y = simp (append_assoc)
 
 block_in_front : (x : Item) (c : NestedCode) (end : Item) (b : Behind) → Leads Opens x (InBlock c end b) (with_code (Block x c end) b)
 block_in_front x c end b e h =
+    let (fit, ends, fit_behind) = h in
     let t : IsTreeOf ((x ∷ (flat c ++ end ∷ [])) ++ flat_behind b) (with_code (Block x c end) b) =
-    closed_in_front (Block x c end) (x ∷ (flat c ++ end ∷ [])) (λ d. in_two x (flat c) (flat d) end) (λ d i. (e, h.0, h.1, i)) b h.2 in
+    closed_in_front (Block x c end) (x ∷ (flat c ++ end ∷ []))
+    (λ d. in_two x (flat c) (flat d) end) (λ d i. (e, fit, ends, i)) b fit_behind in
     (t.0 ∙ sym (in_two x (flat c) (flat_behind b) end), t.1)
 
 if_in_front : (x : Item) (c : NestedCode) (end : Item) (b : Behind) → Leads OpensIf x (InBlock c end b) (with_code (If x c end) b)
 if_in_front x c end b e h =
+    let (fit, ends, fit_behind) = h in
     let t : IsTreeOf ((x ∷ (flat c ++ end ∷ [])) ++ flat_behind b) (with_code (If x c end) b) =
-    closed_in_front (If x c end) (x ∷ (flat c ++ end ∷ [])) (λ d. in_two x (flat c) (flat d) end) (λ d i. (e, h.0, h.1, i)) b h.2 in
+    closed_in_front (If x c end) (x ∷ (flat c ++ end ∷ []))
+    (λ d. in_two x (flat c) (flat d) end) (λ d i. (e, fit, ends, i)) b fit_behind in
     (t.0 ∙ sym (in_two x (flat c) (flat_behind b) end), t.1)
 
 -- the same with three parts
@@ -128,9 +143,10 @@ in_three x a b c y z = simp (append_assoc)
 
 if_else_in_front : (x : Item) (c : NestedCode) (turn : Item) (other : NestedCode) (end : Item) (b : Behind) → Leads OpensIf x (InIf c turn other end b) (with_code (IfElse x c turn other end) b)
 if_else_in_front x c turn other end b e h =
+    let (fit, turns, fit_other, ends, fit_behind) = h in
     let t : IsTreeOf ((x ∷ (flat c ++ turn ∷ (flat other ++ end ∷ []))) ++ flat_behind b) (with_code (IfElse x c turn other end) b) =
     closed_in_front (IfElse x c turn other end) (x ∷ (flat c ++ turn ∷ (flat other ++ end ∷ [])))
-    (λ d. in_three x (flat c) (flat other) (flat d) turn end) (λ d i. (e, h.0, h.1, h.2, h.3, i)) b h.4 in
+    (λ d. in_three x (flat c) (flat other) (flat d) turn end) (λ d i. (e, fit, turns, fit_other, ends, i)) b fit_behind in
     (t.0 ∙ sym (in_three x (flat c) (flat other) (flat_behind b) turn end), t.1)
 
 tree_of_some : (xs : List Item) (b new : Behind) → ◌≡◌ {A = Option Behind} (Some b) (Some new) → IsTreeOf xs b → IsTreeOf xs new
@@ -139,7 +155,7 @@ tree_of_some xs b new e h = subst (IsTreeOf xs) (some_is b new e) h
 in_front-tree : (r : Role) (x : Item) (b new : Behind) → role x ≡ r → IsFitBehind b → in_front r x b ≡ Some new → IsTreeOf (x ∷ flat_behind b) new
 in_front-tree row.Plain x b new p h e = tree_of_some _ _ new e (plain_in_front x b p h)
 in_front-tree Ends x b new p h e = tree_of_some _ _ new e (refl, (tt, p, h))
-in_front-tree Turns x (InBlock c end b) new p h e = tree_of_some _ _ new e (refl, (tt, p, h.0, h.1, h.2))
+in_front-tree Turns x (InBlock c end b) new p (fit, ends, fit_behind) e = tree_of_some _ _ new e (refl, (tt, p, fit, ends, fit_behind))
 in_front-tree Turns x (Outside c) new p h e = absurd cc
 in_front-tree Turns x (InIf c turn other end b) new p h e = absurd cc
 in_front-tree Opens x (InBlock c end b) new p h e = tree_of_some _ _ new e (block_in_front x c end b p h)
@@ -156,16 +172,16 @@ in_front-tree Delegates x b new p h e = absurd cc
 behind_of-tree : (xs : List Item) (b : Behind) → behind_of xs ≡ Some b → IsTreeOf xs b
 behind_of-tree [] b e = tree_of_some [] (Outside Done) b e (refl, tt)
 behind_of-tree (x ∷ xs) b e =
-    let rest = bind_some (behind_of xs) (in_front (role x) x) b e in
-    let t : IsTreeOf xs rest.0 = behind_of-tree xs rest.0 rest.1 in
-    let top : IsTreeOf (x ∷ flat_behind rest.0) b = in_front-tree (role x) x rest.0 b refl t.1 rest.2 in
+    let (place, is_behind, result) = bind_some (behind_of xs) (in_front (role x) x) b e in
+    let t : IsTreeOf xs place = behind_of-tree xs place is_behind in
+    let top : IsTreeOf (x ∷ flat_behind place) b = in_front-tree (role x) x place b refl t.1 result in
     (top.0 ∙ ap (λ (l : List Item). x ∷ l) t.0, top.1)
 
 -- the tree of a list is well formed and says the list
 pub nested_code_of-tree : CodeRule
 nested_code_of-tree xs c e =
-    let b = bind_some (behind_of xs) whole c e in
-    of_whole b.0 b.2 (behind_of-tree xs b.0 b.1)
+    let (place, is_behind, result) = bind_some (behind_of xs) whole c e in
+    of_whole place result (behind_of-tree xs place is_behind)
   where
     of_whole : (b : Behind) → whole b ≡ Some c → IsTreeOf xs b → (flat c ≡ xs) × IsFit c
     of_whole (Outside d) e h = subst (λ (c : NestedCode). (flat c ≡ xs) × IsFit c) (some_is d c e) h
@@ -221,7 +237,7 @@ record HasTree (xs : List Item) : Type 0 where
   is_flat : flat code ≡ xs
   is_fit : IsFit code
 
-abbrev Grows : Part → List Role → Type 0
+abbrev Grows : FramePart → List Role → Type 0
 Grows Sequence rs = (xs : List Item) → map role xs ≡ rs → AreWithoutTry rs → HasTree xs
 Grows Handlers rs = Unit {0}
 
@@ -240,7 +256,11 @@ nothing_grows : (xs : List Item) → map role xs ≡ [] → HasTree xs
 nothing_grows [] e = record { code = Done; is_flat = refl; is_fit = tt }
 nothing_grows (x ∷ xs) e = absurd cc
 
-grows : {part : Part} {rs : List Role} → Nests part rs → Grows part rs
+-- an operator of the older `try` is ruled out
+no_try : true ≡ false → ⊥
+no_try e = cc
+
+grows : {part : FramePart} {rs : List Role} → Nests part rs → Grows part rs
 grows none = λ xs e h. nothing_grows xs e
 grows (plain {rest} n) = λ xs e h.
     let l : AreLed xs row.Plain rest = led xs row.Plain rest e in
@@ -249,9 +269,9 @@ grows (plain {rest} n) = λ xs e h.
 grows (block {body} {rest} b n) = λ xs e h.
     let l : AreLed xs Opens (body ++ Ends ∷ rest) = led xs Opens (body ++ Ends ∷ rest) e in
     let p : AreParted l.rest body Ends rest = parted l.rest body Ends rest l.are_behind in
-    let w : AreWithoutTry body × AreWithoutTry (Ends ∷ rest) = without_try-parts body (Ends ∷ rest) h.1 in
-    let t : HasTree p.front = grows b p.front p.are_before w.0 in
-    let u : HasTree p.rest = grows n p.rest p.are_behind w.1.1 in
+    let (in_body, (_, in_rest)) = without_try-parts body (Ends ∷ rest) h.1 in
+    let t : HasTree p.front = grows b p.front p.are_before in_body in
+    let u : HasTree p.rest = grows n p.rest p.are_behind in_rest in
     record {
       code = Block l.first t.code p.middle u.code;
       is_flat = rw (t.is_flat, u.is_flat) (ap (λ (ys : List Item). l.first ∷ ys) (sym p.are) ∙ sym l.are);
@@ -260,9 +280,9 @@ grows (block {body} {rest} b n) = λ xs e h.
 grows (one_armed {body} {rest} b n) = λ xs e h.
     let l : AreLed xs OpensIf (body ++ Ends ∷ rest) = led xs OpensIf (body ++ Ends ∷ rest) e in
     let p : AreParted l.rest body Ends rest = parted l.rest body Ends rest l.are_behind in
-    let w : AreWithoutTry body × AreWithoutTry (Ends ∷ rest) = without_try-parts body (Ends ∷ rest) h.1 in
-    let t : HasTree p.front = grows b p.front p.are_before w.0 in
-    let u : HasTree p.rest = grows n p.rest p.are_behind w.1.1 in
+    let (in_body, (_, in_rest)) = without_try-parts body (Ends ∷ rest) h.1 in
+    let t : HasTree p.front = grows b p.front p.are_before in_body in
+    let u : HasTree p.rest = grows n p.rest p.are_behind in_rest in
     record {
       code = If l.first t.code p.middle u.code;
       is_flat = rw (t.is_flat, u.is_flat) (ap (λ (ys : List Item). l.first ∷ ys) (sym p.are) ∙ sym l.are);
@@ -272,24 +292,18 @@ grows (two_armed {yes} {no} {rest} y o n) = λ xs e h.
     let l : AreLed xs OpensIf (yes ++ Turns ∷ (no ++ Ends ∷ rest)) = led xs OpensIf (yes ++ Turns ∷ (no ++ Ends ∷ rest)) e in
     let p : AreParted l.rest yes Turns (no ++ Ends ∷ rest) = parted l.rest yes Turns (no ++ Ends ∷ rest) l.are_behind in
     let q : AreParted p.rest no Ends rest = parted p.rest no Ends rest p.are_behind in
-    let w : AreWithoutTry yes × AreWithoutTry (Turns ∷ (no ++ Ends ∷ rest)) = without_try-parts yes (Turns ∷ (no ++ Ends ∷ rest)) h.1 in
-    let v : AreWithoutTry no × AreWithoutTry (Ends ∷ rest) = without_try-parts no (Ends ∷ rest) w.1.1 in
-    let t : HasTree p.front = grows y p.front p.are_before w.0 in
-    let s : HasTree q.front = grows o q.front q.are_before v.0 in
-    let u : HasTree q.rest = grows n q.rest q.are_behind v.1.1 in
+    let (in_yes, (_, behind_yes)) = without_try-parts yes (Turns ∷ (no ++ Ends ∷ rest)) h.1 in
+    let (in_no, (_, in_rest)) = without_try-parts no (Ends ∷ rest) behind_yes in
+    let t : HasTree p.front = grows y p.front p.are_before in_yes in
+    let s : HasTree q.front = grows o q.front q.are_before in_no in
+    let u : HasTree q.rest = grows n q.rest q.are_behind in_rest in
     record {
       code = IfElse l.first t.code p.middle s.code q.middle u.code;
       is_flat = rw (t.is_flat, s.is_flat, u.is_flat, sym q.are) (ap (λ (ys : List Item). l.first ∷ ys) (sym p.are) ∙ sym l.are);
       is_fit = (l.is_first, t.is_fit, p.is_between, s.is_fit, q.is_between, u.is_fit);
     }
 grows (tried b hs n) = λ xs e h. absurd (no_try h.0)
-  where
-    no_try : true ≡ false → ⊥
-    no_try e = cc
 grows (delegated b n) = λ xs e h. absurd (no_try h.0)
-  where
-    no_try : true ≡ false → ⊥
-    no_try e = cc
 grows no_handler = tt
 grows (caught b hs) = tt
 grows (caught_all b) = tt
@@ -311,18 +325,25 @@ nested-fit (Plain x rest) h =
     let r : IsNested (map role (flat rest)) = nested-fit rest h.1 in
     rw (h.0) (plain r.0, (refl, r.1))
 nested-fit (Block x body end rest) h =
-    let b : IsNested (map role (flat body)) = nested-fit body h.1 in
-    let r : IsNested (map role (flat rest)) = nested-fit rest h.3 in
-    rw (map-append role (flat body) (end ∷ flat rest), h.0, h.2) (block b.0 r.0, (refl, without_try-append _ (Ends ∷ map role (flat rest)) b.1 (refl, r.1)))
+    let (opens, fit_body, ends, fit_rest) = h in
+    let b : IsNested (map role (flat body)) = nested-fit body fit_body in
+    let r : IsNested (map role (flat rest)) = nested-fit rest fit_rest in
+    rw (map-append role (flat body) (end ∷ flat rest), opens, ends)
+    (block b.0 r.0, (refl, without_try-append _ (Ends ∷ map role (flat rest)) b.1 (refl, r.1)))
 nested-fit (If x body end rest) h =
-    let b : IsNested (map role (flat body)) = nested-fit body h.1 in
-    let r : IsNested (map role (flat rest)) = nested-fit rest h.3 in
-    rw (map-append role (flat body) (end ∷ flat rest), h.0, h.2) (one_armed b.0 r.0, (refl, without_try-append _ (Ends ∷ map role (flat rest)) b.1 (refl, r.1)))
+    let (opens, fit_body, ends, fit_rest) = h in
+    let b : IsNested (map role (flat body)) = nested-fit body fit_body in
+    let r : IsNested (map role (flat rest)) = nested-fit rest fit_rest in
+    rw (map-append role (flat body) (end ∷ flat rest), opens, ends)
+    (one_armed b.0 r.0, (refl, without_try-append _ (Ends ∷ map role (flat rest)) b.1 (refl, r.1)))
 nested-fit (IfElse x body turn other end rest) h =
-    let b : IsNested (map role (flat body)) = nested-fit body h.1 in
-    let o : IsNested (map role (flat other)) = nested-fit other h.3 in
-    let r : IsNested (map role (flat rest)) = nested-fit rest h.5 in
-    rw (map-append role (flat body) (turn ∷ (flat other ++ end ∷ flat rest)), map-append role (flat other) (end ∷ flat rest), h.0, h.2, h.4) (
+    let (opens, fit_body, turns, fit_other, ends, fit_rest) = h in
+    let b : IsNested (map role (flat body)) = nested-fit body fit_body in
+    let o : IsNested (map role (flat other)) = nested-fit other fit_other in
+    let r : IsNested (map role (flat rest)) = nested-fit rest fit_rest in
+    let at_turn = map-append role (flat body) (turn ∷ (flat other ++ end ∷ flat rest)) in
+    let at_end = map-append role (flat other) (end ∷ flat rest) in
+    rw (at_turn, at_end, opens, turns, ends) (
       two_armed b.0 o.0 r.0,
       (
         refl,

@@ -1,16 +1,12 @@
 -- Worked rows of folding: how bodies and constant expressions are printed when they are folded, and that these
 -- texts read as the same operators.
 use Rattle.std.specs.Prelude.{◌≡◌, ℕ, List, [], ◌∷◌, ◌++◌, map, flat_map, true, false, codes, slice_get, Option, Some, None, option_map, refl}
-use Rattle.wasmprinter_spec.specs.Grammar.{input, Placed, ◌>>=◌}
+use Rattle.wasmprinter_spec.specs.Grammar.{input, Placed}
 use Rattle.wasmprinter_spec.specs.Types as types
-use Rattle.wasmprinter_spec.specs.Operator.{Operator}
 use Rattle.wasmprinter_spec.specs.Instructions.{expression}
 use Rattle.wasmprinter_spec.specs.Names.{Names, no_names}
 use Rattle.wasmprinter_spec.specs.LabelNames.{label_naming}
 use Rattle.wasmprinter_spec.specs.Customs.Hints.{Hint}
-use Rattle.wasmprinter_spec.specs.Forest.{forest, without_annotations}
-use Rattle.wasmprinter_spec.specs.Code.{chunks_of_forest}
-use Rattle.wasmprinter_spec.specs.Text.Operators.{read_operators}
 use Rattle.wasmprinter_spec.specs.Call.{text_of}
 use Rattle.wasmprinter_spec.specs.Options.{Options, defaults}
 use Rattle.wasmprinter_spec.specs.Piece.{all_calls, left_in, place_text}
@@ -18,7 +14,9 @@ use Rattle.wasmprinter_spec.specs.Layout.Operators.{Form, OverLines, InLine, Set
 use Rattle.wasmprinter_spec.specs.Layout.Folded.{items, node_pieces, folded_pieces}
 use Rattle.wasmprinter_spec.specs.Folding.Arities.{Signatures}
 use Rattle.wasmprinter_spec.proofs.Computing.{printing, reading}
-use Rattle.wasmprinter_spec.proofs.Samples.{no_spaces}
+use Rattle.wasmprinter_spec.proofs.Samples.{body_lines}
+use Rattle.wasmprinter_spec.proofs.FromBytes.{spelled}
+use Rattle.wasmprinter_spec.proofs.FromText.{read_back}
 
 -- no types; function 0 gives two values
 abbrev pair_giving : Signatures
@@ -43,14 +41,6 @@ abbrev folded_by : Options → Setting → Signatures → List (Placed Hint) →
 folded_by o s ts hs bytes =
     option_map (λ x. option_map (λ ps. text_of (all_calls o ps)) (folded_pieces o false s ts hs x.0.items)) (expression.parse (input 1 (bytes ++ 0x0b ∷ [])))
 
-abbrev spelled : List ℕ → Option (List Operator)
-spelled bytes = option_map (λ x. map (λ o. o.value) x.0.items) (expression.parse (input 1 (bytes ++ 0x0b ∷ [])))
-
--- what code reads as that names nothing
-abbrev read_back : List ℕ → Option (List Operator)
-read_back text =
-    forest text >>= λ f. chunks_of_forest (without_annotations f) >>= read_operators (record { spaces = no_spaces; signature = λ n. None; fields = λ n. [] })
-
 -- bytes, and the lines that they give in a body
 record Sample : Type 0 where
   bytes : List ℕ
@@ -58,9 +48,6 @@ record Sample : Type 0 where
 
 abbrev sample : List ℕ → List (List ℕ) → Sample
 sample bs ls = record { bytes = bs; lines = ls }
-
-abbrev lines : List (List ℕ) → List ℕ
-lines ls = flat_map (λ l. codes "\n    " ++ l) ls
 
 abbrev body : Names → Signatures → List ℕ → Option (Option (List ℕ))
 body names ts bytes = folded_by defaults (setting OverLines names) ts [] bytes
@@ -128,23 +115,23 @@ ifs =
 abbrev all_samples : List (List Sample)
 all_samples = operands ∷ blocks ∷ ifs ∷ []
 
-samples_folded : map (λ ss. map (λ s. body no_names pair_giving s.bytes) ss) all_samples ≡ map (λ ss. map (λ s. Some (Some (lines s.lines))) ss) all_samples
+samples_folded : map (λ ss. map (λ s. body no_names pair_giving s.bytes) ss) all_samples ≡ map (λ ss. map (λ s. Some (Some (body_lines s.lines))) ss) all_samples
 unfolding printing items node_pieces folded_pieces
 samples_folded = refl
 
-samples_read : map (λ ss. map (λ s. read_back (lines s.lines)) ss) all_samples ≡ map (λ ss. map (λ s. spelled s.bytes) ss) all_samples
+samples_read : map (λ ss. map (λ s. read_back (body_lines s.lines)) ss) all_samples ≡ map (λ ss. map (λ s. spelled s.bytes) ss) all_samples
 unfolding reading
 samples_read = refl
 
 -- What can't be folded counts for the greatest number of results, which an array of so many takes.
 greatest_array : body no_names pair_giving (0x10 ∷ 0x00 ∷ 0x45 ∷ 0xfb ∷ 0x08 ∷ 0x00 ∷ 0xff ∷ 0xff ∷ 0xff ∷ 0xff ∷ 0x0f ∷ [])
-    ≡ Some (Some (lines (codes "(call 0)" ∷ codes "(array.new_fixed 0 4294967295" ∷ codes "  (i32.eqz))" ∷ [])))
+    ≡ Some (Some (body_lines (codes "(call 0)" ∷ codes "(array.new_fixed 0 4294967295" ∷ codes "  (i32.eqz))" ∷ [])))
 unfolding printing items node_pieces folded_pieces
 greatest_array = refl
 
 -- a branch to a block of a type that isn't there takes nothing, and the block gives nothing
 unknown_block : body no_names pair_giving (0x41 ∷ 0x00 ∷ 0x02 ∷ 0x05 ∷ 0x41 ∷ 0x01 ∷ 0x0d ∷ 0x00 ∷ 0x0b ∷ 0x1a ∷ [])
-    ≡ Some (Some (lines (codes "(drop" ∷ codes "  (i32.const 0)" ∷ codes "  (block (type 5) ;; label = @1" ∷ codes "    (i32.const 1)" ∷ codes "    (br_if 0 (;@1;))))" ∷ [])))
+    ≡ Some (Some (body_lines (codes "(drop" ∷ codes "  (i32.const 0)" ∷ codes "  (block (type 5) ;; label = @1" ∷ codes "    (i32.const 1)" ∷ codes "    (br_if 0 (;@1;))))" ∷ [])))
 unfolding printing items node_pieces folded_pieces
 unknown_block = refl
 
@@ -153,17 +140,17 @@ abbrev leaving : List ℕ
 leaving = 0x41 ∷ 0x05 ∷ 0x0c ∷ 0x00 ∷ 0x41 ∷ 0x06 ∷ 0x0f ∷ 0x41 ∷ 0x07 ∷ 0x0d ∷ 0x00 ∷ []
 
 leaving_with_one : body no_names (giving (Some 1)) leaving
-    ≡ Some (Some (lines (codes "(br 0" ∷ codes "  (i32.const 5))" ∷ codes "(return" ∷ codes "  (i32.const 6))" ∷ codes "(i32.const 7)" ∷ codes "(br_if 0)" ∷ [])))
+    ≡ Some (Some (body_lines (codes "(br 0" ∷ codes "  (i32.const 5))" ∷ codes "(return" ∷ codes "  (i32.const 6))" ∷ codes "(i32.const 7)" ∷ codes "(br_if 0)" ∷ [])))
 unfolding printing items node_pieces folded_pieces
 leaving_with_one = refl
 
 leaving_with_none : body no_names (giving (Some 0)) leaving
-    ≡ Some (Some (lines (codes "(i32.const 5)" ∷ codes "(br 0)" ∷ codes "(i32.const 6)" ∷ codes "(return)" ∷ codes "(br_if 0" ∷ codes "  (i32.const 7))" ∷ [])))
+    ≡ Some (Some (body_lines (codes "(i32.const 5)" ∷ codes "(br 0)" ∷ codes "(i32.const 6)" ∷ codes "(return)" ∷ codes "(br_if 0" ∷ codes "  (i32.const 7))" ∷ [])))
 unfolding printing items node_pieces folded_pieces
 leaving_with_none = refl
 
 leaving_without_type : body no_names (giving None) leaving
-    ≡ Some (Some (lines (codes "(i32.const 5)" ∷ codes "(br 0)" ∷ codes "(i32.const 6)" ∷ codes "(return)" ∷ codes "(i32.const 7)" ∷ codes "(br_if 0)" ∷ [])))
+    ≡ Some (Some (body_lines (codes "(i32.const 5)" ∷ codes "(br 0)" ∷ codes "(i32.const 6)" ∷ codes "(return)" ∷ codes "(i32.const 7)" ∷ codes "(br_if 0)" ∷ [])))
 unfolding printing items node_pieces folded_pieces
 leaving_without_type = refl
 
@@ -183,7 +170,7 @@ naming s = record no_names {
 }
 
 -- a block with an identifier has no comment
-named_block : body (naming (codes "a")) pair_giving (0x02 ∷ 0x40 ∷ 0x0b ∷ []) ≡ Some (Some (lines (codes "(block $a)" ∷ [])))
+named_block : body (naming (codes "a")) pair_giving (0x02 ∷ 0x40 ∷ 0x0b ∷ []) ≡ Some (Some (body_lines (codes "(block $a)" ∷ [])))
 unfolding printing reading items node_pieces folded_pieces
 named_block = refl
 
@@ -192,13 +179,13 @@ abbrev two_labels : Names
 two_labels = record no_names { labels = λ f. label_naming false (slice_get (codes "a" ∷ codes "b" ∷ [])) }
 
 labels_of_blocks : body two_labels pair_giving (0x02 ∷ 0x40 ∷ 0x0b ∷ 0x02 ∷ 0x40 ∷ 0x0c ∷ 0x00 ∷ 0x0c ∷ 0x01 ∷ 0x0b ∷ [])
-    ≡ Some (Some (lines (codes "(block $a)" ∷ codes "(block $b" ∷ codes "  (br $b)" ∷ codes "  (br 1))" ∷ [])))
+    ≡ Some (Some (body_lines (codes "(block $a)" ∷ codes "(block $b" ∷ codes "  (br $b)" ∷ codes "  (br 1))" ∷ [])))
 unfolding printing reading items node_pieces folded_pieces
 labels_of_blocks = refl
 
 -- a predicate stands inside its `if`, but outside the block
 labels_of_predicate : body no_names pair_giving (0x02 ∷ 0x40 ∷ 0x41 ∷ 0x00 ∷ 0x0d ∷ 0x00 ∷ 0x04 ∷ 0x40 ∷ 0x0c ∷ 0x00 ∷ 0x0c ∷ 0x01 ∷ 0x0b ∷ 0x0b ∷ [])
-    ≡ Some (Some (lines (
+    ≡ Some (Some (body_lines (
     codes "(block ;; label = @1"
     ∷ codes "  (if ;; label = @2"
     ∷ codes "    (br_if 0 (;@1;)"
@@ -212,18 +199,19 @@ labels_of_predicate = refl
 
 -- invented identifiers
 labels_invented : body (record no_names { labels = λ f. label_naming true (λ n. None) }) pair_giving (0x02 ∷ 0x40 ∷ 0x02 ∷ 0x40 ∷ 0x0c ∷ 0x01 ∷ 0x0c ∷ 0x00 ∷ 0x0b ∷ 0x0b ∷ [])
-    ≡ Some (Some (lines (codes "(block $#label0" ∷ codes "  (block $#label1" ∷ codes "    (br $#label0)" ∷ codes "    (br $#label1)))" ∷ [])))
+    ≡ Some (Some (body_lines (codes "(block $#label0" ∷ codes "  (block $#label1" ∷ codes "    (br $#label0)" ∷ codes "    (br $#label1)))" ∷ [])))
 unfolding printing reading items node_pieces folded_pieces
 labels_invented = refl
 
 -- two semicolons in a name are taken for a comment
 semicolons : body (naming (codes "a;;b")) pair_giving (0x20 ∷ 0x00 ∷ 0x20 ∷ 0x00 ∷ 0x1a ∷ [])
-    ≡ Some (Some (lines (codes "(local.get $\"a;;b\"" ∷ codes ")" ∷ codes "(drop" ∷ codes "  (local.get $\"a;;b\"" ∷ codes "  ))" ∷ [])))
+    ≡ Some (Some (body_lines (
+    codes "(local.get $\"a;;b\"" ∷ codes ")" ∷ codes "(drop" ∷ codes "  (local.get $\"a;;b\"" ∷ codes "  ))" ∷ [])))
 unfolding printing reading items node_pieces folded_pieces
 semicolons = refl
 
 -- two that stand apart are not
-apart : body (naming (codes ";a;")) pair_giving (0x20 ∷ 0x00 ∷ []) ≡ Some (Some (lines (codes "(local.get $\";a;\")" ∷ [])))
+apart : body (naming (codes ";a;")) pair_giving (0x20 ∷ 0x00 ∷ []) ≡ Some (Some (body_lines (codes "(local.get $\";a;\")" ∷ [])))
 unfolding printing reading items node_pieces folded_pieces
 apart = refl
 
@@ -233,13 +221,13 @@ abbrev hint_at : ℕ → Placed Hint
 hint_at n = record { place = 99; value = record { offset = n; taken = true } }
 
 hint_of_if : folded_by defaults (setting OverLines no_names) pair_giving (hint_at 3 ∷ []) (0x20 ∷ 0x00 ∷ 0x04 ∷ 0x40 ∷ 0x0b ∷ [])
-    ≡ Some (Some (lines (codes "(@metadata.code.branch_hint \"\\01\")" ∷ codes "(if ;; label = @1" ∷ codes "  (local.get 0)" ∷ codes "  (then))" ∷ [])))
+    ≡ Some (Some (body_lines (codes "(@metadata.code.branch_hint \"\\01\")" ∷ codes "(if ;; label = @1" ∷ codes "  (local.get 0)" ∷ codes "  (then))" ∷ [])))
 unfolding printing items node_pieces folded_pieces
 hint_of_if = refl
 
 -- the hint of an operand, and then that of the operator
 hints_of_operands : folded_by defaults (setting OverLines no_names) pair_giving (hint_at 3 ∷ hint_at 5 ∷ []) (0x41 ∷ 0x01 ∷ 0x41 ∷ 0x02 ∷ 0x6a ∷ [])
-    ≡ Some (Some (lines (
+    ≡ Some (Some (body_lines (
     codes "(@metadata.code.branch_hint \"\\01\")" ∷ codes "(i32.add" ∷ codes "  (i32.const 1)" ∷ codes "  (@metadata.code.branch_hint \"\\01\")" ∷ codes "  (i32.const 2))" ∷ [])))
 unfolding printing items node_pieces folded_pieces
 hints_of_operands = refl

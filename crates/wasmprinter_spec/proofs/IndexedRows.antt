@@ -11,7 +11,7 @@ use Rattle.wasmprinter_spec.specs.Row.{Space, Types, Func, Table, Memory, Tag, G
 use Rattle.wasmprinter_spec.specs.Indexed.{Counts, IsIndex, AreDeclared, IsIndexed, IsDeclaredVal, IsDeclaredSub}
 use Rattle.std.specs.List.{AllByRecursion}
 use Rattle.wasmprinter_spec.specs.Options.{defaults, IsBlank}
-use Rattle.wasmprinter_spec.proofs.Samples.{func, local_get, local_set, call, drop, return, i32_const, i64_const, empty, identity, stored, mixed}
+use Rattle.wasmprinter_spec.proofs.Samples.{func, local_get, local_set, call, drop, return, i32_const, i64_const, empty, identity, stored, mixed, made}
 
 empty_indexed : IsIndexed empty
 empty_indexed = record { types = tt; functions = tt; imports = tt; tables = tt; tags = tt; globals = tt; exports = tt; start = tt; elements = tt; datas = tt }
@@ -113,9 +113,6 @@ no_such_function i = omega (arith, i.exports.0)
 
 -- ---- immediates of each shape, and others
 
-abbrev made : ℕ → Immediates → Operator
-made n i = record { opcode = opcode 0 n; immediates = i }
-
 -- a function over i32 with a local whose body is one operator
 abbrev one_operator : Opcode → Immediates → Module
 one_operator o i = calling 0 (record { opcode = o; immediates = i } ∷ []) 0
@@ -210,7 +207,7 @@ no_such_block_type i = i.functions.0.operators.0
 
 no_such_try_table_type : IsIndexed (one_operator (opcode 0 0x1f) (TryTable (OfType 2) [])) → ⊥
 unfolding table
-no_such_try_table_type i = i.functions.0.operators.0.0
+no_such_try_table_type i = let (block, catches) = i.functions.0.operators.0 in block
 
 -- no tag is declared
 no_such_tag : IsIndexed (one_operator (opcode 0 0x08) (Index 0)) → ⊥
@@ -219,7 +216,7 @@ no_such_tag i = omega (arith, i.functions.0.operators.0)
 
 no_such_caught_tag : IsIndexed (one_operator (opcode 0 0x1f) (TryTable Empty (All 0 ∷ One 0 0 ∷ []))) → ⊥
 unfolding table
-no_such_caught_tag i = let (block, catches) = i.functions.0.operators.0 in omega (arith, catches.1.0)
+no_such_caught_tag i = let (block, (any_tag, (one_tag, _))) = i.functions.0.operators.0 in omega (arith, one_tag)
 
 no_such_caught_tag_ref : IsIndexed (one_operator (opcode 0 0x1f) (TryTable Empty (OneRef 0 0 ∷ []))) → ⊥
 unfolding table
@@ -242,7 +239,7 @@ unfolding table
 branch_table_of_branch i = i.functions.0.operators.0
 
 mixed_not_indexed : IsIndexed mixed → ⊥
-mixed_not_indexed i = omega (arith, i.exports.1.0)
+mixed_not_indexed i = let (first, (second, _)) = i.exports in omega (arith, second)
 
 -- ---- indents
 

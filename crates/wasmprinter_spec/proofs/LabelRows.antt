@@ -1,20 +1,17 @@
 -- Worked rows of labels with identifiers: those of a name section, and invented ones. Each text reads back.
-use Rattle.std.specs.Prelude.{◌≡◌, ℕ, List, [], ◌∷◌, ◌++◌, map, flat_map, ◌==◌, cond, true, false, codes, slice_get, Option, Some, None, refl}
+use Rattle.std.specs.Prelude.{◌≡◌, ℕ, List, [], ◌∷◌, map, ◌==◌, cond, true, false, codes, slice_get, Some, None, refl}
 use Rattle.std.specs.Fmt.{digits}
 use Rattle.std.specs.Char.{encode_utf8}
 use Rattle.std.specs.Str.{is_utf8, chars}
-use Rattle.wasmprinter_spec.specs.Grammar.{◌>>=◌}
 use Rattle.wasmprinter_spec.specs.Types as types
 use Rattle.wasmprinter_spec.specs.Operator.{Empty, Value, All, AllRef, Operator}
 use Rattle.wasmprinter_spec.specs.Table.{table}
 use Rattle.wasmprinter_spec.specs.Character.{class}
 use Rattle.wasmprinter_spec.specs.Numeral.{numeral, natural}
 use Rattle.wasmprinter_spec.specs.Token.{escape, lex}
-use Rattle.wasmprinter_spec.specs.Forest.{forest, without_annotations}
-use Rattle.wasmprinter_spec.specs.Code.{head, chunks_of_forest}
+use Rattle.wasmprinter_spec.specs.Code.{head}
 use Rattle.wasmprinter_spec.specs.Text.Types.{number_of_word}
-use Rattle.wasmprinter_spec.specs.Text.Operators.{read_operators}
-use Rattle.wasmprinter_spec.specs.Labels.{Naming}
+use Rattle.wasmprinter_spec.specs.Labels.{LabelNaming}
 use Rattle.wasmprinter_spec.specs.LabelNames.{label_naming}
 use Rattle.wasmprinter_spec.specs.Call.{text_of}
 use Rattle.wasmprinter_spec.specs.Options.{defaults}
@@ -23,31 +20,23 @@ use Rattle.wasmprinter_spec.specs.Piece.{all_calls, repetition_of}
 use Rattle.wasmprinter_spec.specs.Layout.Operators.{OverLines, expression_pieces}
 use Rattle.wasmprinter_spec.proofs.Computing.{composing}
 use Rattle.wasmprinter_spec.proofs.BlockSamples.{block, loop, if_op, else_op, try_op, end, br, br_table, delegate, try_table}
-use Rattle.wasmprinter_spec.proofs.Samples.{no_spaces}
+use Rattle.wasmprinter_spec.proofs.Samples.{body_lines}
+use Rattle.wasmprinter_spec.proofs.FromText.{read_back}
 use Rattle.wasmprinter_spec.specs.Names.{no_names}
 
-abbrev printed : Naming → List Operator → List ℕ
+abbrev printed : LabelNaming → List Operator → List ℕ
 printed naming os =
     text_of (all_calls defaults (expression_pieces (record { form = OverLines; signature = λ n. None; nesting = 2; names = record no_names { labels = λ f. naming }; function = 0; body = 0 }) (map (λ o. record { place = 0; value = o }) os)))
 
--- lines in a body
-abbrev lines : List (List ℕ) → List ℕ
-lines ls = flat_map (λ l. codes "\n    " ++ l) ls
-
--- what code without indices into other spaces reads as
-abbrev read_back : List ℕ → Option (List Operator)
-read_back text =
-    forest text >>= λ f. chunks_of_forest (without_annotations f) >>= read_operators (record { spaces = record no_spaces { types = []; functions = []; tags = []; locals = [] }; signature = λ n. None; fields = λ n. [] })
-
 -- the first labels have these names, and all others none
-abbrev named : List (List ℕ) → Naming
+abbrev named : List (List ℕ) → LabelNaming
 named ns = label_naming false (slice_get ns)
 
 -- label n alone has a name
-abbrev one_named : ℕ → List ℕ → Naming
+abbrev one_named : ℕ → List ℕ → LabelNaming
 one_named n s = label_naming false (λ i. cond (i == n) (Some s) None)
 
-abbrev invented : Naming
+abbrev invented : LabelNaming
 invented = label_naming true (λ n. None)
 
 -- ---- one name twice
@@ -56,7 +45,7 @@ abbrev both : List Operator
 both = block Empty ∷ block Empty ∷ br 1 ∷ br 0 ∷ end ∷ end ∷ []
 
 abbrev both_lines : List ℕ
-both_lines = lines (codes "block $a" ∷ codes "  block $a" ∷ codes "    br 1" ∷ codes "    br $a" ∷ codes "  end" ∷ codes "end" ∷ [])
+both_lines = body_lines (codes "block $a" ∷ codes "  block $a" ∷ codes "    br 1" ∷ codes "    br $a" ∷ codes "  end" ∷ codes "end" ∷ [])
 
 shadowed : printed (named (codes "a" ∷ codes "a" ∷ [])) both ≡ both_lines
 unfolding composing repetition_of digits table is_utf8 encode_utf8 chars class identifier_text quoted_text char_text
@@ -71,7 +60,7 @@ abbrev between : List Operator
 between = block Empty ∷ br 0 ∷ block Empty ∷ block Empty ∷ br_table (0 ∷ 1 ∷ 2 ∷ 3 ∷ []) 4 ∷ end ∷ br 1 ∷ end ∷ br 0 ∷ br 1 ∷ end ∷ []
 
 abbrev between_lines : List ℕ
-between_lines = lines (
+between_lines = body_lines (
     codes "block $a"
     ∷ codes "  br $a"
     ∷ codes "  block $b"
@@ -99,7 +88,7 @@ abbrev delegated : List Operator
 delegated = try_op Empty ∷ delegate 0 ∷ block Empty ∷ br 0 ∷ br 1 ∷ end ∷ []
 
 abbrev delegated_lines : List ℕ
-delegated_lines = lines (codes "try $t" ∷ codes "delegate 0" ∷ codes "block $u" ∷ codes "  br $u" ∷ codes "  br 1" ∷ codes "end" ∷ [])
+delegated_lines = body_lines (codes "try $t" ∷ codes "delegate 0" ∷ codes "block $u" ∷ codes "  br $u" ∷ codes "  br 1" ∷ codes "end" ∷ [])
 
 label_goes_with_delegate : printed (named (codes "t" ∷ codes "u" ∷ [])) delegated ≡ delegated_lines
 unfolding composing repetition_of digits table is_utf8 encode_utf8 chars class identifier_text quoted_text char_text
@@ -115,7 +104,7 @@ hiding =
     block Empty ∷ try_op Empty ∷ delegate 0 ∷ try_op Empty ∷ delegate 0 ∷ try_table (Value types.I32) (All 0 ∷ AllRef 1 ∷ All 2 ∷ []) ∷ br 0 ∷ br 1 ∷ end ∷ end ∷ []
 
 abbrev hiding_lines : List ℕ
-hiding_lines = lines (
+hiding_lines = body_lines (
     codes "block $a"
     ∷ codes "  try $a"
     ∷ codes "  delegate 0"
@@ -140,7 +129,7 @@ hides_from_delegate_reads = refl
 
 -- What hides a label is the name that it was given, though the identifiers differ.
 abbrev empty_lines : List ℕ
-empty_lines = lines (
+empty_lines = body_lines (
     codes "block $\"#label0 \" (@name \"\")"
     ∷ codes "  block $\"#label1 \" (@name \"\")"
     ∷ codes "    br 1"
@@ -162,7 +151,7 @@ abbrev strange : List Operator
 strange = block Empty ∷ loop Empty ∷ if_op Empty ∷ br 0 ∷ br 1 ∷ br 2 ∷ else_op ∷ end ∷ end ∷ end ∷ []
 
 abbrev strange_lines : List ℕ
-strange_lines = lines (
+strange_lines = body_lines (
     codes "block $\"#label0 #x\\u{22}\" (@name \"#x\\u{22}\")"
     ∷ codes "  loop $\"a b\""
     ∷ codes "    if $\"\\u{e9}\""
@@ -186,7 +175,7 @@ strange_names_read = refl
 -- ---- some labels without names
 
 abbrev mixed_lines : List ℕ
-mixed_lines = lines (codes "block ;; label = @1" ∷ codes "  block $a" ∷ codes "    br 1 (;@1;)" ∷ codes "    br $a" ∷ codes "  end" ∷ codes "end" ∷ [])
+mixed_lines = body_lines (codes "block ;; label = @1" ∷ codes "  block $a" ∷ codes "    br 1 (;@1;)" ∷ codes "    br $a" ∷ codes "  end" ∷ codes "end" ∷ [])
 
 second_named : printed (one_named 1 (codes "a")) both ≡ mixed_lines
 unfolding composing repetition_of digits table is_utf8 encode_utf8 chars class identifier_text quoted_text char_text
@@ -200,7 +189,7 @@ second_named_reads = refl
 
 -- by how many blocks stand around; the body itself has none
 abbrev invented_lines : List ℕ
-invented_lines = lines (codes "try $#label0" ∷ codes "delegate 0" ∷ codes "block $#label0" ∷ codes "  br $#label0" ∷ codes "  br 1" ∷ codes "end" ∷ [])
+invented_lines = body_lines (codes "try $#label0" ∷ codes "delegate 0" ∷ codes "block $#label0" ∷ codes "  br $#label0" ∷ codes "  br 1" ∷ codes "end" ∷ [])
 
 invented_identifiers : printed invented delegated ≡ invented_lines
 unfolding composing repetition_of digits table is_utf8 encode_utf8 chars class identifier_text quoted_text char_text
@@ -211,7 +200,7 @@ unfolding lex class escape numeral natural table head is_utf8 chars encode_utf8
 invented_identifiers_read = refl
 
 abbrev deep_lines : List ℕ
-deep_lines = lines (codes "block $#label0" ∷ codes "  block $#label1" ∷ codes "    br $#label0" ∷ codes "    br $#label1" ∷ codes "  end" ∷ codes "end" ∷ [])
+deep_lines = body_lines (codes "block $#label0" ∷ codes "  block $#label1" ∷ codes "    br $#label0" ∷ codes "    br $#label1" ∷ codes "  end" ∷ codes "end" ∷ [])
 
 invented_deeper : printed invented both ≡ deep_lines
 unfolding composing repetition_of digits table is_utf8 encode_utf8 chars class identifier_text quoted_text char_text
@@ -220,7 +209,7 @@ invented_deeper = refl
 -- a name beside invented identifiers
 abbrev partly_lines : List ℕ
 partly_lines =
-    lines (codes "block $#label0" ∷ codes "  block $\"#label1 #label0\" (@name \"#label0\")" ∷ codes "    br $#label0" ∷ codes "    br $\"#label1 #label0\" (@name \"#label0\")" ∷ codes "  end" ∷ codes "end" ∷ [])
+    body_lines (codes "block $#label0" ∷ codes "  block $\"#label1 #label0\" (@name \"#label0\")" ∷ codes "    br $#label0" ∷ codes "    br $\"#label1 #label0\" (@name \"#label0\")" ∷ codes "  end" ∷ codes "end" ∷ [])
 
 partly_invented : printed (label_naming true (λ n. cond (n == 1) (Some (codes "#label0")) None)) both ≡ partly_lines
 unfolding composing repetition_of digits table is_utf8 encode_utf8 chars class identifier_text quoted_text char_text

@@ -1,31 +1,24 @@
 -- Worked rows of the layout: the text and the calls that single modules give.
-use Rattle.std.specs.Prelude.{◌≡◌, ℕ, List, [], ◌∷◌, ◌++◌, true, codes, replicate, Option, Some, None, false, refl}
+use Rattle.std.specs.Prelude.{◌≡◌, ℕ, List, [], ◌∷◌, ◌++◌, true, codes, replicate, Option, Some, None, refl}
 use Rattle.std.specs.Fmt.{digits}
 use Rattle.std.specs.Str.{chars}
 use Rattle.wasmprinter_spec.specs.Table.{table}
 use Rattle.wasmprinter_spec.specs.Placed.{PlacedModule}
-use Rattle.wasmprinter_spec.specs.Call.{Call, Style, Text, Newline, Line, Start, Claim, Literal, Name, Keyword, TypeName, Comment, Reset, text_of, atoms}
-use Rattle.wasmprinter_spec.specs.Options.{Options, Answers, defaults}
+use Rattle.wasmprinter_spec.specs.Call.{Call, Text, Newline, Line, Start, Claim, Literal, Name, Keyword, TypeName, Comment, Reset, atoms}
+use Rattle.wasmprinter_spec.specs.Options.{Options, defaults}
 use Rattle.wasmprinter_spec.specs.Quoted.{char_text, byte_text, quoted_text, quoted_bytes}
 use Rattle.wasmprinter_spec.specs.Piece.{Break, repetition_of, left_in, place_text, text}
 use Rattle.wasmprinter_spec.specs.Layout.{layout}
 use Rattle.wasmprinter_spec.proofs.Computing.{composing}
 use Rattle.wasmprinter_spec.proofs.Samples.{lines, empty_placed, identity_placed, identity_text, identity_text_with_offsets, stored_placed, stored_text, mixed_placed, mixed_text}
-
-abbrev unclaimed : Answers
-unclaimed = λ n. false
+use Rattle.wasmprinter_spec.proofs.FromBytes.{unclaimed, skeleton, text_by}
+use Rattle.wasmprinter_spec.proofs.StyledCalls.{plain, in_style}
 
 abbrev all_calls : Options → PlacedModule → List Call
 all_calls o m = layout o unclaimed m
 
-abbrev printed : Options → PlacedModule → List ℕ
-printed o m = text_of (all_calls o m)
-
 abbrev with_offsets : Options
 with_offsets = record defaults { offsets = true }
-
-abbrev skeleton : Options
-skeleton = record defaults { skeleton = true }
 
 -- the places of the calls that begin lines
 abbrev line_places : List Call → List (Option ℕ)
@@ -35,11 +28,11 @@ line_places (c ∷ cs) = line_places cs
 
 -- ---- the module without fields
 
-empty_plain : printed defaults empty_placed ≡ codes "(module)\n"
+empty_plain : text_by defaults empty_placed ≡ codes "(module)\n"
 unfolding composing
 empty_plain = refl
 
-empty_with_offsets : printed with_offsets empty_placed ≡ codes "(module\n(;@8     ;))\n"
+empty_with_offsets : text_by with_offsets empty_placed ≡ codes "(module\n(;@8     ;))\n"
 unfolding composing place_text left_in repetition_of digits
 empty_with_offsets = refl
 
@@ -49,15 +42,15 @@ empty_calls = refl
 
 -- ---- a function under a name
 
-identity_plain : printed defaults identity_placed ≡ identity_text
+identity_plain : text_by defaults identity_placed ≡ identity_text
 unfolding composing repetition_of digits table char_text quoted_text chars
 identity_plain = refl
 
-identity_with_offsets : printed with_offsets identity_placed ≡ identity_text_with_offsets
+identity_with_offsets : text_by with_offsets identity_placed ≡ identity_text_with_offsets
 unfolding composing repetition_of left_in place_text digits table char_text quoted_text chars
 identity_with_offsets = refl
 
-identity_skeleton : printed skeleton identity_placed ≡ lines (
+identity_skeleton : text_by skeleton identity_placed ≡ lines (
     codes "(module"
     ∷ codes "  (type (;0;) (func (param i32) (result i32)))"
     ∷ codes "  (export \"f\" (func 0))"
@@ -67,7 +60,7 @@ identity_skeleton : printed skeleton identity_placed ≡ lines (
 unfolding composing repetition_of digits char_text quoted_text chars
 identity_skeleton = refl
 
-identity_skeleton_with_offsets : printed (record skeleton { offsets = true }) identity_placed ≡ lines (
+identity_skeleton_with_offsets : text_by (record skeleton { offsets = true }) identity_placed ≡ lines (
     codes "(module"
     ∷ codes "(;@b     ;)  (type (;0;) (func (param i32) (result i32)))"
     ∷ codes "(;@17    ;)  (export \"f\" (func 0))"
@@ -77,7 +70,7 @@ identity_skeleton_with_offsets : printed (record skeleton { offsets = true }) id
 unfolding composing repetition_of left_in place_text digits char_text quoted_text chars
 identity_skeleton_with_offsets = refl
 
-identity_without_indent : printed (record defaults { indent = [] }) identity_placed ≡ lines (
+identity_without_indent : text_by (record defaults { indent = [] }) identity_placed ≡ lines (
     codes "(module"
     ∷ codes "(type (;0;) (func (param i32) (result i32)))"
     ∷ codes "(export \"f\" (func 0))"
@@ -95,7 +88,7 @@ identity_line_places = refl
 
 -- ---- a function with a local
 
-stored_plain : printed defaults stored_placed ≡ stored_text
+stored_plain : text_by defaults stored_placed ≡ stored_text
 unfolding composing repetition_of digits table
 stored_plain = refl
 
@@ -109,12 +102,6 @@ stored_line_places = refl
 atoms_of_calls : atoms (Text (codes "ab") ∷ Newline ∷ Text [] ∷ Line None ∷ Start Name ∷ Claim (codes "n") 9 (1 ∷ []) true ∷ Text (codes "c") ∷ [])
     ≡ Text (codes "a") ∷ Text (codes "b") ∷ Newline ∷ Line None ∷ Start Name ∷ Claim (codes "n") 9 (1 ∷ []) true ∷ Text (codes "c") ∷ []
 atoms_of_calls = refl
-
-abbrev plain : List ℕ → List Call
-plain s = Text s ∷ []
-
-abbrev in_style : Style → List ℕ → List Call
-in_style style s = Start style ∷ Text s ∷ Start Reset ∷ []
 
 abbrev stored_calls : List Call
 stored_calls =
@@ -155,7 +142,7 @@ stored_all_calls = refl
 -- ---- several types, functions, locals and results
 
 -- locals of all entries on one line, whose place is that of the first entry that declares one; no signature of a type that isn't there
-mixed_plain : printed defaults mixed_placed ≡ mixed_text
+mixed_plain : text_by defaults mixed_placed ≡ mixed_text
 unfolding composing repetition_of digits table char_text quoted_text chars
 mixed_plain = refl
 
@@ -198,10 +185,6 @@ plain_characters = refl
 escaped_characters : quoted_text (0x1b ∷ 0xe9 ∷ 0x22 ∷ 0x5c ∷ 0x1f ∷ 0x7f ∷ 0x0a ∷ 0x00 ∷ 0x1f600 ∷ []) ≡ codes "\"\\u{1b}\\u{e9}\\u{22}\\u{5c}\\u{1f}\\u{7f}\\u{a}\\u{0}\\u{1f600}\""
 unfolding quoted_text char_text digits
 escaped_characters = refl
-
-escaped_bytes : quoted_bytes (0x41 ∷ 0x22 ∷ 0x00 ∷ []) ≡ codes "\"A\\22\\00\""
-unfolding quoted_bytes byte_text
-escaped_bytes = refl
 
 -- bytes are no characters
 escaped_high_bytes : quoted_bytes (0x20 ∷ 0x5c ∷ 0x7e ∷ 0x7f ∷ 0xc3 ∷ 0xa9 ∷ 0xff ∷ []) ≡ codes "\" \\5c~\\7f\\c3\\a9\\ff\""

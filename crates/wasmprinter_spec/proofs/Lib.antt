@@ -1,5 +1,7 @@
 pub mod Each
 pub mod Classes
+pub mod Runs
+pub mod Powers
 pub mod Texts
 pub mod SameKinds
 pub mod Sequences
@@ -8,6 +10,10 @@ pub mod OneLine
 pub mod ImmediateLines
 pub mod Fractions
 pub mod Samples
+pub mod FromBytes
+pub mod FromText
+pub mod Numbers
+pub mod StyledCalls
 pub mod LebRows
 pub mod BinaryRows
 pub mod TypeRows

@@ -28,7 +28,8 @@ module _ (l : Lenient Entry) where
     groups_read [] n at le g = ap (λ (r : List Entry × Option Input). r.0) (repeat_at_end n at g)
     groups_read (xs ∷ groups) zero at le g = absurd (omega (arith, g.0, le))
     groups_read (xs ∷ groups) (suc n) at le g =
-        groups_by xs groups n at g.0 g.1 g.2 g.3 (λ mid s h. groups_read groups n mid (omega (arith, shrinks at mid xs s, le)) h)
+        let (takes, end, given, behind) = g in
+        groups_by xs groups n at takes end given behind (λ mid s h. groups_read groups n mid (omega (arith, shrinks at mid xs s, le)) h)
 
 -- ---- a subsection takes a byte at least
 
@@ -41,23 +42,29 @@ behind_part_is None after mid e = absurd cc
 behind_part_is (Some x) after mid e = some_is mid after e
 
 within_fewer : (l : Lenient Entry) (n : ℕ) (at mid : Input) (xs : List Entry) → StandsWithin l n at xs (Some mid) → length mid.bytes ≤ length at.bytes
-within_fewer l n at mid xs (inl s) = subst (λ (m : Input). length m.bytes ≤ length at.bytes) (sym (behind_part_is s.2 s.0.1 mid s.4)) (fewer (take_bytes n) at s.0 s.1)
-within_fewer l n at mid xs (inr s) = absurd (let e = s.2 in cc)
+within_fewer l n at mid xs (inl ((front, after), taken, inner, given, ended)) =
+    let same : mid ≡ after = behind_part_is inner after mid ended in
+    subst (λ (m : Input). length m.bytes ≤ length at.bytes) (sym same) (fewer (take_bytes n) at (front, after) taken)
+within_fewer l n at mid xs (inr (lacking, no_entry, ended)) = absurd cc
 
 sized_fewer : (l : Lenient Entry) (at mid : Input) (xs : List Entry) → Follows u32 (λ size. within l size) at xs (Some mid) → length mid.bytes ≤ length at.bytes
-sized_fewer l at mid xs (inl s) = omega (arith, within_fewer l s.0.0 s.0.1 mid xs s.2, fewer u32 at s.0 s.1)
-sized_fewer l at mid xs (inr s) = absurd (let e = s.2 in cc)
+sized_fewer l at mid xs (inl ((size, inside), spelled, given)) =
+    omega (arith, within_fewer l size inside mid xs given, fewer u32 at (size, inside) spelled)
+sized_fewer l at mid xs (inr (lacking, no_entry, ended)) = absurd cc
 
 byte_fewer : (at : Input) (x : ℕ × Input) → Spans byte.spells at x → length x.1.bytes < length at.bytes
 byte_fewer at x s = omega (arith, ap length s.parts, length-append s.text x.1.bytes, ap length s.spelled)
 
 pub subsection_shrinks : (at mid : Input) (xs : List Entry) → subsection.gives at xs (Some mid) → length mid.bytes < length at.bytes
-subsection_shrinks at mid xs (inl s) = omega (arith, sized_fewer (content s.0.0) s.0.1 mid xs s.2, byte_fewer at s.0 s.1)
-subsection_shrinks at mid xs (inr s) = absurd (let e = s.2 in cc)
+subsection_shrinks at mid xs (inl ((id, behind), spelled, given)) =
+    omega (arith, sized_fewer (content id) behind mid xs given, byte_fewer at (id, behind) spelled)
+subsection_shrinks at mid xs (inr (lacking, no_entry, ended)) = absurd cc
 
 -- what the data gives is what is read
 pub given_read : (at : Input) (xs : List Entry) → GivesNames at xs → ((subsections (length at.bytes)).read at).0 ≡ xs
-given_read at xs g = groups_read subsection subsection_shrinks g.0 (length at.bytes) at (omega arith) g.1 ∙ sym g.2
+given_read at xs g =
+    let (groups, given, joined) = g in
+    groups_read subsection subsection_shrinks groups (length at.bytes) at (omega arith) given ∙ sym joined
 
 -- ---- some list is given
 

@@ -1,32 +1,18 @@
 -- Worked rows of modules with name sections: the texts that they give, with identifiers made up for what has no name and without, and that
 -- these texts read as the same modules.
-use Rattle.std.specs.Prelude.{◌≡◌, ℕ, List, [], ◌∷◌, ◌++◌, length, true, false, codes, Option, Some, option_map, refl}
-use Rattle.wasmprinter_spec.specs.Grammar.{input}
-use Rattle.wasmprinter_spec.specs.Binary.{binary}
-use Rattle.wasmprinter_spec.specs.Module.{Module, module_of}
-use Rattle.wasmprinter_spec.specs.Call.{text_of}
+use Rattle.std.specs.Prelude.{◌≡◌, ℕ, List, [], ◌∷◌, ◌++◌, true, codes, Some, refl}
 use Rattle.wasmprinter_spec.specs.Options.{Options, defaults}
-use Rattle.wasmprinter_spec.specs.Layout.{layout}
 use Rattle.wasmprinter_spec.specs.Read.{read}
-use Rattle.wasmprinter_spec.proofs.Samples.{head_bytes, lines}
+use Rattle.wasmprinter_spec.proofs.Samples.{head_bytes, lines, section, custom}
 use Rattle.wasmprinter_spec.proofs.Computing.{composing, reading}
+use Rattle.wasmprinter_spec.proofs.FromBytes.{decoded, printed_by}
 
 abbrev inventing : Options
 inventing = record defaults { invents = true }
 
-abbrev printed_by : Options → List ℕ → Option (List ℕ)
-printed_by o bytes = option_map (λ m. text_of (layout o (λ n. false) m)) (binary.parse (input 0 bytes))
-
-abbrev decoded : List ℕ → Option Module
-decoded bytes = option_map module_of (binary.parse (input 0 bytes))
-
--- a section of fewer than 128 bytes
-abbrev section : ℕ → List ℕ → List ℕ
-section id bytes = id ∷ length bytes ∷ bytes
-
 -- a name section with these subsections
 abbrev name_section : List ℕ → List ℕ
-name_section bytes = section 0x00 (0x04 ∷ (codes "name" ++ bytes))
+name_section bytes = custom (codes "name") bytes
 
 -- ---- a function of one parameter, with an export
 

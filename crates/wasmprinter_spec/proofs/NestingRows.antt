@@ -1,20 +1,22 @@
 -- Worked rows of expressions with blocks (section 5.4 of the standard, "Control Instructions" and "Expressions"): which bytes
 -- spell one, and where it ends.
-use Rattle.std.specs.Prelude.{◌≡◌, ℕ, ◌+◌, List, [], ◌∷◌, ◌++◌, map, true, false, Option, Some, None, option_map, length, refl}
+use Rattle.std.specs.Prelude.{◌≡◌, ℕ, List, [], ◌∷◌, ◌++◌, map, true, false, Option, Some, None, option_map, length, refl}
 use Rattle.std.proofs.Common.{sym, ◌∙◌}
 use Rattle.wasmprinter_spec.specs.Grammar.{Input, input, Placed, some_is, Spans, ◌>>=◌}
 use Rattle.wasmprinter_spec.specs.Types as types
 use Rattle.wasmprinter_spec.specs.Types.{ref_type}
-use Rattle.wasmprinter_spec.specs.Operator.{opcode, Operator, Immediates, NoImmediates, Block, Empty, Value, OfType}
+use Rattle.wasmprinter_spec.specs.Operator.{Operator, Immediates, NoImmediates, Block, Empty, Value, OfType}
 use Rattle.wasmprinter_spec.specs.Row.{Role, Plain, Opens, OpensIf, Turns, OpensTry, Catches, CatchesAll, Delegates, Ends}
 use Rattle.wasmprinter_spec.specs.Table.{table}
 use Rattle.wasmprinter_spec.specs.Nesting.{Nests, Sequence, none, plain, block, one_armed, two_armed, tried, delegated, caught, caught_all, advance, at_start}
 use Rattle.wasmprinter_spec.specs.NestingSteps.{stops_at_end}
 use Rattle.wasmprinter_spec.specs.Stepped.{stops}
 use Rattle.wasmprinter_spec.specs.Instructions.{expression, Closed, IsExpression}
+use Rattle.wasmprinter_spec.proofs.Numbers.{numbers_from}
+use Rattle.wasmprinter_spec.proofs.Samples.{made}
 
 abbrev op : ℕ → ℕ → Immediates → Placed Operator
-op p n i = record { place = p; value = record { opcode = opcode 0 n; immediates = i } }
+op p n i = record { place = p; value = made n i }
 
 -- a block of no results, and a byte behind the expression
 block_read : expression.parse (input 7 (0x02 ∷ 0x40 ∷ 0x01 ∷ 0x0b ∷ 0x0b ∷ 0x0b ∷ []))
@@ -39,16 +41,8 @@ unfolding table
 read_whole = refl
 
 -- which of these lists of bytes have an expression at their beginning, counted from 0
-abbrev number_if : Option ℕ → ℕ → List ℕ
-number_if None n = []
-number_if (Some k) n = n ∷ []
-
-abbrev numbers_from : ℕ → List (List ℕ) → List ℕ
-numbers_from n [] = []
-numbers_from n (b ∷ bs) = number_if (left_behind b) n ++ numbers_from (n + 1) bs
-
 abbrev numbers_read : List (List ℕ) → List ℕ
-numbers_read bs = numbers_from 0 bs
+numbers_read bs = numbers_from left_behind 0 bs
 
 read_among : numbers_read ((0x05 ∷ 0x0b ∷ 0x0b ∷ []) ∷ (0x0b ∷ []) ∷ [] ∷ (0x01 ∷ 0x0b ∷ []) ∷ []) ≡ 1 ∷ 3 ∷ []
 unfolding table

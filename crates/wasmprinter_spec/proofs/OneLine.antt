@@ -3,15 +3,18 @@ use Rattle.std.proofs.Common.{◌≡◌, ℕ, ◌+◌, List, [], ◌∷◌, ◌+
 use Rattle.std.specs.Prelude.{bytes_eq}
 use Rattle.std.specs.List.{flat_map}
 use Rattle.std.proofs.lemmas.List.Concat.{flat_map-append}
+use Rattle.wasmprinter_spec.specs.Grammar.{Placed}
 use Rattle.wasmprinter_spec.specs.Types.{HeapType, Index, RefType, ValType, Ref, StorageType, Val, I8, I16, FieldType, FuncType, CompositeType, FuncComposite, ArrayComposite, StructComposite, SubType}
 use Rattle.wasmprinter_spec.specs.Row.{Types}
 use Rattle.wasmprinter_spec.specs.Labels.{Named}
 use Rattle.wasmprinter_spec.specs.Names.{Names}
+use Rattle.wasmprinter_spec.specs.Customs.Hints.{Hint}
 use Rattle.wasmprinter_spec.specs.Piece.{Piece, Begin, Break}
 use Rattle.wasmprinter_spec.specs.Layout.Groups.{has_break, close, line_group, line_group_gap, group_gap, numbered_pieces}
 use Rattle.wasmprinter_spec.specs.Layout.Identifiers.{given_pieces, mark_pieces, leading_mark_pieces, mark_gap_pieces, identifier_gap_pieces, declaration_pieces, index_pieces}
 use Rattle.wasmprinter_spec.specs.Layout.ValTypes.{type_index_pieces, heap_pieces, null_ref_pieces, ref_pieces_by, ref_pieces, val_pieces, type_list}
 use Rattle.wasmprinter_spec.specs.Layout.Variables.{Variables, Alone, Together, variable_groups, variables_pieces, groups_pieces}
+use Rattle.wasmprinter_spec.specs.Layout.Operators.{hint_pieces}
 use Rattle.wasmprinter_spec.specs.Layout.Types.{parameters_of, list_group, signature_pieces, signature_if_any, type_use_pieces, storage_pieces, field_pieces_by, field_pieces, struct_field_pieces, composite_pieces, final_pieces, supertype_pieces, sub_group, sub_pieces_by, sub_pieces, type_pieces}
 
 -- the line that a piece begins
@@ -229,3 +232,10 @@ module _ (names : Names) where
   pub type_stays : (i : ℕ) (t : SubType) → IsOneLine (type_pieces names i t)
   unfolding type_pieces
   type_stays i t = line_group_gap_stays (codes "type") (both_stay (declaration_stays (names.items Types i) i) (then_stay refl (sub_stays i t)))
+
+-- ---- a hint
+
+-- a hint stands on a line of its own, so what is behind it decides only where there is none
+pub hint_breaks : (nesting : ℕ) (h : Option (Placed Hint)) (ps : List Piece) → has_break ps ≡ true → has_break (hint_pieces nesting h ++ ps) ≡ true
+hint_breaks nesting None ps e = e
+hint_breaks nesting (Some h) ps e = refl

@@ -1,16 +1,13 @@
 -- Worked rows of lines: the places and texts of a module's lines, those of hints, and where operators are found in them.
-use Rattle.std.specs.Prelude.{◌≡◌, ℕ, List, [], ◌∷◌, ◌++◌, length, codes, Option, Some, None, false, option_map, refl}
-use Rattle.wasmprinter_spec.specs.Grammar.{◌>>=◌, input}
+use Rattle.std.specs.Prelude.{◌≡◌, ℕ, List, [], ◌∷◌, ◌++◌, codes, Option, Some, None, option_map, refl}
+use Rattle.wasmprinter_spec.specs.Grammar.{◌>>=◌}
 use Rattle.wasmprinter_spec.specs.Placed.{PlacedModule}
-use Rattle.wasmprinter_spec.specs.Binary.{binary}
-use Rattle.wasmprinter_spec.specs.Options.{Answers, defaults}
+use Rattle.wasmprinter_spec.specs.Options.{defaults}
 use Rattle.wasmprinter_spec.specs.Layout.{layout}
 use Rattle.wasmprinter_spec.specs.Lines.{TextLine, lines_of, line_places, hint_places, lines_without, place_of}
-use Rattle.wasmprinter_spec.proofs.Samples.{head_bytes, identity_placed, stored_placed}
+use Rattle.wasmprinter_spec.proofs.Samples.{head_bytes, identity_placed, stored_placed, section, custom, hinted}
 use Rattle.wasmprinter_spec.proofs.Computing.{composing, reading}
-
-abbrev unclaimed : Answers
-unclaimed = λ n. false
+use Rattle.wasmprinter_spec.proofs.FromBytes.{parsed, unclaimed}
 
 abbrev printed_lines : PlacedModule → List TextLine
 printed_lines m = lines_of (layout defaults unclaimed m)
@@ -55,18 +52,8 @@ stored_last = refl
 
 -- ---- from bytes
 
-abbrev decode : List ℕ → Option PlacedModule
-decode bytes = binary.parse (input 0 bytes)
-
 abbrev decoded_lines : List ℕ → Option (List TextLine)
-decoded_lines bytes = option_map printed_lines (decode bytes)
-
--- a section of fewer than 128 bytes
-abbrev section : ℕ → List ℕ → List ℕ
-section id bytes = id ∷ length bytes ∷ bytes
-
-abbrev custom : List ℕ → List ℕ → List ℕ
-custom name bytes = section 0x00 (length name ∷ (name ++ bytes))
+decoded_lines bytes = option_map printed_lines (parsed bytes)
 
 -- the line of locals has the place of the first entry that declares one
 with_locals : decoded_lines (
@@ -114,16 +101,11 @@ with_refusal = refl
 
 -- ---- a hint
 
--- a function of one parameter with an `if`, whose hint stands before the code section
-abbrev hinted : List ℕ
-hinted =
-    head_bytes
-    ++ (section 0x01 (0x01 ∷ 0x60 ∷ 0x01 ∷ 0x7f ∷ 0x00 ∷ [])
-    ++ (section 0x03 (0x01 ∷ 0x00 ∷ [])
-    ++ (custom (codes "metadata.code.branch_hint") (0x01 ∷ 0x00 ∷ 0x01 ∷ 0x03 ∷ 0x01 ∷ 0x01 ∷ [])
-    ++ section 0x0a (0x01 ∷ 0x07 ∷ 0x00 ∷ 0x20 ∷ 0x00 ∷ 0x04 ∷ 0x40 ∷ 0x0b ∷ 0x0b ∷ []))))
+-- an `if`, whose hint stands before the code section
+abbrev hinted_if : List ℕ
+hinted_if = hinted (0x01 ∷ 0x00 ∷ 0x01 ∷ 0x03 ∷ 0x01 ∷ 0x01 ∷ [])
 
-hinted_lines : decoded_lines hinted ≡ Some (
+hinted_lines : decoded_lines hinted_if ≡ Some (
     line 0 (codes "(module")
     ∷ line 0xb (codes "  (type (;0;) (func (param i32)))")
     ∷ line 0x39 (codes "  (func (;0;) (type 0) (param i32)")
@@ -137,17 +119,17 @@ hinted_lines : decoded_lines hinted ≡ Some (
 unfolding composing reading
 hinted_lines = refl
 
-hint_is : option_map hint_places (decode hinted) ≡ Some (0x32 ∷ [])
+hint_is : option_map hint_places (parsed hinted_if) ≡ Some (0x32 ∷ [])
 unfolding composing reading
 hint_is = refl
 
 -- the lines that are kept: those of the function follow one another
-kept_are : option_map (λ m. lines_without (hint_places m) (line_places (printed_lines m))) (decode hinted)
+kept_are : option_map (λ m. lines_without (hint_places m) (line_places (printed_lines m))) (parsed hinted_if)
     ≡ Some (Some 0 ∷ Some 0xb ∷ Some 0x39 ∷ Some 0x3a ∷ Some 0x3c ∷ Some 0x3e ∷ Some 0x3f ∷ Some 0x40 ∷ [])
 unfolding composing reading
 kept_are = refl
 
 -- the `if` is found among all lines
-found_behind : (decode hinted >>= λ m. place_of m (printed_lines m) 0 1) ≡ Some (5, 0x3c)
+found_behind : (parsed hinted_if >>= λ m. place_of m (printed_lines m) 0 1) ≡ Some (5, 0x3c)
 unfolding composing reading
 found_behind = refl

@@ -3,7 +3,7 @@ use Rattle.std.specs.Prelude.{◌≡◌, ℕ, pos, neg_ℤ, List, [], ◌∷◌,
 use Rattle.std.specs.Char.{encode_utf8}
 use Rattle.std.specs.Str.{is_utf8, chars}
 use Rattle.wasmprinter_spec.specs.Types.{I32, I64, FuncKind}
-use Rattle.wasmprinter_spec.specs.Operator.{opcode, Empty, OfType, Immediates, NoImmediates, Block, Index, Operator}
+use Rattle.wasmprinter_spec.specs.Operator.{Empty, OfType, NoImmediates, Block, Index, Operator}
 use Rattle.wasmprinter_spec.specs.Table.{table}
 use Rattle.wasmprinter_spec.specs.Module.{Module, module_of}
 use Rattle.wasmprinter_spec.specs.Character.{class}
@@ -12,7 +12,7 @@ use Rattle.wasmprinter_spec.specs.Token.{escape, lex}
 use Rattle.wasmprinter_spec.specs.Code.{head}
 use Rattle.wasmprinter_spec.specs.Text.Types.{number_of_word}
 use Rattle.wasmprinter_spec.specs.Read.{read}
-use Rattle.wasmprinter_spec.proofs.Samples.{local_get, local_set, call, drop, return, i32_const, i64_const, empty_placed, empty, identity_placed, identity, identity_text, identity_text_with_offsets, stored_placed, stored, stored_text, mixed_placed, mixed, mixed_using, mixed_text_using, func}
+use Rattle.wasmprinter_spec.proofs.Samples.{local_get, local_set, call, drop, return, i32_const, i64_const, empty_placed, empty, identity_placed, identity, identity_text, identity_text_with_offsets, stored_placed, stored, stored_text, mixed_placed, mixed, mixed_using, mixed_text_using, func, made, procedure_text}
 use Rattle.wasmprinter_spec.specs.Text.Items.{groups}
 use Rattle.wasmprinter_spec.specs.Text.Exports.{kind_of_word}
 
@@ -156,13 +156,6 @@ procedure os = record empty {
   functions = record { type_index = 0; locals = I32 ∷ []; operators = os } ∷ [];
   exports = [];
 }
-
-abbrev made : ℕ → Immediates → Operator
-made n i = record { opcode = opcode 0 n; immediates = i }
-
--- a text of one function with this code
-abbrev procedure_text : List ℕ → List ℕ
-procedure_text code = codes "(module (type (func)) (func (type 0) (local i32) " ++ code ++ codes "))"
 
 every_operator : read (procedure_text (codes "i32.const 1 local.set 0 local.get 0 drop i64.const 2 drop call 0 return"))
     ≡ Some (procedure (i32_const (pos 1) ∷ local_set 0 ∷ local_get 0 ∷ drop ∷ i64_const (pos 2) ∷ drop ∷ call 0 ∷ return ∷ []))

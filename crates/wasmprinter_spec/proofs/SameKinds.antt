@@ -18,3 +18,19 @@ same_kind-is DataCountSection DataCountSection e = refl
 same_kind-is CodeSection CodeSection e = refl
 same_kind-is DataSection DataSection e = refl
 same_kind-is _ _ e = absurd cc
+
+pub same_kind-refl : (k : Kind) → same_kind k k ≡ true
+same_kind-refl CustomSection = refl
+same_kind-refl TypeSection = refl
+same_kind-refl ImportSection = refl
+same_kind-refl FunctionSection = refl
+same_kind-refl TableSection = refl
+same_kind-refl MemorySection = refl
+same_kind-refl TagSection = refl
+same_kind-refl GlobalSection = refl
+same_kind-refl ExportSection = refl
+same_kind-refl StartSection = refl
+same_kind-refl ElementSection = refl
+same_kind-refl DataCountSection = refl
+same_kind-refl CodeSection = refl
+same_kind-refl DataSection = refl

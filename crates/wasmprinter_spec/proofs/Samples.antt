@@ -1,9 +1,9 @@
 -- Modules that the worked rows share, written by hand: their bytes, what the bytes spell with places, their texts, and what these say.
-use Rattle.std.specs.Prelude.{ℕ, ℤ, pos, negsuc, neg_ℤ, List, [], ◌∷◌, ◌++◌, true, false, codes, None}
+use Rattle.std.specs.Prelude.{ℕ, ℤ, pos, negsuc, neg_ℤ, List, [], ◌∷◌, ◌++◌, length, flat_map, true, false, codes, None}
 use Rattle.wasmprinter_spec.specs.Grammar.{Placed}
 use Rattle.wasmprinter_spec.specs.Types as types
-use Rattle.wasmprinter_spec.specs.Types.{HeapType, ref_type, ValType, Ref, FuncComposite, SubType, final_type, FuncKind}
-use Rattle.wasmprinter_spec.specs.Operator.{opcode, NoImmediates, Index, I32, I64, Operator}
+use Rattle.wasmprinter_spec.specs.Types.{HeapType, ref_type, ValType, Ref, CompositeType, FuncComposite, SubType, final_type, FuncKind}
+use Rattle.wasmprinter_spec.specs.Operator.{opcode, Immediates, NoImmediates, Index, I32, I64, Operator}
 use Rattle.wasmprinter_spec.specs.Placed.{TypeGroup, type_group, PlacedModule}
 use Rattle.wasmprinter_spec.specs.Module.{Module}
 use Rattle.wasmprinter_spec.specs.IndexSpaces.{Spaces}
@@ -12,10 +12,22 @@ use Rattle.wasmprinter_spec.specs.IndexSpaces.{Spaces}
 abbrev pub head_bytes : List ℕ
 head_bytes = 0x00 ∷ 0x61 ∷ 0x73 ∷ 0x6d ∷ 0x01 ∷ 0x00 ∷ 0x00 ∷ 0x00 ∷ []
 
+-- a section of fewer than 128 bytes
+abbrev pub section : ℕ → List ℕ → List ℕ
+section id bytes = id ∷ length bytes ∷ bytes
+
+-- a custom section of a name of fewer than 128 bytes
+abbrev pub custom : List ℕ → List ℕ → List ℕ
+custom name bytes = section 0x00 (length name ∷ (name ++ bytes))
+
 -- lines, each with its line feed
 abbrev pub lines : List (List ℕ) → List ℕ
 lines [] = []
 lines (l ∷ ls) = l ++ codes "\n" ++ lines ls
+
+-- lines of a function's body
+abbrev pub body_lines : List (List ℕ) → List ℕ
+body_lines ls = flat_map (λ l. codes "\n    " ++ l) ls
 
 -- ---- types
 
@@ -30,32 +42,40 @@ to_null h = Ref (ref_type true h)
 abbrev pub func : List ValType → List ValType → SubType
 func ps rs = final_type (FuncComposite (record { params = ps; results = rs }))
 
+-- the composite type of a function without parameters and results
+abbrev pub nothing : CompositeType
+nothing = FuncComposite (record { params = []; results = [] })
+
 -- a type that stands by itself, at this place
 abbrev pub bare : ℕ → SubType → Placed TypeGroup
 bare place t = record { place = place; value = type_group false (t ∷ []) }
 
 -- ---- operators
 
+-- an operator of one byte, with its immediates
+abbrev pub made : ℕ → Immediates → Operator
+made n i = record { opcode = opcode 0 n; immediates = i }
+
 abbrev pub local_get : ℕ → Operator
-local_get i = record { opcode = opcode 0 0x20; immediates = Index i }
+local_get i = made 0x20 (Index i)
 
 abbrev pub local_set : ℕ → Operator
-local_set i = record { opcode = opcode 0 0x21; immediates = Index i }
+local_set i = made 0x21 (Index i)
 
 abbrev pub call : ℕ → Operator
-call i = record { opcode = opcode 0 0x10; immediates = Index i }
+call i = made 0x10 (Index i)
 
 abbrev pub drop : Operator
-drop = record { opcode = opcode 0 0x1a; immediates = NoImmediates }
+drop = made 0x1a NoImmediates
 
 abbrev pub return : Operator
-return = record { opcode = opcode 0 0x0f; immediates = NoImmediates }
+return = made 0x0f NoImmediates
 
 abbrev pub i32_const : ℤ → Operator
-i32_const z = record { opcode = opcode 0 0x41; immediates = I32 z }
+i32_const z = made 0x41 (I32 z)
 
 abbrev pub i64_const : ℤ → Operator
-i64_const z = record { opcode = opcode 0 0x42; immediates = I64 z }
+i64_const z = made 0x42 (I64 z)
 
 -- ---- the module without fields
 
@@ -91,6 +111,19 @@ empty = record {
   datas = [];
   customs = [];
 }
+
+-- a text of one function with this code, and with a local
+abbrev pub procedure_text : List ℕ → List ℕ
+procedure_text code = codes "(module (type (func)) (func (type 0) (local i32) " ++ code ++ codes "))"
+
+-- a function of one parameter with an `if`, and these bytes of hints before its code
+abbrev pub hinted : List ℕ → List ℕ
+hinted bytes =
+    head_bytes
+    ++ (section 0x01 (0x01 ∷ 0x60 ∷ 0x01 ∷ 0x7f ∷ 0x00 ∷ [])
+    ++ (section 0x03 (0x01 ∷ 0x00 ∷ [])
+    ++ (custom (codes "metadata.code.branch_hint") bytes
+    ++ section 0x0a (0x01 ∷ 0x07 ∷ 0x00 ∷ 0x20 ∷ 0x00 ∷ 0x04 ∷ 0x40 ∷ 0x0b ∷ 0x0b ∷ []))))
 
 -- no index spaces hold anything
 abbrev pub no_spaces : Spaces

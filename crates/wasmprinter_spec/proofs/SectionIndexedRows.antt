@@ -4,12 +4,12 @@ use Rattle.std.specs.Prelude.{List, [], ◌∷◌, codes, true, false, None, ref
 use Rattle.std.proofs.Common.{arith}
 use Rattle.wasmprinter_spec.specs.Types as types
 use Rattle.wasmprinter_spec.specs.Types.{limits_of, ref_type, RefType, table_type_of, memory_type_of, global_type_of, FuncExtern, MemoryExtern, GlobalExtern}
-use Rattle.wasmprinter_spec.specs.Operator.{opcode, Index, Operator}
+use Rattle.wasmprinter_spec.specs.Operator.{Index, Operator}
 use Rattle.wasmprinter_spec.specs.Table.{table}
 use Rattle.wasmprinter_spec.specs.Placed.{import_of, table_of, global_of, Passive, Active, Functions, Expressions, Element, element_of, ActiveData, Data, data_of}
 use Rattle.wasmprinter_spec.specs.Module.{Module}
 use Rattle.wasmprinter_spec.specs.Indexed.{IsIndexed}
-use Rattle.wasmprinter_spec.proofs.Samples.{func, to_null, local_get, empty}
+use Rattle.wasmprinter_spec.proofs.Samples.{func, to_null, local_get, empty, made}
 use Rattle.wasmprinter_spec.proofs.SectionSamples.{ref_func, filled_table, imports}
 
 -- imports of each kind, with a memory and a tag behind them
@@ -44,7 +44,7 @@ filled_table_indexed = record {
 
 -- one of each that holds indices, behind an imported function, global and memory
 abbrev global_get : Operator
-global_get = record { opcode = opcode 0 0x23; immediates = Index 0 }
+global_get = made 0x23 (Index 0)
 
 abbrev using : RefType → List Operator → Element Operator → Data Operator → Module
 using element init e d = record empty {
@@ -105,14 +105,14 @@ function_in_items i = omega (arith, i.elements.0.items.0)
 
 function_in_expressions : IsIndexed (using own_ref [] (element_of Passive (Expressions own_ref ((ref_func 2 ∷ []) ∷ []))) own_data) → ⊥
 unfolding table
-function_in_expressions i = let (element, expressions) = i.elements.0.items in omega (arith, expressions.0.0)
+function_in_expressions i = let (type, ((function, _), _)) = i.elements.0.items in omega (arith, function)
 
 other_table : IsIndexed (using own_ref [] (element_of (Active 1 []) (Functions [])) own_data) → ⊥
 other_table i = omega (arith, i.elements.0.mode.0)
 
 other_memory : IsIndexed (using own_ref [] own_element (data_of (ActiveData 1 []) [])) → ⊥
-other_memory i = omega (arith, i.datas.0.0)
+other_memory i = let ((memory, offset), _) = i.datas in omega (arith, memory)
 
 -- an imported function has a function type that is declared
 no_type : IsIndexed (record empty { imports = import_of [] [] (FuncExtern 0) ∷ [] }) → ⊥
-no_type i = let e = i.imports.0.1 in absurd cc
+no_type i = let ((signature, declared), _) = i.imports in absurd cc

@@ -2,17 +2,23 @@
 -- standard): what single lists of bytes spell, and what of it a module is.
 use Rattle.std.specs.Prelude.{◌≡◌, ℕ, List, [], ◌∷◌, ◌++◌, map, Option, Some, None, refl}
 use Rattle.std.specs.List.{AllByRecursion}
-use Rattle.wasmprinter_spec.specs.Grammar.{input}
 use Rattle.wasmprinter_spec.specs.Placed.{PassiveData, data_of, PlacedModule}
 use Rattle.wasmprinter_spec.specs.Module.{module_of}
+use Rattle.wasmprinter_spec.specs.Sections.{rank}
+use Rattle.wasmprinter_spec.specs.Layout.{section_order}
 use Rattle.wasmprinter_spec.specs.Limits.{IsWithinLimits}
-use Rattle.wasmprinter_spec.specs.Binary.{binary}
 use Rattle.wasmprinter_spec.proofs.Samples.{head_bytes, empty_placed}
 use Rattle.wasmprinter_spec.proofs.SectionSamples.{Sample, with_item, emptied_table, tables, globals, elements, datas, imports}
 use Rattle.wasmprinter_spec.proofs.Computing.{reading}
+use Rattle.wasmprinter_spec.proofs.FromBytes.{parsed}
 
-abbrev parsed : List ℕ → Option PlacedModule
-parsed bytes = binary.parse (input 0 bytes)
+-- ---- the order of sections
+
+-- The text has the sections in the order of the bytes: each kind that has a rank but the data count, of which nothing is printed.
+section_order-rises :
+    map rank section_order
+    ≡ Some 1 ∷ Some 2 ∷ Some 3 ∷ Some 4 ∷ Some 5 ∷ Some 6 ∷ Some 7 ∷ Some 8 ∷ Some 9 ∷ Some 10 ∷ Some 12 ∷ Some 13 ∷ []
+section_order-rises = refl
 
 -- ---- what the bytes of the samples spell
 

@@ -4,11 +4,11 @@ use Rattle.std.specs.Prelude.{ℕ, ◌+◌, pos, List, [], ◌∷◌, ◌++◌, 
 use Rattle.wasmprinter_spec.specs.Grammar.{Placed}
 use Rattle.wasmprinter_spec.specs.Types as types
 use Rattle.wasmprinter_spec.specs.Types.{limits_of, ref_type, TableType, table_type_of, memory_type_of, GlobalType, global_type_of, FuncExtern, TableExtern, MemoryExtern, GlobalExtern, TagExtern}
-use Rattle.wasmprinter_spec.specs.Operator.{opcode, Value, Index, Heap, Operator}
+use Rattle.wasmprinter_spec.specs.Operator.{Value, Index, Heap, Operator}
 use Rattle.wasmprinter_spec.specs.Placed as layout
-use Rattle.wasmprinter_spec.specs.Placed.{table_of, global_of, Mode, Passive, Declared, Active, Items, Functions, Expressions, element_of, entry_of, DataMode, PassiveData, ActiveData, data_of, import_of, PlacedModule}
+use Rattle.wasmprinter_spec.specs.Placed.{table_of, global_of, ElementMode, Passive, Declared, Active, Items, Functions, Expressions, element_of, entry_of, DataMode, PassiveData, ActiveData, data_of, import_of, PlacedModule}
 use Rattle.wasmprinter_spec.specs.Module.{Module}
-use Rattle.wasmprinter_spec.proofs.Samples.{head_bytes, lines, to_null, func, bare, i32_const, i64_const, empty_placed, empty}
+use Rattle.wasmprinter_spec.proofs.Samples.{head_bytes, lines, to_null, func, bare, i32_const, i64_const, empty_placed, empty, made}
 use Rattle.wasmprinter_spec.proofs.BlockSamples.{block, end}
 
 pub record Sample : Type 0 where
@@ -39,10 +39,10 @@ abbrev pub at : ℕ → Operator → Placed Operator
 at place o = record { place = place; value = o }
 
 abbrev pub ref_null_func : Operator
-ref_null_func = record { opcode = opcode 0 0xd0; immediates = Heap types.Func }
+ref_null_func = made 0xd0 (Heap types.Func)
 
 abbrev pub ref_func : ℕ → Operator
-ref_func i = record { opcode = opcode 0 0xd2; immediates = Index i }
+ref_func i = made 0xd2 (Index i)
 
 -- ---- tables
 
@@ -106,7 +106,7 @@ globals =
 
 -- ---- element segments
 
-abbrev element_sample : List ℕ → Bool → Mode (Placed Operator) → Items (Placed Operator) → Mode Operator → Items Operator → List ℕ → Sample
+abbrev element_sample : List ℕ → Bool → ElementMode (Placed Operator) → Items (Placed Operator) → ElementMode Operator → Items Operator → List ℕ → Sample
 element_sample item names placed_mode placed_items mode items text = record {
   bytes = with_item 9 item;
   placed = record empty_placed { elements = at_first (entry_of names (element_of placed_mode placed_items)); size = size_with item };
@@ -114,7 +114,7 @@ element_sample item names placed_mode placed_items mode items text = record {
   text = one_field text;
 }
 
-abbrev zero_const : Operator
+abbrev pub zero_const : Operator
 zero_const = i32_const (pos 0)
 
 -- the segments of each of the eight flags

@@ -1,31 +1,24 @@
 -- Worked rows of imports, tables, globals, element segments and data segments in the text format (sections 6.4 to 6.6 of the standard): the
 -- texts that single modules give, and what texts write.
-use Rattle.std.specs.Prelude.{◌≡◌, ℕ, pos, List, [], ◌∷◌, map, true, false, codes, Option, Some, None, refl}
+use Rattle.std.specs.Prelude.{◌≡◌, [], ◌∷◌, map, true, false, codes, Option, Some, None, refl}
 use Rattle.std.specs.List.{AllByRecursion}
 use Rattle.wasmprinter_spec.specs.Types as types
 use Rattle.wasmprinter_spec.specs.Types.{limits_of, ref_type, table_type_of, global_type_of, FuncExtern}
-use Rattle.wasmprinter_spec.specs.Operator.{opcode, NoImmediates, Operator}
-use Rattle.wasmprinter_spec.specs.Placed.{table_of, global_of, Passive, Declared, Active, Functions, Expressions, Element, element_of, PassiveData, ActiveData, Data, data_of, import_of, PlacedModule}
+use Rattle.wasmprinter_spec.specs.Operator.{NoImmediates, Operator}
+use Rattle.wasmprinter_spec.specs.Placed.{table_of, global_of, Passive, Declared, Active, Functions, Expressions, Element, element_of, PassiveData, ActiveData, Data, data_of, import_of}
 use Rattle.wasmprinter_spec.specs.Module.{Module}
-use Rattle.wasmprinter_spec.specs.Call.{text_of}
-use Rattle.wasmprinter_spec.specs.Options.{Options, defaults}
-use Rattle.wasmprinter_spec.specs.Layout.{layout}
+use Rattle.wasmprinter_spec.specs.Options.{defaults}
 use Rattle.wasmprinter_spec.specs.Read.{read}
-use Rattle.wasmprinter_spec.proofs.Samples.{i32_const, empty, func}
-use Rattle.wasmprinter_spec.proofs.SectionSamples.{Sample, one_field, ref_null_func, ref_func, filled_table, emptied_table, tables, globals, elements, datas, imports}
+use Rattle.wasmprinter_spec.proofs.Samples.{empty, func, made}
+use Rattle.wasmprinter_spec.proofs.SectionSamples.{Sample, one_field, ref_null_func, ref_func, filled_table, emptied_table, tables, globals, elements, datas, imports, zero_const}
 use Rattle.wasmprinter_spec.proofs.UnreadRows.{numbers_read}
 use Rattle.wasmprinter_spec.proofs.Computing.{composing, reading}
-
-abbrev printed : Options → PlacedModule → List ℕ
-printed o m = text_of (layout o (λ n. false) m)
-
-abbrev skeleton : Options
-skeleton = record defaults { skeleton = true }
+use Rattle.wasmprinter_spec.proofs.FromBytes.{skeleton, text_by}
 
 -- ---- what the samples give, and what it reads as
 
 abbrev Prints : Sample → Type 0
-Prints s = printed defaults s.placed ≡ s.text
+Prints s = text_by defaults s.placed ≡ s.text
 
 abbrev ReadsBack : Sample → Type 0
 ReadsBack s = read s.text ≡ Some s.value
@@ -81,7 +74,7 @@ emptied_table_reads = refl
 
 -- ---- skeletons
 
-elements_in_skeletons : map (λ s. printed skeleton s.placed) elements ≡ map one_field (
+elements_in_skeletons : map (λ s. text_by skeleton s.placed) elements ≡ map one_field (
     codes "(elem (;0;) (i32.const 0) ...)"
     ∷ codes "(elem (;0;) ...)"
     ∷ codes "(elem (;0;) (table 0) (i32.const 0) ...)"
@@ -95,7 +88,7 @@ elements_in_skeletons : map (λ s. printed skeleton s.placed) elements ≡ map o
 unfolding composing
 elements_in_skeletons = refl
 
-datas_in_skeletons : map (λ s. printed skeleton s.placed) datas ≡ map one_field (
+datas_in_skeletons : map (λ s. text_by skeleton s.placed) datas ≡ map one_field (
     codes "(data (;0;) (i32.const 0) ...)"
     ∷ codes "(data (;0;) (offset ) ...)"
     ∷ codes "(data (;0;) ...)"
@@ -106,14 +99,11 @@ unfolding composing
 datas_in_skeletons = refl
 
 -- initialisers stand in skeletons too
-filled_table_in_skeleton : printed skeleton filled_table.placed ≡ filled_table.text
+filled_table_in_skeleton : text_by skeleton filled_table.placed ≡ filled_table.text
 unfolding composing
 filled_table_in_skeleton = refl
 
 -- ---- other texts of the same
-
-abbrev zero_const : Operator
-zero_const = i32_const (pos 0)
 
 abbrev elem_module : Element Operator → Option Module
 elem_module e = Some (record empty { elements = e ∷ [] })
@@ -162,7 +152,7 @@ data_texts : map read (
       datas = data_of (ActiveData 1 []) [] ∷ [];
     })
     ∷ data_module (data_of PassiveData [])
-    ∷ data_module (data_of (ActiveData 0 (zero_const ∷ zero_const ∷ record { opcode = opcode 0 0x6a; immediates = NoImmediates } ∷ [])) [])
+    ∷ data_module (data_of (ActiveData 0 (zero_const ∷ zero_const ∷ made 0x6a NoImmediates ∷ [])) [])
     ∷ data_module (data_of PassiveData (codes "abc"))
     ∷ []
 unfolding reading

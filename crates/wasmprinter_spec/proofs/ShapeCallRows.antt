@@ -4,24 +4,19 @@ use Rattle.wasmprinter_spec.specs.Grammar.{Placed}
 use Rattle.wasmprinter_spec.specs.Types as types
 use Rattle.wasmprinter_spec.specs.Types.{ref_type, signature_at}
 use Rattle.wasmprinter_spec.specs.Operator.{opcode, mem_arg_of, Immediates, Indices, Types, Heap, Cast, Memory, MemoryLane, Lane, F32, Bytes, Operator}
-use Rattle.wasmprinter_spec.specs.Call.{Call, Style, Text, Start, Name, Keyword, TypeName, Literal, Reset, atoms}
+use Rattle.wasmprinter_spec.specs.Call.{Call, Name, Keyword, TypeName, Literal, atoms}
 use Rattle.wasmprinter_spec.specs.Options.{defaults}
 use Rattle.wasmprinter_spec.specs.Piece.{all_calls}
 use Rattle.wasmprinter_spec.specs.Layout.Operators.{InLine, expression_pieces}
 use Rattle.wasmprinter_spec.proofs.Computing.{printing}
 use Rattle.wasmprinter_spec.proofs.BlockSamples.{sample_types}
+use Rattle.wasmprinter_spec.proofs.StyledCalls.{plain, in_style}
 use Rattle.wasmprinter_spec.specs.Names.{no_names}
 
 abbrev called : ℕ → ℕ → Immediates → List Call
 called p n i =
     let placed : Placed Operator = record { place = 0; value = record { opcode = opcode p n; immediates = i } } in
     atoms (all_calls defaults (expression_pieces (record { form = InLine; signature = signature_at sample_types; nesting = 0; names = no_names; function = 0; body = 0 }) (placed ∷ [])))
-
-abbrev plain : List ℕ → List Call
-plain s = Text s ∷ []
-
-abbrev in_style : Style → List ℕ → List Call
-in_style style s = Start style ∷ Text s ∷ Start Reset ∷ []
 
 abbrev index : List ℕ → List Call
 index digits = plain (codes " ") ++ in_style Name digits

@@ -1,14 +1,10 @@
 -- Worked rows of operators with immediates of each shape: what their bytes spell, how they are printed, and that the texts read back.
-use Rattle.std.specs.Prelude.{◌≡◌, ℕ, List, [], ◌∷◌, ◌++◌, map, Option, Some, option_map, refl}
-use Rattle.wasmprinter_spec.specs.Grammar.{◌>>=◌, input, Placed}
+use Rattle.std.specs.Prelude.{◌≡◌, ℕ, List, [], ◌∷◌, map, Option, Some, refl}
+use Rattle.wasmprinter_spec.specs.Grammar.{Placed}
 use Rattle.wasmprinter_spec.specs.Types.{signature_at}
 use Rattle.wasmprinter_spec.specs.Operator.{Operator}
 use Rattle.wasmprinter_spec.specs.Table.{table}
-use Rattle.wasmprinter_spec.specs.Instructions.{expression}
-use Rattle.wasmprinter_spec.specs.Forest.{forest, without_annotations}
-use Rattle.wasmprinter_spec.specs.Code.{chunks_of_forest}
 use Rattle.wasmprinter_spec.specs.IndexSpaces.{Context}
-use Rattle.wasmprinter_spec.specs.Text.Operators.{read_operators}
 use Rattle.wasmprinter_spec.specs.Call.{text_of}
 use Rattle.wasmprinter_spec.specs.Options.{defaults}
 use Rattle.wasmprinter_spec.specs.Piece.{all_calls}
@@ -17,12 +13,11 @@ use Rattle.wasmprinter_spec.proofs.Computing.{printing, reading}
 use Rattle.wasmprinter_spec.proofs.Samples.{no_spaces}
 use Rattle.wasmprinter_spec.proofs.BlockSamples.{sample_types}
 use Rattle.wasmprinter_spec.proofs.ShapeSamples.{all_samples}
+use Rattle.wasmprinter_spec.proofs.FromBytes.{spelled}
+use Rattle.wasmprinter_spec.proofs.FromText.{operators_beside}
 use Rattle.wasmprinter_spec.specs.Names.{no_names}
 
 -- ---- what bytes spell
-
-abbrev pub spelled : List ℕ → Option (List Operator)
-spelled bytes = option_map (λ x. map (λ o. o.value) x.0.items) (expression.parse (input 0 (bytes ++ 0x0b ∷ [])))
 
 samples_spelled : map (λ ss. map (λ s. spelled s.bytes) ss) all_samples ≡ map (λ ss. map (λ s. Some (s.operator ∷ [])) ss) all_samples
 unfolding table
@@ -45,7 +40,7 @@ abbrev pub around : Context
 around = record { spaces = no_spaces; signature = signature_at sample_types; fields = λ n. [] }
 
 abbrev pub ops : List ℕ → Option (List Operator)
-ops text = forest text >>= λ f. chunks_of_forest (without_annotations f) >>= read_operators around
+ops text = operators_beside around text
 
 samples_read : map (λ ss. map (λ s. ops s.text) ss) all_samples ≡ map (λ ss. map (λ s. Some (s.operator ∷ [])) ss) all_samples
 unfolding reading

@@ -1,22 +1,15 @@
 -- Worked rows of immediates of each shape: bytes that spell no operator, other texts of the same operators, and texts of none.
-use Rattle.std.specs.Prelude.{◌≡◌, ℕ, ◌+◌, List, [], ◌∷◌, ◌++◌, map, replicate, true, false, codes, Option, Some, None, refl}
+use Rattle.std.specs.Prelude.{◌≡◌, ℕ, List, [], ◌∷◌, ◌++◌, map, replicate, true, false, codes, Option, Some, refl}
 use Rattle.wasmprinter_spec.specs.Types as types
 use Rattle.wasmprinter_spec.specs.Types.{ref_type}
 use Rattle.wasmprinter_spec.specs.Operator.{opcode, mem_arg_of, Immediates, Index, Indices, Types, Heap, Cast, Memory, MemoryLane, Bytes, Operator}
 use Rattle.wasmprinter_spec.specs.Table.{table}
 use Rattle.wasmprinter_spec.proofs.Computing.{reading}
-use Rattle.wasmprinter_spec.proofs.ShapeRows.{spelled, ops}
+use Rattle.wasmprinter_spec.proofs.ShapeRows.{ops}
+use Rattle.wasmprinter_spec.proofs.FromBytes.{spelled}
+use Rattle.wasmprinter_spec.proofs.Numbers.{numbers_from}
 
 -- ---- what isn't spelled
-
--- which of these are read so, counted from 0
-abbrev number_if : Option (List Operator) → ℕ → List ℕ
-number_if None n = []
-number_if (Some os) n = n ∷ []
-
-abbrev numbers_from : (List ℕ → Option (List Operator)) → ℕ → List (List ℕ) → List ℕ
-numbers_from read n [] = []
-numbers_from read n (t ∷ ts) = number_if (read t) n ++ numbers_from read (n + 1) ts
 
 -- opcodes that the table doesn't list, and one of too many bits
 unlisted : numbers_from spelled 0 (

@@ -4,50 +4,50 @@ use Rattle.std.specs.Prelude.{◌≡◌, ℕ, zero, suc, List, [], ◌∷◌, �
 use Rattle.std.proofs.Common.{arith}
 use Rattle.wasmprinter_spec.specs.Grammar.{Grammar, input, Placed}
 use Rattle.wasmprinter_spec.specs.Sized.{alone}
-use Rattle.wasmprinter_spec.specs.Types.{Exn, Array, Struct, I31, Eq, Any, Extern, Func, NoAny, NoExtern, NoFunc, NoExn, Index, ref_type, ValType, I32, I64, F32, F64, V128, Ref, Val, I8, I16, field_type, CompositeType, FuncComposite, ArrayComposite, StructComposite, SubType, sub_type, final_type, all_types, signature_at}
+use Rattle.wasmprinter_spec.specs.Types.{Exn, Array, Struct, I31, Eq, Any, Extern, Func, NoAny, NoExtern, NoFunc, NoExn, Index, ref_type, ValType, I32, I64, F32, F64, V128, Ref, Val, I8, I16, field_type, ArrayComposite, StructComposite, SubType, sub_type, final_type, all_types, signature_at}
 use Rattle.wasmprinter_spec.specs.Placed.{TypeGroup, type_group}
 use Rattle.wasmprinter_spec.specs.Binary.ValTypes.{heap_type, reference_type, val_type, begins_val_type}
 use Rattle.wasmprinter_spec.specs.Instructions.{block_type}
 use Rattle.wasmprinter_spec.specs.Binary.Types.{storage_type, field, subtype, type_section}
 use Rattle.wasmprinter_spec.specs.Module.{Module}
 use Rattle.wasmprinter_spec.specs.Indexed.{IsIndexed}
-use Rattle.wasmprinter_spec.proofs.Samples.{func, bare, empty}
+use Rattle.wasmprinter_spec.proofs.Samples.{func, bare, empty, nothing}
 
 -- what bytes spell where nothing stands behind them
-abbrev spelled : {A : Type 0} → Grammar A → List ℕ → Option A
-spelled g bytes = (alone g).parse (input 0 bytes)
+abbrev spelled_by : {A : Type 0} → Grammar A → List ℕ → Option A
+spelled_by g bytes = (alone g).parse (input 0 bytes)
 
 -- ---- heap types and reference types
 
-abstract_heaps : map (λ b. spelled heap_type (b ∷ [])) (0x69 ∷ 0x6a ∷ 0x6b ∷ 0x6c ∷ 0x6d ∷ 0x6e ∷ 0x6f ∷ 0x70 ∷ 0x71 ∷ 0x72 ∷ 0x73 ∷ 0x74 ∷ [])
+abstract_heaps : map (λ b. spelled_by heap_type (b ∷ [])) (0x69 ∷ 0x6a ∷ 0x6b ∷ 0x6c ∷ 0x6d ∷ 0x6e ∷ 0x6f ∷ 0x70 ∷ 0x71 ∷ 0x72 ∷ 0x73 ∷ 0x74 ∷ [])
     ≡ map (λ h. Some h) (Exn ∷ Array ∷ Struct ∷ I31 ∷ Eq ∷ Any ∷ Extern ∷ Func ∷ NoAny ∷ NoExtern ∷ NoFunc ∷ NoExn ∷ [])
 abstract_heaps = refl
 
 -- in one byte, in two, in the longest spelling, the greatest
-heap_indices : map (spelled heap_type) ((0x00 ∷ []) ∷ (0x3f ∷ []) ∷ (0xe9 ∷ 0x00 ∷ []) ∷ (0x85 ∷ 0x80 ∷ 0x80 ∷ 0x80 ∷ 0x00 ∷ []) ∷ (0xff ∷ 0xff ∷ 0xff ∷ 0xff ∷ 0x0f ∷ []) ∷ [])
+heap_indices : map (spelled_by heap_type) ((0x00 ∷ []) ∷ (0x3f ∷ []) ∷ (0xe9 ∷ 0x00 ∷ []) ∷ (0x85 ∷ 0x80 ∷ 0x80 ∷ 0x80 ∷ 0x00 ∷ []) ∷ (0xff ∷ 0xff ∷ 0xff ∷ 0xff ∷ 0x0f ∷ []) ∷ [])
     ≡ map (λ n. Some (Index n)) (0 ∷ 63 ∷ 105 ∷ 5 ∷ 4294967295 ∷ [])
 heap_indices = refl
 
 -- negative numbers, also in more bytes, a number of more than 33 bits, nothing, more than one
-no_heaps : map (spelled heap_type) ((0x40 ∷ []) ∷ (0x68 ∷ []) ∷ (0x75 ∷ []) ∷ (0x7f ∷ []) ∷ (0xf0 ∷ 0x7f ∷ []) ∷ (0xff ∷ 0xff ∷ 0xff ∷ 0xff ∷ 0x7f ∷ []) ∷ (0x80 ∷ 0x80 ∷ 0x80 ∷ 0x80 ∷ 0x10 ∷ []) ∷ [] ∷ (0x80 ∷ []) ∷ (0x70 ∷ 0x70 ∷ []) ∷ [])
+no_heaps : map (spelled_by heap_type) ((0x40 ∷ []) ∷ (0x68 ∷ []) ∷ (0x75 ∷ []) ∷ (0x7f ∷ []) ∷ (0xf0 ∷ 0x7f ∷ []) ∷ (0xff ∷ 0xff ∷ 0xff ∷ 0xff ∷ 0x7f ∷ []) ∷ (0x80 ∷ 0x80 ∷ 0x80 ∷ 0x80 ∷ 0x10 ∷ []) ∷ [] ∷ (0x80 ∷ []) ∷ (0x70 ∷ 0x70 ∷ []) ∷ [])
     ≡ replicate 10 None
 no_heaps = refl
 
-references : map (spelled reference_type) ((0x64 ∷ 0x70 ∷ []) ∷ (0x63 ∷ 0x70 ∷ []) ∷ (0x70 ∷ []) ∷ (0x63 ∷ 0x00 ∷ []) ∷ (0x64 ∷ 0x80 ∷ 0x01 ∷ []) ∷ (0x6c ∷ []) ∷ [])
+references : map (spelled_by reference_type) ((0x64 ∷ 0x70 ∷ []) ∷ (0x63 ∷ 0x70 ∷ []) ∷ (0x70 ∷ []) ∷ (0x63 ∷ 0x00 ∷ []) ∷ (0x64 ∷ 0x80 ∷ 0x01 ∷ []) ∷ (0x6c ∷ []) ∷ [])
     ≡ map (λ r. Some r) (ref_type false Func ∷ ref_type true Func ∷ ref_type true Func ∷ ref_type true (Index 0) ∷ ref_type false (Index 128) ∷ ref_type true I31 ∷ [])
 references = refl
 
-no_references : map (spelled reference_type) ((0x64 ∷ []) ∷ (0x63 ∷ []) ∷ (0x00 ∷ []) ∷ (0x64 ∷ 0x64 ∷ 0x70 ∷ []) ∷ (0x64 ∷ 0x7f ∷ []) ∷ (0x62 ∷ 0x70 ∷ []) ∷ (0x7f ∷ []) ∷ [])
+no_references : map (spelled_by reference_type) ((0x64 ∷ []) ∷ (0x63 ∷ []) ∷ (0x00 ∷ []) ∷ (0x64 ∷ 0x64 ∷ 0x70 ∷ []) ∷ (0x64 ∷ 0x7f ∷ []) ∷ (0x62 ∷ 0x70 ∷ []) ∷ (0x7f ∷ []) ∷ [])
     ≡ replicate 7 None
 no_references = refl
 
 -- ---- value types
 
-value_types : map (spelled val_type) ((0x7f ∷ []) ∷ (0x7e ∷ []) ∷ (0x7d ∷ []) ∷ (0x7c ∷ []) ∷ (0x7b ∷ []) ∷ (0x69 ∷ []) ∷ (0x63 ∷ 0x01 ∷ []) ∷ [])
+value_types : map (spelled_by val_type) ((0x7f ∷ []) ∷ (0x7e ∷ []) ∷ (0x7d ∷ []) ∷ (0x7c ∷ []) ∷ (0x7b ∷ []) ∷ (0x69 ∷ []) ∷ (0x63 ∷ 0x01 ∷ []) ∷ [])
     ≡ map (λ t. Some t) (I32 ∷ I64 ∷ F32 ∷ F64 ∷ V128 ∷ Ref (ref_type true Exn) ∷ Ref (ref_type true (Index 1)) ∷ [])
 value_types = refl
 
-no_value_types : map (spelled val_type) ([] ∷ (0x40 ∷ []) ∷ (0x7a ∷ []) ∷ (0x78 ∷ []) ∷ (0x77 ∷ []) ∷ (0x60 ∷ []) ∷ (0x00 ∷ []) ∷ (0xff ∷ 0x7f ∷ []) ∷ (0x7f ∷ 0x7f ∷ []) ∷ [])
+no_value_types : map (spelled_by val_type) ([] ∷ (0x40 ∷ []) ∷ (0x7a ∷ []) ∷ (0x78 ∷ []) ∷ (0x77 ∷ []) ∷ (0x60 ∷ []) ∷ (0x00 ∷ []) ∷ (0xff ∷ 0x7f ∷ []) ∷ (0x7f ∷ 0x7f ∷ []) ∷ [])
     ≡ replicate 9 None
 no_value_types = refl
 
@@ -69,26 +69,23 @@ not_begun : (p : ℕ) (bs : List ℕ) → map (λ b. val_type.parse (input p (b 
 not_begun p bs = refl
 
 -- the bytes that by themselves are a block type: indices, 40, and the value types but for 63 and 64
-one_byte_block_types : passing (λ b. is_some (spelled block_type (b ∷ []))) 256
+one_byte_block_types : passing (λ b. is_some (spelled_by block_type (b ∷ []))) 256
     ≡ passing (λ b. true) 0x41 ++ 0x69 ∷ 0x6a ∷ 0x6b ∷ 0x6c ∷ 0x6d ∷ 0x6e ∷ 0x6f ∷ 0x70 ∷ 0x71 ∷ 0x72 ∷ 0x73 ∷ 0x74 ∷ 0x7b ∷ 0x7c ∷ 0x7d ∷ 0x7e ∷ 0x7f ∷ []
 one_byte_block_types = refl
 
 -- ---- fields
 
-storage_types : map (spelled storage_type) ((0x78 ∷ []) ∷ (0x77 ∷ []) ∷ (0x7b ∷ []) ∷ (0x6f ∷ []) ∷ (0x64 ∷ 0x02 ∷ []) ∷ [])
+storage_types : map (spelled_by storage_type) ((0x78 ∷ []) ∷ (0x77 ∷ []) ∷ (0x7b ∷ []) ∷ (0x6f ∷ []) ∷ (0x64 ∷ 0x02 ∷ []) ∷ [])
     ≡ map (λ s. Some s) (I8 ∷ I16 ∷ Val V128 ∷ Val (Ref (ref_type true Extern)) ∷ Val (Ref (ref_type false (Index 2))) ∷ [])
 storage_types = refl
 
-fields : map (spelled field) ((0x78 ∷ 0x00 ∷ []) ∷ (0x7f ∷ 0x01 ∷ []) ∷ (0x78 ∷ 0x02 ∷ []) ∷ (0x78 ∷ []) ∷ (0x76 ∷ 0x00 ∷ []) ∷ [])
+fields : map (spelled_by field) ((0x78 ∷ 0x00 ∷ []) ∷ (0x7f ∷ 0x01 ∷ []) ∷ (0x78 ∷ 0x02 ∷ []) ∷ (0x78 ∷ []) ∷ (0x76 ∷ 0x00 ∷ []) ∷ [])
     ≡ Some (field_type false I8) ∷ Some (field_type true (Val I32)) ∷ None ∷ None ∷ None ∷ []
 fields = refl
 
 -- ---- subtypes
 
-abbrev nothing : CompositeType
-nothing = FuncComposite (record { params = []; results = [] })
-
-subtypes : map (spelled subtype) (
+subtypes : map (spelled_by subtype) (
     (0x60 ∷ 0x00 ∷ 0x00 ∷ [])
     ∷ (0x60 ∷ 0x01 ∷ 0x7f ∷ 0x02 ∷ 0x70 ∷ 0x7e ∷ [])
     ∷ (0x5f ∷ 0x02 ∷ 0x78 ∷ 0x01 ∷ 0x7f ∷ 0x00 ∷ [])
@@ -111,7 +108,7 @@ subtypes : map (spelled subtype) (
 subtypes = refl
 
 -- a subtype in another one, a group in one, a value type, no field
-no_subtypes : map (spelled subtype) (
+no_subtypes : map (spelled_by subtype) (
     (0x50 ∷ 0x00 ∷ 0x50 ∷ 0x00 ∷ 0x60 ∷ 0x00 ∷ 0x00 ∷ [])
     ∷ (0x50 ∷ 0x00 ∷ 0x4e ∷ 0x00 ∷ [])
     ∷ (0x4e ∷ 0x00 ∷ [])
@@ -192,19 +189,25 @@ mutual_types = record {
 }
 
 undeclared_supertype : IsIndexed (of_types (sub_type false (1 ∷ []) nothing ∷ [])) → ⊥
-undeclared_supertype i = omega (arith, i.types.0.0.supertypes.0)
+undeclared_supertype i = let ((type, _), _) = i.types in omega (arith, type.supertypes.0)
 
 undeclared_field : IsIndexed (of_types (final_type (StructComposite (field_type false I8 ∷ field_type false (Val (to 1)) ∷ [])) ∷ [])) → ⊥
-undeclared_field i = omega (arith, i.types.0.0.composite.1.0)
+undeclared_field i =
+    let ((type, _), _) = i.types in
+    let (first, (second, _)) = type.composite in
+    omega (arith, second)
 
 undeclared_item : IsIndexed (of_types (final_type (ArrayComposite (field_type false (Val (to 1)))) ∷ [])) → ⊥
-undeclared_item i = omega (arith, i.types.0.0.composite)
+undeclared_item i = let ((type, _), _) = i.types in omega (arith, type.composite)
 
 undeclared_parameter : IsIndexed (of_types (func (to 1 ∷ []) [] ∷ [])) → ⊥
-undeclared_parameter i = omega (arith, i.types.0.0.composite.params.0)
+undeclared_parameter i = let ((type, _), _) = i.types in omega (arith, type.composite.params.0)
 
 undeclared_result : IsIndexed (of_types (func [] (I32 ∷ to 1 ∷ []) ∷ [])) → ⊥
-undeclared_result i = omega (arith, i.types.0.0.composite.results.1.0)
+undeclared_result i =
+    let ((type, _), _) = i.types in
+    let (first, (second, _)) = type.composite.results in
+    omega (arith, second)
 
 undeclared_local : IsIndexed (using (func [] [] ∷ []) 0 (to 1)) → ⊥
 undeclared_local i = omega (arith, i.functions.0.locals.0)

@@ -1,17 +1,14 @@
 -- Worked rows of types in the text format (section 6.4 of the standard): the texts that single types give, and what texts of types write.
-use Rattle.std.specs.Prelude.{◌≡◌, ℕ, List, [], ◌∷◌, ◌++◌, true, false, length, map, codes, Option, Some, option_map, refl}
+use Rattle.std.specs.Prelude.{◌≡◌, ℕ, List, [], ◌∷◌, ◌++◌, true, false, length, map, codes, Some, refl}
 use Rattle.std.specs.Fmt.{digits}
 use Rattle.std.specs.Char.{encode_utf8}
 use Rattle.std.specs.Str.{is_utf8, chars}
-use Rattle.wasmprinter_spec.specs.Grammar.{input}
-use Rattle.wasmprinter_spec.specs.Types.{Exn, Array, Struct, I31, Eq, Any, Extern, Func, NoAny, NoExtern, NoFunc, NoExn, Index, ref_type, I32, I64, F32, F64, V128, Ref, Val, I8, I16, field_type, CompositeType, FuncComposite, ArrayComposite, StructComposite, SubType, sub_type, final_type}
+use Rattle.wasmprinter_spec.specs.Types.{Exn, Array, Struct, I31, Eq, Any, Extern, Func, NoAny, NoExtern, NoFunc, NoExn, Index, ref_type, I32, I64, F32, F64, V128, Ref, Val, I8, I16, field_type, ArrayComposite, StructComposite, SubType, sub_type, final_type}
 use Rattle.wasmprinter_spec.specs.Operator as operator
-use Rattle.wasmprinter_spec.specs.Binary.{binary}
 use Rattle.wasmprinter_spec.specs.Module.{Module}
-use Rattle.wasmprinter_spec.specs.Call.{Call, Style, Text, Start, Name, Keyword, TypeName, Reset, text_of, atoms}
-use Rattle.wasmprinter_spec.specs.Options.{Options, defaults}
+use Rattle.wasmprinter_spec.specs.Call.{Call, Name, Keyword, TypeName, atoms}
+use Rattle.wasmprinter_spec.specs.Options.{defaults}
 use Rattle.wasmprinter_spec.specs.Piece.{Piece, repetition_of, left_in, place_text, all_calls}
-use Rattle.wasmprinter_spec.specs.Layout.{layout}
 use Rattle.wasmprinter_spec.specs.Layout.Types.{composite_pieces, type_pieces}
 use Rattle.wasmprinter_spec.specs.Layout.ValTypes.{val_pieces}
 use Rattle.wasmprinter_spec.proofs.Computing.{composing}
@@ -24,7 +21,9 @@ use Rattle.wasmprinter_spec.specs.Text.Items.{groups}
 use Rattle.wasmprinter_spec.specs.Text.Types.{heap_of_word, ref_of_word, number_of_word, packed_of_word}
 use Rattle.wasmprinter_spec.specs.Read.{read}
 use Rattle.wasmprinter_spec.specs.Text.Exports.{kind_of_word}
-use Rattle.wasmprinter_spec.proofs.Samples.{lines, head_bytes, to, to_null, func, empty}
+use Rattle.wasmprinter_spec.proofs.Samples.{lines, head_bytes, to, to_null, func, empty, nothing}
+use Rattle.wasmprinter_spec.proofs.FromBytes.{printed_by, printed}
+use Rattle.wasmprinter_spec.proofs.StyledCalls.{plain, in_style}
 use Rattle.wasmprinter_spec.specs.Names.{no_names}
 
 -- ---- from bytes to text
@@ -32,12 +31,6 @@ use Rattle.wasmprinter_spec.specs.Names.{no_names}
 -- a module whose type section holds these bytes
 abbrev with_types : List ℕ → List ℕ
 with_types bytes = head_bytes ++ (0x01 ∷ length bytes ∷ bytes)
-
-abbrev printed_by : Options → List ℕ → Option (List ℕ)
-printed_by o bytes = option_map (λ m. text_of (layout o (λ n. false) m)) (binary.parse (input 0 bytes))
-
-abbrev printed : List ℕ → Option (List ℕ)
-printed bytes = printed_by defaults bytes
 
 -- the lines of a module's fields
 abbrev module_text : List (List ℕ) → List ℕ
@@ -127,12 +120,6 @@ functions_of_groups = refl
 
 -- ---- calls
 
-abbrev plain : List ℕ → List Call
-plain s = Text s ∷ []
-
-abbrev in_style : Style → List ℕ → List Call
-in_style style s = Start style ∷ Text s ∷ Start Reset ∷ []
-
 abbrev are_calls : List Piece → List Call → Type 0
 are_calls ps calls = atoms (all_calls defaults ps) ≡ atoms calls
 
@@ -169,9 +156,6 @@ sub_calls = refl
 
 abbrev of_groups : List (List SubType) → Module
 of_groups gs = record empty { types = gs }
-
-abbrev nothing : CompositeType
-nothing = FuncComposite (record { params = []; results = [] })
 
 reads_each_type : read each_type_text ≡ Some (of_groups ((func
     (I32 ∷ I64 ∷ F32 ∷ F64 ∷ V128 ∷ map to_null (Exn ∷ Array ∷ Struct ∷ I31 ∷ Eq ∷ Any ∷ Extern ∷ Func ∷ NoAny ∷ NoExtern ∷ NoFunc ∷ NoExn ∷ Func ∷ NoExn ∷ []))

@@ -1,9 +1,8 @@
 -- Worked rows of the reader (section 6 of the standard): texts that write no module.
-use Rattle.std.specs.Prelude.{◌≡◌, ℕ, ◌+◌, List, [], ◌∷◌, ◌++◌, map, codes, Option, Some, None, refl}
+use Rattle.std.specs.Prelude.{◌≡◌, ℕ, List, [], ◌∷◌, ◌++◌, map, codes, refl}
 use Rattle.std.specs.Char.{encode_utf8}
 use Rattle.std.specs.Str.{is_utf8, chars}
 use Rattle.wasmprinter_spec.specs.Table.{table}
-use Rattle.wasmprinter_spec.specs.Module.{Module}
 use Rattle.wasmprinter_spec.specs.Character.{class}
 use Rattle.wasmprinter_spec.specs.Numeral.{numeral, natural, integer}
 use Rattle.wasmprinter_spec.specs.Token.{escape, lex}
@@ -12,20 +11,13 @@ use Rattle.wasmprinter_spec.specs.Text.Types.{heap_of_word, ref_of_word, number_
 use Rattle.wasmprinter_spec.specs.Text.Items.{groups}
 use Rattle.wasmprinter_spec.specs.Read.{read}
 use Rattle.wasmprinter_spec.specs.Text.Exports.{kind_of_word}
-use Rattle.wasmprinter_spec.proofs.Samples.{mixed_text}
+use Rattle.wasmprinter_spec.proofs.Samples.{mixed_text, procedure_text}
+use Rattle.wasmprinter_spec.proofs.Numbers.{numbers_from}
 use Rattle.wasmprinter_spec.specs.Text.Customs.{section_of_word}
-
-abbrev number_if : Option Module → ℕ → List ℕ
-number_if None n = []
-number_if (Some m) n = n ∷ []
-
-abbrev numbers_from : ℕ → List (List ℕ) → List ℕ
-numbers_from n [] = []
-numbers_from n (t ∷ ts) = number_if (read t) n ++ numbers_from (n + 1) ts
 
 -- which of these texts write a module, counted from 0
 abbrev pub numbers_read : List (List ℕ) → List ℕ
-numbers_read ts = numbers_from 0 ts
+numbers_read ts = numbers_from read 0 ts
 
 -- a text that reads is seen
 read_among : numbers_read (codes "(module" ∷ codes "(module)" ∷ codes "module" ∷ codes "(module (type (func)))" ∷ []) ≡ 1 ∷ 3 ∷ []
@@ -263,11 +255,7 @@ unread_references : numbers_read (map (λ t. codes "(module (type $t (func (para
 unfolding lex class escape numeral natural integer groups heap_of_word ref_of_word number_of_word packed_of_word table is_utf8 chars encode_utf8 kind_of_word
 unread_references = refl
 
--- a text of one function with this code
-abbrev procedure : List ℕ → List ℕ
-procedure code = codes "(module (type (func)) (func (type 0) (local i32) " ++ code ++ codes "))"
-
-unread_code : numbers_read (map procedure (
+unread_code : numbers_read (map procedure_text (
     codes "i32.constant 1"
     ∷ codes "1"
     ∷ codes "\"drop\""
@@ -296,7 +284,7 @@ unfolding lex class escape numeral natural integer groups table head is_utf8 cha
 unread_code = refl
 
 -- operands stand behind what the operator's word takes, and are folded themselves
-unread_folded : numbers_read (map procedure (
+unread_folded : numbers_read (map procedure_text (
     codes "(local.set 0 i32.const 1)"
     ∷ codes "(local.set (i32.const 1) 0)"
     ∷ codes "(drop drop)"

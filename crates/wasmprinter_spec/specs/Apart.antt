@@ -5,7 +5,7 @@ use Rattle.std.specs.List.{AllByRecursion, flat_map}
 use Rattle.wasmprinter_spec.specs.Grammar.{Placed}
 use Rattle.wasmprinter_spec.specs.Types.{SubType}
 use Rattle.wasmprinter_spec.specs.Placed.{TypeGroup, LocalEntry, Body, CustomEntry, PlacedModule}
-use Rattle.wasmprinter_spec.specs.Customs.{Role, Listed, Linked, role_of}
+use Rattle.wasmprinter_spec.specs.Customs.{CustomRole, Listed, Linked, custom_role_of}
 use Rattle.wasmprinter_spec.specs.Layout.Functions.{locals_place}
 use Rattle.wasmprinter_spec.specs.Lines.{places, hint_places}
 
@@ -46,14 +46,14 @@ start_places None = []
 start_places (Some start) = start.place ∷ []
 
 -- values of `producers`, subsections of `dylink.0`
-abbrev pub role_places : Role → List ℕ
+abbrev pub role_places : CustomRole → List ℕ
 role_places (Listed fields) = flat_map (λ f. places f.values) fields
 role_places (Linked subsections) = places subsections
 role_places _ = []
 
 -- a custom section, its data, and the lines within it
 abbrev pub custom_places : CustomEntry → List ℕ
-custom_places c = c.section.place ∷ (c.section.value.bytes.place ∷ role_places (role_of c.section.value))
+custom_places c = c.section.place ∷ (c.section.value.bytes.place ∷ role_places (custom_role_of c.section.value))
 
 -- The bodies lie one after the other in an interval, each with its places rising; whatever else begins a line lies outside of it, the
 -- module's first byte and the end of its bytes too.

@@ -21,8 +21,11 @@ pub data Call : Type 0 where
 
 -- the printer didn't take a custom section itself
 abbrev pub IsUnclaimed : Call → Type 0
+IsUnclaimed (Text s) = Unit {0}
+IsUnclaimed Newline = Unit {0}
+IsUnclaimed (Line place) = Unit {0}
+IsUnclaimed (Start style) = Unit {0}
 IsUnclaimed (Claim name place bytes answer) = answer ≡ false
-IsUnclaimed _ = Unit {0}
 
 -- a call that hands over text, though it be empty
 abbrev pub IsText : Call → Type 0

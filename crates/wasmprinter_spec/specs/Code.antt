@@ -86,8 +86,11 @@ branches _ = None
 -- `if` its operands stand in front. The older `try` isn't folded.
 abbrev pub folded_instruction : Role → List Row → Code → Option Instruction
 folded_instruction Plain rs c = option_map (λ cs. Folded cs (chunk rs c.front) []) (operands c.instructions)
-folded_instruction Opens rs c = option_map (λ cs. Folded [] (chunk rs c.front) (cs ++ (word_chunk (codes "end") ∷ []))) (chunks_of_instructions c.instructions >>= if_nested)
-folded_instruction OpensIf rs c = option_map (λ x. Folded x.0 (chunk rs c.front) (x.1 ++ (word_chunk (codes "end") ∷ []))) (branches c.instructions)
+folded_instruction Opens rs c =
+    option_map (λ cs. Folded [] (chunk rs c.front) (cs ++ (word_chunk (codes "end") ∷ [])))
+    (chunks_of_instructions c.instructions >>= if_nested)
+folded_instruction OpensIf rs c =
+    option_map (λ x. Folded x.0 (chunk rs c.front) (x.1 ++ (word_chunk (codes "end") ∷ []))) (branches c.instructions)
 folded_instruction _ rs c = None
 
 -- the words of groups that are parts of the operator in front of them or around them, though the word may be an operator's too
@@ -96,18 +99,18 @@ part_words =
     codes "type" ∷ codes "param" ∷ codes "result" ∷ codes "catch" ∷ codes "catch_ref" ∷ codes "catch_all" ∷ codes "catch_all_ref" ∷ []
 
 -- what a group is: a part of an operator, what `if` holds in a case, or an operator itself, with the first of its rows and the others
-pub data Head : Type 0 where
-  PartHead : Head
-  ThenHead : Head
-  ElseHead : Head
-  OperatorHead : Row → List Row → Head
+pub data GroupHead : Type 0 where
+  PartHead : GroupHead
+  ThenHead : GroupHead
+  ElseHead : GroupHead
+  OperatorHead : Row → List Row → GroupHead
 
-abbrev pub head_by : List Row → Head
+abbrev pub head_by : List Row → GroupHead
 head_by [] = PartHead
 head_by (r ∷ rs) = OperatorHead r rs
 
 -- by the word of the group
-unfoldable pub head : List ℕ → Head
+unfoldable pub head : List ℕ → GroupHead
 head w =
     if list_any (λ v. bytes_eq v w) part_words then PartHead else
     (if bytes_eq w (codes "then") then ThenHead else (if bytes_eq w (codes "else") then ElseHead else head_by (rows_of w)))
@@ -120,7 +123,7 @@ with_instruction i c = option_map (λ is. code_of End (i ∷ is)) (only_instruct
 abbrev pub branch : (List Chunk → Instruction) → Option Code → Option Code → Option Code
 branch make inner rest = inner >>= only_instructions >>= chunks_of_instructions >>= if_nested >>= λ cs. rest >>= with_instruction (make cs)
 
-abbrev pub with_group : Head → (Forest → Forest) → Option Code → Option Code → Option Code
+abbrev pub with_group : GroupHead → (Forest → Forest) → Option Code → Option Code → Option Code
 with_group PartHead item inner rest = with_front item rest
 with_group ThenHead item inner rest = branch Then inner rest
 with_group ElseHead item inner rest = branch Else inner rest

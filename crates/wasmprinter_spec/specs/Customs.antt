@@ -24,25 +24,25 @@ abbrev pub dylink_section : List ℕ
 dylink_section = codes "dylink.0"
 
 -- what a custom section is to the text
-pub data Role : Type 0 where
-  Silent : Role  -- its names stand in the text, or its hints
-  Listed : List Field → Role
-  Linked : List Subsection → Role
-  Refused : ℕ → Role  -- for a subsection that isn't known, by its id
-  Raw : Role
-  Faulted : Role  -- raw, behind a line that tells of its fault
+pub data CustomRole : Type 0 where
+  Silent : CustomRole  -- its names stand in the text, or its hints
+  Listed : List Field → CustomRole
+  Linked : List Subsection → CustomRole
+  Refused : ℕ → CustomRole  -- for a subsection that isn't known, by its id
+  Raw : CustomRole
+  Faulted : CustomRole  -- raw, behind a line that tells of its fault
 
-abbrev pub producers_role : Option (List Field) → Role
+abbrev pub producers_role : Option (List Field) → CustomRole
 producers_role None = Faulted
 producers_role (Some fields) = if are_runs fields then Listed fields else Raw
 
-abbrev pub dylink_role : Judged → Role
+abbrev pub dylink_role : Judged → CustomRole
 dylink_role (Whole subsections) = Linked subsections
 dylink_role (Unknown id) = Refused id
 dylink_role Faulty = Faulted
 
-abbrev pub role_of : Custom → Role
-role_of c =
+abbrev pub custom_role_of : Custom → CustomRole
+custom_role_of c =
     if bytes_eq c.name name_section then Silent else
     (if bytes_eq c.name hint_section then Silent else
     (if bytes_eq c.name producers_section then producers_role (p.producers.parse (input c.bytes.place c.bytes.value)) else
@@ -57,11 +57,11 @@ pub record RawCustom : Type 0 where
 abbrev pub raw_custom : CustomEntry → RawCustom
 raw_custom c = record { behind = c.behind; name = c.section.value.name; bytes = c.section.value.bytes.value }
 
-abbrev pub is_raw : Role → Bool
+abbrev pub is_raw : CustomRole → Bool
 is_raw Raw = true
 is_raw Faulted = true
 is_raw _ = false
 
 abbrev pub raw_customs : List CustomEntry → List RawCustom
 raw_customs [] = []
-raw_customs (c ∷ cs) = (if is_raw (role_of c.section.value) then raw_custom c ∷ [] else []) ++ raw_customs cs
+raw_customs (c ∷ cs) = (if is_raw (custom_role_of c.section.value) then raw_custom c ∷ [] else []) ++ raw_customs cs

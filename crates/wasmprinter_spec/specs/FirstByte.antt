@@ -32,23 +32,26 @@ module _ {A : Type 0} (h : ℕ → Grammar A) where
   abbrev pub by_first_byte_at : Input → Option (A × Input)
   by_first_byte_at at = by_first_byte_of at.place at.bytes
 
-  head_of : (b : ℕ) (bs text rest : List ℕ) (p : ℕ) (a : A) → b ∷ bs ≡ text ++ rest → length rest < length (b ∷ bs) → (h b).spells p text a → Peeked p text a
+  head_of : (b : ℕ) (bs text rest : List ℕ) (p : ℕ) (a : A) → b ∷ bs ≡ text ++ rest → length rest < length (b ∷ bs) →
+      (h b).spells p text a → Peeked p text a
   head_of b bs [] rest p a e lt s = absurd (omega (arith, ap length e, lt))
   head_of b bs (c ∷ cs) rest p a e lt s = let same : b ≡ c = cc in subst (λ (x : ℕ). (h x).spells p (c ∷ cs) a) same s
 
   sound_of : (p : ℕ) (bytes : List ℕ) (x : A × Input) → by_first_byte_of p bytes ≡ Some x → Spans Peeked (input p bytes) x
   sound_of p [] x e = absurd cc
   sound_of p (b ∷ bs) x e =
-      let y = bind_some ((h b).parse (input p (b ∷ bs))) (shorter (length (b ∷ bs))) x e in
-      let t = tested (ltb (length y.0.1.bytes) (length (b ∷ bs))) (Some y.0) x y.2 in
-      let s = (h b).sound (input p (b ∷ bs)) y.0 y.1 in
-      subst (λ (z : A × Input). Spans Peeked (input p (b ∷ bs)) z) (some_is y.0 x t.1)
-      (record { text = s.text; parts = s.parts; ends = s.ends; spelled = head_of b bs s.text y.0.1.bytes p y.0.0 s.parts (ltb-true _ _ t.0) s.spelled })
+      let ((value, after), parsed, rest) = bind_some ((h b).parse (input p (b ∷ bs))) (shorter (length (b ∷ bs))) x e in
+      let t = tested (ltb (length after.bytes) (length (b ∷ bs))) (Some (value, after)) x rest in
+      let s = (h b).sound (input p (b ∷ bs)) (value, after) parsed in
+      let spelled = head_of b bs s.text after.bytes p value s.parts (ltb-true _ _ t.0) s.spelled in
+      subst (λ (z : A × Input). Spans Peeked (input p (b ∷ bs)) z) (some_is (value, after) x t.1)
+      (record { text = s.text; parts = s.parts; ends = s.ends; spelled = spelled })
 
   pub by_first_byte_sound : (at : Input) (x : A × Input) → by_first_byte_at at ≡ Some x → Spans Peeked at x
   by_first_byte_sound at x e = sound_of at.place at.bytes x e
 
-  complete_of : (p : ℕ) (text rest : List ℕ) (a : A) → Peeked p text a → by_first_byte_of p (text ++ rest) ≡ Some (a, input (p + length text) rest)
+  complete_of : (p : ℕ) (text rest : List ℕ) (a : A) → Peeked p text a →
+      by_first_byte_of p (text ++ rest) ≡ Some (a, input (p + length text) rest)
   complete_of p [] rest a s = absurd s
   complete_of p (b ∷ bs) rest a s =
       let after : Input = input (p + length (b ∷ bs)) rest in
@@ -59,7 +62,8 @@ module _ {A : Type 0} (h : ℕ → Grammar A) where
 
   pub by_first_byte_complete : (at : Input) (x : A × Input) → Spans Peeked at x → by_first_byte_at at ≡ Some x
   by_first_byte_complete at x s =
-      ap (by_first_byte_of at.place) s.parts ∙ complete_of at.place s.text x.1.bytes x.0 s.spelled ∙ ap (λ (q : ℕ). Some (x.0, input q x.1.bytes)) (sym s.ends)
+      ap (by_first_byte_of at.place) s.parts ∙ complete_of at.place s.text x.1.bytes x.0 s.spelled
+      ∙ ap (λ (q : ℕ). Some (x.0, input q x.1.bytes)) (sym s.ends)
 
   abbrev pub by_first_byte : Grammar A
   by_first_byte = record { spells = Peeked; parse = by_first_byte_at; sound = by_first_byte_sound; complete = by_first_byte_complete }

@@ -74,7 +74,8 @@ pub record IsValue (w : Width) (bits : ℕ) (s : Scaled) : Type 0 where
 
 -- how many times the least positive number a number is, where it is a multiple of it
 unfoldable pub units : ℕ → Scaled → Option ℕ
-units least s = if (s.significand * 2 ^ (s.up + least)) % 2 ^ s.down == 0 then Some (s.significand * 2 ^ (s.up + least) / 2 ^ s.down) else None
+units least s =
+    if (s.significand * 2 ^ (s.up + least)) % 2 ^ s.down == 0 then Some (s.significand * 2 ^ (s.up + least) / 2 ^ s.down) else None
 
 -- The bits of so many units from 2 ^ fraction on: those of half as many units with the next exponent, until a number of fraction + 1 bits
 -- is left, whose highest bit is not written. `exponents` counts the exponents that are left.
@@ -129,7 +130,8 @@ abbrev pub with_digits_behind : ℕ → Option (List ℕ) → Option (ℕ × ℕ
 with_digits_behind n None = Some (n, 0)
 with_digits_behind n (Some []) = Some (n, 0)
 with_digits_behind n (Some (d ∷ ds)) =
-    if is_numeral 16 (d ∷ ds) then Some (digits_value_after 16 n (without_underscores (d ∷ ds)), length (without_underscores (d ∷ ds))) else None
+    if is_numeral 16 (d ∷ ds)
+    then Some (digits_value_after 16 n (without_underscores (d ∷ ds)), length (without_underscores (d ∷ ds))) else None
 
 -- a digit must stand before the point
 abbrev pub significand_of : Option ℕ → Option (List ℕ) → Option (ℕ × ℕ)

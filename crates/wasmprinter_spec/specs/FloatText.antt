@@ -52,7 +52,8 @@ shifted_fraction w fraction = fraction * 2 ^ shift w fraction - 2 ^ w.fraction
 
 -- The point of a number below the normal ones stands also where no digit stands behind it.
 abbrev pub subnormal_text : Width → ℕ → List ℕ
-subnormal_text w fraction = codes "0x1." ++ (fraction_digits w (shifted_fraction w fraction) ++ (112 ∷ exponent_text 1 (bias w + shift w fraction)))
+subnormal_text w fraction =
+    codes "0x1." ++ (fraction_digits w (shifted_fraction w fraction) ++ (112 ∷ exponent_text 1 (bias w + shift w fraction)))
 
 -- infinity, a canonical NaN, or any other NaN with its payload
 abbrev pub special_text : Width → ℕ → List ℕ

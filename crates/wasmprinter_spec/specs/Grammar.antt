@@ -87,34 +87,34 @@ module _ {A B : Type 0} (g : Grammar A) (h : A → Grammar B) where
 
   pub seq_sound : (at : Input) (x : (A × B) × Input) → seq_at at ≡ Some x → Spans Seq at x
   seq_sound at x e =
-      let a = bind_some (g.parse at) (λ a. (h a.0).parse a.1 >>= λ b. Some ((a.0, b.0), b.1)) x e in
-      let b = bind_some ((h a.0.0).parse a.0.1) (λ b. Some ((a.0.0, b.0), b.1)) x a.2 in
-      let s = g.sound at a.0 a.1 in
-      let t = (h a.0.0).sound a.0.1 b.0 b.1 in
-      subst (λ (y : (A × B) × Input). Spans Seq at y) (some_is ((a.0.0, b.0.0), b.0.1) x b.2)
+      let ((first, mid), first_parsed, rest) = bind_some (g.parse at) (λ a. (h a.0).parse a.1 >>= λ b. Some ((a.0, b.0), b.1)) x e in
+      let ((second, after), second_parsed, result) = bind_some ((h first).parse mid) (λ b. Some ((first, b.0), b.1)) x rest in
+      let s = g.sound at (first, mid) first_parsed in
+      let t = (h first).sound mid (second, after) second_parsed in
+      subst (λ (y : (A × B) × Input). Spans Seq at y) (some_is ((first, second), after) x result)
       (record {
         text = s.text ++ t.text;
-        parts = s.parts ∙ ap (λ (r : List ℕ). s.text ++ r) t.parts ∙ sym (append_assoc s.text t.text b.0.1.bytes);
+        parts = s.parts ∙ ap (λ (r : List ℕ). s.text ++ r) t.parts ∙ sym (append_assoc s.text t.text after.bytes);
         ends = omega (arith, s.ends, t.ends, length-append s.text t.text);
-        spelled = (s.text, t.text, refl, s.spelled, subst (λ (p : ℕ). (h a.0.0).spells p t.text b.0.0) s.ends t.spelled);
+        spelled = (s.text, t.text, refl, s.spelled, subst (λ (p : ℕ). (h first).spells p t.text second) s.ends t.spelled);
       })
 
   pub seq_complete : (at : Input) (x : (A × B) × Input) → Spans Seq at x → seq_at at ≡ Some x
   seq_complete at x s =
-      let t = s.spelled.0 in
-      let u = s.spelled.1 in
-      let mid : Input = input (at.place + length t) (u ++ x.1.bytes) in
-      let e : g.parse at ≡ Some (x.0.0, mid) = g.complete at (x.0.0, mid) (record {
+      let ((first, second), after) = x in
+      let (t, u, joined, first_spelled, second_spelled) = s.spelled in
+      let mid : Input = input (at.place + length t) (u ++ after.bytes) in
+      let e : g.parse at ≡ Some (first, mid) = g.complete at (first, mid) (record {
         text = t;
-        parts = s.parts ∙ ap (λ (r : List ℕ). r ++ x.1.bytes) s.spelled.2 ∙ append_assoc t u x.1.bytes;
+        parts = s.parts ∙ ap (λ (r : List ℕ). r ++ after.bytes) joined ∙ append_assoc t u after.bytes;
         ends = refl;
-        spelled = s.spelled.3;
+        spelled = first_spelled;
       }) in
-      let f : (h x.0.0).parse mid ≡ Some (x.0.1, x.1) = (h x.0.0).complete mid (x.0.1, x.1) (record {
+      let f : (h first).parse mid ≡ Some (second, after) = (h first).complete mid (second, after) (record {
         text = u;
         parts = refl;
-        ends = omega (arith, s.ends, length-append t u, ap length s.spelled.2);
-        spelled = s.spelled.4;
+        ends = omega (arith, s.ends, length-append t u, ap length joined);
+        spelled = second_spelled;
       }) in
       rw (e, f) refl
 
@@ -132,16 +132,18 @@ module _ {A B : Type 0} (f : A → Option B) (g : Grammar A) where
 
   pub try_map_sound : (at : Input) (x : B × Input) → try_map_at at ≡ Some x → Spans Mapped at x
   try_map_sound at x e =
-      let a = bind_some (g.parse at) (λ a. f a.0 >>= λ b. Some (b, a.1)) x e in
-      let b = bind_some (f a.0.0) (λ b. Some (b, a.0.1)) x a.2 in
-      let s = g.sound at a.0 a.1 in
-      subst (λ (y : B × Input). Spans Mapped at y) (some_is (b.0, a.0.1) x b.2)
-      (record { text = s.text; parts = s.parts; ends = s.ends; spelled = (a.0.0, b.1, s.spelled) })
+      let ((value, after), parsed, rest) = bind_some (g.parse at) (λ a. f a.0 >>= λ b. Some (b, a.1)) x e in
+      let (image, maps, result) = bind_some (f value) (λ b. Some (b, after)) x rest in
+      let s = g.sound at (value, after) parsed in
+      subst (λ (y : B × Input). Spans Mapped at y) (some_is (image, after) x result)
+      (record { text = s.text; parts = s.parts; ends = s.ends; spelled = (value, maps, s.spelled) })
 
   pub try_map_complete : (at : Input) (x : B × Input) → Spans Mapped at x → try_map_at at ≡ Some x
   try_map_complete at x s =
-      let e : g.parse at ≡ Some (s.spelled.0, x.1) = g.complete at (s.spelled.0, x.1) (record { text = s.text; parts = s.parts; ends = s.ends; spelled = s.spelled.2 }) in
-      rw (e, s.spelled.1) refl
+      let (value, maps, spelled) = s.spelled in
+      let e : g.parse at ≡ Some (value, x.1) =
+      g.complete at (value, x.1) (record { text = s.text; parts = s.parts; ends = s.ends; spelled = spelled }) in
+      rw (e, maps) refl
 
   abbrev pub try_map : Grammar B
   try_map = record { spells = Mapped; parse = try_map_at; sound = try_map_sound; complete = try_map_complete }
@@ -161,7 +163,8 @@ module _ {A : Type 0} (a : A) where
 
   pub nothing_sound : (at : Input) (x : A × Input) → nothing_at at ≡ Some x → Spans Nothing at x
   nothing_sound at x e =
-      subst (λ (y : A × Input). Spans Nothing at y) (some_is (a, at) x e) (record { text = []; parts = refl; ends = omega arith; spelled = (refl, refl) })
+      subst (λ (y : A × Input). Spans Nothing at y) (some_is (a, at) x e)
+      (record { text = []; parts = refl; ends = omega arith; spelled = (refl, refl) })
 
   pub nothing_complete : (at : Input) (x : A × Input) → Spans Nothing at x → nothing_at at ≡ Some x
   nothing_complete at x s =
@@ -206,19 +209,21 @@ module _ {A : Type 0} (g : Grammar A) where
   pub value_with_place_sound : (at : Input) (x : Placed A × Input) → value_with_place_at at ≡ Some x → Spans IsPlaced at x
   value_with_place_sound at x e =
       let with_place : A × Input → Placed A × Input = λ a. (record { place = at.place; value = a.0 }, a.1) in
-      let a = bind_some (g.parse at) (λ a. Some (with_place a)) x e in
-      let s = g.sound at a.0 a.1 in
-      subst (λ (y : Placed A × Input). Spans IsPlaced at y) (some_is (with_place a.0) x a.2)
+      let (read, parsed, result) = bind_some (g.parse at) (λ a. Some (with_place a)) x e in
+      let s = g.sound at read parsed in
+      subst (λ (y : Placed A × Input). Spans IsPlaced at y) (some_is (with_place read) x result)
       (record { text = s.text; parts = s.parts; ends = s.ends; spelled = (refl, s.spelled) })
 
   pub value_with_place_complete : (at : Input) (x : Placed A × Input) → Spans IsPlaced at x → value_with_place_at at ≡ Some x
   value_with_place_complete at x s =
-      let e : g.parse at ≡ Some (x.0.value, x.1) = g.complete at (x.0.value, x.1) (record { text = s.text; parts = s.parts; ends = s.ends; spelled = s.spelled.1 }) in
+      let e : g.parse at ≡ Some (x.0.value, x.1) =
+      g.complete at (x.0.value, x.1) (record { text = s.text; parts = s.parts; ends = s.ends; spelled = s.spelled.1 }) in
       let moved : ℕ → Option (Placed A × Input) = λ p. Some (record { place = p; value = x.0.value }, x.1) in
       rw e (ap moved (sym s.spelled.0))
 
   abbrev pub value_with_place : Grammar (Placed A)
-  value_with_place = record { spells = IsPlaced; parse = value_with_place_at; sound = value_with_place_sound; complete = value_with_place_complete }
+  value_with_place =
+      record { spells = IsPlaced; parse = value_with_place_at; sound = value_with_place_sound; complete = value_with_place_complete }
 
 -- ---- another relation that says the same: the standard's words in front, a reading behind
 
@@ -226,10 +231,12 @@ module _ {A : Type 0} (g : Grammar A) (S : ℕ → List ℕ → A → Type 0)
     (says : (p : ℕ) (text : List ℕ) (a : A) → g.spells p text a → S p text a)
     (said : (p : ℕ) (text : List ℕ) (a : A) → S p text a → g.spells p text a) where
   pub with_spelling_sound : (at : Input) (x : A × Input) → g.parse at ≡ Some x → Spans S at x
-  with_spelling_sound at x e = let s = g.sound at x e in record { text = s.text; parts = s.parts; ends = s.ends; spelled = says at.place s.text x.0 s.spelled }
+  with_spelling_sound at x e =
+      let s = g.sound at x e in record { text = s.text; parts = s.parts; ends = s.ends; spelled = says at.place s.text x.0 s.spelled }
 
   pub with_spelling_complete : (at : Input) (x : A × Input) → Spans S at x → g.parse at ≡ Some x
-  with_spelling_complete at x s = g.complete at x (record { text = s.text; parts = s.parts; ends = s.ends; spelled = said at.place s.text x.0 s.spelled })
+  with_spelling_complete at x s =
+      g.complete at x (record { text = s.text; parts = s.parts; ends = s.ends; spelled = said at.place s.text x.0 s.spelled })
 
   abbrev pub with_spelling : Grammar A
   with_spelling = record { spells = S; parse = g.parse; sound = with_spelling_sound; complete = with_spelling_complete }

@@ -51,4 +51,5 @@ offsets_rise (e ∷ es) = rise (map (λ h. h.value.offset) e.hints) && offsets_r
 abbrev pub module_hints : PlacedModule → Option (List OperatorHint)
 module_hints m =
     let es : List FunctionHints = hints_of m.customs in
-    if rise (map (λ e. e.function) es) && offsets_rise es then all_hints (length (imported_types func_import (without_places m.imports))) m.functions es else None
+    if rise (map (λ e. e.function) es) && offsets_rise es
+    then all_hints (length (imported_types func_import (without_places m.imports))) m.functions es else None

@@ -3,31 +3,48 @@
 use Rattle.std.specs.Prelude.{◌≡◌, ℕ, ◌+◌, ◌<◌, List, length, Option, Some, None}
 use Rattle.std.specs.List.{AllByRecursion}
 use Rattle.wasmprinter_spec.specs.Types.{FuncType, HeapType, Index, RefType, ValType, Ref, StorageType, Val, FieldType, CompositeType, FuncComposite, ArrayComposite, StructComposite, SubType, ExternKind, FuncKind, TableKind, MemoryKind, GlobalKind, TagKind, ExternType, FuncExtern, TableExtern, MemoryExtern, GlobalExtern, TagExtern, all_types, signature_at, fields_at}
+use Rattle.wasmprinter_spec.specs.Types as any_type
 use Rattle.wasmprinter_spec.specs.Operator.{BlockType, Empty, Value, OfType, Catch, One, OneRef, All, AllRef, Immediates, NoImmediates, Block, TryTable, Indices, BranchTable, Heap, Cast, MemoryLane, Lane, I32, I64, F32, F64, Bytes, Operator}
 use Rattle.wasmprinter_spec.specs.Row.{Row, Space, Types, Func, Table, Memory, Tag, Global, Elem, Data, Local, Label, Shape, NoneShape, FenceShape, BlockShape, TryTableShape, IndexShape, DefaultIndexShape, PairShape, FieldShape, CountShape, CallShape, SegmentShape, CopyShape, BranchTableShape, SelectShape, HeapShape, RefShape, CastShape, MemoryShape, MemoryLaneShape, LaneShape, I32Shape, I64Shape, F32Shape, F64Shape, VectorShape, LanesShape}
 use Rattle.wasmprinter_spec.specs.Operator as operator
 use Rattle.wasmprinter_spec.specs.Table.{by_opcode}
 use Rattle.wasmprinter_spec.specs.Placed as placed
-use Rattle.wasmprinter_spec.specs.Placed.{Export, Import, Mode, Passive, Declared, Active, Items, Functions, Expressions, Element, DataMode, PassiveData, ActiveData}
+use Rattle.wasmprinter_spec.specs.Placed.{Export, Import, ElementMode, Passive, Declared, Active, Items, Functions, Expressions, Element, DataMode, PassiveData, ActiveData}
 use Rattle.wasmprinter_spec.specs.Module.{Function, Module, imported_types, func_import, table_import, memory_import, global_import, tag_import}
 
 -- ---- types: each type index in them is below the number of types
 
 module _ (types : ℕ) where
   abbrev pub IsDeclaredHeap : HeapType → Type 0
+  IsDeclaredHeap any_type.Exn = Unit {0}
+  IsDeclaredHeap any_type.Array = Unit {0}
+  IsDeclaredHeap any_type.Struct = Unit {0}
+  IsDeclaredHeap any_type.I31 = Unit {0}
+  IsDeclaredHeap any_type.Eq = Unit {0}
+  IsDeclaredHeap any_type.Any = Unit {0}
+  IsDeclaredHeap any_type.Extern = Unit {0}
+  IsDeclaredHeap any_type.Func = Unit {0}
+  IsDeclaredHeap any_type.NoAny = Unit {0}
+  IsDeclaredHeap any_type.NoExtern = Unit {0}
+  IsDeclaredHeap any_type.NoFunc = Unit {0}
+  IsDeclaredHeap any_type.NoExn = Unit {0}
   IsDeclaredHeap (Index i) = i < types
-  IsDeclaredHeap _ = Unit {0}
 
   abbrev pub IsDeclaredRef : RefType → Type 0
   IsDeclaredRef r = IsDeclaredHeap r.heap
 
   abbrev pub IsDeclaredVal : ValType → Type 0
+  IsDeclaredVal any_type.I32 = Unit {0}
+  IsDeclaredVal any_type.I64 = Unit {0}
+  IsDeclaredVal any_type.F32 = Unit {0}
+  IsDeclaredVal any_type.F64 = Unit {0}
+  IsDeclaredVal any_type.V128 = Unit {0}
   IsDeclaredVal (Ref r) = IsDeclaredRef r
-  IsDeclaredVal _ = Unit {0}
 
   abbrev pub IsDeclaredStorage : StorageType → Type 0
+  IsDeclaredStorage any_type.I8 = Unit {0}
+  IsDeclaredStorage any_type.I16 = Unit {0}
   IsDeclaredStorage (Val t) = IsDeclaredVal t
-  IsDeclaredStorage _ = Unit {0}
 
   abbrev pub IsDeclaredField : FieldType → Type 0
   IsDeclaredField f = IsDeclaredStorage f.storage
@@ -212,7 +229,7 @@ pub record IsIndexedGlobal (m : Module) (g : placed.Global Operator) : Type 0 wh
   pub type : IsDeclaredVal (type_count m) g.type.type
   pub init : IsIndexedExpression m g.init
 
-abbrev pub IsIndexedMode : Module → Mode Operator → Type 0
+abbrev pub IsIndexedMode : Module → ElementMode Operator → Type 0
 IsIndexedMode m Passive = Unit {0}
 IsIndexedMode m Declared = Unit {0}
 IsIndexedMode m (Active t os) = IsIndex (counts_of m) Table t × IsIndexedExpression m os

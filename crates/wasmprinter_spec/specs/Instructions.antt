@@ -4,7 +4,7 @@ use Rattle.std.proofs.Common.{sym, ap, ◌∙◌, subst, arith, append-nil, inl,
 use Rattle.std.proofs.lemmas.Bool.{and_parts, eqb-true}
 use Rattle.std.proofs.lemmas.List.{length-append}
 use Rattle.wasmprinter_spec.specs.Grammar.{input, Grammar, byte, seq, try_map, map_value, succeed, fail, choose, Placed, value_with_place, with_spelling, some_is}
-use Rattle.wasmprinter_spec.specs.Repeated.{Items}
+use Rattle.wasmprinter_spec.specs.Repeated.{AreItems}
 use Rattle.wasmprinter_spec.specs.Leb.{signed, unsigned}
 use Rattle.wasmprinter_spec.specs.Name.{u32, vec}
 use Rattle.wasmprinter_spec.specs.Sized.{take_bytes}
@@ -141,16 +141,18 @@ roles ops = map role_at ops
 
 -- operators one after the other, well nested, and the byte 0B behind them
 abbrev pub IsExpression : ℕ → List ℕ → Closed (Placed Operator) → Type 0
-IsExpression p text x = (t : List ℕ) × (text ≡ t ++ end_byte ∷ []) × Items (value_with_place operator) p t x.items × Nests Sequence (roles x.items) × (x.end ≡ p + length t)
+IsExpression p text x =
+    (t : List ℕ) × (text ≡ t ++ end_byte ∷ []) × AreItems (value_with_place operator) p t x.items × Nests Sequence (roles x.items)
+    × (x.end ≡ p + length t)
 
 -- ---- reading keeps which blocks are open
 
 -- an operator takes a byte
 pub operator_takes : (p : ℕ) (text : List ℕ) (o : Placed Operator) → (value_with_place operator).spells p text o → 0 < length text
 operator_takes p text o s =
-    let parts = s.1.2 in
-    let bytes = parts.3.2 in
-    omega (arith, ap length parts.2, length-append parts.0 parts.1, ap length bytes.2, length-append bytes.0 bytes.1, ap length bytes.3)
+    let (_, (_, _, (front, back, joined, code, _))) = s in
+    let (_, _, (first, number, front_joined, one_byte, _)) = code in
+    omega (arith, ap length joined, length-append front back, ap length front_joined, length-append first number, ap length one_byte)
 
 abbrev pub advance_by : Open → Placed Operator → Move Open
 advance_by s o = advance s (role_at o)
@@ -169,9 +171,12 @@ same_move (On t) f h x y e = e t
 same_move Stop f h x y e = refl
 same_move Never f h x y e = refl
 
-stops-roles : (ops : List (Placed Operator)) (last : Placed Operator) (s : Open) → stops advance_by s ops last ≡ stops advance s (roles ops) (role_at last)
+stops-roles : (ops : List (Placed Operator)) (last : Placed Operator) (s : Open) →
+    stops advance_by s ops last ≡ stops advance s (roles ops) (role_at last)
 stops-roles [] last s = refl
-stops-roles (o ∷ ops) last s = same_move (advance_by s o) (λ t. stops advance_by t ops last) (λ t. stops advance t (roles ops) (role_at last)) false false (λ t. stops-roles ops last t)
+stops-roles (o ∷ ops) last s =
+    same_move (advance_by s o) (λ t. stops advance_by t ops last) (λ t. stops advance t (roles ops) (role_at last)) false false
+    (λ t. stops-roles ops last t)
 
 -- ---- no operator but 0B is an `end`
 
@@ -191,13 +196,15 @@ table_fits : all_fit table ≡ true
 unfolding table
 table_fits = refl
 
-found_or_later : (b : Bool) (r : Row) (x : Option Row) → role_of_row (cond b (Some r) x) ≡ Ends → ((b ≡ true) × (r.role ≡ Ends)) ⊎ (role_of_row x ≡ Ends)
+found_or_later : (b : Bool) (r : Row) (x : Option Row) → role_of_row (cond b (Some r) x) ≡ Ends →
+    ((b ≡ true) × (r.role ≡ Ends)) ⊎ (role_of_row x ≡ Ends)
 found_or_later true r x e = inl (refl, e)
 found_or_later false r x e = inr e
 
 row_numbers : (r : Row) → fits_end r ≡ true → r.role ≡ Ends → (r.prefix ≡ 0) × (r.number ≡ end_byte)
 row_numbers r f e =
-    let g : cond (is_end Ends) (eqb r.prefix 0 && eqb r.number end_byte) true ≡ true = ap (λ (x : Role). cond (is_end x) (eqb r.prefix 0 && eqb r.number end_byte) true) (sym e) ∙ f in
+    let g : cond (is_end Ends) (eqb r.prefix 0 && eqb r.number end_byte) true ≡ true =
+    ap (λ (x : Role). cond (is_end x) (eqb r.prefix 0 && eqb r.number end_byte) true) (sym e) ∙ f in
     let parts = and_parts (eqb r.prefix 0) (eqb r.number end_byte) g in
     (eqb-true r.prefix 0 parts.0, eqb-true r.number end_byte parts.1)
 
@@ -219,14 +226,16 @@ end_opcode : (o : Opcode) → role_of o ≡ Ends → o ≡ opcode 0 end_byte
 end_opcode o e = end_in o table table_fits e
 
 -- the bytes of that opcode
-code_text : (c : Bool) (b p : ℕ) (t : List ℕ) (o : Opcode) → is_prefix b ≡ c → (choose c (map_value (opcode b) u32) (succeed (opcode 0 b))).spells p t o → o ≡ opcode 0 end_byte → (t ≡ []) × (b ≡ end_byte)
+code_text : (c : Bool) (b p : ℕ) (t : List ℕ) (o : Opcode) → is_prefix b ≡ c →
+    (choose c (map_value (opcode b) u32) (succeed (opcode 0 b))).spells p t o → o ≡ opcode 0 end_byte → (t ≡ []) × (b ≡ end_byte)
 code_text true b p t o c s e =
     let same : b ≡ 0 = ap (λ (x : Opcode). x.prefix) (some_is (opcode b s.0) o s.1 ∙ e) in
     let f : is_prefix 0 ≡ true = ap is_prefix (sym same) ∙ c in
     absurd cc
 code_text false b p t o c s e = (s.0, ap (λ (x : Opcode). x.number) (sym s.1 ∙ e))
 
-no_immediates : (p : ℕ) (t : List ℕ) (i : Immediates) → (immediates_of_row (by_opcode (opcode 0 end_byte))).spells p t i → (t ≡ []) × (i ≡ NoImmediates)
+no_immediates : (p : ℕ) (t : List ℕ) (i : Immediates) → (immediates_of_row (by_opcode (opcode 0 end_byte))).spells p t i →
+    (t ≡ []) × (i ≡ NoImmediates)
 unfolding table
 no_immediates p t i s = s
 
@@ -236,18 +245,18 @@ end_operator = record { opcode = opcode 0 end_byte; immediates = NoImmediates }
 
 end_text : (p : ℕ) (text : List ℕ) (o : Operator) → operator.spells p text o → role_of o.opcode ≡ Ends → text ≡ end_byte ∷ []
 end_text p text o s e =
-    let x : Opcode × Immediates = s.0 in
-    let code : x.0 ≡ o.opcode = ap (λ (x : Operator). x.opcode) (some_is (record { opcode = x.0; immediates = x.1 }) o s.1) in
-    let is : x.0 ≡ opcode 0 end_byte = code ∙ end_opcode o.opcode e in
-    let parts = s.2 in
-    let inner = parts.3 in
-    let same : inner.0.1 ≡ x.0 = some_is inner.0.1 x.0 inner.1 in
-    let bytes = inner.2 in
-    let c = code_text (is_prefix inner.0.0) inner.0.0 _ bytes.1 inner.0.1 refl bytes.4 (same ∙ is) in
-    let behind : (immediates_of_row (by_opcode (opcode 0 end_byte))).spells (p + length parts.0) parts.1 x.1 = subst (λ (k : Opcode). (immediates_of_row (by_opcode k)).spells (p + length parts.0) parts.1 x.1) is parts.4 in
-    let n = no_immediates (p + length parts.0) parts.1 x.1 behind in
-    let front : parts.0 ≡ end_byte ∷ [] = bytes.2 ∙ ap (λ (r : List ℕ). r ++ bytes.1) bytes.3 ∙ ap (λ (r : List ℕ). (inner.0.0 ∷ []) ++ r) c.0 ∙ ap (λ (b : ℕ). b ∷ []) c.1 in
-    parts.2 ∙ ap (λ (r : List ℕ). r ++ parts.1) front ∙ ap (λ (r : List ℕ). (end_byte ∷ []) ++ r) n.0
+    let ((code, operands), made, (front, back, joined, code_spelled, operands_spelled)) = s in
+    let ((first_byte, numbered), same_code, (_, number, front_joined, one_byte, number_spelled)) = code_spelled in
+    let code_is : code ≡ o.opcode = ap (λ (x : Operator). x.opcode) (some_is (record { opcode = code; immediates = operands }) o made) in
+    let is : code ≡ opcode 0 end_byte = code_is ∙ end_opcode o.opcode e in
+    let same : numbered ≡ code = some_is numbered code same_code in
+    let c = code_text (is_prefix first_byte) first_byte _ number numbered refl number_spelled (same ∙ is) in
+    let behind : (immediates_of_row (by_opcode (opcode 0 end_byte))).spells (p + length front) back operands =
+    subst (λ (k : Opcode). (immediates_of_row (by_opcode k)).spells (p + length front) back operands) is operands_spelled in
+    let n = no_immediates (p + length front) back operands behind in
+    let first : front ≡ first_byte ∷ number = front_joined ∙ ap (λ (r : List ℕ). r ++ number) one_byte in
+    let front_is : front ≡ end_byte ∷ [] = first ∙ ap (λ (r : List ℕ). (first_byte ∷ []) ++ r) c.0 ∙ ap (λ (b : ℕ). b ∷ []) c.1 in
+    joined ∙ ap (λ (r : List ℕ). r ++ back) front_is ∙ ap (λ (r : List ℕ). (end_byte ∷ []) ++ r) n.0
 
 end_read : (p : ℕ) → operator.parse (input p (end_byte ∷ [])) ≡ Some (end_operator, input (p + 1) [])
 unfolding table
@@ -266,21 +275,22 @@ end_role = refl
 
 pub says : (p : ℕ) (text : List ℕ) (x : Closed (Placed Operator)) → closed_grammar.spells p text x → IsExpression p text x
 says p text x s =
-    let a : Ended (Placed Operator) = s.0 in
-    let st = s.2 in
-    let n = nested_to_end (roles a.items) (role_at a.last) (sym (stops-roles a.items a.last at_start) ∙ st.5) in
-    let e : st.1 ≡ end_byte ∷ [] = end_text (p + length st.0) st.1 a.last.value st.4.1 n.1 in
-    subst (λ (y : Closed (Placed Operator)). IsExpression p text y) (some_is (closed_of_ended a) x s.1)
-    (st.0, st.2 ∙ ap (λ (r : List ℕ). st.0 ++ r) e, st.3, n.0, st.4.0)
+    let (ended, is, (t, u, joined, items, (last_place, last), stop)) = s in
+    let n = nested_to_end (roles ended.items) (role_at ended.last) (sym (stops-roles ended.items ended.last at_start) ∙ stop) in
+    let e : u ≡ end_byte ∷ [] = end_text (p + length t) u ended.last.value last n.1 in
+    subst (λ (y : Closed (Placed Operator)). IsExpression p text y) (some_is (closed_of_ended ended) x is)
+    (t, joined ∙ ap (λ (r : List ℕ). t ++ r) e, items, n.0, last_place)
 
 pub said : (p : ℕ) (text : List ℕ) (x : Closed (Placed Operator)) → IsExpression p text x → closed_grammar.spells p text x
 said p text x s =
-    let last : Placed Operator = record { place = p + length s.0; value = end_operator } in
-    let stop : stops advance (at_start) (roles x.items) Ends ≡ true = stops_at_end (roles x.items) s.3 in
-    let end : stops advance at_start (roles x.items) (role_of (opcode 0 end_byte)) ≡ true = ap (stops advance at_start (roles x.items)) end_role ∙ stop in (
+    let (t, joined, items, nests, end_place) = s in
+    let last : Placed Operator = record { place = p + length t; value = end_operator } in
+    let stop : stops advance (at_start) (roles x.items) Ends ≡ true = stops_at_end (roles x.items) nests in
+    let end : stops advance at_start (roles x.items) (role_of (opcode 0 end_byte)) ≡ true =
+    ap (stops advance at_start (roles x.items)) end_role ∙ stop in (
       list_with_last x.items last,
-      ap (λ (q : ℕ). Some (record { items = x.items; end = q })) (sym s.4),
-      (s.0, end_byte ∷ [], s.1, s.2, (refl, end_spelled (p + length s.0)), stops-roles x.items last at_start ∙ end),
+      ap (λ (q : ℕ). Some (record { items = x.items; end = q })) (sym end_place),
+      (t, end_byte ∷ [], joined, items, (refl, end_spelled (p + length t)), stops-roles x.items last at_start ∙ end),
     )
 
 -- operators, each with its place, and the byte 0B of the last `end`, whose place is kept

@@ -1,7 +1,7 @@
 -- The identifiers of labels: from the names that a name section gives them, or invented from how many blocks stand around them. The
 -- standard leaves identifiers open (section 6.3, "Identifiers"): these are this printer's own.
 use Rattle.std.specs.Prelude.{ℕ, List, [], ◌∷◌, ◌++◌, Bool, true, false, not, cond, ◌==◌, codes, decimal, Option, Some, None}
-use Rattle.wasmprinter_spec.specs.Labels.{Label, Naming}
+use Rattle.wasmprinter_spec.specs.Labels.{Label, LabelNaming}
 
 -- not empty, and with no sign # in front
 abbrev pub is_clean : List ℕ → Bool
@@ -18,9 +18,9 @@ label_named true n d None = Some (record { given = None; content = codes "#label
 label_named false n d None = None
 
 -- by the names that labels have, with identifiers for all others or without
-abbrev pub label_naming : Bool → (ℕ → Option (List ℕ)) → Naming
+abbrev pub label_naming : Bool → (ℕ → Option (List ℕ)) → LabelNaming
 label_naming invents names n d = label_named invents n d (names n)
 
 -- no label has an identifier
-abbrev pub no_label_names : Naming
+abbrev pub no_label_names : LabelNaming
 no_label_names i d = None

@@ -12,8 +12,8 @@ abbrev pub Label : Type 0
 Label = Option Named
 
 -- the identifier of the block that is opened as number so and so, by so many blocks around it
-abbrev pub Naming : Type 0
-Naming = ℕ → ℕ → Label
+abbrev pub LabelNaming : Type 0
+LabelNaming = ℕ → ℕ → Label
 
 abbrev pub same_name : Option (List ℕ) → Option (List ℕ) → Bool
 same_name (Some s) (Some t) = bytes_eq s t
@@ -29,8 +29,10 @@ is_hidden n [] = false
 is_hidden n (x ∷ xs) = hides n x || is_hidden n xs
 
 -- Blocks of one content, one of which may stand in the other, were given one name.
-abbrev pub AreApart : Naming → Type 0
-AreApart naming = (i j d e : ℕ) (outer inner : Named) → d < e → e < 2 ^ 64 → naming i d ≡ Some outer → naming j e ≡ Some inner → inner.content ≡ outer.content → same_name inner.given outer.given ≡ true
+abbrev pub AreLabelsApart : LabelNaming → Type 0
+AreLabelsApart naming =
+    (i j d e : ℕ) (outer inner : Named) → d < e → e < 2 ^ 64 → naming i d ≡ Some outer → naming j e ≡ Some inner →
+    inner.content ≡ outer.content → same_name inner.given outer.given ≡ true
 
 -- what a label means: the label of a block around it, with the labels further in, or the body's own, or nothing
 pub data Target : Type 0 where

@@ -63,7 +63,8 @@ TakesNested = (os : List Operator) → (if_nested os ≡ Some os) ↔ Nests Sequ
 abbrev pub ReadsBack : Type 0
 ReadsBack =
     (bytes : List ℕ) (m : PlacedModule) (o : Options) (answers : Answers) →
-    Spells bytes m → IsIndexed (module_of m) → AllByRecursion (λ t. HasNoEmptyInit t.value.init) m.tables → o.skeleton ≡ false → o.paints ≡ false → IsBlank o.indent → AreUnclaimed answers →
+    Spells bytes m → IsIndexed (module_of m) → AllByRecursion (λ t. HasNoEmptyInit t.value.init) m.tables → o.skeleton ≡ false →
+    o.paints ≡ false → IsBlank o.indent → AreUnclaimed answers →
     IsFoldable o m → refusal o answers m ≡ None →
     read (text_of (layout o answers m)) ≡ Some (module_of m)
 
@@ -71,7 +72,8 @@ ReadsBack =
 abbrev pub TokensStay : Type 0
 TokensStay =
     (bytes : List ℕ) (m : PlacedModule) (o p : Options) (answers : Answers) →
-    Spells bytes m → o.skeleton ≡ p.skeleton → o.invents ≡ p.invents → o.folds ≡ p.folds → o.paints ≡ false → p.paints ≡ false → IsBlank o.indent → IsBlank p.indent →
+    Spells bytes m → o.skeleton ≡ p.skeleton → o.invents ≡ p.invents → o.folds ≡ p.folds → o.paints ≡ false → p.paints ≡ false →
+    IsBlank o.indent → IsBlank p.indent →
     tokens (text_of (layout o answers m)) ≡ tokens (text_of (layout p answers m))
 
 -- Printed text is plain, but for sequences of colours in it.
@@ -117,5 +119,6 @@ PlainTextsJoin = (a b : List ℕ) → IsPlainText a → IsPlainText b → IsPlai
 abbrev pub HintsStay : Type 0
 HintsStay =
     (bytes : List ℕ) (m : PlacedModule) (o : Options) (answers : Answers) (hs : List OperatorHint) →
-    Spells bytes m → o.skeleton ≡ false → o.paints ≡ false → IsBlank o.indent → IsFoldable o m → refusal o answers m ≡ None → module_hints m ≡ Some hs →
+    Spells bytes m → o.skeleton ≡ false → o.paints ≡ false → IsBlank o.indent → IsFoldable o m → refusal o answers m ≡ None →
+    module_hints m ≡ Some hs →
     text_hints (text_of (layout o answers m)) ≡ Some hs

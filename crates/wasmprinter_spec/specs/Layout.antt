@@ -1,28 +1,28 @@
 -- The layout of a module: the pieces that are printed, in order. Sections 6.4 to 6.6 of the standard say how the text of each construct
 -- is composed; where lines break and where places stand is this printer's own.
-use Rattle.std.specs.Prelude.{ℕ, ◌+◌, List, [], ◌∷◌, ◌++◌, codes, length, Option, Some, None}
-use Rattle.wasmprinter_spec.specs.Grammar.{Placed}
-use Rattle.wasmprinter_spec.specs.Types.{all_types}
-use Rattle.wasmprinter_spec.specs.Row.{Func, Tag}
-use Rattle.wasmprinter_spec.specs.Kinds.{Kind, TypeSection, ImportSection, FunctionSection, TableSection, MemorySection, TagSection, GlobalSection, ExportSection, StartSection, ElementSection, CodeSection, DataSection}
+use Rattle.std.specs.Prelude.{ℕ, ◌+◌, List, [], ◌∷◌, ◌++◌, codes, flat_map, length, Option, Some, None}
+use Rattle.wasmprinter_spec.specs.Types.{ExternType, all_types}
+use Rattle.wasmprinter_spec.specs.Kinds.{Kind, CustomSection, TypeSection, ImportSection, FunctionSection, TableSection, MemorySection, TagSection, GlobalSection, ExportSection, StartSection, ElementSection, DataCountSection, CodeSection, DataSection}
 use Rattle.wasmprinter_spec.specs.Customs.Hints.{hints_of}
 use Rattle.wasmprinter_spec.specs.Names.{Names}
 use Rattle.wasmprinter_spec.specs.ModuleNames.{module_names}
-use Rattle.wasmprinter_spec.specs.Placed.{Import, PlacedModule}
+use Rattle.wasmprinter_spec.specs.Placed.{PlacedModule}
 use Rattle.wasmprinter_spec.specs.Module.{groups_of, imported_types, func_import, table_import, memory_import, global_import, tag_import, without_places}
 use Rattle.wasmprinter_spec.specs.Call.{Call}
 use Rattle.wasmprinter_spec.specs.Options.{Options, Answers}
-use Rattle.wasmprinter_spec.specs.Piece.{Piece, Begin, Feed, Break, Open, all_calls}
-use Rattle.wasmprinter_spec.specs.Layout.Groups.{group_at, line_group_gap, numbered_pieces}
+use Rattle.wasmprinter_spec.specs.Piece.{Piece, Begin, Feed, Open, all_calls}
+use Rattle.wasmprinter_spec.specs.Layout.Groups.{group_at, numbered_pieces}
 use Rattle.wasmprinter_spec.specs.Layout.Identifiers.{leading_mark_pieces}
-use Rattle.wasmprinter_spec.specs.Layout.Declarations.{Scope, scope_of, folding_of, item_index}
+use Rattle.wasmprinter_spec.specs.Layout.Declarations.{Scope, scope_of, scope_of_function, folding_of}
 use Rattle.wasmprinter_spec.specs.Layout.Types.{type_section_pieces}
-use Rattle.wasmprinter_spec.specs.Layout.Functions.{header_pieces, functions_pieces}
+use Rattle.wasmprinter_spec.specs.Layout.Functions.{functions_pieces}
 use Rattle.wasmprinter_spec.specs.Layout.Imports.{no_numbers, imports_pieces}
 use Rattle.wasmprinter_spec.specs.Layout.Tables.{table_pieces}
 use Rattle.wasmprinter_spec.specs.Layout.Memories.{memory_pieces}
+use Rattle.wasmprinter_spec.specs.Layout.Tags.{tag_pieces}
 use Rattle.wasmprinter_spec.specs.Layout.Globals.{global_pieces}
 use Rattle.wasmprinter_spec.specs.Layout.Exports.{export_pieces}
+use Rattle.wasmprinter_spec.specs.Layout.Start.{start_pieces}
 use Rattle.wasmprinter_spec.specs.Layout.Elements.{element_pieces}
 use Rattle.wasmprinter_spec.specs.Layout.DataSegments.{data_pieces}
 use Rattle.wasmprinter_spec.specs.Layout.Customs.{Part, Shown, parts_at, Laid, laid_parts}
@@ -39,50 +39,68 @@ pub mod Functions
 pub mod Limits
 pub mod Tables
 pub mod Memories
+pub mod Tags
 pub mod Globals
 pub mod Imports
 pub mod Exports
+pub mod Start
 pub mod Elements
 pub mod DataSegments
 pub mod Customs
 
--- ---- fields of the module, each on a line
+-- ---- the fields of a section
 
--- a tag has a type as a function has, but no names for its parameters
-unfoldable pub tag_pieces : Scope → ℕ → Placed ℕ → List Piece
-tag_pieces s i tag = Break (Some tag.place) 1 ∷ line_group_gap (codes "tag") (header_pieces s Tag None i tag.value)
-
-unfoldable pub start_pieces : Scope → Option (Placed ℕ) → List Piece
-start_pieces s None = []
-start_pieces s (Some start) = Break (Some start.place) 1 ∷ line_group_gap (codes "start") (item_index s Func start.value)
+-- how many items of a kind are imported, where this takes the type of such an import
+abbrev count_of_imported : {A : Type 0} → (ExternType → Option A) → PlacedModule → ℕ
+count_of_imported of_kind m = length (imported_types of_kind (without_places m.imports))
 
 -- Expressions in front of the functions mean the labels and locals of the first function that is defined, those behind them of the one that
 -- would be next. (In a valid module no such expression has any.)
 abbrev pub early_scope : Options → Names → PlacedModule → Scope
-early_scope o names m = scope_of (all_types (groups_of m.types)) names (length (imported_types func_import (without_places m.imports))) (folding_of o m)
+early_scope o names m = scope_of (all_types (groups_of m.types)) names (count_of_imported func_import m) (folding_of o m)
+
+-- the scope behind the functions, from any scope of the module
+abbrev pub scope_behind : PlacedModule → Scope → Scope
+scope_behind m s = scope_of_function s (count_of_imported func_import m + length m.functions)
 
 abbrev pub late_scope : Options → Names → PlacedModule → Scope
-late_scope o names m = record (early_scope o names m) { function = length (imported_types func_import (without_places m.imports)) + length m.functions }
+late_scope o names m = scope_behind m (early_scope o names m)
+
+-- What is printed of the section of a kind, where `s` is the scope in front of the functions: the functions at the place of their code.
+abbrev pub section_pieces : Options → Scope → PlacedModule → Kind → List Piece
+section_pieces o s m TypeSection = type_section_pieces s.names 0 m.types
+section_pieces o s m ImportSection = imports_pieces s no_numbers m.imports
+section_pieces o s m FunctionSection = []
+section_pieces o s m TableSection = numbered_pieces (table_pieces s) (count_of_imported table_import m) m.tables
+section_pieces o s m MemorySection = numbered_pieces (memory_pieces s) (count_of_imported memory_import m) m.memories
+section_pieces o s m TagSection = numbered_pieces (tag_pieces s) (count_of_imported tag_import m) m.tags
+section_pieces o s m GlobalSection = numbered_pieces (global_pieces s) (count_of_imported global_import m) m.globals
+section_pieces o s m ExportSection = numbered_pieces (λ i e. export_pieces s e) 0 m.exports
+section_pieces o s m StartSection = start_pieces s m.start
+section_pieces o s m ElementSection = numbered_pieces (element_pieces o.skeleton s) 0 m.elements
+section_pieces o s m DataCountSection = []
+section_pieces o s m CodeSection = functions_pieces o s (hints_of m.customs) (count_of_imported func_import m) m.functions
+section_pieces o s m DataSection = numbered_pieces (data_pieces o.skeleton (scope_behind m s)) 0 m.datas
+section_pieces o s m CustomSection = []
+
+-- ---- the parts of a module
+
+-- the kinds of sections behind which custom sections can stand, in the order of the sections
+abbrev pub section_order : List Kind
+section_order =
+    TypeSection ∷ ImportSection ∷ FunctionSection ∷ TableSection ∷ MemorySection ∷ TagSection ∷ GlobalSection ∷ ExportSection
+    ∷ StartSection ∷ ElementSection ∷ CodeSection ∷ DataSection ∷ []
+
+-- the fields of the section of a kind, and the custom sections behind it
+abbrev pub section_parts : Options → Scope → PlacedModule → Answers → Kind → List Part
+section_parts o s m answers kind = Shown (section_pieces o s m kind) ∷ parts_at o.skeleton answers (Some kind) 0 m.customs
 
 -- the fields in the order of their sections, and the custom sections at their places among them
-abbrev pub module_parts : Options → Answers → Names → PlacedModule → List Part
+unfoldable pub module_parts : Options → Answers → Names → PlacedModule → List Part
 module_parts o answers names m =
-    let is : List Import = without_places m.imports in
-    let s : Scope = early_scope o names m in
-    let customs : Option Kind → List Part = λ place. parts_at o.skeleton answers place 0 m.customs in
-    customs None
-    ++ (Shown (type_section_pieces names 0 m.types) ∷ customs (Some TypeSection))
-    ++ (Shown (imports_pieces s no_numbers m.imports) ∷ customs (Some ImportSection))
-    ++ customs (Some FunctionSection)
-    ++ (Shown (numbered_pieces (table_pieces s) (length (imported_types table_import is)) m.tables) ∷ customs (Some TableSection))
-    ++ (Shown (numbered_pieces (memory_pieces s) (length (imported_types memory_import is)) m.memories) ∷ customs (Some MemorySection))
-    ++ (Shown (numbered_pieces (tag_pieces s) (length (imported_types tag_import is)) m.tags) ∷ customs (Some TagSection))
-    ++ (Shown (numbered_pieces (global_pieces s) (length (imported_types global_import is)) m.globals) ∷ customs (Some GlobalSection))
-    ++ (Shown (numbered_pieces (λ i e. export_pieces s e) 0 m.exports) ∷ customs (Some ExportSection))
-    ++ (Shown (start_pieces s m.start) ∷ customs (Some StartSection))
-    ++ (Shown (numbered_pieces (element_pieces o.skeleton s) 0 m.elements) ∷ customs (Some ElementSection))
-    ++ (Shown (functions_pieces o s (hints_of m.customs) (length (imported_types func_import is)) m.functions) ∷ customs (Some CodeSection))
-    ++ (Shown (numbered_pieces (data_pieces o.skeleton (late_scope o names m)) 0 m.datas) ∷ customs (Some DataSection))
+    parts_at o.skeleton answers None 0 m.customs ++ flat_map (section_parts o (early_scope o names m) m answers) section_order
+
+-- ---- the module
 
 -- whole, or up to the refusal of a custom section
 abbrev pub module_pieces_of : Options → Names → ℕ → List Piece → Option ℕ → List Piece

@@ -27,7 +27,8 @@ module _ (bits : ℕ) where
   abbrev pub unsigned_at : Input → Option (ℕ × Input)
   unsigned_at at = unsigned_of bits at.place at.bytes
 
-unsigned_sound_of : (bits p : ℕ) (bytes : List ℕ) (x : ℕ × Input) → unsigned_of bits p bytes ≡ Some x → Spans (Unsigned bits) (input p bytes) x
+unsigned_sound_of : (bits p : ℕ) (bytes : List ℕ) (x : ℕ × Input) → unsigned_of bits p bytes ≡ Some x →
+    Spans (Unsigned bits) (input p bytes) x
 unsigned_sound_of bits p [] x e = absurd cc
 unsigned_sound_of bits p (b ∷ rest) x e =
     let more : Option (ℕ × Input) = unsigned_of (bits - 7) (p + 1) rest >>= λ h. Some (b - 128 + 128 * h.0, h.1) in
@@ -38,26 +39,28 @@ unsigned_sound_of bits p (b ∷ rest) x e =
           (record { text = b ∷ []; parts = refl; ends = refl; spelled = inl (ltb-true _ _ last.0, ltb-true _ _ t.0, refl, refl) })
       | inr other ↦
           let t = tested (ltb 7 bits) more x other.1 in
-          let h = bind_some (unsigned_of (bits - 7) (p + 1) rest) (λ h. Some (b - 128 + 128 * h.0, h.1)) x t.1 in
-          let s = unsigned_sound_of (bits - 7) (p + 1) rest h.0 h.1 in
-          subst (λ (y : ℕ × Input). Spans (Unsigned bits) (input p (b ∷ rest)) y) (some_is (b - 128 + 128 * h.0.0, h.0.1) x h.2)
+          let ((high, after), parsed, result) =
+          bind_some (unsigned_of (bits - 7) (p + 1) rest) (λ h. Some (b - 128 + 128 * h.0, h.1)) x t.1 in
+          let s = unsigned_sound_of (bits - 7) (p + 1) rest (high, after) parsed in
+          subst (λ (y : ℕ × Input). Spans (Unsigned bits) (input p (b ∷ rest)) y) (some_is (b - 128 + 128 * high, after) x result)
           (record {
             text = b ∷ s.text;
             parts = ap (λ (r : List ℕ). b ∷ r) s.parts;
             ends = omega (arith, s.ends);
-            spelled = inr (ltb-false _ _ other.0, ltb-true _ _ t.0, h.0.0, refl, s.spelled);
+            spelled = inr (ltb-false _ _ other.0, ltb-true _ _ t.0, high, refl, s.spelled);
           })
     ]
 
-unsigned_complete_of : (text : List ℕ) (bits p n : ℕ) (rest : List ℕ) → IsUnsigned bits text n → unsigned_of bits p (text ++ rest) ≡ Some (n, input (p + length text) rest)
+unsigned_complete_of : (text : List ℕ) (bits p n : ℕ) (rest : List ℕ) → IsUnsigned bits text n →
+    unsigned_of bits p (text ++ rest) ≡ Some (n, input (p + length text) rest)
 unsigned_complete_of [] bits p n rest s = absurd s
 unsigned_complete_of (b ∷ bs) bits p n rest s =
     elim s [
-      | inl last ↦
-          rw (lt-ltb b 128 last.0, lt-ltb b (2 ^ bits) last.1, last.2, last.3) refl
-      | inr other ↦
-          rw (le-ltb b 128 other.0, lt-ltb 7 bits other.1, unsigned_complete_of bs (bits - 7) (p + 1) other.2 rest other.4, other.3)
-          (ap (λ (q : ℕ). Some (b - 128 + 128 * other.2, input q rest)) (omega arith))
+      | inl (below, fits, last, is) ↦
+          rw (lt-ltb b 128 below, lt-ltb b (2 ^ bits) fits, last, is) refl
+      | inr (above, room, high, is, spelled) ↦
+          rw (le-ltb b 128 above, lt-ltb 7 bits room, unsigned_complete_of bs (bits - 7) (p + 1) high rest spelled, is)
+          (ap (λ (q : ℕ). Some (b - 128 + 128 * high, input q rest)) (omega arith))
     ]
 
 pub unsigned_sound : (bits : ℕ) (at : Input) (x : ℕ × Input) → unsigned_at bits at ≡ Some x → Spans (Unsigned bits) at x
@@ -65,7 +68,8 @@ unsigned_sound bits at x e = unsigned_sound_of bits at.place at.bytes x e
 
 pub unsigned_complete : (bits : ℕ) (at : Input) (x : ℕ × Input) → Spans (Unsigned bits) at x → unsigned_at bits at ≡ Some x
 unsigned_complete bits at x s =
-    rw s.parts (unsigned_complete_of s.text bits at.place x.0 x.1.bytes s.spelled ∙ ap (λ (q : ℕ). Some (x.0, input q x.1.bytes)) (sym s.ends))
+    rw s.parts
+    (unsigned_complete_of s.text bits at.place x.0 x.1.bytes s.spelled ∙ ap (λ (q : ℕ). Some (x.0, input q x.1.bytes)) (sym s.ends))
 
 abbrev pub unsigned : ℕ → Grammar ℕ
 unsigned bits = record { spells = Unsigned bits; parse = unsigned_at bits; sound = unsigned_sound bits; complete = unsigned_complete bits }
@@ -98,43 +102,54 @@ signed_sound_of : (bits p : ℕ) (bytes : List ℕ) (x : ℤ × Input) → signe
 signed_sound_of bits p [] x e = absurd cc
 signed_sound_of bits p (b ∷ rest) x e =
     let more : Option (ℤ × Input) = signed_of (bits - 7) (p + 1) rest >>= λ h. Some (pos (b - 128) +ℤ pos 128 *ℤ h.0, h.1) in
-    let low : Option (ℤ × Input) = Some (pos b, input (p + 1) rest) in
-    let high : Option (ℤ × Input) = Some (negsuc (127 - b), input (p + 1) rest) in
+    let positive : Option (ℤ × Input) = Some (pos b, input (p + 1) rest) in
+    let negative : Option (ℤ × Input) = Some (negsuc (127 - b), input (p + 1) rest) in
     let P : ℤ × Input → Type 0 = λ y. Spans (Signed bits) (input p (b ∷ rest)) y in
-    elim (chosen (ltb b 64) (cond (ltb b (2 ^ (bits - 1))) low None) (cond (ltb b 128) (cond (ltb (127 - b) (2 ^ (bits - 1))) high None) (cond (ltb 7 bits) more None)) (Some x) e) [
+    let from_64 : Option (ℤ × Input) =
+    cond (ltb b 128) (cond (ltb (127 - b) (2 ^ (bits - 1))) negative None) (cond (ltb 7 bits) more None) in
+    elim (chosen (ltb b 64) (cond (ltb b (2 ^ (bits - 1))) positive None) from_64 (Some x) e) [
       | inl last ↦
-          let t = tested (ltb b (2 ^ (bits - 1))) low x last.1 in
+          let t = tested (ltb b (2 ^ (bits - 1))) positive x last.1 in
           subst P (some_is (pos b, input (p + 1) rest) x t.1)
           (record { text = b ∷ []; parts = refl; ends = refl; spelled = inl (ltb-true _ _ last.0, ltb-true _ _ t.0, refl, refl) })
       | inr other ↦
-          elim (chosen (ltb b 128) (cond (ltb (127 - b) (2 ^ (bits - 1))) high None) (cond (ltb 7 bits) more None) (Some x) other.1) [
+          elim (chosen (ltb b 128) (cond (ltb (127 - b) (2 ^ (bits - 1))) negative None) (cond (ltb 7 bits) more None) (Some x) other.1) [
             | inl last ↦
-                let t = tested (ltb (127 - b) (2 ^ (bits - 1))) high x last.1 in
+                let t = tested (ltb (127 - b) (2 ^ (bits - 1))) negative x last.1 in
                 subst P (some_is (negsuc (127 - b), input (p + 1) rest) x t.1)
-                (record { text = b ∷ []; parts = refl; ends = refl; spelled = inr (inl (ltb-false _ _ other.0, ltb-true _ _ last.0, ltb-true _ _ t.0, refl, refl)) })
+                (record {
+                  text = b ∷ [];
+                  parts = refl;
+                  ends = refl;
+                  spelled = inr (inl (ltb-false _ _ other.0, ltb-true _ _ last.0, ltb-true _ _ t.0, refl, refl));
+                })
             | inr on ↦
                 let t = tested (ltb 7 bits) more x on.1 in
-                let h = bind_some (signed_of (bits - 7) (p + 1) rest) (λ h. Some (pos (b - 128) +ℤ pos 128 *ℤ h.0, h.1)) x t.1 in
-                let s = signed_sound_of (bits - 7) (p + 1) rest h.0 h.1 in
-                subst P (some_is (pos (b - 128) +ℤ pos 128 *ℤ h.0.0, h.0.1) x h.2)
+                let ((high, after), parsed, result) =
+                bind_some (signed_of (bits - 7) (p + 1) rest) (λ h. Some (pos (b - 128) +ℤ pos 128 *ℤ h.0, h.1)) x t.1 in
+                let s = signed_sound_of (bits - 7) (p + 1) rest (high, after) parsed in
+                subst P (some_is (pos (b - 128) +ℤ pos 128 *ℤ high, after) x result)
                 (record {
                   text = b ∷ s.text;
                   parts = ap (λ (r : List ℕ). b ∷ r) s.parts;
                   ends = omega (arith, s.ends);
-                  spelled = inr (inr (ltb-false _ _ on.0, ltb-true _ _ t.0, h.0.0, refl, s.spelled));
+                  spelled = inr (inr (ltb-false _ _ on.0, ltb-true _ _ t.0, high, refl, s.spelled));
                 })
           ]
     ]
 
-signed_complete_of : (text : List ℕ) (bits p : ℕ) (n : ℤ) (rest : List ℕ) → IsSigned bits text n → signed_of bits p (text ++ rest) ≡ Some (n, input (p + length text) rest)
+signed_complete_of : (text : List ℕ) (bits p : ℕ) (n : ℤ) (rest : List ℕ) → IsSigned bits text n →
+    signed_of bits p (text ++ rest) ≡ Some (n, input (p + length text) rest)
 signed_complete_of [] bits p n rest s = absurd s
 signed_complete_of (b ∷ bs) bits p n rest s =
     elim s [
-      | inl last ↦ rw (lt-ltb b 64 last.0, lt-ltb b (2 ^ (bits - 1)) last.1, last.2, last.3) refl
-      | inr (inl last) ↦ rw (le-ltb b 64 last.0, lt-ltb b 128 last.1, lt-ltb (127 - b) (2 ^ (bits - 1)) last.2, last.3, last.4) refl
-      | inr (inr other) ↦
-          rw (le-ltb b 64 (omega (arith, other.0)), le-ltb b 128 other.0, lt-ltb 7 bits other.1, signed_complete_of bs (bits - 7) (p + 1) other.2 rest other.4, other.3)
-          (ap (λ (q : ℕ). Some (pos (b - 128) +ℤ pos 128 *ℤ other.2, input q rest)) (omega arith))
+      | inl (below, fits, last, is) ↦ rw (lt-ltb b 64 below, lt-ltb b (2 ^ (bits - 1)) fits, last, is) refl
+      | inr (inl (from, below, fits, last, is)) ↦
+          rw (le-ltb b 64 from, lt-ltb b 128 below, lt-ltb (127 - b) (2 ^ (bits - 1)) fits, last, is) refl
+      | inr (inr (above, room, high, is, spelled)) ↦
+          let others = signed_complete_of bs (bits - 7) (p + 1) high rest spelled in
+          rw (le-ltb b 64 (omega (arith, above)), le-ltb b 128 above, lt-ltb 7 bits room, others, is)
+          (ap (λ (q : ℕ). Some (pos (b - 128) +ℤ pos 128 *ℤ high, input q rest)) (omega arith))
     ]
 
 pub signed_sound : (bits : ℕ) (at : Input) (x : ℤ × Input) → signed_at bits at ≡ Some x → Spans (Signed bits) at x
@@ -142,7 +157,8 @@ signed_sound bits at x e = signed_sound_of bits at.place at.bytes x e
 
 pub signed_complete : (bits : ℕ) (at : Input) (x : ℤ × Input) → Spans (Signed bits) at x → signed_at bits at ≡ Some x
 signed_complete bits at x s =
-    rw s.parts (signed_complete_of s.text bits at.place x.0 x.1.bytes s.spelled ∙ ap (λ (q : ℕ). Some (x.0, input q x.1.bytes)) (sym s.ends))
+    rw s.parts
+    (signed_complete_of s.text bits at.place x.0 x.1.bytes s.spelled ∙ ap (λ (q : ℕ). Some (x.0, input q x.1.bytes)) (sym s.ends))
 
 abbrev pub signed : ℕ → Grammar ℤ
 signed bits = record { spells = Signed bits; parse = signed_at bits; sound = signed_sound bits; complete = signed_complete bits }

@@ -33,7 +33,8 @@ module _ {E : Type 0} (entries : List E) where
   abbrev pub Gives : Input → List E → Option Input → Type 0
   Gives at xs end = (xs ≡ entries) × (end ≡ Some at)
 
-  pub give_complete : (at : Input) (xs : List E) (end : Option Input) → Gives at xs end → ◌≡◌ {A = List E × Option Input} (entries, Some at) (xs, end)
+  pub give_complete : (at : Input) (xs : List E) (end : Option Input) → Gives at xs end →
+      ◌≡◌ {A = List E × Option Input} (entries, Some at) (xs, end)
   give_complete at xs end s = rw (s.0, s.1) refl
 
   abbrev pub give : Lenient E
@@ -62,8 +63,9 @@ module _ {A E : Type 0} (g : Grammar A) (h : A → Lenient E) where
   follow_sound at = follow_sound_of at (g.parse at) refl
 
   pub follow_complete : (at : Input) (xs : List E) (end : Option Input) → Follows at xs end → follow_at at ≡ (xs, end)
-  follow_complete at xs end (inl s) = rw (g.complete at s.0 s.1) ((h s.0.0).complete s.0.1 xs end s.2)
-  follow_complete at xs end (inr s) = rw (none_of g at (g.parse at) refl s.0, s.1, s.2) refl
+  follow_complete at xs end (inl ((value, mid), spelled, given)) =
+      rw (g.complete at (value, mid) spelled) ((h value).complete mid xs end given)
+  follow_complete at xs end (inr (lacking, no_entry, ended)) = rw (none_of g at (g.parse at) refl lacking, no_entry, ended) refl
 
   abbrev pub follow : Lenient E
   follow = record { gives = Follows; read = follow_at; sound = follow_sound; complete = follow_complete }
@@ -97,7 +99,8 @@ module _ {E : Type 0} (l : Lenient E) where
   repeat_at zero at = ([], Some at)
   repeat_at (suc n) at = continue_with (l.read at) (λ mid. repeat_at n mid)
 
-  repeat_sound_of : (n : ℕ) → ((mid : Input) → Repeats n mid (repeat_at n mid).0 (repeat_at n mid).1) → (at : Input) (ys : List E) (end : Option Input) → l.gives at ys end
+  repeat_sound_of : (n : ℕ) → ((mid : Input) → Repeats n mid (repeat_at n mid).0 (repeat_at n mid).1) →
+      (at : Input) (ys : List E) (end : Option Input) → l.gives at ys end
       → Repeats (suc n) at (continue_with (ys, end) (λ mid. repeat_at n mid)).0 (continue_with (ys, end) (λ mid. repeat_at n mid)).1
   repeat_sound_of n h at ys None s = inr (s, refl)
   repeat_sound_of n h at ys (Some mid) s = inl (ys, (repeat_at n mid).0, mid, s, h mid, refl)
@@ -108,10 +111,10 @@ module _ {E : Type 0} (l : Lenient E) where
 
   pub repeat_complete : (n : ℕ) (at : Input) (xs : List E) (end : Option Input) → Repeats n at xs end → repeat_at n at ≡ (xs, end)
   repeat_complete zero at xs end s = rw (s.0, s.1) refl
-  repeat_complete (suc n) at xs end (inl s) =
-      let e = l.complete at s.0 (Some s.2) s.3 in
-      let f = repeat_complete n s.2 s.1 end s.4 in
-      rw (e, f, s.5) refl
+  repeat_complete (suc n) at xs end (inl (ys, zs, mid, given, repeated, joined)) =
+      let e = l.complete at ys (Some mid) given in
+      let f = repeat_complete n mid zs end repeated in
+      rw (e, f, joined) refl
   repeat_complete (suc n) at xs end (inr s) = rw (l.complete at xs None s.0, s.1) refl
 
   abbrev pub repeat : ℕ → Lenient E
@@ -126,7 +129,8 @@ module _ {E : Type 0} (l : Lenient E) where
   abbrev pub unless_ended_at : Input → List E × Option Input
   unless_ended_at at = if length at.bytes == 0 then ([], Some at) else l.read at
 
-  ends_by : (at : Input) (b : Bool) → (length at.bytes == 0) ≡ b → EndsOr at (if b then ([], Some at) else l.read at).0 (if b then ([], Some at) else l.read at).1
+  ends_by : (at : Input) (b : Bool) → (length at.bytes == 0) ≡ b →
+      EndsOr at (if b then ([], Some at) else l.read at).0 (if b then ([], Some at) else l.read at).1
   ends_by at true e = inl (nil_from_length at.bytes (eqb-true (length at.bytes) 0 e), refl, refl)
   ends_by at false e = inr (λ n. eqb-false (length at.bytes) 0 e (ap length n), l.sound at)
 
@@ -134,7 +138,7 @@ module _ {E : Type 0} (l : Lenient E) where
   ends_sound at = ends_by at (length at.bytes == 0) refl
 
   pub ends_complete : (at : Input) (xs : List E) (end : Option Input) → EndsOr at xs end → unless_ended_at at ≡ (xs, end)
-  ends_complete at xs end (inl s) = rw (eq-eqb (length at.bytes) 0 (ap length s.0), s.1, s.2) refl
+  ends_complete at xs end (inl (none_left, no_entry, ended)) = rw (eq-eqb (length at.bytes) 0 (ap length none_left), no_entry, ended) refl
   ends_complete at xs end (inr s) = rw (ne_eqb (length at.bytes) 0 (λ z. s.0 (nil_from_length at.bytes z))) (l.complete at xs end s.1)
 
   abbrev pub unless_ended : Lenient E
@@ -150,7 +154,8 @@ behind_part (Some _) after = Some after
 module _ {E : Type 0} (l : Lenient E) (n : ℕ) where
   abbrev pub StandsWithin : Input → List E → Option Input → Type 0
   StandsWithin at xs end =
-      ((x : List ℕ × Input) × Spans (take_bytes n).spells at x × (inner : Option Input) × l.gives (input at.place x.0) xs inner × (end ≡ behind_part inner x.1))
+      ((x : List ℕ × Input) × Spans (take_bytes n).spells at x × (inner : Option Input) × l.gives (input at.place x.0) xs inner
+      × (end ≡ behind_part inner x.1))
       ⊎ (Lacks (take_bytes n) at × (xs ≡ []) × (end ≡ None))
 
   abbrev pub read_inside : Input → Option (List ℕ × Input) → List E × Option Input
@@ -160,7 +165,8 @@ module _ {E : Type 0} (l : Lenient E) (n : ℕ) where
   abbrev pub within_at : Input → List E × Option Input
   within_at at = read_inside at ((take_bytes n).parse at)
 
-  within_sound_of : (at : Input) (r : Option (List ℕ × Input)) → (take_bytes n).parse at ≡ r → StandsWithin at (read_inside at r).0 (read_inside at r).1
+  within_sound_of : (at : Input) (r : Option (List ℕ × Input)) → (take_bytes n).parse at ≡ r →
+      StandsWithin at (read_inside at r).0 (read_inside at r).1
   within_sound_of at None e = inr (lacks (take_bytes n) at e, refl, refl)
   within_sound_of at (Some x) e = inl (x, (take_bytes n).sound at x e, (l.read (input at.place x.0)).1, l.sound (input at.place x.0), refl)
 
@@ -168,11 +174,12 @@ module _ {E : Type 0} (l : Lenient E) (n : ℕ) where
   within_sound at = within_sound_of at ((take_bytes n).parse at) refl
 
   pub within_complete : (at : Input) (xs : List E) (end : Option Input) → StandsWithin at xs end → within_at at ≡ (xs, end)
-  within_complete at xs end (inl s) =
-      let p = (take_bytes n).complete at s.0 s.1 in
-      let e = l.complete (input at.place s.0.0) xs s.2 s.3 in
-      rw (p, e, s.4) refl
-  within_complete at xs end (inr s) = rw (none_of (take_bytes n) at ((take_bytes n).parse at) refl s.0, s.1, s.2) refl
+  within_complete at xs end (inl ((front, after), taken, inner, given, ended)) =
+      let p = (take_bytes n).complete at (front, after) taken in
+      let e = l.complete (input at.place front) xs inner given in
+      rw (p, e, ended) refl
+  within_complete at xs end (inr (lacking, no_entry, ended)) =
+      rw (none_of (take_bytes n) at ((take_bytes n).parse at) refl lacking, no_entry, ended) refl
 
   abbrev pub within : Lenient E
   within = record { gives = StandsWithin; read = within_at; sound = within_sound; complete = within_complete }
@@ -183,4 +190,5 @@ module _ {E : Type 0} (l : Lenient E) where
   -- the groups: behind a fault there is none
   abbrev pub Groups : Input → List (List E) → Type 0
   Groups at [] = at.bytes ≡ []
-  Groups at (xs ∷ groups) = (0 < length at.bytes) × (end : Option Input) × l.gives at xs end × MatchOption end (groups ≡ []) (λ mid. Groups mid groups)
+  Groups at (xs ∷ groups) =
+      (0 < length at.bytes) × (end : Option Input) × l.gives at xs end × MatchOption end (groups ≡ []) (λ mid. Groups mid groups)

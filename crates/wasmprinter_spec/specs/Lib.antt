@@ -11,6 +11,7 @@ pub mod Types
 pub mod Operator
 pub mod Stepped
 pub mod Row
+pub mod Shapes
 pub mod Nesting
 pub mod NestingSteps
 pub mod Table

@@ -1,7 +1,7 @@
 -- The limits of this printer (the standard leaves them to implementations, in its appendix "Implementation Limitations"): at most 50,000
 -- locals in a function, parameters not counted, and at most 1,000,000 functions. Nor is a table with an initialiser that is empty: its text
 -- would be that of a table without one.
-use Rattle.std.specs.Prelude.{ℕ, ◌+◌, ◌≤◌, List, [], ◌∷◌, Option, Some, length}
+use Rattle.std.specs.Prelude.{ℕ, ◌+◌, ◌≤◌, List, [], ◌∷◌, Option, Some, None, length}
 use Rattle.std.specs.List.{AllByRecursion}
 use Rattle.wasmprinter_spec.specs.Grammar.{Placed}
 use Rattle.wasmprinter_spec.specs.Operator.{Operator}
@@ -21,8 +21,9 @@ abbrev pub HasFewLocals : PlacedFunction → Type 0
 HasFewLocals f = local_count f.body.value.locals ≤ most_locals
 
 abbrev pub HasNoEmptyInit : Option (List (Placed Operator)) → Type 0
+HasNoEmptyInit None = Unit {0}
 HasNoEmptyInit (Some []) = ⊥
-HasNoEmptyInit _ = Unit {0}
+HasNoEmptyInit (Some (o ∷ os)) = Unit {0}
 
 pub record IsWithinLimits (m : PlacedModule) : Type 0 where
   pub tables : AllByRecursion (λ t. HasNoEmptyInit t.value.init) m.tables

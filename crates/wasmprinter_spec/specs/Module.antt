@@ -5,7 +5,7 @@ use Rattle.wasmprinter_spec.specs.Grammar.{Placed}
 use Rattle.wasmprinter_spec.specs.Types.{ValType, SubType, TableType, MemoryType, GlobalType, ExternType, FuncExtern, TableExtern, MemoryExtern, GlobalExtern, TagExtern}
 use Rattle.wasmprinter_spec.specs.Operator.{Operator}
 use Rattle.wasmprinter_spec.specs.Customs.{RawCustom, raw_customs}
-use Rattle.wasmprinter_spec.specs.Placed.{TypeGroup, LocalEntry, Export, Import, Table, table_of, Global, global_of, Mode, Passive, Declared, Active, Items, Functions, Expressions, Element, element_of, ElementEntry, DataMode, PassiveData, ActiveData, Data, data_of, PlacedFunction, PlacedModule}
+use Rattle.wasmprinter_spec.specs.Placed.{TypeGroup, LocalEntry, Export, Import, Table, table_of, Global, global_of, ElementMode, Passive, Declared, Active, Items, Functions, Expressions, Element, element_of, ElementEntry, DataMode, PassiveData, ActiveData, Data, data_of, PlacedFunction, PlacedModule}
 
 -- a defined function: the types of all its locals, parameters not among them, and its operators without the last `end`
 pub record Function : Type 0 where
@@ -54,7 +54,7 @@ table_without_places t = table_of t.type (option_map without_places t.init)
 abbrev pub global_without_places : Global (Placed Operator) → Global Operator
 global_without_places g = global_of g.type (without_places g.init)
 
-abbrev pub mode_without_places : Mode (Placed Operator) → Mode Operator
+abbrev pub mode_without_places : ElementMode (Placed Operator) → ElementMode Operator
 mode_without_places Passive = Passive
 mode_without_places Declared = Declared
 mode_without_places (Active table offset) = Active table (without_places offset)

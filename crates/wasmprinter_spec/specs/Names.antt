@@ -20,7 +20,7 @@ pub record Names : Type 0 where
   pub fields : ℕ → ℕ → Option Named
   -- of the function with the index; parameters come first
   pub locals : ℕ → ℕ → Option Named
-  pub labels : ℕ → labels.Naming
+  pub labels : ℕ → labels.LabelNaming
 
 -- the identifiers that the operators of a function may use
 abbrev pub in_function : Names → ℕ → Space → ℕ → Option Named
@@ -102,7 +102,7 @@ pub record AreApart (n : Names) : Type 0 where
   pub items : (space : Space) → AreDistinct (n.items space)
   pub fields : (t : ℕ) → AreDistinct (n.fields t)
   pub locals : (f : ℕ) → AreDistinct (n.locals f)
-  pub labels : (f : ℕ) → labels.AreApart (n.labels f)
+  pub labels : (f : ℕ) → labels.AreLabelsApart (n.labels f)
 
 abbrev pub IsGiven : Option (List ℕ) → Type 0
 IsGiven None = Unit {0}

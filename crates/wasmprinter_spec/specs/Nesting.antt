@@ -5,18 +5,20 @@ use Rattle.wasmprinter_spec.specs.Row.{Role, Plain, Opens, OpensIf, Turns, Opens
 use Rattle.wasmprinter_spec.specs.Stepped.{Move, On, Stop, Never}
 
 -- operators, or the catches of a `try`
-pub data Part : Type 0 where
-  Sequence : Part
-  Handlers : Part
+pub data FramePart : Type 0 where
+  Sequence : FramePart
+  Handlers : FramePart
 
 -- well nested: block .. end, if .. end, if .. else .. end, try .. (catch ..)* (catch_all ..)? end, try .. delegate
-pub data Nests : Part → List Role → Type 0 where
+pub data Nests : FramePart → List Role → Type 0 where
   none : Nests Sequence []
   plain : {rest : List Role} → Nests Sequence rest → Nests Sequence (Plain ∷ rest)
   block : {body rest : List Role} → Nests Sequence body → Nests Sequence rest → Nests Sequence (Opens ∷ (body ++ Ends ∷ rest))
   one_armed : {body rest : List Role} → Nests Sequence body → Nests Sequence rest → Nests Sequence (OpensIf ∷ (body ++ Ends ∷ rest))
-  two_armed : {yes no rest : List Role} → Nests Sequence yes → Nests Sequence no → Nests Sequence rest → Nests Sequence (OpensIf ∷ (yes ++ Turns ∷ (no ++ Ends ∷ rest)))
-  tried : {body handlers rest : List Role} → Nests Sequence body → Nests Handlers handlers → Nests Sequence rest → Nests Sequence (OpensTry ∷ (body ++ (handlers ++ Ends ∷ rest)))
+  two_armed : {yes no rest : List Role} → Nests Sequence yes → Nests Sequence no → Nests Sequence rest →
+      Nests Sequence (OpensIf ∷ (yes ++ Turns ∷ (no ++ Ends ∷ rest)))
+  tried : {body handlers rest : List Role} → Nests Sequence body → Nests Handlers handlers → Nests Sequence rest →
+      Nests Sequence (OpensTry ∷ (body ++ (handlers ++ Ends ∷ rest)))
   delegated : {body rest : List Role} → Nests Sequence body → Nests Sequence rest → Nests Sequence (OpensTry ∷ (body ++ Delegates ∷ rest))
   no_handler : Nests Handlers []
   caught : {body handlers : List Role} → Nests Sequence body → Nests Handlers handlers → Nests Handlers (Catches ∷ (body ++ handlers))

@@ -5,7 +5,7 @@ use Rattle.std.proofs.Common.{sym, ap, subst, ◌∙◌, append_assoc, append-ni
 use Rattle.std.proofs.lemmas.List.{same_from_push}
 use Rattle.wasmprinter_spec.specs.Row.{Role, Plain, Opens, OpensIf, Turns, OpensTry, Catches, CatchesAll, Delegates, Ends}
 use Rattle.wasmprinter_spec.specs.Stepped.{Move, On, Stop, Never, by_move, stops}
-use Rattle.wasmprinter_spec.specs.Nesting.{Part, Sequence, Handlers, Nests, none, plain, block, one_armed, two_armed, tried, delegated, no_handler, caught, caught_all, Frame, InBlock, InIf, InTry, InCatch, Open, open_frames, at_start, move_outwards, advance}
+use Rattle.wasmprinter_spec.specs.Nesting.{FramePart, Sequence, Handlers, Nests, none, plain, block, one_armed, two_armed, tried, delegated, no_handler, caught, caught_all, Frame, InBlock, InIf, InTry, InCatch, Open, open_frames, at_start, move_outwards, advance}
 
 -- ---- what is well nested leaves the blocks as they are
 
@@ -19,23 +19,27 @@ Handles InTry = Unit {0}
 Handles InCatch = Unit {0}
 
 -- behind operators the blocks are the same; behind the catches and the `end` of a `try` it is left
-abbrev Goes : Part → List Role → Type 0
+abbrev Goes : FramePart → List Role → Type 0
 Goes Sequence xs = (f : Frame) (fs : List Frame) (more : List Role) (last : Role) → runs f fs (xs ++ more) last ≡ runs f fs more last
-Goes Handlers xs = (f : Frame) → Handles f → (fs : List Frame) (more : List Role) (last : Role) → runs f fs (xs ++ Ends ∷ more) last ≡ by_move (move_outwards fs) (λ t. stops advance t more last) false false
+Goes Handlers xs =
+    (f : Frame) → Handles f → (fs : List Frame) (more : List Role) (last : Role) →
+    runs f fs (xs ++ Ends ∷ more) last ≡ by_move (move_outwards fs) (λ t. stops advance t more last) false false
 
-catches : (f : Frame) → Handles f → (fs : List Frame) (more : List Role) (last : Role) → runs f fs (Catches ∷ more) last ≡ runs InCatch fs more last
+catches : (f : Frame) → Handles f → (fs : List Frame) (more : List Role) (last : Role) →
+    runs f fs (Catches ∷ more) last ≡ runs InCatch fs more last
 catches InBlock h fs more last = absurd h
 catches InIf h fs more last = absurd h
 catches InTry h fs more last = refl
 catches InCatch h fs more last = refl
 
-catches_all : (f : Frame) → Handles f → (fs : List Frame) (more : List Role) (last : Role) → runs f fs (CatchesAll ∷ more) last ≡ runs InBlock fs more last
+catches_all : (f : Frame) → Handles f → (fs : List Frame) (more : List Role) (last : Role) →
+    runs f fs (CatchesAll ∷ more) last ≡ runs InBlock fs more last
 catches_all InBlock h fs more last = absurd h
 catches_all InIf h fs more last = absurd h
 catches_all InTry h fs more last = refl
 catches_all InCatch h fs more last = refl
 
-goes : {part : Part} {xs : List Role} → Nests part xs → Goes part xs
+goes : {part : FramePart} {xs : List Role} → Nests part xs → Goes part xs
 goes none = λ f fs more last. refl
 goes (plain r) = λ f fs more last. goes r f fs more last
 goes (block {body} {rest} b r) = λ f fs more last.
@@ -111,7 +115,8 @@ Closes [] xs = xs ≡ []
 Closes (f ∷ fs) xs = (rest : List Role) × Closing f xs rest × Closes fs rest
 
 -- something well nested in front of what closes a block
-grown : (front : List Role) → ((ys : List Role) → Nests Sequence ys → Nests Sequence (front ++ ys)) → (f : Frame) (xs rest : List Role) → Closing f xs rest → Closing f (front ++ xs) rest
+grown : (front : List Role) → ((ys : List Role) → Nests Sequence ys → Nests Sequence (front ++ ys)) →
+    (f : Frame) (xs rest : List Role) → Closing f xs rest → Closing f (front ++ xs) rest
 grown front wraps f xs rest c = record {
   body = front ++ c.body;
   tail = c.tail;
@@ -126,7 +131,8 @@ record Group (x : Role) (xs mid : List Role) : Type 0 where
   is : x ∷ xs ≡ text ++ mid
   wraps : (ys : List Role) → Nests Sequence ys → Nests Sequence (text ++ ys)
 
-group_of : (x : Role) (xs mid body closer : List Role) → xs ≡ body ++ (closer ++ mid) → ((ys : List Role) → Nests Sequence ys → Nests Sequence (x ∷ (body ++ (closer ++ ys)))) → Group x xs mid
+group_of : (x : Role) (xs mid body closer : List Role) → xs ≡ body ++ (closer ++ mid) →
+    ((ys : List Role) → Nests Sequence ys → Nests Sequence (x ∷ (body ++ (closer ++ ys)))) → Group x xs mid
 group_of x xs mid body closer e make = record {
   text = x ∷ (body ++ closer);
   is = ap (λ (ys : List Role). x ∷ ys) (e ∙ sym (append_assoc body closer mid));
@@ -138,37 +144,50 @@ block_group xs mid c =
     group_of Opens xs mid c.body (Ends ∷ []) (c.is ∙ ap (λ (ys : List Role). c.body ++ ys) c.ends) (λ ys n. block c.nested n)
 
 if_tail : (xs mid body tail : List Role) → Nests Sequence body → xs ≡ body ++ tail → Tail InIf tail mid → Group OpensIf xs mid
-if_tail xs mid body tail b e (inl c) = group_of OpensIf xs mid body (Ends ∷ []) (e ∙ ap (λ (ys : List Role). body ++ ys) c) (λ ys n. one_armed b n)
+if_tail xs mid body tail b e (inl c) =
+    group_of OpensIf xs mid body (Ends ∷ []) (e ∙ ap (λ (ys : List Role). body ++ ys) c) (λ ys n. one_armed b n)
 if_tail xs mid body tail b e (inr c) =
     group_of OpensIf xs mid body (Turns ∷ (c.no ++ Ends ∷ []))
     (e ∙ ap (λ (ys : List Role). body ++ ys) (c.is ∙ ap (λ (ys : List Role). Turns ∷ ys) (sym (append_assoc c.no (Ends ∷ []) mid))))
-    (λ ys n. subst (λ (zs : List Role). Nests Sequence (OpensIf ∷ (body ++ Turns ∷ zs))) (sym (append_assoc c.no (Ends ∷ []) ys)) (two_armed b c.nested n))
+    (λ ys n. subst (λ (zs : List Role). Nests Sequence (OpensIf ∷ (body ++ Turns ∷ zs))) (sym (append_assoc c.no (Ends ∷ []) ys))
+    (two_armed b c.nested n))
 
 try_tail : (xs mid body tail : List Role) → Nests Sequence body → xs ≡ body ++ tail → Tail InTry tail mid → Group OpensTry xs mid
 try_tail xs mid body tail b e (inl c) =
     group_of OpensTry xs mid body (c.handlers ++ Ends ∷ [])
     (e ∙ ap (λ (ys : List Role). body ++ ys) (c.is ∙ sym (append_assoc c.handlers (Ends ∷ []) mid)))
-    (λ ys n. subst (λ (zs : List Role). Nests Sequence (OpensTry ∷ (body ++ zs))) (sym (append_assoc c.handlers (Ends ∷ []) ys)) (tried b c.nested n))
-try_tail xs mid body tail b e (inr c) = group_of OpensTry xs mid body (Delegates ∷ []) (e ∙ ap (λ (ys : List Role). body ++ ys) c) (λ ys n. delegated b n)
+    (λ ys n. subst (λ (zs : List Role). Nests Sequence (OpensTry ∷ (body ++ zs))) (sym (append_assoc c.handlers (Ends ∷ []) ys))
+    (tried b c.nested n))
+try_tail xs mid body tail b e (inr c) =
+    group_of OpensTry xs mid body (Delegates ∷ []) (e ∙ ap (λ (ys : List Role). body ++ ys) c) (λ ys n. delegated b n)
 
 -- a block is entered: what closes it is part of what closes the one around it
-entered : (x : Role) (f g : Frame) (fs : List Frame) (xs : List Role) → ((mid : List Role) → Closing g xs mid → Group x xs mid) → Closes (g ∷ f ∷ fs) xs → Closes (f ∷ fs) (x ∷ xs)
+entered : (x : Role) (f g : Frame) (fs : List Frame) (xs : List Role) → ((mid : List Role) → Closing g xs mid → Group x xs mid) →
+    Closes (g ∷ f ∷ fs) xs → Closes (f ∷ fs) (x ∷ xs)
 entered x f g fs xs group d =
-    let w = group d.0 d.1 in
-    (d.2.0, subst (λ (zs : List Role). Closing f zs d.2.0) (sym w.is) (grown w.text w.wraps f d.0 d.2.0 d.2.1), d.2.2)
+    let (mid, inner, (rest, outer, all_closed)) = d in
+    let w = group mid inner in
+    (rest, subst (λ (zs : List Role). Closing f zs rest) (sym w.is) (grown w.text w.wraps f mid rest outer), all_closed)
 
 -- nothing stands in front of x
 bare : (f : Frame) (xs rest : List Role) → Tail f xs rest → Closing f xs rest
 bare f xs rest t = record { body = []; tail = xs; nested = none; is = refl; ends = t }
 
 else_tail : (xs rest : List Role) → Closing InBlock xs rest → Tail InIf (Turns ∷ xs) rest
-else_tail xs rest c = inr (record { no = c.body; nested = c.nested; is = ap (λ (ys : List Role). Turns ∷ ys) (c.is ∙ ap (λ (ys : List Role). c.body ++ ys) c.ends) })
+else_tail xs rest c =
+    inr (record {
+      no = c.body;
+      nested = c.nested;
+      is = ap (λ (ys : List Role). Turns ∷ ys) (c.is ∙ ap (λ (ys : List Role). c.body ++ ys) c.ends);
+    })
 
 catch_tail : (xs rest : List Role) → Closing InCatch xs rest → Caught (Catches ∷ xs) rest
 catch_tail xs rest c = record {
   handlers = Catches ∷ (c.body ++ c.ends.handlers);
   nested = caught c.nested c.ends.nested;
-  is = ap (λ (ys : List Role). Catches ∷ ys) (c.is ∙ ap (λ (ys : List Role). c.body ++ ys) c.ends.is ∙ sym (append_assoc c.body c.ends.handlers (Ends ∷ rest)));
+  is =
+      ap (λ (ys : List Role). Catches ∷ ys)
+      (c.is ∙ ap (λ (ys : List Role). c.body ++ ys) c.ends.is ∙ sym (append_assoc c.body c.ends.handlers (Ends ∷ rest)));
 }
 
 catch_all_tail : (xs rest : List Role) → Closing InBlock xs rest → Caught (CatchesAll ∷ xs) rest
@@ -195,21 +214,29 @@ left_closes [] xs a = a
 left_closes (f ∷ fs) xs a = a
 
 one : (x : Role) (f : Frame) (fs : List Frame) (xs : List Role) → After (advance (open_frames f fs) x) xs → Closes (f ∷ fs) (x ∷ xs)
-one Plain f fs xs a = (a.0, grown (Plain ∷ []) (λ ys n. plain n) f xs a.0 a.1, a.2)
+one Plain f fs xs a = let (rest, closing, closed) = a in (rest, grown (Plain ∷ []) (λ ys n. plain n) f xs rest closing, closed)
 one Opens f fs xs a = entered Opens f InBlock fs xs (block_group xs) a
 one OpensIf f fs xs a = entered OpensIf f InIf fs xs (λ mid c. if_tail xs mid c.body c.tail c.nested c.is c.ends) a
 one OpensTry f fs xs a = entered OpensTry f InTry fs xs (λ mid c. try_tail xs mid c.body c.tail c.nested c.is c.ends) a
 one Ends f fs xs a = (xs, bare f (Ends ∷ xs) xs (end_tail f xs), left_closes fs xs a)
-one Turns InIf fs xs a = (a.0, bare InIf (Turns ∷ xs) a.0 (else_tail xs a.0 a.1), a.2)
+one Turns InIf fs xs a = let (rest, closing, closed) = a in (rest, bare InIf (Turns ∷ xs) rest (else_tail xs rest closing), closed)
 one Turns InBlock fs xs a = absurd a
 one Turns InTry fs xs a = absurd a
 one Turns InCatch fs xs a = absurd a
-one Catches InTry fs xs a = (a.0, bare InTry (Catches ∷ xs) a.0 (inl (catch_tail xs a.0 a.1)), a.2)
-one Catches InCatch fs xs a = (a.0, bare InCatch (Catches ∷ xs) a.0 (catch_tail xs a.0 a.1), a.2)
+one Catches InTry fs xs a =
+    let (rest, closing, closed) = a in
+    (rest, bare InTry (Catches ∷ xs) rest (inl (catch_tail xs rest closing)), closed)
+one Catches InCatch fs xs a =
+    let (rest, closing, closed) = a in
+    (rest, bare InCatch (Catches ∷ xs) rest (catch_tail xs rest closing), closed)
 one Catches InBlock fs xs a = absurd a
 one Catches InIf fs xs a = absurd a
-one CatchesAll InTry fs xs a = (a.0, bare InTry (CatchesAll ∷ xs) a.0 (inl (catch_all_tail xs a.0 a.1)), a.2)
-one CatchesAll InCatch fs xs a = (a.0, bare InCatch (CatchesAll ∷ xs) a.0 (catch_all_tail xs a.0 a.1), a.2)
+one CatchesAll InTry fs xs a =
+    let (rest, closing, closed) = a in
+    (rest, bare InTry (CatchesAll ∷ xs) rest (inl (catch_all_tail xs rest closing)), closed)
+one CatchesAll InCatch fs xs a =
+    let (rest, closing, closed) = a in
+    (rest, bare InCatch (CatchesAll ∷ xs) rest (catch_all_tail xs rest closing), closed)
 one CatchesAll InBlock fs xs a = absurd a
 one CatchesAll InIf fs xs a = absurd a
 one Delegates InTry fs xs a = (xs, bare InTry (Delegates ∷ xs) xs (inr refl), left_closes fs xs a)
@@ -235,7 +262,8 @@ closes (x ∷ xs) last s e = one x s.innermost s.outer (xs ++ last ∷ []) (afte
 -- what goes through is well nested, and the last is an `end`
 pub nested_to_end : (xs : List Role) (last : Role) → stops advance at_start xs last ≡ true → Nests Sequence xs × (last ≡ Ends)
 nested_to_end xs last e =
-    let c = closes xs last at_start e in
-    let end : xs ++ last ∷ [] ≡ c.1.body ++ Ends ∷ [] = c.1.is ∙ ap (λ (ys : List Role). c.1.body ++ ys) (c.1.ends ∙ ap (λ (ys : List Role). Ends ∷ ys) c.2) in
-    let same = same_from_push xs c.1.body last Ends end in
-    (subst (λ (ys : List Role). Nests Sequence ys) (sym same.0) c.1.nested, same.1)
+    let (_, c, none_left) = closes xs last at_start e in
+    let tail : c.tail ≡ Ends ∷ [] = c.ends ∙ ap (λ (ys : List Role). Ends ∷ ys) none_left in
+    let end : xs ++ last ∷ [] ≡ c.body ++ Ends ∷ [] = c.is ∙ ap (λ (ys : List Role). c.body ++ ys) tail in
+    let same = same_from_push xs c.body last Ends end in
+    (subst (λ (ys : List Role). Nests Sequence ys) (sym same.0) c.nested, same.1)

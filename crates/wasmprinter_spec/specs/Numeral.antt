@@ -18,7 +18,8 @@ begins_with_digit base (b ∷ bs) = is_digit base b
 -- digits and underscores, with a digit behind each underscore
 abbrev pub follows_digit : ℕ → List ℕ → Bool
 follows_digit base [] = true
-follows_digit base (b ∷ bs) = (is_digit base b && follows_digit base bs) || (is_underscore b && begins_with_digit base bs && follows_digit base bs)
+follows_digit base (b ∷ bs) =
+    (is_digit base b && follows_digit base bs) || (is_underscore b && begins_with_digit base bs && follows_digit base bs)
 
 -- a digit, and then digits and underscores between digits
 abbrev pub is_numeral : ℕ → List ℕ → Bool

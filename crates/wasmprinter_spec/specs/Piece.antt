@@ -87,7 +87,8 @@ flag_byte false = 0
 abbrev pub calls : Options → Piece → List Call
 calls o (Begin place) = Line (Some place) ∷ []
 calls o Feed = Newline ∷ []
-calls o (Break place nesting) = Newline ∷ (Line place ∷ (place_calls o.offsets place ++ (Text (repetition_of (min nesting most_indents) o.indent) ∷ [])))
+calls o (Break place nesting) =
+    Newline ∷ (Line place ∷ (place_calls o.offsets place ++ (Text (repetition_of (min nesting most_indents) o.indent) ∷ [])))
 calls o Gap = Text (codes " ") ∷ []
 calls o (Open w) = Text (codes "(") ∷ calls_in_style Keyword w
 calls o (OpenGap w) = Text (codes "(") ∷ calls_in_style Keyword (w ++ codes " ")
@@ -113,12 +114,14 @@ calls o EndStyle = Start Reset ∷ []
 calls o (Quoted cs) = calls_in_style Literal (quoted_text cs)
 calls o (QuotedBytes bs) = calls_in_style Literal (quoted_bytes bs)
 calls o (Identifier cs) = Text (identifier_text cs) ∷ []
-calls o (NameNote cs) = Text (codes "(") ∷ (calls_in_style Keyword (codes "@name \"") ++ (Text (flat_map char_text cs) ∷ (Text (codes "\")") ∷ [])))
+calls o (NameNote cs) =
+    Text (codes "(") ∷ (calls_in_style Keyword (codes "@name \"") ++ (Text (flat_map char_text cs) ∷ (Text (codes "\")") ∷ [])))
 calls o (Remark true s) = calls_in_style Comment (codes " (;" ++ (s ++ codes ";)"))
 calls o (Remark false s) = Text (codes " (;" ++ (s ++ codes ";)")) ∷ []
 calls o (Ending s) = calls_in_style Comment (codes ";; " ++ s)
 calls o (PlainEnding s) = Text (codes ";; " ++ s) ∷ []
-calls o (HintNote taken) = calls_in_style Comment (codes "(@metadata.code.branch_hint " ++ (quoted_bytes (flag_byte taken ∷ []) ++ codes ")"))
+calls o (HintNote taken) =
+    calls_in_style Comment (codes "(@metadata.code.branch_hint " ++ (quoted_bytes (flag_byte taken ∷ []) ++ codes ")"))
 calls o (Claimed name place bytes answer) = Claim name place bytes answer ∷ []
 
 abbrev pub piece_tokens : Piece → List Token
@@ -144,7 +147,8 @@ piece_tokens (Quoted cs) = token.string (encode_utf8_all cs) ∷ []
 piece_tokens (QuotedBytes bs) = token.string bs ∷ []
 piece_tokens (Identifier cs) = token.name (encode_utf8_all cs) ∷ []
 piece_tokens (NameNote cs) = token.left_note (codes "name") ∷ (token.string (encode_utf8_all cs) ∷ (token.right ∷ []))
-piece_tokens (HintNote taken) = token.left_note (codes "metadata.code.branch_hint") ∷ (token.string (flag_byte taken ∷ []) ∷ (token.right ∷ []))
+piece_tokens (HintNote taken) =
+    token.left_note (codes "metadata.code.branch_hint") ∷ (token.string (flag_byte taken ∷ []) ∷ (token.right ∷ []))
 piece_tokens _ = []
 
 abbrev pub text : Options → Piece → List ℕ

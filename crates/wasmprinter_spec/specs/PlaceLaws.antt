@@ -16,7 +16,8 @@ AlikeHaveSameLines = (k l : List Call) → atoms k ≡ atoms l → lines_of k �
 
 -- The lines of a module joined are its text, up to a refusal too.
 abbrev pub LinesJoin : Type 0
-LinesJoin = (o : Options) (answers : Answers) (m : PlacedModule) → joined_lines (lines_of (layout o answers m)) ≡ text_of (layout o answers m)
+LinesJoin =
+    (o : Options) (answers : Answers) (m : PlacedModule) → joined_lines (lines_of (layout o answers m)) ≡ text_of (layout o answers m)
 
 -- The bodies of a module that bytes spell lie apart from all else that begins a line.
 abbrev pub BodiesLieApart : Type 0
@@ -44,5 +45,6 @@ FindsLine =
     (bytes : List ℕ) (m : PlacedModule) (o : Options) (answers : Answers) →
     Spells bytes m → o.skeleton ≡ false → o.folds ≡ false → refusal o answers m ≡ None → (i j : ℕ) →
     let lines = lines_of (layout o answers m) in
-    ((a : Placed Operator) → operator_at m i j ≡ Some a → (number : ℕ) × (place_of m lines i j ≡ Some (number, a.place)) × IsOnlyLine (line_places lines) a.place number)
+    ((a : Placed Operator) → operator_at m i j ≡ Some a →
+    (number : ℕ) × (place_of m lines i j ≡ Some (number, a.place)) × IsOnlyLine (line_places lines) a.place number)
     × (operator_at m i j ≡ None → place_of m lines i j ≡ None)

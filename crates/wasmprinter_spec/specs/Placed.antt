@@ -79,20 +79,20 @@ abbrev pub global_of : {O : Type 0} → GlobalType → List O → Global O
 global_of t init = record { type = t; init = init }
 
 -- an element segment: what becomes of it (the table and the offset, where it is active), and its items
-pub data Mode (O : Type 0) : Type 0 where
-  Passive : Mode O
-  Declared : Mode O
-  Active : ℕ → List O → Mode O
+pub data ElementMode (O : Type 0) : Type 0 where
+  Passive : ElementMode O
+  Declared : ElementMode O
+  Active : ℕ → List O → ElementMode O
 
 pub data Items (O : Type 0) : Type 0 where
   Functions : List ℕ → Items O
   Expressions : RefType → List (List O) → Items O
 
 pub record Element (O : Type 0) : Type 0 where
-  pub mode : Mode O
+  pub mode : ElementMode O
   pub items : Items O
 
-abbrev pub element_of : {O : Type 0} → Mode O → Items O → Element O
+abbrev pub element_of : {O : Type 0} → ElementMode O → Items O → Element O
 element_of mode items = record { mode = mode; items = items }
 
 -- an element segment as the bytes lay it out, which may name its table or leave it out

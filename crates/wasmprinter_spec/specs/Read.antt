@@ -8,7 +8,7 @@ use Rattle.wasmprinter_spec.specs.Grammar.{◌>>=◌}
 use Rattle.wasmprinter_spec.specs.Forest.{Forest, End, Word, Group, forest, without_annotations, customs}
 use Rattle.wasmprinter_spec.specs.Types.{SubType, ExternKind, FuncKind, TableKind, MemoryKind, GlobalKind, TagKind, concat, all_types, signature_at}
 use Rattle.wasmprinter_spec.specs.Module.{Module}
-use Rattle.wasmprinter_spec.specs.IndexSpaces.{Identifiers, index_space, index, Spaces, Context}
+use Rattle.wasmprinter_spec.specs.IndexSpaces.{Identifiers, index_space, Spaces, Context}
 use Rattle.wasmprinter_spec.specs.Text.Items.{each, identifier_in_front}
 use Rattle.wasmprinter_spec.specs.Text.Types.{Declared, group_members, group_types, field_space, read_group}
 use Rattle.wasmprinter_spec.specs.Text.Functions.{read_function}
@@ -20,6 +20,7 @@ use Rattle.wasmprinter_spec.specs.Text.Elements.{read_element}
 use Rattle.wasmprinter_spec.specs.Text.DataSegments.{read_data}
 use Rattle.wasmprinter_spec.specs.Text.Tags.{read_tag}
 use Rattle.wasmprinter_spec.specs.Text.Exports.{read_export}
+use Rattle.wasmprinter_spec.specs.Text.Start.{read_start}
 use Rattle.wasmprinter_spec.specs.Text.Customs.{read_custom}
 use Rattle.wasmprinter_spec.specs.Customs.{RawCustom}
 
@@ -135,10 +136,6 @@ spaces_of m = do
 -- from the types, with the identifiers of their fields
 abbrev pub context : Spaces → List (List (Declared SubType)) → Context
 context s types = record { spaces = s; signature = signature_at (all_types (group_types types)); fields = field_space types }
-
-abbrev pub read_start : Spaces → Option Forest → Option (Option ℕ)
-read_start s None = Some None
-read_start s (Some f) = option_map Some (index s.functions f)
 
 abbrev pub module_of_fields : Fields → Option Module
 module_of_fields m = do

@@ -1,18 +1,18 @@
 -- Grammars of items that stand one after the other: so many of them, a counted list (section 5.1 of the standard, "Lists"),
 -- and as many as there are up to the end of the bytes.
-use Rattle.std.specs.Prelude.{◌≡◌, ℕ, zero, suc, List, [], ◌∷◌, ◌++◌, ◌+◌, ◌<◌, ◌≤◌, length, Option, Some, None, MatchOption, nat_lt, ◌==◌, if◌then◌else◌, refl}
+use Rattle.std.specs.Prelude.{◌≡◌, ℕ, zero, suc, List, [], ◌∷◌, ◌++◌, ◌+◌, ◌<◌, ◌≤◌, length, Option, Some, None, nat_lt, ◌==◌, if◌then◌else◌, refl}
 use Rattle.std.proofs.Common.{sym, ap, subst, ◌∙◌, arith, append_assoc, cond, eqb, ltb, inl, inr}
 use Rattle.std.proofs.lemmas.Bool.{eqb-true, eq-eqb, ne_eqb, ltb-true, lt-ltb}
 use Rattle.std.proofs.lemmas.List.{length-append, nil_from_length}
 use Rattle.wasmprinter_spec.specs.Grammar.{Input, input, Spans, Grammar, Remainder, ◌>>=◌, bind_some, some_is, seq, map_value}
 use Rattle.wasmprinter_spec.specs.Choices.{chosen, tested}
 
--- ---- what code that reads items in a loop needs to say
-
 -- f of the value, d where there is none
 abbrev pub some_or : {A B : Type 0} → Option A → B → (A → B) → B
 some_or None d f = d
 some_or (Some x) d f = f x
+
+-- ---- n items
 
 module _ {A : Type 0} (parse : Input → Option (A × Input)) where
   -- n items
@@ -20,69 +20,52 @@ module _ {A : Type 0} (parse : Input → Option (A × Input)) where
   items_at zero at = Some ([], at)
   items_at (suc n) at = parse at >>= λ a. items_at n a.1 >>= λ b. Some (a.0 ∷ b.0, b.1)
 
-  -- the items, none from the first that can't be read
-  abbrev pub items_of : ℕ → Input → List A
-  items_of zero at = []
-  items_of (suc n) at = some_or (parse at) [] (λ x. x.0 ∷ items_of n x.1)
-
-  -- where reading stands behind n items
-  abbrev pub skip_at : ℕ → Input → Option Input
-  skip_at zero at = Some at
-  skip_at (suc n) at = parse at >>= λ x. skip_at n x.1
-
-  -- n items stand there
-  abbrev pub HasItems : ℕ → Input → Type 0
-  HasItems zero at = Unit {0}
-  HasItems (suc n) at = MatchOption (parse at) ⊥ (λ x. HasItems n x.1)
-
--- ---- n items
-
 module _ {A : Type 0} (g : Grammar A) where
   -- the items one after the other
-  abbrev pub Items : ℕ → List ℕ → List A → Type 0
-  Items p text [] = text ≡ []
-  Items p text (x ∷ xs) = (t u : List ℕ) × (text ≡ t ++ u) × g.spells p t x × Items (p + length t) u xs
+  abbrev pub AreItems : ℕ → List ℕ → List A → Type 0
+  AreItems p text [] = text ≡ []
+  AreItems p text (x ∷ xs) = (t u : List ℕ) × (text ≡ t ++ u) × g.spells p t x × AreItems (p + length t) u xs
 
   abbrev pub Times : ℕ → ℕ → List ℕ → List A → Type 0
-  Times n p text xs = (length xs ≡ n) × Items p text xs
+  Times n p text xs = (length xs ≡ n) × AreItems p text xs
 
   pub times_sound : (n : ℕ) (at : Input) (x : List A × Input) → items_at g.parse n at ≡ Some x → Spans (Times n) at x
   times_sound zero at x e =
-      subst (λ (y : List A × Input). Spans (Times 0) at y) (some_is ([], at) x e) (record { text = []; parts = refl; ends = omega arith; spelled = (refl, refl) })
+      subst (λ (y : List A × Input). Spans (Times 0) at y) (some_is ([], at) x e)
+      (record { text = []; parts = refl; ends = omega arith; spelled = (refl, refl) })
   times_sound (suc n) at x e =
-      let a = bind_some (g.parse at) (λ a. items_at g.parse n a.1 >>= λ b. Some (a.0 ∷ b.0, b.1)) x e in
-      let b = bind_some (items_at g.parse n a.0.1) (λ b. Some (a.0.0 ∷ b.0, b.1)) x a.2 in
-      let s = g.sound at a.0 a.1 in
-      let t = times_sound n a.0.1 b.0 b.1 in
-      subst (λ (y : List A × Input). Spans (Times (suc n)) at y) (some_is (a.0.0 ∷ b.0.0, b.0.1) x b.2)
+      let ((value, mid), parsed, rest) = bind_some (g.parse at) (λ a. items_at g.parse n a.1 >>= λ b. Some (a.0 ∷ b.0, b.1)) x e in
+      let ((values, after), all_parsed, result) = bind_some (items_at g.parse n mid) (λ b. Some (value ∷ b.0, b.1)) x rest in
+      let s = g.sound at (value, mid) parsed in
+      let t = times_sound n mid (values, after) all_parsed in
+      subst (λ (y : List A × Input). Spans (Times (suc n)) at y) (some_is (value ∷ values, after) x result)
       (record {
         text = s.text ++ t.text;
-        parts = s.parts ∙ ap (λ (r : List ℕ). s.text ++ r) t.parts ∙ sym (append_assoc s.text t.text b.0.1.bytes);
+        parts = s.parts ∙ ap (λ (r : List ℕ). s.text ++ r) t.parts ∙ sym (append_assoc s.text t.text after.bytes);
         ends = omega (arith, s.ends, t.ends, length-append s.text t.text);
-        spelled = (ap suc t.spelled.0, (s.text, t.text, refl, s.spelled, subst (λ (p : ℕ). Items p t.text b.0.0) s.ends t.spelled.1));
+        spelled = (ap suc t.spelled.0, (s.text, t.text, refl, s.spelled, subst (λ (p : ℕ). AreItems p t.text values) s.ends t.spelled.1));
       })
 
-  pub items_complete : (xs : List A) (at after : Input) → Spans Items at (xs, after) → items_at g.parse (length xs) at ≡ Some (xs, after)
+  pub items_complete : (xs : List A) (at after : Input) → Spans AreItems at (xs, after) → items_at g.parse (length xs) at ≡ Some (xs, after)
   items_complete [] at after s =
       let e : at.bytes ≡ after.bytes = s.parts ∙ ap (λ (t : List ℕ). t ++ after.bytes) s.spelled in
       let l : after.place ≡ at.place = omega (arith, s.ends, ap length s.spelled) in
       let same : at ≡ after = ap (λ (p : ℕ). input p at.bytes) (sym l) ∙ ap (λ (bs : List ℕ). input after.place bs) e in
       ap (λ (y : Input). Some ([], y)) same
   items_complete (x ∷ xs) at after s =
-      let t = s.spelled.0 in
-      let u = s.spelled.1 in
+      let (t, u, joined, spelled, all_spelled) = s.spelled in
       let mid : Input = input (at.place + length t) (u ++ after.bytes) in
       let e : g.parse at ≡ Some (x, mid) = g.complete at (x, mid) (record {
         text = t;
-        parts = s.parts ∙ ap (λ (r : List ℕ). r ++ after.bytes) s.spelled.2 ∙ append_assoc t u after.bytes;
+        parts = s.parts ∙ ap (λ (r : List ℕ). r ++ after.bytes) joined ∙ append_assoc t u after.bytes;
         ends = refl;
-        spelled = s.spelled.3;
+        spelled = spelled;
       }) in
       let f : items_at g.parse (length xs) mid ≡ Some (xs, after) = items_complete xs mid after (record {
         text = u;
         parts = refl;
-        ends = omega (arith, s.ends, length-append t u, ap length s.spelled.2);
-        spelled = s.spelled.4;
+        ends = omega (arith, s.ends, length-append t u, ap length joined);
+        spelled = all_spelled;
       }) in
       rw (e, f) refl
 
@@ -117,17 +100,21 @@ module _ {A : Type 0} (g : Grammar A) where
       let t = tested (eqb (length at.bytes) 0) (Some []) xs e in
       subst (λ (ys : List A). Entries at.place at.bytes ys) (some_is [] xs t.1) (nil_from_length at.bytes (eqb-true _ _ t.0))
   entries_sound (suc n) at xs e =
-      let more : (A × Input) → Option (List A) = λ x. cond (ltb (length x.1.bytes) (length at.bytes)) (entries_at n x.1 >>= λ ys. Some (x.0 ∷ ys)) None in
+      let more : (A × Input) → Option (List A) =
+      λ x. cond (ltb (length x.1.bytes) (length at.bytes)) (entries_at n x.1 >>= λ ys. Some (x.0 ∷ ys)) None in
       elim (chosen (eqb (length at.bytes) 0) (Some []) (g.parse at >>= more) (Some xs) e) [
-        | inl done ↦ subst (λ (ys : List A). Entries at.place at.bytes ys) (some_is [] xs done.1) (nil_from_length at.bytes (eqb-true _ _ done.0))
+        | inl done ↦ subst (λ (ys : List A). Entries at.place at.bytes ys) (some_is [] xs done.1)
+            (nil_from_length at.bytes (eqb-true _ _ done.0))
         | inr on ↦
-            let x = bind_some (g.parse at) more xs on.1 in
-            let t = tested (ltb (length x.0.1.bytes) (length at.bytes)) (entries_at n x.0.1 >>= λ ys. Some (x.0.0 ∷ ys)) xs x.2 in
-            let ys = bind_some (entries_at n x.0.1) (λ ys. Some (x.0.0 ∷ ys)) xs t.1 in
-            let s = g.sound at x.0 x.1 in
-            let less : length x.0.1.bytes < length at.bytes = ltb-true _ _ t.0 in
-            subst (λ (zs : List A). Entries at.place at.bytes zs) (some_is (x.0.0 ∷ ys.0) xs ys.2)
-            (s.text, x.0.1.bytes, s.parts, omega (arith, ap length s.parts, length-append s.text x.0.1.bytes, less), s.spelled, subst (λ (p : ℕ). Entries p x.0.1.bytes ys.0) s.ends (entries_sound n x.0.1 ys.0 ys.1))
+            let ((value, mid), parsed, rest) = bind_some (g.parse at) more xs on.1 in
+            let t = tested (ltb (length mid.bytes) (length at.bytes)) (entries_at n mid >>= λ ys. Some (value ∷ ys)) xs rest in
+            let (values, all_parsed, result) = bind_some (entries_at n mid) (λ ys. Some (value ∷ ys)) xs t.1 in
+            let s = g.sound at (value, mid) parsed in
+            let less : length mid.bytes < length at.bytes = ltb-true _ _ t.0 in
+            let some : 0 < length s.text = omega (arith, ap length s.parts, length-append s.text mid.bytes, less) in
+            let all_spelled = subst (λ (p : ℕ). Entries p mid.bytes values) s.ends (entries_sound n mid values all_parsed) in
+            subst (λ (zs : List A). Entries at.place at.bytes zs) (some_is (value ∷ values) xs result)
+            (s.text, mid.bytes, s.parts, some, s.spelled, all_spelled)
       ]
 
   empty_at : (n : ℕ) (at : Input) → at.bytes ≡ [] → entries_at n at ≡ Some []
@@ -136,14 +123,18 @@ module _ {A : Type 0} (g : Grammar A) where
 
   pub entries_complete : (xs : List A) (n : ℕ) (at : Input) → length at.bytes ≤ n → Entries at.place at.bytes xs → entries_at n at ≡ Some xs
   entries_complete [] n at le s = empty_at n at s
-  entries_complete (x ∷ xs) zero at le s = absurd (omega (arith, ap length s.2, length-append s.0 s.1, s.3))
+  entries_complete (x ∷ xs) zero at le s =
+      let (t, u, joined, takes, _, _) = s in
+      absurd (omega (arith, ap length joined, length-append t u, takes))
   entries_complete (x ∷ xs) (suc n) at le s =
-      let after : Input = input (at.place + length s.0) s.1 in
-      let some : 0 < length at.bytes = omega (arith, ap length s.2, length-append s.0 s.1, s.3) in
-      let p : g.parse at ≡ Some (x, after) = g.complete at (x, after) (record { text = s.0; parts = s.2; ends = refl; spelled = s.4 }) in
-      let less : length s.1 < length at.bytes = omega (arith, ap length s.2, length-append s.0 s.1, s.3) in
-      let r : entries_at n after ≡ Some xs = entries_complete xs n after (omega (arith, less)) s.5 in
-      rw (ne_eqb (length at.bytes) 0 (λ z. omega arith), p, lt-ltb (length s.1) (length at.bytes) less, r) refl
+      let (t, u, joined, takes, spelled, all_spelled) = s in
+      let after : Input = input (at.place + length t) u in
+      let some : 0 < length at.bytes = omega (arith, ap length joined, length-append t u, takes) in
+      let p : g.parse at ≡ Some (x, after) =
+      g.complete at (x, after) (record { text = t; parts = joined; ends = refl; spelled = spelled }) in
+      let less : length u < length at.bytes = omega (arith, ap length joined, length-append t u, takes) in
+      let r : entries_at n after ≡ Some xs = entries_complete xs n after (omega (arith, less)) all_spelled in
+      rw (ne_eqb (length at.bytes) 0 (λ z. omega arith), p, lt-ltb (length u) (length at.bytes) less, r) refl
 
   abbrev pub until_end : Remainder (List A)
   until_end = record {

@@ -28,7 +28,8 @@ use Rattle.wasmprinter_spec.specs.Binary.Customs.{custom_section}
 abbrev pub kind_of : ℕ → Option Kind
 kind_of id =
     lookup (
-    (0, CustomSection) ∷ (1, TypeSection) ∷ (2, ImportSection) ∷ (3, FunctionSection) ∷ (4, TableSection) ∷ (5, MemorySection) ∷ (6, GlobalSection)
+    (0, CustomSection) ∷ (1, TypeSection) ∷ (2, ImportSection) ∷ (3, FunctionSection) ∷ (4, TableSection) ∷ (5, MemorySection)
+    ∷ (6, GlobalSection)
     ∷ (7, ExportSection) ∷ (8, StartSection) ∷ (9, ElementSection) ∷ (10, CodeSection) ∷ (11, DataSection)
     ∷ (12, DataCountSection) ∷ (13, TagSection) ∷ []) id
 

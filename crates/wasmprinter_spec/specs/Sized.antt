@@ -21,7 +21,12 @@ module _ (n : ℕ) where
       let long : n ≤ length at.bytes = ltb-false _ _ t.0 in
       let len : length (take n at.bytes) ≡ n = length-take-le n at.bytes long in
       subst (λ (y : List ℕ × Input). Spans Front at y) (some_is (take n at.bytes, input (at.place + n) (drop n at.bytes)) x t.1)
-      (record { text = take n at.bytes; parts = sym (take-append-drop n at.bytes); ends = ap (λ (k : ℕ). at.place + k) (sym len); spelled = (len, refl) })
+      (record {
+        text = take n at.bytes;
+        parts = sym (take-append-drop n at.bytes);
+        ends = ap (λ (k : ℕ). at.place + k) (sym len);
+        spelled = (len, refl);
+      })
 
   pub front_complete : (at : Input) (x : List ℕ × Input) → Spans Front at x → front_at at ≡ Some x
   front_complete at x s =
@@ -46,15 +51,17 @@ module _ {A : Type 0} (w : Remainder A) where
 
     pub exactly_sound : (at : Input) (x : A × Input) → exactly_at at ≡ Some x → Spans Exactly at x
     exactly_sound at x e =
-        let f = bind_some (front_at n at) (λ x. w.parse (input at.place x.0) >>= λ a. Some (a, x.1)) x e in
-        let a = bind_some (w.parse (input at.place f.0.0)) (λ a. Some (a, f.0.1)) x f.2 in
-        let s = front_sound n at f.0 f.1 in
-        subst (λ (y : A × Input). Spans Exactly at y) (some_is (a.0, f.0.1) x a.2)
-        (record { text = s.text; parts = s.parts; ends = s.ends; spelled = (s.spelled.0, subst (λ (t : List ℕ). w.spells at.place t a.0) s.spelled.1 (w.sound (input at.place f.0.0) a.0 a.1)) })
+        let ((front, after), taken, rest) = bind_some (front_at n at) (λ x. w.parse (input at.place x.0) >>= λ a. Some (a, x.1)) x e in
+        let (value, parsed, result) = bind_some (w.parse (input at.place front)) (λ a. Some (a, after)) x rest in
+        let s = front_sound n at (front, after) taken in
+        let spelled = subst (λ (t : List ℕ). w.spells at.place t value) s.spelled.1 (w.sound (input at.place front) value parsed) in
+        subst (λ (y : A × Input). Spans Exactly at y) (some_is (value, after) x result)
+        (record { text = s.text; parts = s.parts; ends = s.ends; spelled = (s.spelled.0, spelled) })
 
     pub exactly_complete : (at : Input) (x : A × Input) → Spans Exactly at x → exactly_at at ≡ Some x
     exactly_complete at x s =
-        let f : front_at n at ≡ Some (s.text, x.1) = front_complete n at (s.text, x.1) (record { text = s.text; parts = s.parts; ends = s.ends; spelled = (s.spelled.0, refl) }) in
+        let f : front_at n at ≡ Some (s.text, x.1) =
+        front_complete n at (s.text, x.1) (record { text = s.text; parts = s.parts; ends = s.ends; spelled = (s.spelled.0, refl) }) in
         let a : w.parse (input at.place s.text) ≡ Some x.0 = w.complete (input at.place s.text) x.0 s.spelled.1 in
         rw (f, a) refl
 
@@ -77,15 +84,17 @@ module _ {A : Type 0} (g : Grammar A) where
 
   pub alone_sound : (at : Input) (a : A) → alone_at at ≡ Some a → g.spells at.place at.bytes a
   alone_sound at a e =
-      let x = bind_some (g.parse at) (λ x. value_at_end x.1.bytes x.0) a e in
-      let d = ended_some x.0.1.bytes x.0.0 a x.2 in
-      let s = g.sound at x.0 x.1 in
-      let t : s.text ≡ at.bytes = sym (s.parts ∙ ap (λ (r : List ℕ). s.text ++ r) d.0 ∙ append-nil s.text) in
-      subst (λ (b : A). g.spells at.place at.bytes b) d.1 (subst (λ (r : List ℕ). g.spells at.place r x.0.0) t s.spelled)
+      let ((value, after), parsed, result) = bind_some (g.parse at) (λ x. value_at_end x.1.bytes x.0) a e in
+      let (none_left, same) = ended_some after.bytes value a result in
+      let s = g.sound at (value, after) parsed in
+      let t : s.text ≡ at.bytes = sym (s.parts ∙ ap (λ (r : List ℕ). s.text ++ r) none_left ∙ append-nil s.text) in
+      subst (λ (b : A). g.spells at.place at.bytes b) same (subst (λ (r : List ℕ). g.spells at.place r value) t s.spelled)
 
   pub alone_complete : (at : Input) (a : A) → g.spells at.place at.bytes a → alone_at at ≡ Some a
   alone_complete at a s =
-      let e : g.parse at ≡ Some (a, input (at.place + length at.bytes) []) = g.complete at (a, input (at.place + length at.bytes) []) (record { text = at.bytes; parts = sym (append-nil at.bytes); ends = refl; spelled = s }) in
+      let e : g.parse at ≡ Some (a, input (at.place + length at.bytes) []) =
+      g.complete at (a, input (at.place + length at.bytes) [])
+      (record { text = at.bytes; parts = sym (append-nil at.bytes); ends = refl; spelled = s }) in
       rw e refl
 
   abbrev pub alone : Remainder A
@@ -101,17 +110,19 @@ module _ {A B : Type 0} (g : Grammar A) (w : Remainder B) where
 
   pub seq_to_end_sound : (at : Input) (x : A × B) → seq_to_end_at at ≡ Some x → Headed at.place at.bytes x
   seq_to_end_sound at x e =
-      let a = bind_some (g.parse at) (λ a. w.parse a.1 >>= λ b. Some (a.0, b)) x e in
-      let b = bind_some (w.parse a.0.1) (λ b. Some (a.0.0, b)) x a.2 in
-      let s = g.sound at a.0 a.1 in
-      subst (λ (y : A × B). Headed at.place at.bytes y) (some_is (a.0.0, b.0) x b.2)
-      (s.text, a.0.1.bytes, s.parts, s.spelled, subst (λ (p : ℕ). w.spells p a.0.1.bytes b.0) s.ends (w.sound a.0.1 b.0 b.1))
+      let ((first, mid), first_parsed, rest) = bind_some (g.parse at) (λ a. w.parse a.1 >>= λ b. Some (a.0, b)) x e in
+      let (second, second_parsed, result) = bind_some (w.parse mid) (λ b. Some (first, b)) x rest in
+      let s = g.sound at (first, mid) first_parsed in
+      subst (λ (y : A × B). Headed at.place at.bytes y) (some_is (first, second) x result)
+      (s.text, mid.bytes, s.parts, s.spelled, subst (λ (p : ℕ). w.spells p mid.bytes second) s.ends (w.sound mid second second_parsed))
 
   pub seq_to_end_complete : (at : Input) (x : A × B) → Headed at.place at.bytes x → seq_to_end_at at ≡ Some x
   seq_to_end_complete at x s =
-      let after : Input = input (at.place + length s.0) s.1 in
-      let e : g.parse at ≡ Some (x.0, after) = g.complete at (x.0, after) (record { text = s.0; parts = s.2; ends = refl; spelled = s.3 }) in
-      let f : w.parse after ≡ Some x.1 = w.complete after x.1 s.4 in
+      let (t, u, joined, first_spelled, second_spelled) = s in
+      let mid : Input = input (at.place + length t) u in
+      let e : g.parse at ≡ Some (x.0, mid) =
+      g.complete at (x.0, mid) (record { text = t; parts = joined; ends = refl; spelled = first_spelled }) in
+      let f : w.parse mid ≡ Some x.1 = w.complete mid x.1 second_spelled in
       rw (e, f) refl
 
   abbrev pub seq_to_end : Remainder (A × B)
@@ -133,7 +144,8 @@ pub remaining_bytes_complete : (at : Input) (x : Placed (List ℕ)) → AllLeft 
 remaining_bytes_complete at x s = rw (← s.0, ← s.1) refl
 
 abbrev pub remaining_bytes : Remainder (Placed (List ℕ))
-remaining_bytes = record { spells = AllLeft; parse = remaining_bytes_at; sound = remaining_bytes_sound; complete = remaining_bytes_complete }
+remaining_bytes =
+    record { spells = AllLeft; parse = remaining_bytes_at; sound = remaining_bytes_sound; complete = remaining_bytes_complete }
 
 -- a value that takes all bytes, with the place of the first
 module _ {A : Type 0} (w : Remainder A) where
@@ -146,14 +158,15 @@ module _ {A : Type 0} (w : Remainder A) where
   pub whole_with_place_sound : (at : Input) (x : Placed A) → whole_with_place_at at ≡ Some x → PlacedWhole at.place at.bytes x
   whole_with_place_sound at x e =
       let with_place : A → Placed A = λ a. record { place = at.place; value = a } in
-      let a = bind_some (w.parse at) (λ a. Some (with_place a)) x e in
-      subst (λ (y : Placed A). PlacedWhole at.place at.bytes y) (some_is (with_place a.0) x a.2) (refl, w.sound at a.0 a.1)
+      let (value, parsed, result) = bind_some (w.parse at) (λ a. Some (with_place a)) x e in
+      subst (λ (y : Placed A). PlacedWhole at.place at.bytes y) (some_is (with_place value) x result) (refl, w.sound at value parsed)
 
   pub whole_with_place_complete : (at : Input) (x : Placed A) → PlacedWhole at.place at.bytes x → whole_with_place_at at ≡ Some x
   whole_with_place_complete at x s = rw (w.complete at x.value s.1, ← s.0) refl
 
   abbrev pub whole_with_place : Remainder (Placed A)
-  whole_with_place = record { spells = PlacedWhole; parse = whole_with_place_at; sound = whole_with_place_sound; complete = whole_with_place_complete }
+  whole_with_place =
+      record { spells = PlacedWhole; parse = whole_with_place_at; sound = whole_with_place_sound; complete = whole_with_place_complete }
 
 -- the values of a whole under a function, which may refuse and is told where the bytes end
 module _ {A B : Type 0} (f : ℕ → A → Option B) (w : Remainder A) where
@@ -165,11 +178,12 @@ module _ {A B : Type 0} (f : ℕ → A → Option B) (w : Remainder A) where
 
   pub try_map_by_end_sound : (at : Input) (b : B) → try_map_by_end_at at ≡ Some b → Concluded at.place at.bytes b
   try_map_by_end_sound at b e =
-      let a = bind_some (w.parse at) (λ a. f (at.place + length at.bytes) a) b e in
-      (a.0, a.2, w.sound at a.0 a.1)
+      let (value, parsed, maps) = bind_some (w.parse at) (λ a. f (at.place + length at.bytes) a) b e in
+      (value, maps, w.sound at value parsed)
 
   pub try_map_by_end_complete : (at : Input) (b : B) → Concluded at.place at.bytes b → try_map_by_end_at at ≡ Some b
-  try_map_by_end_complete at b s = rw (w.complete at s.0 s.2) s.1
+  try_map_by_end_complete at b s = let (value, maps, spelled) = s in rw (w.complete at value spelled) maps
 
   abbrev pub try_map_by_end : Remainder B
-  try_map_by_end = record { spells = Concluded; parse = try_map_by_end_at; sound = try_map_by_end_sound; complete = try_map_by_end_complete }
+  try_map_by_end =
+      record { spells = Concluded; parse = try_map_by_end_at; sound = try_map_by_end_sound; complete = try_map_by_end_complete }

@@ -28,7 +28,8 @@ pub mod Atomics
 unfoldable pub table : List Row
 unfolding control_rows variable_rows memory_rows number_rows reference_rows bulk_rows vector_rows vector_number_rows atomic_rows
 table =
-    control_rows ++ (variable_rows ++ (memory_rows ++ (number_rows ++ (reference_rows ++ (bulk_rows ++ (vector_rows ++ (vector_number_rows ++ atomic_rows)))))))
+    control_rows ++ (variable_rows ++ (memory_rows ++ (number_rows ++ (reference_rows
+    ++ (bulk_rows ++ (vector_rows ++ (vector_number_rows ++ atomic_rows)))))))
 
 -- the first row that passes a test
 abbrev pub first : (Row → Bool) → List Row → Option Row

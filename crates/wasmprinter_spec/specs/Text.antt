@@ -13,6 +13,7 @@ pub mod Tags
 pub mod Globals
 pub mod Imports
 pub mod Exports
+pub mod Start
 pub mod Elements
 pub mod DataSegments
 pub mod Customs

@@ -19,16 +19,16 @@ pub data Token : Type 0 where
   bad : Token
 
 -- what a run of identifier characters or a quoted text makes
-pub data Part : Type 0 where
-  AsWord : Part
-  AsName : Part
-  AsNote : Part
-  AsString : Part
+pub data RunKind : Type 0 where
+  AsWord : RunKind
+  AsName : RunKind
+  AsNote : RunKind
+  AsString : RunKind
 
 pub data Mode : Type 0 where
   Clear : Mode  -- a token may begin
   Tight : Mode  -- behind a quoted text, which a token must not touch
-  InRun : Part → List ℕ → Mode
+  InRun : RunKind → List ℕ → Mode
   AfterDollar : Mode
   AfterLeft : Mode
   AfterLeftAt : Mode
@@ -37,17 +37,17 @@ pub data Mode : Type 0 where
   InBlock : ℕ → Mode  -- in a comment, and how many comments are open around it
   InBlockLeft : ℕ → Mode
   InBlockSemicolon : ℕ → Mode
-  InQuoted : Part → List ℕ → Mode
-  InEscape : Part → List ℕ → Mode
-  InHex : Part → List ℕ → ℕ → Mode
-  BeforeBrace : Part → List ℕ → Mode
-  InBrace : Part → List ℕ → List ℕ → Mode
+  InQuoted : RunKind → List ℕ → Mode
+  InEscape : RunKind → List ℕ → Mode
+  InHex : RunKind → List ℕ → ℕ → Mode
+  BeforeBrace : RunKind → List ℕ → Mode
+  InBrace : RunKind → List ℕ → List ℕ → Mode
 
 abbrev pub Next : Type 0
 Next = Mode → List Token
 
 -- a run of identifier characters
-abbrev pub run_token : Part → List ℕ → Token
+abbrev pub run_token : RunKind → List ℕ → Token
 run_token AsWord s = word s
 run_token AsName s = name s
 run_token AsNote s = left_note s
@@ -58,7 +58,7 @@ abbrev pub is_name : List ℕ → Bool
 is_name [] = false
 is_name (b ∷ bs) = is_utf8 (b ∷ bs)
 
-abbrev pub quoted_tokens : Part → List ℕ → List Token → List Token
+abbrev pub quoted_tokens : RunKind → List ℕ → List Token → List Token
 quoted_tokens AsWord s ts = bad ∷ ts
 quoted_tokens AsName s ts = (if is_name s then name s else reserved) ∷ ts
 quoted_tokens AsNote s ts = if is_name s then left_note s ∷ ts else left ∷ (reserved ∷ ts)
@@ -97,7 +97,7 @@ abbrev pub touch : Bool → Class → ℕ → Next → List Token
 touch true c b k = clear c b k
 touch false c b k = reserved ∷ clear c b k
 
-abbrev pub in_run : Part → List ℕ → Class → ℕ → Next → List Token
+abbrev pub in_run : RunKind → List ℕ → Class → ℕ → Next → List Token
 in_run p s Backslash b k = k (InRun p (s ++ (b ∷ [])))
 in_run p s Dollar b k = k (InRun p (s ++ (b ∷ [])))
 in_run p s At b k = k (InRun p (s ++ (b ∷ [])))
@@ -159,7 +159,7 @@ in_block_semicolon n _ k = k (InBlock n)
 
 -- ---- quoted texts
 
-abbrev pub in_quoted : Part → List ℕ → Class → ℕ → Next → List Token
+abbrev pub in_quoted : RunKind → List ℕ → Class → ℕ → Next → List Token
 in_quoted p s Quote b k = quoted_tokens p s (k Tight)
 in_quoted p s Backslash b k = k (InEscape p s)
 in_quoted p s Feed b k = bad ∷ k Clear
@@ -181,30 +181,30 @@ escape b =
     (if (b == 34) || (b == 39) || (b == 92) then Char b else
     (if nat_lt (digit_value b) 16 then Digit (digit_value b) else Wrong)))))
 
-abbrev pub in_escape : Part → List ℕ → Escape → Next → List Token
+abbrev pub in_escape : RunKind → List ℕ → Escape → Next → List Token
 in_escape p s (Char c) k = k (InQuoted p (s ++ (c ∷ [])))
 in_escape p s (Digit h) k = k (InHex p s h)
 in_escape p s Braced k = k (BeforeBrace p s)
 in_escape p s Wrong k = bad ∷ k Clear
 
 -- the second hexadecimal digit of a byte
-abbrev pub in_hex : Part → List ℕ → ℕ → Bool → ℕ → Next → List Token
+abbrev pub in_hex : RunKind → List ℕ → ℕ → Bool → ℕ → Next → List Token
 in_hex p s h true b k = k (InQuoted p (s ++ ((h * 16 + digit_value b) ∷ [])))
 in_hex p s h false b k = bad ∷ k Clear
 
-abbrev pub before_brace : Part → List ℕ → Bool → Next → List Token
+abbrev pub before_brace : RunKind → List ℕ → Bool → Next → List Token
 before_brace p s true k = k (InBrace p s [])
 before_brace p s false k = bad ∷ k Clear
 
-abbrev pub with_char : Part → List ℕ → Bool → ℕ → Next → List Token
+abbrev pub with_char : RunKind → List ℕ → Bool → ℕ → Next → List Token
 with_char p s true n k = k (InQuoted p (s ++ encode_utf8 n))
 with_char p s false n k = bad ∷ k Clear
 
-abbrev pub end_brace : Part → List ℕ → Option ℕ → Next → List Token
+abbrev pub end_brace : RunKind → List ℕ → Option ℕ → Next → List Token
 end_brace p s (Some n) k = with_char p s (scalar n) n k
 end_brace p s None k = bad ∷ k Clear
 
-abbrev pub in_brace : Part → List ℕ → List ℕ → Bool → ℕ → Next → List Token
+abbrev pub in_brace : RunKind → List ℕ → List ℕ → Bool → ℕ → Next → List Token
 in_brace p s d true b k = end_brace p s (numeral 16 d) k
 in_brace p s d false b k = k (InBrace p s (d ++ (b ∷ [])))
 

@@ -8,7 +8,7 @@ use Rattle.wasmprinter_spec.specs.Layout.Groups.{line_group}
 use Rattle.wasmprinter_spec.specs.Layout.ValTypes.{val_pieces, type_list}
 use Rattle.wasmprinter_spec.specs.Layout.Types.{list_group}
 use Rattle.wasmprinter_types.specs.ValTypes.{type_view, types_view}
-use Rattle.wasmprinter_types.specs.declared.ValType.{ValType}
+use Rattle.wasmprinter_types.specs.declared.val_types.ValType.{ValType}
 
 module _ (names : Names) where
   pub one_type : (t : DefinedType) → type_list names (t ∷ []) ≡ Gap ∷ val_pieces names t

@@ -10,7 +10,7 @@ use Rattle.wasmprinter_spec.specs.Layout.ValTypes.{type_list}
 use Rattle.wasmprinter_spec.specs.Layout.Variables.{Variables, Alone, Together, with_variable, variable_groups, variables_pieces, groups_pieces}
 use Rattle.wasmprinter_spec.specs.Layout.Functions.{local_line}
 use Rattle.wasmprinter_types.specs.ValTypes.{type_view, types_view}
-use Rattle.wasmprinter_types.specs.declared.ValType.{ValType as GivenType}
+use Rattle.wasmprinter_types.specs.declared.val_types.ValType.{ValType as GivenType}
 use Rattle.wasmprinter_text.specs.declared.types.variables.Before.{Before}
 use Rattle.wasmprinter_text.specs.declared.types.variables.Before.TheVariants as before
 use Rattle.wasmprinter_text.specs.Variables.{end_pieces, before_next, unnamed_pieces, variable_pieces, walk_pieces}

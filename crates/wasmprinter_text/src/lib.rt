@@ -3,7 +3,7 @@
 //! What answers `io::Result` fails with the error of the call on the printer that failed, and for no other reason.
 #![tactic(auto)]
 
-pub mod data;
+pub mod data_strings;
 pub mod indices;
 pub mod signature;
 pub mod types;

@@ -19,20 +19,20 @@ IsCharBoundary-longer t s i v u b =
 
 pub first_at_le : (starts : List LineStart) (t : List ℕ) → IsCuttable starts t → first_at starts t ≤ length t
 first_at_le [] t h = omega arith
-first_at_le (s ∷ starts) t h = omega (arith, h.0.0)
+first_at_le (s ∷ starts) t ((within, whole_chars), before, others) = omega (arith, within)
 
 pub IsCuttable-longer : (starts : List LineStart) (t s : List ℕ) → IsUtf8 t → IsUtf8 s → IsCuttable starts t → IsCuttable starts (t ++ s)
 IsCuttable-longer [] t s v u h = tt
 IsCuttable-longer (x ∷ []) t s v u h = (IsCharBoundary-longer t s x.at v u h.0, omega (arith, length-append t s, h.1), tt)
-IsCuttable-longer (x ∷ y ∷ starts) t s v u h =
-    (IsCharBoundary-longer t s x.at v u h.0, h.1, IsCuttable-longer (y ∷ starts) t s v u h.2)
+IsCuttable-longer (x ∷ y ∷ starts) t s v u (boundary, before, others) =
+    (IsCharBoundary-longer t s x.at v u boundary, before, IsCuttable-longer (y ∷ starts) t s v u others)
 
 -- a line that begins at the end
 pub IsCuttable-more : (starts : List LineStart) (t : List ℕ) (p : Option ℕ) → IsCuttable starts t →
     IsCuttable (starts ++ record { place = p; at = length t } ∷ []) t
 IsCuttable-more [] t p h = (IsCharBoundary-end t, omega arith, tt)
 IsCuttable-more (x ∷ []) t p h = (h.0, h.1, IsCuttable-more [] t p tt)
-IsCuttable-more (x ∷ y ∷ starts) t p h = (h.0, h.1, IsCuttable-more (y ∷ starts) t p h.2)
+IsCuttable-more (x ∷ y ∷ starts) t p (boundary, before, others) = (boundary, before, IsCuttable-more (y ∷ starts) t p others)
 
 -- all of a text behind a place
 whole : (i : ℕ) (t : List ℕ) → take (length t - i) (drop i t) ≡ drop i t
@@ -46,20 +46,20 @@ part-longer i j t s le within =
 
 pub lines_at_starts-longer : (starts : List LineStart) (t s : List ℕ) → IsCuttable starts t → lines_at_starts starts (t ++ s) ≡ extend_last (lines_at_starts starts t) s
 lines_at_starts-longer [] t s h = refl
-lines_at_starts-longer (x ∷ []) t s h =
+lines_at_starts-longer (x ∷ []) t s ((within, whole_chars), before, none) =
     ap (λ (l : List ℕ). (x.place, l) ∷ [])
-    (whole x.at (t ++ s) ∙ drop-append-le x.at t s h.0.0 ∙ ap (λ l. l ++ s) (sym (whole x.at t)))
-lines_at_starts-longer (x ∷ y ∷ starts) t s h =
-    let next : IsCuttable (y ∷ starts) t = h.2 in
-    let within : y.at ≤ length t = next.0.0 in
-    ap₂ (λ (l : List ℕ) (m : List TextLine). (x.place, l) ∷ m) (part-longer x.at y.at t s h.0.0 within) (lines_at_starts-longer (y ∷ starts) t s next)
+    (whole x.at (t ++ s) ∙ drop-append-le x.at t s within ∙ ap (λ l. l ++ s) (sym (whole x.at t)))
+lines_at_starts-longer (x ∷ y ∷ starts) t s ((within, whole_chars), before, others) =
+    let (next, order, more) = others in
+    ap₂ (λ (l : List ℕ) (m : List TextLine). (x.place, l) ∷ m) (part-longer x.at y.at t s within next.0)
+    (lines_at_starts-longer (y ∷ starts) t s others)
 
 pub lines_at_starts-more : (starts : List LineStart) (t : List ℕ) (p : Option ℕ) → IsCuttable starts t →
     lines_at_starts (starts ++ record { place = p; at = length t } ∷ []) t ≡ lines_at_starts starts t ++ (p, []) ∷ []
 lines_at_starts-more [] t p h = ap (λ (l : List ℕ). (p, l) ∷ []) (rw drop-length (take-nil (length t - length t)))
 lines_at_starts-more (x ∷ []) t p h = ap (λ (l : List TextLine). (x.place, take (length t - x.at) (drop x.at t)) ∷ l) (lines_at_starts-more [] t p tt)
-lines_at_starts-more (x ∷ y ∷ starts) t p h =
-    ap (λ (l : List TextLine). (x.place, take (y.at - x.at) (drop x.at t)) ∷ l) (lines_at_starts-more (y ∷ starts) t p h.2)
+lines_at_starts-more (x ∷ y ∷ starts) t p (boundary, before, others) =
+    ap (λ (l : List TextLine). (x.place, take (y.at - x.at) (drop x.at t)) ∷ l) (lines_at_starts-more (y ∷ starts) t p others)
 
 -- what a tracker keeps where a line begins
 pub IsCuttable-begun : (starts : List LineStart) (w : Option (Option ℕ)) (t : List ℕ) (p : Option ℕ) → is_some w ≡ false →

@@ -66,9 +66,10 @@ Tracks-tracked_after base k c t h = record {
 tracks_more : (base : List ℕ) (k cs : List Call) (s t : Tracked) → Tracks base k s → Run tracked_meaning s cs t → Tracks base (k ++ cs) t
 tracks_more base k [] s t h r =
     subst (λ (u : Tracked). Tracks base (k ++ []) u) r (subst (λ (l : List Call). Tracks base l s) (sym (append-nil k)) h)
-tracks_more base k (c ∷ cs) s t h r =
-    let more : Tracks base (k ++ c ∷ []) r.0 = subst (λ (u : Tracked). Tracks base (k ++ c ∷ []) u) (sym r.1.step.0) (Tracks-tracked_after base k c s h) in
-    subst (λ (l : List Call). Tracks base l t) (append_assoc k (c ∷ []) cs) (tracks_more base (k ++ c ∷ []) cs r.0 t more r.2)
+tracks_more base k (c ∷ cs) s t h (between, called, rest) =
+    let more : Tracks base (k ++ c ∷ []) between =
+    subst (λ (u : Tracked). Tracks base (k ++ c ∷ []) u) (sym called.step.0) (Tracks-tracked_after base k c s h) in
+    subst (λ (l : List Call). Tracks base l t) (append_assoc k (c ∷ []) cs) (tracks_more base (k ++ c ∷ []) cs between t more rest)
 
 -- A tracker in which no line had begun has the text of the calls behind its old text, and their lines, unless one was lost.
 pub run_tracks : (base : List ℕ) (calls : List Call) (t : Tracked) → Run tracked_meaning (without_lines base) calls t → Tracks base calls t
@@ -78,8 +79,9 @@ run_tracks base calls t r =
 -- the text of a tracker grows by that of the calls
 pub run_text : (s : Tracked) (calls : List Call) (t : Tracked) → Run tracked_meaning s calls t → t.text ≡ s.text ++ text_of calls
 run_text s [] t r = sym (ap (λ (u : Tracked). u.text) r) ∙ sym (append-nil s.text)
-run_text s (c ∷ cs) t r =
-    run_text r.0 cs t r.2 ∙ ap (λ (u : Tracked). u.text ++ text_of cs) r.1.step.0 ∙ ap (λ x. x ++ text_of cs) (tracked_after-text s c)
+run_text s (c ∷ cs) t (between, called, rest) =
+    run_text between cs t rest ∙ ap (λ (u : Tracked). u.text ++ text_of cs) called.step.0
+    ∙ ap (λ x. x ++ text_of cs) (tracked_after-text s c)
     ∙ append_assoc s.text (call_text c) (text_of cs)
 
 -- a tracker takes no custom section

@@ -19,10 +19,12 @@ tracked_after t (Claim name place bytes answer) = t
 abbrev pub KeepsAll : Call → Tracked → Type 0
 KeepsAll (Text bytes) new = new.lost ≡ false
 KeepsAll Newline new = new.lost ≡ false
+KeepsAll (Line place) new = Unit {0}
+KeepsAll (Start style) new = Unit {0}
 KeepsAll (Claim name place bytes answer) new = answer ≡ false
-KeepsAll _ new = Unit {0}
 
--- the meaning of a tracker: only what writes text can fail, and a call that fails wants memory, and leaves the text and its lines as they were
+-- the meaning of a tracker: only what writes text can fail, and a call that fails wants memory, and leaves the text and its lines as they
+-- were
 abbrev pub tracked_meaning : Meaning Tracked
 tracked_meaning = record {
   after = λ old call new. (new ≡ tracked_after old call) × KeepsAll call new;

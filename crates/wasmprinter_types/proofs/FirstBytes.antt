@@ -27,11 +27,12 @@ some_signed bits (b ∷ bs) n s = omega arith
 pub index_takes_byte : (at : Input) (x : ℕ × Input) → signed_index.parse at ≡ Some x → length x.1.bytes < length at.bytes
 index_takes_byte at x e =
     let s = signed_index.sound at x e in
-    omega (arith, ap length s.parts, length-append s.text x.1.bytes, some_signed 33 s.text s.spelled.0 s.spelled.2)
+    let (number, not_negative, signed) = s.spelled in
+    omega (arith, ap length s.parts, length-append s.text x.1.bytes, some_signed 33 s.text number signed)
 
 -- what is announced by a byte takes it
 pub announced_takes_byte : {A : Type 0} (h : ℕ → Grammar A) (at : Input) (x : A × Input) → (behind_first_byte h).parse at ≡ Some x → length x.1.bytes < length at.bytes
 announced_takes_byte h at x e =
     let s = (behind_first_byte h).sound at x e in
-    let parts = s.spelled.2 in
-    omega (arith, ap length s.parts, length-append s.text x.1.bytes, ap length parts.2, length-append parts.0 parts.1, ap length parts.3)
+    let (value, kept, (front, behind, joined, byte_spelled, spelled)) = s.spelled in
+    omega (arith, ap length s.parts, length-append s.text x.1.bytes, ap length joined, length-append front behind, ap length byte_spelled)

@@ -47,7 +47,7 @@ module _ {A B : Type 0} (make : A → B) (see : B → A) (back : (a : A) → see
 
   -- the items alone
   abbrev uncounted : {X : Type 0} → Option ((ℕ × List X) × Input) → Option (List X × Input)
-  uncounted r = r >>= λ x. Some (x.0.1, x.1)
+  uncounted r = r >>= λ ((_, xs), after). Some (xs, after)
 
   -- the count changes nothing
   count_made : (n : ℕ) (r : Option (List B × Input)) → uncounted (counted n (seen_at r)) ≡ seen_at (uncounted (counted n r))

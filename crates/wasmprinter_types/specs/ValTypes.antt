@@ -5,11 +5,11 @@ use Rattle.wasmprinter_spec.specs.Binary.ValTypes.{val_type}
 use Rattle.wasmprinter_spec.specs.Types.{ref_type}
 use Rattle.wasmprinter_spec.specs.Types.{HeapType as DefinedHeap, RefType as DefinedRef, ValType as DefinedType}
 use Rattle.wasmprinter_spec.specs.Types as defined
-use Rattle.wasmprinter_types.specs.declared.HeapType.{HeapType}
-use Rattle.wasmprinter_types.specs.declared.HeapType.TheVariants as h
-use Rattle.wasmprinter_types.specs.declared.RefType.{RefType}
-use Rattle.wasmprinter_types.specs.declared.ValType.{ValType}
-use Rattle.wasmprinter_types.specs.declared.ValType.TheVariants as t
+use Rattle.wasmprinter_types.specs.declared.val_types.HeapType.{HeapType}
+use Rattle.wasmprinter_types.specs.declared.val_types.HeapType.TheVariants as h
+use Rattle.wasmprinter_types.specs.declared.val_types.RefType.{RefType}
+use Rattle.wasmprinter_types.specs.declared.val_types.ValType.{ValType}
+use Rattle.wasmprinter_types.specs.declared.val_types.ValType.TheVariants as t
 
 -- the heap type of the definitions
 abbrev pub heap_view : HeapType → DefinedHeap

@@ -9,7 +9,7 @@ ghost use Rattle.wasmprinter_bytes.specs.Reads.{Reads, IsWithin, end_of};
 ghost use Rattle.wasmprinter_types.specs.ValTypes.{types_view};
 ghost use Rattle.wasmprinter_types.specs.Types.{storage_view, field_view, field_at, fields_view, composite_view};
 
-use crate::{First, ValType, ValTypes, read_types};
+use crate::val_types::{First, ValType, ValTypes, read_types};
 use std::marker::Model;
 use wasmprinter_bytes::bytes::Cursor;
 use wasmprinter_bytes::lists::{Items, Spelled, SpelledIn};
@@ -323,7 +323,7 @@ pub struct SubTypes<'a> {
 
 impl<'a> Model for SubTypes<'a> {
     ghost use Rattle.std.specs.Prelude.{List};
-    ghost use Rattle.wasmprinter_spec.specs.Repeated.{items_of, HasItems};
+    ghost use Rattle.wasmprinter_bytes.specs.Items.{items_of, HasItems};
     ghost use Rattle.wasmprinter_spec.specs.Types.{SubType as SubTypeValue};
     ghost use Rattle.wasmprinter_spec.specs.Binary.Types.{subtype};
 

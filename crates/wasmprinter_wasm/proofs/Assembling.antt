@@ -21,6 +21,7 @@ use Rattle.wasmprinter_error.specs.declared.error.Error.{Error}
 use Rattle.wasmprinter_error.specs.declared.error.Error.TheVariants as e
 use Rattle.wasmprinter_error.specs.Reasons.{HasReason}
 use Rattle.wasmprinter_error.proofs.Reasons.{reason_implied, memory_alone}
+use Rattle.wasmprinter_spec.proofs.Each.{all_parts}
 use Rattle.wasmprinter_entries.specs.Refusals.{AnyIsOver, PlacedTable, FirstIsEmpty}
 use Rattle.wasmprinter_entries.specs.Contents.{HasFew, HasNoEmpty}
 use Rattle.wasmprinter_wasm.specs.Gathering.{Gathered, IsWhole, sections_at, item_count_in, HoldsSections, sections_reasons}
@@ -30,7 +31,7 @@ use Rattle.wasmprinter_entries.proofs.LaterPlaces.{IsLater, later_none, later_mo
 use Rattle.wasmprinter_segments.proofs.Emptied.{not_empty}
 use Rattle.wasmprinter_wasm.proofs.Pairing.{Paired, Pairs, paired_of, paired_length, pairs_of}
 use Rattle.wasmprinter_wasm.proofs.OrderedSections.{HoldsFew, few_held}
-use Rattle.wasmprinter_wasm.proofs.Listed.{bytes_apart, sections_listed, items_held}
+use Rattle.wasmprinter_wasm.proofs.Listed.{sections_listed, items_held}
 
 -- what the bytes of a module are: a preamble, and sections in order with as many type indices as bodies, and as
 -- many data segments as are counted
@@ -80,19 +81,29 @@ module _ (bytes pre : List ℕ) (at : Input) (first : preamble.parse (input 0 by
       let count : Bool = counts_data (data_count_in ss) (length (datas_in ss)) in
       let t = tested (up && count) (function_pairs (type_indices_in ss) (bodies_in ss) >>= λ fs. Some (module_from size ss fs)) m e in
       let both = and_parts up count t.0 in
-      let p = bind_some (function_pairs (type_indices_in ss) (bodies_in ss)) (λ fs. Some (module_from size ss fs)) m t.1 in
-      record { sections = ss; read = read; rise = both.0; counted = both.1; functions = p.0; pairs = p.1; is = some_is (module_from size ss p.0) m p.2 }
+      let (fs, pairs, made) = bind_some (function_pairs (type_indices_in ss) (bodies_in ss)) (λ fs. Some (module_from size ss fs)) m t.1 in
+      record {
+        sections = ss;
+        read = read;
+        rise = both.0;
+        counted = both.1;
+        functions = fs;
+        pairs = pairs;
+        is = some_is (module_from size ss fs) m made;
+      }
 
   -- what the bytes of a module are
   spelled_of : (m : PlacedModule) → Spells bytes m → Spelled at m size
   spelled_of m s =
       let read = binary.complete (input 0 bytes) m s.spelled in
-      let a = bind_some ((seq_to_end preamble (until_end section)).parse (input 0 bytes)) (λ x. module_of_sections size x.1) m read in
-      let b = bind_some (preamble.parse (input 0 bytes)) (λ a. sections_at a.1 >>= λ ss. Some (a.0, ss)) a.0 a.1 in
-      let c = bind_some (sections_at b.0.1) (λ ss. Some (b.0.0, ss)) a.0 b.2 in
-      let there : b.0.1 ≡ at = ap (λ (x : List ℕ × Input). x.1) (some_is b.0 (pre, at) (sym b.1 ∙ first)) in
-      let same : c.0 ≡ a.0.1 = ap (λ (x : List ℕ × List Section). x.1) (some_is (b.0.0, c.0) a.0 c.2) in
-      assembled_of c.0 m (ap sections_at (sym there) ∙ c.1) (ap (module_of_sections size) same ∙ a.2)
+      let ((front, all), parsed, made) =
+      bind_some ((seq_to_end preamble (until_end section)).parse (input 0 bytes)) (λ x. module_of_sections size x.1) m read in
+      let ((begun, mid), begun_parsed, behind) =
+      bind_some (preamble.parse (input 0 bytes)) (λ a. sections_at a.1 >>= λ ss. Some (a.0, ss)) (front, all) parsed in
+      let (ss, ss_parsed, whole) = bind_some (sections_at mid) (λ ss. Some (begun, ss)) (front, all) behind in
+      let there : mid ≡ at = ap (λ (x : List ℕ × Input). x.1) (some_is (begun, mid) (pre, at) (sym begun_parsed ∙ first)) in
+      let same : ss ≡ all = ap (λ (x : List ℕ × List Section). x.1) (some_is (begun, ss) (front, all) whole) in
+      assembled_of ss m (ap sections_at (sym there) ∙ ss_parsed) (ap (module_of_sections size) same ∙ made)
 
   -- the sections stand behind the preamble
   later : IsLater (input 0 bytes) at
@@ -134,8 +145,11 @@ module _ (bytes pre : List ℕ) (at : Input) (first : preamble.parse (input 0 by
           let p = spelled_of m s in
           subst (AnyIsOver place) (sym (functions_are m p).bodies) (h.1 p.sections p.read p.rise),
     );
-    functions = λ count h.
-        (section_later (input 0 bytes) at FunctionSection count later h.0, h.1, λ m s. let p = spelled_of m s in (functions_are m p).count ∙ h.2 p.sections p.read p.rise);
+    functions = λ count (begins, many, counted). (
+      section_later (input 0 bytes) at FunctionSection count later begins,
+      many,
+      λ m s. let p = spelled_of m s in (functions_are m p).count ∙ counted p.sections p.read p.rise,
+    );
     tables = λ place h. (
       empty_later (input 0 bytes) at place later h.0,
       λ m s. let p = spelled_of m s in subst (FirstIsEmpty place) (tables_are m p) (h.1 p.sections p.read p.rise),
@@ -177,7 +191,7 @@ module _ (bytes pre : List ℕ) (at : Input) (first : preamble.parse (input 0 by
       pub module_kept : AreBytes bytes → IsPaired g.type_indices g.bodies × HasFewItems g.imports g.tables g.memories g.tags g.globals
       module_kept all =
           let s = preamble.sound (input 0 bytes) (pre, at) first in
-          let rest : AreBytes at.bytes = (bytes_apart s.text at.bytes (subst AreBytes s.parts all)).1 in
+          let rest : AreBytes at.bytes = (all_parts (λ b. b < 256) s.text at.bytes (subst AreBytes s.parts all)).1 in
           (record { same = whole.as_many; few = few.functions }, items_held g h.sections (sections_listed at h.sections h.read rest) h.held)
 
       -- the module that is put together
@@ -251,9 +265,11 @@ empty_none place (t ∷ ts) none (inr there) = empty_none place ts none.1 there.
 -- where a module within the limits is spelled, and no component, memory was what was wanting, and it holds something
 pub within_fault : (bytes : List ℕ) (f : Error) → IsFaultOf bytes f → (m : PlacedModule) → Spells bytes m → IsWithinLimits m → (f ≡ e.Memory) × HoldsSome m
 within_fault bytes f h m s w =
-    let a = memory_alone (module_reasons bytes ⊥) (λ place r. r.0 m s) (λ r. r) (λ place r. over_few place m.functions w.locals (r.1 m s))
-    (λ count r. let l = r.2 m s in omega (arith, r.1, w.functions)) (λ place r. empty_none place m.tables w.tables (r.1 m s)) f h in
-    (a.0, a.1.1 m s)
+    let (is, (stands, some)) =
+    memory_alone (module_reasons bytes ⊥) (λ place r. r.0 m s) (λ r. r) (λ place r. over_few place m.functions w.locals (r.1 m s))
+    (λ count (begins, many, counted). let same = counted m s in omega (arith, many, w.functions))
+    (λ place r. empty_none place m.tables w.tables (r.1 m s)) f h in
+    (is, some m s)
 
 -- the same of a result
 pub within_alone : (bytes : List ℕ) (r : Result PlacedModule Error) → TakesModule bytes r → (m : PlacedModule) → Spells bytes m → IsWithinLimits m → IsOkUnless r e.Memory

@@ -13,7 +13,7 @@ use Rattle.wasmprinter_error.proofs.Reasons.{reason_implied}
 use Rattle.wasmprinter_wasm.specs.declared.sections.Section.{Section as SectionRead}
 use Rattle.wasmprinter_entries.specs.Refusals.{BeginsSection}
 use Rattle.wasmprinter_wasm.specs.Sections.{section_view, section_reasons, TakesContent, TakesSection}
-use Rattle.wasmprinter_entries.specs.Contents.{HasOver, HasEmpty, HasCount, item_count, Counts, content_reasons}
+use Rattle.wasmprinter_entries.specs.Contents.{HasOver, HasEmpty, HasCount, item_count, CountStands, content_reasons}
 use Rattle.wasmprinter_entries.proofs.Parts.{sized, sized_is, sized_none, sized_some, old_parts, part_within}
 use Rattle.wasmprinter_entries.proofs.LaterPlaces.{many_in_part, IsLater, later_none, later_more, many_later, empty_later, empty_in_part}
 
@@ -38,7 +38,7 @@ module _ (old behind mid part new : Input) (id size : ℕ) (id_read : byte.parse
   module _ (kind : Kind) (is : kind_of id ≡ Some kind) where
     -- the section with what was read
     abbrev made : Option ((ℕ × Content kind) × Input) → Option (Section × Input)
-    made r = r >>= λ a. Some (holds kind a.0.1, a.1)
+    made r = r >>= λ ((_, c), rest). Some (holds kind c, rest)
 
     -- the kind in front of the section
     abbrev with_kind : Option (Section × Input) → Option ((Kind × Section) × Input)
@@ -46,7 +46,7 @@ module _ (old behind mid part new : Input) (id size : ℕ) (id_read : byte.parse
 
     -- the section alone
     abbrev behind_kind : Option (Section × Input) → Option (Section × Input)
-    behind_kind r = with_kind r >>= λ y. Some (y.0.1, y.1)
+    behind_kind r = with_kind r >>= λ ((_, s), rest). Some (s, rest)
 
     -- to put the kind in front and to take it off is nothing
     regroup : (r : Option (Section × Input)) → behind_kind r ≡ r
@@ -64,19 +64,23 @@ module _ (old behind mid part new : Input) (id size : ℕ) (id_read : byte.parse
     -- the section that stands there is read of the part
     section_content : (x : Section × Input) → section.parse old ≡ Some x → (c : Content kind) × ((content kind).parse part ≡ Some c) × (holds kind c ≡ x.0)
     section_content x r =
-        let (sized_content, parsed, given) = bind_some ((sized behind mid part new size size_read cut begins (content kind)).parse behind) (λ a. Some (holds kind a.0.1, a.1)) x (sym into ∙ r) in
-        let c : Content kind = sized_content.0.1 in
-        (c, sized_some behind mid part new size size_read cut begins (content kind) sized_content parsed, ap (λ (y : Section × Input). y.0) (some_is (holds kind c, sized_content.1) x given))
+        let (((front, c), after), parsed, given) =
+        bind_some ((sized behind mid part new size size_read cut begins (content kind)).parse behind)
+        (λ ((_, c), rest). Some (holds kind c, rest)) x (sym into ∙ r) in (
+          c,
+          sized_some behind mid part new size size_read cut begins (content kind) ((front, c), after) parsed,
+          ap (λ (y : Section × Input). y.0) (some_is (holds kind c, after) x given),
+        )
 
     -- what is so of the section, if the part spells one, is so of the section that stands there
     of_section : (P : Section → Type 0) → ((c : Content kind) → (content kind).parse part ≡ Some c → P (holds kind c)) → (x : Section × Input) → section.parse old ≡ Some x → P x.0
-    of_section P h x r = let c = section_content x r in subst P c.2 (h c.0 c.1)
+    of_section P h x r = let (c, parsed, is) = section_content x r in subst P is (h c parsed)
 
     -- a section of the kind and a count begins there
-    begun : (count : ℕ) → Counts part count → BeginsSection old kind count
+    begun : (count : ℕ) → CountStands part count → BeginsSection old kind count
     begun count c =
         let first = byte.sound old (id, behind) id_read in
-        let p = old_parts behind mid part new size size_read cut begins in
+        let (size_text, split, part_begins, size_spelled) = old_parts behind mid part new size size_read cut begins in
         let n = u32.sound part (count, c.after) c.counted in
         let head : old.bytes ≡ id ∷ behind.bytes = first.parts ∙ ap (λ (bs : List ℕ). bs ++ behind.bytes) first.spelled in
         let front : part.bytes ++ new.bytes ≡ n.text ++ (c.after.bytes ++ new.bytes) = ap (λ (bs : List ℕ). bs ++ new.bytes) n.parts ∙ append_assoc n.text c.after.bytes new.bytes in
@@ -84,12 +88,12 @@ module _ (old behind mid part new : Input) (id size : ℕ) (id_read : byte.parse
           before = [];
           id = id;
           of_kind = is;
-          size_text = p.0;
+          size_text = size_text;
           count_text = n.text;
           behind = c.after.bytes ++ new.bytes;
-          parts = head ∙ ap (λ (bs : List ℕ). id ∷ bs) (p.1 ∙ ap (λ (bs : List ℕ). p.0 ++ bs) front);
+          parts = head ∙ ap (λ (bs : List ℕ). id ∷ bs) (split ∙ ap (λ (bs : List ℕ). size_text ++ bs) front);
           size = size;
-          sized = p.3;
+          sized = size_spelled;
           counted = n.spelled;
         }
 
@@ -99,15 +103,24 @@ module _ (old behind mid part new : Input) (id size : ℕ) (id_read : byte.parse
       malformed = λ place h. (into ∙ ap made (sized_none behind mid part new size size_read cut begins (content kind) h.0), within place h.1);
       component = λ h. h;
       locals = λ place h.
-          let p = old_parts behind mid part new size size_read cut begins in
-          (many_later old behind place later (many_in_part behind part p.0 new.bytes place p.1 p.2 h.0), of_section (HasOver place) h.1);
-      functions = λ count h. (subst (λ (k : Kind). BeginsSection old k count) h.0 (begun count h.1), h.2, of_section (HasCount count) h.3);
+          let (size_text, split, part_begins, size_spelled) = old_parts behind mid part new size size_read cut begins in
+          let there = many_in_part behind part size_text new.bytes place split part_begins h.0 in
+          (many_later old behind place later there, of_section (HasOver place) h.1);
+      functions = λ count (of_functions, stands, many, counted).
+          (subst (λ (k : Kind). BeginsSection old k count) of_functions (begun count stands), many, of_section (HasCount count) counted);
       tables = λ place h.
-          let p = old_parts behind mid part new size size_read cut begins in
-          (empty_later old behind place later (empty_in_part behind part p.0 new.bytes place p.1 p.2 h.0), of_section (HasEmpty place) h.1);
-      memory = λ h. (
-        record { kind = kind; listed = h.0; count = h.1.count; some = h.1.some; begins = begun h.1.count (record { after = h.1.after; counted = h.1.counted }) },
-        of_section (λ (s : Section). 0 < item_count s) h.2,
+          let (size_text, split, part_begins, size_spelled) = old_parts behind mid part new size size_read cut begins in
+          let there = empty_in_part behind part size_text new.bytes place split part_begins h.0 in
+          (empty_later old behind place later there, of_section (HasEmpty place) h.1);
+      memory = λ (listed, stands, some). (
+        record {
+          kind = kind;
+          listed = listed;
+          count = stands.count;
+          some = stands.some;
+          begins = begun stands.count (record { after = stands.after; counted = stands.counted });
+        },
+        of_section (λ (s : Section). 0 < item_count s) some,
       );
     })
 
@@ -118,8 +131,8 @@ module _ (old behind mid part new : Input) (id size : ℕ) (id_read : byte.parse
   -- what was taken of the part is taken of the whole
   section_taken : (o : Option Kind) → kind_of id ≡ o → (r : Result SectionRead Error) → TakesContent old.place o part r → TakesSection old r new
   section_taken (Some kind) is (Ok s) h =
-      let c = bind_some ((content kind).parse part) (λ x. Some (holds kind x)) (section_view s) h.0 in
-      (section_read kind is c.0 c.1 ∙ ap (λ (x : Section). Some (x, new)) (some_is (holds kind c.0) (section_view s) c.2), h.1)
+      let (c, parsed, given) = bind_some ((content kind).parse part) (λ x. Some (holds kind x)) (section_view s) h.0 in
+      (section_read kind is c parsed ∙ ap (λ (x : Section). Some (x, new)) (some_is (holds kind c) (section_view s) given), h.1)
   section_taken (Some kind) is (Err f) h = kind_fault kind is f h
   section_taken None none (Ok s) h = absurd h
   section_taken None none (Err f) h = none_fault none f h

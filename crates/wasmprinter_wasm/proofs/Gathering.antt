@@ -21,8 +21,8 @@ use Rattle.wasmprinter_wasm.proofs.OrderedSections.{custom_kind, last_place, las
 pub takes_byte : (at : Input) (x : Section × Input) → section.parse at ≡ Some x → length x.1.bytes < length at.bytes
 takes_byte at x r =
     let s = section.sound at x r in
-    let q = s.spelled.2 in
-    omega (arith, ap length s.parts, length-append s.text x.1.bytes, ap length q.2, length-append q.0 q.1, ap length q.3.2)
+    let (pair, kept, (front, behind, joined, (id, of_kind, id_spelled), spelled)) = s.spelled in
+    omega (arith, ap length s.parts, length-append s.text x.1.bytes, ap length joined, length-append front behind, ap length id_spelled)
 
 -- sections that were read, from the start to a place
 pub record Gathering (start at : Input) (g : Gathered) : Type 0 where
@@ -90,10 +90,12 @@ module _ (start at after : Input) (g : Gathered) (s : Section) (read : section.p
   -- it doesn't
   pub gathering_unordered : follows g.rank (rank (section_kind s)) ≡ false → (ss : List Section) → sections_at start ≡ Some ss → are_above 0 ss ≡ true → ⊥
   gathering_unordered off ss r up =
-      let y = bind_some (sections_at after) (λ ys. Some ((k.sections ++ s ∷ []) ++ ys)) ss (sym one_more ∙ r) in
-      let all : k.sections ++ s ∷ y.0 ≡ ss = sym (append_assoc k.sections (s ∷ []) y.0) ∙ some_is ((k.sections ++ s ∷ []) ++ y.0) ss y.2 in
-      let rise : are_above 0 (k.sections ++ s ∷ y.0) ≡ true = ap (are_above 0) all ∙ up in
-      let on : follows g.rank (rank (section_kind s)) ≡ true = ap (λ (r : ℕ). follows r (rank (section_kind s))) k.rank ∙ above_midst 0 k.sections s y.0 rise in
+      let (rest, parsed, whole) = bind_some (sections_at after) (λ ys. Some ((k.sections ++ s ∷ []) ++ ys)) ss (sym one_more ∙ r) in
+      let all : k.sections ++ s ∷ rest ≡ ss =
+      sym (append_assoc k.sections (s ∷ []) rest) ∙ some_is ((k.sections ++ s ∷ []) ++ rest) ss whole in
+      let rise : are_above 0 (k.sections ++ s ∷ rest) ≡ true = ap (are_above 0) all ∙ up in
+      let on : follows g.rank (rank (section_kind s)) ≡ true =
+      ap (λ (r : ℕ). follows r (rank (section_kind s))) k.rank ∙ above_midst 0 k.sections s rest rise in
       absurd (let clash : false ≡ true = sym off ∙ on in cc)
 
 -- a section was refused
@@ -111,9 +113,16 @@ module _ (start at : Input) (g : Gathered) (some : at.bytes ≡ [] → ⊥) (k :
   next_of None e ss read =
       let none : sections_at start ≡ None = k.is ∙ ap (in_front k.sections) (until_fault section takes_byte at some e) in
       absurd (let clash : ◌≡◌ {A = Option (List Section)} None (Some ss) = sym none ∙ read in cc)
-  next_of (Some x) e ss read =
-      let y = bind_some (sections_at x.1) (λ ys. Some ((k.sections ++ x.0 ∷ []) ++ ys)) ss (sym (one_more start at x.1 g x.0 e k) ∙ read) in
-      record { item = x.0; after = x.1; rest = y.0; first = e; all = sym (append_assoc k.sections (x.0 ∷ []) y.0) ∙ some_is ((k.sections ++ x.0 ∷ []) ++ y.0) ss y.2 }
+  next_of (Some (s, after)) e ss read =
+      let (rest, parsed, whole) =
+      bind_some (sections_at after) (λ ys. Some ((k.sections ++ s ∷ []) ++ ys)) ss (sym (one_more start at after g s e k) ∙ read) in
+      record {
+        item = s;
+        after = after;
+        rest = rest;
+        first = e;
+        all = sym (append_assoc k.sections (s ∷ []) rest) ∙ some_is ((k.sections ++ s ∷ []) ++ rest) ss whole;
+      }
 
   -- what is so of the section, if one stands there, is so of sections in order, if they do
   of_sections : (P : Section → Type 0) (Q : List Section → Type 0) → ((xs : List Section) (s : Section) (ys : List Section) → are_above 0 (xs ++ s ∷ ys) ≡ true → P s → Q (xs ++ s ∷ ys))
@@ -139,10 +148,10 @@ module _ (start at : Input) (g : Gathered) (some : at.bytes ≡ [] → ⊥) (k :
     malformed = malformed_fault;
     component = λ h. h;
     locals = λ place h. (many_later start at place k.later h.0, of_sections (HasOver place) (λ (ss : List Section). AnyIsOver place (bodies_in ss)) (over_midst place) h.1);
-    functions = λ count h. (
-      section_later start at FunctionSection count k.later h.0,
-      h.1,
-      of_sections (HasCount count) (λ (ss : List Section). length (type_indices_in ss) ≡ count) (count_midst count) h.2,
+    functions = λ count (begins, many, counted). (
+      section_later start at FunctionSection count k.later begins,
+      many,
+      of_sections (HasCount count) (λ (ss : List Section). length (type_indices_in ss) ≡ count) (count_midst count) counted,
     );
     tables = λ place h. (empty_later start at place k.later h.0, of_sections (HasEmpty place) (λ (ss : List Section). FirstIsEmpty place (tables_in ss)) (empty_midst place) h.1);
     memory = λ h. (kept_later start at k.later (inl h.0), of_sections (λ (s : Section). 0 < item_count s) (λ (ss : List Section). 0 < item_count_in ss) some_midst h.1);

@@ -1,5 +1,5 @@
 -- Lists have fewer than 2 ^ 32 items, since a count of 32 bits stands in front of them.
-use Rattle.std.proofs.Common.{◌≡◌, ℕ, ◌+◌, ◌-◌, ◌^◌, ◌<◌, lit≤, List, [], ◌∷◌, ◌++◌, length, Some, sym, ap, subst, ◌∙◌, inl, inr, arith}
+use Rattle.std.proofs.Common.{◌≡◌, ℕ, ◌+◌, ◌-◌, ◌^◌, ◌<◌, lit≤, List, [], ◌∷◌, length, Some, sym, ap, subst, ◌∙◌, inl, inr, arith}
 use Rattle.std.specs.List.{AllByRecursion}
 use Rattle.wasmprinter_spec.specs.Grammar.{Input, Grammar, some_is, value_with_place}
 use Rattle.wasmprinter_spec.specs.Repeated.{Entries, until_end}
@@ -19,32 +19,28 @@ use Rattle.wasmprinter_spec.specs.Sections.{CustomSection, TypeSection, ImportSe
 use Rattle.wasmprinter_spec.specs.Sections.{ExportSection, StartSection, ElementSection, DataCountSection, CodeSection, DataSection}
 use Rattle.wasmprinter_spec.specs.Sections.{Kind, Content, content, Section, holds, section}
 use Rattle.wasmprinter_spec.specs.Binary.{AreBytes}
+use Rattle.wasmprinter_spec.proofs.Each.{all_parts}
 use Rattle.wasmprinter_spec.proofs.Ordered.{held_each}
 use Rattle.wasmprinter_bytes.proofs.Powers.{joined_fits}
 use Rattle.wasmprinter_entries.specs.Contents.{item_count}
 use Rattle.wasmprinter_wasm.specs.Modules.{HasFewItems}
 use Rattle.wasmprinter_wasm.specs.Gathering.{Gathered, IsHeld, sections_at}
 
--- bytes one behind the other
-pub bytes_apart : (t u : List ℕ) → AreBytes (t ++ u) → AreBytes t × AreBytes u
-bytes_apart [] u all = (tt, all)
-bytes_apart (b ∷ bs) u all = let rest = bytes_apart bs u all.1 in ((all.0, rest.0), rest.1)
-
 -- what bytes spell in so many bits fits in them
 unsigned_below : (text : List ℕ) (bits n : ℕ) → AreBytes text → IsUnsigned bits text n → n < 2 ^ bits
 unsigned_below [] bits n all s = absurd s
-unsigned_below (b ∷ bs) bits n all (inl last) = omega (arith, last.1, last.3)
-unsigned_below (b ∷ bs) bits n all (inr other) =
-    let high : other.2 < 2 ^ (bits - 7) = unsigned_below bs (bits - 7) other.2 all.1 other.4 in
-    omega (arith, joined_fits bits b other.2 other.1 all.0 high, other.3)
+unsigned_below (b ∷ bs) bits n all (inl (last, fits, none_behind, is)) = omega (arith, fits, is)
+unsigned_below (b ∷ bs) bits n all (inr (more, has_room, high, joined, spelled)) =
+    let below : high < 2 ^ (bits - 7) = unsigned_below bs (bits - 7) high all.1 spelled in
+    omega (arith, joined_fits bits b high has_room all.0 below, joined)
 
 -- a list has as many items as its count says
 vec_listed : {A : Type 0} (g : Grammar A) (p : ℕ) (text : List ℕ) (xs : List A) → AreBytes text → (vec g).spells p text xs → length xs < 2 ^ 32
 vec_listed g p text xs all s =
-    let q = s.2 in
-    let count = bytes_apart q.0 q.1 (subst AreBytes q.2 all) in
-    let same : length xs ≡ s.0.0 = ap length (sym (some_is s.0.1 xs s.1)) ∙ q.4.0 in
-    omega (arith, same, unsigned_below q.0 32 s.0.0 count.0 q.3)
+    let ((count, items), kept, (front, behind, joined, count_spelled, (many, spelled))) = s in
+    let apart = all_parts (λ b. b < 256) front behind (subst AreBytes joined all) in
+    let same : length xs ≡ count = ap length (sym (some_is items xs kept)) ∙ many in
+    omega (arith, same, unsigned_below front 32 count apart.0 count_spelled)
 
 -- the section holds so many items
 abbrev IsListed : Section → Type 0
@@ -70,20 +66,20 @@ content_listed DataSection p text c all s = vec_listed (value_with_place segment
 -- a section
 section_listed : (p : ℕ) (text : List ℕ) (s : Section) → AreBytes text → section.spells p text s → IsListed s
 section_listed p text s all spelled =
-    let outer = spelled.2 in
-    let behind_kind = (bytes_apart outer.0 outer.1 (subst AreBytes outer.2 all)).1 in
-    let sized = outer.4 in
-    let inner = sized.2 in
-    let behind_size = (bytes_apart inner.0 inner.1 (subst AreBytes inner.2 behind_kind)).1 in
-    let is : holds spelled.0.0 sized.0.1 ≡ s = some_is (holds spelled.0.0 sized.0.1) spelled.0.1 sized.1 ∙ some_is spelled.0.1 s spelled.1 in
-    subst IsListed is (content_listed spelled.0.0 (p + length outer.0 + length inner.0) inner.1 sized.0.1 behind_size inner.4.1)
+    let ((kind, own), kept, (id_text, behind_id, joined, kind_spelled, sized)) = spelled in
+    let ((size, value), made, (size_text, behind_size, split, size_spelled, (fills, value_spelled))) = sized in
+    let id_apart = all_parts (λ b. b < 256) id_text behind_id (subst AreBytes joined all) in
+    let size_apart = all_parts (λ b. b < 256) size_text behind_size (subst AreBytes split id_apart.1) in
+    let is : holds kind value ≡ s = some_is (holds kind value) own made ∙ some_is own s kept in
+    subst IsListed is (content_listed kind (p + length id_text + length size_text) behind_size value size_apart.1 value_spelled)
 
 -- sections one after the other
 entries_listed : (p : ℕ) (text : List ℕ) (ss : List Section) → AreBytes text → Entries section p text ss → AllByRecursion IsListed ss
 entries_listed p text [] all spelled = tt
 entries_listed p text (s ∷ ss) all spelled =
-    let parts = bytes_apart spelled.0 spelled.1 (subst AreBytes spelled.2 all) in
-    (section_listed p spelled.0 s parts.0 spelled.4, entries_listed (p + length spelled.0) spelled.1 ss parts.1 spelled.5)
+    let (front, behind, joined, takes, first_spelled, others_spelled) = spelled in
+    let apart = all_parts (λ b. b < 256) front behind (subst AreBytes joined all) in
+    (section_listed p front s apart.0 first_spelled, entries_listed (p + length front) behind ss apart.1 others_spelled)
 
 -- all sections up to the end of the bytes
 pub sections_listed : (at : Input) (ss : List Section) → sections_at at ≡ Some ss → AreBytes at.bytes → AllByRecursion IsListed ss

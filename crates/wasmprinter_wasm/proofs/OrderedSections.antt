@@ -124,16 +124,19 @@ some_midst xs (holds DataSection x) ys up some = omega (arith, ap length (held_m
 
 -- all type indices are those of the one function section
 pub count_midst : (count : ℕ) (xs : List Section) (s : Section) (ys : List Section) → are_above 0 (xs ++ s ∷ ys) ≡ true → HasCount count s → length (type_indices_in (xs ++ s ∷ ys)) ≡ count
-count_midst count xs s ys up h = ap length (held_picked FunctionSection 3 refl [] 0 xs s h.0 ys h.1 up) ∙ h.2
+count_midst count xs s ys up (indices, held, counted) =
+    ap length (held_picked FunctionSection 3 refl [] 0 xs s indices ys held up) ∙ counted
 
 -- all bodies are those of the one code section
 pub over_midst : (place : ℕ) (xs : List Section) (s : Section) (ys : List Section) → are_above 0 (xs ++ s ∷ ys) ≡ true → HasOver place s → AnyIsOver place (bodies_in (xs ++ s ∷ ys))
-over_midst place xs s ys up h = subst (AnyIsOver place) (sym (held_picked CodeSection 12 refl [] 0 xs s h.0 ys h.1 up)) h.2
+over_midst place xs s ys up (bodies, held, over) =
+    subst (AnyIsOver place) (sym (held_picked CodeSection 12 refl [] 0 xs s bodies ys held up)) over
 
 -- all tables are those of the one table section
 pub empty_midst : (place : ℕ) (xs : List Section) (s : Section) (ys : List Section) → are_above 0 (xs ++ s ∷ ys) ≡ true → HasEmpty place s
     → FirstIsEmpty place (tables_in (xs ++ s ∷ ys))
-empty_midst place xs s ys up h = subst (FirstIsEmpty place) (sym (held_picked TableSection 4 refl [] 0 xs s h.0 ys h.1 up)) h.2
+empty_midst place xs s ys up (tables, held, empty) =
+    subst (FirstIsEmpty place) (sym (held_picked TableSection 4 refl [] 0 xs s tables ys held up)) empty
 
 -- no function has too many locals, there aren't too many functions, and no table has an empty initialiser
 pub record HoldsFew (g : Gathered) : Type 0 where

@@ -57,9 +57,9 @@ paired_of [] [] fs e = subst (Paired [] []) (some_is [] fs e) (record { bodies =
 paired_of [] (b ∷ bs) fs e = absurd cc
 paired_of (i ∷ is) [] fs e = absurd cc
 paired_of (i ∷ is) (b ∷ bs) fs e =
-    let rest = bind_some (function_pairs is bs) (λ xs. Some (record { type_index = i; body = b } ∷ xs)) fs e in
-    let p = paired_of is bs rest.0 rest.1 in
-    subst (Paired (i ∷ is) (b ∷ bs)) (some_is (record { type_index = i; body = b } ∷ rest.0) fs rest.2)
+    let (others, pairs, whole) = bind_some (function_pairs is bs) (λ xs. Some (record { type_index = i; body = b } ∷ xs)) fs e in
+    let p = paired_of is bs others pairs in
+    subst (Paired (i ∷ is) (b ∷ bs)) (some_is (record { type_index = i; body = b } ∷ others) fs whole)
     (record { bodies = ap (λ (xs : List (Placed Body)). b ∷ xs) p.bodies; count = ap suc p.count })
 
 -- there are as many type indices as bodies

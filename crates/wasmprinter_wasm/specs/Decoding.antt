@@ -14,8 +14,8 @@ use Rattle.wasmprinter_wasm.specs.Modules.{bodies_of}
 -- segments and custom sections it has
 abbrev pub items_held : PlacedModule → ℕ
 items_held m =
-    length m.types + length m.imports + length m.functions + length m.tables + length m.memories + length m.tags + length m.globals + length m.exports
-    + length m.elements + length m.datas + length m.customs
+    length m.types + length m.imports + length m.functions + length m.tables + length m.memories + length m.tags + length m.globals
+    + length m.exports + length m.elements + length m.datas + length m.customs
 
 -- it has one of these
 abbrev pub HoldsSome : PlacedModule → Type 0
@@ -34,7 +34,9 @@ module_reasons bytes component = record {
   malformed = λ place. ((m : PlacedModule) → Spells bytes m → ⊥) × (place ≤ length bytes);
   component = component;
   locals = λ place. HasManyLocals (input 0 bytes) place × ((m : PlacedModule) → Spells bytes m → AnyIsOver place (bodies_of m.functions));
-  functions = λ count. BeginsSection (input 0 bytes) FunctionSection count × (most_functions < count) × ((m : PlacedModule) → Spells bytes m → length m.functions ≡ count);
+  functions =
+      λ count. BeginsSection (input 0 bytes) FunctionSection count × (most_functions < count)
+      × ((m : PlacedModule) → Spells bytes m → length m.functions ≡ count);
   tables = λ place. HasEmptyInit (input 0 bytes) place × ((m : PlacedModule) → Spells bytes m → FirstIsEmpty place m.tables);
   memory = KeepsSome (input 0 bytes) × ((m : PlacedModule) → Spells bytes m → HoldsSome m);
 }

@@ -140,19 +140,24 @@ pub record HoldsSections (at : Input) (g : Gathered) : Type 0 where
 -- how many items the sections hold, custom sections among them
 abbrev pub item_count_in : List Section → ℕ
 item_count_in ss =
-    length (types_in ss) + length (imports_in ss) + length (type_indices_in ss) + length (tables_in ss) + length (memories_in ss) + length (tags_in ss)
-    + length (globals_in ss) + length (exports_in ss) + length (elements_in ss) + length (bodies_in ss) + length (datas_in ss) + length (customs_in ss)
+    length (types_in ss) + length (imports_in ss) + length (type_indices_in ss) + length (tables_in ss) + length (memories_in ss)
+    + length (tags_in ss) + length (globals_in ss) + length (exports_in ss) + length (elements_in ss) + length (bodies_in ss)
+    + length (datas_in ss) + length (customs_in ss)
 
 -- why sections up to the end of the bytes may be refused
 abbrev pub sections_reasons : Input → Reasons
 sections_reasons at = record {
   malformed = λ place. ((ss : List Section) → sections_at at ≡ Some ss → are_above 0 ss ≡ true → ⊥) × (place ≤ end_of at);
   component = ⊥;
-  locals = λ place. HasManyLocals at place × ((ss : List Section) → sections_at at ≡ Some ss → are_above 0 ss ≡ true → AnyIsOver place (bodies_in ss));
+  locals =
+      λ place. HasManyLocals at place
+      × ((ss : List Section) → sections_at at ≡ Some ss → are_above 0 ss ≡ true → AnyIsOver place (bodies_in ss));
   functions = λ count.
       BeginsSection at FunctionSection count × (most_functions < count)
       × ((ss : List Section) → sections_at at ≡ Some ss → are_above 0 ss ≡ true → length (type_indices_in ss) ≡ count);
-  tables = λ place. HasEmptyInit at place × ((ss : List Section) → sections_at at ≡ Some ss → are_above 0 ss ≡ true → FirstIsEmpty place (tables_in ss));
+  tables =
+      λ place. HasEmptyInit at place
+      × ((ss : List Section) → sections_at at ≡ Some ss → are_above 0 ss ≡ true → FirstIsEmpty place (tables_in ss));
   memory = KeepsSome at × ((ss : List Section) → sections_at at ≡ Some ss → are_above 0 ss ≡ true → 0 < item_count_in ss);
 }
 

@@ -33,7 +33,8 @@ section_view (s.Data ds) = holds DataSection ds.items
 
 -- the content of a section of the kind; or there is no such kind, and the place is blamed
 abbrev pub TakesContent : ℕ → Option Kind → Input → Result Section Error → Type 0
-TakesContent place (Some kind) at (Ok s) = (((content kind).parse at >>= λ x. Some (holds kind x)) ≡ Some (section_view s)) × IsSmall (section_view s)
+TakesContent place (Some kind) at (Ok s) =
+    (((content kind).parse at >>= λ x. Some (holds kind x)) ≡ Some (section_view s)) × IsSmall (section_view s)
 TakesContent place (Some kind) at (Err e) = HasReason (content_reasons kind at) e
 TakesContent place None at (Ok s) = ⊥
 TakesContent place None at (Err e) = e ≡ AtPlace place
@@ -44,7 +45,9 @@ section_reasons at = record {
   malformed = λ place. (section.parse at ≡ None) × (place ≤ end_of at);
   component = ⊥;
   locals = λ place. HasManyLocals at place × ((x : SectionValue × Input) → section.parse at ≡ Some x → HasOver place x.0);
-  functions = λ count. BeginsSection at FunctionSection count × (most_functions < count) × ((x : SectionValue × Input) → section.parse at ≡ Some x → HasCount count x.0);
+  functions =
+      λ count. BeginsSection at FunctionSection count × (most_functions < count)
+      × ((x : SectionValue × Input) → section.parse at ≡ Some x → HasCount count x.0);
   tables = λ place. HasEmptyInit at place × ((x : SectionValue × Input) → section.parse at ≡ Some x → HasEmpty place x.0);
   memory = BeginsItems at × ((x : SectionValue × Input) → section.parse at ≡ Some x → 0 < item_count x.0);
 }

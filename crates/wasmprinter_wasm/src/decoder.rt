@@ -23,7 +23,7 @@ use wasmprinter_entries::tags::Tag;
 use wasmprinter_entries::types::Types;
 use wasmprinter_error::{Error, Malformed};
 use wasmprinter_segments::code::Body;
-use wasmprinter_segments::data::Data;
+use wasmprinter_segments::data_segments::Data;
 use wasmprinter_segments::elements::Element;
 use wasmprinter_segments::globals::Global as GlobalVariable;
 use wasmprinter_segments::tables::Table;

@@ -23,7 +23,7 @@ pub use wasmprinter_entries::tags::Tag;
 pub use wasmprinter_entries::types::TypeGroup;
 pub use wasmprinter_names::{Name, Names, Space};
 pub use wasmprinter_segments::code::{Body, LocalEntry, Locals};
-pub use wasmprinter_segments::data::{Data, DataMode};
+pub use wasmprinter_segments::data_segments::{Data, DataMode};
 pub use wasmprinter_segments::elements::{Element, ElementItems, ElementMode};
 pub use wasmprinter_segments::globals::Global;
 pub use wasmprinter_segments::tables::Table;

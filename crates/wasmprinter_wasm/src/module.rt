@@ -15,7 +15,7 @@ use wasmprinter_entries::start::Start;
 use wasmprinter_entries::tags::Tag;
 use wasmprinter_entries::types::{TypeGroup, Types};
 use wasmprinter_segments::code::Body;
-use wasmprinter_segments::data::Data;
+use wasmprinter_segments::data_segments::Data;
 use wasmprinter_segments::elements::Element;
 use wasmprinter_segments::globals::Global;
 use wasmprinter_segments::tables::Table;

@@ -18,7 +18,7 @@ use wasmprinter_entries::tags::{Tag, read_tags};
 use wasmprinter_entries::types::Types;
 use wasmprinter_error::Error;
 use wasmprinter_segments::code::{Body, read_code};
-use wasmprinter_segments::data::{Data, read_data, read_data_count};
+use wasmprinter_segments::data_segments::{Data, read_data, read_data_count};
 use wasmprinter_segments::elements::{Element, read_elements};
 use wasmprinter_segments::globals::{Global as GlobalVariable, read_globals};
 use wasmprinter_segments::tables::{Table, read_tables};

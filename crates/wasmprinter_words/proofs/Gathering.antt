@@ -1,7 +1,7 @@
 -- A loop that gathers a text in parts and writes what was gathered now and then.
-use Rattle.std.specs.Prelude.{◌≡◌, ℕ, List, [], ◌∷◌, ◌++◌, length, Option, is_some, true}
+use Rattle.std.specs.Prelude.{◌≡◌, ℕ, List, [], ◌∷◌, ◌++◌, Option, is_some, true}
 use Rattle.std.specs.declared.io.Error.{Error as IoError}
-use Rattle.std.proofs.Common.{refl, sym, ap, ◌∙◌, append_assoc, append-nil, arith}
+use Rattle.std.proofs.Common.{refl, sym, ap, ◌∙◌, append_assoc, append-nil}
 use Rattle.wasmprinter_spec.specs.Call.{Text}
 use Rattle.wasmprinter_spec.specs.Meaning.{Meaning}
 use Rattle.wasmprinter_print.specs.Puts.{Puts, PutsBut}
@@ -23,12 +23,7 @@ pub puts_both : {P : Type 0} (m : Meaning P) {a s t u : P} {d e f j : Option IoE
 puts_both m g k x rest left v w n y r =
     but_more m x (k ++ left) rest (r ∙ ap (λ z. x ++ (z ++ left)) (sym n)) (but_more m g rest (g ++ rest) refl v w) y
 
--- nothing is gathered
-pub none_of : (g : List ℕ) → length g ≡ 0 → g ≡ []
-none_of [] e = refl
-none_of (b ∷ bs) e = absurd (omega arith)
-
--- and so nothing has to be written
+-- Where nothing is gathered nothing has to be written.
 pub none_gathered : {P : Type 0} (m : Meaning P) (a : P) (d : Option IoError) (g : List ℕ) → g ≡ [] → Puts m a d a d (Text g ∷ [])
 none_gathered m a d g e = but_none m g [] refl (but_all m a d g [] (sym e))
 

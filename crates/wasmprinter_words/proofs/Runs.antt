@@ -1,16 +1,15 @@
 -- Characters that stand in identifiers.
-use Rattle.std.specs.Prelude.{◌≡◌, ℕ, ◌<◌, ◌^◌, Bool, true, false, List, [], ◌∷◌, ◌++◌, length, IsUtf8, chars, decimal, if◌then◌else◌, encode_utf8_all}
+use Rattle.std.specs.Prelude.{◌≡◌, ℕ, ◌<◌, ◌^◌, Bool, true, false, List, [], ◌∷◌, length, IsUtf8, chars, decimal, if◌then◌else◌, encode_utf8_all}
 use Rattle.std.specs.Str.{IsAscii}
-use Rattle.std.specs.Str.Parse.{AllDigits}
-use Rattle.std.specs.Char.{digit_value}
 use Rattle.std.proofs.Common.{refl, sym, ap, ◌∙◌, arith, true≢false, ltb, cond, suc, zero}
-use Rattle.std.proofs.lemmas.Bool.{and_parts, and_from, ltb-true, ltb-false}
+use Rattle.std.proofs.lemmas.Bool.{and_parts, ltb-true, ltb-false}
 use Rattle.std.proofs.lemmas.Fmt.{decimal_is_IsNumeral}
 use Rattle.std.proofs.lemmas.Str.{chars-IsAscii, encodes-IsAscii, encodes-chars}
 use Rattle.wasmprinter_spec.specs.Character.{class}
 use Rattle.wasmprinter_spec.specs.Names.Content.{index_content}
 use Rattle.wasmprinter_spec.specs.Quoted.{runs, all_run, is_run, quoted_text, identifier_text}
-use Rattle.wasmprinter_spec.proofs.Classes.{foreign, digit_class}
+use Rattle.wasmprinter_spec.proofs.Classes.{foreign}
+use Rattle.wasmprinter_spec.proofs.Runs.{all_run-append, all_run-digits}
 
 low : (c : ℕ) → runs (class c) ≡ true → c < 128
 low c h = by (ltb c 128) refl
@@ -61,22 +60,11 @@ run-some bs u n = by (chars bs) refl
 
 -- ---- made up identifiers
 
-digit_runs : (c : ℕ) → digit_value c < 10 → runs (class c) ≡ true
-digit_runs c h = ap runs (digit_class c h)
-
-digits_run : (ds : List ℕ) → AllDigits 10 ds → all_run ds ≡ true
-digits_run [] h = refl
-digits_run (c ∷ cs) h = and_from (runs (class c)) (all_run cs) (digit_runs c h.0) (digits_run cs h.1)
-
-all_run-append : (cs ds : List ℕ) → all_run cs ≡ true → all_run ds ≡ true → all_run (cs ++ ds) ≡ true
-all_run-append [] ds h k = k
-all_run-append (c ∷ cs) ds h k =
-    let parts : (runs (class c) ≡ true) × (all_run cs ≡ true) = and_parts (runs (class c)) (all_run cs) h in
-    and_from (runs (class c)) (all_run (cs ++ ds)) parts.0 (all_run-append cs ds parts.1 k)
-
 made_up-runs : (group : List ℕ) (n : ℕ) → n < 2 ^ 64 → all_run group ≡ true → all_run (index_content group n) ≡ true
 unfolding class
-made_up-runs group n h g = all_run-append group (decimal n) g (digits_run (decimal n) (decimal_is_IsNumeral n h).0.1)
+made_up-runs group n h g =
+    let ((some, digits), value) = decimal_is_IsNumeral n h in
+    all_run-append group (decimal n) g (all_run-digits (decimal n) digits)
 
 -- it stands without quotes
 pub made_up-text : (group : List ℕ) (n : ℕ) → n < 2 ^ 64 → all_run group ≡ true →

@@ -5,20 +5,17 @@ use Rattle.std.specs.Fmt.{digits}
 use Rattle.std.proofs.Common.{ap, ◌∙◌}
 use Rattle.wasmprinter_spec.specs.Call.{Text, Newline, Line, Start, Claim, Style, Literal, Name, Keyword, TypeName, Comment, Reset, text_of}
 use Rattle.wasmprinter_spec.specs.Colour.{uncolour}
-use Rattle.wasmprinter_spec.specs.Plain.{IsPlainText}
+use Rattle.wasmprinter_spec.specs.Plain.{IsPlainByte, IsPlainText}
 use Rattle.wasmprinter_spec.specs.Looks.{sequences_of}
 use Rattle.wasmprinter_spec.specs.Coloured.{look_of, coloured_text}
 use Rattle.wasmprinter_lexical.proofs.Plain.{uncolour-byte}
+use Rattle.wasmprinter_spec.proofs.Each.{all_parts}
 use Rattle.wasmprinter_writers.specs.Sequences.{ColoursKeepText}
 
 -- plain text in front stays
 front_stays : (text rest : List ℕ) → IsPlainText (text ++ rest) → (more : List ℕ) → uncolour (text ++ more) ≡ text ++ uncolour more
 front_stays [] rest h more = refl
 front_stays (b ∷ bs) rest h more = uncolour-byte b (bs ++ more) h.0 ∙ ap (λ t. b ∷ t) (front_stays bs rest h.1 more)
-
-behind : (text rest : List ℕ) → IsPlainText (text ++ rest) → IsPlainText rest
-behind [] rest h = h
-behind (b ∷ bs) rest h = behind bs rest h.1
 
 -- the sequences of a style go
 style_goes : (style : Style) (more : List ℕ) → uncolour (concat (sequences_of (look_of style)) ++ more) ≡ uncolour more
@@ -33,7 +30,7 @@ style_goes Reset more = refl
 pub colours_keep_text : ColoursKeepText
 colours_keep_text [] h = refl
 colours_keep_text (Text bytes ∷ calls) h =
-    front_stays bytes (text_of calls) h (coloured_text calls) ∙ ap (λ t. bytes ++ t) (colours_keep_text calls (behind bytes (text_of calls) h))
+    front_stays bytes (text_of calls) h (coloured_text calls) ∙ ap (λ t. bytes ++ t) (colours_keep_text calls (all_parts IsPlainByte bytes (text_of calls) h).1)
 colours_keep_text (Newline ∷ calls) h =
     uncolour-byte 10 (coloured_text calls) h.0 ∙ ap (λ t. 10 ∷ t) (colours_keep_text calls h.1)
 colours_keep_text (Line place ∷ calls) h = colours_keep_text calls h

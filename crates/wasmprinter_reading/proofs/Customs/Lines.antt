@@ -9,10 +9,10 @@ use Rattle.wasmprinter_spec.specs.Character.{class}
 use Rattle.wasmprinter_spec.specs.Grammar.{Placed}
 use Rattle.wasmprinter_spec.specs.Quoted.{is_run}
 use Rattle.wasmprinter_spec.specs.Customs.Producers.{Value, Field}
-use Rattle.wasmprinter_spec.specs.Customs.Dylink.{MemInfo, ExportInfo, ImportInfo, Content, Sizes, Needed, Exports, Imports, Paths, Other, Subsection}
+use Rattle.wasmprinter_spec.specs.Customs.Dylink.{MemInfo, ExportInfo, ImportInfo, SubsectionContent, Sizes, Needed, Exports, Imports, Paths, Other, Subsection}
 use Rattle.wasmprinter_spec.specs.Piece.{Piece, Break, Gap, Open, OpenGap, OpenPlain, Shut, Word, Quoted}
 use Rattle.wasmprinter_spec.specs.Layout.Groups.{line_group, line_group_gap}
-use Rattle.wasmprinter_spec.specs.Layout.Customs.{gap_quoted, gap_quoted_list, values_pieces, fields_pieces, flag_words, has_bit, flags_by, flags_pieces, sizes_group, sizes_pieces, names_pieces, exports_pieces, import_infos_pieces, content_pieces, subsections_pieces}
+use Rattle.wasmprinter_spec.specs.Layout.Customs.{gap_quoted, gap_quoted_list, values_pieces, fields_pieces, flag_words, has_flag, flags_by, flags_pieces, sizes_group, sizes_pieces, names_pieces, exports_pieces, import_infos_pieces, content_pieces, subsections_pieces}
 use Rattle.wasmprinter_lexical.proofs.Runs.{is_word}
 use Rattle.wasmprinter_lexical.proofs.Numbers.{is_word-decimal}
 use Rattle.wasmprinter_lexical.proofs.Printed.{is_word-hex}
@@ -78,7 +78,7 @@ values_written field (v ∷ vs) run h =
 pub fields_written : (fs : List Field) → AllByRecursion IsRangedField fs → IsWritten Bound (fields_pieces fs) Bound
 unfolding fields_pieces
 fields_written [] h = nothing_written
-fields_written (f ∷ fs) h = both_written (values_written f.name f.values h.0.0 h.0.1) (fields_written fs h.1)
+fields_written (f ∷ fs) ((run, values), others) = both_written (values_written f.name f.values run values) (fields_written fs others)
 
 -- ---- `dylink.0`
 
@@ -95,7 +95,7 @@ flags_by_written [] rest h = by (rest == 0)
     by false = gap_written (word_written (is_word-hex rest) nothing_written)
 flags_by_written (row ∷ rows) rest h =
     let parts : (is_word row.1 ≡ true) × (are_flag_words rows ≡ true) = and_parts (is_word row.1) (are_flag_words rows) h in
-    by (has_bit rest row.0) parts.0 (flags_by_written rows (rest - row.0) parts.1) (flags_by_written rows rest parts.1)
+    by (has_flag rest row.0) parts.0 (flags_by_written rows (rest - row.0) parts.1) (flags_by_written rows rest parts.1)
   where
     by : (t : Bool) → is_word row.1 ≡ true → IsWritten Bound (flags_by rows (rest - row.0)) Bound → IsWritten Bound (flags_by rows rest) Bound →
         IsWritten Bound (cond t (Gap ∷ (Word row.1 ∷ flags_by rows (rest - row.0))) (flags_by rows rest)) Bound
@@ -148,12 +148,14 @@ import_infos_written : (place : ℕ) (is : List ImportInfo) → AllByRecursion (
     IsWritten Bound (import_infos_pieces place is) Bound
 unfolding import_infos_pieces class
 import_infos_written place [] h = nothing_written
-import_infos_written place (i ∷ is) h =
+import_infos_written place (i ∷ is) ((source, name), others) =
     line_written
-    (gap_group_written (codes "import-info") (Quoted (chars i.source) ∷ (Gap ∷ (Quoted (chars i.name) ∷ flags_pieces i.flags))) (import_infos_pieces place is) refl
-    (quoted_written i.source h.0.0 (gap_written (quoted_written i.name h.0.1 (flags_written i.flags)))) (import_infos_written place is h.1))
+    (gap_group_written (codes "import-info") (Quoted (chars i.source) ∷ (Gap ∷ (Quoted (chars i.name) ∷ flags_pieces i.flags)))
+    (import_infos_pieces place is) refl
+    (quoted_written i.source source (gap_written (quoted_written i.name name (flags_written i.flags))))
+    (import_infos_written place is others))
 
-content_written : (place : ℕ) (c : Content) → IsRangedContent c → IsWritten Bound (content_pieces place c) Bound
+content_written : (place : ℕ) (c : SubsectionContent) → IsRangedContent c → IsWritten Bound (content_pieces place c) Bound
 unfolding class
 content_written place (Sizes m) h = sizes_written place m h
 content_written place (Needed ns) h = names_written (codes "needed") place ns refl h

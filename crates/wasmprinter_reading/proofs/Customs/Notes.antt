@@ -1,5 +1,5 @@
 -- What custom sections are written as, those at one place among the other sections, and that raw ones read back.
-use Rattle.std.proofs.Common.{◌≡◌, ℕ, ◌<◌, ◌+◌, Bool, true, false, cond, List, [], ◌∷◌, ◌++◌, Option, Some, None, refl, sym, ap, ◌∙◌, subst, codes, chars, append_assoc, append-nil, map, encode_utf8_all}
+use Rattle.std.proofs.Common.{◌≡◌, ℕ, ◌+◌, Bool, true, false, cond, List, [], ◌∷◌, ◌++◌, Option, Some, None, refl, sym, ap, ◌∙◌, subst, codes, chars, append_assoc, append-nil, map, encode_utf8_all}
 use Rattle.std.specs.List.{AllByRecursion}
 use Rattle.std.proofs.lemmas.List.{map-append}
 use Rattle.std.proofs.lemmas.Str.{encodes-chars, scalars-chars, is_utf8-from_IsUtf8}
@@ -8,7 +8,7 @@ use Rattle.wasmprinter_spec.specs.Grammar.{◌>>=◌, bind_some, some_is}
 use Rattle.wasmprinter_spec.specs.Kinds.{Kind, CustomSection, TypeSection, ImportSection, FunctionSection, TableSection, MemorySection, TagSection, GlobalSection, ExportSection, StartSection, ElementSection, DataCountSection, CodeSection, DataSection}
 use Rattle.wasmprinter_spec.specs.Placed.{CustomEntry}
 use Rattle.wasmprinter_spec.specs.Forest.{Forest, End, Word, String, Group, Note, onto, without_annotations, row_customs}
-use Rattle.wasmprinter_spec.specs.Customs.{Role, Silent, Listed, Linked, Refused, Raw, Faulted, role_of, RawCustom, raw_custom, is_raw, raw_customs}
+use Rattle.wasmprinter_spec.specs.Customs.{CustomRole, Silent, Listed, Linked, Refused, Raw, Faulted, custom_role_of, RawCustom, raw_custom, is_raw, raw_customs}
 use Rattle.wasmprinter_spec.specs.Options.{Answers, AreUnclaimed}
 use Rattle.wasmprinter_spec.specs.Piece as piece
 use Rattle.wasmprinter_spec.specs.Piece.{Piece, Gap, Quoted, Shut, Claimed}
@@ -21,7 +21,8 @@ use Rattle.wasmprinter_lexical.proofs.Noted.{raw_row}
 use Rattle.wasmprinter_lexical.proofs.Runs.{is_word}
 use Rattle.wasmprinter_lexical.proofs.Printed.{is_remark, is_remark-append}
 use Rattle.wasmprinter_lexical.proofs.Pieces.{Edge, Free, Bound}
-use Rattle.wasmprinter_lexical.proofs.Writes.{Writes, WritesNoted, nothing_writes, break_writes, gap_writes, word_writes, quoted_writes, quoted_bytes_writes, plain_group_then, note_writes, note_gap_writes, plain_ending_writes, claimed_writes}
+use Rattle.wasmprinter_lexical.proofs.Writes.{Writes, WritesNoted, nothing_writes, break_writes, gap_writes, word_writes, quoted_writes, plain_group_then, note_writes, note_gap_writes, plain_ending_writes, claimed_writes}
+use Rattle.wasmprinter_reading.proofs.Fields.DataSegments.{bytes_items, bytes_write}
 use Rattle.wasmprinter_reading.proofs.Ranged.{IsRangedCustom}
 use Rattle.wasmprinter_reading.proofs.Customs.Ordered.{is_any_place}
 use Rattle.wasmprinter_reading.proofs.Customs.Roles.{IsRangedRole, role_ranged}
@@ -35,13 +36,9 @@ abbrev place_items : Option Kind → Forest
 place_items None = Word (codes "before") (Word (codes "first") End)
 place_items (Some kind) = Word (codes "after") (Word (place_word kind) End)
 
-abbrev shown_items : Bool → List ℕ → Forest
-shown_items true bs = Word (codes "...") End
-shown_items false bs = String bs End
-
 -- what the annotation holds
 abbrev raw_items : Bool → CustomEntry → Forest
-raw_items skeleton c = String c.section.value.name (Group (place_items c.behind) (shown_items skeleton c.section.value.bytes.value))
+raw_items skeleton c = String c.section.value.name (Group (place_items c.behind) (bytes_items skeleton c.section.value.bytes.value))
 
 abbrev raw_note : Bool → CustomEntry → Forest
 raw_note skeleton c = Note (codes "custom") (raw_items skeleton c) End
@@ -73,11 +70,6 @@ unfolding place_pieces class
 place_writes None h rest = two_words_write (codes "before") (codes "first") refl refl rest
 place_writes (Some kind) h rest = two_words_write (codes "after") (place_word kind) refl (place_is_word kind h) rest
 
-shown_writes : (skeleton : Bool) (bs : List ℕ) → AllByRecursion (λ b. b < 256) bs → Writes Free (shown_bytes skeleton bs) Bound (shown_items skeleton bs)
-unfolding class
-shown_writes true bs h = word_writes refl nothing_writes
-shown_writes false bs h = quoted_bytes_writes h nothing_writes
-
 raw_writes : {a : Edge} (skeleton : Bool) (c : CustomEntry) → is_any_place c.behind ≡ true → IsRangedCustom c.section.value →
     WritesNoted a (raw_pieces skeleton c) Bound End (raw_note skeleton c)
 unfolding raw_pieces class
@@ -85,8 +77,8 @@ raw_writes skeleton c is h =
     let n : List ℕ = c.section.value.name in
     let shown : List Piece = shown_bytes skeleton c.section.value.bytes.value in
     let held : Writes Free (Quoted (chars n) ∷ (Gap ∷ (place_pieces c.behind ++ (Gap ∷ shown)))) Bound
-    (String (encode_utf8_all (chars n)) (Group (place_items c.behind) (shown_items skeleton c.section.value.bytes.value))) =
-    quoted_writes (scalars-chars n h.name) (gap_writes refl (place_writes c.behind is (gap_writes refl (shown_writes skeleton c.section.value.bytes.value h.bytes)))) in
+    (String (encode_utf8_all (chars n)) (Group (place_items c.behind) (bytes_items skeleton c.section.value.bytes.value))) =
+    quoted_writes (scalars-chars n h.name) (gap_writes refl (place_writes c.behind is (gap_writes refl (bytes_write skeleton c.section.value.bytes.value h.bytes)))) in
     let again : Writes Free (Quoted (chars n) ∷ (Gap ∷ (place_pieces c.behind ++ (Gap ∷ shown)))) Bound (raw_items skeleton c) =
     rw (encodes-chars n h.name) at held in
     let note = note_gap_writes {a = Free} {b = Bound} (codes "custom") (Quoted (chars n) ∷ (Gap ∷ (place_pieces c.behind ++ (Gap ∷ shown)))) refl refl again in
@@ -137,9 +129,9 @@ RowReads f rs = each read_custom (raw_row f) ≡ Some rs
 each-append : {A B : Type 0} (f : A → Option B) (xs ys : List A) (rs ts : List B) → each f xs ≡ Some rs → each f ys ≡ Some ts → each f (xs ++ ys) ≡ Some (rs ++ ts)
 each-append f [] ys rs ts e g = g ∙ ap (λ x. Some (x ++ ts)) (some_is [] rs e)
 each-append f (x ∷ xs) ys rs ts e g =
-    let one = bind_some (f x) (λ y. each f xs >>= λ zs. Some (y ∷ zs)) rs e in
-    let others = bind_some (each f xs) (λ zs. Some (one.0 ∷ zs)) rs one.2 in
-    rw (one.1, each-append f xs ys others.0 ts others.1 g) (ap (λ x. Some (x ++ ts)) (some_is (one.0 ∷ others.0) rs others.2))
+    let (first, is_first, rest) = bind_some (f x) (λ y. each f xs >>= λ zs. Some (y ∷ zs)) rs e in
+    let (others, are_others, result) = bind_some (each f xs) (λ zs. Some (first ∷ zs)) rs rest in
+    rw (is_first, each-append f xs ys others ts are_others g) (ap (λ x. Some (x ++ ts)) (some_is (first ∷ others) rs result))
 
 pub both_rows : (f g : Forest) (rs ts : List RawCustom) → RowReads f rs → RowReads g ts → RowReads (onto f g) (rs ++ ts)
 both_rows f g rs ts e h =
@@ -177,23 +169,23 @@ module _ (skeleton answer : Bool) (c : CustomEntry) (is : is_any_place c.behind 
   claim_writes : {ps : List Piece} {k : Forest} → WritesNoted Bound ps Bound End k → WritesNoted Bound (claim ∷ ps) Bound End k
   claim_writes w = claimed_writes refl w
 
-  own_raws : (r : Role) → role_of c.section.value ≡ r → raw_customs (c ∷ []) ≡ cond (is_raw r) (raw_custom c ∷ []) []
+  own_raws : (r : CustomRole) → custom_role_of c.section.value ≡ r → raw_customs (c ∷ []) ≡ cond (is_raw r) (raw_custom c ∷ []) []
   own_raws r e = by (is_raw r) (ap is_raw e)
     where
-      by : (t : Bool) → is_raw (role_of c.section.value) ≡ t → raw_customs (c ∷ []) ≡ cond t (raw_custom c ∷ []) []
+      by : (t : Bool) → is_raw (custom_role_of c.section.value) ≡ t → raw_customs (c ∷ []) ≡ cond t (raw_custom c ∷ []) []
       by true e = rw e
       by false e = rw e
 
-  nothing_reads : (r : Role) → role_of c.section.value ≡ r → is_raw r ≡ false → RowReads End (raw_customs (c ∷ []))
+  nothing_reads : (r : CustomRole) → custom_role_of c.section.value ≡ r → is_raw r ≡ false → RowReads End (raw_customs (c ∷ []))
   nothing_reads r e n = ap (λ t. Some t) (sym (own_raws r e ∙ ap (λ t. cond t (raw_custom c ∷ []) []) n))
 
-  raw_reads : (r : Role) → role_of c.section.value ≡ r → is_raw r ≡ true → skeleton ≡ false → RowReads (raw_note skeleton c) (raw_customs (c ∷ []))
+  raw_reads : (r : CustomRole) → custom_role_of c.section.value ≡ r → is_raw r ≡ true → skeleton ≡ false → RowReads (raw_note skeleton c) (raw_customs (c ∷ []))
   raw_reads r e raw whole =
       let one : RowReads (raw_note false c) (raw_custom c ∷ []) = rw (place_cut c.behind, read_custom-items c is h) in
       subst (λ t. RowReads (raw_note t c) (raw_customs (c ∷ []))) (sym whole)
       (subst (RowReads (raw_note false c)) (sym (own_raws r e ∙ ap (λ t. cond t (raw_custom c ∷ []) []) raw)) one)
 
-  role_notes : (r : Role) → role_of c.section.value ≡ r → IsRangedRole c.section.value r → PartNotes skeleton answer (role_part skeleton claim c r) c
+  role_notes : (r : CustomRole) → custom_role_of c.section.value ≡ r → IsRangedRole c.section.value r → PartNotes skeleton answer (role_part skeleton claim c r) c
   unfolding class
   role_notes Silent e k = record { notes = End; are = tt; write = claim_writes nothing_writes; reads = λ u w. nothing_reads Silent e refl }
   role_notes (Listed fields) e k =
@@ -222,7 +214,7 @@ module _ (skeleton answer : Bool) (c : CustomEntry) (is : is_any_place c.behind 
 custom_notes : (skeleton answer : Bool) (c : CustomEntry) → is_any_place c.behind ≡ true → IsRangedCustom c.section.value →
     PartNotes skeleton answer (custom_part skeleton answer c) c
 custom_notes skeleton true c is h = record { notes = End; are = tt; write = claim_writes skeleton true c is h nothing_writes; reads = λ u w. absurd cc }
-custom_notes skeleton false c is h = role_notes skeleton false c is h (role_of c.section.value) refl (role_ranged c.section.value h)
+custom_notes skeleton false c is h = role_notes skeleton false c is h (custom_role_of c.section.value) refl (role_ranged c.section.value h)
 
 -- ---- those at one place
 
@@ -233,7 +225,7 @@ at_place place (c ∷ cs) = cond (same_place c.behind place) (c ∷ at_place pla
 pub raw_customs-append : (xs ys : List CustomEntry) → raw_customs (xs ++ ys) ≡ raw_customs xs ++ raw_customs ys
 raw_customs-append [] ys = refl
 raw_customs-append (c ∷ xs) ys =
-    let own : List RawCustom = cond (is_raw (role_of c.section.value)) (raw_custom c ∷ []) [] in
+    let own : List RawCustom = cond (is_raw (custom_role_of c.section.value)) (raw_custom c ∷ []) [] in
     ap (λ t. own ++ t) (raw_customs-append xs ys) ∙ sym (append_assoc own (raw_customs xs) (raw_customs ys))
 
 -- the annotations that they are written as

@@ -26,7 +26,7 @@ AreInOrder low (c ∷ cs) = (low ≤ place_rank c.behind) × (is_any_place c.beh
 
 earlier : (a b : ℕ) (cs : List CustomEntry) → a ≤ b → AreInOrder b cs → AreInOrder a cs
 earlier a b [] le h = tt
-earlier a b (c ∷ cs) le h = (omega (arith, h.0), h.1, h.2)
+earlier a b (c ∷ cs) le (from, any, others) = (omega (arith, from), any, others)
 
 -- what becomes of the last place at a section
 record Moves (low : ℕ) (last : Option Kind) (s : Section) : Type 0 where
@@ -45,21 +45,25 @@ module _ (low : ℕ) (last : Option Kind) (any : is_any_place last ≡ true) (le
       let lt = ltb-true low r (ap (follows low) (sym e) ∙ up) in
       (any, omega arith, rw e (omega (arith, le, lt)))
 
+  moves_from : (s : Section) → (is_any_place (place_behind last s) ≡ true) × (place_rank last ≤ place_rank (place_behind last s))
+      × (place_rank (place_behind last s) ≤ rank_behind low (rank (section_kind s))) → Moves low last s
+  moves_from s (is_any, from, to) = record { any = is_any; from = from; to = to }
+
   moves : (s : Section) → follows low (rank (section_kind s)) ≡ true → Moves low last s
   moves (holds CustomSection x) up = record { any = any; from = omega arith; to = le }
   moves (holds DataCountSection x) up = let lt = ltb-true low 11 up in record { any = any; from = omega arith; to = omega (arith, le, lt) }
-  moves (holds TypeSection x) up = let m = moved TypeSection 1 refl refl up (is_place TypeSection x) in record { any = m.0; from = m.1; to = m.2 }
-  moves (holds ImportSection x) up = let m = moved ImportSection 2 refl refl up (is_place ImportSection x) in record { any = m.0; from = m.1; to = m.2 }
-  moves (holds FunctionSection x) up = let m = moved FunctionSection 3 refl refl up (is_place FunctionSection x) in record { any = m.0; from = m.1; to = m.2 }
-  moves (holds TableSection x) up = let m = moved TableSection 4 refl refl up (is_place TableSection x) in record { any = m.0; from = m.1; to = m.2 }
-  moves (holds MemorySection x) up = let m = moved MemorySection 5 refl refl up (is_place MemorySection x) in record { any = m.0; from = m.1; to = m.2 }
-  moves (holds TagSection x) up = let m = moved TagSection 6 refl refl up (is_place TagSection x) in record { any = m.0; from = m.1; to = m.2 }
-  moves (holds GlobalSection x) up = let m = moved GlobalSection 7 refl refl up (is_place GlobalSection x) in record { any = m.0; from = m.1; to = m.2 }
-  moves (holds ExportSection x) up = let m = moved ExportSection 8 refl refl up (is_place ExportSection x) in record { any = m.0; from = m.1; to = m.2 }
-  moves (holds StartSection x) up = let m = moved StartSection 9 refl refl up true in record { any = m.0; from = m.1; to = m.2 }
-  moves (holds ElementSection x) up = let m = moved ElementSection 10 refl refl up (is_place ElementSection x) in record { any = m.0; from = m.1; to = m.2 }
-  moves (holds CodeSection x) up = let m = moved CodeSection 12 refl refl up (is_place CodeSection x) in record { any = m.0; from = m.1; to = m.2 }
-  moves (holds DataSection x) up = let m = moved DataSection 13 refl refl up (is_place DataSection x) in record { any = m.0; from = m.1; to = m.2 }
+  moves (holds TypeSection x) up = moves_from _ (moved TypeSection 1 refl refl up (is_place TypeSection x))
+  moves (holds ImportSection x) up = moves_from _ (moved ImportSection 2 refl refl up (is_place ImportSection x))
+  moves (holds FunctionSection x) up = moves_from _ (moved FunctionSection 3 refl refl up (is_place FunctionSection x))
+  moves (holds TableSection x) up = moves_from _ (moved TableSection 4 refl refl up (is_place TableSection x))
+  moves (holds MemorySection x) up = moves_from _ (moved MemorySection 5 refl refl up (is_place MemorySection x))
+  moves (holds TagSection x) up = moves_from _ (moved TagSection 6 refl refl up (is_place TagSection x))
+  moves (holds GlobalSection x) up = moves_from _ (moved GlobalSection 7 refl refl up (is_place GlobalSection x))
+  moves (holds ExportSection x) up = moves_from _ (moved ExportSection 8 refl refl up (is_place ExportSection x))
+  moves (holds StartSection x) up = moves_from _ (moved StartSection 9 refl refl up true)
+  moves (holds ElementSection x) up = moves_from _ (moved ElementSection 10 refl refl up (is_place ElementSection x))
+  moves (holds CodeSection x) up = moves_from _ (moved CodeSection 12 refl refl up (is_place CodeSection x))
+  moves (holds DataSection x) up = moves_from _ (moved DataSection 13 refl refl up (is_place DataSection x))
 
 -- The custom sections among sections in order are in order.
 pub in_order : (low : ℕ) (last : Option Kind) (ss : List Section) → is_any_place last ≡ true → place_rank last ≤ low → are_above low ss ≡ true →

@@ -1,5 +1,5 @@
 -- Parts of a layout, up to the first refusal.
-use Rattle.std.proofs.Common.{◌≡◌, ℕ, List, [], ◌∷◌, ◌++◌, None, sym, subst, append_assoc}
+use Rattle.std.proofs.Common.{◌≡◌, ℕ, List, [], ◌∷◌, ◌++◌, None, sym, subst}
 use Rattle.wasmprinter_spec.specs.Forest.{Forest, End, onto}
 use Rattle.wasmprinter_spec.specs.Piece.{Piece}
 use Rattle.wasmprinter_spec.specs.Layout.Customs.{Part, Shown, Stops, laid_parts}
@@ -22,15 +22,6 @@ both_parts {ys = ys} {g = g'} {h = h'} (shown {ps} {parts} {f} {g} {k} {h} x res
     subst (λ t. PartsWrite (Shown ps ∷ (parts ++ ys)) t (onto (onto k h) h')) (sym (onto_assoc f g g'))
     (subst (PartsWrite (Shown ps ∷ (parts ++ ys)) (onto f (onto g g'))) (sym (onto_assoc k h h')) (shown x (both_parts rest w)))
 both_parts (stopped x rest) w = stopped x (both_parts rest w)
-
--- parts before any others, and what they make of what those write
-pub record PartsBefore (xs : List Part) (without with : Forest → Forest) : Type 0 where
-  pub before : {ys : List Part} {g h : Forest} → PartsWrite ys g h → PartsWrite (xs ++ ys) (without g) (with h)
-
-pub parts_then : {xs zs : List Part} {f k g h : Forest → Forest} → PartsBefore xs f k → PartsBefore zs g h → PartsBefore (xs ++ zs) (λ x. f (g x)) (λ x. k (h x))
-parts_then {xs = xs} {zs = zs} {f = f} {k = k} {g = g} {h = h} v w = record {
-  before = λ {ys} {g = x} {h = y} u. subst (λ t. PartsWrite t (f (g x)) (k (h y))) (sym (append_assoc xs zs ys)) (v.before (w.before u));
-}
 
 pub parts_whole : {parts : List Part} {f k : Forest} → PartsWrite parts f k → (laid_parts parts).refused ≡ None → WritesNoted Bound (laid_parts parts).pieces Bound f k
 parts_whole no_parts e = nothing_writes

@@ -1,9 +1,10 @@
 -- The custom sections at all places, one place behind the other, are all of them in their order.
-use Rattle.std.proofs.Common.{◌≡◌, ℕ, suc, ◌<◌, ◌≤◌, Bool, true, false, ◌&&◌, ◌||◌, leb, List, [], ◌∷◌, ◌++◌, Option, Some, None, refl, sym, ap, ◌∙◌, true≢false, arith}
+use Rattle.std.proofs.Common.{◌≡◌, ℕ, suc, ◌<◌, ◌≤◌, Bool, true, false, ◌&&◌, ◌||◌, leb, List, [], ◌∷◌, ◌++◌, Option, Some, None, refl, sym, ap, ◌∙◌, map, true≢false, arith}
 use Rattle.std.proofs.lemmas.Bool.{and_parts, leb-true}
-use Rattle.wasmprinter_spec.specs.Kinds.{Kind, CustomSection, TypeSection, ImportSection, FunctionSection, TableSection, MemorySection, TagSection, GlobalSection, ExportSection, StartSection, ElementSection, DataCountSection, CodeSection, DataSection}
+use Rattle.wasmprinter_spec.specs.Kinds.{Kind, CustomSection, DataCountSection}
 use Rattle.wasmprinter_spec.specs.Placed.{CustomEntry}
 use Rattle.wasmprinter_spec.specs.Customs.{RawCustom, raw_customs}
+use Rattle.wasmprinter_spec.specs.Layout.{section_order}
 use Rattle.wasmprinter_spec.specs.Layout.Customs.{same_place}
 use Rattle.wasmprinter_spec.proofs.SameKinds.{same_kind-is}
 use Rattle.wasmprinter_reading.proofs.Customs.Ordered.{place_rank, is_any_place, AreInOrder}
@@ -11,9 +12,7 @@ use Rattle.wasmprinter_reading.proofs.Customs.Notes.{at_place, raw_customs-appen
 
 -- all places, as the layout goes over them
 abbrev pub all_places : List (Option Kind)
-all_places =
-    None ∷ Some TypeSection ∷ Some ImportSection ∷ Some FunctionSection ∷ Some TableSection ∷ Some MemorySection ∷ Some TagSection ∷ Some GlobalSection
-    ∷ Some ExportSection ∷ Some StartSection ∷ Some ElementSection ∷ Some CodeSection ∷ Some DataSection ∷ []
+all_places = None ∷ map Some section_order
 
 abbrev over : List (Option Kind) → List CustomEntry → List CustomEntry
 over [] cs = []
@@ -52,8 +51,8 @@ other_place a b apart = by (same_place a b) refl
 -- a place in front of all sections holds none
 none_at : (p : Option Kind) (low : ℕ) (cs : List CustomEntry) → place_rank p < low → AreInOrder low cs → at_place p cs ≡ []
 none_at p low [] lt h = refl
-none_at p low (c ∷ cs) lt h =
-    rw (other_place c.behind p (λ e. omega (arith, h.0, lt, e)), none_at p (place_rank c.behind) cs (omega (arith, h.0, lt)) h.2)
+none_at p low (c ∷ cs) lt (from, any, others) =
+    rw (other_place c.behind p (λ e. omega (arith, from, lt, e)), none_at p (place_rank c.behind) cs (omega (arith, from, lt)) others)
 
 -- ---- all places
 
@@ -92,26 +91,14 @@ first_over (p ∷ ps) low c cs up i h =
         rw (e, none_at p (place_rank c.behind) cs (omega (arith, above)) h, more j)
 
 is_among_all : (k : Option Kind) → is_any_place k ≡ true → is_among k all_places ≡ true
-is_among_all None h = refl
 is_among_all (Some CustomSection) h = absurd cc
 is_among_all (Some DataCountSection) h = absurd cc
-is_among_all (Some TypeSection) h = refl
-is_among_all (Some ImportSection) h = refl
-is_among_all (Some FunctionSection) h = refl
-is_among_all (Some TableSection) h = refl
-is_among_all (Some MemorySection) h = refl
-is_among_all (Some TagSection) h = refl
-is_among_all (Some GlobalSection) h = refl
-is_among_all (Some ExportSection) h = refl
-is_among_all (Some StartSection) h = refl
-is_among_all (Some ElementSection) h = refl
-is_among_all (Some CodeSection) h = refl
-is_among_all (Some DataSection) h = refl
+is_among_all _ h = refl
 
 over_all : (low : ℕ) (cs : List CustomEntry) → AreInOrder low cs → over all_places cs ≡ cs
 over_all low [] h = refl
-over_all low (c ∷ cs) h =
-    first_over all_places 0 c cs refl (is_among_all c.behind h.1) h.2 ∙ ap (λ t. c ∷ t) (over_all (place_rank c.behind) cs h.2)
+over_all low (c ∷ cs) (from, any, others) =
+    first_over all_places 0 c cs refl (is_among_all c.behind any) others ∙ ap (λ t. c ∷ t) (over_all (place_rank c.behind) cs others)
 
 raws_over-over : (ps : List (Option Kind)) (cs : List CustomEntry) → raws_over ps cs ≡ raw_customs (over ps cs)
 raws_over-over [] cs = refl
@@ -122,4 +109,4 @@ raws_over_all low cs h = raws_over-over all_places cs ∙ ap raw_customs (over_a
 
 pub ordered_anywhere : (low : ℕ) (cs : List CustomEntry) → AreInOrder low cs → AreAnywhere cs
 ordered_anywhere low [] h = tt
-ordered_anywhere low (c ∷ cs) h = (h.1, ordered_anywhere (place_rank c.behind) cs h.2)
+ordered_anywhere low (c ∷ cs) (from, any, others) = (any, ordered_anywhere (place_rank c.behind) cs others)

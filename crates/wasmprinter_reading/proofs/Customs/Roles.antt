@@ -9,9 +9,9 @@ use Rattle.wasmprinter_spec.specs.Quoted.{is_run}
 use Rattle.wasmprinter_spec.specs.Sized.{take_bytes}
 use Rattle.wasmprinter_spec.specs.Lenient.{Lenient, give, one, unless_ended}
 use Rattle.wasmprinter_spec.specs.Placed.{Custom}
-use Rattle.wasmprinter_spec.specs.Customs.{Role, Silent, Listed, Linked, Raw, Faulted, producers_role, dylink_role, role_of, name_section, hint_section, producers_section, dylink_section}
+use Rattle.wasmprinter_spec.specs.Customs.{CustomRole, Silent, Listed, Linked, Raw, Faulted, producers_role, dylink_role, custom_role_of, name_section, hint_section, producers_section, dylink_section}
 use Rattle.wasmprinter_spec.specs.Customs.Producers.{Value, Field, value, field, producers, are_runs}
-use Rattle.wasmprinter_spec.specs.Customs.Dylink.{MemInfo, Content, Sizes, Needed, Exports, Imports, Paths, Other, Subsection, mem_info, export_info, import_info, content_by_id, is_known, content, subsection, subsections, first_other, judgement_by, judgement_of}
+use Rattle.wasmprinter_spec.specs.Customs.Dylink.{MemInfo, SubsectionContent, Sizes, Needed, Exports, Imports, Paths, Other, Subsection, mem_info, export_info, import_info, content_by_id, is_known, content, subsection, subsections, first_other, judgement_by, judgement_of}
 use Rattle.wasmprinter_lexical.proofs.Printed.{is_remark}
 use Rattle.wasmprinter_reading.proofs.Bytes.{bytes_same}
 use Rattle.wasmprinter_reading.proofs.AllSpelled.{AllSpelled, Spelled-any, Spelled-seq, Spelled-map_value, Spelled-choose, Spelled-value_with_place, Spelled-exactly}
@@ -51,7 +51,7 @@ pub record IsRangedMemInfo (m : MemInfo) : Type 0 where
   pub table_size : m.table_size < 2 ^ 32
   pub table_alignment : m.table_alignment < 2 ^ 32
 
-abbrev pub IsRangedContent : Content → Type 0
+abbrev pub IsRangedContent : SubsectionContent → Type 0
 IsRangedContent (Sizes m) = IsRangedMemInfo m
 IsRangedContent (Needed ns) = AllByRecursion IsUtf8 ns
 IsRangedContent (Exports es) = AllByRecursion (λ e. IsUtf8 e.name) es
@@ -79,7 +79,9 @@ AllSpelled-content_by_id id =
     AllSpelled-export_info = Spelled-map_value (Spelled-seq AllSpelled-name (λ _. AllSpelled-u32)) (λ x h. h.0)
 
     AllSpelled-import_info : AllSpelled import_info (λ i. IsUtf8 i.source × IsUtf8 i.name)
-    AllSpelled-import_info = Spelled-map_value (Spelled-seq AllSpelled-name (λ _. Spelled-seq AllSpelled-name (λ _. AllSpelled-u32))) (λ x h. (h.0, h.1.0))
+    AllSpelled-import_info =
+        Spelled-map_value (Spelled-seq AllSpelled-name (λ _. Spelled-seq AllSpelled-name (λ _. AllSpelled-u32)))
+        (λ x (source, (name, _)). (source, name))
 
 AllSpelled-content : (id size : ℕ) → AllSpelled (content id size) IsRangedContent
 AllSpelled-content id size =
@@ -88,7 +90,7 @@ AllSpelled-content id size =
 AllSpelled-subsection : AllSpelled subsection (λ s. IsRangedContent s.value)
 AllSpelled-subsection =
     Spelled-value_with_place (Spelled-map_value (Spelled-seq (Spelled-any byte) (λ id. Spelled-seq AllSpelled-u32 (λ size. AllSpelled-content id size)))
-    (λ x h. h.1.1))
+    (λ x (_, (_, ranged)). ranged))
 
 AllGiven-subsections : (n : ℕ) → AllGiven (λ s. IsRangedContent s.value) (subsections n)
 AllGiven-subsections n =
@@ -103,7 +105,7 @@ AllGiven-subsections n =
 -- ---- what a section is to the text
 
 -- a section with a fault has a name that may stand in a comment
-abbrev pub IsRangedRole : Custom → Role → Type 0
+abbrev pub IsRangedRole : Custom → CustomRole → Type 0
 IsRangedRole c (Listed fields) = AllByRecursion IsRangedField fields
 IsRangedRole c (Linked ss) = AreRangedSubsections ss
 IsRangedRole c Faulted = is_remark c.name ≡ true
@@ -137,7 +139,7 @@ module _ (c : Custom) (h : IsRangedCustom c) where
       by ss r None (Some behind) = r
       by ss r None None = subst (λ n. is_remark n ≡ true) (sym same) refl
 
-  pub role_ranged : IsRangedRole c (role_of c)
+  pub role_ranged : IsRangedRole c (custom_role_of c)
   role_ranged = by (bytes_eq c.name name_section) (bytes_eq c.name hint_section) (bytes_eq c.name producers_section) refl (bytes_eq c.name dylink_section) refl
     where
       by : (a b d : Bool) → bytes_eq c.name producers_section ≡ d → (e : Bool) → bytes_eq c.name dylink_section ≡ e →

@@ -58,7 +58,7 @@ data_items s skeleton i d = onto (own_id s row.Data i) (segment_items s skeleton
 
 -- ---- their pieces write it
 
-bytes_write : (skeleton : Bool) (bs : List ℕ) → AreBytes bs → Writes Free (shown_bytes skeleton bs) Bound (bytes_items skeleton bs)
+pub bytes_write : (skeleton : Bool) (bs : List ℕ) → AreBytes bs → Writes Free (shown_bytes skeleton bs) Bound (bytes_items skeleton bs)
 unfolding class
 bytes_write true bs h = word_writes refl nothing_writes
 bytes_write false bs h = quoted_bytes_writes h nothing_writes
@@ -128,9 +128,9 @@ identifier_in_front-data s i d = declaration-items (s.names.items row.Data i) (s
 
 module _ (s : Scope) (c : Context) (n : Counts) (scoped : AreScoped s c n) where
   -- every index in the mode is declared
-  abbrev pub IsIndexedMode : DataMode (Placed Operator) → Type 0
-  IsIndexedMode PassiveData = Unit {0}
-  IsIndexedMode (ActiveData m offset) = (m < n.memories) × AreIndexed s n offset
+  abbrev pub IsIndexedDataMode : DataMode (Placed Operator) → Type 0
+  IsIndexedDataMode PassiveData = Unit {0}
+  IsIndexedDataMode (ActiveData m offset) = (m < n.memories) × AreIndexed s n offset
 
   -- an active segment, behind its memory
   active-items : (m : ℕ) (offset : List (Placed Operator)) (f : Forest) → IsRangedExpression offset → AreIndexed s n offset →
@@ -157,12 +157,12 @@ module _ (s : Scope) (c : Context) (n : Counts) (scoped : AreScoped s c n) where
       (own_index-reads s c n scoped row.Memory (λ names f. refl) m declared small)
       ∙ active-items m offset f h d
 
-  segment-items : (m : DataMode (Placed Operator)) (bs : List ℕ) → IsRangedDataMode m → IsIndexedMode m →
+  segment-items : (m : DataMode (Placed Operator)) (bs : List ℕ) → IsRangedDataMode m → IsIndexedDataMode m →
       segment c (data_mode_items s m (String bs End)) ≡ with_bytes c (data_mode_without_places m) (String bs End)
   segment-items PassiveData bs h d = refl
   segment-items (ActiveData m offset) bs h d = segment-active (m == 0) m refl offset (String bs End) h.0 d.0 h.1 d.1
 
-  pub read_data-items : (i : ℕ) (d : Data (Placed Operator)) → IsRangedData d → IsIndexedMode d.mode →
+  pub read_data-items : (i : ℕ) (d : Data (Placed Operator)) → IsRangedData d → IsIndexedDataMode d.mode →
       read_data c (data_items s false i d) ≡ Some (data_without_places d)
   read_data-items i d h k =
       ap (λ x. segment c x.1) (identifier_in_front-data s i d)

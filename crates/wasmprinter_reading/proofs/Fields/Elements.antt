@@ -8,7 +8,7 @@ use Rattle.wasmprinter_spec.specs.Types.{HeapType, Index, RefType, signature_at}
 use Rattle.wasmprinter_spec.specs.Row as row
 use Rattle.wasmprinter_spec.specs.Names.{AreNamed}
 use Rattle.wasmprinter_spec.specs.Operator.{Operator}
-use Rattle.wasmprinter_spec.specs.Placed.{Mode, Passive, Declared, Active, Items, Functions, Expressions, element_of, ElementEntry}
+use Rattle.wasmprinter_spec.specs.Placed.{ElementMode, Passive, Declared, Active, Items, Functions, Expressions, element_of, ElementEntry}
 use Rattle.wasmprinter_spec.specs.Module.{without_places, mode_without_places, items_without_places, element_without_places}
 use Rattle.wasmprinter_spec.specs.Indexed.{Counts, IsDeclaredHeap}
 use Rattle.wasmprinter_spec.specs.Labels.{Named}
@@ -61,7 +61,7 @@ module _ (s : Scope) where
   shown_items_items false is = items_items is
 
   -- what stands before the items
-  abbrev pub mode_items : Bool → Mode (Placed Operator) → Forest → Forest
+  abbrev pub mode_items : Bool → ElementMode (Placed Operator) → Forest → Forest
   mode_items names Passive f = f
   mode_items names Declared f = Word (codes "declare") f
   mode_items names (Active t offset) f = named_table_items s names t (Group (constant_held s (codes "offset") offset) f)
@@ -104,7 +104,7 @@ module _ (s : Scope) (named : AreNamed s.names) (ranged : AreSignaturesInRange (
   shown_items_write false is h = items_write is h
 
   -- the mode, and a blank, before the items
-  mode_writes : (names : Bool) (m : Mode (Placed Operator)) → IsRangedMode names m → {qs : List piece.Piece} {f : Forest} → Writes Free qs Bound f →
+  mode_writes : (names : Bool) (m : ElementMode (Placed Operator)) → IsRangedMode names m → {qs : List piece.Piece} {f : Forest} → Writes Free qs Bound f →
       Writes Bound (mode_pieces s names m ++ (piece.Gap ∷ qs)) Bound (mode_items s names m f)
   unfolding mode_pieces class
   mode_writes names Passive h w = gap_writes refl w
@@ -139,7 +139,7 @@ identifier_in_front-items s (Expressions t es) = identifier_in_front-ref s.names
 identifier_in_front-segment : (s : Scope) (e : ElementEntry) → identifier_in_front (segment_items s false e) ≡ (None, segment_items s false e)
 identifier_in_front-segment s e = by e.names_table e.element.mode
   where
-    by : (names : Bool) (m : Mode (Placed Operator)) →
+    by : (names : Bool) (m : ElementMode (Placed Operator)) →
         identifier_in_front (mode_items s names m (items_items s e.element.items)) ≡
         (None, mode_items s names m (items_items s e.element.items))
     by names Passive = identifier_in_front-items s e.element.items
@@ -159,7 +159,7 @@ first_function c (Some n) i f is h k = rw (h, k)
 
 module _ (s : Scope) (c : Context) (n : Counts) (scoped : AreScoped s c n) where
   -- every index in the mode and in the items is declared
-  abbrev pub IsIndexedMode : Mode (Placed Operator) → Type 0
+  abbrev pub IsIndexedMode : ElementMode (Placed Operator) → Type 0
   IsIndexedMode (Active t offset) = (t < n.tables) × AreIndexed s n offset
   IsIndexedMode _ = Unit {0}
 
@@ -243,7 +243,7 @@ module _ (s : Scope) (c : Context) (n : Counts) (scoped : AreScoped s c n) where
   segment-active false t offset f zero declared h d =
       segment-offset _ f (offset_stands s offset h) ∙ active-items 0 offset f h d ∙ ap (λ i. with_mode c (Active i (without_places offset)) f) (sym zero)
 
-  segment-items : (names : Bool) (m : Mode (Placed Operator)) (is : Items (Placed Operator)) → IsRangedMode names m → IsIndexedMode m →
+  segment-items : (names : Bool) (m : ElementMode (Placed Operator)) (is : Items (Placed Operator)) → IsRangedMode names m → IsIndexedMode m →
       segment c (mode_items s names m (items_items s is)) ≡ with_mode c (mode_without_places m)
       (items_items s is)
   segment-items names Passive is h d = segment-passive is

@@ -18,15 +18,16 @@ use Rattle.wasmprinter_spec.specs.Piece as piece
 use Rattle.wasmprinter_spec.specs.Piece.{Piece, Gap}
 use Rattle.wasmprinter_spec.specs.Layout.Groups.{group_gap_at, breaks, has_break}
 use Rattle.wasmprinter_spec.specs.Layout.Variables.{Variables, variable_groups}
-use Rattle.wasmprinter_spec.specs.Layout.Declarations.{Scope, Folding}
+use Rattle.wasmprinter_spec.specs.Layout.Declarations.{Scope, Folding, scope_of_function}
 use Rattle.wasmprinter_spec.specs.Layout.Types.{parameters_of}
-use Rattle.wasmprinter_spec.specs.Layout.Operators.{Setting, hint_pieces, operator_pieces, operators_pieces}
+use Rattle.wasmprinter_spec.specs.Layout.Operators.{Setting, operator_pieces, operators_pieces}
 use Rattle.wasmprinter_spec.specs.Layout.Functions.{locals_place, local_line, local_pieces, header_pieces, over_lines, result_count, body_by, body_pieces, inner_pieces, function_group}
 use Rattle.wasmprinter_spec.specs.IndexSpaces.{Identifiers, index_space, space_in, index, Context}
 use Rattle.wasmprinter_spec.specs.Text.Items.{identifier_in_front, groups, ids_of}
 use Rattle.wasmprinter_spec.specs.Text.Types.{val_types, variables, signature}
 use Rattle.wasmprinter_spec.specs.Text.Functions.{function_of_type, read_function}
 use Rattle.wasmprinter_spec.specs.Text.Operators.{read_operators}
+use Rattle.wasmprinter_spec.proofs.OneLine.{hint_breaks}
 use Rattle.wasmprinter_lexical.proofs.Pieces.{Edge, Bound, Ended}
 use Rattle.wasmprinter_lexical.proofs.Writes.{Writes, WritesNoted, writing, is_open, both_write, behind_anything, nothing_writes, break_writes, line_group_gap_writes, group_gap_at_writes, ended_group_gap_at_writes}
 use Rattle.wasmprinter_reading.specs.Listed.{AreSignaturesInRange, IsListed}
@@ -63,20 +64,16 @@ abbrev function_items_by : Bool → Scope → PlacedFunction → Forest → Fore
 function_items_by true s f inner = header_items s Func (Some s.function) s.function f.type_index (Word (codes "...") End)
 function_items_by false s f inner = header_items s Func (Some s.function) s.function f.type_index inner
 
--- the function i
-abbrev pub function_scope : Scope → ℕ → Scope
-function_scope s i = record s { function = i }
-
 abbrev own_parameter_count : Scope → PlacedFunction → ℕ
 own_parameter_count s f = parameter_count (signature_at s.types f.type_index)
 
 abbrev pub function_items : Bool → Scope → ℕ → List (Placed Hint) → PlacedFunction → Forest
 function_items skeleton s i hs f =
-    function_items_by skeleton (function_scope s i) f (inner_items false (function_scope s i) hs (own_parameter_count s f) f)
+    function_items_by skeleton (scope_of_function s i) f (inner_items false (scope_of_function s i) hs (own_parameter_count s f) f)
 
 abbrev pub function_hinted : Bool → Scope → ℕ → List (Placed Hint) → PlacedFunction → Forest
 function_hinted skeleton s i hs f =
-    function_items_by skeleton (function_scope s i) f (inner_items true (function_scope s i) hs (own_parameter_count s f) f)
+    function_items_by skeleton (scope_of_function s i) f (inner_items true (scope_of_function s i) hs (own_parameter_count s f) f)
 
 -- functions from i on, each with its hints
 abbrev pub functions_hinted : Bool → Scope → List FunctionHints → ℕ → List PlacedFunction → Forest
@@ -102,10 +99,6 @@ has_break-behind (p ∷ hs) ps h = by (breaks p) (has_break-behind hs ps h)
     by : (t : Bool) → has_break (hs ++ ps) ≡ true → cond t true (has_break (hs ++ ps)) ≡ true
     by true e = refl
     by false e = e
-
-hint_breaks : (nesting : ℕ) (h : Option (Placed Hint)) (ps : List Piece) → has_break ps ≡ true → has_break (hint_pieces nesting h ++ ps) ≡ true
-hint_breaks nesting None ps e = e
-hint_breaks nesting (Some h) ps e = refl
 
 -- operators begin with a line
 body_breaks : (s : Scope) (place : ℕ) (hs : List (Placed Hint)) (o : Placed Operator) (os : List (Placed Operator)) →
@@ -196,9 +189,11 @@ module _ (s : Scope) (named : AreNamed s.names) (ranged : AreSignaturesInRange (
 
 pub function_writes : (s : Scope) → AreNamed s.names → AreSignaturesInRange (signature_at s.types) → IsUnpainted s.folding → {a : Edge} → is_open a ≡ true → (skeleton offsets : Bool) (i : ℕ)
     (hs : List (Placed Hint)) (f : PlacedFunction) → i < 2 ^ 64 → IsRangedFunction f →
-    WritesNoted a (function_group skeleton offsets (function_scope s i) hs f) Bound (Group (Word (codes "func") (function_items skeleton s i hs f)) End)
+    WritesNoted a (function_group skeleton offsets (scope_of_function s i) hs f) Bound
+    (Group (Word (codes "func") (function_items skeleton s i hs f)) End)
     (Group (Word (codes "func") (function_hinted skeleton s i hs f)) End)
-function_writes s named ranged bare e skeleton offsets i hs f h r = function_group_writes (function_scope s i) named ranged bare e skeleton offsets hs f h r
+function_writes s named ranged bare e skeleton offsets i hs f h r =
+    function_group_writes (scope_of_function s i) named ranged bare e skeleton offsets hs f h r
 
 -- ---- they read back
 
@@ -267,7 +262,7 @@ module _ (s : Scope) (c : Context) (n : Counts) (scoped : AreScoped s c n) (i co
   own_few row.Data = scoped.names.few row.Data
   own_few row.Label = scoped.names.few row.Label
 
-  own_names : HaveSameNames (over_lines (function_scope s i) place) own_context own_counts
+  own_names : HaveSameNames (over_lines (scope_of_function s i) place) own_context own_counts
   own_names = record {
     spaces = own_spaces;
     fields = scoped.names.fields;
@@ -278,13 +273,14 @@ module _ (s : Scope) (c : Context) (n : Counts) (scoped : AreScoped s c n) (i co
     structures = scoped.names.structures;
   }
 
-  own_types : HaveSameTypes (over_lines (function_scope s i) place) own_context own_counts
+  own_types : HaveSameTypes (over_lines (scope_of_function s i) place) own_context own_counts
   own_types = record { read = scoped.types.read; counted = scoped.types.counted; in_range = scoped.types.in_range }
 
   body_reads : (f : PlacedFunction) → IsRangedFunction f → AllByRecursion (IsIndexedOperator own_counts) (without_places f.body.value.operators) →
-      read_operators own_context (chunks_of (over_lines (function_scope s i) place) 0 [] (without_places f.body.value.operators)) ≡ Some (without_places f.body.value.operators)
+      read_operators own_context (chunks_of (over_lines (scope_of_function s i) place) 0 [] (without_places f.body.value.operators))
+      ≡ Some (without_places f.body.value.operators)
   body_reads f h d =
-      expression_reads (over_lines (function_scope s i) place) own_context own_counts own_types own_names scoped.apart
+      expression_reads (over_lines (scope_of_function s i) place) own_context own_counts own_types own_names scoped.apart
       f.body.value.operators (record { listed = h.body.listed; nested = h.body.nested; count = h.body.count; indexed = d })
 
 -- how many parameters and locals a function has
@@ -300,17 +296,20 @@ module _ (s : Scope) (c : Context) (n : Counts) (scoped : AreScoped s c n) where
   typed-items : (i : ℕ) (hs : List (Placed Hint)) (t : FuncType) (f : PlacedFunction) → signature_at s.types f.type_index ≡ Some t → IsRangedFunction f →
       AllByRecursion (IsDeclaredVal n.types) (locals_of f.body.value.locals) → variable_count (Some t) f ≤ 2 ^ 64 →
       AllByRecursion (IsIndexedOperator (counts_with n (Some t) f)) (without_places f.body.value.operators) → AreFoldable s.folding f.body.value.operators →
-      function_of_type c (onto (type_use_items s.names (Some i) f.type_index (Some t)) (inner_items false (function_scope s i) hs (length t.params) f)) ≡ Some (function_of f)
+      function_of_type c
+      (onto (type_use_items s.names (Some i) f.type_index (Some t)) (inner_items false (scope_of_function s i) hs (length t.params) f))
+      ≡ Some (function_of f)
   typed-items i hs t f own h locals few d foldable =
       let ids : Identifiers = c.spaces.types in
       let os : List Operator = without_places f.body.value.operators in
       let ls : List ValType = locals_of f.body.value.locals in
       let named : ℕ → Option Named = s.names.locals i in
       let count : ℕ = length t.params in
-      let setting : Setting = over_lines (function_scope s i) f.body.place in
-      let code : Forest = body_items false (function_scope s i) hs f in
+      let setting : Setting = over_lines (scope_of_function s i) f.body.place in
+      let code : Forest = body_items false (scope_of_function s i) hs f in
+      let results : Option ℕ = result_count (scope_of_function s i) f.type_index in
       let begins : BeginsCode code =
-      list_begins s.folding (result_count (function_scope s i) f.type_index) setting scoped.named scoped.types.in_range hs f.body.value.operators h.body.listed in
+      list_begins s.folding results setting scoped.named scoped.types.in_range hs f.body.value.operators h.body.listed in
       let gs : List Variables = variable_groups named count ls in
       let rest : Forest = onto (groups_items s.names (codes "local") gs) code in
       let bound : ℕ = type_bound s c n scoped in
@@ -331,7 +330,8 @@ module _ (s : Scope) (c : Context) (n : Counts) (scoped : AreScoped s c n) where
         type,
         sig,
         variables,
-        chunks_of_forest-list s.folding (result_count (function_scope s i) f.type_index) setting scoped.named scoped.types.in_range hs f.body.value.operators h.body.listed h.body.nested foldable,
+        chunks_of_forest-list s.folding results setting scoped.named scoped.types.in_range hs f.body.value.operators h.body.listed
+            h.body.nested foldable,
         read,
         own_parameters (parameters_of s.names (Some i)) t,
         variables_space named (scoped.apart.locals i) count ls few,
@@ -344,9 +344,10 @@ module _ (s : Scope) (c : Context) (n : Counts) (scoped : AreScoped s c n) where
       AllByRecursion (IsIndexedOperator (counts_with n (signature_at s.types f.type_index) f)) (without_places f.body.value.operators) →
       AreFoldable s.folding f.body.value.operators → read_function c (function_items false s i hs f) ≡ Some (function_of f)
   read_function-items i hs t f own h locals few d foldable =
-      let rest : Option FuncType → Forest = λ x. inner_items false (function_scope s i) hs (parameter_count x) f in
+      let rest : Option FuncType → Forest = λ x. inner_items false (scope_of_function s i) hs (parameter_count x) f in
       let os : List Operator = without_places f.body.value.operators in
-      ap (λ x. function_of_type c x.1) (identifier_in_front-header (function_scope s i) Func (Some i) i f.type_index (rest (signature_at s.types f.type_index)))
+      ap (λ x. function_of_type c x.1)
+      (identifier_in_front-header (scope_of_function s i) Func (Some i) i f.type_index (rest (signature_at s.types f.type_index)))
       ∙ ap (λ x. function_of_type c (onto (type_use_items s.names (Some i) f.type_index x) (rest x))) own
       ∙ typed-items i hs t f own h locals (subst (λ x. variable_count x f ≤ 2 ^ 64) own few)
       (subst (λ x. AllByRecursion (IsIndexedOperator (counts_with n x f)) os) own d) foldable
@@ -355,4 +356,5 @@ module _ (s : Scope) (c : Context) (n : Counts) (scoped : AreScoped s c n) where
 pub identifier_in_front-function : (s : Scope) (i : ℕ) (hs : List (Placed Hint)) (f : PlacedFunction) → (identifier_in_front (function_items false s i hs f)).0 ≡ id (s.names.items Func i)
 identifier_in_front-function s i hs f =
     ap (λ x. x.0)
-    (identifier_in_front-header (function_scope s i) Func (Some i) i f.type_index (inner_items false (function_scope s i) hs (parameter_count (signature_at s.types f.type_index)) f))
+    (identifier_in_front-header (scope_of_function s i) Func (Some i) i f.type_index
+    (inner_items false (scope_of_function s i) hs (own_parameter_count s f) f))

@@ -1,6 +1,6 @@
 -- Memories among the fields of a module.
-use Rattle.std.proofs.Common.{◌≡◌, ◌⊎◌, inl, inr, ◌≤◌, ℕ, zero, suc, ◌<◌, ◌^◌, Bool, true, false, cond, eqb, List, ◌++◌, Option, Some, None, refl, ap, ◌∙◌, codes, arith}
-use Rattle.std.proofs.lemmas.Bool.{cases_lt, lt-ltb, eq-eqb, ne_eqb}
+use Rattle.std.proofs.Common.{◌≡◌, ℕ, ◌<◌, ◌^◌, Bool, true, false, cond, List, ◌++◌, Option, Some, None, refl, ap, ◌∙◌, codes, arith}
+use Rattle.std.proofs.lemmas.Bool.{lt-ltb}
 use Rattle.std.proofs.Math.Pow.{pow-lt}
 use Rattle.std.specs.Fmt.{digits}
 use Rattle.wasmprinter_spec.specs.Character.{class}
@@ -21,6 +21,7 @@ use Rattle.wasmprinter_lexical.proofs.Writes.{Writes, writing, both_write, nothi
 use Rattle.wasmprinter_reading.proofs.Ranged.{IsRangedPage, IsRangedMemory}
 use Rattle.wasmprinter_reading.proofs.Identifiers.{declaration-items, declaration_writes}
 use Rattle.wasmprinter_reading.proofs.Declarations.{id}
+use Rattle.wasmprinter_reading.proofs.Operators.Memory.{exponent_below-power}
 use Rattle.wasmprinter_reading.proofs.Fields.Scopes.{own_id}
 use Rattle.wasmprinter_reading.proofs.Fields.Limits.{wide_items, limits_items, wide_writes, limits_write, IsNoNumber, address_type-items, limits-items, identifier_in_front-limits}
 
@@ -47,7 +48,7 @@ memory_items s i m = onto (own_id s Memory i) (memory_type_items m)
 
 -- ---- their pieces write it
 
-shared_writes : (threads : Bool) → Writes Bound (shared_pieces threads) Bound (shared_items threads)
+shared_writes : (shared : Bool) → Writes Bound (shared_pieces shared) Bound (shared_items shared)
 unfolding class
 shared_writes true = search writing
 shared_writes false = nothing_writes
@@ -80,30 +81,18 @@ memory_writes s named i m h r =
 
 -- what stands behind the limits
 abbrev behind_items : Bool → Option ℕ → Forest
-behind_items threads e = onto (shared_items threads) (page_items e)
+behind_items shared e = onto (shared_items shared) (page_items e)
 
-no_number_behind : (threads : Bool) (e : Option ℕ) → IsNoNumber (behind_items threads e)
+no_number_behind : (shared : Bool) (e : Option ℕ) → IsNoNumber (behind_items shared e)
 unfolding natural numeral
 no_number_behind true e min = refl
 no_number_behind false None min = refl
 no_number_behind false (Some e) min = refl
 
-shared_in_front-items : (threads : Bool) (e : Option ℕ) → shared_in_front (behind_items threads e) ≡ (threads, page_items e)
+shared_in_front-items : (shared : Bool) (e : Option ℕ) → shared_in_front (behind_items shared e) ≡ (shared, page_items e)
 shared_in_front-items true e = refl
 shared_in_front-items false None = refl
 shared_in_front-items false (Some e) = refl
-
-exponent_below-power : (n e : ℕ) → e < n → exponent_below n (2 ^ e) ≡ Some e
-exponent_below-power zero e h = absurd (omega arith)
-exponent_below-power (suc n) e h = by (cases_lt e n) (exponent_below-power n e)
-  where
-    by : (e < n) ⊎ (n ≤ e) → (e < n → exponent_below n (2 ^ e) ≡ Some e) → cond (eqb (2 ^ n) (2 ^ e)) (Some n) (exponent_below n (2 ^ e)) ≡ Some e
-    by (inl less) rest =
-        let more : 2 ^ e < 2 ^ n = pow-lt less in
-        rw (ne_eqb (2 ^ n) (2 ^ e) (λ same. omega arith), rest less)
-    by (inr last) rest =
-        let same : n ≡ e = omega arith in
-        rw (eq-eqb (2 ^ n) (2 ^ e) (ap (λ (k : ℕ). 2 ^ k) same)) (ap (λ k. Some k) same)
 
 exponent_of-size : (e : ℕ) → e < 64 → exponent_of (size_text e) ≡ Some e
 exponent_of-size e h =

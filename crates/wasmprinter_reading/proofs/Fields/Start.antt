@@ -7,9 +7,9 @@ use Rattle.wasmprinter_spec.specs.Row.{Func}
 use Rattle.wasmprinter_spec.specs.Names.{AreNamed}
 use Rattle.wasmprinter_spec.specs.Indexed.{Counts}
 use Rattle.wasmprinter_spec.specs.Layout.Declarations.{Scope}
-use Rattle.wasmprinter_spec.specs.Layout.{start_pieces}
+use Rattle.wasmprinter_spec.specs.Layout.Start.{start_pieces}
 use Rattle.wasmprinter_spec.specs.IndexSpaces.{Context}
-use Rattle.wasmprinter_spec.specs.Read.{read_start}
+use Rattle.wasmprinter_spec.specs.Text.Start.{read_start}
 use Rattle.wasmprinter_lexical.proofs.Pieces.{Bound}
 use Rattle.wasmprinter_lexical.proofs.Writes.{Writes, nothing_writes, break_writes, line_group_gap_writes}
 use Rattle.wasmprinter_reading.proofs.Ranged.{IsRangedStart}

@@ -11,7 +11,7 @@ use Rattle.wasmprinter_spec.specs.Text.Tags.{read_tag}
 use Rattle.wasmprinter_spec.specs.Row.{Tag}
 use Rattle.wasmprinter_spec.specs.Names.{AreNamed}
 use Rattle.wasmprinter_spec.specs.Layout.Declarations.{Scope}
-use Rattle.wasmprinter_spec.specs.Layout.{tag_pieces}
+use Rattle.wasmprinter_spec.specs.Layout.Tags.{tag_pieces}
 use Rattle.wasmprinter_lexical.proofs.Pieces.{Bound}
 use Rattle.wasmprinter_lexical.proofs.Writes.{Writes, break_writes, line_group_gap_writes}
 use Rattle.wasmprinter_reading.specs.Listed.{AreSignaturesInRange}

@@ -19,11 +19,11 @@ module _ (P : Item → Type 0) where
 
   parts : (a b : Nodes) → AllHeads (row_of_both a b) → AllHeads a × AllHeads b
   parts a Nil h = (h, tt)
-  parts a (Snoc b g r held) h = let ps = parts a b h.1 in (ps.0, (h.0, ps.1, h.2))
+  parts a (Snoc b g r held) (own, before, inside) = let ps = parts a b before in (ps.0, (own, ps.1, inside))
 
   ends : (f : Nodes) → AllHeads f → AllHeads (front f) × AllHeads (last f)
   ends Nil h = (tt, tt)
-  ends (Snoc b g r held) h = (h.1, (h.0, tt, h.2))
+  ends (Snoc b g r held) (own, before, inside) = (before, (own, tt, inside))
 
   heads-operand_search : (f : Nodes) (x : Item) (o : Operands) → P x → AreLast f o → AllHeads f → AllHeads (with_operands f (Of x) x.gives o)
   heads-operand_search f x (Fit before run) p l h = let ps = parts before run (subst AllHeads l h) in (p, ps.0, ps.1)
@@ -34,20 +34,20 @@ module _ (P : Item → Type 0) where
   heads-tree_behind f Done p h = h
   heads-tree_behind f (Plain x rest) p h = heads-tree_behind (with_operator f x) rest p.1 (heads-operand_search f x (operand_search x.takes f) p.0 (AreLast-operand_search x.takes f) h)
   heads-tree_behind f (Block x body end rest) p h =
-      let ps = all_parts P (flat body) (end ∷ flat rest) p.1 in
-      heads-tree_behind (Snoc f (Of x) x.gives (tree_behind Nil body)) rest ps.1.1 (p.0, h, heads-tree_behind Nil body ps.0 tt)
+      let (in_body, (of_end, behind)) = all_parts P (flat body) (end ∷ flat rest) p.1 in
+      heads-tree_behind (Snoc f (Of x) x.gives (tree_behind Nil body)) rest behind (p.0, h, heads-tree_behind Nil body in_body tt)
   heads-tree_behind f (If x body end rest) p h =
-      let ps = all_parts P (flat body) (end ∷ flat rest) p.1 in
+      let (in_body, (of_end, behind)) = all_parts P (flat body) (end ∷ flat rest) p.1 in
       let es = ends f h in
-      heads-tree_behind (Snoc (front f) (Of x) x.gives (Snoc (last f) (ThenCase x) 0 (tree_behind Nil body))) rest ps.1.1
-      (p.0, es.0, (tt, es.1, heads-tree_behind Nil body ps.0 tt))
+      heads-tree_behind (Snoc (front f) (Of x) x.gives (Snoc (last f) (ThenCase x) 0 (tree_behind Nil body))) rest behind
+      (p.0, es.0, (tt, es.1, heads-tree_behind Nil body in_body tt))
   heads-tree_behind f (IfElse x body turn other end rest) p h =
-      let ps = all_parts P (flat body) (turn ∷ (flat other ++ end ∷ flat rest)) p.1 in
-      let qs = all_parts P (flat other) (end ∷ flat rest) ps.1.1 in
+      let (in_body, (of_turn, behind_turn)) = all_parts P (flat body) (turn ∷ (flat other ++ end ∷ flat rest)) p.1 in
+      let (in_other, (of_end, behind)) = all_parts P (flat other) (end ∷ flat rest) behind_turn in
       let es = ends f h in
-      heads-tree_behind
-      (Snoc (front f) (Of x) x.gives (Snoc (Snoc (last f) (ThenCase x) 0 (tree_behind Nil body)) (ElseCase turn) 0 (tree_behind Nil other))) rest qs.1.1
-      (p.0, es.0, (ps.1.0, (tt, es.1, heads-tree_behind Nil body ps.0 tt), heads-tree_behind Nil other qs.0 tt))
+      let body_case : Nodes = Snoc (last f) (ThenCase x) 0 (tree_behind Nil body) in
+      heads-tree_behind (Snoc (front f) (Of x) x.gives (Snoc body_case (ElseCase turn) 0 (tree_behind Nil other))) rest behind
+      (p.0, es.0, (of_turn, (tt, es.1, heads-tree_behind Nil body in_body tt), heads-tree_behind Nil other in_other tt))
 
   pub heads-tree : (code : NestedCode) → AllByRecursion P (flat code) → AllHeads (tree code)
   heads-tree code p = heads-tree_behind Nil code p tt

@@ -19,7 +19,7 @@ use Rattle.wasmprinter_spec.specs.Layout.Operators.{Form, OverLines, InLine, Set
 use Rattle.wasmprinter_spec.specs.Layout.Folded.{items, node_pieces, folded_pieces, if_folded, folded_list}
 use Rattle.wasmprinter_spec.specs.Folding.Arities.{Signatures}
 use Rattle.wasmprinter_spec.specs.Folding.Code as folding
-use Rattle.wasmprinter_spec.specs.Folding.Code.{Item, NestedCode, flat, role, AreWithoutTry}
+use Rattle.wasmprinter_spec.specs.Folding.Code.{Item, NestedCode, role, AreWithoutTry}
 use Rattle.wasmprinter_spec.specs.Folding.Tree.{Of, ThenCase, ElseCase, Nodes, Nil, Snoc, tree}
 use Rattle.wasmprinter_spec.proofs.FoldingItems.{roles-items}
 use Rattle.wasmprinter_spec.proofs.FoldingCode.{nested_code_of-nested, nested_code_of-tree}
@@ -115,11 +115,13 @@ items_unhinted s signatures (o ∷ os) n xs ls = (refl, items_unhinted s signatu
 
 row_unhinted : (f : Nodes) → AllHeads IsUnhinted f → row_items true f ≡ row_items false f
 row_unhinted Nil h = refl
-row_unhinted (Snoc b (Of x) r held) h =
-    ap₂ onto (row_unhinted b h.1)
-    (ap₂ (λ i g. hint_items i (Group (head_items (Of x) g) End)) h.0 (row_unhinted held h.2))
-row_unhinted (Snoc b (ThenCase x) r held) h = ap₂ (λ f g. onto f (Group (head_items (ThenCase x) g) End)) (row_unhinted b h.1) (row_unhinted held h.2)
-row_unhinted (Snoc b (ElseCase x) r held) h = ap₂ (λ f g. onto f (Group (head_items (ElseCase x) g) End)) (row_unhinted b h.1) (row_unhinted held h.2)
+row_unhinted (Snoc b (Of x) r held) (own, before, inside) =
+    ap₂ onto (row_unhinted b before)
+    (ap₂ (λ i g. hint_items i (Group (head_items (Of x) g) End)) own (row_unhinted held inside))
+row_unhinted (Snoc b (ThenCase x) r held) (_, before, inside) =
+    ap₂ (λ f g. onto f (Group (head_items (ThenCase x) g) End)) (row_unhinted b before) (row_unhinted held inside)
+row_unhinted (Snoc b (ElseCase x) r held) (_, before, inside) =
+    ap₂ (λ f g. onto f (Group (head_items (ElseCase x) g) End)) (row_unhinted b before) (row_unhinted held inside)
 
 pub folded_unhinted : (s : Setting) (signatures : Signatures) (os : List (Placed Operator)) → folded_items true s signatures [] os ≡ folded_items false s signatures [] os
 folded_unhinted s signatures os = by (folding.nested_code_of xs) refl

@@ -201,28 +201,28 @@ module _ (hints : Bool) where
   -- each kind of node in its turn
   row_reads : (form : Form) (f : Nodes) → IsRow form f → AllHeads (IsHintless hints) f → Reads hints f
   row_reads form f no_nodes a = record { folds = []; say = refl; reads = λ g is e. e }
-  row_reads form f (a_plain b x r held p h rb rh) a =
-      let k : Reads hints held = row_reads form held rh a.2 in
+  row_reads form f (a_plain b x r held p h rb rh) (own, before, inside) =
+      let k : Reads hints held = row_reads form held rh inside in
       let n : Fold = record { front = chunks_in k.folds; own = item_chunk x; behind = [] } in
-      one_more b x r held (row_reads form b rb a.1) n refl
+      one_more b x r held (row_reads form b rb before) n refl
       (ap (λ (l : List Chunk). l ++ own_chunk hints x ∷ []) k.say
       ∙ sym (told_append hints (unfolding_of held) (Some x ∷ []))
       ∙ ap (λ t. told_chunks hints (unfolding_by_role t x (unfold_at Elsewhere held) (unfold_at (Within x) held))) (sym p))
       (λ g is e. operator_reads form x h (row_items hints held) g (map as_folded k.folds) is (as_folded n) (ap is_folded p) (alone_reads hints held k) (rw (p, operands-folds k.folds) refl) e)
-  row_reads form f (a_block b x r held p h rb rh nested) a =
-      let k : Reads hints held = row_reads form held rh a.2 in
+  row_reads form f (a_block b x r held p h rb rh nested) (own, before, inside) =
+      let k : Reads hints held = row_reads form held rh inside in
       let end : Chunk = word_chunk (codes "end") in
       let n : Fold = record { front = []; own = item_chunk x; behind = chunks_in k.folds ++ end ∷ [] } in
       let same : are_nested (chunks_in k.folds) ≡ true = ap are_nested k.say ∙ nested_at hints held nested in
-      one_more b x r held (row_reads form b rb a.1) n refl
+      one_more b x r held (row_reads form b rb before) n refl
       (ap (λ (l : List Chunk). own_chunk hints x ∷ (l ++ end ∷ [])) k.say
       ∙ ap (λ (l : List Chunk). own_chunk hints x ∷ l) (sym (told_append hints (unfolding_of held) (None ∷ [])))
       ∙ ap (λ t. told_chunks hints (unfolding_by_role t x (unfold_at Elsewhere held) (unfold_at (Within x) held))) (sym p))
       (λ g is e. operator_reads form x h (row_items hints held) g (map as_folded k.folds) is (as_folded n) (ap is_folded p) (alone_reads hints held k)
       (rw (p, chunks_of_instructions-folds k.folds, same) refl) e)
-  row_reads form f (an_if b x r given q held p h rb rg rh nested) a =
-      let j : Reads hints given = row_reads form given rg a.2.1 in
-      let k : Reads hints held = row_reads form held rh a.2.2 in
+  row_reads form f (an_if b x r given q held p h rb rg rh nested) (own, before, (_, in_given, inside)) =
+      let j : Reads hints given = row_reads form given rg in_given in
+      let k : Reads hints held = row_reads form held rh inside in
       let end : Chunk = word_chunk (codes "end") in
       let yes : List Chunk = chunks_in k.folds in
       let n : Fold = record { front = chunks_in j.folds ++ []; own = item_chunk x; behind = yes ++ end ∷ [] } in
@@ -232,15 +232,15 @@ module _ (hints : Bool) where
       ap (λ u. code (onto (row_items hints given) u)) (hint_none hints (Group (Word (codes "then") (row_items hints held)) End))
       ∙ j.reads (Group (Word (codes "then") (row_items hints held)) End) (code.Then yes ∷ [])
       (then_reads (row_items hints held) End (map as_folded k.folds) [] yes (alone_reads hints held k) (chunks_of_instructions-folds k.folds) same refl) in
-      one_more b x r node (row_reads form b rb a.1) n refl
+      one_more b x r node (row_reads form b rb before) n refl
       (simp (j.say, k.say, append-nil, append_assoc, told_append hints, p))
       (λ g is e. operator_reads form x h (row_items hints node) g (map as_folded j.folds ++ code.Then yes ∷ []) is (as_folded n) (ap is_folded p) cases
       (rw (p, branches-folds j.folds (code.Then yes ∷ []) [] yes refl) refl) e)
-  row_reads form f (an_if_else b x r given q held y t other p h rb rg rh nested py hy ro nested_other) a =
-      let taken : AllHeads (IsHintless hints) (Snoc given (ThenCase x) q held) = a.2.1 in
-      let j : Reads hints given = row_reads form given rg taken.1 in
-      let k : Reads hints held = row_reads form held rh taken.2 in
-      let l : Reads hints other = row_reads form other ro a.2.2 in
+  row_reads form f (an_if_else b x r given q held y t other p h rb rg rh nested py hy ro nested_other)
+      (own, before, (of_turn, (_, in_given, inside), in_other)) =
+      let j : Reads hints given = row_reads form given rg in_given in
+      let k : Reads hints held = row_reads form held rh inside in
+      let l : Reads hints other = row_reads form other ro in_other in
       let end : Chunk = word_chunk (codes "end") in
       let turn : Chunk = word_chunk (codes "else") in
       let yes : List Chunk = chunks_in k.folds in
@@ -258,8 +258,9 @@ module _ (hints : Bool) where
       ∙ j.reads (onto first second) both
       (then_reads (row_items hints held) second (map as_folded k.folds) (code.Else otherwise ∷ []) yes (alone_reads hints held k) (chunks_of_instructions-folds k.folds) same
       (else_reads (row_items hints other) End (map as_folded l.folds) [] otherwise (alone_reads hints other l) (chunks_of_instructions-folds l.folds) same_other refl)) in
-      one_more b x r node (row_reads form b rb a.1) n refl
-      (rw (append-nil (chunks_in j.folds), j.say, k.say, l.say, p) (sym (told_cases hints (unfolding_of given) (unfolding_of held) (unfolding_of other) x y (turn_chunk hints y hy a.2.0 py))))
+      one_more b x r node (row_reads form b rb before) n refl
+      (rw (append-nil (chunks_in j.folds), j.say, k.say, l.say, p)
+      (sym (told_cases hints (unfolding_of given) (unfolding_of held) (unfolding_of other) x y (turn_chunk hints y hy of_turn py))))
       (λ g is e. operator_reads form x h (row_items hints node) g (map as_folded j.folds ++ both) is (as_folded n) (ap is_folded p) cases
       (rw (p, branches-folds j.folds both [] (yes ++ turn ∷ otherwise) refl) refl) e)
 

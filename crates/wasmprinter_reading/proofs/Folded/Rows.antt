@@ -71,23 +71,26 @@ module _ (form : Form) where
   row-tree_behind f Done h p r = r
   row-tree_behind f (Plain x rest) h p r =
       row-tree_behind (with_operator f x) rest h.1 p.1 (row-with_operands f x (operand_search x.takes f) h.0 p.0 (AreLast-operand_search x.takes f) r)
-  row-tree_behind f (Block x body end rest) h p r =
-      let ps = all_parts (IsPrinted form) (flat body) (end ∷ flat rest) p.1 in
-      row-tree_behind (Snoc f (Of x) x.gives (tree_behind Nil body)) rest h.3 ps.1.1
-      (a_block f x x.gives (tree_behind Nil body) h.0 p.0 r (row-tree_behind Nil body h.1 ps.0 no_nodes) (nested-code body h.1 ps.0))
-  row-tree_behind f (If x body end rest) h p r =
-      let ps = all_parts (IsPrinted form) (flat body) (end ∷ flat rest) p.1 in
+  row-tree_behind f (Block x body end rest) (opens, fit_body, closes, fit_rest) p r =
+      let (in_body, (of_end, behind)) = all_parts (IsPrinted form) (flat body) (end ∷ flat rest) p.1 in
+      row-tree_behind (Snoc f (Of x) x.gives (tree_behind Nil body)) rest fit_rest behind
+      (a_block f x x.gives (tree_behind Nil body) opens p.0 r (row-tree_behind Nil body fit_body in_body no_nodes)
+      (nested-code body fit_body in_body))
+  row-tree_behind f (If x body end rest) (opens, fit_body, closes, fit_rest) p r =
+      let (in_body, (of_end, behind)) = all_parts (IsPrinted form) (flat body) (end ∷ flat rest) p.1 in
       let es = ends f r in
-      row-tree_behind (Snoc (front f) (Of x) x.gives (Snoc (last f) (ThenCase x) 0 (tree_behind Nil body))) rest h.3 ps.1.1
-      (an_if (front f) x x.gives (last f) 0 (tree_behind Nil body) h.0 p.0 es.0 es.1 (row-tree_behind Nil body h.1 ps.0 no_nodes) (nested-code body h.1 ps.0))
-  row-tree_behind f (IfElse x body turn other end rest) h p r =
-      let ps = all_parts (IsPrinted form) (flat body) (turn ∷ (flat other ++ end ∷ flat rest)) p.1 in
-      let qs = all_parts (IsPrinted form) (flat other) (end ∷ flat rest) ps.1.1 in
+      row-tree_behind (Snoc (front f) (Of x) x.gives (Snoc (last f) (ThenCase x) 0 (tree_behind Nil body))) rest fit_rest behind
+      (an_if (front f) x x.gives (last f) 0 (tree_behind Nil body) opens p.0 es.0 es.1 (row-tree_behind Nil body fit_body in_body no_nodes)
+      (nested-code body fit_body in_body))
+  row-tree_behind f (IfElse x body turn other end rest) (opens, fit_body, turns, fit_other, closes, fit_rest) p r =
+      let (in_body, (of_turn, behind_turn)) = all_parts (IsPrinted form) (flat body) (turn ∷ (flat other ++ end ∷ flat rest)) p.1 in
+      let (in_other, (of_end, behind)) = all_parts (IsPrinted form) (flat other) (end ∷ flat rest) behind_turn in
       let es = ends f r in
-      row-tree_behind
-      (Snoc (front f) (Of x) x.gives (Snoc (Snoc (last f) (ThenCase x) 0 (tree_behind Nil body)) (ElseCase turn) 0 (tree_behind Nil other))) rest h.5 qs.1.1
-      (an_if_else (front f) x x.gives (last f) 0 (tree_behind Nil body) turn 0 (tree_behind Nil other) h.0 p.0 es.0 es.1
-      (row-tree_behind Nil body h.1 ps.0 no_nodes) (nested-code body h.1 ps.0) h.2 ps.1.0 (row-tree_behind Nil other h.3 qs.0 no_nodes) (nested-code other h.3 qs.0))
+      let body_case : Nodes = Snoc (last f) (ThenCase x) 0 (tree_behind Nil body) in
+      row-tree_behind (Snoc (front f) (Of x) x.gives (Snoc body_case (ElseCase turn) 0 (tree_behind Nil other))) rest fit_rest behind
+      (an_if_else (front f) x x.gives (last f) 0 (tree_behind Nil body) turn 0 (tree_behind Nil other) opens p.0 es.0 es.1
+      (row-tree_behind Nil body fit_body in_body no_nodes) (nested-code body fit_body in_body)
+      turns of_turn (row-tree_behind Nil other fit_other in_other no_nodes) (nested-code other fit_other in_other))
 
   pub row-tree : (code : NestedCode) → IsFit code → AllByRecursion (IsPrinted form) (flat code) → IsRow form (tree code)
   row-tree code h p = row-tree_behind Nil code h p no_nodes

@@ -68,7 +68,7 @@ module _ (o : Options) where
         Respelled (node_pieces o false form first nesting f) (whole_pieces o form first nesting f)
     unfolding node_pieces
     nodes_spelled form first nesting Nil k = same_spelled
-    nodes_spelled form first nesting (Snoc b h r held) k =
+    nodes_spelled form first nesting (Snoc b h r held) (own, before, inside) =
         let place : ℕ = head_place h in
         let leads : Bool = first && is_nil b in
         let end : List Piece = comment_end (is_nil held) (head_text o h) place nesting in
@@ -78,11 +78,15 @@ module _ (o : Options) where
         let hint_whole : List Piece = whole_hint form leads place nesting (head_hint h) in
         let whole_before : List Piece = whole_pieces o form first nesting b in
         let inner : Respelled ((end ++ node_pieces o false form false (nesting + 1) held) ++ (Shut ∷ [])) (end ++ (whole_inside ++ (Shut ∷ []))) =
-        then_spelled (both_spelled (both_spelled (same_spelled {ps = end}) (nodes_spelled form false (nesting + 1) held k.2)) (same_spelled {ps = Shut ∷ []}))
+        then_spelled
+        (both_spelled (both_spelled (same_spelled {ps = end}) (nodes_spelled form false (nesting + 1) held inside))
+        (same_spelled {ps = Shut ∷ []}))
         (equal_spelled (append_assoc end whole_inside (Shut ∷ []))) in
         then_spelled
-        (both_spelled (both_spelled (both_spelled (nodes_spelled form first nesting b k.1) (hint_spelled form leads place nesting (head_hint h))) (same_spelled {ps = word}))
-        (both_spelled k.0 inner))
+        (both_spelled
+        (both_spelled (both_spelled (nodes_spelled form first nesting b before) (hint_spelled form leads place nesting (head_hint h)))
+        (same_spelled {ps = word}))
+        (both_spelled own inner))
         (equal_spelled (append_assoc (whole_before ++ hint_whole) word whole_group ∙ append_assoc whole_before hint_whole (word ++ whole_group)))
 
 -- ---- where no two semicolons follow one another, no comment goes up to the end of the line

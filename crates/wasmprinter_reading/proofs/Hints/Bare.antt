@@ -8,7 +8,7 @@ use Rattle.wasmprinter_spec.specs.Table.{rows_of}
 use Rattle.wasmprinter_spec.specs.Stepped.{stops}
 use Rattle.wasmprinter_spec.specs.Nesting.{advance, at_start}
 use Rattle.wasmprinter_spec.specs.Piece.{flag_byte}
-use Rattle.wasmprinter_spec.specs.Code.{Chunk, chunk, Instruction, Flat, Folded, Then, Else, Code, code_of, with_front, only_instructions, with_word, word_chunk, chunks_of_instructions, operands, role_by, if_nested, branches, folded_instruction, Head, PartHead, ThenHead, ElseHead, OperatorHead, head, with_instruction, branch, with_group, is_hint, hint_first, with_hint, with_note, code, chunks_of_forest}
+use Rattle.wasmprinter_spec.specs.Code.{Chunk, chunk, Instruction, Flat, Folded, Then, Else, Code, code_of, with_front, only_instructions, with_word, word_chunk, chunks_of_instructions, operands, role_by, if_nested, branches, folded_instruction, GroupHead, PartHead, ThenHead, ElseHead, OperatorHead, head, with_instruction, branch, with_group, is_hint, hint_first, with_hint, with_note, code, chunks_of_forest}
 use Rattle.wasmprinter_spec.specs.HintsOfModule.{operator_hint}
 use Rattle.wasmprinter_spec.specs.Text.Items.{each}
 use Rattle.wasmprinter_spec.specs.Text.Hints.{hint_flag, chunk_hints}
@@ -200,7 +200,7 @@ branch_bare make h (Some c) rest =
     by None = refl
     by (Some is) = made (chunks_of_instructions is >>= if_nested) ∙ sym (ap (λ o. o >>= λ cs. bare rest >>= with_instruction (make cs)) (held_bare is))
 
-group_bare : (h : Head) (item : Forest → Forest) → ((f : Forest) → bare_items (item f) ≡ dull f) → (inner rest : Option Code) →
+group_bare : (h : GroupHead) (item : Forest → Forest) → ((f : Forest) → bare_items (item f) ≡ dull f) → (inner rest : Option Code) →
     bare (with_group h item inner rest) ≡ with_group h dull (bare inner) (bare rest)
 group_bare PartHead item e inner rest = front_bare item e rest
 group_bare ThenHead item e inner rest = branch_bare Then (λ cs. refl) inner rest

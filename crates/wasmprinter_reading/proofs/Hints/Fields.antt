@@ -15,7 +15,7 @@ use Rattle.wasmprinter_spec.specs.HintsOfModule.{OperatorHint}
 use Rattle.wasmprinter_spec.specs.Code.{chunks_of_forest}
 use Rattle.wasmprinter_spec.specs.Layout.Variables.{Variables, Alone, Together, variable_groups}
 use Rattle.wasmprinter_spec.specs.Layout.Types.{parameters_of}
-use Rattle.wasmprinter_spec.specs.Layout.Declarations.{Scope}
+use Rattle.wasmprinter_spec.specs.Layout.Declarations.{Scope, scope_of_function}
 use Rattle.wasmprinter_spec.specs.Layout.Imports.{Numbers, number_of, numbers_behind}
 use Rattle.wasmprinter_spec.specs.Text.Hints.{header_words, chunk_hints, function_hints_in, field_hints}
 use Rattle.wasmprinter_spec.specs.Layout.Functions.{over_lines, result_count}
@@ -31,7 +31,7 @@ use Rattle.wasmprinter_reading.proofs.Sorted.{field_rows}
 use Rattle.wasmprinter_reading.proofs.Types.Trees.{groups_items, group_items, signature_if_any_items, type_use_items, members_items, type_group_items_by, type_section_items}
 use Rattle.wasmprinter_reading.proofs.Fields.Start.{start_items}
 use Rattle.wasmprinter_reading.proofs.Fields.Imports.{extern_word, extern_items, imports_items}
-use Rattle.wasmprinter_reading.proofs.Fields.Functions.{function_scope, function_hinted, functions_hinted}
+use Rattle.wasmprinter_reading.proofs.Fields.Functions.{function_hinted, functions_hinted}
 use Rattle.wasmprinter_reading.proofs.Customs.Notes.{AreNotes}
 use Rattle.wasmprinter_reading.proofs.Each.{nothing_joined}
 use Rattle.wasmprinter_reading.proofs.Hints.FoldedBodies.{is_folding, list_hints}
@@ -170,8 +170,8 @@ module _ (s : Scope) (named : AreNamed s.names) (ranged : AreSignaturesInRange (
       header_noted P (id_items (s.names.items Func i)) (id_is (s.names.items Func i)) _
       (header_noted P (type_use_items s.names (Some i) f.type_index (signature_at s.types f.type_index)) (refl, signature_is s.names (Some i) (signature_at s.types f.type_index)) _
       (header_noted P (groups_items s.names (codes "local") ls) (groups_are s.names (codes "local") ls refl) _
-      (list_hints s.folding (result_count (function_scope s i) f.type_index) (over_lines (function_scope s i) f.body.place) i named ranged hs f.body.value.operators
-      h.body.listed h.body.nested foldable fit))) y n
+      (list_hints s.folding (result_count (scope_of_function s i) f.type_index) (over_lines (scope_of_function s i) f.body.place) i
+      named ranged hs f.body.value.operators h.body.listed h.body.nested foldable fit))) y n
 
   function_before : (i : ℕ) (x : Forest) (rs : List OperatorHint) → ((y : Forest) → Noted y x → function_hints_in i y ≡ Some rs) →
       {g : Forest} {hs : List OperatorHint} → HasHints (i + 1) g hs → HasHints i (Group (Word (codes "func") x) g) (rs ++ hs)

@@ -1,12 +1,13 @@
 -- The hints of a module whose hint section is well formed are those of its text.
-use Rattle.std.proofs.Common.{◌≡◌, ℕ, ◌+◌, ◌&&◌, Bool, true, false, cond, List, [], Option, Some, None, refl, sym, ap, ◌∙◌, subst, codes, length, map, arith, append-nil}
-use Rattle.std.proofs.lemmas.Bool.{and_parts}
+use Rattle.std.proofs.Common.{◌≡◌, ℕ, ◌+◌, ◌&&◌, Bool, true, false, cond, List, [], ◌∷◌, ◌++◌, Option, Some, None, refl, sym, ap, ◌∙◌, subst, codes, length, map, arith, append-nil}
+use Rattle.std.proofs.lemmas.Bool.{and_parts, or_parts}
+use Rattle.std.specs.List.{list_any}
 use Rattle.wasmprinter_spec.specs.Choices.{tested}
 use Rattle.wasmprinter_spec.specs.Grammar.{◌>>=◌}
 use Rattle.wasmprinter_spec.specs.Forest.{Forest, End, Word, Group, onto}
 use Rattle.wasmprinter_spec.specs.Options.{Options, Answers}
-use Rattle.wasmprinter_spec.specs.Kinds.{Kind, TypeSection, ImportSection, FunctionSection, TableSection, MemorySection, TagSection, GlobalSection, ExportSection, StartSection, ElementSection, CodeSection, DataSection}
-use Rattle.wasmprinter_spec.specs.Types.{FuncKind, TableKind, MemoryKind, TagKind, GlobalKind}
+use Rattle.wasmprinter_spec.specs.Kinds.{Kind, CustomSection, TypeSection, ImportSection, FunctionSection, TableSection, MemorySection, TagSection, GlobalSection, ExportSection, StartSection, ElementSection, DataCountSection, CodeSection, DataSection}
+use Rattle.wasmprinter_spec.specs.Types.{FuncKind}
 use Rattle.wasmprinter_spec.specs.Customs.Hints.{FunctionHints, hints_of}
 use Rattle.wasmprinter_spec.specs.HintsOfModule.{OperatorHint, all_hints, rise, offsets_rise, module_hints}
 use Rattle.wasmprinter_spec.specs.Placed.{PlacedModule}
@@ -20,7 +21,6 @@ use Rattle.wasmprinter_spec.specs.Layout.Imports.{no_numbers}
 use Rattle.wasmprinter_spec.specs.Layout.{module_pieces_with, module_pieces, layout}
 use Rattle.wasmprinter_spec.specs.Laws.{HintsStay}
 use Rattle.wasmprinter_spec.specs.Text.Hints.{forest_hints}
-use Rattle.wasmprinter_lexical.proofs.Grown.{onto-End}
 use Rattle.wasmprinter_lexical.proofs.Noted.{Noted, no_items, a_word, a_group}
 use Rattle.wasmprinter_lexical.proofs.Writes.{writes_forest}
 use Rattle.wasmprinter_reading.proofs.Ranged.{IsRanged}
@@ -28,10 +28,9 @@ use Rattle.wasmprinter_reading.proofs.Ranges.{ranged}
 use Rattle.wasmprinter_reading.proofs.GivenNames.{module_names_named}
 use Rattle.wasmprinter_reading.proofs.Identifiers.{id_items}
 use Rattle.wasmprinter_reading.proofs.Fields.Functions.{functions_hinted}
-use Rattle.wasmprinter_reading.proofs.Back.{early, before, signatures_ranged, own_memory, own_tag, own_table, own_global, own_export, own_element, own_data}
+use Rattle.wasmprinter_reading.proofs.Back.{early, before, signatures_ranged}
 use Rattle.wasmprinter_reading.proofs.Foldable.{can_fold}
-use Rattle.wasmprinter_reading.proofs.Sorted.{field_rows}
-use Rattle.wasmprinter_reading.proofs.Written.{noting, noted, module_noted, module_writes}
+use Rattle.wasmprinter_reading.proofs.Written.{fields_noted, noting, noted, kinds_noted, module_noted, module_writes}
 use Rattle.wasmprinter_reading.proofs.Hints.Bodies.{all_taken}
 use Rattle.wasmprinter_reading.proofs.Hints.FoldedBodies.{is_folding}
 use Rattle.wasmprinter_reading.proofs.Hints.Fields.{HasHints, no_hints, notes_before, id_before, rows_before, start_before, types_before, imports_before, functions_before}
@@ -57,41 +56,54 @@ module _ (o : Options) (whole : o.skeleton ≡ false) (names : Names) (named : A
       by true k f = ap (λ s. cond s [] (misplaced_hints_from (hints_of m.customs) (before o names m FuncKind) m.functions)) (sym whole) ∙ f refl
       by false k f = absurd cc
 
-  -- what stands behind the functions
-  behind_functions : Forest
-  behind_functions = onto (noted o names named m h plain answers (Some CodeSection))
-      (onto (field_rows (codes "data") (own_data o names m o.skeleton) 0 m.datas) (noted o names named m h plain answers (Some DataSection)))
+  -- the fields of which sections hold or import functions
+  abbrev has_functions : Kind → Bool
+  has_functions ImportSection = true
+  has_functions CodeSection = true
+  has_functions _ = false
 
-  functions_have : HasHints (before o names m FuncKind)
-      (onto (functions_hinted o.skeleton (early o names m) (hints_of m.customs) (before o names m FuncKind) m.functions) behind_functions) own_taken
-  unfolding behind_functions
+  -- all others have no hints, and leave the number of the next function
+  fields_before : (k : Kind) → has_functions k ≡ false → {i : ℕ} {g : Forest} {hs : List OperatorHint} → HasHints i g hs →
+      HasHints i (onto (fields_noted o names named m h plain k) g) hs
+  fields_before TypeSection e x = types_before names 0 m.types x
+  fields_before ImportSection e x = absurd cc
+  fields_before FunctionSection e x = x
+  fields_before StartSection e x = start_before (early o names m) m.start x
+  fields_before DataCountSection e x = x
+  fields_before CodeSection e x = absurd cc
+  fields_before CustomSection e x = x
+  fields_before _ e x = rows_before _ (refl, refl) _ _ _ x
+
+  abbrev own_kinds : List Kind → Forest
+  own_kinds = kinds_noted o names named m h plain answers
+
+  -- sections of such kinds before others
+  kinds_before : (ks others : List Kind) → list_any has_functions ks ≡ false → {i : ℕ} {hs : List OperatorHint} →
+      HasHints i (own_kinds others) hs → HasHints i (own_kinds (ks ++ others)) hs
+  kinds_before [] others e x = x
+  kinds_before (k ∷ ks) others e x =
+      let parts = or_parts (has_functions k) (list_any has_functions ks) e in
+      fields_before k parts.0 (place_before (Some k) (kinds_before ks others parts.1 x))
+
+  functions_have : HasHints (before o names m FuncKind) (own_kinds (CodeSection ∷ DataSection ∷ [])) own_taken
   functions_have =
       let i : ℕ = before o names m FuncKind in
       let n : ℕ = i + length m.functions in
-      let last : HasHints n (noted o names named m h plain answers (Some DataSection)) [] =
-      subst (λ g. HasHints n g []) (onto-End (noted o names named m h plain answers (Some DataSection))) (place_before (Some DataSection) (no_hints n)) in
-      let behind : HasHints n behind_functions [] =
-      place_before (Some CodeSection) (rows_before (codes "data") (refl, refl) (own_data o names m o.skeleton) 0 m.datas last) in
-      subst (λ t. HasHints i (onto (functions_hinted t (early o names m) (hints_of m.customs) i m.functions) behind_functions) own_taken) (sym whole)
-      (subst (HasHints i (onto (functions_hinted false (early o names m) (hints_of m.customs) i m.functions) behind_functions)) (append-nil own_taken)
-      (functions_before (early o names m) named (signatures_ranged o names m h) (hints_of m.customs) i m.functions h.each_function (can_fold o m whole foldable).functions hints_fit behind))
+      let behind = place_before (Some CodeSection) (kinds_before (DataSection ∷ []) [] refl (no_hints n)) in
+      let rest : Forest = onto (noted o names named m h plain answers (Some CodeSection)) (own_kinds (DataSection ∷ [])) in
+      subst (λ t. HasHints i (onto (functions_hinted t (early o names m) (hints_of m.customs) i m.functions) rest) own_taken) (sym whole)
+      (subst (HasHints i (onto (functions_hinted false (early o names m) (hints_of m.customs) i m.functions) rest)) (append-nil own_taken)
+      (functions_before (early o names m) named (signatures_ranged o names m h) (hints_of m.customs) i m.functions h.each_function
+      (can_fold o m whole foldable).functions hints_fit behind))
 
   fields_have : HasHints 0 (onto (id_items names.module_name) (module_noted o names named m h plain answers)) own_taken
-  unfolding module_noted behind_functions
+  unfolding module_noted
   fields_have =
-      let behind =
-      place_before (Some ImportSection) (place_before (Some FunctionSection)
-      (rows_before (codes "table") (refl, refl) (own_table o names m) (before o names m TableKind) m.tables
-      (place_before (Some TableSection) (rows_before (codes "memory") (refl, refl) (own_memory o names m) (before o names m MemoryKind) m.memories
-      (place_before (Some MemorySection) (rows_before (codes "tag") (refl, refl) (own_tag o names m) (before o names m TagKind) m.tags
-      (place_before (Some TagSection) (rows_before (codes "global") (refl, refl) (own_global o names m) (before o names m GlobalKind) m.globals
-      (place_before (Some GlobalSection) (rows_before (codes "export") (refl, refl) (own_export o names m) 0 m.exports
-      (place_before (Some ExportSection) (start_before (early o names m) m.start
-      (place_before (Some StartSection) (rows_before (codes "elem") (refl, refl) (own_element o names m o.skeleton) 0 m.elements
-      (place_before (Some ElementSection) functions_have))))))))))))))) in
-      id_before names.module_name
-      (place_before None (types_before names 0 m.types
-      (place_before (Some TypeSection) (imports_before (early o names m) no_numbers m.imports (at_number (omega arith) behind)))))
+      let defined : List Kind =
+      FunctionSection ∷ TableSection ∷ MemorySection ∷ TagSection ∷ GlobalSection ∷ ExportSection ∷ StartSection ∷ ElementSection ∷ [] in
+      let behind = place_before (Some ImportSection) (kinds_before defined (CodeSection ∷ DataSection ∷ []) refl functions_have) in
+      let imports = imports_before (early o names m) no_numbers m.imports (at_number (omega arith) behind) in
+      id_before names.module_name (place_before None (fields_before TypeSection refl (place_before (Some TypeSection) imports)))
 
   -- the text of the module's pieces has the hints that its functions take
   forest_has : (z : Forest) → Noted z (Group (Word (codes "module") (onto (id_items names.module_name) (module_noted o names named m h plain answers))) End) →

@@ -78,15 +78,16 @@ module _ (f body : ℕ) where
       AreOver h.value.offset (offsets hs) → each (hint_from k (o ∷ os)) (h ∷ hs) ≡ Some rs →
       ((ts : List OperatorHint) → each (hint_from (k + 1) os) hs ≡ Some ts → taken_hints f (k + 1) body hs os ≡ ts) → taken_hints f k body (h ∷ hs) (o ∷ os) ≡ rs
   taken_here k o os h hs rs same over e more =
-      let one = bind_some (hint_from k (o ∷ os) h) (λ y. each (hint_from k (o ∷ os)) hs >>= λ ys. Some (y ∷ ys)) rs e in
-      let others = bind_some (each (hint_from k (o ∷ os)) hs) (λ ys. Some (one.0 ∷ ys)) rs one.2 in
+      let (found, is_found, rest) =
+      bind_some (hint_from k (o ∷ os) h) (λ y. each (hint_from k (o ∷ os)) hs >>= λ ys. Some (y ∷ ys)) rs e in
+      let (others, are_others, result) = bind_some (each (hint_from k (o ∷ os)) hs) (λ ys. Some (found ∷ ys)) rs rest in
       let own : hint_from k (o ∷ os) h ≡ Some (operator_hint f k h.value.taken) =
       ap (λ t. option_map (λ n. operator_hint f n h.value.taken) (cond t (Some k) (number_at (body + h.value.offset) (k + 1) os))) (eq-eqb o.place (body + h.value.offset) same) in
-      let first : operator_hint f k h.value.taken ≡ one.0 = some_is (operator_hint f k h.value.taken) one.0 (sym own ∙ one.1) in
-      let behind : taken_hints f (k + 1) body hs os ≡ others.0 =
-      more others.0 (sym (each_passed k o os hs h.value.offset (omega (arith, same)) over) ∙ others.1) in
+      let first : operator_hint f k h.value.taken ≡ found = some_is (operator_hint f k h.value.taken) found (sym own ∙ is_found) in
+      let behind : taken_hints f (k + 1) body hs os ≡ others =
+      more others (sym (each_passed k o os hs h.value.offset (omega (arith, same)) over) ∙ are_others) in
       let takes : eqb h.value.offset (o.place - body) ≡ true = eq-eqb h.value.offset (o.place - body) (omega (arith, same)) in
-      rw takes (ap₂ (λ x y. x ∷ y) first behind ∙ some_is (one.0 ∷ others.0) rs others.2)
+      rw takes (ap₂ (λ x y. x ∷ y) first behind ∙ some_is (found ∷ others) rs result)
 
   -- the operator o takes no hint
   taken_later : (k : ℕ) (o : Placed Operator) (os : List (Placed Operator)) (h : Placed Hint) (hs : List (Placed Hint)) (rs : List OperatorHint) → body ≤ o.place →
@@ -164,15 +165,16 @@ entry_here : (i : ℕ) (f : PlacedFunction) (fs : List PlacedFunction) (e : Func
     rise (offsets i f.body.place e.hints) ≡ true → AreOver i (functions_of es) → e.function ≡ i → all_hints i (f ∷ fs) (e ∷ es) ≡ Some rs →
     ((ts : List OperatorHint) → all_hints (i + 1) fs es ≡ Some ts → all_taken es (i + 1) fs ≡ ts) → all_taken (e ∷ es) i (f ∷ fs) ≡ rs
 entry_here i f fs e es rs h up over same k more =
-    let one = bind_some (entry_hints i (f ∷ fs) e) (λ hs. all_hints i (f ∷ fs) es >>= λ rest. Some (hs ++ rest)) rs k in
-    let others = bind_some (all_hints i (f ∷ fs) es) (λ rest. Some (one.0 ++ rest)) rs one.2 in
+    let (found, are_found, behind) =
+    bind_some (entry_hints i (f ∷ fs) e) (λ hs. all_hints i (f ∷ fs) es >>= λ rest. Some (hs ++ rest)) rs k in
+    let (others, are_others, result) = bind_some (all_hints i (f ∷ fs) es) (λ rest. Some (found ++ rest)) rs behind in
     let body : entry_hints i (f ∷ fs) e ≡ each (hint_in e.function f.body) e.hints =
     ap (λ b. b >>= λ x. each (hint_in e.function x) e.hints) (first_body i e.function f fs same) in
-    let own : each (hint_in i f.body) e.hints ≡ Some one.0 = ap (λ g. each (hint_in g f.body) e.hints) (sym same) ∙ sym body ∙ one.1 in
-    let taken : taken_hints i 0 f.body.place e.hints f.body.value.operators ≡ one.0 =
-    some_taken i f.body.place 0 f.body.place f.body.value.operators (omega arith) h.body.places e.hints up one.0 own in
-    let rest : all_taken es (i + 1) fs ≡ others.0 = more others.0 (sym (entries_later i f fs es over) ∙ others.1) in
-    rw (eq-eqb e.function i same) (ap₂ (λ x y. x ++ y) taken rest ∙ some_is (one.0 ++ others.0) rs others.2)
+    let own : each (hint_in i f.body) e.hints ≡ Some found = ap (λ g. each (hint_in g f.body) e.hints) (sym same) ∙ sym body ∙ are_found in
+    let taken : taken_hints i 0 f.body.place e.hints f.body.value.operators ≡ found =
+    some_taken i f.body.place 0 f.body.place f.body.value.operators (omega arith) h.body.places e.hints up found own in
+    let rest : all_taken es (i + 1) fs ≡ others = more others (sym (entries_later i f fs es over) ∙ are_others) in
+    rw (eq-eqb e.function i same) (ap₂ (λ x y. x ++ y) taken rest ∙ some_is (found ++ others) rs result)
 
 -- the function i takes no entry
 entry_later : (i : ℕ) (f : PlacedFunction) (fs : List PlacedFunction) (e : FunctionHints) (es : List FunctionHints) (rs : List OperatorHint) →

@@ -33,9 +33,10 @@ plain_role r n = by r (stops_at_end (r ∷ []) n)
 pub head-alone : (w : List ℕ) → StandsAlone w → head w ≡ head_by (rows_of w)
 unfolding head
 head-alone w a =
+    let (no_then, (no_else, _)) = a.others in
     ap (λ t. cond t PartHead (cond (bytes_eq w (codes "then")) ThenHead (cond (bytes_eq w (codes "else")) ElseHead (head_by (rows_of w))))) a.part
-    ∙ ap (λ t. cond t ThenHead (cond (bytes_eq w (codes "else")) ElseHead (head_by (rows_of w)))) a.others.0
-    ∙ ap (λ t. cond t ElseHead (head_by (rows_of w))) a.others.1.0
+    ∙ ap (λ t. cond t ThenHead (cond (bytes_eq w (codes "else")) ElseHead (head_by (rows_of w)))) no_then
+    ∙ ap (λ t. cond t ElseHead (head_by (rows_of w))) no_else
 
 pub record IsAlone (o : Operator) : Type 0 where
   pub row : HasRow o

@@ -115,8 +115,8 @@ module _ (s : Setting) (c : Context) (k : Counts) (same : HaveSameNames s c k) (
 
   pub catches_read : (cs : List Catch) → AllByRecursion IsCatchInRange cs → AllByRecursion (IsCatch k) cs → clauses c (ids xs) (catches_items s inner xs cs) ≡ Some cs
   catches_read [] h d = refl
-  catches_read (One t l ∷ cs) h d = rw (tag_reads One t l h.0.0 h.0.1 d.0, catches_read cs h.1 d.1)
-  catches_read (OneRef t l ∷ cs) h d = rw (tag_reads OneRef t l h.0.0 h.0.1 d.0, catches_read cs h.1 d.1)
+  catches_read (One t l ∷ cs) ((tag, label), others) d = rw (tag_reads One t l tag label d.0, catches_read cs others d.1)
+  catches_read (OneRef t l ∷ cs) ((tag, label), others) d = rw (tag_reads OneRef t l tag label d.0, catches_read cs others d.1)
   catches_read (All l ∷ cs) h d = rw (one_label l h.0, catches_read cs h.1 d.1)
   catches_read (AllRef l ∷ cs) h d = rw (one_label l h.0, catches_read cs h.1 d.1)
 

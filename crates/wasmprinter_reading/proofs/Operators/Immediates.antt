@@ -19,7 +19,8 @@ use Rattle.wasmprinter_lexical.proofs.Grown.{onto-End}
 use Rattle.wasmprinter_lexical.proofs.Floats.{single-reads, double-reads}
 use Rattle.wasmprinter_lexical.proofs.Pieces.{Bound}
 use Rattle.wasmprinter_lexical.proofs.Writes.{Writes, writing, both_write, nothing_writes}
-use Rattle.wasmprinter_reading.specs.Listed.{AreSignaturesInRange, AreInRange, has_shape}
+use Rattle.wasmprinter_spec.specs.Shapes.{has_shape}
+use Rattle.wasmprinter_reading.specs.Listed.{AreSignaturesInRange, AreInRange}
 use Rattle.wasmprinter_reading.specs.OperatorLaws.{HaveSameTypes, HaveSameNames}
 use Rattle.wasmprinter_reading.proofs.Tabled.{has_block, is_item, means_items, refuses}
 use Rattle.wasmprinter_reading.proofs.Declarations.{id}
@@ -165,9 +166,10 @@ module _ (s : Setting) (c : Context) (n : Counts) (types : HaveSameTypes s c n) 
     immediates_read HeapShape (Heap t) k l h d =
         rw (heap_type-items s.names c.spaces.types (least n) (types_read s c n same apart) t (both (λ m. IsDeclaredHeap m t) h d))
     immediates_read (RefShape null) (Heap t) k l h d = test_reads s.names c (least n) (types_read s c n same apart) null t (both (λ m. IsDeclaredHeap m t) h d)
-    immediates_read CastShape (Cast j r t) k l h d =
-        cast_reads s.names c (least n) (types_read s c n same apart) (s.names.labels s.function) (apart.labels s.function) inner xs o j r t h.0
-        (both (λ m. IsDeclaredHeap m r.heap) h.1 d.0) (both (λ m. IsDeclaredHeap m t.heap) h.2 d.1)
+    immediates_read CastShape (Cast j r t) k l (label, from, to) d =
+        cast_reads s.names c (least n) (types_read s c n same apart) (s.names.labels s.function) (apart.labels s.function)
+        inner xs o j r t label
+        (both (λ m. IsDeclaredHeap m r.heap) from d.0) (both (λ m. IsDeclaredHeap m t.heap) to d.1)
     immediates_read (MemoryShape natural) (Memory m) k l h d = rw (mem_arg_reads s c n same apart natural m h d)
     immediates_read (MemoryLaneShape natural) (MemoryLane m j) k l h d = mem_arg_lane_reads s c n same apart natural m j h.0 d h.1
     immediates_read LaneShape (Lane j) k l h d = rw (u8-decimal j h)
@@ -223,7 +225,8 @@ module _ (s : Setting) (named : AreNamed s.names) (ranged : AreSignaturesInRange
   immediate_writes SelectShape (Types ts) r = may_end s.form (select_writes s.names named ts r)
   immediate_writes HeapShape (Heap h) r = may_end s.form (heap_type_writes s.names named h r)
   immediate_writes (RefShape null) (Heap h) r = may_end s.form (ref_type_writes s.names named null h r)
-  immediate_writes CastShape (Cast l q t) r = may_end s.form (cast_writes s.names named inner xs l q t labelled r.0 r.1 r.2)
+  immediate_writes CastShape (Cast l q t) (label, from, to) =
+      may_end s.form (cast_writes s.names named inner xs l q t labelled label from to)
   immediate_writes (MemoryShape natural) (Memory m) r = may_end s.form (mem_arg_writes s named natural m r)
   immediate_writes (MemoryLaneShape natural) (MemoryLane m k) r = may_end s.form (mem_arg_lane_writes s named natural m k r.0 r.1)
   immediate_writes LaneShape (Lane k) r = may_end s.form (lane_writes k r)

@@ -7,7 +7,7 @@ use Rattle.std.specs.Prelude.{IsUtf8}
 use Rattle.std.proofs.lemmas.Str.{IsUtf8-append}
 use Rattle.wasmprinter_lexical.proofs.Printed.{all_printed, remark, is_remark-decimal}
 use Rattle.wasmprinter_lexical.proofs.Plain.{plain_text, plain_is_utf8}
-use Rattle.wasmprinter_spec.specs.Labels.{Named, same_name, AreApart}
+use Rattle.wasmprinter_spec.specs.Labels.{Named, same_name, AreLabelsApart}
 use Rattle.wasmprinter_spec.specs.LabelNames.{is_clean, label_content, label_named, label_naming, no_label_names}
 use Rattle.wasmprinter_spec.specs.Names.{IsNamed, IsNamedIfAny}
 use Rattle.wasmprinter_reading.proofs.Bytes.{same_bytes}
@@ -108,7 +108,7 @@ named_apart true i j d e None None outer inner lt small f g same =
 named_apart false i j d e (Some s) None outer inner lt small f g same = absurd cc
 named_apart false i j d e None y outer inner lt small f g same = absurd cc
 
-pub label_naming_apart : (invents : Bool) (names : ℕ → Option (List ℕ)) → AreApart (label_naming invents names)
+pub label_naming_apart : (invents : Bool) (names : ℕ → Option (List ℕ)) → AreLabelsApart (label_naming invents names)
 label_naming_apart invents names i j d e outer inner lt small f g same = named_apart invents i j d e (names i) (names j) outer inner lt small f g same
 
 -- ---- contents are UTF-8
@@ -148,5 +148,5 @@ label_naming_names invents names utf8 i d = label_is_named invents i d (names i)
 
 -- ---- no label has a name
 
-pub no_label_names_are_apart : AreApart no_label_names
+pub no_label_names_are_apart : AreLabelsApart no_label_names
 no_label_names_are_apart i j d e outer inner lt small f g same = absurd cc

@@ -4,7 +4,7 @@ use Rattle.std.specs.List.{AllByRecursion}
 use Rattle.std.proofs.lemmas.Bool.{or_parts, both_ways, false_from_ne_true, lt-ltb}
 use Rattle.wasmprinter_spec.specs.Character.{class}
 use Rattle.wasmprinter_spec.specs.Forest.{Forest, End, Word, Name, onto}
-use Rattle.wasmprinter_spec.specs.Labels.{Named, Label, Naming, same_name, hides, is_hidden, AreApart, Target, Around, Own, Nothing, behind, target}
+use Rattle.wasmprinter_spec.specs.Labels.{Named, Label, LabelNaming, same_name, hides, is_hidden, AreLabelsApart, Target, Around, Own, Nothing, behind, target}
 use Rattle.wasmprinter_spec.specs.IndexSpaces.{Identifiers, declares}
 use Rattle.wasmprinter_spec.specs.Text.Operators.{depth, labels, label, last_apart}
 use Rattle.wasmprinter_spec.specs.Layout.Operators.{label_name_pieces, named_pieces, target_pieces, label_pieces, labels_pieces}
@@ -30,22 +30,24 @@ use Rattle.wasmprinter_reading.proofs.Operators.Numbers.{index_is_no_word}
 abbrev pub ids : List Label → Identifiers
 ids xs = map id xs
 
-module _ (naming : Naming) (apart : AreApart naming) where
+module _ (naming : LabelNaming) (apart : AreLabelsApart naming) where
   -- a label around another is one of a block with fewer blocks around it
   further_out : (l : ℕ) (xs : List Label) (y : Label) (further : List Label) → Opened naming xs → target l xs ≡ Around y further →
       (i : ℕ) × (d : ℕ) × (d < length xs) × (naming i d ≡ y)
   further_out zero [] y further o e = absurd cc
   further_out (suc l) [] y further o e = absurd cc
-  further_out zero (x ∷ xs) y further o e = let same : x ≡ y = cc in (o.0.0, length xs, omega arith, o.0.1 ∙ same)
-  further_out (suc l) (x ∷ xs) y further o e = by (target l xs) refl e (λ z f. further_out l xs z f o.2)
+  further_out zero (x ∷ xs) y further ((index, own), small, others) e =
+      let same : x ≡ y = cc in
+      (index, length xs, omega arith, own ∙ same)
+  further_out (suc l) (x ∷ xs) y further (own, small, others) e = by (target l xs) refl e (λ z f. further_out l xs z f others)
     where
       by : (t : Target) → target l xs ≡ t → behind x t ≡ Around y further →
           ((z : Label) (f : List Label) → target l xs ≡ Around z f → (i : ℕ) × (d : ℕ) × (d < length xs) × (naming i d ≡ z)) →
           (i : ℕ) × (d : ℕ) × (d < suc (length xs)) × (naming i d ≡ y)
       by (Around z f) same g more =
-          let r = more z f same in
+          let (index, around, fewer, is_outer) = more z f same in
           let zy : z ≡ y = cc in
-          (r.0, r.1, omega (arith, r.2), r.3 ∙ zy)
+          (index, around, omega (arith, fewer), is_outer ∙ zy)
       by Own same g more = absurd cc
       by Nothing same g more = absurd cc
 
@@ -67,7 +69,8 @@ module _ (naming : Naming) (apart : AreApart naming) where
       let same : Some n ≡ x = cc in
       subst (λ y. depth n.content (ids (y ∷ xs)) ≡ Some 0) same
       (ap (λ t. cond t (Some 0) (option_map suc (depth n.content (ids xs)))) (same_bytes n.content))
-  depth-target (suc l) (x ∷ xs) n further o e h = by (target l xs) refl e (λ f. depth-target l xs n f o.2)
+  depth-target (suc l) (x ∷ xs) n further ((own_index, is_own), small, others) e h =
+      by (target l xs) refl e (λ f. depth-target l xs n f others)
     where
       by : (t : Target) → target l xs ≡ t → behind x t ≡ Around (Some n) further →
           ((f : List Label) → target l xs ≡ Around (Some n) f → is_hidden n f ≡ false → depth n.content (ids xs) ≡ Some l) →
@@ -75,11 +78,12 @@ module _ (naming : Naming) (apart : AreApart naming) where
       by (Around z f) same g more =
           let zn : z ≡ Some n = cc in
           let fs : further ≡ x ∷ f = cc in
-          let around : target l xs ≡ Around (Some n) f = same ∙ ap (λ y. Around y f) zn in
+          let outer : target l xs ≡ Around (Some n) f = same ∙ ap (λ y. Around y f) zn in
           let parts : (hides n x ≡ false) × (is_hidden n f ≡ false) = or_parts (hides n x) (is_hidden n f) (subst (λ t. is_hidden n t ≡ false) fs h) in
-          let r = further_out l xs (Some n) f o.2 around in
-          let no : declares n.content (id x) ≡ false = not_declared x xs n r.0 o.0.0 r.1 r.2 o.1 r.3 o.0.1 parts.0 in
-          ap (λ t. cond t (Some 0) (option_map suc (depth n.content (ids xs)))) no ∙ ap (option_map suc) (more f around parts.1)
+          let (index, around, fewer, is_outer) = further_out l xs (Some n) f others outer in
+          let no : declares n.content (id x) ≡ false =
+          not_declared x xs n index own_index around fewer small is_outer is_own parts.0 in
+          ap (λ t. cond t (Some 0) (option_map suc (depth n.content (ids xs)))) no ∙ ap (option_map suc) (more f outer parts.1)
       by Own same g more = absurd cc
       by Nothing same g more = absurd cc
 
@@ -140,7 +144,7 @@ last_apart-targets [] l = refl
 last_apart-targets (m ∷ []) l = refl
 last_apart-targets (m ∷ k ∷ ks) l = last_apart-more m k (targets ks l) (k ∷ ks) l (last_apart-targets (k ∷ ks) l)
 
-module _ (naming : Naming) (apart : AreApart naming) (inner xs : List Label) (o : Opened naming xs) where
+module _ (naming : LabelNaming) (apart : AreLabelsApart naming) (inner xs : List Label) (o : Opened naming xs) where
   -- a printed label before others
   label_first : (l : ℕ) (f : Forest) (ls : List ℕ) → IsU32 l → labels (ids xs) f ≡ Some ls → labels (ids xs) (onto (label_items inner xs l) f) ≡ Some (l ∷ ls)
   label_first l f ls small e = by (target l xs) refl

@@ -19,7 +19,8 @@ use Rattle.wasmprinter_spec.specs.Piece as piece
 use Rattle.wasmprinter_spec.specs.Piece.{Gap}
 use Rattle.wasmprinter_spec.specs.Layout.Operators.{Setting, offset_pieces, align_pieces, mem_arg_pieces, lane_pieces}
 use Rattle.wasmprinter_lexical.proofs.Runs.{is_word}
-use Rattle.wasmprinter_lexical.proofs.Numbers.{all_run_digits, is_word-decimal}
+use Rattle.wasmprinter_spec.proofs.Runs.{all_run-digits}
+use Rattle.wasmprinter_lexical.proofs.Numbers.{is_word-decimal}
 use Rattle.wasmprinter_lexical.proofs.Pieces.{Bound}
 use Rattle.wasmprinter_lexical.proofs.Writes.{Writes, writing, both_write}
 use Rattle.wasmprinter_reading.specs.Listed.{IsByte, IsMemArgInRange}
@@ -82,7 +83,7 @@ mem_arg_lane_arguments s natural m k h l = arguments_onto (mem_arg_items s natur
 -- ---- a power of two
 
 -- the exponent of a power of two is found
-exponent_below-power : (n e : ℕ) → e < n → exponent_below n (2 ^ e) ≡ Some e
+pub exponent_below-power : (n e : ℕ) → e < n → exponent_below n (2 ^ e) ≡ Some e
 exponent_below-power zero e h = absurd (omega arith)
 exponent_below-power (suc n) e h = by (cases_lt e n) (λ l. exponent_below-power n e l)
   where
@@ -227,11 +228,15 @@ mem_arg_lane_reads s c k same apart natural m l h d small =
 -- the words that begin so
 is_word-offset : (n : ℕ) → n < 2 ^ 64 → is_word (codes "offset=" ++ decimal n) ≡ true
 unfolding class
-is_word-offset n h = all_run_digits (decimal n) (decimal_is_IsNumeral n h).0.1
+is_word-offset n h =
+    let ((some, are_digits), value) = decimal_is_IsNumeral n h in
+    all_run-digits (decimal n) are_digits
 
 is_word-align : (n : ℕ) → n < 2 ^ 64 → is_word (codes "align=" ++ decimal n) ≡ true
 unfolding class
-is_word-align n h = all_run_digits (decimal n) (decimal_is_IsNumeral n h).0.1
+is_word-align n h =
+    let ((some, are_digits), value) = decimal_is_IsNumeral n h in
+    all_run-digits (decimal n) are_digits
 
 offset_writes : (n : ℕ) → n < 2 ^ 64 → Writes Bound (offset_pieces n) Bound (offset_items n)
 unfolding offset_pieces

@@ -7,7 +7,7 @@ use Rattle.std.specs.Int.Signed.{mag}
 use Rattle.wasmprinter_spec.specs.Numeral.{u8, u32, u64, integer}
 use Rattle.wasmprinter_spec.specs.Table.{rows_of}
 use Rattle.wasmprinter_lexical.proofs.Numbers.{natural-decimal, integer-positive, integer-negative}
-use Rattle.wasmprinter_reading.specs.Listed.{IsSigned, IsU32, IsByte}
+use Rattle.wasmprinter_reading.specs.Listed.{FitsSigned, IsU32, IsByte}
 use Rattle.wasmprinter_reading.proofs.Tabled.{no_rows-decimal, no_rows-signed_decimal}
 
 -- ---- numbers without a sign
@@ -29,20 +29,20 @@ u64-decimal n h = rw (natural-decimal n h, lt-ltb n (2 ^ 64) h)
 
 -- ---- constants
 
-pub mag_below : (z : ℤ) → IsSigned 63 z → mag z < 2 ^ 63
+pub mag_below : (z : ℤ) → FitsSigned 63 z → mag z < 2 ^ 63
 mag_below (pos n) h = omega (arith, ints, h.1)
 mag_below (negsuc n) h = omega (arith, ints, h.0)
 
-pub widened : (z : ℤ) → IsSigned 31 z → IsSigned 63 z
+pub widened : (z : ℤ) → FitsSigned 31 z → FitsSigned 63 z
 widened z h = (omega (arith, ints, h.0, h.1), omega (arith, ints, h.0, h.1))
 
-pub integer-32 : (z : ℤ) → IsSigned 31 z → integer 32 (signed_decimal z) ≡ Some z
+pub integer-32 : (z : ℤ) → FitsSigned 31 z → integer 32 (signed_decimal z) ≡ Some z
 integer-32 (pos n) h = integer-positive 32 n (omega (arith, ints, h.1)) (lit≤ tt) (omega (arith, ints, h.1))
 integer-32 (negsuc n) h = integer-negative 32 n (omega (arith, ints, h.0)) (omega (arith, ints, h.0))
 
-pub integer-64 : (z : ℤ) → IsSigned 63 z → integer 64 (signed_decimal z) ≡ Some z
+pub integer-64 : (z : ℤ) → FitsSigned 63 z → integer 64 (signed_decimal z) ≡ Some z
 integer-64 (pos n) h = integer-positive 64 n (omega (arith, ints, h.1)) (lit≤ tt) (omega (arith, ints, h.1))
 integer-64 (negsuc n) h = integer-negative 64 n (omega (arith, ints, h.0)) (omega (arith, ints, h.0))
 
-pub constant_is_no_word : (z : ℤ) → IsSigned 63 z → rows_of (signed_decimal z) ≡ []
+pub constant_is_no_word : (z : ℤ) → FitsSigned 63 z → rows_of (signed_decimal z) ≡ []
 constant_is_no_word z h = no_rows-signed_decimal z (mag_below z h)

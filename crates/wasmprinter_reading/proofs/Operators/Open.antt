@@ -3,12 +3,12 @@ use Rattle.std.proofs.Common.{◌≡◌, ℕ, suc, ◌<◌, ◌≤◌, ◌^◌, 
 use Rattle.std.specs.List.{AllByRecursion}
 use Rattle.wasmprinter_spec.specs.Operator.{Immediates}
 use Rattle.wasmprinter_spec.specs.Row.{Role, Opens, OpensIf, OpensTry, Delegates, Ends, Shape}
-use Rattle.wasmprinter_spec.specs.Labels.{Label, Naming, labels_after, labels_outside}
+use Rattle.wasmprinter_spec.specs.Labels.{Label, LabelNaming, labels_after, labels_outside}
 use Rattle.wasmprinter_spec.specs.Names.{IsNamedIfAny}
 use Rattle.wasmprinter_spec.specs.IndexSpaces.{Context}
 use Rattle.wasmprinter_spec.specs.Layout.Operators.{Setting}
 use Rattle.wasmprinter_spec.specs.Text.Operators.{id_of, labels_in_sight, open_behind}
-use Rattle.wasmprinter_reading.specs.Listed.{has_shape}
+use Rattle.wasmprinter_spec.specs.Shapes.{has_shape}
 use Rattle.wasmprinter_reading.proofs.Tabled.{fits}
 use Rattle.wasmprinter_reading.proofs.Operators.Labels.{ids, Opened}
 use Rattle.wasmprinter_reading.proofs.Operators.Immediates.{immediate_items, id_of-opening}
@@ -20,9 +20,9 @@ outside_ids Delegates [] = refl
 outside_ids Delegates (x ∷ xs) = refl
 outside_ids _ xs = refl
 
-pub outside_opened : (naming : Naming) (r : Role) (xs : List Label) → Opened naming xs → Opened naming (labels_outside r xs)
+pub outside_opened : (naming : LabelNaming) (r : Role) (xs : List Label) → Opened naming xs → Opened naming (labels_outside r xs)
 outside_opened naming Delegates [] o = o
-outside_opened naming Delegates (x ∷ xs) o = o.2
+outside_opened naming Delegates (x ∷ xs) (own, fits, others) = others
 outside_opened naming _ xs o = o
 
 pub outside_labels : (r : Role) (xs : List Label) → AllByRecursion IsNamedIfAny xs → AllByRecursion IsNamedIfAny (labels_outside r xs)
@@ -32,15 +32,15 @@ outside_labels _ xs h = h
 
 -- ---- the labels behind an operator
 
-pub after_opened : (naming : Naming) (n : ℕ) (r : Role) (xs : List Label) → length xs < 2 ^ 64 → Opened naming xs →
+pub after_opened : (naming : LabelNaming) (n : ℕ) (r : Role) (xs : List Label) → length xs < 2 ^ 64 → Opened naming xs →
     Opened naming (labels_after r (naming n (length xs)) xs)
 after_opened naming n Opens xs small o = ((n, refl), small, o)
 after_opened naming n OpensIf xs small o = ((n, refl), small, o)
 after_opened naming n OpensTry xs small o = ((n, refl), small, o)
 after_opened naming n Delegates [] small o = o
-after_opened naming n Delegates (x ∷ xs) small o = o.2
+after_opened naming n Delegates (x ∷ xs) small (own, fits, others) = others
 after_opened naming n Ends [] small o = o
-after_opened naming n Ends (x ∷ xs) small o = o.2
+after_opened naming n Ends (x ∷ xs) small (own, fits, others) = others
 after_opened naming n _ xs small o = o
 
 pub after_labels : (r : Role) (own : Label) (xs : List Label) → IsNamedIfAny own → AllByRecursion IsNamedIfAny xs → AllByRecursion IsNamedIfAny (labels_after r own xs)

@@ -7,7 +7,7 @@ use Rattle.wasmprinter_spec.specs.Forest.{Forest, End, Word, Group, onto}
 use Rattle.wasmprinter_spec.specs.Row as row
 use Rattle.wasmprinter_spec.specs.Types.{HeapType, Index, RefType, ref_type, ValType}
 use Rattle.wasmprinter_spec.specs.Operator.{Types, Heap, Cast}
-use Rattle.wasmprinter_spec.specs.Labels.{Label, Named, Naming, AreApart, is_hidden, Target, Around, Own, Nothing, target}
+use Rattle.wasmprinter_spec.specs.Labels.{Label, Named, LabelNaming, AreLabelsApart, is_hidden, Target, Around, Own, Nothing, target}
 use Rattle.wasmprinter_spec.specs.Names.{Names, IsNamedIfAny, AreNamed}
 use Rattle.wasmprinter_spec.specs.Indexed.{IsDeclaredHeap, IsDeclaredVal}
 use Rattle.wasmprinter_spec.specs.Code.{head_by, head, PartHead}
@@ -117,7 +117,7 @@ module _ (names : Names) (c : Context) (bound : ℕ) (reads : Reads c.spaces.typ
       let first = ref_item names c.spaces.types bound reads r.nullable r.heap h in
       all_items-reads ref_named (ref_group c.spaces.types) (ref_items names r) r (ref_items names t) (t ∷ []) first (rw onto-End at second)
 
-  pub cast_reads : (naming : Naming) → AreApart naming → (inner xs : List Label) → Opened naming xs → (l : ℕ) (r t : RefType) → IsU32 l → IsDeclaredHeap bound r.heap →
+  pub cast_reads : (naming : LabelNaming) → AreLabelsApart naming → (inner xs : List Label) → Opened naming xs → (l : ℕ) (r t : RefType) → IsU32 l → IsDeclaredHeap bound r.heap →
       IsDeclaredHeap bound t.heap →
       cast_parts c (ids xs) (cast_items names inner xs l r t) ≡ Some (Cast l r t)
   cast_reads naming apart inner xs o l r t small h k =

@@ -5,7 +5,7 @@ use Rattle.std.proofs.lemmas.List.{length-append}
 use Rattle.std.proofs.Math.Nat.{pow-suc}
 use Rattle.std.specs.List.{AllByRecursion}
 use Rattle.wasmprinter_spec.specs.Grammar.{byte, try_map, map_value, Placed, value_with_place}
-use Rattle.wasmprinter_spec.specs.Repeated.{Items}
+use Rattle.wasmprinter_spec.specs.Repeated.{AreItems}
 use Rattle.wasmprinter_spec.specs.Sized.{take_bytes}
 use Rattle.wasmprinter_spec.specs.FirstByte.{only}
 use Rattle.wasmprinter_spec.specs.Binary.ValTypes.{begins_val_type}
@@ -16,7 +16,8 @@ use Rattle.wasmprinter_spec.specs.Nesting.{Nests, Sequence}
 use Rattle.wasmprinter_spec.specs.Instructions.{opcode_grammar, block_type, tag_and_label, catch_by, catch, u64, mem_arg_by, mem_arg, indices, cast_nulls, cast, little_endian, float_bits, immediates, immediates_of_row, operator, end_byte, Closed, expression, operator_takes, roles}
 use Rattle.wasmprinter_spec.specs.Module.{without_places}
 use Rattle.wasmprinter_spec.specs.Binary.{AreBytes}
-use Rattle.wasmprinter_reading.specs.Listed.{IsU32, IsByte, IsBlockInRange, IsCatchInRange, IsMemArgInRange, AreInRange, has_shape, has_row_shape, IsListed}
+use Rattle.wasmprinter_spec.specs.Shapes.{has_shape, has_row_shape}
+use Rattle.wasmprinter_reading.specs.Listed.{IsU32, IsByte, IsBlockInRange, IsCatchInRange, IsMemArgInRange, AreInRange, IsListed}
 use Rattle.wasmprinter_reading.proofs.AllSpelled.{AllSpelled, split_bytes, items_have, Spelled-any, Spelled-seq, Spelled-map_value, Spelled-succeed, Spelled-fail, Spelled-choose, Spelled-choose_by, AllSpelled-byte, AllSpelled-take_bytes, Spelled-behind_first_byte, Spelled-by_first_byte, Spelled-value_with_place}
 use Rattle.wasmprinter_reading.proofs.LebRange.{AllSpelled-unsigned, AllSpelled-signed}
 use Rattle.wasmprinter_reading.proofs.Vectors.{AllSpelled-u32, Spelled-vec}
@@ -131,7 +132,8 @@ AllSpelled-immediates_of_row (Some r) = AllSpelled-immediates r.shape
 -- An operator is listed with its immediates.
 AllSpelled-operator : AllSpelled operator IsListed
 AllSpelled-operator =
-    Spelled-map_value (Spelled-seq (Spelled-any opcode_grammar) (λ o. AllSpelled-immediates_of_row (by_opcode o))) (λ x h. record { shape = h.1.0; range = h.1.1 })
+    Spelled-map_value (Spelled-seq (Spelled-any opcode_grammar) (λ o. AllSpelled-immediates_of_row (by_opcode o)))
+    (λ x (_, (shape, range)). record { shape = shape; range = range })
 
 listed_values : (os : List (Placed Operator)) → AllByRecursion (λ o. IsListed o.value) os → AllByRecursion IsListed (without_places os)
 listed_values [] h = tt
@@ -145,22 +147,24 @@ pub record AreNested (x : Closed (Placed Operator)) : Type 0 where
 -- An expression: operators well nested.
 pub AllSpelled-expression : AllSpelled expression AreNested
 AllSpelled-expression = record {
-  has = λ p text x bytes s. record {
-    listed = listed_values x.items (items_have (Spelled-value_with_place AllSpelled-operator) x.items p s.0 (split_bytes s.0 (end_byte ∷ []) (subst AreBytes s.1 bytes)).0 s.2);
-    nested = s.3;
-  };
+  has = λ p text x bytes (t, closed, all_spelled, nested, end_place).
+      let parts = split_bytes t (end_byte ∷ []) (subst AreBytes closed bytes) in
+      record {
+        listed = listed_values x.items (items_have (Spelled-value_with_place AllSpelled-operator) x.items p t parts.0 all_spelled);
+        nested = nested;
+      };
 }
 
 -- ---- each operator takes a byte
 
-operators_take : (os : List (Placed Operator)) (p : ℕ) (text : List ℕ) → Items (value_with_place operator) p text os → length os ≤ length text
+operators_take : (os : List (Placed Operator)) (p : ℕ) (text : List ℕ) → AreItems (value_with_place operator) p text os → length os ≤ length text
 operators_take [] p text s = omega arith
-operators_take (o ∷ os) p text s =
-    let first : 0 < length s.0 = operator_takes p s.0 o s.3 in
-    let rest : length os ≤ length s.1 = operators_take os (p + length s.0) s.1 s.4 in
-    omega (arith, first, rest, ap length s.2, length-append s.0 s.1)
+operators_take (o ∷ os) p text (t, u, joined, spelled, all_spelled) =
+    let first : 0 < length t = operator_takes p t o spelled in
+    let rest : length os ≤ length u = operators_take os (p + length t) u all_spelled in
+    omega (arith, first, rest, ap length joined, length-append t u)
 
 pub expression_takes : (p : ℕ) (text : List ℕ) (x : Closed (Placed Operator)) → expression.spells p text x → length x.items ≤ length text
-expression_takes p text x s =
-    let items : length x.items ≤ length s.0 = operators_take x.items p s.0 s.2 in
-    omega (arith, items, ap length s.1, length-append s.0 (end_byte ∷ []))
+expression_takes p text x (t, closed, all_spelled, nested, end_place) =
+    let items : length x.items ≤ length t = operators_take x.items p t all_spelled in
+    omega (arith, items, ap length closed, length-append t (end_byte ∷ []))

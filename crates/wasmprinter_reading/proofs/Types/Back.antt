@@ -17,7 +17,8 @@ use Rattle.wasmprinter_spec.specs.Text.Types.{heap_of_word, ref_of_word, number_
 use Rattle.wasmprinter_spec.specs.Text.TypeUses.{heap_number, same_heap, same_flag, same_type, same_types, same_func_type, agrees, parameters}
 use Rattle.wasmprinter_lexical.proofs.Grown.{onto-End, onto_assoc}
 use Rattle.wasmprinter_reading.proofs.Items.{ReadsItem, one_item-reads, all_items-reads, unnamed, declarations-items, no_groups}
-use Rattle.wasmprinter_reading.proofs.Declarations.{id, declared_from, types_of-declared, ids_of-declared, declared_space}
+use Rattle.wasmprinter_reading.proofs.Declarations.{id, declared_from, types_of-declared, ids_of-declared}
+use Rattle.wasmprinter_reading.proofs.Spaces.{identifiers_space}
 use Rattle.wasmprinter_reading.proofs.Bytes.{same_bytes}
 use Rattle.wasmprinter_reading.proofs.Identifiers.{index_items, id_items, Reads, declaration-items}
 use Rattle.wasmprinter_reading.proofs.Types.Ranged.{IsFewComposite, IsFewSub}
@@ -267,7 +268,12 @@ module _ (names : Names) (ids : Identifiers) (bound : ℕ) (reads : Reads ids (n
         let e : field ids (field_items names f) ≡ Some f = one_item-reads field_named (field_group ids) (field_items names f) f (field_item f r) in
         rw e
     composite-items i (StructComposite fs) r few =
-        rw (struct-items (names.fields i) 0 fs r, declared_space (names.fields i) (apart i) fs (omega (arith, few)), types_of-declared (names.fields i) 0 fs)
+        rw (
+          struct-items (names.fields i) 0 fs r,
+          ids_of-declared (names.fields i) 0 fs,
+          identifiers_space (names.fields i) (apart i) (length fs) (omega (arith, few)),
+          types_of-declared (names.fields i) 0 fs,
+        )
 
     -- ---- subtypes
 

@@ -9,7 +9,7 @@ use Rattle.wasmprinter_spec.specs.Module.{groups_of}
 use Rattle.wasmprinter_spec.specs.Binary.ValTypes.{number_type_of, abstract_heap_of, non_negative, signed_index, heap_type, ref_type_behind, reference_type, val_type_behind, val_type}
 use Rattle.wasmprinter_spec.specs.Binary.Types.{packed_type_of, storage_type, mutability, field, signature, composite_behind, sub_type_parts, sub_type_behind, group}
 use Rattle.wasmprinter_spec.proofs.Each.{all_both}
-use Rattle.wasmprinter_reading.specs.Listed.{IsSigned, IsU32, IsSignatureInRange}
+use Rattle.wasmprinter_reading.specs.Listed.{FitsSigned, IsU32, IsSignatureInRange}
 use Rattle.wasmprinter_reading.proofs.AllSpelled.{AllSpelled, Spelled-any, Spelled-seq, Spelled-try_map, Spelled-map_value, Spelled-fail, Spelled-choose, Spelled-value_if_any, Spelled-behind_first_byte, Spelled-by_first_byte}
 use Rattle.wasmprinter_reading.proofs.LebRange.{AllSpelled-signed}
 use Rattle.wasmprinter_reading.proofs.Vectors.{AllSpelled-u32, Spelled-vec}
@@ -26,7 +26,7 @@ number_ranged : (b : ℕ) (t : ValType) → number_type_of b ≡ Some t → IsRa
 number_ranged b (Ref r) e = absurd (grind arith)
 number_ranged b _ e = tt
 
-index_ranged : (z : ℤ) (n : ℕ) → non_negative z ≡ Some n → IsSigned 32 z → n < 2 ^ 32
+index_ranged : (z : ℤ) (n : ℕ) → non_negative z ≡ Some n → FitsSigned 32 z → n < 2 ^ 32
 index_ranged (pos m) n e h = let same : m ≡ n = some_is m n e in omega (arith, ints, h.1)
 index_ranged (negsuc m) n e h = absurd cc
 
@@ -86,7 +86,7 @@ AllSpelled-composite_behind b =
 AllSpelled-sub_type_parts : (final : Bool) → AllSpelled (sub_type_parts final) (λ t. IsRangedSub t × IsFewSub t)
 AllSpelled-sub_type_parts final =
     Spelled-map_value (Spelled-seq (Spelled-vec AllSpelled-u32) (λ _. Spelled-behind_first_byte AllSpelled-composite_behind))
-    (λ x h. (record { supertypes = h.0.each; composite = h.1.0 }, h.1.1))
+    (λ x (supertypes, (composite, few)). (record { supertypes = supertypes.each; composite = composite }, few))
 
 AllSpelled-sub_type_behind : (b : ℕ) → AllSpelled (sub_type_behind b) (λ t. IsRangedSub t × IsFewSub t)
 AllSpelled-sub_type_behind b =
@@ -97,7 +97,7 @@ AllSpelled-sub_type_behind b =
 -- the facts of each, one by one
 each_ranged : (ts : List SubType) → AllByRecursion (λ t. IsRangedSub t × IsFewSub t) ts → AllByRecursion IsRangedSub ts × AllByRecursion IsFewSub ts
 each_ranged [] h = (tt, tt)
-each_ranged (t ∷ ts) h = let rest = each_ranged ts h.1 in ((h.0.0, rest.0), (h.0.1, rest.1))
+each_ranged (t ∷ ts) ((ranged, few), others) = let rest = each_ranged ts others in ((ranged, rest.0), (few, rest.1))
 
 pub AllSpelled-group : AllSpelled group IsRangedGroup
 AllSpelled-group =

@@ -20,7 +20,7 @@ data_mode flags =
     (choose (flags == 2) (map_value (λ x. ActiveData x.0 x.1) (seq u32 (λ _. constant))) fail))
 
 abbrev pub segment : Grammar (Data (Placed Operator))
-segment = map_value (λ x. data_of x.1.0 x.1.1) (seq u32 (λ flags. seq (data_mode flags) (λ _. byte_vec)))
+segment = map_value (λ (_, (mode, bytes)). data_of mode bytes) (seq u32 (λ flags. seq (data_mode flags) (λ _. byte_vec)))
 
 abbrev pub data_section : Remainder (List (Placed (Data (Placed Operator))))
 data_section = alone (vec (value_with_place segment))

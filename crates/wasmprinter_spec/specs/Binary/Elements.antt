@@ -6,17 +6,17 @@ use Rattle.wasmprinter_spec.specs.Sized.{alone}
 use Rattle.wasmprinter_spec.specs.Name.{u32, vec}
 use Rattle.wasmprinter_spec.specs.Types.{RefType, ref_type, Func}
 use Rattle.wasmprinter_spec.specs.Operator.{Operator}
-use Rattle.wasmprinter_spec.specs.Placed.{Mode, Passive, Declared, Active, Items, Functions, Expressions, element_of, ElementEntry, entry_of}
+use Rattle.wasmprinter_spec.specs.Placed.{ElementMode, Passive, Declared, Active, Items, Functions, Expressions, element_of, ElementEntry, entry_of}
 use Rattle.wasmprinter_spec.specs.Instructions.{constant}
 use Rattle.wasmprinter_spec.specs.Binary.ValTypes.{reference_type}
 
 -- table 0, which the bytes don't write, and an offset
-abbrev pub active : Grammar (Mode (Placed Operator))
+abbrev pub active : Grammar (ElementMode (Placed Operator))
 active = map_value (λ offset. Active 0 offset) constant
 
 -- a table and an offset
-abbrev pub active_in : Grammar (Mode (Placed Operator))
-active_in = map_value (λ x. Active x.0 x.1) (seq u32 (λ _. constant))
+abbrev pub active_in : Grammar (ElementMode (Placed Operator))
+active_in = map_value (λ (table, offset). Active table offset) (seq u32 (λ _. constant))
 
 -- indices of functions
 abbrev pub function_items : Grammar (Items (Placed Operator))
@@ -32,8 +32,8 @@ expression_items t = map_value (Expressions t) (vec constant)
 abbrev pub items_of_type : Grammar (Items (Placed Operator))
 items_of_type = map_value (λ x. x.1) (seq reference_type expression_items)
 
-abbrev pub segment : Bool → Grammar (Mode (Placed Operator)) → Grammar (Items (Placed Operator)) → Grammar ElementEntry
-segment names mode items = map_value (λ x. entry_of names (element_of x.0 x.1)) (seq mode (λ _. items))
+abbrev pub segment : Bool → Grammar (ElementMode (Placed Operator)) → Grammar (Items (Placed Operator)) → Grammar ElementEntry
+segment names modes contents = map_value (λ (mode, items). entry_of names (element_of mode items)) (seq modes (λ _. contents))
 
 -- Behind the flags: bit 0 says that the segment is not active, bit 1 that it is declared or that it names its table, bit 2
 -- that its items are expressions.

@@ -15,7 +15,8 @@ extern_kind = try_map extern_kind_of byte
 
 -- a name, a kind, an index
 abbrev pub export : Grammar Export
-export = map_value (λ x. record { name = x.0; kind = x.1.0; index = x.1.1 }) (seq name (λ _. seq extern_kind (λ _. u32)))
+export =
+    map_value (λ (name, (kind, index)). record { name = name; kind = kind; index = index }) (seq name (λ _. seq extern_kind (λ _. u32)))
 
 abbrev pub export_section : Remainder (List (Placed Export))
 export_section = alone (vec (value_with_place export))

@@ -24,7 +24,7 @@ abbrev pub extern_type : Grammar ExternType
 extern_type = behind_first_byte extern_type_behind
 
 abbrev pub import : Grammar Import
-import = map_value (λ x. import_of x.0 x.1.0 x.1.1) (seq name (λ _. seq name (λ _. extern_type)))
+import = map_value (λ (source, (field, type)). import_of source field type) (seq name (λ _. seq name (λ _. extern_type)))
 
 abbrev pub import_section : Remainder (List (Placed Import))
 import_section = alone (vec (value_with_place import))

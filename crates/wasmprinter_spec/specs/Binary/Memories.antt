@@ -21,7 +21,8 @@ page false = succeed None
 abbrev pub memory_type_behind : ℕ → Grammar MemoryType
 memory_type_behind flags =
     choose (nat_lt flags 16)
-    (map_value (λ x. memory_type_of (has_bit 2 flags) (has_bit 1 flags) x.0 x.1) (seq (limits (has_bit 0 flags)) (λ _. page (has_bit 3 flags)))) fail
+    (map_value (λ (limits, page). memory_type_of (has_bit 2 flags) (has_bit 1 flags) limits page)
+    (seq (limits (has_bit 0 flags)) (λ _. page (has_bit 3 flags)))) fail
 
 abbrev pub memory_type : Grammar MemoryType
 memory_type = behind_first_byte memory_type_behind

@@ -19,13 +19,16 @@ table_limits_behind flags =
 
 -- what the table holds, and its limits
 abbrev pub table_type : Grammar TableType
-table_type = map_value (λ x. table_type_of x.1.0 x.1.1 x.0) (seq reference_type (λ _. behind_first_byte table_limits_behind))
+table_type =
+    map_value (λ (element, (wide, limits)). table_type_of wide limits element)
+    (seq reference_type (λ _. behind_first_byte table_limits_behind))
 
 -- 40 00, a type, and an initialiser; or a type alone
 abbrev pub table_by : ℕ → Grammar (Table (Placed Operator))
 table_by b =
     choose (b == 0x40)
-    (map_value (λ (_, (_, (type, init))). table_of type (Some init)) (seq (only 0x40) (λ _. seq (only 0x00) (λ _. seq table_type (λ _. constant)))))
+    (map_value (λ (_, (_, (type, init))). table_of type (Some init))
+    (seq (only 0x40) (λ _. seq (only 0x00) (λ _. seq table_type (λ _. constant)))))
     (map_value (λ t. table_of t None) table_type)
 
 abbrev pub table : Grammar (Table (Placed Operator))

@@ -21,30 +21,36 @@ pub record ImportInfo : Type 0 where
   pub name : List ℕ
   pub flags : ℕ
 
-pub data Content : Type 0 where
-  Sizes : MemInfo → Content
-  Needed : List (List ℕ) → Content
-  Exports : List ExportInfo → Content
-  Imports : List ImportInfo → Content
-  Paths : List (List ℕ) → Content
-  Other : ℕ → Content  -- of an id that isn't known
+pub data SubsectionContent : Type 0 where
+  Sizes : MemInfo → SubsectionContent
+  Needed : List (List ℕ) → SubsectionContent
+  Exports : List ExportInfo → SubsectionContent
+  Imports : List ImportInfo → SubsectionContent
+  Paths : List (List ℕ) → SubsectionContent
+  Other : ℕ → SubsectionContent  -- of an id that isn't known
 
 abbrev pub Subsection : Type 0
-Subsection = Placed Content
+Subsection = Placed SubsectionContent
 
 abbrev pub mem_info : Grammar MemInfo
 mem_info =
-    map_value (λ (size, (alignment, (table_size, table_alignment))). record { memory_size = size; memory_alignment = alignment; table_size = table_size; table_alignment = table_alignment })
+    map_value (λ (memory_size, (memory_alignment, (table_size, table_alignment))). record {
+      memory_size = memory_size;
+      memory_alignment = memory_alignment;
+      table_size = table_size;
+      table_alignment = table_alignment;
+    })
     (seq u32 (λ _. seq u32 (λ _. seq u32 (λ _. u32))))
 
 abbrev pub export_info : Grammar ExportInfo
 export_info = map_value (λ x. record { name = x.0; flags = x.1 }) (seq name (λ _. u32))
 
 abbrev pub import_info : Grammar ImportInfo
-import_info = map_value (λ x. record { source = x.0; name = x.1.0; flags = x.1.1 }) (seq name (λ _. seq name (λ _. u32)))
+import_info =
+    map_value (λ (source, (name, flags)). record { source = source; name = name; flags = flags }) (seq name (λ _. seq name (λ _. u32)))
 
 -- by the id; nothing else is known
-abbrev pub content_by_id : ℕ → Grammar Content
+abbrev pub content_by_id : ℕ → Grammar SubsectionContent
 content_by_id id =
     choose (id == 1) (map_value Sizes mem_info)
     (choose (id == 2) (map_value Needed (vec name))
@@ -56,15 +62,19 @@ abbrev pub is_known : ℕ → Bool
 is_known id = (id == 1) || (id == 2) || (id == 3) || (id == 4) || (id == 5)
 
 -- so many bytes: those of a known id hold just what it says, all others anything
-abbrev pub content : ℕ → ℕ → Grammar Content
+abbrev pub content : ℕ → ℕ → Grammar SubsectionContent
 content id size = choose (is_known id) (exactly (alone (content_by_id id)) size) (map_value (λ _. Other id) (take_bytes size))
 
 abbrev pub subsection : Grammar Subsection
-subsection = value_with_place (map_value (λ x. x.1.1) (seq byte (λ id. seq u32 (λ size. content id size))))
+subsection = value_with_place (map_value (λ (_, (_, found)). found) (seq byte (λ id. seq u32 (λ size. content id size))))
+
+-- a subsection, unless the bytes are at their end
+abbrev pub one_subsection : Lenient Subsection
+one_subsection = unless_ended (one (λ s. s ∷ []) subsection)
 
 -- subsections up to the end of the bytes, or to the first fault
 abbrev pub subsections : ℕ → Lenient Subsection
-subsections n = repeat (unless_ended (one (λ s. s ∷ []) subsection)) n
+subsections n = repeat one_subsection n
 
 -- what the section is: the first subsection that isn't known, or the first fault, decides
 pub data Judged : Type 0 where
@@ -72,7 +82,7 @@ pub data Judged : Type 0 where
   Unknown : ℕ → Judged
   Faulty : Judged
 
-abbrev pub other_of : Content → Option ℕ
+abbrev pub other_of : SubsectionContent → Option ℕ
 other_of (Other id) = Some id
 other_of _ = None
 

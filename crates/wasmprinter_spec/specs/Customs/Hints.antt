@@ -22,11 +22,12 @@ flag b = if b == 0 then Some false else (if b == 1 then Some true else None)
 
 -- an offset, the byte 01, and a flag
 abbrev pub hint : Grammar Hint
-hint = map_value (λ x. record { offset = x.0; taken = x.1.1 }) (seq u32 (λ _. seq (only 1) (λ _. try_map flag byte)))
+hint =
+    map_value (λ (offset, (_, taken)). record { offset = offset; taken = taken }) (seq u32 (λ _. seq (only 1) (λ _. try_map flag byte)))
 
 -- more functions, or more hints in one, are taken for a fault
-abbrev pub most_functions : ℕ
-most_functions = 1000000
+abbrev pub most_hinted_functions : ℕ
+most_hinted_functions = 1000000
 
 abbrev pub most_hints : ℕ
 most_hints = 131071
@@ -35,10 +36,11 @@ abbrev pub at_most : {A : Type 0} → ℕ → List A → Option (List A)
 at_most n xs = if nat_le (length xs) n then Some xs else None
 
 abbrev pub function_hints : Grammar FunctionHints
-function_hints = map_value (λ x. record { function = x.0; hints = x.1 }) (seq u32 (λ _. try_map (at_most most_hints) (vec (value_with_place hint))))
+function_hints =
+    map_value (λ x. record { function = x.0; hints = x.1 }) (seq u32 (λ _. try_map (at_most most_hints) (vec (value_with_place hint))))
 
 abbrev pub hint_section : Remainder (List FunctionHints)
-hint_section = alone (try_map (at_most most_functions) (vec function_hints))
+hint_section = alone (try_map (at_most most_hinted_functions) (vec function_hints))
 
 -- ---- the hints of a module
 

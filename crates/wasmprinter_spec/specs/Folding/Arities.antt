@@ -21,16 +21,16 @@ pub record Signatures : Type 0 where
   pub own : Option ℕ
 
 -- how many operands are taken and how many results are given
-pub record Counts : Type 0 where
+pub record OperandCounts : Type 0 where
   pub takes : ℕ
   pub gives : ℕ
 
 -- so many are taken, and so many given
-abbrev pub takes_and_gives : ℕ → ℕ → Counts
+abbrev pub takes_and_gives : ℕ → ℕ → OperandCounts
 takes_and_gives p q = record { takes = p; gives = q }
 
 -- an operator of which nothing is known takes nothing and gives nothing
-abbrev pub if_known : Option Counts → Counts
+abbrev pub if_known : Option OperandCounts → OperandCounts
 if_known None = takes_and_gives 0 0
 if_known (Some c) = c
 
@@ -73,7 +73,8 @@ label_of_type s false t = block_gives s t
 
 -- how many values the label takes that an operator opens
 abbrev pub label_of_block : Signatures → Operator → Option ℕ
-label_of_block s o = elim o.immediates as (λ i. Option ℕ) [ Block t ↦ label_of_type s (is_loop o.opcode) t | TryTable t cs ↦ block_gives s t | _ ↦ None ]
+label_of_block s o =
+    elim o.immediates as (λ i. Option ℕ) [ Block t ↦ label_of_type s (is_loop o.opcode) t | TryTable t cs ↦ block_gives s t | _ ↦ None ]
 
 -- How many values a label takes: that of a block around, or behind the last the body's own. A label of nothing has no count.
 abbrev pub label_count : List (Option ℕ) → Option ℕ → ℕ → Option ℕ
@@ -85,15 +86,15 @@ label_count (x ∷ xs) own (suc l) = label_count xs own l
 -- ---- operators
 
 -- by the numbers of parameters and results of a type
-abbrev pub by_type : (ℕ → ℕ → Counts) → Option FuncType → Counts
+abbrev pub by_type : (ℕ → ℕ → OperandCounts) → Option FuncType → OperandCounts
 by_type f t = if_known (option_map (λ t. f (length t.params) (length t.results)) t)
 
 -- by how many values a label takes, a structure has or a function gives
-abbrev pub by_count : (ℕ → Counts) → Option ℕ → Counts
+abbrev pub by_count : (ℕ → OperandCounts) → Option ℕ → OperandCounts
 by_count f n = if_known (option_map f n)
 
 -- A line for each arity. P and Q are the numbers of parameters and results of the type that is named, v how many values the label takes.
-abbrev pub counts : Signatures → List (Option ℕ) → Arity → Immediates → Counts
+abbrev pub counts : Signatures → List (Option ℕ) → Arity → Immediates → OperandCounts
 counts s ls (Fixed p q) i = takes_and_gives p q
 counts s ls OfCall (Index f) = by_type (λ P Q. takes_and_gives P Q) (s.functions f)
 counts s ls OfReturnCall (Index f) = by_type (λ P Q. takes_and_gives P 0) (s.functions f)
@@ -118,12 +119,12 @@ counts s ls OfCount (Indices t n) = takes_and_gives n 1
 counts s ls _ _ = takes_and_gives 0 0
 
 -- an opcode that isn't listed takes nothing and gives nothing
-abbrev pub counts_by_row : Signatures → List (Option ℕ) → Option Row → Immediates → Counts
+abbrev pub counts_by_row : Signatures → List (Option ℕ) → Option Row → Immediates → OperandCounts
 counts_by_row s ls None i = takes_and_gives 0 0
 counts_by_row s ls (Some r) i = counts s ls r.arity i
 
 -- an operator, where these labels are open
-abbrev pub counts_of : Signatures → List (Option ℕ) → Operator → Counts
+abbrev pub counts_of : Signatures → List (Option ℕ) → Operator → OperandCounts
 counts_of s ls o = counts_by_row s ls (by_opcode o.opcode) o.immediates
 
 -- ---- what the operators of a module name

@@ -100,7 +100,8 @@ IsFit Done = Unit {0}
 IsFit (Plain x rest) = (role x ≡ row.Plain) × IsFit rest
 IsFit (Block x body end rest) = (role x ≡ Opens) × IsFit body × (role end ≡ Ends) × IsFit rest
 IsFit (If x body end rest) = (role x ≡ OpensIf) × IsFit body × (role end ≡ Ends) × IsFit rest
-IsFit (IfElse x body turn other end rest) = (role x ≡ OpensIf) × IsFit body × (role turn ≡ Turns) × IsFit other × (role end ≡ Ends) × IsFit rest
+IsFit (IfElse x body turn other end rest) =
+    (role x ≡ OpensIf) × IsFit body × (role turn ≡ Turns) × IsFit other × (role end ≡ Ends) × IsFit rest
 
 -- ---- laws
 
@@ -114,8 +115,10 @@ UniqueCodeRule = (code : NestedCode) → IsFit code → nested_code_of (flat cod
 
 -- Operators that are well nested have a tree, where none of them is of the older `try`.
 abbrev pub NestedCodeRule : Type 0
-NestedCodeRule = (xs : List Item) → Nests Sequence (map role xs) → AreWithoutTry (map role xs) → (code : NestedCode) × (nested_code_of xs ≡ Some code)
+NestedCodeRule =
+    (xs : List Item) → Nests Sequence (map role xs) → AreWithoutTry (map role xs) → (code : NestedCode) × (nested_code_of xs ≡ Some code)
 
 -- What has a tree is well nested, and none of its operators is of the older `try`.
 abbrev pub NestingCodeRule : Type 0
-NestingCodeRule = (xs : List Item) (code : NestedCode) → nested_code_of xs ≡ Some code → Nests Sequence (map role xs) × AreWithoutTry (map role xs)
+NestingCodeRule =
+    (xs : List Item) (code : NestedCode) → nested_code_of xs ≡ Some code → Nests Sequence (map role xs) × AreWithoutTry (map role xs)

@@ -6,7 +6,7 @@ use Rattle.wasmprinter_spec.specs.Operator.{Operator}
 use Rattle.wasmprinter_spec.specs.Row.{Role, Opens, Turns, Ends}
 use Rattle.wasmprinter_spec.specs.Table.{role_of}
 use Rattle.wasmprinter_spec.specs.Customs.Hints.{Hint, FunctionHints, hints_of, next_hints, hints_behind, next_hint, hint_behind}
-use Rattle.wasmprinter_spec.specs.Placed.{Table, Mode, Passive, Declared, Active, Items, Functions, Expressions, ElementEntry, PassiveData, ActiveData, Data, PlacedFunction, PlacedModule}
+use Rattle.wasmprinter_spec.specs.Placed.{Table, ElementMode, Passive, Declared, Active, Items, Functions, Expressions, ElementEntry, PassiveData, ActiveData, Data, PlacedFunction, PlacedModule}
 use Rattle.wasmprinter_spec.specs.Module.{without_places, imported_types, func_import}
 use Rattle.wasmprinter_spec.specs.Options.{Options}
 use Rattle.wasmprinter_spec.specs.Folding.Code.{is_try}
@@ -21,7 +21,7 @@ abbrev pub init_list : Placed (Table (Placed Operator)) → List Operators
 init_list t = elim t.value.init as (λ i. List Operators) [ None ↦ [] | Some os ↦ os ∷ [] ]
 
 -- the offset of an active element segment
-abbrev pub offset_list : Mode (Placed Operator) → List Operators
+abbrev pub offset_list : ElementMode (Placed Operator) → List Operators
 offset_list Passive = []
 offset_list Declared = []
 offset_list (Active t os) = os ∷ []
@@ -42,7 +42,8 @@ data_lists d = elim d.value.mode as (λ m. List Operators) [ PassiveData ↦ [] 
 -- those of constant expressions
 abbrev pub constant_lists : Options → PlacedModule → List Operators
 constant_lists o m =
-    flat_map init_list m.tables ++ map (λ g. g.value.init) m.globals ++ flat_map (element_lists o.skeleton) m.elements ++ flat_map data_lists m.datas
+    flat_map init_list m.tables ++ map (λ g. g.value.init) m.globals ++ flat_map (element_lists o.skeleton) m.elements
+    ++ flat_map data_lists m.datas
 
 -- those of bodies; in a skeleton they aren't printed
 abbrev pub body_lists : Options → PlacedModule → List Operators
@@ -78,7 +79,8 @@ place_if_misplaced role (Some h) = cond (is_hintless role) (h.place ∷ []) []
 abbrev pub misplaced_hints_in : ℕ → List (Placed Hint) → Operators → List ℕ
 misplaced_hints_in body hs [] = []
 misplaced_hints_in body hs (o ∷ os) =
-    place_if_misplaced (role_of o.value.opcode) (next_hint (o.place - body) hs) ++ misplaced_hints_in body (hint_behind (o.place - body) hs) os
+    place_if_misplaced (role_of o.value.opcode) (next_hint (o.place - body) hs)
+    ++ misplaced_hints_in body (hint_behind (o.place - body) hs) os
 
 -- in functions from number i on
 abbrev pub misplaced_hints_from : List FunctionHints → ℕ → List PlacedFunction → List ℕ
@@ -88,7 +90,9 @@ misplaced_hints_from es i (f ∷ fs) =
 
 -- in all bodies that are printed
 abbrev pub misplaced_hints : Options → PlacedModule → List ℕ
-misplaced_hints o m = cond o.skeleton [] (misplaced_hints_from (hints_of m.customs) (length (imported_types func_import (without_places m.imports))) m.functions)
+misplaced_hints o m =
+    cond o.skeleton []
+    (misplaced_hints_from (hints_of m.customs) (length (imported_types func_import (without_places m.imports))) m.functions)
 
 -- ---- modules
 

@@ -94,15 +94,18 @@ results_of (Snoc before head results held) = results_of before + results
 
 -- `sum` and the results of each shorter run of last nodes stay below what is wanted
 abbrev pub IsFirst : {H : Type 0} → ℕ → ℕ → NodesOf H → Type 0
-IsFirst {H} wanted sum run = (before last : NodesOf H) → run ≡ row_of_both before last → before ≢ Nil → saturating_sum sum (results_of last) < wanted
+IsFirst {H} wanted sum run =
+    (before last : NodesOf H) → run ≡ row_of_both before last → before ≢ Nil → saturating_sum sum (results_of last) < wanted
 
 -- where `sum` results are there already
 abbrev pub IsAnswer : {H : Type 0} → ℕ → ℕ → NodesOf H → OperandsOf H → Type 0
 -- the shortest run of last nodes whose results are what is wanted
-IsAnswer wanted sum f (Fit before run) = (f ≡ row_of_both before run) × (saturating_sum sum (results_of run) ≡ wanted) × IsFirst wanted sum run
+IsAnswer wanted sum f (Fit before run) =
+    (f ≡ row_of_both before run) × (saturating_sum sum (results_of run) ≡ wanted) × IsFirst wanted sum run
 -- a run passes what is wanted, and no shorter one reaches it
 IsAnswer {H} wanted sum f Passed =
-    (before : NodesOf H) × (run : NodesOf H) × (f ≡ row_of_both before run) × (wanted < saturating_sum sum (results_of run)) × IsFirst wanted sum run
+    (before : NodesOf H) × (run : NodesOf H) × (f ≡ row_of_both before run) × (wanted < saturating_sum sum (results_of run))
+    × IsFirst wanted sum run
 -- no run reaches what is wanted
 IsAnswer {H} wanted sum f Short = (before run : NodesOf H) → f ≡ row_of_both before run → saturating_sum sum (results_of run) < wanted
 

@@ -5,9 +5,9 @@ use Rattle.std.specs.Fmt.{digits}
 use Rattle.wasmprinter_spec.specs.Grammar.{Placed}
 use Rattle.wasmprinter_spec.specs.Kinds.{Kind, TypeSection, ImportSection, FunctionSection, TableSection, MemorySection, TagSection, GlobalSection, ExportSection, StartSection, ElementSection, CodeSection, DataSection, same_kind}
 use Rattle.wasmprinter_spec.specs.Placed.{Custom, CustomEntry}
-use Rattle.wasmprinter_spec.specs.Customs.{Role, Silent, Listed, Linked, Refused, Raw, Faulted, role_of}
+use Rattle.wasmprinter_spec.specs.Customs.{CustomRole, Silent, Listed, Linked, Refused, Raw, Faulted, custom_role_of}
 use Rattle.wasmprinter_spec.specs.Customs.Producers.{Value, Field}
-use Rattle.wasmprinter_spec.specs.Customs.Dylink.{MemInfo, ExportInfo, ImportInfo, Content, Sizes, Needed, Exports, Imports, Paths, Other, Subsection}
+use Rattle.wasmprinter_spec.specs.Customs.Dylink.{MemInfo, ExportInfo, ImportInfo, SubsectionContent, Sizes, Needed, Exports, Imports, Paths, Other, Subsection}
 use Rattle.wasmprinter_spec.specs.Options.{Answers}
 use Rattle.wasmprinter_spec.specs.Piece.{Piece, Break, Gap, Open, OpenGap, OpenPlain, OpenNote, OpenNoteGap, OpenRun, Shut, Word, Quoted, PlainEnding, Claimed}
 use Rattle.wasmprinter_spec.specs.Layout.Groups.{close, has_break}
@@ -42,7 +42,8 @@ unfoldable pub raw_pieces : Bool → CustomEntry → List Piece
 raw_pieces skeleton c =
     let s : Custom = c.section.value in
     Break (Some c.section.place) 1
-    ∷ (OpenNoteGap (codes "custom") ∷ (Quoted (chars s.name) ∷ (Gap ∷ (place_pieces c.behind ++ (Gap ∷ (shown_bytes skeleton s.bytes.value ++ (Shut ∷ [])))))))
+    ∷ (OpenNoteGap (codes "custom") ∷ (Quoted (chars s.name) ∷ (Gap ∷ (place_pieces c.behind
+    ++ (Gap ∷ (shown_bytes skeleton s.bytes.value ++ (Shut ∷ [])))))))
 
 -- the line that tells of a fault, and the section as it stands
 unfoldable pub faulted_pieces : Bool → CustomEntry → List Piece
@@ -85,14 +86,14 @@ flag_words =
     ∷ (0x80, codes "no-strip") ∷ (0x100, codes "tls") ∷ (0x200, codes "absolute") ∷ []
 
 -- the bit is set
-abbrev pub has_bit : ℕ → ℕ → Bool
-has_bit flags bit = ((flags / bit) % 2) == 1
+abbrev pub has_flag : ℕ → ℕ → Bool
+has_flag flags bit = ((flags / bit) % 2) == 1
 
 -- the words of the flags that are set, and then all other bits in hexadecimal, if there are any
 unfoldable pub flags_by : List (ℕ × List ℕ) → ℕ → List Piece
 flags_by [] rest = cond (rest == 0) [] (Gap ∷ (Word (codes "0x" ++ digits 16 false rest) ∷ []))
 flags_by (row ∷ rows) rest =
-    if has_bit rest row.0 then Gap ∷ (Word row.1 ∷ flags_by rows (rest - row.0)) else flags_by rows rest
+    if has_flag rest row.0 then Gap ∷ (Word row.1 ∷ flags_by rows (rest - row.0)) else flags_by rows rest
 
 unfoldable pub flags_pieces : ℕ → List Piece
 flags_pieces flags = flags_by flag_words flags
@@ -105,7 +106,8 @@ sizes_group w a b =
 unfoldable pub sizes_pieces : ℕ → MemInfo → List Piece
 sizes_pieces place m =
     Break (Some place) 2
-    ∷ (Open (codes "mem-info") ∷ (sizes_group (codes "memory") m.memory_size m.memory_alignment ++ (sizes_group (codes "table") m.table_size m.table_alignment ++ (Shut ∷ []))))
+    ∷ (Open (codes "mem-info") ∷ (sizes_group (codes "memory") m.memory_size m.memory_alignment
+    ++ (sizes_group (codes "table") m.table_size m.table_alignment ++ (Shut ∷ []))))
 
 unfoldable pub names_pieces : List ℕ → ℕ → List (List ℕ) → List Piece
 names_pieces w place ns = Break (Some place) 2 ∷ (Open w ∷ (gap_quoted_list ns ++ (Shut ∷ [])))
@@ -113,16 +115,18 @@ names_pieces w place ns = Break (Some place) 2 ∷ (Open w ∷ (gap_quoted_list 
 unfoldable pub exports_pieces : ℕ → List ExportInfo → List Piece
 exports_pieces place [] = []
 exports_pieces place (e ∷ es) =
-    Break (Some place) 2 ∷ (OpenGap (codes "export-info") ∷ (Quoted (chars e.name) ∷ (flags_pieces e.flags ++ (Shut ∷ exports_pieces place es))))
+    Break (Some place) 2
+    ∷ (OpenGap (codes "export-info") ∷ (Quoted (chars e.name) ∷ (flags_pieces e.flags ++ (Shut ∷ exports_pieces place es))))
 
 unfoldable pub import_infos_pieces : ℕ → List ImportInfo → List Piece
 import_infos_pieces place [] = []
 import_infos_pieces place (i ∷ is) =
     Break (Some place) 2
-    ∷ (OpenGap (codes "import-info") ∷ (Quoted (chars i.source) ∷ (Gap ∷ (Quoted (chars i.name) ∷ (flags_pieces i.flags ++ (Shut ∷ import_infos_pieces place is))))))
+    ∷ (OpenGap (codes "import-info") ∷ (Quoted (chars i.source) ∷ (Gap ∷ (Quoted (chars i.name)
+    ∷ (flags_pieces i.flags ++ (Shut ∷ import_infos_pieces place is))))))
 
 -- all lines of a subsection have the place of its id
-abbrev pub content_pieces : ℕ → Content → List Piece
+abbrev pub content_pieces : ℕ → SubsectionContent → List Piece
 content_pieces place (Sizes m) = sizes_pieces place m
 content_pieces place (Needed ns) = names_pieces (codes "needed") place ns
 content_pieces place (Exports es) = exports_pieces place es
@@ -141,9 +145,10 @@ pub data Part : Type 0 where
   Shown : List Piece → Part
   Stops : List Piece → ℕ → Part
 
-abbrev pub role_part : Bool → Piece → CustomEntry → Role → Part
+abbrev pub role_part : Bool → Piece → CustomEntry → CustomRole → Part
 role_part skeleton claim c Silent = Shown (claim ∷ [])
-role_part skeleton claim c (Listed fields) = Shown (claim ∷ (Break (Some c.section.place) 1 ∷ note (codes "producers") (fields_pieces fields)))
+role_part skeleton claim c (Listed fields) =
+    Shown (claim ∷ (Break (Some c.section.place) 1 ∷ note (codes "producers") (fields_pieces fields)))
 role_part skeleton claim c (Linked ss) = Shown (claim ∷ (Break (Some c.section.place) 1 ∷ note (codes "dylink.0") (subsections_pieces ss)))
 role_part skeleton claim c (Refused id) = Stops (claim ∷ []) id
 role_part skeleton claim c Raw = Shown (claim ∷ raw_pieces skeleton c)
@@ -154,7 +159,7 @@ abbrev pub custom_part : Bool → Bool → CustomEntry → Part
 custom_part skeleton answer c =
     let s : Custom = c.section.value in
     let claim : Piece = Claimed s.name s.bytes.place s.bytes.value answer in
-    if answer then Shown (claim ∷ []) else role_part skeleton claim c (role_of s)
+    if answer then Shown (claim ∷ []) else role_part skeleton claim c (custom_role_of s)
 
 abbrev pub same_place : Option Kind → Option Kind → Bool
 same_place None None = true

@@ -21,7 +21,9 @@ abbrev pub shown_bytes : Bool → List ℕ → List Piece
 shown_bytes true bs = Word (codes "...") ∷ []
 shown_bytes false bs = QuotedBytes bs ∷ []
 
+-- what stands in the group of a data segment
+abbrev pub data_parts : Bool → Scope → ℕ → Data (Placed Operator) → List Piece
+data_parts skeleton s i d = item_declaration s row.Data i ++ (Gap ∷ (data_mode_pieces s d.mode ++ shown_bytes skeleton d.bytes))
+
 unfoldable pub data_pieces : Bool → Scope → ℕ → Placed (Data (Placed Operator)) → List Piece
-data_pieces skeleton s i d =
-    Break (Some d.place) 1
-    ∷ group_gap 1 (codes "data") (item_declaration s row.Data i ++ (Gap ∷ (data_mode_pieces s d.value.mode ++ shown_bytes skeleton d.value.bytes)))
+data_pieces skeleton s i d = Break (Some d.place) 1 ∷ group_gap 1 (codes "data") (data_parts skeleton s i d.value)

@@ -31,6 +31,10 @@ pub record Scope : Type 0 where
 abbrev pub scope_of : List SubType → Names → ℕ → Option Folding → Scope
 scope_of ts names f folding = record { types = ts; names = names; function = f; folding = folding }
 
+-- the same types and identifiers, for the locals and labels of a function
+abbrev pub scope_of_function : Scope → ℕ → Scope
+scope_of_function s f = record s { function = f }
+
 -- an item where it is declared
 abbrev pub item_declaration : Scope → Space → ℕ → List Piece
 item_declaration s space i = declaration_pieces (s.names.items space i) i

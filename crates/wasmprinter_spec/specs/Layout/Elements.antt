@@ -3,7 +3,7 @@ use Rattle.std.specs.Prelude.{ℕ, List, [], ◌∷◌, ◌++◌, codes, Bool, t
 use Rattle.wasmprinter_spec.specs.Grammar.{Placed}
 use Rattle.wasmprinter_spec.specs.Row as row
 use Rattle.wasmprinter_spec.specs.Operator.{Operator}
-use Rattle.wasmprinter_spec.specs.Placed.{Mode, Passive, Declared, Active, Items, Functions, Expressions, ElementEntry}
+use Rattle.wasmprinter_spec.specs.Placed.{ElementMode, Passive, Declared, Active, Items, Functions, Expressions, ElementEntry}
 use Rattle.wasmprinter_spec.specs.Piece.{Piece, Break, Gap, Word}
 use Rattle.wasmprinter_spec.specs.Layout.Groups.{line_group_gap, group_gap}
 use Rattle.wasmprinter_spec.specs.Layout.ValTypes.{ref_pieces}
@@ -15,7 +15,7 @@ abbrev pub named_table : Scope → Bool → ℕ → List Piece
 named_table s true t = Gap ∷ line_group_gap (codes "table") (item_index s row.Table t)
 named_table s false t = []
 
-unfoldable pub mode_pieces : Scope → Bool → Mode (Placed Operator) → List Piece
+unfoldable pub mode_pieces : Scope → Bool → ElementMode (Placed Operator) → List Piece
 mode_pieces s names Passive = []
 mode_pieces s names Declared = Gap ∷ (Word (codes "declare") ∷ [])
 mode_pieces s names (Active t offset) = named_table s names t ++ (Gap ∷ constant_group s 2 (codes "offset") offset)
@@ -36,7 +36,10 @@ abbrev pub shown_items : Bool → Scope → Items (Placed Operator) → List Pie
 shown_items true s items = Word (codes "...") ∷ []
 shown_items false s items = items_pieces s items
 
+-- what stands in the group of an element segment
+abbrev pub element_parts : Bool → Scope → ℕ → ElementEntry → List Piece
+element_parts skeleton s i e =
+    item_declaration s row.Elem i ++ (mode_pieces s e.names_table e.element.mode ++ (Gap ∷ shown_items skeleton s e.element.items))
+
 unfoldable pub element_pieces : Bool → Scope → ℕ → Placed ElementEntry → List Piece
-element_pieces skeleton s i e =
-    Break (Some e.place) 1
-    ∷ group_gap 1 (codes "elem") (item_declaration s row.Elem i ++ (mode_pieces s e.value.names_table e.value.element.mode ++ (Gap ∷ shown_items skeleton s e.value.element.items)))
+element_pieces skeleton s i e = Break (Some e.place) 1 ∷ group_gap 1 (codes "elem") (element_parts skeleton s i e.value)

@@ -19,7 +19,9 @@ unfoldable pub extern_index_pieces : Scope → ExternKind → ℕ → List Piece
 extern_index_pieces s TagKind n = Word (decimal n) ∷ []
 extern_index_pieces s kind n = item_index s (space_of kind) n
 
+-- the name of an export, and what it gives out
+abbrev pub export_parts : Scope → Export → List Piece
+export_parts s e = Quoted (chars e.name) ∷ (Gap ∷ line_group_gap (kind_word e.kind) (extern_index_pieces s e.kind e.index))
+
 unfoldable pub export_pieces : Scope → Placed Export → List Piece
-export_pieces s e =
-    Break (Some e.place) 1
-    ∷ line_group_gap (codes "export") (Quoted (chars e.value.name) ∷ (Gap ∷ line_group_gap (kind_word e.value.kind) (extern_index_pieces s e.value.kind e.value.index)))
+export_pieces s e = Break (Some e.place) 1 ∷ line_group_gap (codes "export") (export_parts s e.value)

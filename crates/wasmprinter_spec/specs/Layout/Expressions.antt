@@ -13,7 +13,8 @@ use Rattle.wasmprinter_spec.specs.Layout.Folded.{folded_list}
 
 -- an expression in a field, nested so deep
 abbrev pub in_line : Scope → ℕ → Setting
-in_line s nesting = record { form = InLine; signature = signature_at s.types; nesting = nesting; names = s.names; function = s.function; body = 0 }
+in_line s nesting =
+    record { form = InLine; signature = signature_at s.types; nesting = nesting; names = s.names; function = s.function; body = 0 }
 
 -- flat, or folded: there is no function around
 unfoldable pub constant_by : Option Folding → Setting → List (Placed Operator) → List Piece

@@ -17,7 +17,7 @@ use Rattle.wasmprinter_spec.specs.Options.{Options, defaults}
 use Rattle.wasmprinter_spec.specs.Piece.{Piece, Break, Word, OpenPlain, Shut, HintNote, text, all_calls}
 use Rattle.wasmprinter_spec.specs.Layout.Declarations.{Folding}
 use Rattle.wasmprinter_spec.specs.Layout.Operators.{Form, Setting, pieces_by, before_word}
-use Rattle.wasmprinter_spec.specs.Folding.Arities.{Signatures, Counts, counts_of, label_of_block}
+use Rattle.wasmprinter_spec.specs.Folding.Arities.{Signatures, OperandCounts, counts_of, label_of_block}
 use Rattle.wasmprinter_spec.specs.Folding.Code.{Item, nested_code_of, AreWithoutTry}
 use Rattle.wasmprinter_spec.specs.Folding.Tree.{Head, Of, ThenCase, ElseCase, Nodes, Nil, Snoc, is_nil, tree}
 
@@ -27,24 +27,28 @@ use Rattle.wasmprinter_spec.specs.Folding.Tree.{Head, Of, ThenCase, ElseCase, No
 abbrev pub item : Setting → Signatures → Option (Placed Hint) → labels.Label → List labels.Label → List (Option ℕ) → Placed Operator → Item
 item s signatures hint own xs ls o =
     let role : Role = role_of o.value.opcode in
-    let counts : Counts = counts_of signatures ls o.value in
+    let counts : OperandCounts = counts_of signatures ls o.value in
     record {
       operator = o;
-      pieces = Word (word_of o.value.opcode) ∷ pieces_by s (labels_inside role xs) (labels_outside role xs) own (shape_of o.value.opcode) o.value.immediates;
+      pieces =
+          Word (word_of o.value.opcode)
+          ∷ pieces_by s (labels_inside role xs) (labels_outside role xs) own (shape_of o.value.opcode) o.value.immediates;
       hint = hint;
       takes = counts.takes;
       gives = counts.gives;
     }
 
 -- n blocks were opened before, these labels are open, which take so many values, and these hints wait for their operators
-unfoldable pub items : Setting → Signatures → List (Placed Hint) → ℕ → List labels.Label → List (Option ℕ) → List (Placed Operator) → List Item
+unfoldable pub items : Setting → Signatures → List (Placed Hint) → ℕ → List labels.Label → List (Option ℕ) → List (Placed Operator) →
+    List Item
 items s signatures hs n xs ls [] = []
 items s signatures hs n xs ls (o ∷ os) =
     let role : Role = role_of o.value.opcode in
     let own : labels.Label = s.names.labels s.function n (length xs) in
     let offset : ℕ = o.place - s.body in
     item s signatures (next_hint offset hs) own xs ls o
-    ∷ items s signatures (hint_behind offset hs) (count_after role n) (labels_after role own xs) (labels_after role (label_of_block signatures o.value) ls) os
+    ∷ items s signatures (hint_behind offset hs) (count_after role n) (labels_after role own xs)
+    (labels_after role (label_of_block signatures o.value) ls) os
 
 -- ---- nodes
 

@@ -13,7 +13,7 @@ use Rattle.wasmprinter_spec.specs.Options.{Options}
 use Rattle.wasmprinter_spec.specs.Piece.{Piece, Break, Gap, Word}
 use Rattle.wasmprinter_spec.specs.Layout.Groups.{line_group_gap, group_gap_at}
 use Rattle.wasmprinter_spec.specs.Layout.Variables.{Variables, variable_groups, variables_pieces, groups_pieces}
-use Rattle.wasmprinter_spec.specs.Layout.Declarations.{Scope, Folding, item_declaration, type_use}
+use Rattle.wasmprinter_spec.specs.Layout.Declarations.{Scope, scope_of_function, Folding, item_declaration, type_use}
 use Rattle.wasmprinter_spec.specs.Layout.Operators.{OverLines, Setting, operators_pieces}
 use Rattle.wasmprinter_spec.specs.Layout.Folded.{folded_list}
 
@@ -37,7 +37,8 @@ header_pieces s space f i type_index = item_declaration s space i ++ (Gap ∷ ty
 
 -- the setting of a body that begins at this place
 abbrev pub over_lines : Scope → ℕ → Setting
-over_lines s place = record { form = OverLines; signature = signature_at s.types; nesting = 2; names = s.names; function = s.function; body = place }
+over_lines s place =
+    record { form = OverLines; signature = signature_at s.types; nesting = 2; names = s.names; function = s.function; body = place }
 
 -- how many results a function of the type has, if it is a function type
 abbrev pub result_count : Scope → ℕ → Option ℕ
@@ -55,18 +56,20 @@ body_pieces s type_index hs b = body_by s.folding (result_count s type_index) (o
 -- what a function holds behind its type
 unfoldable pub inner_pieces : Scope → List (Placed Hint) → PlacedFunction → List Piece
 inner_pieces s hs f =
-    local_pieces s.names s.function (parameter_count (signature_at s.types f.type_index)) f.body.value.locals ++ body_pieces s f.type_index hs f.body
+    local_pieces s.names s.function (parameter_count (signature_at s.types f.type_index)) f.body.value.locals
+    ++ body_pieces s f.type_index hs f.body
 
 -- a function, whole or without its locals and operators
 unfoldable pub function_group : Bool → Bool → Scope → List (Placed Hint) → PlacedFunction → List Piece
 function_group true offsets s hs f =
     line_group_gap (codes "func") (header_pieces s Func (Some s.function) s.function f.type_index ++ (Gap ∷ (Word (codes "...") ∷ [])))
 function_group false offsets s hs f =
-    group_gap_at offsets f.body.value.end 1 (codes "func") (header_pieces s Func (Some s.function) s.function f.type_index ++ inner_pieces s hs f)
+    group_gap_at offsets f.body.value.end 1 (codes "func")
+    (header_pieces s Func (Some s.function) s.function f.type_index ++ inner_pieces s hs f)
 
 -- function i, with these hints
 unfoldable pub function_pieces : Options → Scope → ℕ → List (Placed Hint) → PlacedFunction → List Piece
-function_pieces o s i hs f = Break (Some f.body.place) 1 ∷ function_group o.skeleton o.offsets (record s { function = i }) hs f
+function_pieces o s i hs f = Break (Some f.body.place) 1 ∷ function_group o.skeleton o.offsets (scope_of_function s i) hs f
 
 -- functions from i on, each with its hints: those of the next entry, where it is that function's
 unfoldable pub functions_pieces : Options → Scope → List FunctionHints → ℕ → List PlacedFunction → List Piece

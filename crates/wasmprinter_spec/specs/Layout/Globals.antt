@@ -19,8 +19,13 @@ mutable_pieces names false t = val_pieces names t
 unfoldable pub global_type_pieces : Names → GlobalType → List Piece
 global_type_pieces names t = mutable_pieces names t.mutable t.type
 
+-- a declaration and a global's type
+abbrev pub declared_global : Scope → ℕ → GlobalType → List Piece
+declared_global s i g = item_declaration s row.Global i ++ (Gap ∷ global_type_pieces s.names g)
+
+-- what stands in the group of a global
+abbrev pub global_parts : Scope → ℕ → Global (Placed Operator) → List Piece
+global_parts s i g = item_declaration s row.Global i ++ (Gap ∷ (global_type_pieces s.names g.type ++ (Gap ∷ constant_pieces s 2 g.init)))
+
 unfoldable pub global_pieces : Scope → ℕ → Placed (Global (Placed Operator)) → List Piece
-global_pieces s i g =
-    Break (Some g.place) 1
-    ∷ group_gap 1 (codes "global")
-    (item_declaration s row.Global i ++ (Gap ∷ (global_type_pieces s.names g.value.type ++ (Gap ∷ constant_pieces s 2 g.value.init))))
+global_pieces s i g = Break (Some g.place) 1 ∷ group_gap 1 (codes "global") (global_parts s i g.value)

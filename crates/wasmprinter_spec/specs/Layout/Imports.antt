@@ -2,15 +2,15 @@
 use Rattle.std.specs.Prelude.{ℕ, ◌+◌, List, [], ◌∷◌, ◌++◌, codes, chars, Some, None}
 use Rattle.wasmprinter_spec.specs.Grammar.{Placed}
 use Rattle.wasmprinter_spec.specs.Types.{ExternType, FuncExtern, TableExtern, MemoryExtern, GlobalExtern, TagExtern}
-use Rattle.wasmprinter_spec.specs.Row.{Func, Table, Memory, Global, Tag}
+use Rattle.wasmprinter_spec.specs.Row.{Func, Tag}
 use Rattle.wasmprinter_spec.specs.Placed.{Import}
 use Rattle.wasmprinter_spec.specs.Piece.{Piece, Break, Gap, Quoted}
 use Rattle.wasmprinter_spec.specs.Layout.Groups.{line_group_gap}
-use Rattle.wasmprinter_spec.specs.Layout.Declarations.{Scope, item_declaration}
+use Rattle.wasmprinter_spec.specs.Layout.Declarations.{Scope}
 use Rattle.wasmprinter_spec.specs.Layout.Functions.{header_pieces}
-use Rattle.wasmprinter_spec.specs.Layout.Tables.{table_type_pieces}
-use Rattle.wasmprinter_spec.specs.Layout.Memories.{memory_type_pieces}
-use Rattle.wasmprinter_spec.specs.Layout.Globals.{global_type_pieces}
+use Rattle.wasmprinter_spec.specs.Layout.Tables.{declared_table}
+use Rattle.wasmprinter_spec.specs.Layout.Memories.{declared_memory}
+use Rattle.wasmprinter_spec.specs.Layout.Globals.{declared_global}
 
 -- how many of each kind stand in front
 pub record Numbers : Type 0 where
@@ -37,18 +37,27 @@ numbers_behind (MemoryExtern t) n = record n { memories = n.memories + 1 }
 numbers_behind (GlobalExtern t) n = record n { globals = n.globals + 1 }
 numbers_behind (TagExtern i) n = record n { tags = n.tags + 1 }
 
--- Parameters of functions have identifiers, those of tags have none.
+-- What is imported, with its number. Parameters of functions have identifiers, those of tags have none.
+abbrev pub extern_parts : Scope → ℕ → ExternType → List Piece
+extern_parts s n (FuncExtern i) = header_pieces s Func (Some n) n i
+extern_parts s n (TableExtern t) = declared_table s n t
+extern_parts s n (MemoryExtern t) = declared_memory s n t
+extern_parts s n (GlobalExtern t) = declared_global s n t
+extern_parts s n (TagExtern i) = header_pieces s Tag None n i
+
 unfoldable pub extern_pieces : Scope → ℕ → ExternType → List Piece
-extern_pieces s n (FuncExtern i) = line_group_gap (codes "func") (header_pieces s Func (Some n) n i)
-extern_pieces s n (TableExtern t) = line_group_gap (codes "table") (item_declaration s Table n ++ (Gap ∷ table_type_pieces s.names t))
-extern_pieces s n (MemoryExtern t) = line_group_gap (codes "memory") (item_declaration s Memory n ++ (Gap ∷ memory_type_pieces t))
-extern_pieces s n (GlobalExtern t) = line_group_gap (codes "global") (item_declaration s Global n ++ (Gap ∷ global_type_pieces s.names t))
-extern_pieces s n (TagExtern i) = line_group_gap (codes "tag") (header_pieces s Tag None n i)
+extern_pieces s n (FuncExtern i) = line_group_gap (codes "func") (extern_parts s n (FuncExtern i))
+extern_pieces s n (TableExtern t) = line_group_gap (codes "table") (extern_parts s n (TableExtern t))
+extern_pieces s n (MemoryExtern t) = line_group_gap (codes "memory") (extern_parts s n (MemoryExtern t))
+extern_pieces s n (GlobalExtern t) = line_group_gap (codes "global") (extern_parts s n (GlobalExtern t))
+extern_pieces s n (TagExtern i) = line_group_gap (codes "tag") (extern_parts s n (TagExtern i))
+
+-- two names, and what is imported
+abbrev pub import_parts : Scope → ℕ → Import → List Piece
+import_parts s n i = Quoted (chars i.source) ∷ (Gap ∷ (Quoted (chars i.name) ∷ (Gap ∷ extern_pieces s n i.type)))
 
 unfoldable pub import_pieces : Scope → ℕ → Placed Import → List Piece
-import_pieces s n i =
-    Break (Some i.place) 1
-    ∷ line_group_gap (codes "import") (Quoted (chars i.value.source) ∷ (Gap ∷ (Quoted (chars i.value.name) ∷ (Gap ∷ extern_pieces s n i.value.type))))
+import_pieces s n i = Break (Some i.place) 1 ∷ line_group_gap (codes "import") (import_parts s n i.value)
 
 unfoldable pub imports_pieces : Scope → Numbers → List (Placed Import) → List Piece
 imports_pieces s n [] = []

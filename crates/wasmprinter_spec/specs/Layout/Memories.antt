@@ -13,13 +13,20 @@ abbrev pub shared_pieces : Bool → List Piece
 shared_pieces true = GapTypeWord (codes "shared") ∷ []
 shared_pieces false = []
 
--- the size of a page in bytes, in hexadecimal
+-- the size of a page in bytes, in hexadecimal, by its exponent
+abbrev pub page_parts : ℕ → List Piece
+page_parts e = Word (codes "0x" ++ digits 16 false (2 ^ e)) ∷ []
+
 abbrev pub page_pieces : Option ℕ → List Piece
 page_pieces None = []
-page_pieces (Some e) = Gap ∷ line_group_gap (codes "pagesize") (Word (codes "0x" ++ digits 16 false (2 ^ e)) ∷ [])
+page_pieces (Some e) = Gap ∷ line_group_gap (codes "pagesize") (page_parts e)
 
 unfoldable pub memory_type_pieces : MemoryType → List Piece
 memory_type_pieces m = wide_pieces m.wide ++ (limits_pieces m.limits ++ (shared_pieces m.shared ++ page_pieces m.page))
 
+-- a declaration and a memory's type
+abbrev pub declared_memory : Scope → ℕ → MemoryType → List Piece
+declared_memory s i m = item_declaration s Memory i ++ (Gap ∷ memory_type_pieces m)
+
 unfoldable pub memory_pieces : Scope → ℕ → Placed MemoryType → List Piece
-memory_pieces s i m = Break (Some m.place) 1 ∷ line_group_gap (codes "memory") (item_declaration s Memory i ++ (Gap ∷ memory_type_pieces m.value))
+memory_pieces s i m = Break (Some m.place) 1 ∷ line_group_gap (codes "memory") (declared_memory s i m.value)

@@ -165,14 +165,17 @@ immediate_pieces s inner xs own (DefaultIndexShape space) (Index n) = default_in
 immediate_pieces s inner xs own (PairShape first second) (Indices m n) = two_index_pieces s first second m n
 immediate_pieces s inner xs own FieldShape (Indices t n) = type_and_field_pieces s t n
 immediate_pieces s inner xs own CountShape (Indices t n) = Gap ∷ (named_index s row.Types t ++ lane_pieces n)
-immediate_pieces s inner xs own CallShape (Indices t n) = default_index_pieces s row.Table n ++ (Gap ∷ line_group_gap (codes "type") (type_index_pieces s.names t))
-immediate_pieces s inner xs own (SegmentShape segments space) (Indices m n) = default_index_pieces s space n ++ (Gap ∷ named_index s segments m)
+immediate_pieces s inner xs own CallShape (Indices t n) =
+    default_index_pieces s row.Table n ++ (Gap ∷ line_group_gap (codes "type") (type_index_pieces s.names t))
+immediate_pieces s inner xs own (SegmentShape segments space) (Indices m n) =
+    default_index_pieces s space n ++ (Gap ∷ named_index s segments m)
 immediate_pieces s inner xs own (CopyShape space) (Indices m n) = cond ((m == 0) && (n == 0)) [] (two_index_pieces s space space m n)
 immediate_pieces s inner xs own BranchTableShape (BranchTable ls l) = labels_pieces inner xs ls l
 immediate_pieces s inner xs own SelectShape (Types ts) = select_pieces s.names ts
 immediate_pieces s inner xs own HeapShape (Heap h) = Gap ∷ heap_pieces s.names h
 immediate_pieces s inner xs own (RefShape null) (Heap h) = Gap ∷ ref_pieces s.names (ref_type null h)
-immediate_pieces s inner xs own CastShape (Cast l r t) = label_pieces inner xs l ++ (Gap ∷ (ref_pieces s.names r ++ (Gap ∷ ref_pieces s.names t)))
+immediate_pieces s inner xs own CastShape (Cast l r t) =
+    label_pieces inner xs l ++ (Gap ∷ (ref_pieces s.names r ++ (Gap ∷ ref_pieces s.names t)))
 immediate_pieces s inner xs own (MemoryShape natural) (Memory m) = mem_arg_pieces s natural m
 immediate_pieces s inner xs own (MemoryLaneShape natural) (MemoryLane m k) = mem_arg_pieces s natural m ++ lane_pieces k
 immediate_pieces s inner xs own LaneShape (Lane k) = lane_pieces k
@@ -224,7 +227,8 @@ operators_pieces s hs first n xs (o ∷ os) =
     let own : labels.Label = s.names.labels s.function n (length xs) in
     let offset : ℕ = o.place - s.body in
     hint_pieces (s.nesting + length xs) (next_hint offset hs)
-    ++ (operator_pieces s first own xs o ++ operators_pieces s (hint_behind offset hs) false (count_after role n) (labels_after role own xs) os)
+    ++ (operator_pieces s first own xs o
+    ++ operators_pieces s (hint_behind offset hs) false (count_after role n) (labels_after role own xs) os)
 
 -- a list of operators, with no label open and without hints
 unfoldable pub expression_pieces : Setting → List (Placed Operator) → List Piece

@@ -20,7 +20,13 @@ unfoldable pub init_pieces : Scope → Option (List (Placed Operator)) → List 
 init_pieces s None = []
 init_pieces s (Some os) = Gap ∷ constant_pieces s 2 os
 
+-- a declaration and a table's type
+abbrev pub declared_table : Scope → ℕ → TableType → List Piece
+declared_table s i t = item_declaration s row.Table i ++ (Gap ∷ table_type_pieces s.names t)
+
+-- what stands in the group of a table
+abbrev pub table_parts : Scope → ℕ → Table (Placed Operator) → List Piece
+table_parts s i t = item_declaration s row.Table i ++ (Gap ∷ (table_type_pieces s.names t.type ++ init_pieces s t.init))
+
 unfoldable pub table_pieces : Scope → ℕ → Placed (Table (Placed Operator)) → List Piece
-table_pieces s i t =
-    Break (Some t.place) 1
-    ∷ group_gap 1 (codes "table") (item_declaration s row.Table i ++ (Gap ∷ (table_type_pieces s.names t.value.type ++ init_pieces s t.value.init)))
+table_pieces s i t = Break (Some t.place) 1 ∷ group_gap 1 (codes "table") (table_parts s i t.value)

@@ -25,7 +25,8 @@ module _ (names : Names) where
 
   -- the signature of a function, or of no function
   unfoldable pub signature_pieces : Option ℕ → FuncType → List Piece
-  signature_pieces f t = groups_pieces names (codes "param") (variable_groups (parameters_of names f) 0 t.params) ++ list_group (codes "result") t.results
+  signature_pieces f t =
+      groups_pieces names (codes "param") (variable_groups (parameters_of names f) 0 t.params) ++ list_group (codes "result") t.results
 
   -- the signature of a type, nothing where it is no function type
   abbrev pub signature_if_any : Option ℕ → Option FuncType → List Piece
@@ -58,7 +59,8 @@ module _ (names : Names) where
   unfoldable pub composite_pieces : ℕ → CompositeType → List Piece
   composite_pieces i (FuncComposite t) = line_group (codes "func") (signature_pieces None t)
   composite_pieces i (ArrayComposite f) = line_group (codes "array") (field_pieces None f)
-  composite_pieces i (StructComposite fs) = line_group (codes "struct") (numbered_pieces (λ k f. struct_field_pieces (names.fields i k) f) 0 fs)
+  composite_pieces i (StructComposite fs) =
+      line_group (codes "struct") (numbered_pieces (λ k f. struct_field_pieces (names.fields i k) f) 0 fs)
 
   -- ---- subtypes
 

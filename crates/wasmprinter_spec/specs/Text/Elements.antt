@@ -4,7 +4,7 @@ use Rattle.std.specs.Prelude.{ℕ, List, [], ◌∷◌, codes, bytes_eq, Option,
 use Rattle.wasmprinter_spec.specs.Grammar.{◌>>=◌}
 use Rattle.wasmprinter_spec.specs.Forest.{Forest, End, Word, Name, Group}
 use Rattle.wasmprinter_spec.specs.Operator.{Operator}
-use Rattle.wasmprinter_spec.specs.Placed.{Mode, Passive, Declared, Active, Items, Functions, Expressions, Element, element_of}
+use Rattle.wasmprinter_spec.specs.Placed.{ElementMode, Passive, Declared, Active, Items, Functions, Expressions, Element, element_of}
 use Rattle.wasmprinter_spec.specs.IndexSpaces.{index, Context}
 use Rattle.wasmprinter_spec.specs.Text.Items.{identifier_in_front, leading_item}
 use Rattle.wasmprinter_spec.specs.Text.Types.{ref_named, ref_group}
@@ -33,7 +33,7 @@ module _ (c : Context) where
   items (Word w f) = if bytes_eq w (codes "func") then option_map Functions (function_indices f) else typed_items (Word w f)
   items f = typed_items f
 
-  abbrev pub with_mode : Mode Operator → Forest → Option (Element Operator)
+  abbrev pub with_mode : ElementMode Operator → Forest → Option (Element Operator)
   with_mode mode f = option_map (element_of mode) (items f)
 
   -- ---- segments

@@ -24,7 +24,8 @@ abbrev pub field_of : List ℕ → List ℕ → Forest → ExternKind → Import
 field_of m n f kind = record { kind = kind; source = m; name = n; item = f }
 
 abbrev pub import_field : Forest → Option ImportField
-import_field (String m (String n (Group (Word w f) End))) = if is_utf8 m && is_utf8 n then option_map (field_of m n f) (kind_of_word w) else None
+import_field (String m (String n (Group (Word w f) End))) =
+    if is_utf8 m && is_utf8 n then option_map (field_of m n f) (kind_of_word w) else None
 import_field _ = None
 
 -- what is imported, without its identifier

@@ -7,7 +7,8 @@ use Rattle.wasmprinter_spec.specs.Types.{Limits, limits_of}
 
 -- the type of addresses, 32 bits where none stands, and what stands behind it
 abbrev pub address_type : Forest → Bool × Forest
-address_type (Word w f) = if bytes_eq w (codes "i64") then (true, f) else (if bytes_eq w (codes "i32") then (false, f) else (false, Word w f))
+address_type (Word w f) =
+    if bytes_eq w (codes "i64") then (true, f) else (if bytes_eq w (codes "i32") then (false, f) else (false, Word w f))
 address_type f = (false, f)
 
 abbrev pub with_max : ℕ → Option ℕ → Forest → Forest → Limits × Forest

@@ -148,7 +148,8 @@ two_indices_or_zeros c space f = two_indices c space space f
 -- a segment; before it may stand an index of the table or memory
 abbrev pub with_segment : Context → Space → Space → Forest → Option Immediates
 with_segment c segments space f =
-    or_else (option_map (λ m. Indices m 0) (index_in (space_in c.spaces segments) f)) (option_map reversed_indices (two_indices c space segments f))
+    or_else (option_map (λ m. Indices m 0) (index_in (space_in c.spaces segments) f))
+    (option_map reversed_indices (two_indices c space segments f))
 
 -- a type use, and nothing behind it
 abbrev pub call_immediates : ℕ → BlockType × Forest → Option Immediates
@@ -313,7 +314,8 @@ open_behind _ i is = is
 -- the first of these rows that reads the arguments, and what it reads
 abbrev pub first_reading : Context → Identifiers → List Row → Forest → Option (Row × Immediates)
 first_reading c ids [] f = None
-first_reading c ids (r ∷ rs) f = or_else (option_map (λ i. (r, i)) (immediates c (labels_in_sight r.role ids) r.shape f)) (first_reading c ids rs f)
+first_reading c ids (r ∷ rs) f =
+    or_else (option_map (λ i. (r, i)) (immediates c (labels_in_sight r.role ids) r.shape f)) (first_reading c ids rs f)
 
 abbrev pub operator_of : Row × Immediates → Operator
 operator_of x = record { opcode = opcode x.0.prefix x.0.number; immediates = x.1 }
@@ -324,7 +326,8 @@ operator_of x = record { opcode = opcode x.0.prefix x.0.number; immediates = x.1
 abbrev pub operators : Context → Identifiers → List Chunk → Option (List Operator)
 operators c ids [] = Some []
 operators c ids (k ∷ ks) =
-    first_reading c ids k.rows k.arguments >>= λ x. operators c (open_behind x.0.role (id_of k.arguments) ids) ks >>= λ os. Some (operator_of x ∷ os)
+    first_reading c ids k.rows k.arguments >>= λ x. operators c (open_behind x.0.role (id_of k.arguments) ids) ks
+    >>= λ os. Some (operator_of x ∷ os)
 
 -- they stand well nested: with an `end` behind them all blocks are closed
 abbrev pub are_nested : List Operator → Bool

@@ -15,5 +15,6 @@ module _ (c : Context) where
   -- the index of a type, and perhaps its signature
   abbrev pub type_index : Forest → Option ℕ
   type_index (Group (Word w t) f) =
-      if bytes_eq w (codes "type") then index c.spaces.types t >>= (λ i. signature c.spaces.types f >>= value_at_end >>= index_with i) else None
+      if bytes_eq w (codes "type")
+      then index c.spaces.types t >>= (λ i. signature c.spaces.types f >>= value_at_end >>= index_with i) else None
   type_index _ = None

@@ -80,7 +80,9 @@ module _ (ids : Identifiers) where
 
   -- a storage type in parentheses, or one that can be changed
   abbrev pub field_group : Forest → Option FieldType
-  field_group (Word w f) = if bytes_eq w (codes "mut") then option_map (field_type true) (storage_type f) else option_map (field_type false) (storage_group (Word w f))
+  field_group (Word w f) =
+      if bytes_eq w (codes "mut")
+      then option_map (field_type true) (storage_type f) else option_map (field_type false) (storage_group (Word w f))
   field_group _ = None
 
   abbrev pub field : Forest → Option FieldType
@@ -148,7 +150,8 @@ module _ (ids : Identifiers) where
 
   -- a composite type by itself is final and has no supertype
   abbrev pub subtype : Forest → Option (Declared SubType)
-  subtype (Word w f) = if bytes_eq w (codes "sub") then sub_parts f else option_map (λ c. with_fields c.fields (final_type c.type)) (composite (Word w f))
+  subtype (Word w f) =
+      if bytes_eq w (codes "sub") then sub_parts f else option_map (λ c. with_fields c.fields (final_type c.type)) (composite (Word w f))
   subtype _ = None
 
   abbrev pub one_group : Forest → Option (Declared SubType)

@@ -9,7 +9,7 @@ use Rattle.wasmprinter_entries.proofs.exports.read_exports.Goals as goal
 
 pub returns-in_err-exports : goal.returns-in_err-exports
 returns-in_err-exports c =
-    let p = err_from_is_err_and c.from_residual.result c.from_residual.ensures.1 in
-    rw (p.1, p.2)
+    let (fault, failed, is) = err_from_is_err_and c.from_residual.result c.from_residual.ensures.1 in
+    rw (failed, is)
     (list_fault (value_with_place export) (holds ExportSection) (HoldsItems ExportSection) (ExportSection ≡ FunctionSection) tt (λ xs. refl)
     c.args.cursor.now c.in_err-exports.field-0.0 c.in_err-exports.ensures.reads)

@@ -4,5 +4,5 @@ use Rattle.wasmprinter_entries.proofs.functions.read_functions.Goals as goal
 
 pub returns-in_err-indices : goal.returns-in_err-indices
 returns-in_err-indices c =
-    let p = err_from_is_err_and c.from_residual.result c.from_residual.ensures.1 in
-    rw (p.1, p.2) (functions_fault c.args.cursor.now c.in_err-indices.field-0.0 c.in_err-indices.ensures.reads)
+    let (fault, failed, is) = err_from_is_err_and c.from_residual.result c.from_residual.ensures.1 in
+    rw (failed, is) (functions_fault c.args.cursor.now c.in_err-indices.field-0.0 c.in_err-indices.ensures.reads)

@@ -26,11 +26,11 @@ loop-index-preserved c =
 
 pub returns-in_err-push-clause-reads : goal.returns-in_err-push-clause-reads
 returns-in_err-push-clause-reads c =
-    let p = err_from_is_err_and c.from_residual-in_err-push.result c.from_residual-in_err-push.ensures.1 in
+    let (fault, failed, is) = err_from_is_err_and c.from_residual-in_err-push.result c.from_residual-in_err-push.ensures.1 in
     let same : c.into_iter-index-iterator.result ≡ c.in_ok-indices.indices = c.into_iter-index-iterator.ensures.into_iter_gives ∙ c.iter-index-items.ensures in
     let some : 0 < length c.in_ok-indices.indices =
     omega (arith, ap length c.in-Some.ensures.steps, ap length c.loop-index.invariant.all, ap length same, length-append c.loop-index.kept.items c.loop-index.index-iterator) in
-    rw (p.1, p.2) (counts_items u32 c.args.cursor.now (c.in_ok-indices.indices, c.read.new.cursor) c.in_ok-indices.ensures.reads some)
+    rw (failed, is) (counts_items u32 c.args.cursor.now (c.in_ok-indices.indices, c.read.new.cursor) c.in_ok-indices.ensures.reads some)
 
 pub returns-clause-reads : goal.returns-clause-reads
 returns-clause-reads c =

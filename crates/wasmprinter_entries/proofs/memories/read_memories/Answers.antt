@@ -9,7 +9,7 @@ use Rattle.wasmprinter_entries.proofs.memories.read_memories.Goals as goal
 
 pub returns-in_err-memories : goal.returns-in_err-memories
 returns-in_err-memories c =
-    let p = err_from_is_err_and c.from_residual.result c.from_residual.ensures.1 in
-    rw (p.1, p.2)
+    let (fault, failed, is) = err_from_is_err_and c.from_residual.result c.from_residual.ensures.1 in
+    rw (failed, is)
     (list_fault (value_with_place memory_type) (holds MemorySection) (HoldsItems MemorySection) (MemorySection ≡ FunctionSection) tt (λ xs. refl)
     c.args.cursor.now c.in_err-memories.field-0.0 c.in_err-memories.ensures.reads)

@@ -9,7 +9,7 @@ use Rattle.wasmprinter_entries.proofs.tags.read_tags.Goals as goal
 
 pub returns-in_err-tags : goal.returns-in_err-tags
 returns-in_err-tags c =
-    let p = err_from_is_err_and c.from_residual.result c.from_residual.ensures.1 in
-    rw (p.1, p.2)
+    let (fault, failed, is) = err_from_is_err_and c.from_residual.result c.from_residual.ensures.1 in
+    rw (failed, is)
     (list_fault (value_with_place tag) (holds TagSection) (HoldsItems TagSection) (TagSection ≡ FunctionSection) tt (λ xs. refl)
     c.args.cursor.now c.in_err-tags.field-0.0 c.in_err-tags.ensures.reads)

@@ -11,9 +11,9 @@ unfolding items_pieces
 returns-in_ok-write_function_items-in-Functions-clause-lines g c =
     rw c.in-Functions.is (sym (functions-unbroken (scope_view c.args.scope.now) c.in-Functions.functions))
 
-pub returns-in_ok-write_ref_type-in-Expressions-clause-lines : goal.returns-in_ok-write_ref_type-in-Expressions-clause-lines
+pub returns-in_ok-write_ref_type_in-in-Expressions-clause-lines : goal.returns-in_ok-write_ref_type_in-in-Expressions-clause-lines
 unfolding items_pieces
-returns-in_ok-write_ref_type-in-Expressions-clause-lines g c =
+returns-in_ok-write_ref_type_in-in-Expressions-clause-lines g c =
     let s = scope_view c.args.scope.now in
     rw (c.in-Expressions.is, items-break s (ref_view c.in-Expressions.ref_type) (expression_items s (constants_of c.in-Expressions.expressions.items)))
     (rw c.deref.ensures.value at c.write_expression_items.ensures.lines)

@@ -39,9 +39,11 @@ returns-clause-invents g c = c.loop-place.invariant.1.invents
 
 pub loop-place-preserved : goal.loop-place-preserved
 loop-place-preserved g c =
-    let step = none_failed g.P.Print.meaning _ _ _ _ _ _ _ _ _ (rw c.depth-depth.ensures at c.put_next_hint.ensures.prints) c.put_operator.ensures
+    let (hint, operator, none) =
+    none_failed g.P.Print.meaning _ _ _ _ _ _ _ _ _ (rw c.depth-depth.ensures at c.put_next_hint.ensures.prints) c.put_operator.ensures
     c.loop-place.invariant.0 (sym c.is_some.ensures ∙ c.if-is_some.false) in (
-      step.2,
+      none,
       goes_on g.P.Print.meaning c.loop-place.invariant.1 _ _ _ _ _ c.in-Some.ensures.steps
-          (c.role.ensures ∙ ap (λ (o : Operator). role_of o.opcode) c.operator.view_is) c.advance.ensures c.put_next_hint.ensures.behind step.0 step.1,
+          (c.role.ensures ∙ ap (λ (o : Operator). role_of o.opcode) c.operator.view_is) c.advance.ensures c.put_next_hint.ensures.behind
+          hint operator,
     )

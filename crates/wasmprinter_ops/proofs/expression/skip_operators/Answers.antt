@@ -11,12 +11,12 @@ loop-blocks-init c = subst (λ (s : Open). Skipped c.args.cursor.now s c.args.cu
 
 pub loop-blocks-smaller : goal.loop-blocks-smaller
 loop-blocks-smaller c =
-    let read = c.in_ok-role.ensures.reads in
-    takes_byte c.loop-blocks.cursor c.pass_operator.new.cursor read.0 read.1
+    let (operator, parsed, role) = c.in_ok-role.ensures.reads in
+    takes_byte c.loop-blocks.cursor c.pass_operator.new.cursor operator parsed
 
 pub loop-blocks-preserved : goal.loop-blocks-preserved
 loop-blocks-preserved c =
-    let read = c.in_ok-role.ensures.reads in
-    on_more c.args.cursor.now c.loop-blocks.blocks c.loop-blocks.cursor c.pass_operator.new.cursor read.0 (role_view c.in_ok-role.role) c.advance.new.self
-    read.1 c.loop-blocks.invariant read.2
+    let (operator, parsed, role) = c.in_ok-role.ensures.reads in
+    on_more c.args.cursor.now c.loop-blocks.blocks c.loop-blocks.cursor c.pass_operator.new.cursor operator (role_view c.in_ok-role.role)
+    c.advance.new.self parsed c.loop-blocks.invariant role
     (subst (λ (t : Step). Steps (advance c.loop-blocks.blocks (role_view c.in_ok-role.role)) t c.advance.new.self) c.in-On.is c.in_ok-advance.ensures)

@@ -1,13 +1,12 @@
 use Rattle.std.proofs.Common.{false, ◌≡◌, option_map}
 use Rattle.wasmprinter_spec.specs.Options.{in_colours}
-use Rattle.wasmprinter_spec.specs.Layout.{module_parts}
+use Rattle.wasmprinter_spec.specs.Layout.{module_parts, section_order}
 use Rattle.wasmprinter_spec.specs.Layout.Declarations.{scope_of, folding_of}
 use Rattle.wasmprinter_spec.specs.Types.{FuncKind}
 use Rattle.wasmprinter_spec.specs.Folding.Arities.{types_of}
 use Rattle.wasmprinter_entries.specs.Externs.{imported_count}
 use Rattle.wasmprinter_labels.specs.Scan.{names_of}
 use Rattle.wasmprinter_annotations.proofs.Parts.{part_lines_behind}
-use Rattle.wasmprinter_sections.specs.Sections.{kinds}
 use Rattle.wasmprinter_sections.proofs.Breaking.{leading-line}
 use Rattle.wasmprinter_sections.proofs.ModuleParts.{module_walk}
 use Rattle.wasmprinter_sections.proofs.Painting.{sections-paint, folding-of, keeps-folding}
@@ -31,7 +30,7 @@ returns g c paints folds =
     let m = c.args.module.now in
     let sections = rw c.imported_count.ensures.is at c.write_sections.ensures in
     let folding : option_map _ c.args.folder ≡ folding_of by m = folding-of o paints c.args.folder m folds in
-    let same = sections-paint o paints (scope_of (types_of m) names (imported_count FuncKind m.imports) (folding_of by m)) m sections.1 kinds in
+    let same = sections-paint o paints (scope_of (types_of m) names (imported_count FuncKind m.imports) (folding_of by m)) m sections.1 section_order in
     let keeps = keeps-folding c.args.folder in
     let written = rw same at (rw folding at (rw keeps at sections.3)) in
     let walk = module_walk g.P.Print.meaning o by names m c.write_sections.result sections.0 sections.1 sections.2 written in (

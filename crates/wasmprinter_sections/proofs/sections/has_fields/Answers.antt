@@ -1,8 +1,9 @@
 -- Whether the fields of a kind begin lines: each does.
-use Rattle.std.proofs.Common.{refl, ◌+◌, length}
+use Rattle.std.proofs.Common.{refl}
 use Rattle.wasmprinter_spec.specs.Types.{TableKind, MemoryKind, GlobalKind, TagKind, FuncKind}
 use Rattle.wasmprinter_spec.specs.Customs.Hints.{hints_of}
-use Rattle.wasmprinter_spec.specs.Layout.{tag_pieces}
+use Rattle.wasmprinter_spec.specs.Layout.{scope_behind}
+use Rattle.wasmprinter_spec.specs.Layout.Tags.{tag_pieces}
 use Rattle.wasmprinter_spec.specs.Layout.Imports.{no_numbers}
 use Rattle.wasmprinter_spec.specs.Layout.Tables.{table_pieces}
 use Rattle.wasmprinter_spec.specs.Layout.Memories.{memory_pieces}
@@ -11,7 +12,6 @@ use Rattle.wasmprinter_spec.specs.Layout.Exports.{export_pieces}
 use Rattle.wasmprinter_spec.specs.Layout.Elements.{element_pieces}
 use Rattle.wasmprinter_spec.specs.Layout.DataSegments.{data_pieces}
 use Rattle.wasmprinter_entries.specs.Externs.{imported_count}
-use Rattle.wasmprinter_scope.specs.Scopes.{scope_of_function}
 use Rattle.wasmprinter_fields.proofs.Numbering.{numbered_pieces-break}
 use Rattle.wasmprinter_sections.proofs.Walking.{functions-break}
 use Rattle.wasmprinter_sections.proofs.Breaking.{types-break, imports-break, table-break, memory-break, tag-break, global-break, export-break, start-break, element-break, data-break}
@@ -70,5 +70,5 @@ returns-in-Code c o s =
 pub returns-in-Data : goal.returns-in-Data
 returns-in-Data c o s =
     let m = c.args.module.now in
-    let late = scope_of_function s (imported_count FuncKind m.imports + length m.functions) in
+    let late = scope_behind m s in
     rw (c.in-Data.is, numbered_pieces-break (data_pieces o.skeleton late) 0 m.datas (data-break o.skeleton late), c.is_empty-in-Data.ensures, c.datas.ensures) refl

@@ -1,4 +1,4 @@
-use Rattle.wasmprinter_spec.specs.Layout.{tag_pieces}
+use Rattle.wasmprinter_spec.specs.Layout.Tags.{tag_pieces}
 use Rattle.wasmprinter_spec.specs.Layout.Tables.{table_pieces}
 use Rattle.wasmprinter_spec.specs.Layout.Memories.{memory_pieces}
 use Rattle.wasmprinter_spec.specs.Layout.Globals.{global_pieces}

@@ -27,8 +27,8 @@ loop-preserved c = record {
 
 pub returns-in_err-read_entry-clause-reads : goal.returns-in_err-read_entry-clause-reads
 returns-in_err-read_entry-clause-reads c =
-    let p = err_from_is_err_and c.from_residual-in_err-read_entry.result c.from_residual-in_err-read_entry.ensures.1 in
-    rw (p.1, p.2)
+    let (fault, failed, is) = err_from_is_err_and c.from_residual-in_err-read_entry.result c.from_residual-in_err-read_entry.ensures.1 in
+    rw (failed, is)
     (bodies_fault c.args.cursor.now c.u32.new.self c.loop.cursor c.in_ok-count.count c.loop.counter c.loop.bodies.items
     c.in_ok-count.ensures.reads (omega arith) c.loop.invariant.rest c.loop.invariant.later
     (omega (arith, c.loop.invariant.end, c.in_ok-count.ensures.end)) c.in_err-read_entry.field-0.0 c.in_err-read_entry.ensures.reads)

@@ -4,5 +4,5 @@ use Rattle.wasmprinter_segments.proofs.code.read_code.Goals as goal
 
 pub returns-in_err-bodies : goal.returns-in_err-bodies
 returns-in_err-bodies c =
-    let p = err_from_is_err_and c.from_residual.result c.from_residual.ensures.1 in
-    rw (p.1, p.2) (code_fault c.args.cursor.now c.in_err-bodies.field-0.0 c.in_err-bodies.ensures.reads)
+    let (fault, failed, is) = err_from_is_err_and c.from_residual.result c.from_residual.ensures.1 in
+    rw (failed, is) (code_fault c.args.cursor.now c.in_err-bodies.field-0.0 c.in_err-bodies.ensures.reads)

@@ -9,7 +9,7 @@ use Rattle.wasmprinter_segments.proofs.elements.read_elements.Goals as goal
 
 pub returns-in_err-elements : goal.returns-in_err-elements
 returns-in_err-elements c =
-    let p = err_from_is_err_and c.from_residual.result c.from_residual.ensures.1 in
-    rw (p.1, p.2)
+    let (fault, failed, is) = err_from_is_err_and c.from_residual.result c.from_residual.ensures.1 in
+    rw (failed, is)
     (grown_fault (value_with_place element) (holds ElementSection) (HoldsItems ElementSection) (ElementSection ≡ FunctionSection) tt (λ xs. refl)
     c.args.cursor.now c.in_err-elements.field-0.0 c.in_err-elements.ensures.reads)

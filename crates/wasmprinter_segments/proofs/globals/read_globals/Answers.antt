@@ -9,7 +9,7 @@ use Rattle.wasmprinter_segments.proofs.globals.read_globals.Goals as goal
 
 pub returns-in_err-globals : goal.returns-in_err-globals
 returns-in_err-globals c =
-    let p = err_from_is_err_and c.from_residual.result c.from_residual.ensures.1 in
-    rw (p.1, p.2)
+    let (fault, failed, is) = err_from_is_err_and c.from_residual.result c.from_residual.ensures.1 in
+    rw (failed, is)
     (grown_fault (value_with_place global) (holds GlobalSection) (HoldsItems GlobalSection) (GlobalSection ≡ FunctionSection) tt (λ xs. refl)
     c.args.cursor.now c.in_err-globals.field-0.0 c.in_err-globals.ensures.reads)

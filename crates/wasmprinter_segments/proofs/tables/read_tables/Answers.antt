@@ -10,8 +10,8 @@ use Rattle.wasmprinter_segments.proofs.tables.read_tables.Goals as goal
 
 pub returns-in_err-tables : goal.returns-in_err-tables
 returns-in_err-tables c =
-    let p = err_from_is_err_and c.from_residual.result c.from_residual.ensures.1 in
-    rw (p.1, p.2)
+    let (fault, failed, is) = err_from_is_err_and c.from_residual.result c.from_residual.ensures.1 in
+    rw (failed, is)
     (grown_fault (value_with_place table) (holds TableSection) (HoldsItems TableSection) (TableSection ≡ FunctionSection) tt (λ xs. refl)
     c.args.cursor.now c.in_err-tables.field-0.0 c.in_err-tables.ensures.reads)
 

@@ -42,9 +42,9 @@ gathered_of n last ts is js us ms gs vs es f ss k bs ds cs =
 
 pub returns-in_err-gathered : goal.returns-in_err-gathered
 returns-in_err-gathered c =
-    let p = err_from_is_err_and c.from_residual-in_err-gathered.result c.from_residual-in_err-gathered.ensures.1 in
+    let (fault, failed, is) = err_from_is_err_and c.from_residual-in_err-gathered.result c.from_residual-in_err-gathered.ensures.1 in
     let first = ap preamble.parse (sym c.new-cursor.ensures) ∙ c.in_ok-read_preamble.ensures.reads in
-    rw (p.1, p.2)
+    rw (failed, is)
     (module_fault c.args.wasm.now preamble_bytes c.read_preamble.new.cursor first (omega (arith, c.in_ok-read_preamble.ensures.end, ap end_of c.new-cursor.ensures))
     c.in_err-gathered.field-0.0 c.in_err-gathered.ensures)
 

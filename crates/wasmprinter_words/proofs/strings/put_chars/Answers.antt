@@ -1,4 +1,5 @@
-use Rattle.std.proofs.Common.{◌≡◌, ℕ, List, [], ◌∷◌, length, chars, arith, sym, ap, ◌∙◌, flat_map, rules}
+use Rattle.std.proofs.Common.{◌≡◌, ℕ, List, [], length, chars, sym, ap, ◌∙◌, flat_map, rules}
+use Rattle.std.proofs.lemmas.List.{nil_from_length}
 use Rattle.std.proofs.lemmas.Str.{chars_past_char, IsUtf8-past_char, chars-nil}
 use Rattle.wasmprinter_spec.specs.Quoted.{char_text}
 use Rattle.wasmprinter_print.specs.PutsLaws.{but_all}
@@ -6,8 +7,7 @@ use Rattle.wasmprinter_words.proofs.Gathering.{gathers, puts_both, gathered_all,
 use Rattle.wasmprinter_words.proofs.strings.put_chars.Goals as goal
 
 none_left : (bs : List ℕ) → length bs ≡ 0 → flat_map char_text (chars bs) ≡ []
-none_left [] e = ap (flat_map char_text) chars-nil
-none_left (b ∷ bs) e = absurd (omega arith)
+none_left bs e = ap (λ (s : List ℕ). flat_map char_text (chars s)) (nil_from_length bs e) ∙ ap (flat_map char_text) chars-nil
 
 pub loop-c-init : goal.loop-c-init
 loop-c-init g c = (search rules, but_all g.P.Print.meaning _ _ _ _ (search (rules, c.new-gathered.ensures)))
@@ -32,4 +32,6 @@ pub returns-then-is_some : goal.returns-then-is_some
 returns-then-is_some g c = behind_error g.P.Print.meaning _ _ (sym c.is_some.ensures ∙ c.if-is_some.true) c.loop-c.invariant.1
 
 pub returns : goal.returns
-returns g c = gathered_all g.P.Print.meaning _ _ _ (none_left _ c.in-None.ensures.steps.0.0) c.loop-c.invariant.1 c.put_gathered-2.ensures.put
+returns g c =
+    let ((empty, stays), some, first) = c.in-None.ensures.steps in
+    gathered_all g.P.Print.meaning _ _ _ (none_left _ empty) c.loop-c.invariant.1 c.put_gathered-2.ensures.put

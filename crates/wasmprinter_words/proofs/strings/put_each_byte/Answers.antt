@@ -10,11 +10,13 @@ put_ascii-requires g c = c.show_bytes-len.ensures.ascii
 
 pub loop-chunk-preserved : goal.loop-chunk-preserved
 loop-chunk-preserved g c =
-    let steps = c.in-Some.ensures.steps in (
+    let (same_size, (joined, long, some)) = c.in-Some.ensures.steps in
+    let (length_is, can_step, size, puts) = c.loop-chunk.invariant in (
       search rules,
       tt,
-      steps.0 ∙ c.loop-chunk.invariant.2,
+      same_size ∙ size,
       but_more g.P.Print.meaning _ _ _
-          (ap (flat_map byte_text) steps.1.0 ∙ flat_map-append byte_text _ _ ∙ ap (λ t. t ++ flat_map byte_text (chunks_rest c.next.new.self)) (sym c.show_bytes-len.ensures.text))
-          c.loop-chunk.invariant.3 c.put_ascii.ensures,
+          (ap (flat_map byte_text) joined ∙ flat_map-append byte_text _ _
+          ∙ ap (λ t. t ++ flat_map byte_text (chunks_rest c.next.new.self)) (sym c.show_bytes-len.ensures.text))
+          puts c.put_ascii.ensures,
     )

@@ -1,5 +1,5 @@
 use Rattle.std.proofs.Common.{◌≡◌, ◌-◌}
-use Rattle.wasmprinter_spec.specs.Repeated.{skip_at}
+use Rattle.wasmprinter_bytes.specs.Items.{skip_at}
 use Rattle.wasmprinter_bytes.specs.Reads.{end_of}
 use Rattle.wasmprinter_bytes.proofs.lists.Items.read.Given as goal
 

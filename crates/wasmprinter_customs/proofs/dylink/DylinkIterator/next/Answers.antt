@@ -1,11 +1,11 @@
 use Rattle.std.proofs.Common.{◌≡◌, ◌∷◌, ◌<◌, rules, length, List, sym, ap, ◌∙◌, arith}
 use Rattle.wasmprinter_spec.specs.Customs.Dylink.{Subsection, judgement_of}
-use Rattle.wasmprinter_customs.specs.Sound.{subsections_in, IsWhole}
+use Rattle.wasmprinter_customs.specs.Sound.{subsections_in, IsFaultless}
 use Rattle.wasmprinter_customs.proofs.FoundSteps.{known_whole}
 use Rattle.wasmprinter_customs.proofs.dylink.DylinkIterator.next.Goals as goal
 use Rattle.wasmprinter_customs.proofs.dylink.DylinkIterator.next.Goals.{In-Ok-Known}
 
-goes_on : (c : In-Ok-Known) → IsWhole (judgement_of c.read.new.cursor) × (subsections_in (judgement_of c.self.inside.cursor) ≡ c.in-Ok-Known.subsection ∷ subsections_in (judgement_of c.read.new.cursor))
+goes_on : (c : In-Ok-Known) → IsFaultless (judgement_of c.read.new.cursor) × (subsections_in (judgement_of c.self.inside.cursor) ≡ c.in-Ok-Known.subsection ∷ subsections_in (judgement_of c.read.new.cursor))
 goes_on c =
     known_whole c.self.inside.cursor c.read.new.cursor (λ none. let t = c.if-is_empty.ensures.1 none in cc) c.in-Ok-Known.field-0 c.in-Ok-Known.subsection
     c.in-Ok-Known.field-0-is c.in-Ok-Known.ensures.reads c.in-Ok-Known.ensures.known c.self.invariant

@@ -4,5 +4,5 @@ use Rattle.wasmprinter_customs.proofs.items.ItemsIn.len.Goals as goal
 
 pub returns : goal.returns
 returns g c =
-    sym (length-items_of g.T.ReadFrom.parse c.self.inside.left (g.T.Source.Source.input c.self.inside.source) c.self.invariant)
+    sym (length-items_of g.T.ReadFrom.parse c.self.inside.left (g.T.Source.ValueSource.input c.self.inside.source) c.self.invariant)
     ∙ ap length c.self.view_is

@@ -1,7 +1,7 @@
 use Rattle.std.proofs.Common.{rules, ◌≢◌, ◌<◌, refl, sym, ap, ◌∙◌, subst, arith, length, true, false}
 use Rattle.std.proofs.lemmas.List.Sorted.{answers_always}
 use Rattle.std.specs.List.{AllByRecursion}
-use Rattle.wasmprinter_labels.specs.Stack.{Block, StandsAt}
+use Rattle.wasmprinter_labels.specs.Stack.{Block, StandsAtDepth}
 use Rattle.wasmprinter_labels.specs.Blocks.{block_view}
 use Rattle.wasmprinter_labels.proofs.Kept.{found_same, alike_below, is_shown, is_hidden, is_place, is_other_place, none_at}
 use Rattle.wasmprinter_labels.proofs.blocks.NamedBlocks.find.Goals as goal
@@ -18,7 +18,7 @@ returns-then-eq-clause-name c =
     (c.in-Ok.ensures.position (λ b. b.depth) (answers_always _ _ _ (λ f a r g called. search rules))) in
     let is = is_shown c.self.inside.blocks.items c.self.inside.innermost.items _ c.in-Ok.position c.args.depth c.index-block.result.now c.self.invariant lt c.index-block.ensures
     c.index.result.now c.index.ensures same (is_place c.index.result.now c.in-Ok.position (sym c.eq.ensures ∙ c.if-eq.true)) in
-    (block_view c.index-block.result.now, subst (λ bs. StandsAt bs c.args.depth (block_view c.index-block.result.now) false) (ap (λ s. s.blocks) c.self.view_is) is, refl)
+    (block_view c.index-block.result.now, subst (λ bs. StandsAtDepth bs c.args.depth (block_view c.index-block.result.now) false) (ap (λ s. s.blocks) c.self.view_is) is, refl)
 
 pub returns-else-eq-clause-name : goal.returns-else-eq-clause-name
 returns-else-eq-clause-name c =
@@ -27,7 +27,7 @@ returns-else-eq-clause-name c =
     (c.in-Ok.ensures.position (λ b. b.depth) (answers_always _ _ _ (λ f a r g called. search rules))) in
     let is = is_hidden c.self.inside.blocks.items c.self.inside.innermost.items _ c.in-Ok.position c.args.depth c.index-block.result.now c.self.invariant lt c.index-block.ensures
     c.index.result.now c.index.ensures same (is_other_place c.index.result.now c.in-Ok.position (sym c.eq.ensures ∙ c.if-eq.false)) in
-    (block_view c.index-block.result.now, subst (λ bs. StandsAt bs c.args.depth (block_view c.index-block.result.now) true) (ap (λ s. s.blocks) c.self.view_is) is)
+    (block_view c.index-block.result.now, subst (λ bs. StandsAtDepth bs c.args.depth (block_view c.index-block.result.now) true) (ap (λ s. s.blocks) c.self.view_is) is)
 
 pub returns-in_default-clause-name : goal.returns-in_default-clause-name
 returns-in_default-clause-name c =

@@ -27,9 +27,11 @@ pub returns-in-Shown : goal.returns-in-Shown
 returns-in-Shown c =
     let x = c.self.inside in
     let lt : c.args.label < x.depth = omega (arith, c.if-label-self.false, c.if-label-self-2.false) in
-    let at = c.in-Shown.ensures.name in
-    ap (λ (n : Named). ByName n) (sym at.2)
-    ∙ (sym (found_name _ _ _ _ _ x.depth x.named c.self.invariant x.identifiers.invents c.args.label (x.depth - 1 - c.args.label) at.0 false at.1 c.find.ensures.descend lt refl)
+    let (block, stands, named) = c.in-Shown.ensures.name in
+    let at = x.depth - 1 - c.args.label in
+    ap (λ (n : Named). ByName n) (sym named)
+    ∙ (sym (found_name _ _ _ _ _ x.depth x.named c.self.invariant x.identifiers.invents c.args.label at block false stands
+    c.find.ensures.descend lt refl)
     ∙ ap (λ (s : Scan). found_among [] s.labels c.args.label) c.self.view_is)
 
 pub returns-in-Hidden : goal.returns-in-Hidden

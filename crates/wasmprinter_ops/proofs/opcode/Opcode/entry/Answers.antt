@@ -1,4 +1,4 @@
-use Rattle.std.proofs.Common.{◌≡◌, ◌<◌, ◌≤◌, ℕ, List, map, sym, ap, ◌∙◌, length, Option, None}
+use Rattle.std.proofs.Common.{◌≡◌, ℕ, List, map, sym, ap, ◌∙◌, Option, None}
 use Rattle.std.specs.Borrow.{Bor}
 use Rattle.std.proofs.lemmas.List.{get_or-map}
 use Rattle.wasmprinter_spec.specs.Operator.{opcode}
@@ -13,9 +13,9 @@ pub returns-in-Some : goal.returns-in-Some
 returns-in-Some c =
     let table : List (Option (Bor (List ℕ) × Shape × Arity)) = c.entries_of.result.now in
     let n : ℕ = c.self.inside.number in
-    let lt : n < length table = c.in-Some.ensures.lookup.3.0 in
+    let (there, item, must, (lt, at), or_else) = c.in-Some.ensures.lookup in
     let found : entry_view c.in-Some.entry.now ≡ entry_of (opcode c.self.inside.prefix n) =
-    ap entry_view (c.in-Some.ensures.lookup.3.1 None) ∙ sym (get_or-map entry_view table n None None lt)
+    ap entry_view (at None) ∙ sym (get_or-map entry_view table n None None lt)
     ∙ entry_within (opcode c.self.inside.prefix n) (map entry_view table) c.entries_of.ensures (same_length_lt entry_view table n lt) in
     found ∙ ap entry_of c.self.view_is
 
@@ -23,5 +23,5 @@ pub returns-in-None : goal.returns-in-None
 returns-in-None c =
     let table : List (Option (Bor (List ℕ) × Shape × Arity)) = c.entries_of.result.now in
     let n : ℕ = c.self.inside.number in
-    let le : length table ≤ n = c.in-None.ensures.lookup.3 in
+    let (there, item, must, le, or_else) = c.in-None.ensures.lookup in
     entry_past (opcode c.self.inside.prefix n) (map entry_view table) c.entries_of.ensures (same_length_le entry_view table n le) ∙ ap entry_of c.self.view_is

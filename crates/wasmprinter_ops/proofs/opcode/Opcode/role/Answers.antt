@@ -1,4 +1,4 @@
-use Rattle.std.proofs.Common.{◌≡◌, ◌<◌, ◌≤◌, ℕ, List, map, sym, ap, ◌∙◌, length}
+use Rattle.std.proofs.Common.{◌≡◌, ℕ, List, map, sym, ap, ◌∙◌}
 use Rattle.std.proofs.lemmas.List.{get_or-map}
 use Rattle.wasmprinter_spec.specs.Operator.{opcode}
 use Rattle.wasmprinter_spec.specs.Row.{Plain}
@@ -13,9 +13,9 @@ pub returns-in-Some : goal.returns-in-Some
 returns-in-Some c =
     let table : List Role = c.roles_of.result.now in
     let n : ℕ = c.self.inside.number in
-    let lt : n < length table = c.in-Some.ensures.lookup.3.0 in
+    let (there, item, must, (lt, at), or_else) = c.in-Some.ensures.lookup in
     let found : role_view c.in-Some.role.now ≡ role_of (opcode c.self.inside.prefix n) =
-    ap role_view (c.in-Some.ensures.lookup.3.1 roles.Plain) ∙ sym (get_or-map role_view table n roles.Plain Plain lt)
+    ap role_view (at roles.Plain) ∙ sym (get_or-map role_view table n roles.Plain Plain lt)
     ∙ role_within (opcode c.self.inside.prefix n) (map role_view table) c.roles_of.ensures (same_length_lt role_view table n lt) in
     found ∙ ap role_of c.self.view_is
 
@@ -23,5 +23,5 @@ pub returns-in-None : goal.returns-in-None
 returns-in-None c =
     let table : List Role = c.roles_of.result.now in
     let n : ℕ = c.self.inside.number in
-    let le : length table ≤ n = c.in-None.ensures.lookup.3 in
+    let (there, item, must, le, or_else) = c.in-None.ensures.lookup in
     role_past (opcode c.self.inside.prefix n) (map role_view table) c.roles_of.ensures (same_length_le role_view table n le) ∙ ap role_of c.self.view_is

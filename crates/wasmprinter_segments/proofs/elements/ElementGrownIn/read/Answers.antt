@@ -14,8 +14,8 @@ returns-then-flags-ge-FLAGS_END-clause-reads c =
 
 pub returns-in_err-mode-clause-reads : goal.returns-in_err-mode-clause-reads
 returns-in_err-mode-clause-reads c =
-    let p = err_from_is_err_and c.from_residual-in_err-mode.result c.from_residual-in_err-mode.ensures.1 in
-    rw (p.1, p.2)
+    let (fault, failed, is) = err_from_is_err_and c.from_residual-in_err-mode.result c.from_residual-in_err-mode.ensures.1 in
+    rw (failed, is)
     (part_fault ((mode_by c.in_ok-flags.flags).parse c.u32.new.self ≡ None) (ModeGrows c.in_ok-flags.flags c.u32.new.self)
     ((value_with_place element).parse c.args.cursor.now ≡ None) (ElementGrows c.args.cursor.now) c.u32.new.self c.args.cursor.now
     (element_no_mode c.args.cursor.now c.u32.new.self c.in_ok-flags.flags c.in_ok-flags.ensures.reads (omega arith))
@@ -24,8 +24,8 @@ returns-in_err-mode-clause-reads c =
 
 pub returns-in_err-items-clause-reads : goal.returns-in_err-items-clause-reads
 returns-in_err-items-clause-reads c =
-    let p = err_from_is_err_and c.from_residual-in_err-items.result c.from_residual-in_err-items.ensures.1 in
-    rw (p.1, p.2)
+    let (fault, failed, is) = err_from_is_err_and c.from_residual-in_err-items.result c.from_residual-in_err-items.ensures.1 in
+    rw (failed, is)
     (part_fault ((items_by c.in_ok-flags.flags).parse c.read.new.cursor ≡ None) (ItemsGrow c.in_ok-flags.flags c.read.new.cursor)
     ((value_with_place element).parse c.args.cursor.now ≡ None) (ElementGrows c.args.cursor.now) c.read.new.cursor c.args.cursor.now
     (element_no_items c.args.cursor.now c.u32.new.self c.in_ok-flags.flags c.in_ok-flags.ensures.reads (omega arith) c.read.new.cursor (element_mode_view c.in_ok-mode.mode) c.in_ok-mode.ensures.reads)

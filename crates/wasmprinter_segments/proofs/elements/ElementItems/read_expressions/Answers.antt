@@ -15,8 +15,8 @@ returns-clause-reads c =
 
 pub returns-in_err-expressions-clause-reads : goal.returns-in_err-expressions-clause-reads
 returns-in_err-expressions-clause-reads c =
-    let p = err_from_is_err_and c.from_residual.result c.from_residual.ensures.1 in
-    rw (p.1, p.2)
+    let (fault, failed, is) = err_from_is_err_and c.from_residual.result c.from_residual.ensures.1 in
+    rw (failed, is)
     (part_fault ((vec expression).parse c.args.cursor.now ≡ None) (CountsItems c.args.cursor.now) ((expression_items (ref_view c.args.ty)).parse c.args.cursor.now ≡ None) (CountsItems c.args.cursor.now)
     c.args.cursor.now c.args.cursor.now (λ none. expressions_none (ref_view c.args.ty) c.args.cursor.now none) (λ more. more) refl
     c.in_err-expressions.field-0.0 c.in_err-expressions.ensures.reads)

@@ -33,6 +33,7 @@ returns g c o =
     let field = owned_field (names_of_identifiers c.args.identifiers.now) c.args.owner in
     let items = c.loop-number.number-iterator.b in
     let none : items ≡ [] =
-    ⊎_elim (λ (_, (ends, (none, stays))). none-left _ _ items c.loop-number.invariant.count none) (λ u. u.1.0) c.in-None.ensures.steps in
+    ⊎_elim (λ (_, (ends, (none, stays))). none-left _ _ items c.loop-number.invariant.count none) (λ (_, (none, stays)). none)
+    c.in-None.ensures.steps in
     let last = fields-none field c.loop-number.number-iterator.a.start items none in
     lacks_none g.P.Print.meaning _ (rw last at (c.loop-number.invariant.lacks o))

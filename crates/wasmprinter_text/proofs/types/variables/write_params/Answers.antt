@@ -39,7 +39,8 @@ returns g c o =
     let named = parameters_of names c.args.owner in
     let items = c.loop-number.number-iterator.b in
     let none : items ≡ [] =
-    ⊎_elim (λ (_, (ends, (none, stays))). none-left _ _ items c.loop-number.invariant.count none) (λ u. u.1.0) c.in-None.ensures.steps in
+    ⊎_elim (λ (_, (ends, (none, stays))). none-left _ _ items c.loop-number.invariant.count none) (λ (_, (none, stays)). none)
+    c.in-None.ensures.steps in
     let last = walk-none names (codes "param") named c.loop-number.before c.loop-number.number-iterator.a.start items none in
     rw (← walk-groups names (codes "param") named 0 (types_view c.args.types.now))
     (rest_written g.P.Print.meaning _ (rw last at (c.loop-number.invariant.lacks o)) (c.end_variables.ensures o))

@@ -15,7 +15,9 @@ abbrev failed_with : IoError → Result (Unit {0}) IoError
 failed_with e = Err e
 
 pub returns : goal.returns
-returns c = text_whole tracked_meaning _ _ (none_left _ c.in-None.ensures.steps.0.0) c.loop-c.invariant.1
+returns c =
+    let ((empty, stays), some, first) = c.in-None.ensures.steps in
+    text_whole tracked_meaning _ _ (none_left _ empty) c.loop-c.invariant.1
 
 pub returns-in_err-write_str : goal.returns-in_err-write_str
 returns-in_err-write_str c =

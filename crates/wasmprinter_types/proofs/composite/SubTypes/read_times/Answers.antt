@@ -1,6 +1,7 @@
 use Rattle.std.proofs.Common.{arith, sym, ap, ◌∙◌}
 use Rattle.std.proofs.lemmas.Result.{err_from_is_err_and}
-use Rattle.wasmprinter_spec.specs.Repeated.{items_at, skip_at}
+use Rattle.wasmprinter_spec.specs.Repeated.{items_at}
+use Rattle.wasmprinter_bytes.specs.Items.{skip_at}
 use Rattle.wasmprinter_spec.specs.Binary.Types.{subtype}
 use Rattle.wasmprinter_bytes.proofs.Items.{skip_more, skip_none, skip_end, HasItems-skip, items_some, items_none}
 use Rattle.wasmprinter_types.proofs.composite.SubTypes.read_times.Goals as goal

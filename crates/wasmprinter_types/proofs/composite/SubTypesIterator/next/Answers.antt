@@ -1,6 +1,6 @@
 use Rattle.std.proofs.Common.{◌≡◌, ◌∷◌, ◌-◌, ◌<◌, rules, length, List, sym, ap, ◌∙◌, arith}
 use Rattle.wasmprinter_spec.specs.Types.{SubType}
-use Rattle.wasmprinter_spec.specs.Repeated.{items_of}
+use Rattle.wasmprinter_bytes.specs.Items.{items_of}
 use Rattle.wasmprinter_spec.specs.Binary.Types.{subtype}
 use Rattle.wasmprinter_bytes.proofs.Items.{items_of-first, HasItems-rest}
 use Rattle.wasmprinter_types.proofs.composite.SubTypesIterator.next.Goals as goal

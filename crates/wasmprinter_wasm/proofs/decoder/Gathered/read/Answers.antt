@@ -23,13 +23,13 @@ returns-then-not-may_precede c = (
 
 pub returns-in_err-section : goal.returns-in_err-section
 returns-in_err-section c =
-    let p = err_from_is_err_and c.from_residual.result c.from_residual.ensures.1 in
-    rw (p.1, p.2)
+    let (fault, failed, is) = err_from_is_err_and c.from_residual.result c.from_residual.ensures.1 in
+    rw (failed, is)
     (gathering_fault c.args.cursor.now c.sections.cursor c.sections.gathered (λ none. let t = c.sections-test.ensures.1 none in cc) c.sections.invariant c.in_err-section.field-0.0 c.in_err-section.ensures.reads)
 
 pub returns-in_err-add : goal.returns-in_err-add
 returns-in_err-add c =
-    let p = err_from_is_err_and c.from_residual-in_err-add.result c.from_residual-in_err-add.ensures.1 in
-    rw (p.1, p.2)
+    let (fault, failed, is) = err_from_is_err_and c.from_residual-in_err-add.result c.from_residual-in_err-add.ensures.1 in
+    rw (failed, is)
     (gathering_unkept c.args.cursor.now c.sections.cursor c.sections.gathered (λ none. let t = c.sections-test.ensures.1 none in cc) c.sections.invariant (section_view c.in_ok-section.section)
     c.read.new.cursor c.in_ok-section.ensures.reads.0 c.in_err-add.ensures.needed)

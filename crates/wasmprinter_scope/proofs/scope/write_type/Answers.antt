@@ -1,4 +1,0 @@
-use Rattle.wasmprinter_scope.proofs.scope.write_type.Goals as goal
-
-pub returns : goal.returns
-returns g c o = rw c.identifiers.ensures.all at (c.type_field.ensures o)

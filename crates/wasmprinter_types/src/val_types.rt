@@ -1,0 +1,291 @@
+//! Heap types, reference types and value types (section 5.3 of the WebAssembly Core Specification, "Heap Types", "Reference Types" and "Value
+//! Types").
+ghost use Rattle.std.specs.Prelude.{◌≡◌, ◌≤◌, ◌^◌, ◌<ℤ◌, pos, IfOk, option_map};
+ghost use Rattle.wasmprinter_spec.specs.Grammar.{byte as byte_grammar};
+ghost use Rattle.wasmprinter_spec.specs.Name.{vec};
+ghost use Rattle.wasmprinter_spec.specs.Binary.ValTypes.{abstract_heap_of, number_type_of, non_negative, signed_index, heap_type};
+ghost use Rattle.wasmprinter_spec.specs.Binary.ValTypes.{ref_type_behind, reference_type, val_type_behind, val_type, begins_val_type};
+ghost use Rattle.wasmprinter_bytes.specs.Reads.{Reads, IsWithin, end_of};
+ghost use Rattle.wasmprinter_types.specs.ValTypes.{heap_view, ref_view, type_view, types_view, type_at};
+
+use wasmprinter_bytes::bytes::Cursor;
+use wasmprinter_bytes::lists::{Items, Spelled};
+use wasmprinter_error::Malformed;
+
+/// In front of the heap type of a reference that can't be null.
+const REF: u8 = 0x64;
+
+/// In front of the heap type of a reference that may be null.
+const REF_NULL: u8 = 0x63;
+
+/// What references refer to (section 2.3, "Heap Types").
+#[derive(Clone, Copy, Debug, PartialEq, Eq)]
+pub enum HeapType {
+    /// Exceptions.
+    Exn,
+    /// Arrays of all types.
+    Array,
+    /// Structures of all types.
+    Struct,
+    /// Integers of 31 bits.
+    I31,
+    /// What can be compared.
+    Eq,
+    /// All that isn't a function, an exception or external.
+    Any,
+    /// What is external.
+    Extern,
+    /// Functions of all types.
+    Func,
+    /// Nothing, below `Any`; the text writes it `none`.
+    NoAny,
+    /// Nothing, below `Extern`.
+    NoExtern,
+    /// Nothing, below `Func`.
+    NoFunc,
+    /// Nothing, below `Exn`.
+    NoExn,
+    /// The type with this index.
+    Index(u32),
+}
+
+/// The type of references (section 2.3, "Reference Types").
+#[derive(Clone, Copy, Debug, PartialEq, Eq)]
+pub struct RefType {
+    /// Whether they may be null.
+    pub nullable: bool,
+    /// What they refer to.
+    pub heap: HeapType,
+}
+
+/// The type of a value (section 2.3, "Value Types").
+#[derive(Clone, Copy, Debug, PartialEq, Eq)]
+pub enum ValType {
+    /// A whole number of 32 bits.
+    I32,
+    /// A whole number of 64 bits.
+    I64,
+    /// A floating-point number of 32 bits.
+    F32,
+    /// A floating-point number of 64 bits.
+    F64,
+    /// A vector of 128 bits.
+    V128,
+    /// A reference.
+    Ref(RefType),
+}
+
+/// Value types, one after the other.
+pub type ValTypes<'a> = Items<'a, ValType>;
+
+/// The first byte of a type, which was read, and its place.
+#[derive(Clone, Copy)]
+pub(crate) struct First {
+    pub(crate) place: u64,
+    pub(crate) byte: u8,
+}
+
+impl First {
+    /// Reads a byte.
+    pub(crate) fn read(cursor: &mut Cursor) -> Result<Self, Malformed>
+        ensures reads { Reads (λ f. f.byte) byte_grammar.parse cursor.old result cursor.new }
+        ensures within { IsWithin cursor.old result }
+        ensures end { end_of cursor.new ≡ end_of cursor.old }
+        ensures place { IfOk result (λ f. f.place ≡ cursor.old.place) }
+    {
+        let place = cursor.place();
+        let byte = cursor.u8()?;
+        Ok(First { place, byte })
+    }
+
+    /// A refusal of what begins with it.
+    pub(crate) fn refusal(self) -> Malformed
+        ensures { result.place ≡ self.place }
+    {
+        Malformed { place: self.place }
+    }
+}
+
+/// The type index that a signed number is.
+fn index_of(number: i64) -> Option<u32>
+    requires { number <ℤ pos (2 ^ 32) }
+    ensures { result ≡ non_negative number }
+{
+    if number >= 0 {
+        Some(number as u32)
+    } else {
+        None
+    }
+}
+
+impl HeapType {
+    /// The abstract heap type that is this byte.
+    fn of_byte(byte: u8) -> Option<HeapType>
+        ensures { option_map heap_view result ≡ abstract_heap_of byte }
+    {
+        match byte {
+            0x69 => Some(HeapType::Exn),
+            0x6a => Some(HeapType::Array),
+            0x6b => Some(HeapType::Struct),
+            0x6c => Some(HeapType::I31),
+            0x6d => Some(HeapType::Eq),
+            0x6e => Some(HeapType::Any),
+            0x6f => Some(HeapType::Extern),
+            0x70 => Some(HeapType::Func),
+            0x71 => Some(HeapType::NoAny),
+            0x72 => Some(HeapType::NoExtern),
+            0x73 => Some(HeapType::NoFunc),
+            0x74 => Some(HeapType::NoExn),
+            _ => None,
+        }
+    }
+
+    /// Reads a type index, a signed number of 33 bits that isn't negative.
+    ///
+    /// # Errors
+    ///
+    /// `Malformed` where the bytes don't spell one, with the place of what may not stand there.
+    pub fn read_index(cursor: &mut Cursor) -> Result<u32, Malformed>
+        ensures reads { Reads (λ n. n) signed_index.parse cursor.old result cursor.new }
+        ensures within { IsWithin cursor.old result }
+        ensures end { end_of cursor.new ≡ end_of cursor.old }
+    {
+        let place = cursor.place();
+        match index_of(cursor.s33()?) {
+            Some(index) => Ok(index),
+            None => Err(Malformed { place }),
+        }
+    }
+
+    /// Reads the byte of an abstract heap type, or a type index.
+    ///
+    /// # Errors
+    ///
+    /// `Malformed` where the bytes don't spell a heap type, with the place of what may not stand there.
+    pub fn read(cursor: &mut Cursor) -> Result<Self, Malformed>
+        ensures reads { Reads heap_view heap_type.parse cursor.old result cursor.new }
+        ensures within { IsWithin cursor.old result }
+        ensures end { end_of cursor.new ≡ end_of cursor.old }
+    {
+        let Some(byte) = cursor.peek() else {
+            return Err(Malformed {
+                place: cursor.place(),
+            });
+        };
+        match HeapType::of_byte(byte) {
+            Some(heap) => {
+                cursor.u8()?;
+                Ok(heap)
+            }
+            None => Ok(HeapType::Index(HeapType::read_index(cursor)?)),
+        }
+    }
+}
+
+impl RefType {
+    /// Reads what stands behind the first byte.
+    fn read_behind(first: First, cursor: &mut Cursor) -> Result<Self, Malformed>
+        requires { first.place ≤ end_of cursor.now }
+        ensures reads { Reads ref_view (ref_type_behind first.byte).parse cursor.old result cursor.new }
+        ensures within { IsWithin cursor.old result }
+        ensures end { end_of cursor.new ≡ end_of cursor.old }
+    {
+        let (nullable, heap) = match first.byte {
+            REF => (false, HeapType::read(cursor)?),
+            REF_NULL => (true, HeapType::read(cursor)?),
+            byte => match HeapType::of_byte(byte) {
+                Some(heap) => (true, heap),
+                None => return Err(first.refusal()),
+            },
+        };
+        Ok(RefType { nullable, heap })
+    }
+
+    /// Reads a reference type.
+    ///
+    /// # Errors
+    ///
+    /// `Malformed` where the bytes don't spell a reference type, with the place of what may not stand there.
+    pub fn read(cursor: &mut Cursor) -> Result<Self, Malformed>
+        ensures reads { Reads ref_view reference_type.parse cursor.old result cursor.new }
+        ensures within { IsWithin cursor.old result }
+        ensures end { end_of cursor.new ≡ end_of cursor.old }
+    {
+        let first = First::read(cursor)?;
+        RefType::read_behind(first, cursor)
+    }
+}
+
+impl ValType {
+    /// The number type or vector type that is this byte.
+    fn of_byte(byte: u8) -> Option<ValType>
+        ensures { option_map type_view result ≡ number_type_of byte }
+    {
+        match byte {
+            0x7f => Some(ValType::I32),
+            0x7e => Some(ValType::I64),
+            0x7d => Some(ValType::F32),
+            0x7c => Some(ValType::F64),
+            0x7b => Some(ValType::V128),
+            _ => None,
+        }
+    }
+
+    /// Whether a value type begins with the byte.
+    pub fn begins(byte: u8) -> bool
+        ensures { result ≡ begins_val_type byte }
+    {
+        ValType::of_byte(byte).is_some()
+            || byte == REF
+            || byte == REF_NULL
+            || HeapType::of_byte(byte).is_some()
+    }
+
+    /// Reads what stands behind the first byte.
+    pub(crate) fn read_behind(first: First, cursor: &mut Cursor) -> Result<Self, Malformed>
+        requires { first.place ≤ end_of cursor.now }
+        ensures reads { Reads type_view (val_type_behind first.byte).parse cursor.old result cursor.new }
+        ensures within { IsWithin cursor.old result }
+        ensures end { end_of cursor.new ≡ end_of cursor.old }
+    {
+        match ValType::of_byte(first.byte) {
+            Some(val_type) => Ok(val_type),
+            None => Ok(ValType::Ref(RefType::read_behind(first, cursor)?)),
+        }
+    }
+}
+
+/// Reads a value type.
+///
+/// # Errors
+///
+/// `Malformed` where the bytes don't spell a value type, with the place of what may not stand there.
+pub fn read_type(cursor: &mut Cursor) -> Result<ValType, Malformed>
+    ensures reads { Reads type_view val_type.parse cursor.old result cursor.new }
+    ensures within { IsWithin cursor.old result }
+    ensures end { end_of cursor.new ≡ end_of cursor.old }
+{
+    let first = First::read(cursor)?;
+    ValType::read_behind(first, cursor)
+}
+
+impl Spelled for ValType {
+    ghost parse = { type_at };
+
+    fn read(cursor: &mut Cursor) -> Result<ValType, Malformed> {
+        read_type(cursor)
+    }
+}
+
+/// Reads a count and so many value types.
+///
+/// # Errors
+///
+/// `Malformed` where the bytes don't spell value types, a count in front, with the place of what may not stand there.
+pub fn read_types<'a>(cursor: &mut Cursor<'a>) -> Result<ValTypes<'a>, Malformed>
+    ensures reads { Reads types_view (vec val_type).parse cursor.old result cursor.new }
+    ensures within { IsWithin cursor.old result }
+    ensures end { end_of cursor.new ≡ end_of cursor.old }
+{
+    ValTypes::read(cursor)
+}
