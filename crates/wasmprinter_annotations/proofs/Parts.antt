@@ -37,15 +37,6 @@ joined-append (Stops ps id ∷ xs) ys = refl
 pub joined-through : (xs ys : List Part) → (laid_parts xs).refused ≡ None → laid_parts (xs ++ ys) ≡ before_laid (laid_parts xs).pieces (laid_parts ys)
 joined-through xs ys e = joined-append xs ys ∙ ap (λ (q : Option ℕ). laid_behind (laid_parts xs).pieces q (laid_parts ys)) e
 
--- the same parts in front of parts with the same layout
-pub laid-behind : (xs ys zs : List Part) → laid_parts ys ≡ laid_parts zs → laid_parts (xs ++ ys) ≡ laid_parts (xs ++ zs)
-laid-behind xs ys zs e =
-    joined-append xs ys ∙ ap (laid_behind (laid_parts xs).pieces (laid_parts xs).refused) e ∙ sym (joined-append xs zs)
-
--- no pieces in front
-pub laid-nothing : (ys : List Part) → laid_parts (Shown [] ∷ ys) ≡ laid_parts ys
-laid-nothing ys = refl
-
 -- ---- what was made of them
 
 never : {P : Type 0} (m : Meaning P) {o : Options} {a t : P} {ps : List Piece} → Written m o a t Never ps → ⊥
