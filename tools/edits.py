@@ -1,0 +1,85 @@
+#!/usr/bin/env python3
+"""Checks that every deliberately wrong implementation still applies: crates/*/must-fail/*.edit and crates/*/wrong-bodies/*.edit.
+
+An edit names a file of its crate by a line `file: PATH`, and changes it by pairs of lines `old: TEXT` and `new: TEXT`, in order: each later pair
+applies to the result of the earlier ones. Nothing is written: the pairs are applied to a copy of the file in memory. An edit is bad if it names
+no file of its crate or has no pair, if a line `old:` has no line `new:` after it, if an old text does not occur exactly once, or if the result is
+the original. Prints each bad edit and the counts; the status is 1 if an edit is bad or there is none.
+
+The prover is not asked: tools/wrong-bodies.sh and the gate say whether it rejects the edits.
+"""
+
+import pathlib
+import sys
+
+ROOT = pathlib.Path(__file__).resolve().parent.parent
+
+
+class BadEdit(Exception):
+    """Why an edit does not apply."""
+
+
+def value(line, key):
+    """Returns the text after `key: `, or `None` if the line has another key."""
+    if line == key + ":":
+        return ""
+    return line[len(key) + 2 :] if line.startswith(key + ": ") else None
+
+
+def original(crate, path):
+    """Returns the text of a file of the crate."""
+    file = (crate / path).resolve()
+    if crate not in file.parents or not file.is_file():
+        raise BadEdit(f"no file {path}")
+    return file.read_text(encoding="utf-8")
+
+
+def replaced(text, old, new):
+    """Returns the text with `new` at the only place of `old`."""
+    count = text.count(old) if old else 0
+    if count != 1:
+        raise BadEdit(f"the old text occurs {count} times: {old}")
+    return text.replace(old, new)
+
+
+def apply(crate, lines):
+    """Applies the lines of an edit to copies of the crate's files."""
+    originals, copies, file, old = {}, {}, None, None
+    for line in lines:
+        if (path := value(line, "file")) is not None:
+            file = path
+            if file not in copies:
+                originals[file] = copies[file] = original(crate, file)
+        elif (text := value(line, "old")) is not None:
+            if old is not None:
+                raise BadEdit("two old texts in a row")
+            old = text
+        elif (text := value(line, "new")) is not None:
+            if file is None or old is None:
+                raise BadEdit("a new text without a file or an old text before it")
+            copies[file] = replaced(copies[file], old, text)
+            old = None
+    if old is not None:
+        raise BadEdit("an old text without a new one")
+    if originals == copies:
+        raise BadEdit("nothing changes")
+
+
+def main():
+    counts = {}
+    bad = 0
+    for folder in ("must-fail", "wrong-bodies"):
+        paths = sorted(ROOT.glob(f"crates/*/{folder}/*.edit"))
+        counts[folder] = len(paths)
+        for path in paths:
+            try:
+                apply(path.parent.parent, path.read_text(encoding="utf-8").split("\n"))
+            except BadEdit as reason:
+                bad += 1
+                print(f"edits: {path.relative_to(ROOT)}: {reason}")
+    total = sum(counts.values())
+    print(f"edits: {total - bad} of {total} apply; the gate tries {counts['must-fail']} of them")
+    sys.exit(1 if bad or not total else 0)
+
+
+main()
