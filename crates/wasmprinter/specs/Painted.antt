@@ -6,8 +6,9 @@ use Rattle.wasmprinter_spec.specs.Call.{IsUnclaimed, IsTextOrStyle}
 use Rattle.wasmprinter_spec.specs.Coloured.{coloured_bytes}
 use Rattle.wasmprinter_spec.specs.Meaning.{Meaning}
 
--- The meaning of its bytes: each call appends its own, those of a text, a line feed or the sequences of a style, and no custom section is
--- taken. Only a call that has bytes may fail, where it wants memory, and then leaves them as they were.
+-- The meaning of its bytes: each call appends its own, those of a text, a line feed or the escape sequences of a style, and no custom section
+-- is claimed. Only a call that writes a text (an empty text too), a line feed or a style may fail: an allocation failed then, and the bytes
+-- are unchanged.
 abbrev pub painted_meaning : Meaning (List ℕ)
 painted_meaning = record {
   after = λ old call new. (new ≡ old ++ coloured_bytes call) × IsUnclaimed call;

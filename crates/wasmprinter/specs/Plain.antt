@@ -5,8 +5,8 @@ use Rattle.std.specs.declared.io.ErrorKind.TheVariants.{OutOfMemory}
 use Rattle.wasmprinter_spec.specs.Call.{IsText, IsUnclaimed, call_text}
 use Rattle.wasmprinter_spec.specs.Meaning.{Meaning}
 
--- The meaning of its bytes: a text and a line feed are appended, and no custom section is taken. Only a call that has text may fail, where
--- it wants memory, and then leaves them as they were.
+-- The meaning of its bytes: a text and a line feed are appended, and no custom section is claimed. Only a call that writes a text (an empty
+-- text too) or a line feed may fail: an allocation failed then, and the bytes are unchanged.
 abbrev pub plain_meaning : Meaning (List ℕ)
 plain_meaning = record {
   after = λ old call new. (new ≡ old ++ call_text call) × IsUnclaimed call;

@@ -1,4 +1,4 @@
--- CountStands in front of lists.
+-- Counts in front of lists.
 use Rattle.std.proofs.Common.{◌≡◌, ℕ, ◌<◌, List, length, Some, sym, ap, ◌∙◌, arith}
 use Rattle.wasmprinter_spec.specs.Grammar.{Input, Grammar, ◌>>=◌, bind_some, some_is, seq}
 use Rattle.wasmprinter_spec.specs.Name.{u32, vec}

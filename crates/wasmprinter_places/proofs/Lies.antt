@@ -91,7 +91,7 @@ LiesIn-alone all = record { lie = λ p text a s. all.lie p text a s }
 pub Lies-exactly : {o : Order} {A : Type 0} {n : ℕ} {w : Remainder A} {shown : A → List ℕ} → LiesIn o n w shown → (size : ℕ) → Lies o n (exactly w size) shown
 Lies-exactly all size = record { lie = λ p text a s. all.lie p text a s.1 }
 
--- AreItems that stand one after the other.
+-- Items that stand one after the other.
 pub items_lie : {o : Order} {A : Type 0} {g : Grammar A} {shown : A → List ℕ} → Lies o 0 g shown →
     (xs : List A) (p : ℕ) (text : List ℕ) → AreItems g p text xs → o.holds p (flat_map shown xs) (p + length text)
 items_lie {o} all [] p text s = o.none p (p + length text) (omega arith)
@@ -124,7 +124,7 @@ Lies-expression {o} all = record {
       wider o (p + 0) p (p + length text) (p + length text) (shown ++ (x.end ∷ [])) (omega arith) (omega arith) named;
 }
 
--- AreItems up to the end of the bytes.
+-- Items up to the end of the bytes.
 pub entries_lie : {o : Order} {A : Type 0} {g : Grammar A} {shown : A → List ℕ} → Lies o 0 g shown →
     (xs : List A) (p : ℕ) (text : List ℕ) → Entries g p text xs → o.holds p (flat_map shown xs) (p + length text)
 entries_lie {o} all [] p text s = o.none p (p + length text) (omega arith)

@@ -25,7 +25,7 @@ use Rattle.wasmprinter_spec.specs.Layout.Exports.{export_pieces}
 use Rattle.wasmprinter_spec.specs.Layout.Elements.{element_pieces}
 use Rattle.wasmprinter_spec.specs.Layout.DataSegments.{data_pieces}
 use Rattle.wasmprinter_spec.specs.Layout.Customs.{Part, Shown, Stops, parts_at, Laid, laid_parts}
-use Rattle.wasmprinter_spec.specs.Layout.{early_scope, late_scope, section_pieces, section_order, section_parts, module_parts, module_pieces_of, module_pieces_with, module_pieces, refusal}
+use Rattle.wasmprinter_spec.specs.Layout.{early_scope, scope_behind, section_pieces, section_order, section_parts, module_parts, module_pieces_of, module_pieces_with, module_pieces, refusal}
 use Rattle.wasmprinter_spec.specs.Lines.{places, hint_places, lines_without}
 use Rattle.wasmprinter_spec.specs.Apart.{Rises, IsOutside, body_places, IsApart}
 use Rattle.wasmprinter_places.proofs.Indexes.{StandsAt, stands_left, stands_right, IsElsewhere, AreElsewhere, RisesAmong, Follows, follows_none, follows_elsewhere, follows_then, follows_both}
@@ -244,7 +244,7 @@ module _ (o : Options) (answers : Answers) (m : PlacedModule) where
     fields_follow whole CodeSection =
         functions_follow a.low a.high o own_scope flat whole (hints_of m.customs) a.hints functions_before m.functions
     fields_follow whole DataSection =
-        let s : Scope = late_scope o own_names m in
+        let s : Scope = scope_behind m own_scope in
         items_out (data_pieces o.skeleton s) (data_begins o.skeleton s flat) 0 m.datas a.datas
     fields_follow whole CustomSection = follows_none a.low a.high
 

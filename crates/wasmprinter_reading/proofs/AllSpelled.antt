@@ -119,7 +119,7 @@ Spelled-within {size = size} takes all n = record {
   has = λ p text a bytes s. (all.has p text a bytes s.1, subst (λ k. size a ≤ k) s.0 (takes p text a s.1));
 }
 
--- AreItems that stand one after the other.
+-- Items that stand one after the other.
 pub items_have : {kind : ByteStrings} {A : Type 0} {g : Grammar A} {P : A → Type 0} → Spelled kind g P →
     (xs : List A) (p : ℕ) (text : List ℕ) → kind.Are text → AreItems g p text xs → AllByRecursion P xs
 items_have all [] p text bytes s = tt
@@ -127,7 +127,7 @@ items_have {kind} all (x ∷ xs) p text bytes (t, u, joined, spelled, all_spelle
     let parts = kind.split t u (subst kind.Are joined bytes) in
     (all.has p t x parts.0 spelled, items_have all xs (p + length t) u parts.1 all_spelled)
 
--- AreItems up to the end of the bytes.
+-- Items up to the end of the bytes.
 pub entries_have : {kind : ByteStrings} {A : Type 0} {g : Grammar A} {P : A → Type 0} → Spelled kind g P →
     (xs : List A) (p : ℕ) (text : List ℕ) → kind.Are text → Entries g p text xs → AllByRecursion P xs
 entries_have all [] p text bytes s = tt

@@ -22,7 +22,7 @@ use Rattle.wasmprinter_spec.specs.Folding.Refusals.{Operators, init_list, offset
 use Rattle.wasmprinter_spec.specs.Layout.Declarations.{Scope, scope_of, folding_of}
 use Rattle.wasmprinter_spec.specs.Layout.Expressions.{in_line}
 use Rattle.wasmprinter_spec.specs.Layout.Imports.{Numbers, no_numbers, number_of, numbers_behind}
-use Rattle.wasmprinter_spec.specs.Layout.{early_scope, late_scope, section_order}
+use Rattle.wasmprinter_spec.specs.Layout.{early_scope, scope_behind, section_order}
 use Rattle.wasmprinter_spec.specs.Text.Items.{each, identifier_in_front}
 use Rattle.wasmprinter_spec.specs.Text.Types as text
 use Rattle.wasmprinter_spec.specs.Text.Types.{read_group}
@@ -124,7 +124,7 @@ module _ (o : Options) (names : Names) (m : PlacedModule) where
   early = early_scope o names m
 
   abbrev pub late : Scope
-  late = late_scope o names m
+  late = scope_behind m early
 
   -- how many of a kind are imported
   abbrev pub before : ExternKind → ℕ

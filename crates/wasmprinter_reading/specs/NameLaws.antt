@@ -23,7 +23,7 @@ NamesAreOneList = (at : Input) → (xs : List Entry) × GivesNames at xs × ((ys
 abbrev pub EntriesAreGiven : Type 0
 EntriesAreGiven = (d : Placed (List ℕ)) → GivesNames (input d.place d.value) (entries_given d)
 
--- AreItems that are counted, read as far as they stand: these are spelled one after the other, and then either the count is reached or
+-- Items that are counted, read as far as they stand: these are spelled one after the other, and then either the count is reached or
 -- no more is spelled behind them.
 abbrev pub Listed : {A : Type 0} → Grammar A → ℕ → Input → List A → Option Input → Type 0
 Listed g n at xs end = (behind : Input) × Spans (AreItems g) at (xs, behind)

@@ -63,10 +63,8 @@ early_scope o names m = scope_of (all_types (groups_of m.types)) names (count_of
 abbrev pub scope_behind : PlacedModule → Scope → Scope
 scope_behind m s = scope_of_function s (count_of_imported func_import m + length m.functions)
 
-abbrev pub late_scope : Options → Names → PlacedModule → Scope
-late_scope o names m = scope_behind m (early_scope o names m)
-
--- What is printed of the section of a kind, where `s` is the scope in front of the functions: the functions at the place of their code.
+-- The pieces of the section of a kind, where `s` is the scope before the functions. Functions are printed at the place of their code. Data
+-- segments have the scope after the functions.
 abbrev pub section_pieces : Options → Scope → PlacedModule → Kind → List Piece
 section_pieces o s m TypeSection = type_section_pieces s.names 0 m.types
 section_pieces o s m ImportSection = imports_pieces s no_numbers m.imports

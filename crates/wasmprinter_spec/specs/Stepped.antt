@@ -1,4 +1,4 @@
--- AreItems up to the one at which a state stops, as operators up to the `end` that closes all blocks. Which item is the last hangs on those
+-- Items up to the one at which a state stops, as operators up to the `end` that closes all blocks. Which item is the last hangs on those
 -- before it; the state is no part of what is read. The standard has no such grammar: it nests the operators of a block within the block
 -- (section 5.4, "Control Instructions").
 use Rattle.std.specs.Prelude.{◌≡◌, ℕ, zero, suc, List, [], ◌∷◌, ◌++◌, ◌+◌, ◌<◌, length, Bool, true, false, Option, Some, None, refl}
