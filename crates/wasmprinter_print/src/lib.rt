@@ -59,6 +59,14 @@ pub trait Print {
         Ok(())
     }
 
+    /// Returns whether the printer takes a run of several characters of a quoted string in one call of [`Print::write_each_char`]. By
+    /// default it does not: each character of a quoted string is then written by a call of its own. The value is the same for each call.
+    /// It decides how text is split into calls, never the text.
+    #[inline(always)]
+    fn takes_runs(&self) -> bool {
+        false
+    }
+
     /// Ends a line.
     fn newline(&mut self) -> io::Result<()>
         ensures { Does meaning self.old Newline self.new result };
