@@ -89,6 +89,11 @@ impl Print for Painted {
         self.write_str(s)
     }
 
+    #[inline(always)]
+    fn takes_runs(&self) -> bool {
+        true
+    }
+
     #[inline]
     fn newline(&mut self) -> io::Result<()> {
         self.append("\n")?;

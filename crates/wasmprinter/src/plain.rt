@@ -69,6 +69,11 @@ impl Print for Plain {
         self.write_str(s)
     }
 
+    #[inline(always)]
+    fn takes_runs(&self) -> bool {
+        true
+    }
+
     #[inline]
     fn newline(&mut self) -> io::Result<()> {
         self.append("\n")?;

@@ -146,6 +146,11 @@ impl Print for Tracker {
         }
     }
 
+    #[inline(always)]
+    fn takes_runs(&self) -> bool {
+        true
+    }
+
     fn newline(&mut self) -> io::Result<()> {
         self.push_str("\n")?;
         Ok(())

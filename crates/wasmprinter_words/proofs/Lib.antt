@@ -1,4 +1,4 @@
 pub mod Digits
 pub mod Tables
 pub mod Runs
-pub mod Gathering
+pub mod Plain

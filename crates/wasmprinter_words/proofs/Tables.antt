@@ -76,7 +76,7 @@ first_stored xs i a b c h =
 glyph_low : (d : ℕ) → d < 16 → digit_glyph false d < 128
 glyph_low d h = grind (arith, nat_tests)
 
-plain_low : (b : ℕ) → is_plain b ≡ true → b < 128
+pub plain_low : (b : ℕ) → is_plain b ≡ true → b < 128
 plain_low b h = grind (arith, nat_tests)
 
 ascii_cons : (b : ℕ) (bs : List ℕ) → b < 128 → IsAscii bs → IsAscii (b ∷ bs)

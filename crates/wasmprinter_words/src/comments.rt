@@ -8,7 +8,7 @@ ghost use Rattle.wasmprinter_print.specs.Puts.{Puts, Marks};
 
 use crate::numbers::put_decimal_between;
 use std::io;
-use wasmprinter_print::{Fault, Print, Style, put_reset, put_start, put_text};
+use wasmprinter_print::{Fault, Print, Style, put_reset, put_start, put_text, text};
 
 /// Writes a text between two others.
 fn put_between<P: Print>(p: &mut P, fault: &mut Fault, before: &str, s: &str, after: &str)
@@ -28,9 +28,9 @@ pub(crate) fn write_between<P: Print>(
 ) -> io::Result<()>
     ensures { Emits P.meaning p.old p.new result (Text (before.now ++ (s.now ++ after.now)) ∷ []) }
 {
-    let mut fault = Fault::none();
-    put_between(p, &mut fault, before, s, after);
-    fault.into_result()
+    text(p, before)?;
+    text(p, s)?;
+    text(p, after)
 }
 
 /// Writes a blank and a comment without a style.
@@ -44,9 +44,7 @@ pub fn put_unstyled_remark<P: Print>(p: &mut P, fault: &mut Fault, content: &str
 pub fn unstyled_remark<P: Print>(p: &mut P, content: &str) -> io::Result<()>
     ensures { PrintsAlways P.meaning p.old p.new result (Remark false content.now ∷ []) }
 {
-    let mut fault = Fault::none();
-    put_unstyled_remark(p, &mut fault, content);
-    fault.into_result()
+    write_between(p, " (;", content, ";)")
 }
 
 /// Writes the number of a declaration, as a comment without a style.

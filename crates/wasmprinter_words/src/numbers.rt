@@ -7,10 +7,10 @@ ghost use Rattle.wasmprinter_print.specs.Emits.{Emits};
 ghost use Rattle.wasmprinter_print.specs.Prints.{PrintsAlways};
 ghost use Rattle.wasmprinter_print.specs.Puts.{Puts, Marks};
 
-use crate::words::put_gap;
+use crate::words::{gap, put_gap};
 use itoa::Buffer;
 use std::io;
-use wasmprinter_print::{Fault, Print, Style, put_reset, put_start, put_text, text};
+use wasmprinter_print::{Fault, Print, Style, put_reset, put_start, put_text, reset, start, text};
 
 /// The base of hexadecimal numbers.
 pub const HEXADECIMAL: u64 = 16;
@@ -51,20 +51,28 @@ pub fn write_digit<P: Print>(p: &mut P, digit: u8) -> io::Result<()>
     requires { digit < 16 }
     ensures { Emits P.meaning p.old p.new result (Text (digit_glyph false digit ∷ []) ∷ []) }
 {
-    let mut fault = Fault::none();
-    put_digit(p, &mut fault, digit);
-    fault.into_result()
+    text(p, char::from(glyph_of(digit)).encode_utf8(&mut [0; 4]))
+}
+
+/// Writes a number in hexadecimal, each digit by a call of its own.
+pub(crate) fn put_hexadecimal<P: Print>(p: &mut P, fault: &mut Fault, n: u64)
+    ensures { Puts P.meaning p.old fault.old p.new fault.new (Text (digits 16 false n) ∷ []) }
+{
+    if n < HEXADECIMAL {
+        put_digit(p, fault, n as u8);
+        return;
+    }
+    put_hexadecimal(p, fault, n / HEXADECIMAL);
+    put_digit(p, fault, (n % HEXADECIMAL) as u8);
 }
 
 /// Writes a number in hexadecimal.
 pub fn write_hexadecimal<P: Print>(p: &mut P, n: u64) -> io::Result<()>
     ensures { Emits P.meaning p.old p.new result (Text (digits 16 false n) ∷ []) }
 {
-    if n < HEXADECIMAL {
-        return write_digit(p, n as u8);
-    }
-    write_hexadecimal(p, n / HEXADECIMAL)?;
-    write_digit(p, (n % HEXADECIMAL) as u8)
+    let mut fault = Fault::none();
+    put_hexadecimal(p, &mut fault, n);
+    fault.into_result()
 }
 
 /// Writes a number in decimal.
@@ -79,9 +87,8 @@ pub fn put_decimal<P: Print>(p: &mut P, fault: &mut Fault, n: u64)
 pub fn write_decimal<P: Print>(p: &mut P, n: u64) -> io::Result<()>
     ensures { Emits P.meaning p.old p.new result (Text (decimal n) ∷ []) }
 {
-    let mut fault = Fault::none();
-    put_decimal(p, &mut fault, n);
-    fault.into_result()
+    let mut digits = Buffer::new();
+    text(p, digits.format(n))
 }
 
 /// Writes the two hexadecimal digits of a byte.
@@ -98,9 +105,8 @@ pub fn write_byte_digits<P: Print>(p: &mut P, byte: u8) -> io::Result<()>
     ensures { Emits P.meaning p.old p.new result
         (Text (digit_glyph false (byte / 16) ∷ (digit_glyph false (byte % 16) ∷ [])) ∷ []) }
 {
-    let mut fault = Fault::none();
-    put_byte_digits(p, &mut fault, byte);
-    fault.into_result()
+    write_digit(p, byte / 16)?;
+    write_digit(p, byte % 16)
 }
 
 /// How many digits a number has in hexadecimal.
@@ -122,9 +128,11 @@ pub fn write_hexadecimal_between<P: Print>(
 ) -> io::Result<()>
     ensures { Emits P.meaning p.old p.new result (Text (before.now ++ (digits 16 false n ++ after.now)) ∷ []) }
 {
-    text(p, before)?;
-    write_hexadecimal(p, n)?;
-    text(p, after)
+    let mut fault = Fault::none();
+    put_text(p, &mut fault, before);
+    put_hexadecimal(p, &mut fault, n);
+    put_text(p, &mut fault, after);
+    fault.into_result()
 }
 
 /// Writes a number in decimal between two texts.
@@ -154,9 +162,9 @@ pub fn put_number<P: Print>(p: &mut P, fault: &mut Fault, n: u64)
 pub fn number<P: Print>(p: &mut P, n: u64) -> io::Result<()>
     ensures { PrintsAlways P.meaning p.old p.new result (Number n ∷ []) }
 {
-    let mut fault = Fault::none();
-    put_number(p, &mut fault, n);
-    fault.into_result()
+    start(p, Style::Name)?;
+    write_decimal(p, n)?;
+    reset(p)
 }
 
 /// Writes a blank and an index.
@@ -171,13 +179,12 @@ pub fn put_gap_index<P: Print>(p: &mut P, fault: &mut Fault, index: u32)
 pub fn gap_index<P: Print>(p: &mut P, index: u32) -> io::Result<()>
     ensures { PrintsAlways P.meaning p.old p.new result (Gap ∷ (Number index ∷ [])) }
 {
-    let mut fault = Fault::none();
-    put_gap_index(p, &mut fault, index);
-    fault.into_result()
+    gap(p)?;
+    number(p, u64::from(index))
 }
 
 /// Writes a number in decimal between two texts.
-pub fn put_decimal_between<P: Print>(
+pub(crate) fn put_decimal_between<P: Print>(
     p: &mut P,
     fault: &mut Fault,
     before: &str,

@@ -1,7 +1,6 @@
 //! Texts in quotes (section 6.3 of the WebAssembly Core Specification, "Strings").
-ghost use Rattle.std.specs.Prelude.{◌≡◌, ◌+◌, ◌≤◌, false, [], ◌∷◌, ◌++◌, codes, flat_map, chars, length, take, if◌then◌else◌};
-ghost use Rattle.std.specs.Str.{IsAscii};
-ghost use Rattle.std.specs.Fmt.{digits};
+ghost use Rattle.std.specs.Prelude.{◌≡◌, ◌+◌, ◌<◌, ◌≤◌, true, false, [], ◌∷◌, ◌++◌, flat_map, chars, length, take, drop, slice_index, if◌then◌else◌};
+ghost use Rattle.std.specs.Str.{IsAscii, IsCharBoundary};
 ghost use Rattle.wasmprinter_spec.specs.Call.{Text, Literal};
 ghost use Rattle.wasmprinter_spec.specs.Piece.{Quoted, QuotedBytes, calls_in_style};
 ghost use Rattle.wasmprinter_spec.specs.Quoted.{is_plain, char_text, byte_text, quoted_text, quoted_bytes};
@@ -9,13 +8,12 @@ ghost use Rattle.wasmprinter_print.specs.Emits.{Emits, EmitsOrFails};
 ghost use Rattle.wasmprinter_print.specs.Prints.{PrintsAlways};
 ghost use Rattle.wasmprinter_print.specs.Puts.{Puts};
 
-use crate::numbers::{glyph_of, write_hexadecimal_between};
-use arrayvec::ArrayString;
+use crate::numbers::{glyph_of, put_byte_digits, put_hexadecimal};
 use std::io;
 use wasmprinter_error::Error;
 use wasmprinter_print::{Fault, Print, Style, put_each_char, put_reset, put_start, put_text};
 
-/// How many bytes of a text in quotes are gathered before they are written.
+/// The most bytes of a quoted string that are written by one call.
 const GATHERED: usize = 256;
 
 /// The most bytes that a byte takes in quotes.
@@ -41,54 +39,92 @@ fn is_plain(c: char) -> bool
     matches!(c, ' '..='~') && c != '"' && c != '\\'
 }
 
-/// Writes a character by its number in hexadecimal.
-fn write_escape<P: Print>(p: &mut P, c: char) -> io::Result<()>
-    ensures { Emits P.meaning p.old p.new result (Text (codes "\\u{" ++ (digits 16 false c ++ codes "}")) ∷ []) }
+/// Writes a character of a quoted string by its number in hexadecimal, as `\u{..}`.
+#[tactic(auto, unfolding(wasmprinter_spec::specs::Quoted::char_text))]
+fn put_escape<P: Print>(p: &mut P, fault: &mut Fault, c: char)
+    requires { is_plain c ≡ false }
+    ensures { Puts P.meaning p.old fault.old p.new fault.new (Text (char_text c) ∷ []) }
 {
-    write_hexadecimal_between(p, "\\u{", u64::from(u32::from(c)), "}")
+    put_text(p, fault, "\\u{");
+    put_hexadecimal(p, fault, u64::from(u32::from(c)));
+    put_text(p, fault, "}");
 }
 
-/// Writes a character as it stands in quotes: itself, or `\u{..}` with its number in hexadecimal.
+/// Returns the length in bytes of a run of plain characters at the start of a text whose first character is plain: at most `GATHERED`.
+fn plain_len(s: &str) -> usize
+    requires some { 0 < length s.now }
+    requires plain { is_plain (slice_index s.now 0) ≡ true }
+    ensures boundary { IsCharBoundary s.now result }
+    ensures text { flat_map char_text (chars s.now) ≡ take result s.now ++ flat_map char_text (chars (drop result s.now)) }
+    ensures some { 0 < result }
+{
+    let bytes = s.as_bytes();
+    let most = bytes.len().min(GATHERED);
+    for i in 1..most {
+        if !is_plain(char::from(bytes[i])) {
+            return i;
+        }
+    }
+    most
+}
+
+/// Writes the characters of a text as a quoted string contains them: plain characters in runs, each by one call.
+fn put_chars_in_runs<P: Print>(p: &mut P, fault: &mut Fault, s: &str)
+    ensures { Puts P.meaning p.old fault.old p.new fault.new (Text (flat_map char_text (chars s.now)) ∷ []) }
+{
+    let mut rest = s;
+    loop {
+        let mut chars = rest.chars();
+        let Some(first) = chars.next() else {
+            return;
+        };
+        if fault.is_some() {
+            return;
+        }
+        if is_plain(first) {
+            let (plain, after) = rest.split_at(plain_len(rest));
+            put_each_char(p, fault, plain);
+            rest = after;
+            continue;
+        }
+        put_escape(p, fault, first);
+        rest = chars.as_str();
+    }
+}
+
+/// Writes a character as a quoted string contains it: a plain character as it is, any other as `\u{..}` with its number in hexadecimal.
 #[tactic(auto, unfolding(wasmprinter_spec::specs::Quoted::char_text))]
 fn put_char<P: Print>(p: &mut P, fault: &mut Fault, c: char)
     ensures { Puts P.meaning p.old fault.old p.new fault.new (Text (char_text c) ∷ []) }
 {
     if is_plain(c) {
         put_text(p, fault, c.encode_utf8(&mut [0; 4]));
-    } else if !fault.is_some() {
-        fault.keep(write_escape(p, c));
-    }
-}
-
-/// Writes what was gathered of a text, if anything was, and clears it.
-fn put_gathered<P: Print>(p: &mut P, fault: &mut Fault, gathered: &mut ArrayString<GATHERED>)
-    ensures put { Puts P.meaning p.old fault.old p.new fault.new (Text gathered.old.bytes ∷ []) }
-    ensures cleared { gathered.new.bytes ≡ [] }
-{
-    if gathered.is_empty() {
         return;
     }
-    put_each_char(p, fault, gathered.as_str());
-    gathered.clear();
+    put_escape(p, fault, c);
 }
 
-/// Writes the characters of a text as they stand in quotes.
-pub(crate) fn put_chars<P: Print>(p: &mut P, fault: &mut Fault, s: &str)
+/// Writes the characters of a text as a quoted string contains them, each plain character by a call of its own.
+fn put_chars_one_by_one<P: Print>(p: &mut P, fault: &mut Fault, s: &str)
     ensures { Puts P.meaning p.old fault.old p.new fault.new (Text (flat_map char_text (chars s.now)) ∷ []) }
 {
-    let mut gathered = ArrayString::<GATHERED>::new();
     for c in s.chars() {
-        if is_plain(c) && !gathered.is_full() {
-            gathered.push(c);
-            continue;
-        }
         if fault.is_some() {
             return;
         }
-        put_gathered(p, fault, &mut gathered);
         put_char(p, fault, c);
     }
-    put_gathered(p, fault, &mut gathered);
+}
+
+/// Writes the characters of a text as a quoted string contains them.
+pub(crate) fn put_chars<P: Print>(p: &mut P, fault: &mut Fault, s: &str)
+    ensures { Puts P.meaning p.old fault.old p.new fault.new (Text (flat_map char_text (chars s.now)) ∷ []) }
+{
+    if p.takes_runs() {
+        put_chars_in_runs(p, fault, s);
+    } else {
+        put_chars_one_by_one(p, fault, s);
+    }
 }
 
 /// Writes the characters of a text as they stand in quotes.
@@ -185,8 +221,8 @@ fn put_ascii<P: Print>(p: &mut P, fault: &mut Fault, bytes: &[u8])
     put_each_char(p, fault, s);
 }
 
-/// Writes bytes as they stand in quotes.
-fn put_each_byte<P: Print>(p: &mut P, fault: &mut Fault, bytes: &[u8])
+/// Writes bytes as a quoted string contains them, `AT_ONCE` by one call.
+fn put_bytes_in_runs<P: Print>(p: &mut P, fault: &mut Fault, bytes: &[u8])
     ensures { Puts P.meaning p.old fault.old p.new fault.new (Text (flat_map byte_text bytes.now) ∷ []) }
 {
     let mut shown = [0; GATHERED];
@@ -196,6 +232,44 @@ fn put_each_byte<P: Print>(p: &mut P, fault: &mut Fault, bytes: &[u8])
         }
         let len = show_bytes(&mut shown, chunk);
         put_ascii(p, fault, &shown[..len]);
+    }
+}
+
+/// Writes a byte as a quoted string contains it: a plain ASCII character as it is, any other byte as `\hh` with its two hexadecimal
+/// digits.
+#[tactic(auto, unfolding(wasmprinter_spec::specs::Quoted::byte_text))]
+fn put_byte<P: Print>(p: &mut P, fault: &mut Fault, byte: u8)
+    ensures { Puts P.meaning p.old fault.old p.new fault.new (Text (byte_text byte) ∷ []) }
+{
+    let c = char::from(byte);
+    if is_plain(c) {
+        put_text(p, fault, c.encode_utf8(&mut [0; 4]));
+        return;
+    }
+    put_text(p, fault, "\\");
+    put_byte_digits(p, fault, byte);
+}
+
+/// Writes bytes as a quoted string contains them, each plain byte by a call of its own.
+fn put_bytes_one_by_one<P: Print>(p: &mut P, fault: &mut Fault, bytes: &[u8])
+    ensures { Puts P.meaning p.old fault.old p.new fault.new (Text (flat_map byte_text bytes.now) ∷ []) }
+{
+    for &byte in bytes {
+        if fault.is_some() {
+            return;
+        }
+        put_byte(p, fault, byte);
+    }
+}
+
+/// Writes bytes as a quoted string contains them.
+fn put_each_byte<P: Print>(p: &mut P, fault: &mut Fault, bytes: &[u8])
+    ensures { Puts P.meaning p.old fault.old p.new fault.new (Text (flat_map byte_text bytes.now) ∷ []) }
+{
+    if p.takes_runs() {
+        put_bytes_in_runs(p, fault, bytes);
+    } else {
+        put_bytes_one_by_one(p, fault, bytes);
     }
 }
 

@@ -9,7 +9,8 @@ ghost use Rattle.wasmprinter_print.specs.Styles.{style_of};
 
 use std::io;
 use wasmprinter_print::{
-    Fault, Print, Style, put_reset, put_start, put_text, put_text_in_style, text, text_in_style,
+    Fault, Print, Style, put_reset, put_start, put_text, put_text_in_style, reset, start, text,
+    text_in_style,
 };
 
 /// Writes two texts as one in a style.
@@ -37,9 +38,10 @@ pub(crate) fn two_texts_in_style<P: Print>(
 ) -> io::Result<()>
     ensures { Emits P.meaning p.old p.new result (in_style (style_of style) (first.now ++ second.now)) }
 {
-    let mut fault = Fault::none();
-    put_two_texts_in_style(p, &mut fault, style, first, second);
-    fault.into_result()
+    start(p, style)?;
+    text(p, first)?;
+    text(p, second)?;
+    reset(p)
 }
 
 /// Opens a group: a parenthesis and a keyword.
@@ -54,9 +56,8 @@ pub fn put_open<P: Print>(p: &mut P, fault: &mut Fault, keyword: &str)
 pub fn open<P: Print>(p: &mut P, keyword: &str) -> io::Result<()>
     ensures { PrintsAlways P.meaning p.old p.new result (Open keyword.now ∷ []) }
 {
-    let mut fault = Fault::none();
-    put_open(p, &mut fault, keyword);
-    fault.into_result()
+    text(p, "(")?;
+    text_in_style(p, Style::Keyword, keyword)
 }
 
 /// Opens a group with a blank behind its keyword.
@@ -71,9 +72,8 @@ pub fn put_open_gap<P: Print>(p: &mut P, fault: &mut Fault, keyword: &str)
 pub fn open_gap<P: Print>(p: &mut P, keyword: &str) -> io::Result<()>
     ensures { PrintsAlways P.meaning p.old p.new result (OpenGap keyword.now ∷ []) }
 {
-    let mut fault = Fault::none();
-    put_open_gap(p, &mut fault, keyword);
-    fault.into_result()
+    text(p, "(")?;
+    two_texts_in_style(p, Style::Keyword, keyword, " ")
 }
 
 /// Opens a group whose keyword has no style.
@@ -88,9 +88,8 @@ pub fn put_open_plain<P: Print>(p: &mut P, fault: &mut Fault, unstyled: &str)
 pub fn open_plain<P: Print>(p: &mut P, unstyled: &str) -> io::Result<()>
     ensures { PrintsAlways P.meaning p.old p.new result (OpenPlain unstyled.now ∷ []) }
 {
-    let mut fault = Fault::none();
-    put_open_plain(p, &mut fault, unstyled);
-    fault.into_result()
+    text(p, "(")?;
+    text(p, unstyled)
 }
 
 /// Opens a group whose keyword is the word of a type, with a blank behind it.
@@ -120,9 +119,7 @@ pub fn put_shut<P: Print>(p: &mut P, fault: &mut Fault)
 pub fn shut<P: Print>(p: &mut P) -> io::Result<()>
     ensures { PrintsAlways P.meaning p.old p.new result (Shut ∷ []) }
 {
-    let mut fault = Fault::none();
-    put_shut(p, &mut fault);
-    fault.into_result()
+    text(p, ")")
 }
 
 /// Writes a blank.
@@ -136,9 +133,7 @@ pub fn put_gap<P: Print>(p: &mut P, fault: &mut Fault)
 pub fn gap<P: Print>(p: &mut P) -> io::Result<()>
     ensures { PrintsAlways P.meaning p.old p.new result (Gap ∷ []) }
 {
-    let mut fault = Fault::none();
-    put_gap(p, &mut fault);
-    fault.into_result()
+    text(p, " ")
 }
 
 /// Writes a word without a style.
@@ -152,9 +147,7 @@ pub fn put_word<P: Print>(p: &mut P, fault: &mut Fault, word: &str)
 pub fn word<P: Print>(p: &mut P, word: &str) -> io::Result<()>
     ensures { PrintsAlways P.meaning p.old p.new result (Word word.now ∷ []) }
 {
-    let mut fault = Fault::none();
-    put_word(p, &mut fault, word);
-    fault.into_result()
+    text(p, word)
 }
 
 /// Writes the word of a type.
@@ -168,9 +161,7 @@ pub fn put_type_word<P: Print>(p: &mut P, fault: &mut Fault, word: &str)
 pub fn type_word<P: Print>(p: &mut P, word: &str) -> io::Result<()>
     ensures { PrintsAlways P.meaning p.old p.new result (TypeWord word.now ∷ []) }
 {
-    let mut fault = Fault::none();
-    put_type_word(p, &mut fault, word);
-    fault.into_result()
+    text_in_style(p, Style::TypeName, word)
 }
 
 /// Writes the word of a type and a blank.
@@ -191,9 +182,7 @@ pub fn put_gap_type_word<P: Print>(p: &mut P, fault: &mut Fault, word: &str)
 pub fn gap_type_word<P: Print>(p: &mut P, word: &str) -> io::Result<()>
     ensures { PrintsAlways P.meaning p.old p.new result (GapTypeWord word.now ∷ []) }
 {
-    let mut fault = Fault::none();
-    put_gap_type_word(p, &mut fault, word);
-    fault.into_result()
+    two_texts_in_style(p, Style::TypeName, " ", word)
 }
 
 /// Text in the style of names follows.
@@ -207,9 +196,7 @@ pub fn put_begin_name<P: Print>(p: &mut P, fault: &mut Fault)
 pub fn begin_name<P: Print>(p: &mut P) -> io::Result<()>
     ensures { PrintsAlways P.meaning p.old p.new result (BeginName ∷ []) }
 {
-    let mut fault = Fault::none();
-    put_begin_name(p, &mut fault);
-    fault.into_result()
+    start(p, Style::Name)
 }
 
 /// Text without a style follows.
@@ -223,7 +210,5 @@ pub fn put_end_style<P: Print>(p: &mut P, fault: &mut Fault)
 pub fn end_style<P: Print>(p: &mut P) -> io::Result<()>
     ensures { PrintsAlways P.meaning p.old p.new result (EndStyle ∷ []) }
 {
-    let mut fault = Fault::none();
-    put_end_style(p, &mut fault);
-    fault.into_result()
+    reset(p)
 }

@@ -3,7 +3,7 @@ use Rattle.std.specs.Prelude.{flat_map}
 use Rattle.std.specs.Slice.Iter.{chunks_rest, chunks_size}
 use Rattle.wasmprinter_spec.specs.Quoted.{byte_text}
 use Rattle.wasmprinter_print.specs.Puts.{PutsBut}
-use Rattle.wasmprinter_words.proofs.strings.put_each_byte.Given as goal
+use Rattle.wasmprinter_words.proofs.strings.put_bytes_in_runs.Given as goal
 
 abbrev pub invariant-loop-chunk : goal.invariant-loop-chunk
 invariant-loop-chunk g l =

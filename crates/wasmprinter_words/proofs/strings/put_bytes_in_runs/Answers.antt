@@ -3,7 +3,7 @@ use Rattle.std.proofs.lemmas.Grind.{flat_map-append}
 use Rattle.std.specs.Slice.Iter.{chunks_rest}
 use Rattle.wasmprinter_spec.specs.Quoted.{byte_text}
 use Rattle.wasmprinter_print.specs.PutsLaws.{but_more}
-use Rattle.wasmprinter_words.proofs.strings.put_each_byte.Goals as goal
+use Rattle.wasmprinter_words.proofs.strings.put_bytes_in_runs.Goals as goal
 
 pub put_ascii-requires : goal.put_ascii-requires
 put_ascii-requires g c = c.show_bytes-len.ensures.ascii

@@ -1,0 +1,34 @@
+-- Plain characters at the start of a text, each of which a quoted string contains as it is.
+use Rattle.std.specs.Prelude.{◌≡◌, ℕ, ◌+◌, ◌<◌, List, [], ◌∷◌, ◌++◌, length, take, drop, true, flat_map, chars, IsUtf8}
+use Rattle.std.specs.Char.{encode_utf8}
+use Rattle.std.proofs.Common.{refl, sym, ap, ◌∙◌, append_assoc, get_or}
+use Rattle.std.proofs.lemmas.List.{take_more, drop_more, nil_from_length}
+use Rattle.std.proofs.lemmas.Str.{encode_ascii, chars-nil, chars_past_char, IsUtf8-past_char}
+use Rattle.wasmprinter_spec.specs.Quoted.{is_plain, char_text}
+use Rattle.wasmprinter_words.proofs.Tables.{plain_low}
+
+-- the empty text is the empty quoted string
+pub none_left : (bs : List ℕ) → length bs ≡ 0 → flat_map char_text (chars bs) ≡ []
+none_left bs e = ap (λ (s : List ℕ). flat_map char_text (chars s)) (nil_from_length bs e) ∙ ap (flat_map char_text) chars-nil
+
+-- a quoted string contains the first `i` bytes of the text as they are, and the rest of the text is valid UTF-8
+abbrev pub BeginsPlain : List ℕ → ℕ → Type 0
+BeginsPlain bs i = IsUtf8 (drop i bs) × (flat_map char_text (chars bs) ≡ take i bs ++ flat_map char_text (chars (drop i bs)))
+
+itself : (c : ℕ) → is_plain c ≡ true → char_text c ≡ c ∷ []
+unfolding char_text
+itself c h = rw h refl
+
+-- the same for one more byte, if the character is plain
+pub plain_more : (bs : List ℕ) (i : ℕ) → i < length bs → is_plain (get_or bs i 0) ≡ true → BeginsPlain bs i → BeginsPlain bs (i + 1)
+plain_more bs i l h (u, e) =
+    let b = get_or bs i 0 in
+    let left = drop (i + 1) bs in
+    let split : drop i bs ≡ encode_utf8 b ++ left = drop_more bs i 0 l ∙ ap (λ x. x ++ left) (sym (encode_ascii b (plain_low b h))) in (
+      IsUtf8-past_char (drop i bs) left b u split,
+      e
+          ∙ ap (λ cs. take i bs ++ flat_map char_text cs) (chars_past_char (drop i bs) left b u split)
+          ∙ ap (λ x. take i bs ++ (x ++ flat_map char_text (chars left))) (itself b h)
+          ∙ sym (append_assoc (take i bs) (b ∷ []) (flat_map char_text (chars left)))
+          ∙ ap (λ x. x ++ flat_map char_text (chars left)) (sym (take_more bs i 0 l)),
+    )
