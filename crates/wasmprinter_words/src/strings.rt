@@ -8,10 +8,10 @@ ghost use Rattle.wasmprinter_print.specs.Emits.{Emits, EmitsOrFails};
 ghost use Rattle.wasmprinter_print.specs.Prints.{PrintsAlways};
 ghost use Rattle.wasmprinter_print.specs.Puts.{Puts};
 
-use crate::numbers::{glyph_of, put_byte_digits, put_hexadecimal};
+use crate::numbers::{glyph_of, put_hexadecimal, write_byte_digits};
 use std::io;
 use wasmprinter_error::Error;
-use wasmprinter_print::{Fault, Print, Style, put_each_char, put_reset, put_start, put_text};
+use wasmprinter_print::{Fault, Print, Style, put_each_char, put_text, reset, start, text};
 
 /// The most bytes of a quoted string that are written by one call.
 const GATHERED: usize = 256;
@@ -40,7 +40,6 @@ fn is_plain(c: char) -> bool
 }
 
 /// Writes a character of a quoted string by its number in hexadecimal, as `\u{..}`.
-#[tactic(auto, unfolding(wasmprinter_spec::specs::Quoted::char_text))]
 fn put_escape<P: Print>(p: &mut P, fault: &mut Fault, c: char)
     requires { is_plain c ≡ false }
     ensures { Puts P.meaning p.old fault.old p.new fault.new (Text (char_text c) ∷ []) }
@@ -92,70 +91,69 @@ fn put_chars_in_runs<P: Print>(p: &mut P, fault: &mut Fault, s: &str)
     }
 }
 
+/// Writes a character of a quoted string by its number in hexadecimal, as `\u{..}`.
+fn write_escape<P: Print>(p: &mut P, c: char) -> io::Result<()>
+    requires { is_plain c ≡ false }
+    ensures { Emits P.meaning p.old p.new result (Text (char_text c) ∷ []) }
+{
+    let mut fault = Fault::none();
+    put_escape(p, &mut fault, c);
+    fault.into_result()
+}
+
 /// Writes a character as a quoted string contains it: a plain character as it is, any other as `\u{..}` with its number in hexadecimal.
 #[tactic(auto, unfolding(wasmprinter_spec::specs::Quoted::char_text))]
-fn put_char<P: Print>(p: &mut P, fault: &mut Fault, c: char)
-    ensures { Puts P.meaning p.old fault.old p.new fault.new (Text (char_text c) ∷ []) }
+fn write_char<P: Print>(p: &mut P, c: char) -> io::Result<()>
+    ensures { Emits P.meaning p.old p.new result (Text (char_text c) ∷ []) }
 {
     if is_plain(c) {
-        put_text(p, fault, c.encode_utf8(&mut [0; 4]));
-        return;
+        return text(p, c.encode_utf8(&mut [0; 4]));
     }
-    put_escape(p, fault, c);
+    write_escape(p, c)
 }
 
 /// Writes the characters of a text as a quoted string contains them, each plain character by a call of its own.
-fn put_chars_one_by_one<P: Print>(p: &mut P, fault: &mut Fault, s: &str)
-    ensures { Puts P.meaning p.old fault.old p.new fault.new (Text (flat_map char_text (chars s.now)) ∷ []) }
+fn write_chars_one_by_one<P: Print>(p: &mut P, s: &str) -> io::Result<()>
+    ensures { Emits P.meaning p.old p.new result (Text (flat_map char_text (chars s.now)) ∷ []) }
 {
     for c in s.chars() {
-        if fault.is_some() {
-            return;
-        }
-        put_char(p, fault, c);
+        write_char(p, c)?;
     }
+    Ok(())
+}
+
+/// Writes the characters of a text as a quoted string contains them.
+pub(crate) fn write_chars<P: Print>(p: &mut P, s: &str) -> io::Result<()>
+    ensures { Emits P.meaning p.old p.new result (Text (flat_map char_text (chars s.now)) ∷ []) }
+{
+    if !p.takes_runs() {
+        return write_chars_one_by_one(p, s);
+    }
+    let mut fault = Fault::none();
+    put_chars_in_runs(p, &mut fault, s);
+    fault.into_result()
 }
 
 /// Writes the characters of a text as a quoted string contains them.
 pub(crate) fn put_chars<P: Print>(p: &mut P, fault: &mut Fault, s: &str)
     ensures { Puts P.meaning p.old fault.old p.new fault.new (Text (flat_map char_text (chars s.now)) ∷ []) }
 {
-    if p.takes_runs() {
-        put_chars_in_runs(p, fault, s);
-    } else {
-        put_chars_one_by_one(p, fault, s);
+    if !fault.is_some() {
+        fault.keep(write_chars(p, s));
     }
-}
-
-/// Writes the characters of a text as they stand in quotes.
-pub(crate) fn write_chars<P: Print>(p: &mut P, s: &str) -> io::Result<()>
-    ensures { Emits P.meaning p.old p.new result (Text (flat_map char_text (chars s.now)) ∷ []) }
-{
-    let mut fault = Fault::none();
-    put_chars(p, &mut fault, s);
-    fault.into_result()
 }
 
 /// Writes a text in quotes, with what isn't printable by its number.
 #[tactic(auto, unfolding(wasmprinter_spec::specs::Quoted::quoted_text))]
-fn put_string<P: Print>(p: &mut P, fault: &mut Fault, s: &str)
-    ensures { Puts P.meaning p.old fault.old p.new fault.new (calls_in_style Literal (quoted_text (chars s.now))) }
-{
-    put_start(p, fault, Style::Literal);
-    put_text(p, fault, "\"");
-    put_chars(p, fault, s);
-    put_text(p, fault, "\"");
-    put_reset(p, fault);
-}
-
-/// Writes a text in quotes, with what isn't printable by its number.
 pub fn write_string<P: Print>(p: &mut P, s: &str) -> io::Result<()>
     ensures calls { Emits P.meaning p.old p.new result (calls_in_style Literal (quoted_text (chars s.now))) }
     ensures pieces { PrintsAlways P.meaning p.old p.new result (Quoted (chars s.now) ∷ []) }
 {
-    let mut fault = Fault::none();
-    put_string(p, &mut fault, s);
-    fault.into_result()
+    start(p, Style::Literal)?;
+    text(p, "\"")?;
+    write_chars(p, s)?;
+    text(p, "\"")?;
+    reset(p)
 }
 
 /// Writes a text in quotes, as the text of a module writes it: printable ASCII as it is but for `"` and `\`, any other character as
@@ -238,61 +236,50 @@ fn put_bytes_in_runs<P: Print>(p: &mut P, fault: &mut Fault, bytes: &[u8])
 /// Writes a byte as a quoted string contains it: a plain ASCII character as it is, any other byte as `\hh` with its two hexadecimal
 /// digits.
 #[tactic(auto, unfolding(wasmprinter_spec::specs::Quoted::byte_text))]
-fn put_byte<P: Print>(p: &mut P, fault: &mut Fault, byte: u8)
-    ensures { Puts P.meaning p.old fault.old p.new fault.new (Text (byte_text byte) ∷ []) }
+fn write_byte<P: Print>(p: &mut P, byte: u8) -> io::Result<()>
+    ensures { Emits P.meaning p.old p.new result (Text (byte_text byte) ∷ []) }
 {
     let c = char::from(byte);
     if is_plain(c) {
-        put_text(p, fault, c.encode_utf8(&mut [0; 4]));
-        return;
+        return text(p, c.encode_utf8(&mut [0; 4]));
     }
-    put_text(p, fault, "\\");
-    put_byte_digits(p, fault, byte);
+    text(p, "\\")?;
+    write_byte_digits(p, byte)
 }
 
 /// Writes bytes as a quoted string contains them, each plain byte by a call of its own.
-fn put_bytes_one_by_one<P: Print>(p: &mut P, fault: &mut Fault, bytes: &[u8])
-    ensures { Puts P.meaning p.old fault.old p.new fault.new (Text (flat_map byte_text bytes.now) ∷ []) }
+fn write_bytes_one_by_one<P: Print>(p: &mut P, bytes: &[u8]) -> io::Result<()>
+    ensures { Emits P.meaning p.old p.new result (Text (flat_map byte_text bytes.now) ∷ []) }
 {
     for &byte in bytes {
-        if fault.is_some() {
-            return;
-        }
-        put_byte(p, fault, byte);
+        write_byte(p, byte)?;
     }
+    Ok(())
 }
 
 /// Writes bytes as a quoted string contains them.
-fn put_each_byte<P: Print>(p: &mut P, fault: &mut Fault, bytes: &[u8])
-    ensures { Puts P.meaning p.old fault.old p.new fault.new (Text (flat_map byte_text bytes.now) ∷ []) }
+fn write_each_byte<P: Print>(p: &mut P, bytes: &[u8]) -> io::Result<()>
+    ensures { Emits P.meaning p.old p.new result (Text (flat_map byte_text bytes.now) ∷ []) }
 {
-    if p.takes_runs() {
-        put_bytes_in_runs(p, fault, bytes);
-    } else {
-        put_bytes_one_by_one(p, fault, bytes);
+    if !p.takes_runs() {
+        return write_bytes_one_by_one(p, bytes);
     }
+    let mut fault = Fault::none();
+    put_bytes_in_runs(p, &mut fault, bytes);
+    fault.into_result()
 }
 
 /// Writes bytes in quotes, with what isn't printable by its hexadecimal digits.
 #[tactic(auto, unfolding(wasmprinter_spec::specs::Quoted::quoted_bytes))]
-fn put_byte_string<P: Print>(p: &mut P, fault: &mut Fault, bytes: &[u8])
-    ensures { Puts P.meaning p.old fault.old p.new fault.new (calls_in_style Literal (quoted_bytes bytes.now)) }
-{
-    put_start(p, fault, Style::Literal);
-    put_text(p, fault, "\"");
-    put_each_byte(p, fault, bytes);
-    put_text(p, fault, "\"");
-    put_reset(p, fault);
-}
-
-/// Writes bytes in quotes, with what isn't printable by its hexadecimal digits.
 pub fn write_byte_string<P: Print>(p: &mut P, bytes: &[u8]) -> io::Result<()>
     ensures calls { Emits P.meaning p.old p.new result (calls_in_style Literal (quoted_bytes bytes.now)) }
     ensures pieces { PrintsAlways P.meaning p.old p.new result (QuotedBytes bytes.now ∷ []) }
 {
-    let mut fault = Fault::none();
-    put_byte_string(p, &mut fault, bytes);
-    fault.into_result()
+    start(p, Style::Literal)?;
+    text(p, "\"")?;
+    write_each_byte(p, bytes)?;
+    text(p, "\"")?;
+    reset(p)
 }
 
 /// Writes bytes in quotes, as the text of a module writes them: those of printable ASCII as they are but for `"` and `\`, any
