@@ -1,7 +1,7 @@
 -- Names by their places, in a list.
-use Rattle.std.specs.Prelude.{◌≡◌, ℕ, List, length, Bool, true, false, slice_index_or, Option, Some, if◌then◌else◌}
+use Rattle.std.specs.Prelude.{◌≡◌, ◌↔◌, ℕ, List, length, Bool, true, false, slice_index_or, Option, Some, if◌then◌else◌}
 use Rattle.std.specs.declared.cmp.Ordering.TheVariants.{Less, Greater}
-use Rattle.std.specs.List.{All, AllWithin}
+use Rattle.std.specs.List.{Any, AllWithin}
 use Rattle.std.specs.List.Sorted.{IsStrictlySortedBy}
 use Rattle.std.specs.Map.{keys_of, lookup}
 use Rattle.std.specs.BTreeMap.{is_at}
@@ -29,6 +29,6 @@ AllAreBefore entries i place = AllWithin (λ e. place_cmp e.0 place ≡ Less) en
 abbrev pub AllAreBehind : List (Place × StoredName) → ℕ → Place → Type 0
 AllAreBehind entries i place = AllWithin (λ e. place_cmp e.0 place ≡ Greater) entries i (length entries)
 
--- the subsection of each entry is marked
+-- a subsection is marked if and only if an entry is of it
 abbrev pub AreMarked : List (Place × StoredName) → List Bool → Type 0
-AreMarked entries marks = All (λ e. slice_index_or marks e.0.subsection false ≡ true) entries
+AreMarked entries marks = (s : ℕ) → (slice_index_or marks s false ≡ true) ↔ Any (λ e. e.0.subsection ≡ s) entries
