@@ -8,14 +8,16 @@ use Rattle.std.proofs.lemmas.Map.{NonePasses, lookup-none}
 use Rattle.std.proofs.lemmas.Map.Entries.{length-keys_of, lookup_head, lookup_from_place}
 use Rattle.std.proofs.lemmas.Map.Keys.{Less-from_sorted, IsDistinct-from_sorted}
 use Rattle.std.proofs.lemmas.Option.{none-some, slice_get_read}
-use Rattle.std.specs.Prelude.{Bool, true, false, nat_eq, ◌&&◌, map, Some, None, option_map}
+use Rattle.std.specs.Prelude.{Bool, true, false, nat_eq, ◌&&◌, map, Some, None, IfSome, IfNone, option_map, Result, Ok, Err}
 use Rattle.std.specs.declared.cmp.Ordering.{Ordering}
 use Rattle.std.specs.declared.cmp.Ordering.TheVariants.{Less, Equal, Greater}
 use Rattle.std.specs.Ordering.{nat_cmp, ordering_then, partial_ordering_then, ordering_reverse, ordering_index, is_eq, is_lt, is_some_and, eq_by_cmp}
 use Rattle.std.specs.Cmp.{IsTotalOrder}
 use Rattle.std.specs.BTreeMap.{is_at}
 use Rattle.std.specs.Map.{keys_of, lookup}
-use Rattle.std.specs.List.Sorted.{IsNonDecreasingBy}
+use Rattle.std.specs.Result.{result_ok}
+use Rattle.std.specs.List.{HoldsAt}
+use Rattle.std.specs.List.Sorted.{IsNonDecreasingBy, IsBinarySearchResult}
 use Rattle.wasmprinter_names.specs.Views.{place_cmp, stored_view, item_view, name_at}
 use Rattle.wasmprinter_names.specs.Lookups.{Ascends, AllAreBefore, AllAreBehind, stored_at}
 use Rattle.wasmprinter_names.specs.declared.store.Place.{Place}
@@ -58,7 +60,7 @@ turned p q less = place_total.antisymm q p ∙ ap ordering_reverse less
 -- ---- entries that ascend
 
 module _ (es : List (Place × StoredName)) (s : Ascends es) where
-  rises : (i j : ℕ) (d : Place × StoredName) → i < j → j < length es → place_cmp (get_or es i d).0 (get_or es j d).0 ≡ Less
+  pub rises : (i j : ℕ) (d : Place × StoredName) → i < j → j < length es → place_cmp (get_or es i d).0 (get_or es j d).0 ≡ Less
   rises i j d lt within =
       let key : (k : ℕ) → k < length es → get_or (keys_of es) k d.0 ≡ (get_or es k d).0 = λ k low. get_or-map (λ (e : Place × StoredName). e.0) es k d d.0 low in
       ap (λ (p : Place). place_cmp p (get_or es j d).0) (sym (key i (omega arith)))
@@ -110,6 +112,18 @@ none_there es q i before behind = sym (lookup-none (is_at (place_cmp q)) es (non
   | inl lt ↦ ap is_eq (turned (get_or es k d).0 q (before k d (omega arith) lt))
   | inr ge ↦ ap is_eq (place_total.antisymm q (get_or es k d).0 ∙ ap ordering_reverse (behind k d ge low))
 ])))
+
+-- ---- what a binary search returns
+
+pub search_at : (es : List (Place × StoredName)) (q : Place) (r : Result ℕ ℕ) → IsBinarySearchResult (λ e. place_cmp e.0 q) es r
+    → IfSome (result_ok r) (HoldsAt (λ e. place_cmp e.0 q ≡ Equal) es)
+search_at es q (Ok i) h = h
+search_at es q (Err i) h = tt
+
+pub search_none : (es : List (Place × StoredName)) (s : Ascends es) (q : Place) (r : Result ℕ ℕ) → IsBinarySearchResult (λ e. place_cmp e.0 q) es r
+    → IfNone (result_ok r) (stored_at es q ≡ None)
+search_none es s q (Ok i) h = tt
+search_none es s q (Err i) h = let parted = h (searchable es s q) in sym (none_there es q i parted.0 parted.1)
 
 -- ---- no entry at all
 

@@ -1,22 +1,22 @@
 -- Names that come in the order of their places, and those that don't.
-use Rattle.std.proofs.Common.{◌≡◌, ℕ, suc, List, [], ◌∷◌, ◌++◌, length, get_or, IsTrue, refl, sym, ap, ◌∙◌, subst, arith, true≢false}
+use Rattle.std.proofs.Common.{◌≡◌, ℕ, zero, suc, ◌<◌, List, [], ◌∷◌, ◌++◌, length, get_or, set, IsTrue, refl, sym, ap, ◌∙◌, subst, arith, true≢false}
 use Rattle.std.proofs.lemmas.Cmp.{eq_by_cmp_equiv}
-use Rattle.std.proofs.lemmas.List.{append-nil}
 use Rattle.std.proofs.lemmas.List.Edits.{insert_end}
-use Rattle.std.proofs.lemmas.Map.{lookup-insert}
-use Rattle.std.specs.List.{AllByRecursion}
+use Rattle.std.proofs.lemmas.Map.{lookup-insert, lookup-set_value, keys-set_value}
+use Rattle.std.proofs.lemmas.Map.Keys.{sorted_tail}
+use Rattle.std.specs.List.{AllByRecursion, HoldsAt}
 use Rattle.std.specs.List.Sorted.{IsStrictlySortedBy}
-use Rattle.std.specs.declared.cmp.Ordering.TheVariants.{Less}
+use Rattle.std.specs.declared.cmp.Ordering.TheVariants.{Less, Equal}
 use Rattle.std.specs.Ordering.{is_eq}
-use Rattle.std.specs.Option.{option_or, is_some}
-use Rattle.std.specs.Map.{keys_of, lookup}
+use Rattle.std.specs.Option.{option_or, is_some, IsSome}
+use Rattle.std.specs.Map.{keys_of, lookup, set_value}
 use Rattle.std.specs.Prelude.{Bool, true, false, Some, None, if◌then◌else◌, Option}
 use Rattle.std.specs.BTreeMap.{is_at}
 use Rattle.wasmprinter_names.specs.Views.{place_cmp}
-use Rattle.wasmprinter_names.specs.Lookups.{Ascends, AllAreBefore, Gains, stored_at}
+use Rattle.wasmprinter_names.specs.Lookups.{Ascends, AllAreBefore, AreDisjoint, Gains, stored_at}
 use Rattle.wasmprinter_names.specs.declared.store.Place.{Place}
 use Rattle.wasmprinter_names.specs.declared.store.StoredName.{StoredName}
-use Rattle.wasmprinter_names.proofs.Lookups.{place_total, turned, none_by}
+use Rattle.wasmprinter_names.proofs.Lookups.{place_total, turned, rises, found, none_by, none_there}
 
 -- ---- a name behind all others
 
@@ -50,7 +50,7 @@ pushed_gains es e before q =
 -- ---- names in front of others
 
 -- those in front count
-stored_either : (es fs : List (Place × StoredName)) (q : Place) → stored_at (es ++ fs) q ≡ option_or (stored_at es q) (stored_at fs q)
+pub stored_either : (es fs : List (Place × StoredName)) (q : Place) → stored_at (es ++ fs) q ≡ option_or (stored_at es q) (stored_at fs q)
 stored_either [] fs q = refl
 stored_either (e ∷ es) fs q = by (is_at (place_cmp q) e.0) (stored_either es fs q)
   where
@@ -70,48 +70,110 @@ gains_front es ds fs p x names q =
     by false = refl
 
 -- equal places have the same name
-same_stored : (es : List (Place × StoredName)) (p q : Place) → is_at (place_cmp q) p ≡ true → stored_at es q ≡ stored_at es p
+pub same_stored : (es : List (Place × StoredName)) (p q : Place) → is_at (place_cmp q) p ≡ true → stored_at es q ≡ stored_at es p
 same_stored es p q hit = ap (λ (test : Place → Bool). lookup test es) tests
   where
     tests : is_at (place_cmp q) ≡ is_at (place_cmp p)
     tests = λ j k. (eq_by_cmp_equiv place_total).congr q p k hit j
 
--- the first of the others goes to the front, if its place has no name there
-pub stored_moved : (es ds fs gs : List (Place × StoredName)) (p : Place) (x : StoredName) → gs ≡ (p, x) ∷ fs → is_some (stored_at es p) ≡ false → Gains es ds p x
-    → (q : Place) → stored_at (ds ++ fs) q ≡ stored_at (es ++ gs) q
-stored_moved es ds fs gs p x first none names q =
-    stored_either ds fs q ∙ ap (λ (o : Option StoredName). option_or o (stored_at fs q)) (names q)
-    ∙ ap (λ (b : Bool). option_or (if b then Some x else stored_at es q) (stored_at fs q)) ((eq_by_cmp_equiv place_total).symm p q)
-    ∙ by (is_at (place_cmp q) p) refl ∙ sym (stored_either es ((p, x) ∷ fs) q) ∙ ap (λ (l : List (Place × StoredName)). stored_at (es ++ l) q) (sym first)
+-- a name that the second list gains is gained by both lists together, if its place has no name in the first list
+pub gains_back : (es fs gs : List (Place × StoredName)) (p : Place) (x : StoredName) → stored_at es p ≡ None → Gains fs gs p x → Gains (es ++ fs) (es ++ gs) p x
+gains_back es fs gs p x none names q =
+    stored_either es gs q ∙ ap (option_or (stored_at es q)) (names q) ∙ by (is_at (place_cmp p) q) refl
+    ∙ ap (λ (o : Option StoredName). if is_at (place_cmp p) q then Some x else o) (sym (stored_either es fs q))
   where
-    second : (o : Option StoredName) → is_some o ≡ false → Some x ≡ option_or o (Some x)
-    second None h = refl
-    second (Some y) h = absurd (true≢false h)
-
-    by : (b : Bool) → is_at (place_cmp q) p ≡ b
-        → option_or (if b then Some x else stored_at es q) (stored_at fs q) ≡ option_or (stored_at es q) (if b then Some x else stored_at fs q)
-    by true hit = second (stored_at es q) (ap is_some (same_stored es p q hit) ∙ none)
+    by : (b : Bool) → is_at (place_cmp p) q ≡ b
+        → option_or (stored_at es q) (if b then Some x else stored_at fs q) ≡ (if b then Some x else option_or (stored_at es q) (stored_at fs q))
+    by true hit = ap (λ (o : Option StoredName). option_or o (Some x)) (sym (same_stored es q p hit) ∙ none)
     by false hit = refl
 
--- and else it is of no account
-pub stored_without : (es fs gs : List (Place × StoredName)) (p : Place) (x : StoredName) → gs ≡ (p, x) ∷ fs → is_some (stored_at es p) ≡ true
-    → (q : Place) → stored_at (es ++ fs) q ≡ stored_at (es ++ gs) q
-stored_without es fs gs p x first some q =
-    stored_either es fs q ∙ by (is_at (place_cmp q) p) refl ∙ sym (stored_either es ((p, x) ∷ fs) q)
-    ∙ ap (λ (l : List (Place × StoredName)). stored_at (es ++ l) q) (sym first)
+-- ---- a name that replaces another
+
+-- the entry at a position is the first entry of its place
+set_first : (es : List (Place × StoredName)) (i : ℕ) (e : Place × StoredName) (p : Place) (x : StoredName) → Ascends es → i < length es → e ≡ get_or es i e
+    → is_at (place_cmp p) e.0 ≡ true → set es i (e.0, x) ≡ set_value (is_at (place_cmp p)) es x
+set_first [] i e p x s within at hit = absurd (omega (arith, within))
+set_first (f ∷ es) zero e p x s within at hit =
+    ap (λ (b : Bool). if b then (e.0, x) ∷ es else f ∷ set_value (is_at (place_cmp p)) es x) (sym hit)
+    ∙ ap (λ (g : Place × StoredName). if is_at (place_cmp p) g.0 then (g.0, x) ∷ es else f ∷ set_value (is_at (place_cmp p)) es x) at
+set_first (f ∷ es) (suc i) e p x s within at hit =
+    ap (λ (l : List (Place × StoredName)). f ∷ l) (set_first es i e p x (sorted_tail place_cmp f.0 (keys_of es) s) (omega (arith, within)) at hit)
+    ∙ ap (λ (b : Bool). if b then (f.0, x) ∷ es else f ∷ set_value (is_at (place_cmp p)) es x) (sym (other (is_at (place_cmp p) f.0) refl))
   where
-    whichever : (o a b : Option StoredName) → is_some o ≡ true → option_or o a ≡ option_or o b
-    whichever None a b h = absurd (true≢false (sym h))
-    whichever (Some y) a b h = refl
+    below : place_cmp f.0 e.0 ≡ Less
+    below = ap (λ (g : Place × StoredName). place_cmp f.0 g.0) at ∙ rises (f ∷ es) s 0 (suc i) e (omega arith) within
 
-    by : (b : Bool) → is_at (place_cmp q) p ≡ b → option_or (stored_at es q) (stored_at fs q) ≡ option_or (stored_at es q) (if b then Some x else stored_at fs q)
-    by true hit = whichever (stored_at es q) (stored_at fs q) (Some x) (ap is_some (same_stored es p q hit) ∙ some)
-    by false hit = refl
+    other : (b : Bool) → is_at (place_cmp p) f.0 ≡ b → b ≡ false
+    other true h = absurd (true≢false (sym (sym ((eq_by_cmp_equiv place_total).congr p f.0 e.0 h) ∙ hit) ∙ ap is_eq below))
+    other false h = refl
 
--- none of the others is left
-pub stored_all : (es fs : List (Place × StoredName)) (n : ℕ) → n ≡ length fs → n ≡ 0 → (q : Place) → stored_at es q ≡ stored_at (es ++ fs) q
-stored_all es [] n len none q = ap (λ (l : List (Place × StoredName)). stored_at l q) (sym (append-nil es))
-stored_all es (f ∷ fs) n len none q = absurd (omega (arith, len, none))
+-- The entry at a position is at this place, so that its name is replaced.
+pub record Replaces (es : List (Place × StoredName)) (i : ℕ) (e : Place × StoredName) (p : Place) : Type 0 where
+  pub within : i < length es
+  pub at : e ≡ get_or es i e
+  pub hit : is_at (place_cmp p) e.0 ≡ true
+
+pub replaces_by : (es ds : List (Place × StoredName)) (i : ℕ) (e : Place × StoredName) (p : Place) → ds ≡ es → i < length ds → HoldsAt (λ (f : Place × StoredName). place_cmp f.0 p ≡ Equal) ds i
+    → e ≡ get_or es i e → Replaces es i e p
+replaces_by es ds i e p same within equal at = record {
+  within = omega (arith, ap length same, within);
+  at = at;
+  hit = (eq_by_cmp_equiv place_total).symm p e.0
+      ∙ ap (λ (f : Place × StoredName). is_eq (place_cmp f.0 p)) (at ∙ ap (λ (l : List (Place × StoredName)). get_or l i e) (sym same)) ∙ ap is_eq (equal e);
+}
+
+module _ (es : List (Place × StoredName)) (i : ℕ) (e : Place × StoredName) (p : Place) (x : StoredName) (s : Ascends es) (r : Replaces es i e p) where
+  is_set : set es i (e.0, x) ≡ set_value (is_at (place_cmp p)) es x
+  is_set = set_first es i e p x s r.within r.at r.hit
+
+  pub replaced_ascends : Ascends (set es i (e.0, x))
+  replaced_ascends = subst (IsStrictlySortedBy place_cmp) (sym (ap keys_of is_set ∙ keys-set_value (is_at (place_cmp p)) es x)) s
+
+  pub replaced_stored : IsSome (stored_at es p)
+  replaced_stored = ap is_some (sym (found es s p i e r.within r.at ((eq_by_cmp_equiv place_total).symm e.0 p ∙ r.hit)))
+
+  pub replaced_gains : Gains es (set es i (e.0, x)) p x
+  replaced_gains q =
+      ap (λ (l : List (Place × StoredName)). stored_at l q) is_set
+      ∙ lookup-set_value (eq_by_cmp_equiv place_total) (is_at (place_cmp p)) (λ j k h. (eq_by_cmp_equiv place_total).congr p j k h) q x es replaced_stored
+
+-- ---- names of different places
+
+pub disjoint_alone : (es fs : List (Place × StoredName)) → fs ≡ [] → AreDisjoint es fs
+disjoint_alone es fs none q some = ap (λ (l : List (Place × StoredName)). stored_at l q) none
+
+-- a place that has a name gets another
+disjoint_replaced : (es ds fs : List (Place × StoredName)) (p : Place) (x : StoredName) → AreDisjoint es fs → IsSome (stored_at es p) → Gains es ds p x → AreDisjoint ds fs
+disjoint_replaced es ds fs p x apart has names q some = apart q (by (is_at (place_cmp p) q) refl (ap is_some (sym (names q)) ∙ some))
+  where
+    by : (b : Bool) → is_at (place_cmp p) q ≡ b → is_some (if b then Some x else stored_at es q) ≡ true → is_some (stored_at es q) ≡ true
+    by true hit t = ap is_some (sym (same_stored es q p hit)) ∙ has
+    by false hit t = t
+
+-- the entry at a position gets another name
+pub replaced_disjoint : (es fs : List (Place × StoredName)) (i : ℕ) (e : Place × StoredName) (p : Place) (x : StoredName) → Ascends es → AreDisjoint es fs → Replaces es i e p
+    → AreDisjoint (set es i (e.0, x)) fs
+replaced_disjoint es fs i e p x s apart r = disjoint_replaced es (set es i (e.0, x)) fs p x apart (replaced_stored es i e p x s r) (replaced_gains es i e p x s r)
+
+pub replaced_gains_all : (es fs : List (Place × StoredName)) (i : ℕ) (e : Place × StoredName) (p : Place) (x : StoredName) → Ascends es → AreDisjoint es fs → Replaces es i e p
+    → Gains (fs ++ es) (fs ++ set es i (e.0, x)) p x
+replaced_gains_all es fs i e p x s apart r = gains_back fs es (set es i (e.0, x)) p x (apart p (replaced_stored es i e p x s r)) (replaced_gains es i e p x s r)
+
+-- a place that has no name in the first list gets one in the second
+pub disjoint_gains : (es fs gs : List (Place × StoredName)) (p : Place) (x : StoredName) → AreDisjoint es fs → stored_at es p ≡ None → Gains fs gs p x → AreDisjoint es gs
+disjoint_gains es fs gs p x apart none names q some = names q ∙ by (is_at (place_cmp p) q) refl
+  where
+    by : (b : Bool) → is_at (place_cmp p) q ≡ b → (if b then Some x else stored_at fs q) ≡ None
+    by true hit = absurd (true≢false (sym some ∙ ap is_some (sym (same_stored es q p hit) ∙ none)))
+    by false hit = apart q some
+
+-- a place with no name in both lists has none in their union
+pub none_either : (es fs : List (Place × StoredName)) (p : Place) → stored_at es p ≡ None → stored_at fs p ≡ None → is_some (stored_at (es ++ fs) p) ≡ false
+none_either es fs p front back = ap is_some (stored_either es fs p ∙ ap (λ (o : Option StoredName). option_or o (stored_at fs p)) front) ∙ ap is_some back
+
+-- a place above all others has no name
+pub none_above : (es : List (Place × StoredName)) (p : Place) → AllAreBefore es (length es) p → stored_at es p ≡ None
+none_above es p before = sym (none_there es p (length es) before (λ k d low high. absurd (omega (arith, low, high))))
 
 -- where there is no name, none stands in front
 pub none_in_front : {P : Type 0} (es fs : List (Place × StoredName)) (b : Bool) → es ++ fs ≡ [] → (IsTrue b → length es ≡ 0) × (length es ≡ 0 → IsTrue b) → b ≡ false → P

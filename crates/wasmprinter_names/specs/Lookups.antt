@@ -1,5 +1,5 @@
 -- Names by their places, in a list.
-use Rattle.std.specs.Prelude.{◌≡◌, ◌↔◌, ℕ, List, length, Bool, true, false, slice_index_or, Option, Some, if◌then◌else◌}
+use Rattle.std.specs.Prelude.{◌≡◌, ◌↔◌, ℕ, List, length, Bool, true, false, slice_index_or, Option, Some, None, IsSome, if◌then◌else◌}
 use Rattle.std.specs.declared.cmp.Ordering.TheVariants.{Less, Greater}
 use Rattle.std.specs.List.{Any, AllWithin}
 use Rattle.std.specs.List.Sorted.{IsStrictlySortedBy}
@@ -28,6 +28,10 @@ AllAreBefore entries i place = AllWithin (λ e. place_cmp e.0 place ≡ Less) en
 -- those from a position on have higher places
 abbrev pub AllAreBehind : List (Place × StoredName) → ℕ → Place → Type 0
 AllAreBehind entries i place = AllWithin (λ e. place_cmp e.0 place ≡ Greater) entries i (length entries)
+
+-- no place has a name in both lists
+abbrev pub AreDisjoint : List (Place × StoredName) → List (Place × StoredName) → Type 0
+AreDisjoint es fs = (q : Place) → IsSome (stored_at es q) → stored_at fs q ≡ None
 
 -- a subsection is marked if and only if an entry is of it
 abbrev pub AreMarked : List (Place × StoredName) → List Bool → Type 0

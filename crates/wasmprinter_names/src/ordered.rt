@@ -1,10 +1,14 @@
 //! The names of a module by the places of its items, while they come in.
-ghost use Rattle.std.specs.Prelude.{◌≡◌, ◌++◌, List, [], length, vec_len, vec_capacity, IfOk, OnOk, OnErr, IsOk, IsTrue};
-ghost use Rattle.wasmprinter_names.specs.Lookups.{Ascends, AllAreBefore, Gains, stored_at};
+ghost use Rattle.std.specs.Prelude.{◌≡◌, ◌++◌, ◌∷◌, ◌↔◌, List, [], length, vec_len, vec_capacity, is_some, true};
+ghost use Rattle.std.specs.Prelude.{IfSome, IfOk, OnOk, OnErr, IsOk, IsTrue, MatchOption, Some, None, false};
+ghost use Rattle.std.specs.Ordering.{is_lt};
+ghost use Rattle.wasmprinter_names.specs.Lookups.{Ascends, AllAreBefore, AreDisjoint, Gains, stored_at};
+ghost use Rattle.wasmprinter_names.specs.Views.{place_cmp};
+ghost use Rattle.std.specs.declared.cmp.Ordering.TheVariants.{Less};
 ghost use Rattle.wasmprinter_names.specs.declared.store.Place.{Place};
 ghost use Rattle.wasmprinter_names.specs.declared.store.StoredName.{StoredName};
 
-use crate::search::all_before;
+use crate::search::{all_before, position_of};
 use crate::store::{Place, StoredName};
 use std::alloc::{AllocError, Global};
 use std::collections::BTreeMap;
@@ -13,20 +17,19 @@ use std::marker::Model;
 /// Names by their places.
 #[derive(Drop)]
 pub(crate) struct NamesInOrder<'a> {
-    /// Those that came while each place was higher than all before it, as in nearly every name section all do.
+    /// The names that were added while each place was above all places before it. In nearly every module these are all names.
     ascending: Vec<(Place, StoredName<'a>)>,
-    /// Those that came from the first on whose place wasn't. They stand in place of any that the list has at their places. A list would
-    /// be slow at making room for them in its midst.
+    /// The names of all other places. Inserting them in the middle of the list would take linear time.
     late: BTreeMap<Place, StoredName<'a>>,
 }
 
 impl<'a> Model for NamesInOrder<'a> {
     ghost Value = { List (Place × StoredName) };
 
-    // The first entry of a place counts.
     ghost view = { λ n. n.late.entries ++ n.ascending.items };
 
-    ghost invariant = { λ n. Ascends n.ascending.items };
+    // A place has one entry: a second name replaces the first one, which is freed.
+    ghost invariant = { λ n. Ascends n.ascending.items × AreDisjoint n.ascending.items n.late.entries };
 }
 
 impl<'a> NamesInOrder<'a> {
@@ -40,56 +43,63 @@ impl<'a> NamesInOrder<'a> {
         }
     }
 
-    /// Puts a name at a place, in place of one that stands there. Where memory is refused, the names are as they were.
+    /// Gives a place a name, which replaces the name that the place has.
+    ///
+    /// # Errors
+    ///
+    /// If an allocation fails. The names are then as before. Replacing a name allocates nothing.
     pub(crate) fn insert(&mut self, place: Place, stored: StoredName<'a>) -> Result<(), AllocError>
         ensures gains { OnOk result (Gains self.old self.new place stored.entry) }
         ensures err { OnErr result (self.new ≡ self.old) }
+        ensures replaces { is_some (stored_at self.old place) ≡ true → IsOk result }
     {
         if in_order(&self.ascending, &self.late, place) {
             self.ascending.push((place, stored))?;
+        } else if let Some(position) = position_of(&self.ascending, place) {
+            self.ascending[position].1 = stored;
         } else {
             self.late.insert(place, stored)?;
         }
         Ok(())
     }
 
-    /// All names, in a list, in the order of their places.
+    /// Returns all names in a list, in the order of their places.
     ///
     /// # Errors
     ///
-    /// Where memory is refused. None is asked for without names.
+    /// If an allocation fails. Without names nothing is allocated.
     pub(crate) fn into_list(self, alloc: Global) -> Result<Vec<(Place, StoredName<'a>)>, AllocError>
         ensures all { IfOk result (λ list. (q : Place) → stored_at list.items q ≡ stored_at self.entry q) }
         ensures ascend { IfOk result (λ list. Ascends list.items) }
+        ensures exact { IfOk result (λ list. vec_capacity list ≡ vec_len list) }
         ensures needed { self.entry ≡ [] → IsOk result }
     {
         let NamesInOrder { ascending, late } = self;
         if late.is_empty() {
             without_spare(ascending)
         } else {
-            into_entries(alloc, with_all(late, ascending)?)
+            merge(alloc, ascending, late)
         }
     }
 }
 
-/// Whether no name came late, and this place is higher than those of all names.
+/// Returns whether no name came late and this place is above the places of all names.
 fn in_order(
     ascending: &[(Place, StoredName<'_>)],
     late: &BTreeMap<Place, StoredName<'_>>,
     place: Place,
 ) -> bool
     requires { Ascends ascending.now }
-    ensures alone { IsTrue result → late.now.entries ≡ [] }
-    ensures before { IsTrue result → AllAreBefore ascending.now (length ascending.now) place }
+    ensures { IsTrue result ↔ ((late.now.entries ≡ []) × AllAreBefore ascending.now (length ascending.now) place) }
 {
     late.is_empty() && all_before(ascending, ascending.len(), place)
 }
 
-/// A list of names, without the memory that it has in reserve.
+/// Returns a list of names without its spare capacity.
 ///
 /// # Errors
 ///
-/// Where memory is refused, as a smaller block may be. None is asked for without names.
+/// If an allocation fails: shrinking may need a new block. Without names nothing is allocated.
 fn without_spare<'a>(
     list: Vec<(Place, StoredName<'a>)>,
 ) -> Result<Vec<(Place, StoredName<'a>)>, AllocError>
@@ -106,33 +116,49 @@ fn without_spare<'a>(
     }
 }
 
-/// The names of a tree and those of a list, of which the tree's stay where both have one.
-fn with_all<'a>(
-    tree: BTreeMap<Place, StoredName<'a>>,
-    list: Vec<(Place, StoredName<'a>)>,
-) -> Result<BTreeMap<Place, StoredName<'a>>, AllocError>
-    ensures { IfOk result (λ all. (q : Place) → stored_at all.entries q ≡ stored_at (tree.entry.entries ++ list.entry.items) q) }
-{
-    let mut all = tree;
-    for (place, stored) in list {
-        if !all.contains_key(&place) {
-            all.insert(place, stored)?;
-        }
-    }
-    Ok(all)
-}
-
-/// The names of a tree, in a list.
-fn into_entries<'a>(
+/// Merges the names of a list and those of a tree by the order of their places.
+///
+/// # Errors
+///
+/// If an allocation fails.
+fn merge<'a>(
     alloc: Global,
+    list: Vec<(Place, StoredName<'a>)>,
     tree: BTreeMap<Place, StoredName<'a>>,
 ) -> Result<Vec<(Place, StoredName<'a>)>, AllocError>
-    ensures all { IfOk result (λ list. list.items ≡ tree.entry.entries) }
-    ensures ascend { Ascends tree.entry.entries }
+    requires ascend { Ascends list.items }
+    requires disjoint { AreDisjoint list.items tree.entries }
+    ensures all { IfOk result (λ all. (q : Place) → stored_at all.items q ≡ stored_at (tree.entry.entries ++ list.entry.items) q) }
+    ensures ascend { IfOk result (λ all. Ascends all.items) }
+    ensures exact { IfOk result (λ all. vec_capacity all ≡ vec_len all) }
 {
-    let mut list = Vec::with_capacity(alloc, tree.len())?;
-    for entry in tree {
-        list.push(entry)?;
+    let mut all = Vec::with_capacity(alloc, list.len() + tree.len())?;
+    let mut late = tree.into_iter();
+    let mut next = late.next();
+    for entry in list {
+        while let Some(earlier) = take_before(&mut next, entry.0) {
+            all.push(earlier)?;
+            next = late.next();
+        }
+        all.push(entry)?;
     }
-    Ok(list)
+    while let Some(last) = next {
+        all.push(last)?;
+        next = late.next();
+    }
+    without_spare(all)
+}
+
+/// Takes a name out if its place is below this one.
+fn take_before<'a>(
+    next: &mut Option<(Place, StoredName<'a>)>,
+    place: Place,
+) -> Option<(Place, StoredName<'a>)>
+    ensures { MatchOption result ((next.new ≡ next.old) × IfSome next.old (λ entry. is_lt (place_cmp entry.0 place) ≡ false))
+        (λ entry. (next.old ≡ Some entry) × (next.new ≡ None) × (place_cmp entry.0 place ≡ Less)) }
+{
+    match next {
+        Some(entry) if entry.0 < place => next.take(),
+        _ => None,
+    }
 }

@@ -1,13 +1,17 @@
 //! Looking a place up among names whose places ascend.
-ghost use Rattle.std.specs.Prelude.{◌≡◌, IsTrue, option_copied};
+ghost use Rattle.std.specs.Prelude.{◌≡◌, ◌<◌, ◌≤◌, length, None, IsTrue, IfSome, IfNone, option_copied};
+ghost use Rattle.std.specs.List.{HoldsAt};
+ghost use Rattle.std.specs.declared.cmp.Ordering.TheVariants.{Equal};
 ghost use Rattle.wasmprinter_names.specs.Lookups.{Ascends, AllAreBefore, AllAreBehind, stored_at};
+ghost use Rattle.wasmprinter_names.specs.Views.{place_cmp};
 
 use crate::store::{Place, StoredName};
 
 /// Whether the last entry in front of a position shows that all of them have lower places than this one.
 pub(crate) fn all_before(entries: &[(Place, StoredName<'_>)], position: usize, place: Place) -> bool
     requires { Ascends entries.now }
-    ensures { IsTrue result → AllAreBefore entries.now position place }
+    ensures before { IsTrue result → AllAreBefore entries.now position place }
+    ensures all { position ≤ length entries.now → AllAreBefore entries.now position place → IsTrue result }
 {
     let Some(before) = position.checked_sub(1) else {
         return true;
@@ -29,7 +33,17 @@ fn all_behind(entries: &[(Place, StoredName<'_>)], position: usize, place: Place
     }
 }
 
-/// The name at a place, wherever it stands.
+/// Returns the position of the entry of a place.
+pub(crate) fn position_of(entries: &[(Place, StoredName<'_>)], place: Place) -> Option<usize>
+    requires { Ascends entries.now }
+    ensures bound { IfSome result (λ position. position < length entries.now) }
+    ensures at { IfSome result (HoldsAt (λ e. place_cmp e.0 place ≡ Equal) entries.now) }
+    ensures none { IfNone result (stored_at entries.now place ≡ None) }
+{
+    entries.binary_search_by_key(&place, |entry| entry.0).ok()
+}
+
+/// Returns the name at a place by a binary search.
 fn search<'e, 'a>(
     entries: &'e [(Place, StoredName<'a>)],
     place: Place,
@@ -37,10 +51,8 @@ fn search<'e, 'a>(
     requires { Ascends entries.now }
     ensures { option_copied result ≡ stored_at entries.now place }
 {
-    match entries.binary_search_by_key(&place, |entry| entry.0) {
-        Ok(position) => Some(&entries[position].1),
-        Err(_) => None,
-    }
+    let position = position_of(entries, place)?;
+    Some(&entries[position].1)
 }
 
 /// The name at a place. A good guess of the position where it stands, or would stand, makes the answer quick, and any guess leaves it the

@@ -2,8 +2,5 @@ use Rattle.std.proofs.Common.{◌∙◌}
 use Rattle.wasmprinter_names.proofs.Placing.{none_in_front}
 use Rattle.wasmprinter_names.proofs.ordered.NamesInOrder.into_list.Goals as goal
 
-pub returns-in_err-with_all-clause-needed : goal.returns-in_err-with_all-clause-needed
-returns-in_err-with_all-clause-needed c = λ none. none_in_front c.self.inside.late.entries _ _ (c.self.view_is ∙ none) c.is_empty.ensures c.if-is_empty.false
-
 pub returns-clause-needed : goal.returns-clause-needed
 returns-clause-needed c = λ none. none_in_front c.self.inside.late.entries _ _ (c.self.view_is ∙ none) c.is_empty.ensures c.if-is_empty.false
