@@ -1,5 +1,6 @@
 //! A printer that keeps its text and where its lines begin.
-ghost use Rattle.std.specs.Prelude.{◌≡◌, false};
+ghost use Rattle.std.specs.Prelude.{◌≡◌, ◌+◌, ◌≤◌, ◌↔◌, false, IsTrue, length};
+ghost use Rattle.std.specs.String.{string_len, string_capacity};
 ghost use Rattle.wasmprinter_tracker.specs.Tracking.{tracked_meaning};
 
 use crate::lines::LineStart;
@@ -36,6 +37,13 @@ impl Model for Tracker {
     ghost view = { λ t. tracked_of (string_bytes t.text) t.starts.items t.waiting t.lost };
 
     ghost invariant = { λ t. IsCuttable (t.starts.items ++ waiting_start t.waiting (length (string_bytes t.text))) (string_bytes t.text) };
+}
+
+/// Returns whether a piece fits into the remaining capacity of a text: appending it then needs no allocation.
+fn has_room(text: &String, piece: &str) -> bool
+    ensures { IsTrue result ↔ (string_len text.now + length piece.now ≤ string_capacity text.now) }
+{
+    piece.len() <= text.capacity() - text.len()
 }
 
 impl Tracker {
@@ -88,11 +96,6 @@ impl Tracker {
         Ok(())
     }
 
-    /// Whether the text can take a piece without more memory.
-    fn has_room(&self, piece: &str) -> bool {
-        piece.len() <= self.text.capacity() - self.text.len()
-    }
-
     /// Appends a piece of text character by character: where memory is refused, those in front have been appended.
     fn write_by_chars(&mut self, piece: &str) -> io::Result<()>
         ensures { Emits tracked_meaning self.old self.new result (Text piece.now ∷ []) }
@@ -139,7 +142,7 @@ impl Print for Tracker {
     }
 
     fn write_each_char(&mut self, s: &str) -> io::Result<()> {
-        if self.has_room(s) {
+        if has_room(&self.text, s) {
             self.write_str(s)
         } else {
             self.write_by_chars(s)
