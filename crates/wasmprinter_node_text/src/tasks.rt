@@ -1,5 +1,6 @@
 //! What is still to be written of nodes.
-ghost use Rattle.std.specs.Prelude.{◌≡◌, ℕ, ◌+◌, ◌*◌, ◌≤◌, ◌<◌, ◌^◌, ◌&&◌, ◌==◌, List, length, OnOk, false};
+ghost use Rattle.std.specs.Prelude.{◌≡◌, ℕ, ◌+◌, ◌*◌, ◌≤◌, ◌<◌, ◌^◌, ◌&&◌, ◌==◌, List, length, IsOk, OnOk, OnErr, false};
+ghost use Rattle.std.specs.Vec.{vec_len, vec_capacity};
 ghost use Rattle.wasmprinter_nodes.specs.Postorder.{IsPostorder};
 ghost use Rattle.wasmprinter_node_text.specs.Tasks.{StacksRow, StacksRest, KeepsSoundRow, KeepsSound, IsSound, steps_left, steps_of};
 
@@ -25,6 +26,10 @@ fn leads(first: bool, before: &[Node]) -> bool
 }
 
 /// Puts the tasks of a row of nodes on top of the others: one for each node that stands in no other of the row.
+///
+/// # Errors
+///
+/// If an allocation fails; no memory is allocated if the tasks have room for all nodes of the row.
 fn put_row<'a>(
     tasks: &mut Vec<Task<'a>>,
     nodes: &'a [Node],
@@ -35,6 +40,7 @@ fn put_row<'a>(
     ensures pieces { OnOk result (StacksRow nodes.now first depth tasks.old.items tasks.new.items) }
     ensures steps { OnOk result (steps_left tasks.new.items ≤ 4 * length nodes.now + steps_left tasks.old.items) }
     ensures sound { OnOk result (KeepsSoundRow nodes.now depth tasks.old.items tasks.new.items) }
+    ensures room { vec_len tasks.old + length nodes.now ≤ vec_capacity tasks.old → IsOk result }
 {
     let mut rest = nodes;
     while let Some(last) = last_group(rest) {
@@ -47,11 +53,16 @@ fn put_row<'a>(
 
 /// Puts the tasks of the nodes that a node holds on top of the others: one for each where there is room for all that it holds, and else
 /// one for their row, so that more memory is asked for only when the row's turn comes.
+///
+/// # Errors
+///
+/// If an allocation fails; memory is allocated only if the tasks are full.
 fn put_held<'a>(tasks: &mut Vec<Task<'a>>, held: &'a [Node], depth: u64) -> Result<(), AllocError>
     requires row { IsPostorder held.now }
     ensures pieces { OnOk result (StacksRow held.now false depth tasks.old.items tasks.new.items) }
     ensures steps { OnOk result (steps_left tasks.new.items ≤ 4 * length held.now + 1 + steps_left tasks.old.items) }
     ensures sound { OnOk result (KeepsSoundRow held.now depth tasks.old.items tasks.new.items) }
+    ensures full { OnErr result (vec_len tasks.old ≡ vec_capacity tasks.old) }
 {
     if tasks.capacity() - tasks.len() < held.len() {
         tasks.push(Task::Row(held, false, depth))?;
