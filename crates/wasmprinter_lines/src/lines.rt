@@ -124,7 +124,7 @@ pub fn end<P: Print>(p: &mut P) -> io::Result<()>
 }
 
 /// Begins a line: what stands on it has this place in the module's bytes, if any, and is nested so deep.
-pub fn put_break_line<P: Print>(
+pub(crate) fn put_break_line<P: Print>(
     p: &mut P,
     fault: &mut Fault,
     options: &PrintOptions,

@@ -270,7 +270,7 @@ pub fn write_index_of<P: Print>(
 
 /// Writes an index of a space of the module as a group behind a keyword.
 #[tactic(auto, unfolding(wasmprinter_spec::specs::Layout::Groups::line_group_gap))]
-pub fn put_index_group<P: Print>(
+pub(crate) fn put_index_group<P: Print>(
     p: &mut P,
     fault: &mut Fault,
     identifiers: &Identifiers<'_, '_>,
