@@ -1,6 +1,7 @@
 //! Imports (section 6.6 of the WebAssembly Core Specification, "Imports").
 ghost use Rattle.std.specs.Prelude.{◌≡◌, ◌+◌, ◌<◌, ◌^◌, codes, length};
-ghost use Rattle.wasmprinter_spec.specs.Layout.Imports.{number_of, numbers_behind, no_numbers, extern_pieces, imports_pieces, extern_parts, import_parts};
+ghost use Rattle.wasmprinter_spec.specs.Layout.Imports.{number_of, numbers_behind, no_numbers};
+ghost use Rattle.wasmprinter_spec.specs.Layout.Imports.{extern_pieces, imports_pieces, extern_parts, import_parts};
 ghost use Rattle.wasmprinter_print.specs.Prints.{PrintsAlways, PrintsOrStops};
 ghost use Rattle.wasmprinter_entries.specs.Externs.{extern_view, HasPage};
 ghost use Rattle.wasmprinter_scope.specs.Scopes.{scope_view, folds_in};

@@ -45,7 +45,8 @@ impl Texts {
     ghost use Rattle.wasmprinter_print.specs.Emits.{Made, Through};
     ghost use Rattle.wasmprinter_flat.specs.Settings.{word_pieces_among};
     ghost use Rattle.wasmprinter_node_text.specs.Shown.{shown_of_calls, shown_of_head, IsIn};
-    ghost use Rattle.wasmprinter_node_text.specs.Buffers.{GrowsText, with_text_begun, with_text, with_sequences, no_semicolons, texts_meaning};
+    ghost use Rattle.wasmprinter_node_text.specs.Buffers.{GrowsText, with_text_begun, with_text, with_sequences};
+    ghost use Rattle.wasmprinter_node_text.specs.Buffers.{no_semicolons, texts_meaning};
 
     /// No text; with the sequences of styles, or without. Takes no memory.
     pub fn new(alloc: Global, paints: bool) -> Texts

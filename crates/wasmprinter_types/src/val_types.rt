@@ -1,5 +1,5 @@
-//! Heap types, reference types and value types (section 5.3 of the WebAssembly Core Specification, "Heap Types", "Reference Types" and "Value
-//! Types").
+//! Heap types, reference types and value types (section 5.3 of the WebAssembly Core Specification, "Heap Types", "Reference Types" and
+//! "Value Types").
 ghost use Rattle.std.specs.Prelude.{◌≡◌, ◌≤◌, ◌^◌, ◌<ℤ◌, pos, IfOk, option_map};
 ghost use Rattle.wasmprinter_spec.specs.Grammar.{byte as byte_grammar};
 ghost use Rattle.wasmprinter_spec.specs.Name.{vec};
