@@ -106,7 +106,11 @@ pub fn write_leading_mark<P: Print>(p: &mut P, identifier: Option<Identifier<'_>
 
 /// Writes a mark as [`put_mark`] does and a blank, and nothing where there is no identifier.
 #[tactic(auto, unfolding(wasmprinter_spec::specs::Layout::Identifiers::mark_gap_pieces))]
-fn put_mark_gap<P: Print>(p: &mut P, fault: &mut Fault, identifier: Option<Identifier<'_>>)
+pub(crate) fn put_mark_gap<P: Print>(
+    p: &mut P,
+    fault: &mut Fault,
+    identifier: Option<Identifier<'_>>,
+)
     ensures { Marks P.meaning p.old fault.old p.new fault.new
         (mark_gap_pieces (option_map identifier_view identifier.entry)) }
 {
@@ -128,7 +132,11 @@ pub fn write_mark_gap<P: Print>(p: &mut P, identifier: Option<Identifier<'_>>) -
 
 /// Writes an identifier and a blank, and nothing where there is no identifier.
 #[tactic(auto, unfolding(wasmprinter_spec::specs::Layout::Identifiers::identifier_gap_pieces))]
-fn put_identifier_gap<P: Print>(p: &mut P, fault: &mut Fault, identifier: Option<Identifier<'_>>)
+pub(crate) fn put_identifier_gap<P: Print>(
+    p: &mut P,
+    fault: &mut Fault,
+    identifier: Option<Identifier<'_>>,
+)
     ensures { Marks P.meaning p.old fault.old p.new fault.new
         (identifier_gap_pieces (option_map identifier_view identifier.entry)) }
 {
@@ -223,6 +231,22 @@ pub fn write_index<P: Print>(
     fault.into_result()
 }
 
+/// Writes an item of a space where it is declared. `outer` is the function of a local and the type of a field, and is ignored for items
+/// of other spaces.
+pub(crate) fn put_declaration_of<P: Print>(
+    p: &mut P,
+    fault: &mut Fault,
+    identifiers: &Identifiers<'_, '_>,
+    space: Space,
+    outer: u64,
+    number: u64,
+)
+    ensures { Marks P.meaning p.old fault.old p.new fault.new
+        (declaration_pieces (item_of identifiers.now space outer number) number) }
+{
+    put_declaration(p, fault, identifiers.item(space, outer, number), number);
+}
+
 /// Writes an item of a space where it is declared. `outer` is the function of a local and the type of a field, and else ignored.
 pub fn write_declaration_of<P: Print>(
     p: &mut P,
@@ -234,7 +258,9 @@ pub fn write_declaration_of<P: Print>(
     ensures { PrintsAlways P.meaning p.old p.new result
         (declaration_pieces (item_of identifiers.now space outer number) number) }
 {
-    write_declaration(p, identifiers.item(space, outer, number), number)
+    let mut fault = Fault::none();
+    put_declaration_of(p, &mut fault, identifiers, space, outer, number);
+    fault.into_result()
 }
 
 /// Writes an index of a space. `outer` is the function of a local and the type of a field, and else ignored.

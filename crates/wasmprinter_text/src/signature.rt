@@ -9,7 +9,7 @@ ghost use Rattle.wasmprinter_print.specs.Puts.{Marks};
 ghost use Rattle.wasmprinter_names.specs.Shown.{names_of_identifiers};
 
 use crate::indices::put_index_group;
-use crate::types::signature;
+use crate::types::put_signature;
 use std::io;
 use wasmprinter_names::{Identifiers, Space};
 use wasmprinter_print::{Fault, Print};
@@ -29,21 +29,21 @@ pub trait Signatures {
         ensures { result ≡ signature_at self.now index };
 }
 
-/// Writes the signature of a function type, and nothing where the index is no function type's. The parameters of a function, `owner`, have
-/// identifiers.
-fn write_signature<P: Print, S: Signatures>(
+/// Writes the signature of a function type, and nothing where the index is not that of a function type. The parameters of a function,
+/// `owner`, have identifiers.
+fn put_signature_at<P: Print, S: Signatures>(
     p: &mut P,
+    fault: &mut Fault,
     identifiers: &Identifiers<'_, '_>,
     owner: Option<u64>,
     types: &S,
     index: u32,
-) -> io::Result<()>
-    ensures { PrintsAlways P.meaning p.old p.new result
+)
+    ensures { Marks P.meaning p.old fault.old p.new fault.new
         (signature_if_any (names_of_identifiers identifiers.now) owner (S.signature_at types.now index)) }
 {
-    match types.signature(index) {
-        Some(found) => signature(p, identifiers, owner, &found),
-        None => Ok(()),
+    if let Some(found) = types.signature(index) {
+        put_signature(p, fault, identifiers, owner, &found);
     }
 }
 
@@ -76,6 +76,23 @@ pub fn write_type_index<P: Print>(
     fault.into_result()
 }
 
+/// Writes a space, the index of a type as a group, and its signature, which is nothing where the index is not that of a function type.
+/// The parameters of a function, `owner`, have identifiers.
+pub fn put_type_use<P: Print, S: Signatures>(
+    p: &mut P,
+    fault: &mut Fault,
+    identifiers: &Identifiers<'_, '_>,
+    owner: Option<u64>,
+    types: &S,
+    index: u32,
+)
+    ensures { Marks P.meaning p.old fault.old p.new fault.new
+        (Gap ∷ type_use_pieces (names_of_identifiers identifiers.now) owner index (S.signature_at types.now index)) }
+{
+    put_type_index(p, fault, identifiers, index);
+    put_signature_at(p, fault, identifiers, owner, types, index);
+}
+
 /// Writes a blank, the index of a type as a group, and its signature, which is nothing where the index is no function type's. The
 /// parameters of a function, `owner`, have identifiers.
 pub fn write_type_use<P: Print, S: Signatures>(
@@ -88,6 +105,7 @@ pub fn write_type_use<P: Print, S: Signatures>(
     ensures { PrintsAlways P.meaning p.old p.new result
         (Gap ∷ type_use_pieces (names_of_identifiers identifiers.now) owner index (S.signature_at types.now index)) }
 {
-    write_type_index(p, identifiers, index)?;
-    write_signature(p, identifiers, owner, types, index)
+    let mut fault = Fault::none();
+    put_type_use(p, &mut fault, identifiers, owner, types, index);
+    fault.into_result()
 }

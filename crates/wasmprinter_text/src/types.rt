@@ -15,14 +15,16 @@ ghost use Rattle.wasmprinter_types.specs.ValTypes.{heap_view, ref_view, type_vie
 pub mod composite;
 pub mod variables;
 
-use crate::indices::write_index_of;
-use crate::types::variables::write_params;
+use crate::indices::put_index_of;
+use crate::types::variables::put_params;
 use std::io;
 use wasmprinter_names::{Identifiers, Space};
 use wasmprinter_print::{Fault, Print};
 use wasmprinter_types::composite::FuncType;
 use wasmprinter_types::{HeapType, RefType, ValType, ValTypes};
-use wasmprinter_words::words::{gap, open, open_gap, put_type_word, shut, type_word, word};
+use wasmprinter_words::words::{
+    put_gap, put_open, put_open_gap, put_shut, put_type_word, put_word,
+};
 
 /// The word of an abstract heap type, empty of an index.
 fn heap_word(heap: HeapType) -> &'static str
@@ -68,6 +70,18 @@ fn ref_word(heap: HeapType) -> &'static str
 
 /// Writes the index of a type.
 #[tactic(auto, unfolding(wasmprinter_spec::specs::Layout::ValTypes::type_index_pieces))]
+pub(crate) fn put_type_number<P: Print>(
+    p: &mut P,
+    fault: &mut Fault,
+    identifiers: &Identifiers<'_, '_>,
+    index: u32,
+)
+    ensures { Marks P.meaning p.old fault.old p.new fault.new (type_index_pieces (names_of_identifiers identifiers.now) index) }
+{
+    put_index_of(p, fault, identifiers, Space::Types, 0, u64::from(index));
+}
+
+/// Writes the index of a type.
 pub fn write_type_number<P: Print>(
     p: &mut P,
     identifiers: &Identifiers<'_, '_>,
@@ -75,11 +89,28 @@ pub fn write_type_number<P: Print>(
 ) -> io::Result<()>
     ensures { PrintsAlways P.meaning p.old p.new result (type_index_pieces (names_of_identifiers identifiers.now) index) }
 {
-    write_index_of(p, identifiers, Space::Types, 0, u64::from(index))
+    let mut fault = Fault::none();
+    put_type_number(p, &mut fault, identifiers, index);
+    fault.into_result()
 }
 
 /// Writes a heap type.
 #[tactic(auto, unfolding(wasmprinter_spec::specs::Layout::ValTypes::heap_pieces))]
+pub fn put_heap_type<P: Print>(
+    p: &mut P,
+    fault: &mut Fault,
+    identifiers: &Identifiers<'_, '_>,
+    heap: HeapType,
+)
+    ensures { Marks P.meaning p.old fault.old p.new fault.new (heap_pieces (names_of_identifiers identifiers.now) (heap_view heap)) }
+{
+    match heap {
+        HeapType::Index(index) => put_type_number(p, fault, identifiers, index),
+        _ => put_type_word(p, fault, heap_word(heap)),
+    }
+}
+
+/// Writes a heap type.
 pub fn write_heap_type<P: Print>(
     p: &mut P,
     identifiers: &Identifiers<'_, '_>,
@@ -87,61 +118,81 @@ pub fn write_heap_type<P: Print>(
 ) -> io::Result<()>
     ensures { PrintsAlways P.meaning p.old p.new result (heap_pieces (names_of_identifiers identifiers.now) (heap_view heap)) }
 {
-    match heap {
-        HeapType::Index(index) => write_type_number(p, identifiers, index),
-        _ => type_word(p, heap_word(heap)),
-    }
+    let mut fault = Fault::none();
+    put_heap_type(p, &mut fault, identifiers, heap);
+    fault.into_result()
 }
 
 /// Writes the type of references to a type by its index that may be null.
 #[tactic(auto, unfolding(wasmprinter_spec::specs::Layout::ValTypes::null_ref_pieces, wasmprinter_spec::specs::Layout::Groups::line_group))]
-fn write_null_index<P: Print>(
+fn put_null_index<P: Print>(
     p: &mut P,
+    fault: &mut Fault,
     identifiers: &Identifiers<'_, '_>,
     index: u32,
-) -> io::Result<()>
-    ensures { PrintsAlways P.meaning p.old p.new result (null_ref_pieces (names_of_identifiers identifiers.now) (Index index)) }
+)
+    ensures { Marks P.meaning p.old fault.old p.new fault.new
+        (null_ref_pieces (names_of_identifiers identifiers.now) (Index index)) }
 {
-    open(p, "ref")?;
-    gap(p)?;
-    word(p, "null")?;
-    gap(p)?;
-    write_heap_type(p, identifiers, HeapType::Index(index))?;
-    shut(p)
+    put_open(p, fault, "ref");
+    put_gap(p, fault);
+    put_word(p, fault, "null");
+    put_gap(p, fault);
+    put_heap_type(p, fault, identifiers, HeapType::Index(index));
+    put_shut(p, fault);
 }
 
 /// Writes the type of references that may be null: one word but for those to a type by its index.
 #[tactic(auto, unfolding(wasmprinter_spec::specs::Layout::ValTypes::null_ref_pieces))]
-fn write_null_ref<P: Print>(
+fn put_null_ref<P: Print>(
     p: &mut P,
+    fault: &mut Fault,
     identifiers: &Identifiers<'_, '_>,
     heap: HeapType,
-) -> io::Result<()>
-    ensures { PrintsAlways P.meaning p.old p.new result (null_ref_pieces (names_of_identifiers identifiers.now) (heap_view heap)) }
+)
+    ensures { Marks P.meaning p.old fault.old p.new fault.new
+        (null_ref_pieces (names_of_identifiers identifiers.now) (heap_view heap)) }
 {
     match heap {
-        HeapType::Index(index) => write_null_index(p, identifiers, index),
-        _ => type_word(p, ref_word(heap)),
+        HeapType::Index(index) => put_null_index(p, fault, identifiers, index),
+        _ => put_type_word(p, fault, ref_word(heap)),
     }
 }
 
 /// Writes the type of references that can't be null.
 #[tactic(auto, unfolding(wasmprinter_spec::specs::Layout::Groups::line_group_gap))]
-fn write_some_ref<P: Print>(
+fn put_some_ref<P: Print>(
     p: &mut P,
+    fault: &mut Fault,
     identifiers: &Identifiers<'_, '_>,
     heap: HeapType,
-) -> io::Result<()>
-    ensures { PrintsAlways P.meaning p.old p.new result
+)
+    ensures { Marks P.meaning p.old fault.old p.new fault.new
         (line_group_gap (codes "ref") (heap_pieces (names_of_identifiers identifiers.now) (heap_view heap))) }
 {
-    open_gap(p, "ref")?;
-    write_heap_type(p, identifiers, heap)?;
-    shut(p)
+    put_open_gap(p, fault, "ref");
+    put_heap_type(p, fault, identifiers, heap);
+    put_shut(p, fault);
 }
 
 /// Writes a reference type.
 #[tactic(auto, unfolding(wasmprinter_spec::specs::Layout::ValTypes::ref_pieces))]
+pub fn put_ref_type<P: Print>(
+    p: &mut P,
+    fault: &mut Fault,
+    identifiers: &Identifiers<'_, '_>,
+    ref_type: RefType,
+)
+    ensures { Marks P.meaning p.old fault.old p.new fault.new (ref_pieces (names_of_identifiers identifiers.now) (ref_view ref_type)) }
+{
+    if ref_type.nullable {
+        put_null_ref(p, fault, identifiers, ref_type.heap);
+    } else {
+        put_some_ref(p, fault, identifiers, ref_type.heap);
+    }
+}
+
+/// Writes a reference type.
 pub fn write_ref_type<P: Print>(
     p: &mut P,
     identifiers: &Identifiers<'_, '_>,
@@ -149,11 +200,9 @@ pub fn write_ref_type<P: Print>(
 ) -> io::Result<()>
     ensures { PrintsAlways P.meaning p.old p.new result (ref_pieces (names_of_identifiers identifiers.now) (ref_view ref_type)) }
 {
-    if ref_type.nullable {
-        write_null_ref(p, identifiers, ref_type.heap)
-    } else {
-        write_some_ref(p, identifiers, ref_type.heap)
-    }
+    let mut fault = Fault::none();
+    put_ref_type(p, &mut fault, identifiers, ref_type);
+    fault.into_result()
 }
 
 /// Writes a value type.
@@ -172,11 +221,7 @@ pub fn put_val_type<P: Print>(
         ValType::F32 => put_type_word(p, fault, "f32"),
         ValType::F64 => put_type_word(p, fault, "f64"),
         ValType::V128 => put_type_word(p, fault, "v128"),
-        ValType::Ref(ref_type) => {
-            if !fault.is_some() {
-                fault.keep(write_ref_type(p, identifiers, ref_type));
-            }
-        }
+        ValType::Ref(ref_type) => put_ref_type(p, fault, identifiers, ref_type),
     }
 }
 
@@ -193,35 +238,57 @@ pub fn write_val_type<P: Print>(
     fault.into_result()
 }
 
-/// Writes a blank and a value type.
-pub(crate) fn write_type<P: Print>(
+/// Writes a space and a value type.
+pub(crate) fn put_type<P: Print>(
     p: &mut P,
+    fault: &mut Fault,
     identifiers: &Identifiers<'_, '_>,
     value_type: ValType,
-) -> io::Result<()>
-    ensures { PrintsAlways P.meaning p.old p.new result
+)
+    ensures { Marks P.meaning p.old fault.old p.new fault.new
         (list_of_types (names_of_identifiers identifiers.now) (type_view value_type ∷ [])) }
 {
-    gap(p)?;
-    write_val_type(p, identifiers, value_type)
+    put_gap(p, fault);
+    put_val_type(p, fault, identifiers, value_type);
 }
 
-/// Writes value types, a blank before each.
-fn type_list<P: Print>(
+/// Writes value types, a space before each.
+fn put_type_list<P: Print>(
     p: &mut P,
+    fault: &mut Fault,
     identifiers: &Identifiers<'_, '_>,
     types: &ValTypes<'_>,
-) -> io::Result<()>
-    ensures { PrintsAlways P.meaning p.old p.new result (list_of_types (names_of_identifiers identifiers.now) (types_view types.now)) }
+)
+    ensures { Marks P.meaning p.old fault.old p.new fault.new
+        (list_of_types (names_of_identifiers identifiers.now) (types_view types.now)) }
 {
     for value_type in types.iter() {
-        write_type(p, identifiers, value_type)?;
+        if fault.is_some() {
+            return;
+        }
+        put_type(p, fault, identifiers, value_type);
     }
-    Ok(())
 }
 
-/// Writes a blank and a group of types behind a keyword.
+/// Writes a space and a group of types after a keyword.
 #[tactic(auto, unfolding(wasmprinter_spec::specs::Layout::Groups::line_group))]
+pub fn put_group<P: Print>(
+    p: &mut P,
+    fault: &mut Fault,
+    identifiers: &Identifiers<'_, '_>,
+    keyword: &str,
+    types: &ValTypes<'_>,
+)
+    ensures { Marks P.meaning p.old fault.old p.new fault.new
+        (Gap ∷ line_group keyword.now (list_of_types (names_of_identifiers identifiers.now) (types_view types.now))) }
+{
+    put_gap(p, fault);
+    put_open(p, fault, keyword);
+    put_type_list(p, fault, identifiers, types);
+    put_shut(p, fault);
+}
+
+/// Writes a space and a group of types after a keyword.
 pub fn write_group<P: Print>(
     p: &mut P,
     identifiers: &Identifiers<'_, '_>,
@@ -231,32 +298,46 @@ pub fn write_group<P: Print>(
     ensures { PrintsAlways P.meaning p.old p.new result
         (Gap ∷ line_group keyword.now (list_of_types (names_of_identifiers identifiers.now) (types_view types.now))) }
 {
-    gap(p)?;
-    open(p, keyword)?;
-    type_list(p, identifiers, types)?;
-    shut(p)
+    let mut fault = Fault::none();
+    put_group(p, &mut fault, identifiers, keyword, types);
+    fault.into_result()
 }
 
-/// Writes a blank and a group of types behind a keyword, and nothing where there are none.
-fn list_group<P: Print>(
+/// Writes a space and a group of types after a keyword, and nothing where there are none.
+fn put_list_group<P: Print>(
     p: &mut P,
+    fault: &mut Fault,
     identifiers: &Identifiers<'_, '_>,
     keyword: &str,
     types: &ValTypes<'_>,
-) -> io::Result<()>
-    ensures { PrintsAlways P.meaning p.old p.new result
+)
+    ensures { Marks P.meaning p.old fault.old p.new fault.new
         (group_of_types (names_of_identifiers identifiers.now) keyword.now (types_view types.now)) }
 {
-    if types.len() == 0 {
-        Ok(())
-    } else {
-        write_group(p, identifiers, keyword, types)
+    if types.len() != 0 {
+        put_group(p, fault, identifiers, keyword, types);
     }
 }
 
-/// Writes the parameters and results of a function, or of no function: parameters in groups, the results in one, with a blank before
+/// Writes the parameters and results of a function, or of no function: parameters in groups, the results in one, with a space before
 /// each group. The parameters of a function, `owner`, have identifiers.
 #[tactic(auto, unfolding(wasmprinter_spec::specs::Layout::Types::signature_pieces))]
+pub(crate) fn put_signature<P: Print>(
+    p: &mut P,
+    fault: &mut Fault,
+    identifiers: &Identifiers<'_, '_>,
+    owner: Option<u64>,
+    func_type: &FuncType<'_>,
+)
+    ensures { Marks P.meaning p.old fault.old p.new fault.new
+        (signature_pieces (names_of_identifiers identifiers.now) owner func_type.now) }
+{
+    put_params(p, fault, identifiers, owner, &func_type.params());
+    put_list_group(p, fault, identifiers, "result", &func_type.results());
+}
+
+/// Writes the parameters and results of a function, or of no function: parameters in groups, the results in one, with a space before
+/// each group. The parameters of a function, `owner`, have identifiers.
 pub fn signature<P: Print>(
     p: &mut P,
     identifiers: &Identifiers<'_, '_>,
@@ -265,6 +346,7 @@ pub fn signature<P: Print>(
 ) -> io::Result<()>
     ensures { PrintsAlways P.meaning p.old p.new result (signature_pieces (names_of_identifiers identifiers.now) owner func_type.now) }
 {
-    write_params(p, identifiers, owner, &func_type.params())?;
-    list_group(p, identifiers, "result", &func_type.results())
+    let mut fault = Fault::none();
+    put_signature(p, &mut fault, identifiers, owner, func_type);
+    fault.into_result()
 }

@@ -1,250 +1,267 @@
 //! Composite types and subtypes (section 6.4 of the WebAssembly Core Specification).
 ghost use Rattle.std.specs.Prelude.{◌≡◌, [], ◌∷◌, true, ℕ, ◌&&◌, ◌==◌, None, codes, length, option_map};
 ghost use Rattle.wasmprinter_spec.specs.Names.{Names};
-ghost use Rattle.wasmprinter_spec.specs.Options.{Options};
-ghost use Rattle.wasmprinter_spec.specs.Piece.{Gap, Word};
 ghost use Rattle.wasmprinter_spec.specs.Types.{FuncComposite, ArrayComposite, StructComposite};
 ghost use Rattle.wasmprinter_spec.specs.Layout.Types.{storage_pieces, field_pieces_by, field_pieces, composite_pieces};
 ghost use Rattle.wasmprinter_spec.specs.Layout.Types.{final_pieces, supertype_pieces, sub_group, sub_pieces, type_pieces};
-ghost use Rattle.wasmprinter_print.specs.Prints.{Prints, PrintsAlways};
+ghost use Rattle.wasmprinter_print.specs.Prints.{PrintsAlways};
+ghost use Rattle.wasmprinter_print.specs.Puts.{Marks};
 ghost use Rattle.wasmprinter_names.specs.Shown.{identifier_view, names_of_identifiers};
 ghost use Rattle.wasmprinter_types.specs.Types.{storage_view, field_view, fields_view, composite_view};
 ghost use Rattle.wasmprinter_text.specs.Items.{owned_field, owned_fields};
 
-use crate::indices::{write_declaration_of, write_identifier_gap};
-use crate::types::{signature, write_type_number, write_val_type};
+use crate::indices::{put_declaration_of, put_identifier_gap};
+use crate::types::{put_signature, put_type_number, put_val_type};
 use std::io;
 use wasmprinter_names::{Identifier, Identifiers, Space};
-use wasmprinter_print::Print;
+use wasmprinter_print::{Fault, Print};
 use wasmprinter_types::composite::{
     CompositeType, FieldType, FieldTypes, FuncType, StorageType, SubType, TypeIndices,
 };
-use wasmprinter_words::words::{gap, open, open_gap, open_plain, shut, word};
+use wasmprinter_words::words::{
+    put_gap, put_open, put_open_gap, put_open_plain, put_shut, put_word,
+};
 
 /// Writes what a field holds.
 #[tactic(auto, unfolding(wasmprinter_spec::specs::Layout::Types::storage_pieces))]
-fn write_storage<P: Print>(
+fn put_storage<P: Print>(
     p: &mut P,
+    fault: &mut Fault,
     identifiers: &Identifiers<'_, '_>,
     storage: StorageType,
-) -> io::Result<()>
-    ensures { PrintsAlways P.meaning p.old p.new result (storage_pieces (names_of_identifiers identifiers.now) (storage_view storage)) }
+)
+    ensures { Marks P.meaning p.old fault.old p.new fault.new
+        (storage_pieces (names_of_identifiers identifiers.now) (storage_view storage)) }
 {
     match storage {
-        StorageType::Val(value_type) => write_val_type(p, identifiers, value_type),
-        StorageType::I8 => word(p, "i8"),
-        StorageType::I16 => word(p, "i16"),
+        StorageType::Val(value_type) => put_val_type(p, fault, identifiers, value_type),
+        StorageType::I8 => put_word(p, fault, "i8"),
+        StorageType::I16 => put_word(p, fault, "i16"),
     }
 }
 
 /// Writes the storage type of a field that may change, as a group.
-fn write_mutable<P: Print>(
+fn put_mutable<P: Print>(
     p: &mut P,
+    fault: &mut Fault,
     identifiers: &Identifiers<'_, '_>,
     storage: StorageType,
-) -> io::Result<()>
-    ensures { PrintsAlways P.meaning p.old p.new result
+)
+    ensures { Marks P.meaning p.old fault.old p.new fault.new
         (field_pieces_by (names_of_identifiers identifiers.now) true (storage_view storage)) }
 {
-    open_plain(p, "mut")?;
-    gap(p)?;
-    write_storage(p, identifiers, storage)?;
-    shut(p)
+    put_open_plain(p, fault, "mut");
+    put_gap(p, fault);
+    put_storage(p, fault, identifiers, storage);
+    put_shut(p, fault);
 }
 
 /// Writes a field type.
-fn write_field_behind<P: Print>(
+fn put_field_type<P: Print>(
     p: &mut P,
+    fault: &mut Fault,
     identifiers: &Identifiers<'_, '_>,
     field: FieldType,
-) -> io::Result<()>
-    ensures { PrintsAlways P.meaning p.old p.new result
+)
+    ensures { Marks P.meaning p.old fault.old p.new fault.new
         (field_pieces_by (names_of_identifiers identifiers.now) field.mutable (storage_view field.storage)) }
 {
     if field.mutable {
-        write_mutable(p, identifiers, field.storage)
+        put_mutable(p, fault, identifiers, field.storage);
     } else {
-        write_storage(p, identifiers, field.storage)
+        put_storage(p, fault, identifiers, field.storage);
     }
 }
 
-/// Writes a blank, the identifier of a field, if it has one, and its type.
+/// Writes a space, the identifier of a field, if it has one, and its type.
 #[tactic(auto, unfolding(wasmprinter_spec::specs::Layout::Types::field_pieces))]
-fn write_field<P: Print>(
+fn put_field<P: Print>(
     p: &mut P,
+    fault: &mut Fault,
     identifiers: &Identifiers<'_, '_>,
     identifier: Option<Identifier<'_>>,
     field: FieldType,
-) -> io::Result<()>
-    ensures { PrintsAlways P.meaning p.old p.new result
+)
+    ensures { Marks P.meaning p.old fault.old p.new fault.new
         (field_pieces (names_of_identifiers identifiers.now) (option_map identifier_view identifier.entry) (field_view field)) }
 {
-    gap(p)?;
-    write_identifier_gap(p, identifier)?;
-    write_field_behind(p, identifiers, field)
+    put_gap(p, fault);
+    put_identifier_gap(p, fault, identifier);
+    put_field_type(p, fault, identifiers, field);
 }
 
-/// Writes a blank and a field of the structure type `owner`, as a group.
+/// Writes a space and a field of the structure type `owner`, as a group.
 #[tactic(auto, unfolding(wasmprinter_spec::specs::Layout::Types::struct_field_pieces))]
-fn write_field_group<P: Print>(
+fn put_field_group<P: Print>(
     p: &mut P,
+    fault: &mut Fault,
     identifiers: &Identifiers<'_, '_>,
     owner: u64,
     number: u64,
     field: FieldType,
-) -> io::Result<()>
-    ensures { PrintsAlways P.meaning p.old p.new result
+)
+    ensures { Marks P.meaning p.old fault.old p.new fault.new
         (owned_field (names_of_identifiers identifiers.now) owner number (field_view field)) }
 {
-    gap(p)?;
-    open_plain(p, "field")?;
-    write_field(
+    put_gap(p, fault);
+    put_open_plain(p, fault, "field");
+    put_field(
         p,
+        fault,
         identifiers,
         identifiers.item(Space::Field, owner, number),
         field,
-    )?;
-    shut(p)
+    );
+    put_shut(p, fault);
 }
 
-/// Writes the fields of the structure type `owner`, a blank before each.
-fn write_fields<P: Print>(
+/// Writes the fields of the structure type `owner`, a space before each.
+fn put_fields<P: Print>(
     p: &mut P,
+    fault: &mut Fault,
     identifiers: &Identifiers<'_, '_>,
     owner: u64,
     fields: &FieldTypes<'_>,
-) -> io::Result<()>
-    ensures { PrintsAlways P.meaning p.old p.new result
+)
+    ensures { Marks P.meaning p.old fault.old p.new fault.new
         (owned_fields (names_of_identifiers identifiers.now) owner (fields_view fields.now)) }
 {
     for (number, field) in (0..u64::from(fields.len())).zip(fields.iter()) {
-        write_field_group(p, identifiers, owner, number, field)?;
+        if fault.is_some() {
+            return;
+        }
+        put_field_group(p, fault, identifiers, owner, number, field);
     }
-    Ok(())
 }
 
 /// Writes the type of a function, as a group.
 #[tactic(auto, unfolding(wasmprinter_spec::specs::Layout::Types::composite_pieces, wasmprinter_spec::specs::Layout::Groups::line_group))]
-fn write_func_type<P: Print>(
+fn put_func_type<P: Print>(
     p: &mut P,
+    fault: &mut Fault,
     identifiers: &Identifiers<'_, '_>,
     func_type: &FuncType<'_>,
-) -> io::Result<()>
-    ensures { (o : Options) (i : ℕ) → Prints P.meaning o p.old p.new result
+)
+    ensures { (i : ℕ) → Marks P.meaning p.old fault.old p.new fault.new
         (composite_pieces (names_of_identifiers identifiers.now) i (FuncComposite func_type.now)) }
 {
-    open(p, "func")?;
-    signature(p, identifiers, None, func_type)?;
-    shut(p)
+    put_open(p, fault, "func");
+    put_signature(p, fault, identifiers, None, func_type);
+    put_shut(p, fault);
 }
 
 /// Writes the type of an array with such elements.
 #[tactic(auto, unfolding(wasmprinter_spec::specs::Layout::Types::composite_pieces, wasmprinter_spec::specs::Layout::Groups::line_group))]
-fn write_array_type<P: Print>(
+fn put_array_type<P: Print>(
     p: &mut P,
+    fault: &mut Fault,
     identifiers: &Identifiers<'_, '_>,
     element: FieldType,
-) -> io::Result<()>
-    ensures { (o : Options) (i : ℕ) → Prints P.meaning o p.old p.new result
+)
+    ensures { (i : ℕ) → Marks P.meaning p.old fault.old p.new fault.new
         (composite_pieces (names_of_identifiers identifiers.now) i (ArrayComposite (field_view element))) }
 {
-    open(p, "array")?;
-    write_field(p, identifiers, None, element)?;
-    shut(p)
+    put_open(p, fault, "array");
+    put_field(p, fault, identifiers, None, element);
+    put_shut(p, fault);
 }
 
 /// Writes the structure type with the number, which has these fields.
 #[tactic(auto, unfolding(wasmprinter_spec::specs::Layout::Types::composite_pieces, wasmprinter_spec::specs::Layout::Groups::line_group))]
-fn write_struct_type<P: Print>(
+fn put_struct_type<P: Print>(
     p: &mut P,
+    fault: &mut Fault,
     identifiers: &Identifiers<'_, '_>,
     number: u64,
     fields: &FieldTypes<'_>,
-) -> io::Result<()>
-    ensures { PrintsAlways P.meaning p.old p.new result
+)
+    ensures { Marks P.meaning p.old fault.old p.new fault.new
         (composite_pieces (names_of_identifiers identifiers.now) number (StructComposite (fields_view fields.now))) }
 {
-    open(p, "struct")?;
-    write_fields(p, identifiers, number, fields)?;
-    shut(p)
+    put_open(p, fault, "struct");
+    put_fields(p, fault, identifiers, number, fields);
+    put_shut(p, fault);
 }
 
 /// Writes the composite type with the number.
-fn write_composite_type<P: Print>(
+fn put_composite_type<P: Print>(
     p: &mut P,
+    fault: &mut Fault,
     identifiers: &Identifiers<'_, '_>,
     number: u64,
     composite: &CompositeType<'_>,
-) -> io::Result<()>
-    ensures { PrintsAlways P.meaning p.old p.new result
+)
+    ensures { Marks P.meaning p.old fault.old p.new fault.new
         (composite_pieces (names_of_identifiers identifiers.now) number (composite_view composite.now)) }
 {
     match composite {
-        CompositeType::Func(func_type) => write_func_type(p, identifiers, func_type),
-        CompositeType::Array(element) => write_array_type(p, identifiers, *element),
-        CompositeType::Struct(fields) => write_struct_type(p, identifiers, number, fields),
+        CompositeType::Func(func_type) => put_func_type(p, fault, identifiers, func_type),
+        CompositeType::Array(element) => put_array_type(p, fault, identifiers, *element),
+        CompositeType::Struct(fields) => put_struct_type(p, fault, identifiers, number, fields),
     }
 }
 
-/// Writes that a subtype is final, and a blank.
-fn write_final<P: Print>(p: &mut P) -> io::Result<()>
-    ensures { PrintsAlways P.meaning p.old p.new result (Word (codes "final") ∷ (Gap ∷ [])) }
+/// Writes that a subtype is final, if it is, and a space.
+fn put_final_if<P: Print>(p: &mut P, fault: &mut Fault, is_final: bool)
+    ensures { (names : Names) → Marks P.meaning p.old fault.old p.new fault.new (final_pieces names is_final) }
 {
-    word(p, "final")?;
-    gap(p)
+    if is_final {
+        put_word(p, fault, "final");
+        put_gap(p, fault);
+    }
 }
 
-/// Writes that a subtype is final, if it is, and a blank.
-fn write_final_if<P: Print>(p: &mut P, is_final: bool) -> io::Result<()>
-    ensures { (o : Options) (names : Names) → Prints P.meaning o p.old p.new result (final_pieces names is_final) }
-{
-    if is_final { write_final(p) } else { Ok(()) }
-}
-
-/// Writes the index of a supertype and a blank.
+/// Writes the index of a supertype and a space.
 #[tactic(auto, unfolding(wasmprinter_spec::specs::Layout::Types::supertype_pieces))]
-fn write_supertype<P: Print>(
+fn put_supertype<P: Print>(
     p: &mut P,
+    fault: &mut Fault,
     identifiers: &Identifiers<'_, '_>,
     index: u32,
-) -> io::Result<()>
-    ensures { PrintsAlways P.meaning p.old p.new result (supertype_pieces (names_of_identifiers identifiers.now) (index ∷ [])) }
+)
+    ensures { Marks P.meaning p.old fault.old p.new fault.new
+        (supertype_pieces (names_of_identifiers identifiers.now) (index ∷ [])) }
 {
-    write_type_number(p, identifiers, index)?;
-    gap(p)
+    put_type_number(p, fault, identifiers, index);
+    put_gap(p, fault);
 }
 
-/// Writes the indices of supertypes, a blank behind each.
-fn write_supertypes<P: Print>(
+/// Writes the indices of supertypes, a space after each.
+fn put_supertypes<P: Print>(
     p: &mut P,
+    fault: &mut Fault,
     identifiers: &Identifiers<'_, '_>,
     supertypes: &TypeIndices<'_>,
-) -> io::Result<()>
-    ensures { PrintsAlways P.meaning p.old p.new result (supertype_pieces (names_of_identifiers identifiers.now) supertypes.now) }
+)
+    ensures { Marks P.meaning p.old fault.old p.new fault.new
+        (supertype_pieces (names_of_identifiers identifiers.now) supertypes.now) }
 {
     for index in supertypes.iter() {
-        write_supertype(p, identifiers, index)?;
+        if fault.is_some() {
+            return;
+        }
+        put_supertype(p, fault, identifiers, index);
     }
-    Ok(())
 }
 
 /// Writes the subtype with the number as a group.
 #[tactic(auto, unfolding(wasmprinter_spec::specs::Layout::Types::sub_group, wasmprinter_spec::specs::Layout::Groups::line_group))]
-fn write_sub_group<P: Print>(
+fn put_sub_group<P: Print>(
     p: &mut P,
+    fault: &mut Fault,
     identifiers: &Identifiers<'_, '_>,
     number: u64,
     sub_type: &SubType<'_>,
-) -> io::Result<()>
-    ensures { PrintsAlways P.meaning p.old p.new result
+)
+    ensures { Marks P.meaning p.old fault.old p.new fault.new
         (sub_group (names_of_identifiers identifiers.now) number sub_type.now.final sub_type.now.supertypes sub_type.now.composite) }
 {
-    open(p, "sub")?;
-    gap(p)?;
-    write_final_if(p, sub_type.is_final())?;
-    write_supertypes(p, identifiers, &sub_type.supertypes())?;
-    write_composite_type(p, identifiers, number, sub_type.composite())?;
-    shut(p)
+    put_open(p, fault, "sub");
+    put_gap(p, fault);
+    put_final_if(p, fault, sub_type.is_final());
+    put_supertypes(p, fault, identifiers, &sub_type.supertypes());
+    put_composite_type(p, fault, identifiers, number, sub_type.composite());
+    put_shut(p, fault);
 }
 
 /// Whether a subtype is its composite type by itself.
@@ -255,23 +272,43 @@ fn is_plain(sub_type: &SubType<'_>) -> bool
 }
 
 /// Writes the subtype with the number: a final one without supertypes as its composite type by itself.
-fn write_sub_type<P: Print>(
+fn put_sub_type<P: Print>(
     p: &mut P,
+    fault: &mut Fault,
     identifiers: &Identifiers<'_, '_>,
     number: u64,
     sub_type: &SubType<'_>,
-) -> io::Result<()>
-    ensures { PrintsAlways P.meaning p.old p.new result (sub_pieces (names_of_identifiers identifiers.now) number sub_type.now) }
+)
+    ensures { Marks P.meaning p.old fault.old p.new fault.new
+        (sub_pieces (names_of_identifiers identifiers.now) number sub_type.now) }
 {
     if is_plain(sub_type) {
-        write_composite_type(p, identifiers, number, sub_type.composite())
+        put_composite_type(p, fault, identifiers, number, sub_type.composite());
     } else {
-        write_sub_group(p, identifiers, number, sub_type)
+        put_sub_group(p, fault, identifiers, number, sub_type);
     }
 }
 
 /// Writes the type with the number.
 #[tactic(auto, unfolding(wasmprinter_spec::specs::Layout::Types::type_pieces, wasmprinter_spec::specs::Layout::Groups::line_group_gap))]
+fn put_type_field<P: Print>(
+    p: &mut P,
+    fault: &mut Fault,
+    identifiers: &Identifiers<'_, '_>,
+    number: u64,
+    sub_type: &SubType<'_>,
+)
+    ensures { Marks P.meaning p.old fault.old p.new fault.new
+        (type_pieces (names_of_identifiers identifiers.now) number sub_type.now) }
+{
+    put_open_gap(p, fault, "type");
+    put_declaration_of(p, fault, identifiers, Space::Types, 0, number);
+    put_gap(p, fault);
+    put_sub_type(p, fault, identifiers, number, sub_type);
+    put_shut(p, fault);
+}
+
+/// Writes the type with the number.
 pub fn type_field<P: Print>(
     p: &mut P,
     identifiers: &Identifiers<'_, '_>,
@@ -280,9 +317,7 @@ pub fn type_field<P: Print>(
 ) -> io::Result<()>
     ensures { PrintsAlways P.meaning p.old p.new result (type_pieces (names_of_identifiers identifiers.now) number sub_type.now) }
 {
-    open_gap(p, "type")?;
-    write_declaration_of(p, identifiers, Space::Types, 0, number)?;
-    gap(p)?;
-    write_sub_type(p, identifiers, number, sub_type)?;
-    shut(p)
+    let mut fault = Fault::none();
+    put_type_field(p, &mut fault, identifiers, number, sub_type);
+    fault.into_result()
 }

@@ -8,17 +8,18 @@ ghost use Rattle.wasmprinter_spec.specs.Layout.ValTypes.{val_pieces};
 ghost use Rattle.wasmprinter_spec.specs.Layout.Variables.{variable_groups, groups_pieces};
 ghost use Rattle.wasmprinter_spec.specs.Piece.{Gap};
 ghost use Rattle.wasmprinter_print.specs.Prints.{PrintsAlways};
+ghost use Rattle.wasmprinter_print.specs.Puts.{Marks};
 ghost use Rattle.wasmprinter_names.specs.Shown.{identifier_view, names_of_identifiers};
 ghost use Rattle.wasmprinter_types.specs.ValTypes.{type_view, types_view};
 ghost use Rattle.wasmprinter_text.specs.Variables.{front_pieces, end_pieces, before_next, first_pieces, unnamed_pieces, variable_pieces};
 
-use crate::indices::write_mark_gap;
-use crate::types::{write_type, write_val_type};
+use crate::indices::put_mark_gap;
+use crate::types::{put_type, put_val_type};
 use std::io;
 use wasmprinter_names::{Identifier, Identifiers, Space};
-use wasmprinter_print::Print;
+use wasmprinter_print::{Fault, Print};
 use wasmprinter_types::{ValType, ValTypes};
-use wasmprinter_words::words::{gap, open, shut};
+use wasmprinter_words::words::{put_gap, put_open, put_shut};
 
 /// What stands before a variable.
 #[derive(Clone, Copy)]
@@ -45,76 +46,107 @@ fn variable<'n>(
     }
 }
 
-/// Writes what stands in front of a new group.
-fn begin_group<P: Print>(p: &mut P, before: Before) -> io::Result<()>
-    ensures { PrintsAlways P.meaning p.old p.new result (front_pieces before) }
+/// Writes what comes before a new group.
+fn put_begin_group<P: Print>(p: &mut P, fault: &mut Fault, before: Before)
+    ensures { Marks P.meaning p.old fault.old p.new fault.new (front_pieces before) }
 {
     match before {
-        Before::Line => Ok(()),
-        Before::Shut => gap(p),
+        Before::Line => {}
+        Before::Shut => put_gap(p, fault),
         Before::Open => {
-            shut(p)?;
-            gap(p)
+            put_shut(p, fault);
+            put_gap(p, fault);
         }
     }
 }
 
 /// Writes a variable with an identifier as a group.
 #[tactic(auto, unfolding(wasmprinter_spec::specs::Layout::Groups::line_group))]
-fn write_alone<P: Print>(
+fn put_alone<P: Print>(
     p: &mut P,
+    fault: &mut Fault,
     identifiers: &Identifiers<'_, '_>,
     keyword: &str,
     identifier: Identifier<'_>,
     value_type: ValType,
-) -> io::Result<()>
-    ensures { PrintsAlways P.meaning p.old p.new result
+)
+    ensures { Marks P.meaning p.old fault.old p.new fault.new
         (line_group keyword.now (Gap ∷ (mark_gap_pieces (Some (identifier_view identifier.entry))
         ++ val_pieces (names_of_identifiers identifiers.now) (type_view value_type)))) }
 {
-    open(p, keyword)?;
-    gap(p)?;
-    write_mark_gap(p, Some(identifier))?;
-    write_val_type(p, identifiers, value_type)?;
-    shut(p)
+    put_open(p, fault, keyword);
+    put_gap(p, fault);
+    put_mark_gap(p, fault, Some(identifier));
+    put_val_type(p, fault, identifiers, value_type);
+    put_shut(p, fault);
 }
 
 /// Writes a variable without an identifier as the first of a new group, which stays open.
-fn write_first<P: Print>(
+fn put_first<P: Print>(
     p: &mut P,
+    fault: &mut Fault,
     identifiers: &Identifiers<'_, '_>,
     keyword: &str,
     before: Before,
     value_type: ValType,
-) -> io::Result<()>
-    ensures { PrintsAlways P.meaning p.old p.new result
+)
+    ensures { Marks P.meaning p.old fault.old p.new fault.new
         (first_pieces (names_of_identifiers identifiers.now) keyword.now before (type_view value_type)) }
 {
-    begin_group(p, before)?;
-    open(p, keyword)?;
-    write_type(p, identifiers, value_type)
+    put_begin_group(p, fault, before);
+    put_open(p, fault, keyword);
+    put_type(p, fault, identifiers, value_type);
 }
 
 /// Writes a variable without an identifier: in the group that is open, or as the first of a new one.
-fn write_together<P: Print>(
+fn put_together<P: Print>(
     p: &mut P,
+    fault: &mut Fault,
     identifiers: &Identifiers<'_, '_>,
     keyword: &str,
     before: Before,
     value_type: ValType,
-) -> io::Result<()>
-    ensures { PrintsAlways P.meaning p.old p.new result
+)
+    ensures { Marks P.meaning p.old fault.old p.new fault.new
         (unnamed_pieces (names_of_identifiers identifiers.now) keyword.now before (type_view value_type)) }
 {
     match before {
-        Before::Open => write_type(p, identifiers, value_type),
-        _ => write_first(p, identifiers, keyword, before, value_type),
+        Before::Open => put_type(p, fault, identifiers, value_type),
+        _ => put_first(p, fault, identifiers, keyword, before, value_type),
+    }
+}
+
+/// Writes a variable, and returns what comes before the next one.
+#[tactic(auto, unfolding(wasmprinter_spec::specs::Layout::Variables::variables_pieces))]
+fn put_variable<P: Print>(
+    p: &mut P,
+    fault: &mut Fault,
+    identifiers: &Identifiers<'_, '_>,
+    identifier: Option<Identifier<'_>>,
+    keyword: &str,
+    before: Before,
+    value_type: ValType,
+) -> Before
+    ensures pieces { Marks P.meaning p.old fault.old p.new fault.new
+        (variable_pieces (names_of_identifiers identifiers.now) keyword.now before
+        (option_map identifier_view identifier.entry) (type_view value_type)) }
+    ensures next { result ≡ before_next (option_map identifier_view identifier.entry) }
+{
+    match identifier {
+        None => {
+            put_together(p, fault, identifiers, keyword, before, value_type);
+            Before::Open
+        }
+        Some(identifier) => {
+            put_begin_group(p, fault, before);
+            put_alone(p, fault, identifiers, keyword, identifier, value_type);
+            Before::Shut
+        }
     }
 }
 
 /// Writes a variable, and says what stands before the next one. `owner` is the function whose variable it is, `None` of a parameter that is
 /// of no function.
-#[tactic(auto, unfolding(wasmprinter_spec::specs::Layout::Variables::variables_pieces))]
 pub fn write_variable<P: Print>(
     p: &mut P,
     identifiers: &Identifiers<'_, '_>,
@@ -129,16 +161,27 @@ pub fn write_variable<P: Print>(
         (parameters_of (names_of_identifiers identifiers.now) owner number) (type_view value_type)) }
     ensures next { IfOk result (λ b. b ≡ before_next (parameters_of (names_of_identifiers identifiers.now) owner number)) }
 {
-    match variable(identifiers, owner, number) {
-        None => {
-            write_together(p, identifiers, keyword, before, value_type)?;
-            Ok(Before::Open)
-        }
-        Some(identifier) => {
-            begin_group(p, before)?;
-            write_alone(p, identifiers, keyword, identifier, value_type)?;
-            Ok(Before::Shut)
-        }
+    let identifier = variable(identifiers, owner, number);
+    let mut fault = Fault::none();
+    let next = put_variable(
+        p,
+        &mut fault,
+        identifiers,
+        identifier,
+        keyword,
+        before,
+        value_type,
+    );
+    fault.into_result()?;
+    Ok(next)
+}
+
+/// Closes the group that is open after the last variable, if one is.
+fn put_end_variables<P: Print>(p: &mut P, fault: &mut Fault, before: Before)
+    ensures { Marks P.meaning p.old fault.old p.new fault.new (end_pieces before) }
+{
+    if let Before::Open = before {
+        put_shut(p, fault);
     }
 }
 
@@ -146,26 +189,38 @@ pub fn write_variable<P: Print>(
 pub fn end_variables<P: Print>(p: &mut P, before: Before) -> io::Result<()>
     ensures { PrintsAlways P.meaning p.old p.new result (end_pieces before) }
 {
-    match before {
-        Before::Open => shut(p),
-        _ => Ok(()),
-    }
+    let mut fault = Fault::none();
+    put_end_variables(p, &mut fault, before);
+    fault.into_result()
 }
 
-/// Writes parameters in their groups, a blank before each group. `owner` is the function whose parameters they are, if they are of one.
-pub(crate) fn write_params<P: Print>(
+/// Writes parameters in their groups, a space before each group. `owner` is the function whose parameters they are, if they are of one.
+pub(crate) fn put_params<P: Print>(
     p: &mut P,
+    fault: &mut Fault,
     identifiers: &Identifiers<'_, '_>,
     owner: Option<u64>,
     types: &ValTypes<'_>,
-) -> io::Result<()>
-    ensures { PrintsAlways P.meaning p.old p.new result
+)
+    ensures { Marks P.meaning p.old fault.old p.new fault.new
         (groups_pieces (names_of_identifiers identifiers.now) (codes "param")
         (variable_groups (parameters_of (names_of_identifiers identifiers.now) owner) 0 (types_view types.now))) }
 {
     let mut before = Before::Shut;
     for (number, value_type) in (0..u64::from(types.len())).zip(types.iter()) {
-        before = write_variable(p, identifiers, owner, "param", before, number, value_type)?;
+        if fault.is_some() {
+            return;
+        }
+        let identifier = variable(identifiers, owner, number);
+        before = put_variable(
+            p,
+            fault,
+            identifiers,
+            identifier,
+            "param",
+            before,
+            value_type,
+        );
     }
-    end_variables(p, before)
+    put_end_variables(p, fault, before);
 }

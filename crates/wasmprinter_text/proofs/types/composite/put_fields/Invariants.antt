@@ -1,15 +1,14 @@
 use Rattle.std.proofs.Common.{◌≡◌, ◌+◌, length}
-use Rattle.wasmprinter_spec.specs.Options.{Options}
 use Rattle.wasmprinter_spec.specs.Layout.Groups.{numbered_pieces}
-use Rattle.wasmprinter_print.specs.Prints.{Lacks}
+use Rattle.wasmprinter_print.specs.Puts.{MarksBut}
 use Rattle.wasmprinter_names.specs.Shown.{names_of_identifiers}
 use Rattle.wasmprinter_types.specs.Types.{fields_view}
 use Rattle.wasmprinter_text.specs.Items.{owned_field}
-use Rattle.wasmprinter_text.proofs.types.composite.write_fields.Given as goal
+use Rattle.wasmprinter_text.proofs.types.composite.put_fields.Given as goal
 
 abbrev pub invariant-loop-number : goal.invariant-loop-number
 invariant-loop-number g l = record {
-  lacks : (o : Options) → Lacks g.P.Print.meaning o l.fn.p l.p (numbered_pieces (owned_field (names_of_identifiers l.fn.identifiers) l.fn.owner) 0 (fields_view l.fn.fields)) (numbered_pieces (owned_field (names_of_identifiers l.fn.identifiers) l.fn.owner) l.number-iterator.a.start (fields_view l.number-iterator.b));
+  but : MarksBut g.P.Print.meaning l.fn.p l.fn.fault l.p l.fault (numbered_pieces (owned_field (names_of_identifiers l.fn.identifiers) l.fn.owner) 0 (fields_view l.fn.fields)) (numbered_pieces (owned_field (names_of_identifiers l.fn.identifiers) l.fn.owner) l.number-iterator.a.start (fields_view l.number-iterator.b));
   count : l.number-iterator.a.start + length l.number-iterator.b ≡ l.number-iterator.a.end;
   next : (goal.iterator-loop-number g).can_next l.number-iterator × (goal.iterator-loop-number g).is_finite l.number-iterator;
 }
