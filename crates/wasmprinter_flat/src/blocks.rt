@@ -20,7 +20,7 @@ use wasmprinter_names::Identifier;
 use wasmprinter_ops::blocks::{BlockType, Catch, Catches};
 use wasmprinter_ops::opcode::Space;
 use wasmprinter_print::{Fault, Print};
-use wasmprinter_text::signature::{Signatures, write_type_use};
+use wasmprinter_text::signature::{Signatures, put_type_use};
 use wasmprinter_words::comments::{put_label_ending, put_label_remark};
 use wasmprinter_words::words::{put_gap, put_open, put_shut};
 
@@ -76,10 +76,7 @@ pub(crate) fn put_block_type<P: Print, S: Signatures>(
         BlockType::Empty => {}
         BlockType::Value(value_type) => put_result(p, fault, &identifiers, value_type),
         BlockType::Func(index) => {
-            if !fault.is_some() {
-                let types = context.setting.types;
-                fault.keep(write_type_use(p, &identifiers, None, types, index));
-            }
+            put_type_use(p, fault, &identifiers, None, context.setting.types, index);
         }
     }
 }

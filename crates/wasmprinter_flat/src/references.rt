@@ -2,9 +2,9 @@
 //! blank in front.
 ghost use Rattle.std.specs.Prelude.{◌≡◌, ◌∷◌, ◌++◌, codes};
 ghost use Rattle.wasmprinter_spec.specs.Piece.{Gap};
-ghost use Rattle.wasmprinter_spec.specs.Layout.Groups.{line_group, line_group_gap};
+ghost use Rattle.wasmprinter_spec.specs.Layout.Groups.{line_group_gap};
 ghost use Rattle.wasmprinter_spec.specs.Layout.Operators.{label_pieces, select_pieces};
-ghost use Rattle.wasmprinter_spec.specs.Layout.ValTypes.{heap_pieces, ref_pieces, val_pieces, type_list};
+ghost use Rattle.wasmprinter_spec.specs.Layout.ValTypes.{heap_pieces, ref_pieces, val_pieces};
 ghost use Rattle.wasmprinter_spec.specs.Text.Items.{the_only};
 ghost use Rattle.wasmprinter_print.specs.Puts.{Marks};
 ghost use Rattle.wasmprinter_names.specs.Shown.{names_of_identifiers};
@@ -18,7 +18,7 @@ use wasmprinter_names::Identifiers;
 use wasmprinter_ops::operands::{cast_source, cast_target};
 use wasmprinter_print::{Fault, Print};
 use wasmprinter_text::signature::Signatures;
-use wasmprinter_text::types::{put_val_type, write_group, write_heap_type, write_ref_type};
+use wasmprinter_text::types::{put_group, put_heap_type, put_ref_type, put_val_type};
 use wasmprinter_types::{HeapType, RefType, ValType, ValTypes};
 use wasmprinter_words::words::{put_gap, put_open_gap, put_shut};
 
@@ -37,21 +37,6 @@ pub(crate) fn put_result<P: Print>(
     put_open_gap(p, fault, "result");
     put_val_type(p, fault, identifiers, value_type);
     put_shut(p, fault);
-}
-
-/// Writes types as the results in one group.
-fn put_results<P: Print>(
-    p: &mut P,
-    fault: &mut Fault,
-    identifiers: &Identifiers<'_, '_>,
-    types: &ValTypes<'_>,
-)
-    ensures { Marks P.meaning p.old fault.old p.new fault.new
-        (Gap ∷ line_group (codes "result") (type_list (names_of_identifiers identifiers.now) (types_view types.now))) }
-{
-    if !fault.is_some() {
-        fault.keep(write_group(p, identifiers, "result", types));
-    }
 }
 
 /// The type, where there is just one.
@@ -77,7 +62,7 @@ pub(crate) fn put_select<P: Print>(
 {
     match only_type(types) {
         Some(value_type) => put_result(p, fault, identifiers, value_type),
-        None => put_results(p, fault, identifiers, types),
+        None => put_group(p, fault, identifiers, "result", types),
     }
 }
 
@@ -92,9 +77,7 @@ pub(crate) fn put_heap<P: Print>(
         (Gap ∷ heap_pieces (names_of_identifiers identifiers.now) (heap_view heap)) }
 {
     put_gap(p, fault);
-    if !fault.is_some() {
-        fault.keep(write_heap_type(p, identifiers, heap));
-    }
+    put_heap_type(p, fault, identifiers, heap);
 }
 
 /// Writes a reference type.
@@ -108,9 +91,7 @@ pub(crate) fn put_ref<P: Print>(
         (Gap ∷ ref_pieces (names_of_identifiers identifiers.now) (ref_view ref_type)) }
 {
     put_gap(p, fault);
-    if !fault.is_some() {
-        fault.keep(write_ref_type(p, identifiers, ref_type));
-    }
+    put_ref_type(p, fault, identifiers, ref_type);
 }
 
 /// Writes two reference types.

@@ -9,4 +9,4 @@ returns-in-Some g c =
 
 pub returns-in-None : goal.returns-in-None
 returns-in-None g c =
-    rw (select-others (names_of_identifiers c.args.identifiers.now) c.args.types.now (sym c.only_type.ensures ∙ c.in-None.is)) c.put_results.ensures
+    rw (select-others (names_of_identifiers c.args.identifiers.now) c.args.types.now (sym c.only_type.ensures ∙ c.in-None.is)) c.put_group.ensures
