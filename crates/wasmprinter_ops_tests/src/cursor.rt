@@ -28,7 +28,7 @@ fn goes_on_with(cursor: &mut Cursor, wanted: Number) -> bool {
 }
 
 /// Numbers, each with the place of its first byte, and its bytes.
-const NUMBERS: [(u64, &[u8], Number); 12] = [
+const NUMBERS: [(u64, &[u8], Number); 18] = [
     (0, &[0x03], Number::U32(Ok(3))),
     (0, &[0x83, 0x00], Number::U32(Ok(3))),
     (0, &[0xe5, 0x8e, 0x26], Number::U32(Ok(624485))),
@@ -53,6 +53,13 @@ const NUMBERS: [(u64, &[u8], Number); 12] = [
     (0, &[0xc0, 0xbb, 0x78], Number::S33(Ok(-123456))),
     (0, &[0xc0, 0xbb, 0x78], Number::S64(Ok(-123456))),
     (0, &[0xff, 0x00], Number::S64(Ok(127))),
+    // no byte, and one that is followed by none
+    (5, &[], Number::U32(Err(Malformed { place: 5 }))),
+    (5, &[0x80], Number::U32(Err(Malformed { place: 6 }))),
+    (5, &[], Number::U64(Err(Malformed { place: 5 }))),
+    (5, &[0x80], Number::U64(Err(Malformed { place: 6 }))),
+    (5, &[], Number::S32(Err(Malformed { place: 5 }))),
+    (5, &[0x80], Number::S32(Err(Malformed { place: 6 }))),
 ];
 
 #[test]

@@ -1,12 +1,18 @@
-//! Where faults are found. An expression is read without making values of immediates, and has to find a fault where reading the operator
-//! finds it; no contract says the place. So reading operators says what is expected here.
+//! Where faults are found: no contract says the place. Operators, and expressions, are compared with how operators were read before opcodes
+//! and numbers of one byte had a path of their own; and some places are typed by hand.
 
+use crate::before::bytes::Cursor as ModelCursor;
+use crate::before::operators::{
+    Immediates as ModelImmediates, Items, Operator as ModelOperator, read_catch, read_type,
+};
 use std::alloc::{AllocError, Global};
 use wasmprinter_bytes::bytes::Cursor;
 use wasmprinter_error::{Error, Malformed};
+use wasmprinter_ops::blocks::{Catches, Targets};
 use wasmprinter_ops::expression::Expression;
 use wasmprinter_ops::opcode::{Role, Shape, Space};
-use wasmprinter_ops::operator::Operator;
+use wasmprinter_ops::operator::{Immediates, Operator};
+use wasmprinter_types::ValTypes;
 
 /// Where the first byte lies.
 const PLACE: u64 = 0x1a;
@@ -167,6 +173,77 @@ const REFUSED: [(&[u8], u64); 15] = [
     (&[0x41, 0x80, 0x80, 0x80, 0x80, 0x40], 0x1f),
 ];
 
+/// Expressions with a fault in their second operator, and in their last one, each with the place of the fault.
+const FAULTY: [(&[u8], u64); 27] = [
+    // in the second of several
+    (&[0x01, 0xff, 0x0b], 0x1b),
+    (&[0x01, 0x05, 0x0b], 0x1b),
+    (&[0x41, 0x7f, 0xfc, 0x12, 0x00, 0x0b], 0x1c),
+    (&[0x1a, 0xfe, 0x03, 0x01, 0x0b], 0x1d),
+    (&[0x01, 0x02, 0x41, 0x0b, 0x0b], 0x1c),
+    (&[0x01, 0x28, 0x80, 0x01, 0x00, 0x0b], 0x1c),
+    (
+        &[0x20, 0x00, 0x20, 0x80, 0x80, 0x80, 0x80, 0x10, 0x0b],
+        0x21,
+    ),
+    (
+        &[0x02, 0x40, 0x41, 0x80, 0x80, 0x80, 0x80, 0x40, 0x0b, 0x0b],
+        0x21,
+    ),
+    (
+        &[0x20, 0x81, 0x01, 0xfd, 0x94, 0x82, 0x00, 0x01, 0x0b],
+        0x1d,
+    ),
+    // in the last of several: the bytes end before it, in its opcode, and in its immediates
+    (&[0x20, 0x00, 0x41, 0x01, 0x6a], 0x1f),
+    (&[0x20, 0x00, 0x41, 0x01, 0x6a, 0xfb, 0x80], 0x21),
+    (&[0x20, 0x00, 0x41, 0x01, 0x6a, 0x41], 0x20),
+    (&[0x20, 0x00, 0x41, 0x01, 0x6a, 0x41, 0x80], 0x21),
+    (&[0x20, 0x00, 0x41, 0x01, 0x6a, 0x20], 0x20),
+    (
+        &[0x20, 0x00, 0x41, 0x01, 0x6a, 0x43, 0x00, 0x00, 0x80],
+        0x20,
+    ),
+    (&[0x20, 0x00, 0x41, 0x01, 0x6a, 0xfd, 0x0c, 1, 2, 3], 0x21),
+    (&[0x20, 0x00, 0x41, 0x01, 0x6a, 0xfd, 0x15], 0x21),
+    (
+        &[0x20, 0x00, 0x41, 0x01, 0x6a, 0x0e, 0x02, 0x00, 0x01],
+        0x23,
+    ),
+    (&[0x20, 0x00, 0x41, 0x01, 0x6a, 0x37, 0x42, 0x00], 0x22),
+    (&[0x20, 0x00, 0x41, 0x01, 0x6a, 0xd0, 0x80], 0x21),
+    (&[0x20, 0x00, 0x41, 0x01, 0x6a, 0x02, 0x40, 0x0b], 0x22),
+    // a byte that no such immediate has
+    (
+        &[
+            0x20, 0x00, 0x41, 0x01, 0x6a, 0x10, 0xff, 0xff, 0xff, 0xff, 0x1f,
+        ],
+        0x24,
+    ),
+    (
+        &[
+            0x20, 0x00, 0x41, 0x01, 0x6a, 0x42, 0x80, 0x80, 0x80, 0x80, 0x80, 0x80, 0x80, 0x80,
+            0x80, 0x40,
+        ],
+        0x29,
+    ),
+    (
+        &[0x20, 0x00, 0x41, 0x01, 0x6a, 0x1c, 0x02, 0x7f, 0x40],
+        0x22,
+    ),
+    (
+        &[
+            0x20, 0x00, 0x41, 0x01, 0x6a, 0xfb, 0x18, 0x04, 0x00, 0x6e, 0x6e,
+        ],
+        0x21,
+    ),
+    (
+        &[0x20, 0x00, 0x41, 0x01, 0x6a, 0x1f, 0x40, 0x01, 0x04, 0x00],
+        0x22,
+    ),
+    (&[0x20, 0x00, 0x41, 0x01, 0x6a, 0x19, 0x0b], 0x1f),
+];
+
 /// What is put in the place of each byte.
 const OTHERS: [u8; 6] = [0x00, 0x04, 0x40, 0x7f, 0x80, 0xff];
 
@@ -190,49 +267,181 @@ fn outcome_of(alloc: Global, bytes: &[u8]) -> Outcome {
     }
 }
 
-/// The bytes of an operator, with two `end`s behind it.
-fn with_ends(alloc: Global, operator: &[u8]) -> Result<Vec<u8>, AllocError> {
-    let mut bytes = Vec::from_slice(alloc, operator)?;
-    bytes.extend_from_slice(&[END, END])?;
-    Ok(bytes)
+/// Returns whether labels are those that the model read.
+fn are_same_targets(found: &Targets, wanted: Items) -> bool {
+    let mut cursor = wanted.cursor;
+    for label in found.iter() {
+        if cursor.u32() != Ok(label) {
+            return false;
+        }
+    }
+    found.len() == wanted.left
 }
 
-/// What has to come of reading an operator of this role and length, with two `end`s behind it, as an expression.
-fn wanted_by(role: Role, len: u64) -> Outcome {
-    match role {
-        Role::Plain => Outcome::Ended(PLACE.saturating_add(len)),
-        Role::Opens | Role::OpensIf | Role::OpensTry => {
-            Outcome::Ended(PLACE.saturating_add(len).saturating_add(1))
+/// Returns whether catch clauses are those that the model read.
+fn are_same_catches(found: &Catches, wanted: Items) -> bool {
+    let mut cursor = wanted.cursor;
+    for clause in found.iter() {
+        if read_catch(&mut cursor) != Ok(clause) {
+            return false;
         }
-        Role::Ends => Outcome::Ended(PLACE),
-        Role::Turns | Role::Catches | Role::CatchesAll | Role::Delegates => Outcome::Refused(PLACE),
+    }
+    found.len() == wanted.left
+}
+
+/// Returns whether value types are those that the model read.
+fn are_same_types(found: &ValTypes, wanted: Items) -> bool {
+    let mut cursor = wanted.cursor;
+    for val_type in found.iter() {
+        if read_type(&mut cursor) != Ok(val_type) {
+            return false;
+        }
+    }
+    found.len() == wanted.left
+}
+
+/// Returns whether immediates of one or two numbers are those that the model read.
+fn are_same_numbers(found: &Immediates, wanted: &ModelImmediates) -> bool {
+    match (found, wanted) {
+        (Immediates::None, ModelImmediates::None) => true,
+        (Immediates::Index(index), ModelImmediates::Index(other)) => index == other,
+        (Immediates::Indices(first, second), ModelImmediates::Indices(one, other)) => {
+            first == one && second == other
+        }
+        (Immediates::Memory(operand), ModelImmediates::Memory(other)) => operand == other,
+        (Immediates::MemoryLane(operand, lane), ModelImmediates::MemoryLane(other, at)) => {
+            operand == other && lane == at
+        }
+        (Immediates::Lane(lane), ModelImmediates::Lane(other)) => lane == other,
+        (Immediates::I32(number), ModelImmediates::I32(other)) => number == other,
+        (Immediates::I64(number), ModelImmediates::I64(other)) => number == other,
+        (Immediates::F32(bits), ModelImmediates::F32(other)) => bits == other,
+        (Immediates::F64(bits), ModelImmediates::F64(other)) => bits == other,
+        (Immediates::Bytes(bytes), ModelImmediates::Bytes(other)) => bytes == other,
+        _ => false,
     }
 }
 
-/// Whether reading an expression passes by an operator of this role, which these bytes are.
-fn is_passed(alloc: Global, operator: &[u8], role: Role) -> bool {
-    match with_ends(alloc, operator) {
-        Ok(bytes) => outcome_of(alloc, bytes.as_slice()) == wanted_by(role, operator.len() as u64),
+/// Returns whether immediates are those that the model read.
+fn are_same(found: &Immediates, wanted: &ModelImmediates) -> bool {
+    match (found, wanted) {
+        (Immediates::Block(block_type), ModelImmediates::Block(other)) => block_type == other,
+        (Immediates::TryTable(block_type, clauses), ModelImmediates::TryTable(other, catches)) => {
+            block_type == other && are_same_catches(clauses, *catches)
+        }
+        (Immediates::BrTable(targets, last), ModelImmediates::BrTable(labels, other)) => {
+            last == other && are_same_targets(targets, *labels)
+        }
+        (Immediates::Types(types), ModelImmediates::Types(others)) => {
+            are_same_types(types, *others)
+        }
+        (Immediates::Heap(heap), ModelImmediates::Heap(other)) => heap == other,
+        (
+            Immediates::Cast(flags, label, source, target),
+            ModelImmediates::Cast(bits, other, from, to),
+        ) => flags == bits && label == other && source == from && target == to,
+        _ => are_same_numbers(found, wanted),
+    }
+}
+
+/// Returns whether reading an operator gives what it gave the model: the operator, or the place of the fault.
+fn is_same(found: &Result<Operator, Malformed>, wanted: &Result<ModelOperator, Malformed>) -> bool {
+    match (found, wanted) {
+        (Ok(operator), Ok(model)) => {
+            operator.opcode == model.opcode && are_same(&operator.immediates, &model.immediates)
+        }
+        (Err(found), Err(wanted)) => found == wanted,
+        _ => false,
+    }
+}
+
+/// Returns whether an operator is read from these bytes as before, and the cursor left at the same place.
+fn is_read_as_before(bytes: &[u8]) -> bool {
+    let mut cursor = Cursor::new(PLACE, bytes);
+    let mut model = ModelCursor::new(PLACE, bytes);
+    let found = Operator::read(&mut cursor);
+    let wanted = ModelOperator::read(&mut model);
+    is_same(&found, &wanted) && cursor.place() == model.place()
+}
+
+/// Operators that occur before the one that is read, so that it is the first, the second or the last of several.
+const EARLIER: [&[u8]; 3] = [&[], &[0x01], &[0x20, 0x81, 0x01, 0x41, 0x7f, 0x6a, 0x1a]];
+
+/// Returns bytes with others after them.
+fn joined(alloc: Global, bytes: &[u8], others: &[u8]) -> Result<Vec<u8>, AllocError> {
+    let mut both = Vec::from_slice(alloc, bytes)?;
+    both.extend_from_slice(others)?;
+    Ok(both)
+}
+
+/// Returns the place that is `len` bytes after the first.
+fn place_after(len: usize) -> u64 {
+    PLACE.saturating_add(len as u64)
+}
+
+/// Returns what reading an expression has to give, if an operator of this role is its last but for two `end`s: the operator is `start` to
+/// `end` bytes after the first byte.
+fn wanted_by(role: Role, start: usize, end: usize) -> Outcome {
+    match role {
+        Role::Plain => Outcome::Ended(place_after(end)),
+        Role::Opens | Role::OpensIf | Role::OpensTry => {
+            Outcome::Ended(place_after(end).saturating_add(1))
+        }
+        Role::Ends => Outcome::Ended(place_after(start)),
+        Role::Turns | Role::Catches | Role::CatchesAll | Role::Delegates => {
+            Outcome::Refused(place_after(start))
+        }
+    }
+}
+
+/// Returns whether reading these operators and two `end`s as an expression gives what the role of the last of them asks for, which begins
+/// `start` bytes after the first byte.
+fn is_passed(alloc: Global, operators: &[u8], start: usize, role: Role) -> bool {
+    match joined(alloc, operators, &[END, END]) {
+        Ok(bytes) => {
+            outcome_of(alloc, bytes.as_slice()) == wanted_by(role, start, operators.len())
+        }
         Err(AllocError) => false,
     }
 }
 
-/// The role of the operator that stands there, and the place behind it.
-fn read_role(bytes: &[u8]) -> Result<(Role, u64), Malformed> {
-    let mut cursor = Cursor::new(PLACE, bytes);
-    let operator = Operator::read(&mut cursor)?;
-    Ok((operator.opcode.role(), cursor.place()))
+/// Returns the role of the operator that the model reads `start` bytes after the first byte, and the place after the operator.
+fn model_role(bytes: &[u8], start: usize) -> Result<(Role, u64), Malformed> {
+    let mut cursor = ModelCursor::new(PLACE, bytes);
+    cursor.take(start)?;
+    match ModelOperator::read(&mut cursor) {
+        Ok(operator) => Ok((operator.opcode.role(), cursor.place())),
+        Err(fault) => Err(fault),
+    }
 }
 
-/// Whether reading an expression finds what reading an operator finds.
-fn agree(alloc: Global, bytes: &[u8]) -> bool {
-    match read_role(bytes) {
-        Ok((role, behind)) => match bytes.get(..behind.saturating_sub(PLACE) as usize) {
-            Some(operator) => is_passed(alloc, operator, role),
+/// Returns whether reading an expression finds what the model finds at the operator that begins `start` bytes after the first byte.
+fn agree_at(alloc: Global, bytes: &[u8], start: usize) -> bool {
+    match model_role(bytes, start) {
+        Ok((role, end)) => match bytes.get(..end.saturating_sub(PLACE) as usize) {
+            Some(operators) => is_passed(alloc, operators, start, role),
             None => false,
         },
         Err(Malformed { place }) => outcome_of(alloc, bytes) == Outcome::Refused(place),
     }
+}
+
+/// Returns whether it does with these operators before the bytes.
+fn agree_after(alloc: Global, earlier: &[u8], bytes: &[u8]) -> bool {
+    match joined(alloc, earlier, bytes) {
+        Ok(both) => agree_at(alloc, both.as_slice(), earlier.len()),
+        Err(AllocError) => false,
+    }
+}
+
+/// Returns whether an operator is read as before, and found by an expression as the first, the second and the last of several.
+fn agree(alloc: Global, bytes: &[u8]) -> bool {
+    for earlier in EARLIER {
+        if !agree_after(alloc, earlier, bytes) {
+            return false;
+        }
+    }
+    is_read_as_before(bytes)
 }
 
 /// Whether it does wherever the bytes are cut.
@@ -329,5 +538,15 @@ fn faults_have_their_places(rt: HostRuntime) {
             "row {row}"
         );
         assert!(rt; agree_on_all(rt.alloc(), *bytes), "row {row}");
+    }
+}
+
+#[test]
+fn faults_of_later_operators_have_their_places(rt: HostRuntime) {
+    for (row, (bytes, place)) in FAULTY.iter().enumerate() {
+        assert!(rt;
+            outcome_of(rt.alloc(), *bytes) == Outcome::Refused(*place),
+            "row {row}"
+        );
     }
 }

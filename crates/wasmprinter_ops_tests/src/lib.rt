@@ -2,10 +2,14 @@
 #![tactic(auto)]
 
 #[cfg(test)]
+mod before;
+#[cfg(test)]
 mod cursor;
 #[cfg(test)]
 mod errors;
 #[cfg(test)]
 mod faults;
+#[cfg(test)]
+mod numbers;
 #[cfg(test)]
 mod operators;
