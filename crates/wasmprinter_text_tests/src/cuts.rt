@@ -2,7 +2,7 @@
 //! made before it gathered texts, up to the one that is refused, for texts around each length at which what was gathered is handed over.
 
 mod before;
-mod calls;
+pub mod calls;
 
 use calls::{Calls, Ending};
 use std::alloc::{AllocError, Global};
@@ -61,13 +61,14 @@ fn agree_at_each_call(alloc: Global, input: Input) -> bool {
 
 /// Lengths of texts, each from one up to another. Of a text 256 bytes are gathered at most, and handed over where one more comes, or a
 /// character that doesn't stand for itself. Of bytes 85 are gathered and handed over at once, each of which may take three.
-const LENGTHS: [(usize, usize); 6] = [
+const LENGTHS: [(usize, usize); 7] = [
     (0, 6),
     (80, 90),
     (168, 172),
     (250, 262),
     (505, 520),
     (764, 772),
+    (773, 1_100),
 ];
 
 /// Places around the end of the first part that is handed over, of bytes and of a text.
@@ -338,21 +339,37 @@ fn push_number(wasm: &mut Vec<u8>, number: usize) -> Result<(), AllocError> {
     wasm.extend_from_slice(&[(number % 128) as u8 | 0x80, (number / 128 % 128) as u8])
 }
 
-/// A module with an import of a function that has the name, which has fewer than 2^13 bytes.
-fn with_name(alloc: Global, name: &str) -> Result<Vec<u8>, AllocError> {
+/// Appends the names of `count` functions, which are all this one.
+fn push_function_names(wasm: &mut Vec<u8>, count: u8, name: &str) -> Result<(), AllocError> {
+    wasm.push(count)?;
+    for function in 0..count {
+        wasm.push(function)?;
+        push_number(wasm, name.len())?;
+        wasm.extend_from_slice(name.as_bytes())?;
+    }
+    Ok(())
+}
+
+/// Returns a module with `count` imports of functions that all have the name. There are fewer than 32, and their names have fewer than
+/// 2^14 bytes in all.
+fn with_name(alloc: Global, count: u8, name: &str) -> Result<Vec<u8>, AllocError> {
     let mut wasm = Vec::from_slice(alloc, &PREAMBLE)?;
-    // a type, and the import of a function
+    // a type, and imports of functions
     wasm.extend_from_slice(&[0x01, 0x04, 0x01, 0x60, 0x00, 0x00])?;
-    wasm.extend_from_slice(&[0x02, 0x05, 0x01, 0x00, 0x00, 0x00, 0x00])?;
-    // the name section, and in it the names of functions, of which there is one
-    let len = name.len().min(1 << 13);
+    let count = count.min(31);
+    wasm.extend_from_slice(&[0x02, 4 * count + 1, count])?;
+    for _ in 0..count {
+        wasm.extend_from_slice(&[0x00, 0x00, 0x00, 0x00])?;
+    }
+    // the name section, and in it the names of functions
+    let len = usize::from(count)
+        .saturating_mul(name.len().saturating_add(3))
+        .saturating_add(1);
     wasm.push(0x00)?;
-    push_number(&mut wasm, len + 12)?;
+    push_number(&mut wasm, len.saturating_add(8))?;
     wasm.extend_from_slice(b"\x04name\x01")?;
-    push_number(&mut wasm, len + 4)?;
-    wasm.extend_from_slice(&[0x01, 0x00])?;
     push_number(&mut wasm, len)?;
-    wasm.extend_from_slice(name.as_bytes())?;
+    push_function_names(&mut wasm, count, name)?;
     Ok(wasm)
 }
 
@@ -378,15 +395,33 @@ fn hand_identifier<P: Print>(p: &mut P, content: &str) -> Result<(), Error> {
     Ok(())
 }
 
-/// Whether printing the module ends well, and hands over an identifier of this content by the calls that were made before.
-fn prints_identifier_as_before(alloc: Global, wasm: &[u8], content: &str) -> bool {
-    let mut wanted = Calls::new(alloc, 0);
+/// Passes the annotation of a name to the printer, by the form that the library had before.
+fn hand_annotation<P: Print>(p: &mut P, name: &str) -> Result<(), Error> {
+    before::write_name_annotation(p, name)?;
+    Ok(())
+}
+
+/// Returns whether printing the module ends well, and makes these calls somewhere.
+fn prints_calls(alloc: Global, wasm: &[u8], wanted: &Calls) -> bool {
     let mut found = Calls::new(alloc, 0);
-    Ending::of(hand_identifier(&mut wanted, content)) == Ending::Whole
-        && Ending::of(print_to(alloc, wasm, &mut found)) == Ending::Whole
+    Ending::of(print_to(alloc, wasm, &mut found)) == Ending::Whole
         && wanted.is_complete()
         && found.is_complete()
         && contains(found.list(), wanted.list())
+}
+
+/// Whether printing the module ends well, and hands over an identifier of this content by the calls that were made before.
+fn prints_identifier_as_before(alloc: Global, wasm: &[u8], content: &str) -> bool {
+    let mut wanted = Calls::new(alloc, 0);
+    Ending::of(hand_identifier(&mut wanted, content)) == Ending::Whole
+        && prints_calls(alloc, wasm, &wanted)
+}
+
+/// Returns whether printing the module ends well, and writes the annotation of this name by the calls that were made before.
+fn prints_annotation_as_before(alloc: Global, wasm: &[u8], name: &str) -> bool {
+    let mut wanted = Calls::new(alloc, 0);
+    Ending::of(hand_annotation(&mut wanted, name)) == Ending::Whole
+        && prints_calls(alloc, wasm, &wanted)
 }
 
 /// Whether a module whose function has the name that was made is printed with an identifier as before.
@@ -394,8 +429,19 @@ fn prints_name_as_before(alloc: Global, made: Result<String, AllocError>) -> boo
     let Ok(name) = made else {
         return false;
     };
-    match with_name(alloc, name.as_str()) {
+    match with_name(alloc, 1, name.as_str()) {
         Ok(wasm) => prints_identifier_as_before(alloc, wasm.as_slice(), name.as_str()),
+        Err(AllocError) => false,
+    }
+}
+
+/// Returns whether a module of whose functions two have the name that was made is printed with the annotation of the name as before.
+fn prints_same_name_as_before(alloc: Global, made: Result<String, AllocError>) -> bool {
+    let Ok(name) = made else {
+        return false;
+    };
+    match with_name(alloc, 2, name.as_str()) {
+        Ok(wasm) => prints_annotation_as_before(alloc, wasm.as_slice(), name.as_str()),
         Err(AllocError) => false,
     }
 }
@@ -423,7 +469,13 @@ fn stops_at_each_call(alloc: Global, wasm: &[u8]) -> bool {
 }
 
 /// Lengths of names, which aren't empty.
-const NAME_LENGTHS: [(usize, usize); 3] = [(1, 6), (84, 87), (252, 259)];
+const NAME_LENGTHS: [(usize, usize); 5] = [
+    (1, 6),
+    (84, 87),
+    (252, 259),
+    (773, 780),
+    (1_020, 1_030),
+];
 
 #[test]
 fn cuts_identifiers_as_before(rt: HostRuntime) {
@@ -445,8 +497,35 @@ fn cuts_identifiers_as_before(rt: HostRuntime) {
 fn stops_at_each_call_of_identifiers(rt: HostRuntime) -> Result<(), Fail> {
     for len in [3, 86, 257] {
         let name = mixed(rt.alloc(), len, (7, 7))?;
-        let wasm = with_name(rt.alloc(), name.as_str())?;
+        let wasm = with_name(rt.alloc(), 2, name.as_str())?;
         assert!(rt; stops_at_each_call(rt.alloc(), wasm.as_slice()), "at {len}");
     }
     Ok(())
+}
+
+/// Returns whether the annotation is written as before for names of this length: letters alone, with one escape, escapes alone, and mixed.
+fn prints_annotations_as_before(alloc: Global, len: usize) -> bool {
+    prints_same_name_as_before(alloc, repeated(alloc, len, 'a'))
+        && prints_same_name_as_before(alloc, letters_but(alloc, len, len / 2, '"'))
+        && prints_same_name_as_before(alloc, repeated(alloc, len, '\u{e9}'))
+        && prints_same_name_as_before(alloc, mixed(alloc, len, (7, 7)))
+}
+
+/// Lengths of names that are written as annotations.
+const ANNOTATED_LENGTHS: [(usize, usize); 6] = [
+    (0, 6),
+    (84, 87),
+    (252, 259),
+    (510, 514),
+    (773, 780),
+    (1_020, 1_030),
+];
+
+#[test]
+fn cuts_annotations_as_before(rt: HostRuntime) {
+    for (from, to) in ANNOTATED_LENGTHS {
+        for len in from..=to {
+            assert!(rt; prints_annotations_as_before(rt.alloc(), len), "at {len}");
+        }
+    }
 }

@@ -15,6 +15,8 @@ mod opcode_words;
 #[cfg(test)]
 mod opcodes;
 #[cfg(test)]
+mod pieces;
+#[cfg(test)]
 mod printing;
 #[cfg(test)]
 mod sections;

@@ -152,3 +152,13 @@ pub fn write_identifier<P: Print>(p: &mut P, content: &str) -> io::Result<()> {
     text(p, "$")?;
     write_content(p, content)
 }
+
+/// The form in which the annotation with an item's name was written.
+pub fn write_name_annotation<P: Print>(p: &mut P, name: &str) -> io::Result<()> {
+    text(p, "(")?;
+    p.start_keyword()?;
+    text(p, "@name \"")?;
+    p.reset_color()?;
+    write_chars(p, name)?;
+    text(p, "\")")
+}

@@ -3,7 +3,7 @@ ghost use Rattle.std.specs.Prelude.{None, false};
 
 use std::alloc::{AllocError, Global};
 use std::io;
-use std::io::ErrorKind;
+use std::io::{ErrorKind, Write};
 use wasmprinter::{Error, Print};
 
 /// How what hands calls over ended.
@@ -35,7 +35,9 @@ impl Ending {
 /// - a text as it is, with `0xff` behind it, so that two texts differ from one that is their sum;
 /// - `0xfe` for `start_literal`, `0xfd` for `reset_color`;
 /// - `0xfc`, `0xfb`, `0xfa` and `0xf9` for the other styles, in the order of the trait's methods;
-/// - `0xf8` for `newline`, `0xf7` for the beginning of a line, `0xf6` for the question whether a custom section is taken.
+/// - `0xf8` for `newline`;
+/// - `0xf7` for the beginning of a line, with `[0x1f]` or `[]` after it;
+/// - `0xf6` for the question whether a custom section is taken, with its name, the place and the length of its data after it.
 #[derive(Drop)]
 pub struct Calls {
     list: Vec<u8>,
@@ -89,6 +91,21 @@ impl Calls {
         other.is_complete() && self.made == other.made && self.are(other.list())
     }
 
+    /// Returns the calls in a form that can be typed and read:
+    ///
+    /// - a text as it is, with a bar after it;
+    /// - a line feed for `newline`;
+    /// - `{L}`, `{N}`, `{K}`, `{T}`, `{C}` and `{R}` for the styles and for `reset_color`;
+    /// - `[0x1f]` or `[]` for `start_line`;
+    /// - `{? name 0x1f 2}` for `print_custom_section`: the name, the place and the length of the data.
+    pub fn shown(&self, alloc: Global) -> Result<String, AllocError> {
+        let mut shown = String::new(alloc);
+        for byte in self.list() {
+            show_byte(&mut shown, *byte)?;
+        }
+        Ok(shown)
+    }
+
     /// The answer to a call that was kept so.
     fn answer(&mut self, kept: Result<(), AllocError>) -> io::Result<()> {
         self.made = self.made.saturating_add(1);
@@ -116,6 +133,43 @@ impl Calls {
         self.list.extend_from_slice(s.as_bytes())?;
         self.keep_byte(0xff)
     }
+
+    fn keep_line(&mut self, place: Option<u64>) -> Result<(), AllocError> {
+        self.keep_byte(0xf7)?;
+        match place {
+            Some(place) => without_cause(write!(self.list, "[{place:#x}]")),
+            None => self.list.extend_from_slice(b"[]"),
+        }
+    }
+
+    fn keep_section(&mut self, name: &str, place: u64, len: usize) -> Result<(), AllocError> {
+        self.keep_byte(0xf6)?;
+        without_cause(write!(self.list, "{{? {name} {place:#x} {len}}}"))
+    }
+}
+
+/// Returns what a write into memory returned: it fails only if an allocation does.
+fn without_cause(written: io::Result<()>) -> Result<(), AllocError> {
+    match written {
+        Ok(()) => Ok(()),
+        Err(_) => Err(AllocError),
+    }
+}
+
+/// Appends what stands for a byte of the list of calls.
+fn show_byte(shown: &mut String, byte: u8) -> Result<(), AllocError> {
+    match byte {
+        0xff => shown.push('|'),
+        0xfe => shown.push_str("{L}"),
+        0xfd => shown.push_str("{R}"),
+        0xfc => shown.push_str("{N}"),
+        0xfb => shown.push_str("{K}"),
+        0xfa => shown.push_str("{T}"),
+        0xf9 => shown.push_str("{C}"),
+        0xf8 => shown.push('\n'),
+        0xf6 | 0xf7 => Ok(()),
+        _ => shown.push(char::from(byte)),
+    }
 }
 
 impl Print for Calls {
@@ -137,19 +191,20 @@ impl Print for Calls {
         self.keep(0xf8)
     }
 
-    fn start_line(&mut self, _binary_offset: Option<u64>) {
-        if self.keep_byte(0xf7).is_err() {
+    fn start_line(&mut self, binary_offset: Option<u64>) {
+        if self.keep_line(binary_offset).is_err() {
             self.lost = true;
         }
     }
 
     fn print_custom_section(
         &mut self,
-        _name: &str,
-        _binary_offset: u64,
-        _bytes: &[u8],
+        name: &str,
+        binary_offset: u64,
+        bytes: &[u8],
     ) -> io::Result<bool> {
-        self.keep(0xf6)?;
+        let kept = self.keep_section(name, binary_offset, bytes.len());
+        self.answer(kept)?;
         Ok(false)
     }
 
