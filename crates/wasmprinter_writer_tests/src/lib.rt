@@ -11,4 +11,6 @@ mod passing;
 #[cfg(test)]
 mod scripted;
 #[cfg(test)]
+mod sinks;
+#[cfg(test)]
 mod writers;
