@@ -34,7 +34,7 @@ const NONE: &[u8] = &[];
 type Places = [&'static [u8]; 3];
 
 /// Name sections with the places of their contents.
-const PLACED: &[(Places, &[u64])] = &[
+const PLACED: &[(Places, &[u64]); 8] = &[
     ([NONE, NONE, NONE], &[]),
     ([FIRST_NAMES, NONE, NONE], &[0x0a]),
     ([NONE, FIRST_NAMES, NONE], &[0x14]),
@@ -64,7 +64,7 @@ fn has_name_sections_at(alloc: Global, bytes: &[u8], places: &[u64]) -> Result<b
 
 #[test]
 fn name_sections_may_stand_anywhere(rt: HostRuntime) -> Result<(), Fail> {
-    for (sections, places) in PLACED {
+    for (sections, places) in PLACED.iter() {
         let bytes = with_names(rt.alloc(), *sections)?;
         assert!(rt; has_name_sections_at(rt.alloc(), &bytes, places)?);
     }
@@ -110,7 +110,7 @@ fn two_name_sections_may_stand_together(rt: HostRuntime) -> Result<(), Fail> {
 }
 
 /// Custom sections that are no name sections, with their names and the bytes behind these.
-const OTHERS: &[(&[u8], &str, &[u8])] = &[
+const OTHERS: &[(&[u8], &str, &[u8]); 6] = &[
     (b"\x00\x06\x05names", "names", b""),
     (b"\x00\x04\x03nam", "nam", b""),
     (b"\x00\x01\x00", "", b""),
@@ -141,7 +141,7 @@ fn has_others(alloc: Global, bytes: &[u8], name: &str, content: &[u8]) -> Result
 
 #[test]
 fn custom_sections_may_have_any_name(rt: HostRuntime) -> Result<(), Fail> {
-    for (section, name, content) in OTHERS {
+    for (section, name, content) in OTHERS.iter() {
         let bytes = with_names(rt.alloc(), [section, NONE, section])?;
         assert!(rt; has_others(rt.alloc(), &bytes, name, content)?);
     }

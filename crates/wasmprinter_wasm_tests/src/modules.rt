@@ -385,7 +385,7 @@ fn sections_of_a_kind_stand_in_their_place_once(rt: HostRuntime) -> Result<(), F
 }
 
 /// Sections that may stand alone: without items, or with lengthened numbers.
-const ACCEPTED_SECTIONS: &[&[u8]] = &[
+const ACCEPTED_SECTIONS: &[&[u8]; 8] = &[
     &[0x05, 0x01, 0x00],
     &[0x07, 0x01, 0x00],
     &[0x0d, 0x01, 0x00],
@@ -397,7 +397,7 @@ const ACCEPTED_SECTIONS: &[&[u8]] = &[
 ];
 
 /// Sections that are refused.
-const REFUSED_SECTIONS: &[&[u8]] = &[
+const REFUSED_SECTIONS: &[&[u8]; 43] = &[
     // no count
     &[0x05, 0x00],
     &[0x07, 0x00],
@@ -461,10 +461,10 @@ const REFUSED_SECTIONS: &[&[u8]] = &[
 
 #[test]
 fn sections_hold_what_they_say(rt: HostRuntime) -> Result<(), Fail> {
-    for section in ACCEPTED_SECTIONS {
+    for section in ACCEPTED_SECTIONS.iter() {
         assert!(rt; are_accepted(rt.alloc(), &[section])?, "{section:?}");
     }
-    for section in REFUSED_SECTIONS {
+    for section in REFUSED_SECTIONS.iter() {
         assert!(rt; are_malformed(rt.alloc(), &[section])?, "{section:?}");
     }
     Ok(())

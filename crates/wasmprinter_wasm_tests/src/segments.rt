@@ -16,7 +16,7 @@ use wasmprinter_wasm::{
 const FIRST: u64 = 0x0b;
 
 /// Table entries: the bytes, whether indices have 64 bits, the greatest size where there is one.
-const TABLE_TYPES: &[(&[u8], bool, Option<u64>)] = &[
+const TABLE_TYPES: &[(&[u8], bool, Option<u64>); 4] = &[
     (&[0x04, 0x04, 0x01, 0x6f, 0x00, 0x03], false, None),
     (&[0x04, 0x05, 0x01, 0x6f, 0x01, 0x03, 0x07], false, Some(7)),
     (&[0x04, 0x04, 0x01, 0x6f, 0x04, 0x03], true, None),
@@ -39,7 +39,7 @@ fn has_only_table(alloc: Alloc, bytes: &[u8], wanted: &TableType) -> Result<bool
 
 #[test]
 fn tables_have_types(rt: HostRuntime) -> Result<(), Fail> {
-    for (section, wide, max) in TABLE_TYPES {
+    for (section, wide, max) in TABLE_TYPES.iter() {
         let wanted = TableType {
             wide: *wide,
             limits: Limits { min: 3, max: *max },
