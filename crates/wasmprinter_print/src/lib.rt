@@ -49,7 +49,8 @@ pub trait Print {
     fn write_str(&mut self, s: &str) -> io::Result<()>
         ensures { Does meaning self.old (Text s.now) self.new result };
 
-    /// Writes a piece of text, by a call for each of its characters if a printer knows no better.
+    /// Writes a piece of text, by a call for each of its characters if a printer knows no better. Quoted strings call it only if
+    /// [`Print::takes_runs`] returns `true`.
     fn write_each_char(&mut self, s: &str) -> io::Result<()>
         ensures { Emits meaning self.old self.new result (Text s.now ∷ []) }
     {
@@ -60,8 +61,8 @@ pub trait Print {
     }
 
     /// Returns whether the printer takes a run of several characters of a quoted string in one call of [`Print::write_each_char`]. By
-    /// default it does not: each character of a quoted string is then written by a call of its own. The value is the same for each call.
-    /// It decides how text is split into calls, never the text.
+    /// default it does not: a plain character is then written by one call, an escape by a call for each of its parts. The value is the
+    /// same for each call. It decides how text is split into calls, never the text.
     #[inline(always)]
     fn takes_runs(&self) -> bool {
         false
