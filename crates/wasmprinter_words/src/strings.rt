@@ -1,5 +1,6 @@
 //! Texts in quotes (section 6.3 of the WebAssembly Core Specification, "Strings").
-ghost use Rattle.std.specs.Prelude.{◌≡◌, ◌+◌, ◌<◌, ◌≤◌, true, false, [], ◌∷◌, ◌++◌, flat_map, chars, length, take, drop, slice_index, if◌then◌else◌};
+ghost use Rattle.std.specs.Prelude.{◌≡◌, ◌+◌, ◌<◌, ◌≤◌, true, false, [], ◌∷◌, ◌++◌, flat_map, chars, length};
+ghost use Rattle.std.specs.Prelude.{take, drop, slice_index, if◌then◌else◌};
 ghost use Rattle.std.specs.Str.{IsAscii, IsCharBoundary};
 ghost use Rattle.wasmprinter_spec.specs.Call.{Text, Literal};
 ghost use Rattle.wasmprinter_spec.specs.Piece.{Quoted, QuotedBytes, calls_in_style};
@@ -13,14 +14,14 @@ use std::io;
 use wasmprinter_error::Error;
 use wasmprinter_print::{Fault, Print, Style, put_each_char, put_text, reset, start, text};
 
-/// The most bytes of a quoted string that are written by one call.
-const GATHERED: usize = 256;
+/// The most bytes of a quoted string that one call writes.
+const BUFFER_LEN: usize = 256;
 
 /// The most bytes that a byte takes in quotes.
 const WIDEST: usize = 3;
 
-/// How many bytes are shown at once: in quotes they take at most `GATHERED`.
-const AT_ONCE: usize = GATHERED / WIDEST;
+/// The most bytes of a byte string that one call writes: as a quoted string contains them, they take at most `BUFFER_LEN` bytes.
+const CHUNK_LEN: usize = BUFFER_LEN / WIDEST;
 
 /// What each byte begins with in quotes: with itself where it stands for itself, and else with the backslash in front of its digits.
 static BEGINNINGS: [u8; 256] = *b"\
@@ -49,16 +50,17 @@ fn put_escape<P: Print>(p: &mut P, fault: &mut Fault, c: char)
     put_text(p, fault, "}");
 }
 
-/// Returns the length in bytes of a run of plain characters at the start of a text whose first character is plain: at most `GATHERED`.
+/// Returns the length in bytes of a run of plain characters at the start of a text whose first character is plain: at most `BUFFER_LEN`.
 fn plain_len(s: &str) -> usize
     requires some { 0 < length s.now }
     requires plain { is_plain (slice_index s.now 0) ≡ true }
     ensures boundary { IsCharBoundary s.now result }
     ensures text { flat_map char_text (chars s.now) ≡ take result s.now ++ flat_map char_text (chars (drop result s.now)) }
     ensures some { 0 < result }
+    ensures most { result ≤ 256 }
 {
     let bytes = s.as_bytes();
-    let most = bytes.len().min(GATHERED);
+    let most = bytes.len().min(BUFFER_LEN);
     for i in 1..most {
         if !is_plain(char::from(bytes[i])) {
             return i;
@@ -178,7 +180,7 @@ fn beginning_of(byte: u8) -> u8
 
 /// Shows a byte as it stands in quotes, behind so many bytes of a text, and answers how many there are then: the ASCII character, or `\hh`
 /// with its two hexadecimal digits. All three places are written, since a branch would cost more.
-fn show_byte(shown: &mut [u8; GATHERED], len: usize, byte: u8) -> usize
+fn show_byte(shown: &mut [u8; BUFFER_LEN], len: usize, byte: u8) -> usize
     requires { len + 3 ≤ 256 }
     ensures text { take result shown.new ≡ take len shown.old ++ byte_text byte }
     ensures len { result ≤ len + 3 }
@@ -195,7 +197,7 @@ fn show_byte(shown: &mut [u8; GATHERED], len: usize, byte: u8) -> usize
 }
 
 /// Shows bytes as they stand in quotes, and answers how many bytes that takes.
-fn show_bytes(shown: &mut [u8; GATHERED], bytes: &[u8]) -> usize
+fn show_bytes(shown: &mut [u8; BUFFER_LEN], bytes: &[u8]) -> usize
     requires { length bytes.now ≤ 85 }
     ensures text { take result shown.new ≡ flat_map byte_text bytes.now }
     ensures ascii { IsAscii (take result shown.new) }
@@ -219,12 +221,12 @@ fn put_ascii<P: Print>(p: &mut P, fault: &mut Fault, bytes: &[u8])
     put_each_char(p, fault, s);
 }
 
-/// Writes bytes as a quoted string contains them, `AT_ONCE` by one call.
+/// Writes bytes as a quoted string contains them, `CHUNK_LEN` by one call.
 fn put_bytes_in_runs<P: Print>(p: &mut P, fault: &mut Fault, bytes: &[u8])
     ensures { Puts P.meaning p.old fault.old p.new fault.new (Text (flat_map byte_text bytes.now) ∷ []) }
 {
-    let mut shown = [0; GATHERED];
-    for chunk in bytes.chunks(AT_ONCE) {
+    let mut shown = [0; BUFFER_LEN];
+    for chunk in bytes.chunks(CHUNK_LEN) {
         if fault.is_some() {
             return;
         }
