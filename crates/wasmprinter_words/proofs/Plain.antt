@@ -4,7 +4,7 @@ use Rattle.std.specs.Char.{encode_utf8}
 use Rattle.std.proofs.Common.{refl, sym, ap, ◌∙◌, append_assoc, get_or}
 use Rattle.std.proofs.lemmas.List.{take_more, drop_more, nil_from_length}
 use Rattle.std.proofs.lemmas.Str.{encode_ascii, chars-nil, chars_past_char, IsUtf8-past_char}
-use Rattle.wasmprinter_spec.specs.Quoted.{is_plain, char_text}
+use Rattle.wasmprinter_spec.specs.Quoted.{is_plain, char_text, byte_text}
 use Rattle.wasmprinter_words.proofs.Tables.{plain_low}
 
 -- the empty text is the empty quoted string
@@ -19,7 +19,19 @@ itself : (c : ℕ) → is_plain c ≡ true → char_text c ≡ c ∷ []
 unfolding char_text
 itself c h = rw h refl
 
--- the same for one more byte, if the character is plain
+-- a plain character is encoded as a quoted string contains it
+pub plain_char : (c : ℕ) → is_plain c ≡ true → encode_utf8 c ≡ char_text c
+plain_char c h = encode_ascii c (plain_low c h) ∙ sym (itself c h)
+
+byte_itself : (b : ℕ) → is_plain b ≡ true → byte_text b ≡ b ∷ []
+unfolding byte_text
+byte_itself b h = rw h refl
+
+-- the same for a byte
+pub plain_byte : (b : ℕ) → is_plain b ≡ true → encode_utf8 b ≡ byte_text b
+plain_byte b h = encode_ascii b (plain_low b h) ∙ sym (byte_itself b h)
+
+-- `BeginsPlain` for one more byte, if the character is plain
 pub plain_more : (bs : List ℕ) (i : ℕ) → i < length bs → is_plain (get_or bs i 0) ≡ true → BeginsPlain bs i → BeginsPlain bs (i + 1)
 plain_more bs i l h (u, e) =
     let b = get_or bs i 0 in

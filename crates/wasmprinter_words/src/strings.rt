@@ -9,7 +9,7 @@ ghost use Rattle.wasmprinter_print.specs.Emits.{Emits, EmitsOrFails};
 ghost use Rattle.wasmprinter_print.specs.Prints.{PrintsAlways};
 ghost use Rattle.wasmprinter_print.specs.Puts.{Puts};
 
-use crate::numbers::{glyph_of, put_hexadecimal, write_byte_digits};
+use crate::numbers::{glyph_of, put_hexadecimal};
 use std::io;
 use wasmprinter_error::Error;
 use wasmprinter_print::{Fault, Print, Style, put_each_char, put_text, reset, start, text};
@@ -103,23 +103,16 @@ fn write_escape<P: Print>(p: &mut P, c: char) -> io::Result<()>
     fault.into_result()
 }
 
-/// Writes a character as a quoted string contains it: a plain character as it is, any other as `\u{..}` with its number in hexadecimal.
-#[tactic(auto, unfolding(wasmprinter_spec::specs::Quoted::char_text))]
-fn write_char<P: Print>(p: &mut P, c: char) -> io::Result<()>
-    ensures { Emits P.meaning p.old p.new result (Text (char_text c) ∷ []) }
-{
-    if is_plain(c) {
-        return text(p, c.encode_utf8(&mut [0; 4]));
-    }
-    write_escape(p, c)
-}
-
 /// Writes the characters of a text as a quoted string contains them, each plain character by a call of its own.
 fn write_chars_one_by_one<P: Print>(p: &mut P, s: &str) -> io::Result<()>
     ensures { Emits P.meaning p.old p.new result (Text (flat_map char_text (chars s.now)) ∷ []) }
 {
     for c in s.chars() {
-        write_char(p, c)?;
+        if is_plain(c) {
+            p.write_str(c.encode_utf8(&mut [0; 4]))?;
+            continue;
+        }
+        write_escape(p, c)?;
     }
     Ok(())
 }
@@ -235,18 +228,16 @@ fn put_bytes_in_runs<P: Print>(p: &mut P, fault: &mut Fault, bytes: &[u8])
     }
 }
 
-/// Writes a byte as a quoted string contains it: a plain ASCII character as it is, any other byte as `\hh` with its two hexadecimal
-/// digits.
+/// Writes a byte of a quoted string as `\hh` with its two hexadecimal digits.
+#[inline(always)]
 #[tactic(auto, unfolding(wasmprinter_spec::specs::Quoted::byte_text))]
-fn write_byte<P: Print>(p: &mut P, byte: u8) -> io::Result<()>
+fn write_byte_escape<P: Print>(p: &mut P, byte: u8) -> io::Result<()>
+    requires { is_plain byte ≡ false }
     ensures { Emits P.meaning p.old p.new result (Text (byte_text byte) ∷ []) }
 {
-    let c = char::from(byte);
-    if is_plain(c) {
-        return text(p, c.encode_utf8(&mut [0; 4]));
-    }
     text(p, "\\")?;
-    write_byte_digits(p, byte)
+    text(p, char::from(glyph_of(byte / 16)).encode_utf8(&mut [0; 4]))?;
+    text(p, char::from(glyph_of(byte % 16)).encode_utf8(&mut [0; 4]))
 }
 
 /// Writes bytes as a quoted string contains them, each plain byte by a call of its own.
@@ -254,7 +245,12 @@ fn write_bytes_one_by_one<P: Print>(p: &mut P, bytes: &[u8]) -> io::Result<()>
     ensures { Emits P.meaning p.old p.new result (Text (flat_map byte_text bytes.now) ∷ []) }
 {
     for &byte in bytes {
-        write_byte(p, byte)?;
+        let c = char::from(byte);
+        if is_plain(c) {
+            p.write_str(c.encode_utf8(&mut [0; 4]))?;
+            continue;
+        }
+        write_byte_escape(p, byte)?;
     }
     Ok(())
 }
