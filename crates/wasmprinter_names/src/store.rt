@@ -168,16 +168,16 @@ impl<'a> NamesBuilder<'a> {
         Ok(())
     }
 
-    /// The names, when all sections are read.
+    /// Returns the names that were added.
     ///
     /// # Errors
     ///
-    /// Where memory is refused. None is asked for if no item has a name.
+    /// If an allocation fails. Without names nothing is allocated.
     pub fn finish(self, alloc: Global) -> Result<Names<'a>, AllocError>
         ensures names { IfOk result (λ names. (entries : List Entry) → Holds entries self.entry
             → (s outer index : ℕ) → name_at names s outer index ≡ name_of entries s outer index) }
 
-        // Memory is wanted for names alone.
+        // Only names need memory.
         ensures needed { Holds [] self.entry → IsOk result }
     {
         let entries = self.names.into_list(alloc)?;
