@@ -1,6 +1,7 @@
 -- Names that come in the order of their places, and those that don't.
 use Rattle.std.proofs.Common.{◌≡◌, ℕ, zero, suc, ◌<◌, List, [], ◌∷◌, ◌++◌, length, get_or, set, IsTrue, refl, sym, ap, ◌∙◌, subst, arith, true≢false}
 use Rattle.std.proofs.lemmas.Cmp.{eq_by_cmp_equiv}
+use Rattle.std.proofs.lemmas.List.{get_or_default}
 use Rattle.std.proofs.lemmas.List.Edits.{insert_end}
 use Rattle.std.proofs.lemmas.Map.{lookup-insert, lookup-set_value, keys-set_value}
 use Rattle.std.proofs.lemmas.Map.Keys.{sorted_tail}
@@ -113,14 +114,17 @@ pub record Replaces (es : List (Place × StoredName)) (i : ℕ) (e : Place × St
   pub at : e ≡ get_or es i e
   pub hit : is_at (place_cmp p) e.0 ≡ true
 
-pub replaces_by : (es ds : List (Place × StoredName)) (i : ℕ) (e : Place × StoredName) (p : Place) → ds ≡ es → i < length ds → HoldsAt (λ (f : Place × StoredName). place_cmp f.0 p ≡ Equal) ds i
-    → e ≡ get_or es i e → Replaces es i e p
-replaces_by es ds i e p same within equal at = record {
-  within = omega (arith, ap length same, within);
-  at = at;
-  hit = (eq_by_cmp_equiv place_total).symm p e.0
-      ∙ ap (λ (f : Place × StoredName). is_eq (place_cmp f.0 p)) (at ∙ ap (λ (l : List (Place × StoredName)). get_or l i e) (sym same)) ∙ ap is_eq (equal e);
+pub replaces_by : (es ds : List (Place × StoredName)) (i : ℕ) (d : Place × StoredName) (p : Place) → ds ≡ es → i < length ds → HoldsAt (λ (f : Place × StoredName). place_cmp f.0 p ≡ Equal) ds i
+    → Replaces es i (get_or es i d) p
+replaces_by es ds i d p same within equal = record {
+  within = inside;
+  at = get_or_default es i d (get_or es i d) inside;
+  hit = (eq_by_cmp_equiv place_total).symm p (get_or es i d).0
+      ∙ ap (λ (l : List (Place × StoredName)). is_eq (place_cmp (get_or l i d).0 p)) (sym same) ∙ ap is_eq (equal d);
 }
+  where
+    inside : i < length es
+    inside = omega (arith, ap length same, within)
 
 module _ (es : List (Place × StoredName)) (i : ℕ) (e : Place × StoredName) (p : Place) (x : StoredName) (s : Ascends es) (r : Replaces es i e p) where
   is_set : set es i (e.0, x) ≡ set_value (is_at (place_cmp p)) es x

@@ -1,6 +1,6 @@
 //! The names of a module by the places of its items, while they come in.
-ghost use Rattle.std.specs.Prelude.{◌≡◌, ◌++◌, ◌∷◌, ◌↔◌, List, [], length, vec_len, vec_capacity, is_some, true};
-ghost use Rattle.std.specs.Prelude.{IfSome, IfOk, OnOk, OnErr, IsOk, IsTrue, MatchOption, Some, None, false};
+ghost use Rattle.std.specs.Prelude.{◌≡◌, ◌<◌, ◌++◌, ◌∷◌, ◌↔◌, List, [], length, vec_len, vec_capacity, is_some, true};
+ghost use Rattle.std.specs.Prelude.{slice_index_or, slice_set, IfSome, IfOk, OnOk, OnErr, IsOk, IsTrue, MatchOption, Some, None, false};
 ghost use Rattle.std.specs.Ordering.{is_lt};
 ghost use Rattle.wasmprinter_names.specs.Lookups.{Ascends, AllAreBefore, AreDisjoint, Gains, stored_at};
 ghost use Rattle.wasmprinter_names.specs.Views.{place_cmp};
@@ -56,7 +56,7 @@ impl<'a> NamesInOrder<'a> {
         if in_order(&self.ascending, &self.late, place) {
             self.ascending.push((place, stored))?;
         } else if let Some(position) = position_of(&self.ascending, place) {
-            self.ascending[position].1 = stored;
+            replace(&mut self.ascending, position, stored);
         } else {
             self.late.insert(place, stored)?;
         }
@@ -93,6 +93,15 @@ fn in_order(
     ensures { IsTrue result ↔ ((late.now.entries ≡ []) × AllAreBefore ascending.now (length ascending.now) place) }
 {
     late.is_empty() && all_before(ascending, ascending.len(), place)
+}
+
+/// Replaces the name in the entry at a position.
+fn replace<'a>(list: &mut Vec<(Place, StoredName<'a>)>, position: usize, stored: StoredName<'a>)
+    requires { position < length list.old.items }
+    ensures items { (e : Place × StoredName) → list.new.items
+        ≡ slice_set list.old.items position ((slice_index_or list.old.items position e).0, stored.entry) }
+{
+    list[position].1 = stored;
 }
 
 /// Returns a list of names without its spare capacity.

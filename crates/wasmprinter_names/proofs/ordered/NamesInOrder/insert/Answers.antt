@@ -1,5 +1,7 @@
-use Rattle.std.proofs.Common.{◌≡◌, ◌++◌, is_some, None, false, slice_set, rules, sym, subst, ap, ◌∙◌, true≢false}
-use Rattle.wasmprinter_names.specs.Lookups.{Ascends, stored_at}
+use Rattle.std.proofs.Common.{◌≡◌, ◌++◌, is_some, None, false, get_or, slice_set, rules, sym, subst, ap, ◌∙◌, true≢false}
+use Rattle.wasmprinter_names.specs.Lookups.{Ascends, AreDisjoint, stored_at}
+use Rattle.wasmprinter_names.specs.declared.store.Place.{Place}
+use Rattle.wasmprinter_names.specs.declared.store.StoredName.{StoredName}
 use Rattle.wasmprinter_names.proofs.Placing.{before_all, pushed_or_not, pushed_gains, gains_front, gains_by, Replaces, replaces_by, replaced_ascends, replaced_disjoint, replaced_gains_all, disjoint_alone, disjoint_gains, none_either, none_above}
 use Rattle.wasmprinter_names.proofs.ordered.NamesInOrder.insert.Goals as goal
 
@@ -37,31 +39,26 @@ returns-in_err-push-clause-replaces c = λ some.
 pub invariant_of-self-in-Some : goal.invariant_of-self-in-Some
 invariant_of-self-in-Some c =
     let list = c.self.inside.ascending.items in
-    let e = c.index_mut.result.now in
+    let late = c.self.inside.late.entries in
+    let d : Place × StoredName = (c.args.place, c.args.stored) in
+    let e = get_or list c.in-Some.position d in
     let r : Replaces list c.in-Some.position e c.args.place =
-    replaces_by list c.deref-else-in_order.result.now c.in-Some.position e c.args.place c.deref-else-in_order.ensures.value c.in-Some.ensures.bound c.in-Some.ensures.at c.index_mut.ensures.value in (
-      replaced_ascends list c.in-Some.position e c.args.place c.args.stored c.self.invariant.0 r,
-      replaced_disjoint list c.self.inside.late.entries c.in-Some.position e c.args.place c.args.stored c.self.invariant.0 c.self.invariant.1 r,
-    )
-
-pub invariant_of-self-in-Some-2 : goal.invariant_of-self-in-Some-2
-invariant_of-self-in-Some-2 c =
-    let list = c.self.inside.ascending.items in
-    let e = c.index_mut.result.now in
-    let r : Replaces list c.in-Some.position e c.args.place =
-    replaces_by list c.deref-else-in_order.result.now c.in-Some.position e c.args.place c.deref-else-in_order.ensures.value c.in-Some.ensures.bound c.in-Some.ensures.at c.index_mut.ensures.value in (
-      replaced_ascends list c.in-Some.position e c.args.place c.args.stored c.self.invariant.0 r,
-      replaced_disjoint list c.self.inside.late.entries c.in-Some.position e c.args.place c.args.stored c.self.invariant.0 c.self.invariant.1 r,
+    replaces_by list c.deref-else-in_order.result.now c.in-Some.position d c.args.place c.deref-else-in_order.ensures.value c.in-Some.ensures.bound c.in-Some.ensures.at in (
+      subst Ascends (sym (c.replace.ensures.items d)) (replaced_ascends list c.in-Some.position e c.args.place c.args.stored c.self.invariant.0 r),
+      subst (λ es. AreDisjoint es late) (sym (c.replace.ensures.items d))
+          (replaced_disjoint list late c.in-Some.position e c.args.place c.args.stored c.self.invariant.0 c.self.invariant.1 r),
     )
 
 pub returns-in-Some-clause-gains : goal.returns-in-Some-clause-gains
 returns-in-Some-clause-gains c =
     let list = c.self.inside.ascending.items in
     let late = c.self.inside.late.entries in
-    let e = c.index_mut.result.now in
+    let d : Place × StoredName = (c.args.place, c.args.stored) in
+    let e = get_or list c.in-Some.position d in
     let r : Replaces list c.in-Some.position e c.args.place =
-    replaces_by list c.deref-else-in_order.result.now c.in-Some.position e c.args.place c.deref-else-in_order.ensures.value c.in-Some.ensures.bound c.in-Some.ensures.at c.index_mut.ensures.value in
-    gains_by (late ++ list) c.args.self.now (late ++ slice_set list c.in-Some.position (e.0, c.args.stored)) _ c.args.place c.args.stored c.self.view_is (search rules)
+    replaces_by list c.deref-else-in_order.result.now c.in-Some.position d c.args.place c.deref-else-in_order.ensures.value c.in-Some.ensures.bound c.in-Some.ensures.at in
+    gains_by (late ++ list) c.args.self.now (late ++ slice_set list c.in-Some.position (e.0, c.args.stored)) _ c.args.place c.args.stored c.self.view_is
+    (ap (λ es. late ++ es) (c.replace.ensures.items d))
     (replaced_gains_all list late c.in-Some.position e c.args.place c.args.stored c.self.invariant.0 c.self.invariant.1 r)
 
 -- ---- a place in the tree, or a new one
