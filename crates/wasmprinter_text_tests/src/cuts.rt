@@ -1,5 +1,6 @@
-//! How texts in quotes are cut into calls on a printer. Contracts fix the text alone; by these tests the calls are those that the library
-//! made before it gathered texts, up to the one that is refused, for texts around each length at which what was gathered is handed over.
+//! How quoted strings are split into calls on a user-defined printer. Contracts fix the text alone; these tests fix the calls, also up to one
+//! that fails: those of an earlier form of the library, which is kept in `before`. The lengths lie around the sizes of runs that the library
+//! writes to its own printers.
 
 mod before;
 pub mod calls;
@@ -59,8 +60,7 @@ fn agree_at_each_call(alloc: Global, input: Input) -> bool {
     ending == Ending::Whole
 }
 
-/// Lengths of texts, each from one up to another. Of a text 256 bytes are gathered at most, and handed over where one more comes, or a
-/// character that doesn't stand for itself. Of bytes 85 are gathered and handed over at once, each of which may take three.
+/// Lengths of texts, as ranges. A run of characters has at most 256 bytes, and a run of bytes is made of at most 85.
 const LENGTHS: [(usize, usize); 7] = [
     (0, 6),
     (80, 90),
@@ -71,7 +71,7 @@ const LENGTHS: [(usize, usize); 7] = [
     (773, 1_100),
 ];
 
-/// Places around the end of the first part that is handed over, of bytes and of a text.
+/// Positions around the end of the first run, of bytes and of characters.
 const THRESHOLDS: [(usize, usize); 2] = [(83, 87), (252, 258)];
 
 /// Characters that don't stand for themselves in quotes, of one, two and four bytes.
