@@ -4,9 +4,13 @@
 #
 # First each shape is printed, with the empty module behind it (which is the last shape, and then stands alone), and nothing is refused:
 # status 0, and each `printed`. That also tells how many requests are made; one of those counted is the program's own, for the text that
-# lines are appended to. Then each of these requests is refused in a run of its own, which has to end with status 1, with `out of memory`
-# for one module and `printed` for the other. In one run more for each shape the request behind the last is to be refused: as there is
-# none, it has to end as the first did.
+# lines are appended to. A second name for an item needs no allocation: the shapes `names once` and `names replaced` make equally many.
+# Then each of these requests is refused in a run of its own, which has to end with status 1, with `out of memory` for one module and
+# `printed` for the other. In one run more for each shape the request behind the last is to be refused: as there is none, it has to end as
+# the first did. For three shapes a table fixes how much text is printed before each refusal.
+#
+# Names of 1 to 300 characters are written to a text that has room for a part of the name only. In a run for each name the growth of the
+# text fails, and the program compares the text with what the former code leaves, which wrote each character by its own call.
 #
 # Always the same request is refused, by its number. A run makes requests of its own before it prints, one fewer than the run before, so
 # that another one of the library's comes to be the one with that number. The runs are dealt out to as many builds as there are processors.
@@ -18,8 +22,33 @@ began=$(date +%s)
 work=$(mktemp -d)
 trap 'rm -rf "$work"' EXIT
 
+# lengths: for three shapes, the number of bytes of text that are printed when the first request fails, when the second fails, and so on.
+# The numbers come from the library as it was before it wrote runs of characters at once and before it put the nodes that a node holds
+# among the tasks. `-` is the program's own request.
+lengths() {
+    cat <<'END'
+lines: - 0 0 0 0 0 0 0 1 11 28 61 108 123 249 252 501 555 971
+lines in quotes: - 0 0 1 11 29 61 125 253
+folded: 0 0 0 0 0 0 0 0 139 139 139 139 201 201 201 201 201 201 201 201 250
+END
+}
+
+# names: prints a line for each name, `QUOTED WIDTH CHARACTERS`, the numbers that the program reads.
+names() {
+    awk 'BEGIN {
+        for (quoted = 0; quoted <= 1; quoted++)
+            for (width = 0; width <= 5; width++)
+                for (chars = 1 + width + 6 * quoted; chars <= 300; chars += 17) print quoted, width, chars
+        for (quoted = 0; quoted <= 1; quoted++)
+            for (chars = 254; chars <= 258; chars++) print quoted, 1, chars
+        print 0, 4, 300
+        print 1, 4, 300
+    }' | sort -u
+}
+
 # runs NUMBER: runs the cases in $work/cases*, the request of that number refused; what they write goes to $work/out, what is told of them
-# to $work/err. A case's file holds how many requests are to be made first, and the number of the shape, both with four digits.
+# to $work/err. A case's file holds how many requests are to be made first, and the number of the shape, both with four digits. For a name
+# three more numbers follow: 1 if it is quoted, the width of its characters, and the number of characters.
 runs() {
     for cases in "$work"/cases*; do
         rt try --fail-alloc "$1" --cases "$cases" >"$cases.out" 2>"$cases.err" || touch "$cases.failed" &
@@ -35,13 +64,15 @@ runs() {
     rm -r "$work"/cases*
 }
 
-# ended: writes a line for each run, `SHAPE REQUEST STATUS PRINTED REFUSED REQUESTS`: the two parts of its name, how it ended, how many
-# lines were `printed` and `out of memory` (any other line is told, and makes the status 9), and how many requests were made in all.
+# ended: writes a line for each run, `SHAPE REQUEST STATUS PRINTED REFUSED REQUESTS LENGTH`: the two parts of its name, how it ended, how
+# many lines were `printed` and `out of memory` (any other line is told, and makes the status 9), how many requests were made in all, and
+# the number of bytes of text that were printed before the refusal.
 ended() {
     awk -v err="$work/err" '
         FILENAME != err && /^== / { run = $2; next }
         FILENAME != err && /: printed$/ { printed[run]++; next }
         FILENAME != err && /: out of memory$/ { refused[run]++; next }
+        FILENAME != err && /: out of memory after [0-9]+ bytes$/ { refused[run]++; if (!/^empty: /) len[run] = $(NF - 1); next }
         FILENAME != err { other[run] = 1; print "refusals: run " run ": " $0 >"/dev/stderr" }
         FILENAME == err && /^allocations: / { made = $2 }
         FILENAME == err && /^case=/ {
@@ -49,7 +80,7 @@ ended() {
             status = 9
             for (i = 2; i <= NF; i++) if ($i ~ /^status=/ && !other[run]) status = substr($i, 8)
             split(run, name, "-")
-            print name[1], name[2], status, printed[run] + 0, refused[run] + 0, made
+            print name[1], name[2], status, printed[run] + 0, refused[run] + 0, made, (run in len) ? len[run] : "-"
         }
     ' "$work/out" "$work/err"
 }
@@ -72,10 +103,21 @@ if ! awk -v shapes="$shapes" '
     exit 1
 fi
 
-# each request is refused, and the one behind the last
+if ! awk '
+    NR == FNR { sub(/: printed$/, ""); name[NR - 1] = $0; next }
+    { requests[name[$1]] = $6 }
+    END { exit requests["names once"] != requests["names replaced"] }
+' stdout "$work/whole"; then
+    cat "$work/whole"
+    echo "refusals: a second name for an item makes a request for memory"
+    exit 1
+fi
+
+# each request is refused, and the one behind the last; for a name the fifth, which is the growth of the text
+growth=5
 last=$(awk '$6 + 2 > last { last = $6 + 2 } END { print last }' "$work/whole")
 run=0
-while read -r shape _ _ _ _ requests; do
+while read -r shape _ _ _ _ requests _; do
     request=1
     while [ "$request" -le $((requests + 1)) ]; do
         mkdir -p "$work/cases$((run % hands))"
@@ -84,17 +126,35 @@ while read -r shape _ _ _ _ requests; do
         run=$((run + 1))
     done
 done <"$work/whole"
+names >"$work/names"
+while read -r quoted width chars; do
+    case="$work/cases$((run % hands))/name.$quoted.$width.$chars-$growth"
+    printf '%04d0000%04d%04d%04d' "$((last - growth))" "$quoted" "$width" "$chars" >"$case"
+    run=$((run + 1))
+done <"$work/names"
 runs "$last"
 ended >"$work/refused"
-awk -v runs="$run" -v shapes="$shapes" '
-    NR == FNR { requests[$1] = $6; next }
+lengths >"$work/lengths"
+awk -v runs="$run" -v shapes="$shapes" -v names="$(wc -l <"$work/names")" -v work="$work" '
+    FILENAME == "stdout" { sub(/: printed$/, ""); number[$0] = FNR - 1; next }
+    FILENAME == work "/lengths" { at = index($0, ": "); wanted[number[substr($0, 1, at - 1)]] = substr($0, at + 1); next }
+    FILENAME == work "/whole" { requests[$1] = $6; next }
+    { len[$1, $2] = $7 }
+    $1 ~ /^name/ && $3 == 1 && $4 == 0 && $5 == 1 { named++; next }
+    $1 ~ /^name/ { print "refusals: " $1 ": status " $3; next }
     { whole = $1 + 1 == shapes ? 1 : 2 }
     $2 <= requests[$1] && $3 == 1 && $5 == 1 && $4 == whole - 1 { answered++; next }
     $2 > requests[$1] && $3 == 0 && $5 == 0 && $4 == whole { unrefused++; next }
     { print "refusals: request " $2 " of shape " $1 ": status " $3 ", " $4 " printed, " $5 " out of memory" }
     END {
-        print "refusals: of " runs - shapes " requests, " answered + 0 " were answered by `Memory` when refused"
-        exit answered + unrefused != runs || unrefused != shapes
+        for (shape in wanted) {
+            found = ""
+            for (i = 1; i <= requests[shape]; i++) if (len[shape, i] != "-" || i == 1) found = found " " len[shape, i]
+            if (found != wanted[shape]) { print "refusals: shape " shape ": text of" found " bytes, not of" wanted[shape]; differ++ }
+        }
+        print "refusals: of " runs - shapes - names " requests, " answered + 0 " were answered by `Memory` when refused"
+        print "refusals: of " names " names, " named + 0 " left the same text as the former code"
+        exit differ || named != names || answered + unrefused + named != runs || unrefused != shapes
     }
-' "$work/whole" "$work/refused"
+' stdout "$work/lengths" "$work/whole" "$work/refused"
 echo "refusals: $(($(date +%s) - began)) seconds"

@@ -31,6 +31,11 @@ impl<'a> Comparing<'a> {
         !self.differs
     }
 
+    /// Returns how many bytes of the text came.
+    pub fn compared_len(&self, text: &str) -> usize {
+        text.len().saturating_sub(self.rest.len())
+    }
+
     /// More of what came.
     pub fn compare(&mut self, s: &str) {
         match self.rest.strip_prefix(s) {

@@ -3,14 +3,15 @@
 use crate::comparing::Comparing;
 use crate::shapes::{Shape, Way};
 use std::alloc::Global;
+use std::io::ErrorKind;
+use wasmprinter::print::Ansi;
 use wasmprinter::wasm::decode;
-use wasmprinter::{Config, Error, OffsetsAndLines, Print, print_bytes};
+use wasmprinter::{
+    Config, Error, OffsetsAndLines, Print, PrintFmtWrite, PrintTermcolor, print_bytes,
+};
 
 /// What stands in the storage that lines are appended to.
 const OLD: &str = "old";
-
-/// Nothing outside quotes is appended in pieces of so many bytes.
-const PIECE: usize = 8;
 
 #[derive(Clone, Copy)]
 pub enum Ending {
@@ -18,6 +19,8 @@ pub enum Ending {
     Printed,
     /// A call answered `Memory`, and left nothing wrong behind.
     OutOfMemory,
+    /// The same, after this many bytes of the text were printed.
+    OutOfMemoryAfter(usize),
     /// What else came.
     Other(&'static str),
 }
@@ -26,7 +29,7 @@ impl Ending {
     pub fn word(self) -> &'static str {
         match self {
             Ending::Printed => "printed",
-            Ending::OutOfMemory => "out of memory",
+            Ending::OutOfMemory | Ending::OutOfMemoryAfter(_) => "out of memory",
             Ending::Other(word) => word,
         }
     }
@@ -35,13 +38,29 @@ impl Ending {
     pub fn status(self) -> u8 {
         match self {
             Ending::Printed => 0,
-            Ending::OutOfMemory => 1,
+            Ending::OutOfMemory | Ending::OutOfMemoryAfter(_) => 1,
             Ending::Other(_) => 2,
         }
     }
 
+    /// Returns how many bytes of the text were printed before the allocation failed, if that is known.
+    pub fn printed_len(self) -> Option<usize> {
+        match self {
+            Ending::OutOfMemoryAfter(len) => Some(len),
+            _ => None,
+        }
+    }
+
+    /// Adds how many bytes of the text were printed before the allocation failed.
+    fn after(self, len: usize) -> Ending {
+        match self {
+            Ending::OutOfMemory => Ending::OutOfMemoryAfter(len),
+            ending => ending,
+        }
+    }
+
     /// The worse of two.
-    fn or(self, other: Ending) -> Ending {
+    pub fn or(self, other: Ending) -> Ending {
         if other.status() > self.status() {
             other
         } else {
@@ -50,11 +69,19 @@ impl Ending {
     }
 
     /// Where a wanted thing holds or not.
-    fn of(holds: bool, otherwise: &'static str) -> Ending {
+    pub fn of(holds: bool, otherwise: &'static str) -> Ending {
         if holds {
             Ending::Printed
         } else {
             Ending::Other(otherwise)
+        }
+    }
+
+    /// Returns the ending for an error, at a printer whose own errors of this kind mean that its text could not grow.
+    pub fn of_printer_error(error: Error, kind: ErrorKind) -> Ending {
+        match error {
+            Error::Printer(error) if error.kind() == kind => Ending::OutOfMemory,
+            error => Ending::of_error(error),
         }
     }
 
@@ -91,7 +118,33 @@ fn by_config(alloc: Global, config: &Config, shape: &Shape) -> Ending {
     let mut printer = Comparing::new(shape.text);
     match print_to(config, alloc, shape.wasm, &mut printer) {
         Ok(()) => Ending::of(printer.is_whole(), "wrong calls"),
-        Err(error) => Ending::of(printer.is_beginning(), "wrong calls").or(Ending::of_error(error)),
+        Err(error) => Ending::of(printer.is_beginning(), "wrong calls").or(Ending::of_error(
+            error,
+        ).after(printer.compared_len(shape.text))),
+    }
+}
+
+/// Prints to a `PrintFmtWrite` over a `String`. Its errors are of the kind `Other`, since a `fmt::Error` has no cause.
+fn by_fmt_write(alloc: Global, shape: &Shape) -> Ending {
+    let mut printer = PrintFmtWrite(String::new(alloc));
+    match print_to(&Config::new(), alloc, shape.wasm, &mut printer) {
+        Ok(()) => Ending::of(printer.0.as_str() == shape.text, "wrong text"),
+        Err(error) => Ending::of(shape.text.starts_with(printer.0.as_str()), "wrong text").or(
+            Ending::of_printer_error(error, ErrorKind::Other),
+        ),
+    }
+}
+
+/// Prints to a `PrintTermcolor` with `Ansi` over a `Vec`.
+fn by_termcolor(alloc: Global, shape: &Shape) -> Ending {
+    let mut printer = PrintTermcolor(Ansi::new(Vec::new(alloc)));
+    let printed = print_to(&Config::new(), alloc, shape.wasm, &mut printer);
+    let text = printer.0.into_inner();
+    match printed {
+        Ok(()) => Ending::of(*text == *shape.text.as_bytes(), "wrong text"),
+        Err(error) => Ending::of(shape.text.as_bytes().starts_with(&text), "wrong text").or(
+            Ending::of_printer_error(error, ErrorKind::OutOfMemory),
+        ),
     }
 }
 
@@ -126,20 +179,8 @@ fn is_begun(storage: &str, text: &str) -> bool {
     }
 }
 
-/// Whether what was printed of a text that has no escapes ends between quotes.
-fn ends_in_quotes(printed: &str) -> bool {
-    printed.split('"').count() % 2 == 0
-}
-
-/// Whether nothing more of the text fits into the storage: in quotes not even a letter, and else no piece.
-fn is_filled(storage: &String, text: &str) -> bool {
-    let room = storage.capacity().saturating_sub(storage.len());
-    room == 0 || (room < PIECE && !ends_in_quotes(storage.as_str())) || storage.ends_with(text)
-}
-
-/// By the call that appends lines to a text, which keeps what stood there, and where memory is refused what was printed. Where nothing else
-/// asks for memory, no room for more of the text may be left then.
-fn by_lines(alloc: Global, shape: &Shape, fills: bool) -> Ending {
+/// By the call that appends lines to a text, which keeps what stood there, and where memory is refused what was printed.
+fn by_lines(alloc: Global, shape: &Shape) -> Ending {
     let mut storage = String::new(alloc);
     if storage.push_str(OLD).is_err() {
         return Ending::OutOfMemory;
@@ -148,37 +189,68 @@ fn by_lines(alloc: Global, shape: &Shape, fills: bool) -> Ending {
         Ok(lines) => return Ending::of(are_text(lines, shape.text), "wrong lines"),
         Err(error) => Ending::of_error(error),
     };
-    Ending::of(is_begun(storage.as_str(), shape.text), "lost text")
-        .or(Ending::of(!fills || is_filled(&storage, shape.text), "left room"))
-        .or(refused)
+    Ending::of(is_begun(storage.as_str(), shape.text), "lost text").or(refused.after(
+        storage.len().saturating_sub(OLD.len()),
+    ))
 }
 
-/// By the call that gives a text in colours, of which only the length is judged.
+/// Returns whether a text in colours equals this text once its escape sequences are removed. A sequence ends with `m`.
+fn is_colored(colored: &[u8], text: &str) -> bool {
+    let mut rest = text.bytes();
+    let mut in_sequence = false;
+    for &byte in colored {
+        if in_sequence {
+            in_sequence = byte != b'm';
+        } else if byte == b'\x1b' {
+            in_sequence = true;
+        } else if rest.next() != Some(byte) {
+            return false;
+        }
+    }
+    !in_sequence && rest.next().is_none() && colored.len() > text.len()
+}
+
+/// Prints in colours, and compares the text without its escape sequences.
 fn by_colors(alloc: Global, shape: &Shape) -> Ending {
     match Config::new().print_to_ansi(alloc, shape.wasm) {
-        Ok(text) => Ending::of(text.len() > shape.text.len(), "no colours"),
+        Ok(text) => Ending::of(is_colored(&text, shape.text), "wrong colours"),
         Err(error) => Ending::of_error(error),
     }
 }
 
-/// By the calls that take a module, with its operators folded.
-fn by_folding(alloc: Global, shape: &Shape) -> Ending {
+/// Prints in colours, and compares the text with its escape sequences.
+fn by_escapes(alloc: Global, shape: &Shape) -> Ending {
+    match Config::new().print_to_ansi(alloc, shape.wasm) {
+        Ok(text) => Ending::of(*text == *shape.text.as_bytes(), "wrong colours"),
+        Err(error) => Ending::of_error(error),
+    }
+}
+
+/// Returns the options with folded operators.
+fn folding() -> Config {
     let mut config = Config::new();
     config.fold_instructions(true);
-    let by_text = match config.print_to_string(alloc, shape.wasm) {
+    config
+}
+
+/// Prints to a string, with folded operators.
+fn by_folded_string(alloc: Global, shape: &Shape) -> Ending {
+    match folding().print_to_string(alloc, shape.wasm) {
         Ok(text) => Ending::of(text.as_str() == shape.text, "wrong text"),
         Err(error) => Ending::of_error(error),
-    };
-    by_text.or(by_config(alloc, &config, shape))
+    }
 }
 
 /// How printing ended, in the way that is wanted.
 pub fn ending_of(alloc: Global, shape: &Shape) -> Ending {
     match shape.way {
         Way::Plain => by_each_call(alloc, shape),
-        Way::Lines => by_lines(alloc, shape, false),
-        Way::Filled => by_lines(alloc, shape, true),
+        Way::Lines => by_lines(alloc, shape),
+        Way::FmtWrite => by_fmt_write(alloc, shape),
         Way::Colors => by_colors(alloc, shape),
-        Way::Folded => by_folding(alloc, shape),
+        Way::Escapes => by_escapes(alloc, shape),
+        Way::Termcolor => by_termcolor(alloc, shape),
+        Way::FoldedString => by_folded_string(alloc, shape),
+        Way::Folded => by_config(alloc, &folding(), shape),
     }
 }

@@ -1,16 +1,21 @@
 //! Prints modules of every shape, one also in lines and in colours, and one with its operators folded, and tells of each how it ended:
-//! `printed`, `out of memory`, or what else came. Standard input may name the only one to print, and the empty module behind it.
+//! `printed`, `out of memory`, or what else came. Standard input may name the only one to print, and the empty module behind it, or a name
+//! to write to a text in place of all of them.
 //!
 //! It shows what comes of a refused request for memory (tools/refusals.sh refuses each in turn). So it asks for no memory itself, but for
 //! the text that lines are appended to, and for the requests that standard input wants it to make first: they choose which request of the
-//! library is the one that is refused.
+//! library is the one that is refused. For a name, four more requests are its own.
 #![tactic(auto)]
 
+mod before;
 mod comparing;
 mod ending;
+mod limited;
+mod naming;
 mod shapes;
 
 use ending::{Ending, ending_of};
+use naming::Name;
 use shapes::{SHAPES, Shape};
 use std::alloc::{AllocError, Global};
 use std::io;
@@ -42,14 +47,35 @@ struct Wanted {
     requests: u32,
     /// The number of the only shape that is to be printed, with the empty module behind it; all of them, where none is said.
     shape: Option<u32>,
+    /// The name that is to be written instead of the shapes, if there is one.
+    name: Option<Name>,
+}
+
+/// Reads a name: 1 if it is quoted, the width of its characters, and the number of characters.
+fn next_name<R: Read>(input: &mut R) -> io::Result<Option<Name>> {
+    let Some(quoted) = next_number(input)? else {
+        return Ok(None);
+    };
+    let width = next_number(input)?.unwrap_or(0);
+    let chars = next_number(input)?.unwrap_or(0);
+    Ok(Some(Name {
+        is_quoted: quoted == 1,
+        width: width as usize,
+        chars: chars as usize,
+    }))
 }
 
 impl Wanted {
-    /// Reads the two numbers.
+    /// Reads the numbers.
     fn read<R: Read>(input: &mut R) -> io::Result<Wanted> {
         let requests = next_number(input)?.unwrap_or(0);
         let shape = next_number(input)?;
-        Ok(Wanted { requests, shape })
+        let name = next_name(input)?;
+        Ok(Wanted {
+            requests,
+            shape,
+            name,
+        })
     }
 
     /// Whether the shape of this number is to be printed.
@@ -78,11 +104,18 @@ fn are_granted(alloc: Global, count: u32) -> bool {
     true
 }
 
+/// Prints how something ended, and returns the status of the ending.
+fn tell(rt: &HostRuntime, name: &str, ending: Ending) -> io::Result<u8> {
+    match ending.printed_len() {
+        Some(len) => println!(rt; "{}: {} after {} bytes", name, ending.word(), len)?,
+        None => println!(rt; "{}: {}", name, ending.word())?,
+    }
+    Ok(ending.status())
+}
+
 /// Prints a shape, tells how that ended, and answers the status of the ending.
 fn print_shape(rt: &HostRuntime, shape: &Shape) -> io::Result<u8> {
-    let ending = ending_of(rt.alloc(), shape);
-    println!(rt; "{}: {}", shape.name, ending.word())?;
-    Ok(ending.status())
+    tell(rt, shape.name, ending_of(rt.alloc(), shape))
 }
 
 /// Prints what is wanted, writes how each ended, and answers the status of the worst ending.
@@ -90,6 +123,9 @@ fn print_all(rt: &HostRuntime) -> io::Result<u8> {
     let wanted = Wanted::read(&mut rt.stdin())?;
     if !are_granted(rt.alloc(), wanted.requests) {
         return Ok(Ending::Other("own request").status());
+    }
+    if let Some(name) = wanted.name {
+        return tell(rt, "name", name.ending(rt.alloc()));
     }
     let mut status = Ending::Printed.status();
     for (number, shape) in SHAPES.iter().enumerate() {

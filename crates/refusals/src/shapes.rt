@@ -7,11 +7,17 @@ pub enum Way {
     Plain,
     /// Appended to a text, with its lines.
     Lines,
-    /// The same, where the text alone asks for memory once it is begun: it is appended as far as it fits.
-    Filled,
-    /// In colours.
+    /// To a `PrintFmtWrite` over a `String`.
+    FmtWrite,
+    /// In colours, of which the text is compared without the escape sequences.
     Colors,
-    /// With its operators folded.
+    /// In colours, of which the text is compared with the escape sequences.
+    Escapes,
+    /// To a `PrintTermcolor` with `Ansi` over a `Vec`; the text is compared with the escape sequences.
+    Termcolor,
+    /// As a string, with its operators folded.
+    FoldedString,
+    /// With its operators folded, by a printer that needs no memory.
     Folded,
 }
 
@@ -27,7 +33,7 @@ pub struct Shape {
 }
 
 /// What is printed; the last is the empty module.
-pub const SHAPES: [Shape; 15] = [
+pub const SHAPES: [Shape; 22] = [
     Shape {
         name: "types",
         way: Way::Plain,
@@ -85,6 +91,27 @@ pub const SHAPES: [Shape; 15] = [
         functions: 0,
     },
     Shape {
+        name: "names again",
+        way: Way::Plain,
+        wasm: &NAMES_AGAIN,
+        text: NAMES_AGAIN_TEXT,
+        functions: 3,
+    },
+    Shape {
+        name: "names once",
+        way: Way::Plain,
+        wasm: &NAMES_ONCE,
+        text: NAMES_ONCE_TEXT,
+        functions: 3,
+    },
+    Shape {
+        name: "names replaced",
+        way: Way::Plain,
+        wasm: &NAMES_REPLACED,
+        text: NAMES_REPLACED_TEXT,
+        functions: 3,
+    },
+    Shape {
         name: "customs",
         way: Way::Plain,
         wasm: &CUSTOMS,
@@ -107,16 +134,44 @@ pub const SHAPES: [Shape; 15] = [
     },
     Shape {
         name: "lines in quotes",
-        way: Way::Filled,
+        way: Way::Lines,
         wasm: LONG_NAME,
         text: LONG_NAME_TEXT,
         functions: 0,
+    },
+    Shape {
+        name: "pieces in a string",
+        way: Way::FmtWrite,
+        wasm: &BLOCKS,
+        text: BLOCKS_TEXT,
+        functions: 1,
     },
     Shape {
         name: "colours",
         way: Way::Colors,
         wasm: &BLOCKS,
         text: BLOCKS_TEXT,
+        functions: 1,
+    },
+    Shape {
+        name: "escape sequences",
+        way: Way::Escapes,
+        wasm: &EVERYTHING,
+        text: EVERYTHING_COLORED,
+        functions: 1,
+    },
+    Shape {
+        name: "escape sequences in a vector",
+        way: Way::Termcolor,
+        wasm: &EVERYTHING,
+        text: EVERYTHING_COLORED,
+        functions: 1,
+    },
+    Shape {
+        name: "folded string",
+        way: Way::FoldedString,
+        wasm: &OPERANDS,
+        text: FOLDED_TEXT,
         functions: 1,
     },
     Shape {
@@ -355,6 +410,70 @@ const UNORDERED_NAMES_TEXT: &str = r#"(module
 )
 "#;
 
+const NAMES_AGAIN: [u8; 83] = [
+    0x00, 0x61, 0x73, 0x6d, 0x01, 0x00, 0x00, 0x00, // preamble
+    0x01, 0x05, 0x01, 0x60, 0x01, 0x7f, 0x00, // types
+    0x03, 0x04, 0x03, 0x00, 0x00, 0x00, // functions
+    0x0a, 0x0a, 0x03, 0x02, 0x00, 0x0b, 0x02, 0x00, 0x0b, 0x02, 0x00, 0x0b, // code
+    0x00, 0x30, 0x04, 0x6e, 0x61, 0x6d, 0x65, // names
+    0x00, 0x02, 0x01, 0x6d, // of the module, m
+    0x01, 0x13, 0x06, // of functions
+    0x00, 0x01, 0x61, 0x01, 0x01, 0x62, 0x02, 0x01, 0x63, // a, b and c
+    0x01, 0x01, 0x61, 0x00, 0x01, 0x64, 0x02, 0x01, 0x62, // of 1 again a, of 0 again d, of 2 again b
+    0x02, 0x0c, 0x01, 0x00, 0x03, // of the locals of function 0
+    0x00, 0x01, 0x78, 0x00, 0x01, 0x78, 0x00, 0x01, 0x79, // of the parameter x, again x, and y
+    0x00, 0x02, 0x01, 0x6e, // of the module again, n
+];
+
+const NAMES_AGAIN_TEXT: &str = r##"(module $n
+  (type (;0;) (func (param i32)))
+  (func $d (;0;) (type 0) (param $y i32))
+  (func $"#func1 a" (@name "a") (;1;) (type 0) (param i32))
+  (func $"#func2 b" (@name "b") (;2;) (type 0) (param i32))
+)
+"##;
+
+const NAMES_ONCE: [u8; 56] = [
+    0x00, 0x61, 0x73, 0x6d, 0x01, 0x00, 0x00, 0x00, // preamble
+    0x01, 0x05, 0x01, 0x60, 0x01, 0x7f, 0x00, // types
+    0x03, 0x04, 0x03, 0x00, 0x00, 0x00, // functions
+    0x0a, 0x0a, 0x03, 0x02, 0x00, 0x0b, 0x02, 0x00, 0x0b, 0x02, 0x00, 0x0b, // code
+    0x00, 0x15, 0x04, 0x6e, 0x61, 0x6d, 0x65, // names
+    0x00, 0x02, 0x01, 0x6d, // of the module, m
+    0x01, 0x0a, 0x03, // of functions
+    0x00, 0x01, 0x61, 0x01, 0x01, 0x62, 0x02, 0x01, 0x63, // a, b and c
+];
+
+const NAMES_ONCE_TEXT: &str = "(module $m
+  (type (;0;) (func (param i32)))
+  (func $a (;0;) (type 0) (param i32))
+  (func $b (;1;) (type 0) (param i32))
+  (func $c (;2;) (type 0) (param i32))
+)
+";
+
+/// As `NAMES_ONCE`, with a second name for the module and for the first two functions: it needs no more requests for memory.
+const NAMES_REPLACED: [u8; 66] = [
+    0x00, 0x61, 0x73, 0x6d, 0x01, 0x00, 0x00, 0x00, // preamble
+    0x01, 0x05, 0x01, 0x60, 0x01, 0x7f, 0x00, // types
+    0x03, 0x04, 0x03, 0x00, 0x00, 0x00, // functions
+    0x0a, 0x0a, 0x03, 0x02, 0x00, 0x0b, 0x02, 0x00, 0x0b, 0x02, 0x00, 0x0b, // code
+    0x00, 0x1f, 0x04, 0x6e, 0x61, 0x6d, 0x65, // names
+    0x00, 0x02, 0x01, 0x6d, // of the module, m
+    0x01, 0x10, 0x05, // of functions
+    0x00, 0x01, 0x61, 0x01, 0x01, 0x62, 0x02, 0x01, 0x63, // a, b and c
+    0x01, 0x01, 0x64, 0x00, 0x01, 0x65, // of 1 again d, and of 0 again e
+    0x00, 0x02, 0x01, 0x6e, // of the module again, n
+];
+
+const NAMES_REPLACED_TEXT: &str = "(module $n
+  (type (;0;) (func (param i32)))
+  (func $e (;0;) (type 0) (param i32))
+  (func $d (;1;) (type 0) (param i32))
+  (func $c (;2;) (type 0) (param i32))
+)
+";
+
 const CUSTOMS: [u8; 98] = [
     0x00, 0x61, 0x73, 0x6d, 0x01, 0x00, 0x00, 0x00, // preamble
     0x00, 0x03, 0x01, 0x61, 0x01, // a custom section
@@ -404,6 +523,21 @@ const EVERYTHING_TEXT: &str = r#"(module
   )
 )
 "#;
+
+const EVERYTHING_COLORED: &str = "(\x1b[0m\x1b[1m\x1b[38;5;11mmodule\x1b[0m
+  (\x1b[0m\x1b[1m\x1b[38;5;11mtype \x1b[0m\x1b[0m\x1b[35m(;0;)\x1b[0m (\x1b[0m\x1b[1m\x1b[38;5;11mfunc\x1b[0m \
+(\x1b[0m\x1b[1m\x1b[38;5;11mresult\x1b[0m \x1b[0m\x1b[1m\x1b[38;5;10mi64\x1b[0m)))
+  (\x1b[0m\x1b[1m\x1b[38;5;11mexport \x1b[0m\x1b[0m\x1b[31m\"f\"\x1b[0m (\x1b[0m\x1b[1m\x1b[38;5;11mfunc \x1b[0m\x1b[0m\x1b[35m0\x1b[0m))
+  (\x1b[0m\x1b[1m\x1b[38;5;11mfunc \x1b[0m\x1b[0m\x1b[35m(;0;)\x1b[0m \
+(\x1b[0m\x1b[1m\x1b[38;5;11mtype \x1b[0m\x1b[0m\x1b[35m0\x1b[0m) \
+(\x1b[0m\x1b[1m\x1b[38;5;11mresult\x1b[0m \x1b[0m\x1b[1m\x1b[38;5;10mi64\x1b[0m)
+    (\x1b[0m\x1b[1m\x1b[38;5;11mlocal\x1b[0m \x1b[0m\x1b[1m\x1b[38;5;10mi64\x1b[0m)
+    i64.const\x1b[0m\x1b[31m -1\x1b[0m
+    local.set \x1b[0m\x1b[35m0\x1b[0m
+    local.get \x1b[0m\x1b[35m0\x1b[0m
+  )
+)
+";
 
 const OPERANDS: [u8; 56] = [
     0x00, 0x61, 0x73, 0x6d, 0x01, 0x00, 0x00, 0x00, // preamble
