@@ -38,7 +38,10 @@ install_compilers() {
 fetch_newer() {
     mkdir -p "$newer/lists/partial" "$newer/cache/archives/partial" "$newer/packages"
     : >"$newer/status"
-    printf 'Types: deb\nURIs: http://deb.debian.org/debian\nSuites: sid\nComponents: main\nSigned-By: /usr/share/keyrings/debian-archive-keyring.gpg\n' >"$newer/newer.sources"
+    # the mirror that the machine's own sources name first
+    mirror=$(sed -n 's/^URIs: *//p' /etc/apt/sources.list.d/*.sources | head -n 1)
+    printf 'Types: deb\nURIs: %s\nSuites: sid\nComponents: main\nSigned-By: /usr/share/keyrings/debian-archive-keyring.gpg\n' "$mirror" \
+        >"$newer/newer.sources"
     from_newer update
     # shellcheck disable=SC2086 # a list of words
     from_newer -y --download-only install $PEERS
