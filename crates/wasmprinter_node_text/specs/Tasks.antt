@@ -78,6 +78,12 @@ steps_of (task.Row nodes first depth) = suc (4 * length nodes.now)
 steps_of (task.One head held leads depth) = 4 * length held.now + 3
 steps_of task.Close = 1
 
+-- the number of tasks that put_rest puts for a task, at most
+abbrev pub rest_of : Task → ℕ
+rest_of (task.Row nodes first depth) = length nodes.now
+rest_of (task.One head held leads depth) = suc (length held.now)
+rest_of task.Close = 0
+
 abbrev pub steps_left : List Task → ℕ
 steps_left [] = 0
 steps_left (t ∷ ts) = steps_of t + steps_left ts

@@ -2,7 +2,7 @@
 ghost use Rattle.std.specs.Prelude.{◌≡◌, ℕ, ◌+◌, ◌*◌, ◌≤◌, ◌<◌, ◌^◌, ◌&&◌, ◌==◌, List, length, IsOk, OnOk, OnErr, false};
 ghost use Rattle.std.specs.Vec.{vec_len, vec_capacity};
 ghost use Rattle.wasmprinter_nodes.specs.Postorder.{IsPostorder};
-ghost use Rattle.wasmprinter_node_text.specs.Tasks.{StacksRow, StacksRest, KeepsSoundRow, KeepsSound, IsSound, steps_left, steps_of};
+ghost use Rattle.wasmprinter_node_text.specs.Tasks.{StacksRow, StacksRest, KeepsSoundRow, KeepsSound, IsSound, steps_left, steps_of, rest_of};
 
 use std::alloc::AllocError;
 use wasmprinter_nodes::{Node, NodeText, last_group};
@@ -56,13 +56,14 @@ fn put_row<'a>(
 ///
 /// # Errors
 ///
-/// If an allocation fails; memory is allocated only if the tasks are full.
+/// If an allocation fails. Memory is allocated only if the tasks are full and the node holds any.
 fn put_held<'a>(tasks: &mut Vec<Task<'a>>, held: &'a [Node], depth: u64) -> Result<(), AllocError>
     requires row { IsPostorder held.now }
     ensures pieces { OnOk result (StacksRow held.now false depth tasks.old.items tasks.new.items) }
     ensures steps { OnOk result (steps_left tasks.new.items ≤ 4 * length held.now + 1 + steps_left tasks.old.items) }
     ensures sound { OnOk result (KeepsSoundRow held.now depth tasks.old.items tasks.new.items) }
     ensures full { OnErr result (vec_len tasks.old ≡ vec_capacity tasks.old) }
+    ensures room { vec_len tasks.old + length held.now ≤ vec_capacity tasks.old → IsOk result }
 {
     if tasks.capacity() - tasks.len() < held.len() {
         tasks.push(Task::Row(held, false, depth))?;
@@ -76,12 +77,13 @@ fn put_held<'a>(tasks: &mut Vec<Task<'a>>, held: &'a [Node], depth: u64) -> Resu
 ///
 /// # Errors
 ///
-/// Where memory for it is refused: some of it may be among the tasks then.
+/// If an allocation fails: some of it may be among the tasks then. Memory is allocated only if the tasks have no room for all of it.
 pub fn put_rest<'a>(tasks: &mut Vec<Task<'a>>, task: &Task<'a>) -> Result<(), AllocError>
     requires sound { (buffer : List ℕ) × (bound : ℕ) × IsSound buffer bound task.now × (bound < 2 ^ 64) }
     ensures pieces { OnOk result (StacksRest task.now tasks.old.items tasks.new.items) }
     ensures steps { OnOk result (steps_left tasks.new.items < steps_of task.now + steps_left tasks.old.items) }
     ensures sound { OnOk result (KeepsSound task.now tasks.old.items tasks.new.items) }
+    ensures room { vec_len tasks.old + rest_of task.now ≤ vec_capacity tasks.old → IsOk result }
 {
     match *task {
         Task::Row(nodes, first, depth) => put_row(tasks, nodes, first, depth),
