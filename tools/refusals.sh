@@ -9,8 +9,9 @@
 # `printed` for the other. In one run more for each shape the request behind the last is to be refused: as there is none, it has to end as
 # the first did. For three shapes a table fixes how much text is printed before each refusal.
 #
-# Names of 1 to 300 characters are written to a text that has room for a part of the name only. In a run for each name the growth of the
-# text fails, and the program compares the text with what the former code leaves, which wrote each character by its own call.
+# Names of 1 to 300 characters are written to a text that has room for a part of the name only: each character by itself, as a quoted
+# string, and as a byte string. In a run for each name the growth of the text fails, and the program compares the text with what the former
+# code leaves, which wrote each character by its own call.
 #
 # Always the same request is refused, by its number. A run makes requests of its own before it prints, one fewer than the run before, so
 # that another one of the library's comes to be the one with that number. The runs are dealt out to as many builds as there are processors.
@@ -33,22 +34,22 @@ folded: 0 0 0 0 0 0 0 0 139 139 139 139 201 201 201 201 201 201 201 201 250
 END
 }
 
-# names: prints a line for each name, `QUOTED WIDTH CHARACTERS`, the numbers that the program reads.
+# names: prints a line for each name, `FORM WIDTH CHARACTERS`, the numbers that the program reads. The forms are 0 (each character by
+# itself), 1 (a quoted string) and 2 (a byte string).
 names() {
     awk 'BEGIN {
-        for (quoted = 0; quoted <= 1; quoted++)
+        for (form = 0; form <= 2; form++) {
             for (width = 0; width <= 5; width++)
-                for (chars = 1 + width + 6 * quoted; chars <= 300; chars += 17) print quoted, width, chars
-        for (quoted = 0; quoted <= 1; quoted++)
-            for (chars = 254; chars <= 258; chars++) print quoted, 1, chars
-        print 0, 4, 300
-        print 1, 4, 300
+                for (chars = 1 + width + 6 * form; chars <= 300; chars += 17) print form, width, chars
+            for (chars = 254; chars <= 258; chars++) print form, 1, chars
+            print form, 4, 300
+        }
     }' | sort -u
 }
 
 # runs NUMBER: runs the cases in $work/cases*, the request of that number refused; what they write goes to $work/out, what is told of them
 # to $work/err. A case's file holds how many requests are to be made first, and the number of the shape, both with four digits. For a name
-# three more numbers follow: 1 if it is quoted, the width of its characters, and the number of characters.
+# three more numbers follow: its form, the width of its characters, and the number of characters.
 runs() {
     for cases in "$work"/cases*; do
         rt try --fail-alloc "$1" --cases "$cases" >"$cases.out" 2>"$cases.err" || touch "$cases.failed" &
@@ -127,9 +128,9 @@ while read -r shape _ _ _ _ requests _; do
     done
 done <"$work/whole"
 names >"$work/names"
-while read -r quoted width chars; do
-    case="$work/cases$((run % hands))/name.$quoted.$width.$chars-$growth"
-    printf '%04d0000%04d%04d%04d' "$((last - growth))" "$quoted" "$width" "$chars" >"$case"
+while read -r form width chars; do
+    case="$work/cases$((run % hands))/name.$form.$width.$chars-$growth"
+    printf '%04d0000%04d%04d%04d' "$((last - growth))" "$form" "$width" "$chars" >"$case"
     run=$((run + 1))
 done <"$work/names"
 runs "$last"

@@ -82,6 +82,41 @@ pub fn write_quoted<P: Print>(p: &mut P, s: &str) -> Result<(), Error> {
     Ok(())
 }
 
+fn write_byte_digits<P: Print>(p: &mut P, byte: u8) -> io::Result<()> {
+    write_digit(p, byte / 16)?;
+    write_digit(p, byte % 16)
+}
+
+fn write_byte<P: Print>(p: &mut P, byte: u8) -> io::Result<()> {
+    let c = char::from(byte);
+    if is_plain(c) {
+        return text(p, c.encode_utf8(&mut [0; 4]));
+    }
+    text(p, "\\")?;
+    write_byte_digits(p, byte)
+}
+
+fn write_each_byte<P: Print>(p: &mut P, bytes: &[u8]) -> io::Result<()> {
+    for &byte in bytes {
+        write_byte(p, byte)?;
+    }
+    Ok(())
+}
+
+fn write_byte_string<P: Print>(p: &mut P, bytes: &[u8]) -> io::Result<()> {
+    p.start_literal()?;
+    text(p, "\"")?;
+    write_each_byte(p, bytes)?;
+    text(p, "\"")?;
+    p.reset_color()
+}
+
+/// Writes bytes as a quoted string.
+pub fn write_bytes<P: Print>(p: &mut P, bytes: &[u8]) -> Result<(), Error> {
+    write_byte_string(p, bytes)?;
+    Ok(())
+}
+
 /// Writes a text by a call for each character.
 pub fn write_each_char<P: Print>(p: &mut P, s: &str) -> Result<(), Error> {
     for c in s.chars() {

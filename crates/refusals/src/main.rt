@@ -15,7 +15,7 @@ mod naming;
 mod shapes;
 
 use ending::{Ending, ending_of};
-use naming::Name;
+use naming::{Form, Name};
 use shapes::{SHAPES, Shape};
 use std::alloc::{AllocError, Global};
 use std::io;
@@ -51,15 +51,15 @@ struct Wanted {
     name: Option<Name>,
 }
 
-/// Reads a name: 1 if it is quoted, the width of its characters, and the number of characters.
+/// Reads a name: the number of its form, the width of its characters, and the number of characters.
 fn next_name<R: Read>(input: &mut R) -> io::Result<Option<Name>> {
-    let Some(quoted) = next_number(input)? else {
+    let Some(form) = next_number(input)? else {
         return Ok(None);
     };
     let width = next_number(input)?.unwrap_or(0);
     let chars = next_number(input)?.unwrap_or(0);
     Ok(Some(Name {
-        is_quoted: quoted == 1,
+        form: Form::of(form),
         width: width as usize,
         chars: chars as usize,
     }))

@@ -1,12 +1,12 @@
 //! Names that are written to a tracker whose text has room for a part of the name only. A failed allocation must leave the same text as
-//! the former code, which wrote each character by its own call.
+//! the former code, which wrote each character by its own call, and each byte of a byte string by one to three.
 
 use crate::before;
 use crate::ending::Ending;
 use crate::limited::Limited;
 use std::alloc::{AllocError, Global};
 use std::io::ErrorKind;
-use wasmprinter::text::write_quoted;
+use wasmprinter::text::{write_bytes, write_quoted};
 use wasmprinter::{Error, Print};
 use wasmprinter_tracker::Tracker;
 
@@ -37,11 +37,33 @@ const ROOM_STEP: usize = 31;
 /// By how much that room grows with the width of the characters.
 const WIDTH_STEP: usize = 17;
 
+/// The function that writes a name.
+#[derive(Clone, Copy)]
+pub enum Form {
+    /// `write_each_char` of the printer.
+    Chars,
+    /// `write_quoted`.
+    Quoted,
+    /// `write_bytes`.
+    Bytes,
+}
+
+impl Form {
+    /// Returns the form with this number, in the order of the variants.
+    pub fn of(number: u32) -> Form {
+        match number {
+            0 => Form::Chars,
+            1 => Form::Quoted,
+            _ => Form::Bytes,
+        }
+    }
+}
+
 /// A name, and how it is written.
 #[derive(Clone, Copy)]
 pub struct Name {
-    /// Whether it is written by `write_quoted`, or else by `write_each_char`.
-    pub is_quoted: bool,
+    /// The function that writes it.
+    pub form: Form,
     /// The number of bytes of each character. 0 selects characters of one to four bytes by turns; 5 selects characters of one byte, some
     /// of which are escaped.
     pub width: usize,
@@ -92,19 +114,20 @@ impl Name {
 
     /// Writes the name by the library. It has no contract, so that its callers don't apply one to their own printers.
     fn write<P: Print>(&self, p: &mut P, content: &str) -> Result<(), Error> {
-        if self.is_quoted {
-            return write_quoted(p, content);
+        match self.form {
+            Form::Chars => p.write_each_char(content)?,
+            Form::Quoted => write_quoted(p, content)?,
+            Form::Bytes => write_bytes(p, content.as_bytes())?,
         }
-        p.write_each_char(content)?;
         Ok(())
     }
 
     /// Writes the name by the former code.
     fn write_before<P: Print>(&self, p: &mut P, content: &str) -> Result<(), Error> {
-        if self.is_quoted {
-            before::write_quoted(p, content)
-        } else {
-            before::write_each_char(p, content)
+        match self.form {
+            Form::Chars => before::write_each_char(p, content),
+            Form::Quoted => before::write_quoted(p, content),
+            Form::Bytes => before::write_bytes(p, content.as_bytes()),
         }
     }
 
