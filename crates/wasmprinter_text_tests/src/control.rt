@@ -260,7 +260,7 @@ fn repeat(wasm: &mut Vec<u8>, times: u32, bytes: &[u8]) -> Result<(), AllocError
 /// A module whose function opens so many blocks in one another by these two bytes each, and closes each by these.
 /// Given are the bytes from the code section on up to the first block: its number and size, the count of bodies, the size of the body,
 /// and no locals.
-fn with_blocks(
+pub fn with_blocks(
     alloc: Global,
     depth: u32,
     opens: &[u8],

@@ -5,10 +5,11 @@
 mod lists;
 mod module;
 
+use crate::control::with_blocks;
 use crate::cuts::calls::Calls;
 use lists::{FLAT, FOLDED, NAMED, NAMED_FOLDED, TABS};
 use module::MODULE;
-use std::alloc::Global;
+use std::alloc::{AllocError, Global};
 use std::test::Fail;
 use wasmprinter::{Config, Error, Print};
 use wasmprinter_samples::{IDENTITY, expect_text};
@@ -77,4 +78,32 @@ fn splits_an_indent_text_by_levels(rt: HostRuntime) -> Result<(), Fail> {
     let mut config = Config::new();
     config.indent_text(String::from_str(rt.alloc(), "\t")?);
     expect_calls(rt.alloc(), &config, &IDENTITY, TABS)
+}
+
+/// Returns the end of a line with an `end` that is indented by this many levels: the two spaces of each level are part of one call.
+fn end_at(alloc: Global, level: u32) -> Result<String, AllocError> {
+    let mut row = String::from_str(alloc, "]")?;
+    for _ in 0..level {
+        row.push_str("  ")?;
+    }
+    row.push_str("|end|\n")?;
+    Ok(row)
+}
+
+/// Sixty blocks in one another: the outermost is indented by two levels, and each by one more, up to fifty.
+#[test]
+fn splits_indents_of_each_level(rt: HostRuntime) -> Result<(), Fail> {
+    // a section of 185 bytes, with a body of 182
+    let code = [0x0a, 0xb9, 0x01, 0x01, 0xb6, 0x01, 0x00];
+    let wasm = with_blocks(rt.alloc(), 60, &[0x02, 0x40], &[0x0b], &code)?;
+    let mut calls = Calls::new(rt.alloc(), 0);
+    print_to(&Config::new(), rt.alloc(), wasm.as_slice(), &mut calls)?;
+    let shown = calls.shown(rt.alloc())?;
+    for level in 2..50 {
+        let row = end_at(rt.alloc(), level)?;
+        assert_eq!(rt; shown.as_str().matches(row.as_str()).count(), 1);
+    }
+    let row = end_at(rt.alloc(), 50)?;
+    assert_eq!(rt; shown.as_str().matches(row.as_str()).count(), 12);
+    Ok(())
 }
