@@ -3,7 +3,7 @@
 # of crates/NAME/must-fail/*.edit. The prover has to refuse each. Ends with another status than 0 where it doesn't refuse one, or can't read it.
 #
 # tools/wrong-bodies.sh [NAME..]: those of these crates, or of all. Works on a copy, proves there what earlier checks haven't kept, and tries
-# as many crates at once as there are processors.
+# one crate for every two processors at once: each takes several processors and up to 4 GB.
 set -eu
 cd "$(dirname "$0")/.."
 began=$(date +%s)
@@ -17,5 +17,5 @@ for name; do
     mv "crates/$name/wrong-bodies" "crates/$name/must-fail"
 done
 rt all check >checks 2>&1 || { cat checks; exit 1; }
-printf '%s\n' "$@" | xargs -P "$(nproc)" -n 1 rt must-fail
+printf '%s\n' "$@" | xargs -P "$((($(nproc) + 1) / 2))" -n 1 rt must-fail
 echo "wrong bodies: $(ls crates/*/must-fail/*.edit | wc -l) refused, $(($(date +%s) - began)) seconds"
