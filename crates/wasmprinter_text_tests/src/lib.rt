@@ -19,6 +19,8 @@ mod pieces;
 #[cfg(test)]
 mod printing;
 #[cfg(test)]
+mod runs;
+#[cfg(test)]
 mod sections;
 #[cfg(test)]
 mod segments;
