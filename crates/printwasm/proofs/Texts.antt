@@ -1,9 +1,12 @@
 -- What the bytes that a read gave come to.
-use Rattle.std.specs.Prelude.{ℕ, List, Some, Result, Ok, Err, IfOk, IfErr}
+use Rattle.std.specs.Prelude.{◌↔◌, ℕ, List, Some, Result, Ok, Err, IfOk, IfErr, IsErrOf}
 use Rattle.std.proofs.Common.{inr}
 use Rattle.wasmprinter_error.specs.declared.error.Error.{Error}
+use Rattle.wasmprinter_error.specs.declared.error.Error.TheVariants.{Component}
+use Rattle.wasmprinter_spec.specs.Binary.{IsComponent}
 use Rattle.wasmprinter.specs.Outcome.{HasTextCause, IsTrueOfText}
 use Rattle.wasmprinter.specs.OfFile.{Reading}
+use Rattle.wasmprinter.proofs.OfFile.{component_error}
 use Rattle.printwasm.specs.Words.{Choice}
 use Rattle.printwasm.specs.Outcome.{IsTextBy, GivesText, GivesNoText}
 
@@ -15,6 +18,7 @@ gives_text choice view gives wasm (Err e) g h = tt
 
 -- why there is none
 pub gives_no_text : {T : Type 0} (choice : Choice) (gives : Reading) (wasm : List ℕ) (r : Result T Error) →
-    gives (Some wasm) → IfErr r (IsTrueOfText choice.options wasm) → IfErr r (HasTextCause choice.options wasm) → IfErr r (GivesNoText choice gives)
-gives_no_text choice gives wasm (Ok t) g a b = tt
-gives_no_text choice gives wasm (Err e) g a b = inr (wasm, g, a, b)
+    gives (Some wasm) → IfErr r (IsTrueOfText choice.options wasm) → IfErr r (HasTextCause choice.options wasm) →
+    (IsErrOf r Component ↔ IsComponent wasm) → IfErr r (GivesNoText choice gives)
+gives_no_text choice gives wasm (Ok t) g a b c = tt
+gives_no_text choice gives wasm (Err e) g a b c = inr (wasm, g, record { true_of = a; caused = b; component = component_error e c })

@@ -1,5 +1,6 @@
 -- What a run leads to: what it writes of a module, why it writes none, what it tells of that, and its status.
 use Rattle.std.specs.Prelude.{◌≡◌, ℕ, ◌≤◌, ◌⊎◌, ◌↔◌, List, [], ◌∷◌, ◌++◌, Bool, true, false, Option, Some, None, Result, Ok, Err, codes}
+use Rattle.std.specs.Fmt.{◌++?◌}
 use Rattle.std.specs.declared.io.Error.{Error as IoError}
 use Rattle.wasmprinter_error.specs.declared.error.Error.{Error}
 use Rattle.wasmprinter_error.specs.declared.error.Error.TheVariants.{Printer}
@@ -47,17 +48,17 @@ Tells takes old new text = (answer : Result (Unit {0}) IoError) × takes old tex
 abbrev pub usage_line : List ℕ
 usage_line = codes "usage: printwasm [--offsets] [--skeleton] [--name-unnamed] [--fold] [--color] FILE" ++ (10 ∷ [])
 
--- the line that tells an error which has this text
-abbrev pub error_line : List ℕ → List ℕ
-error_line text = codes "error: " ++ (text ++ (10 ∷ []))
+-- the line that reports an error with this text, or `None` if no contract specifies the text
+abbrev pub error_line : Option (List ℕ) → Option (List ℕ)
+error_line text = Some (codes "error: ") ++? text ++? Some (10 ∷ [])
 
--- which texts an error of this type may have
+-- the text that an error of this type may have, or `None` for a text that no contract specifies
 abbrev pub Rendering : Type 0 → Type 1
-Rendering X = X → List ℕ → Type 0
+Rendering X = X → Option (List ℕ) → Type 0
 
--- this very error was told: exactly the line of a text of it was written, once, whatever the write answered
+-- this error was reported: the line of its text was written, once, whatever the write returned
 abbrev pub TellsError : {V X : Type 0} → TextWrite V → V → V → Rendering X → X → Type 0
-TellsError tells old new renders error = (text : List ℕ) × renders error text × Tells tells old new (Some (error_line text))
+TellsError tells old new renders error = (text : Option (List ℕ)) × renders error text × Tells tells old new (error_line text)
 
 -- What a run with these words leads to, where errors have the texts that `renders` says: the status is 2 exactly where the words don't name
 -- one file beside options that there are, and then the output stays as it was and the usage line is told; it is 0 only where the text of

@@ -1,6 +1,8 @@
 //! `printwasm [--offsets] [--skeleton] [--name-unnamed] [--fold] [--color] FILE` prints a WebAssembly module as text.
 #![tactic(auto)]
 
+#[cfg(test)]
+mod edge;
 mod program;
 mod rendering;
 mod system;

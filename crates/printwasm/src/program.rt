@@ -1,8 +1,9 @@
 //! What the program does with its words, over any source of files, any texts of errors and any two sinks.
-ghost use Rattle.std.specs.Prelude.{◌≡◌, ℕ, ◌⊎◌, List, Ok, map, option_copied, OnOk, IfOk, IfErr, string_bytes};
+ghost use Rattle.std.specs.Prelude.{◌≡◌, ◌↔◌, ℕ, ◌⊎◌, List, Ok, map, option_copied, OnOk, IfOk, IfErr, IsErrOf, string_bytes};
 ghost use Rattle.std.specs.Iterator.{IsFinite};
 ghost use Rattle.std.specs.Process.{exit_status};
 ghost use Rattle.std.specs.declared.io.Error.{Error as IoError};
+ghost use Rattle.wasmprinter_spec.specs.Binary.{IsComponent};
 ghost use Rattle.printwasm.specs.Words.{AreWordsOf, WantsWords, is_option, is_known, named_file, has, choice_of};
 ghost use Rattle.printwasm.specs.Outcome.{IsTextBy, GivesText, GivesNoText, WritesModuleText, FailsToWrite, TellsError, HasOutcome};
 ghost use Rattle.wasmprinter.specs.Outcome.{HasTextCause, IsTrueOfText};
@@ -219,11 +220,15 @@ fn print(alloc: Global, choice: &Choice, wasm: &[u8]) -> Result<Vec<u8>, Error>
     ensures printed { IfOk result (λ text. IsTextBy choice.now wasm.now text.items) }
     ensures caused { IfErr result (HasTextCause choice.now.options wasm.now) }
     ensures refused { IfErr result (IsTrueOfText choice.now.options wasm.now) }
+    ensures component { IsErrOf result Error.Component ↔ IsComponent wasm.now }
 {
     if choice.is_colored {
         choice.config.print_to_ansi(alloc, wasm)
     } else {
-        Ok(choice.config.print_to_string(alloc, wasm)?.into_bytes())
+        match choice.config.print_to_string(alloc, wasm) {
+            Ok(text) => Ok(text.into_bytes()),
+            Err(error) => Err(error),
+        }
     }
 }
 
@@ -232,7 +237,6 @@ fn refuse<X: Drop, R: Render<X>, E: Sink>(renderer: &R, err: &mut E, error: X) -
     ensures told { TellsError E.takes err.old err.new (R.renders renderer.now) error }
     ensures status { result ≡ 1 }
 {
-    let text = renderer.render(&error);
-    let _ = err.write_text(format_args!("error: {}\n", text.as_str()));
+    let _ = renderer.write_line(err, &error);
     REFUSED
 }

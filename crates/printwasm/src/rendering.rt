@@ -1,32 +1,32 @@
-//! The texts of errors.
+//! How errors become lines of text.
 //!
-//! The program is written over any `Render`. A contract over it can say which error was told, since a function over any of them knows
-//! nothing of a text but of which error it is. A text is kept in place, so that want of memory doesn't bar it.
-ghost use Rattle.std.specs.Prelude.{ℕ, List, IfSome};
-ghost use Rattle.std.specs.Fmt.InlineText.{inline_text};
-ghost use Rattle.std.specs.Fmt.Cut.{IsTextOrCut};
+//! The program is generic over `Render`. So its contract can say which error it reports: generic code knows of a text only which error it
+//! belongs to. The text goes directly to the sink, so it needs no memory and is never cut.
+ghost use Rattle.std.specs.Prelude.{◌≡◌, ℕ, List, Option};
+ghost use Rattle.printwasm.specs.Outcome.{error_line};
 
-use std::fmt::{Display, InlineText};
+use crate::system::Sink;
+use std::fmt::Display;
+use std::io;
 
-/// How errors of a type become texts.
+/// Writes the lines of errors of a type.
 pub trait Render<X> {
-    // Which texts this error may have.
-    ghost renders: { Self → X → List ℕ → Type 0 };
+    // The text that this error may have, or `None` for a text that no contract specifies.
+    ghost renders: { Self → X → Option (List ℕ) → Type 0 };
 
-    /// The text of an error.
-    fn render(&self, error: &X) -> InlineText<512>
-        ensures { renders self.now error.now (inline_text result) };
+    /// Writes the line of an error: `error: `, the text of the error and a line feed.
+    fn write_line<E: Sink>(&self, err: &mut E, error: &X) -> io::Result<()>
+        ensures { (text : Option (List ℕ)) × renders self.now error.now text × E.takes err.old (error_line text) result err.new };
 }
 
-/// The text is what `Display` makes of the error. One of more than 512 bytes is cut, and ends in dots.
+/// Writes the text that `Display` makes of an error.
 #[derive(Clone, Copy)]
 pub struct ByDisplay;
 
-// The text, where `Display` specifies it; it may be cut.
 impl<X: Display> Render<X> for ByDisplay {
-    ghost renders = { λ _ error text. IfSome (X.output error) (λ whole. IsTextOrCut 512 whole text) };
+    ghost renders = { λ _ error text. text ≡ X.output error };
 
-    fn render(&self, error: &X) -> InlineText<512> {
-        InlineText::of(error)
+    fn write_line<E: Sink>(&self, err: &mut E, error: &X) -> io::Result<()> {
+        err.write_text(format_args!("error: {error}\n"))
     }
 }

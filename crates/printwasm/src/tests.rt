@@ -27,7 +27,7 @@ const UNWRITTEN: &str = "error: the printer failed\n";
 
 /// What a run wrote, and its status.
 #[derive(Drop)]
-struct Outcome {
+pub struct Outcome {
     out: Vec<u8>,
     err: Vec<u8>,
     status: u8,
@@ -54,7 +54,7 @@ fn run_into<O: Sink, E: Sink>(
 }
 
 /// The program over these words.
-fn run_with(rt: &HostRuntime, words: &[&str]) -> Result<Outcome, Fail> {
+pub fn run_with(rt: &HostRuntime, words: &[&str]) -> Result<Outcome, Fail> {
     let mut out = Vec::new(rt.alloc());
     let mut err = Vec::new(rt.alloc());
     let status = run_into(rt, words, &mut out, &mut err)?;
@@ -70,7 +70,7 @@ fn run_over(rt: &HostRuntime, name: &str, bytes: &[u8]) -> Result<Outcome, Fail>
 }
 
 /// Whether a run ended well, printed this text, and told nothing.
-fn has_printed(outcome: &Outcome, text: &str) -> bool {
+pub fn has_printed(outcome: &Outcome, text: &str) -> bool {
     outcome.status == 0 && outcome.out.as_slice() == text.as_bytes() && outcome.err.is_empty()
 }
 

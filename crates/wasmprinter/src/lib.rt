@@ -23,4 +23,4 @@ pub use in_memory::print_bytes;
 pub use places::place_of;
 pub use print::{Print, PrintFmtWrite, PrintIoWrite, PrintTermcolor};
 pub use wasmprinter_error::Error;
-pub use wasmprinter_tracker::OffsetsAndLines;
+pub use wasmprinter_tracker::{LineStart, OffsetsAndLines};

@@ -14,8 +14,17 @@ use wasmprinter_error::Error;
 use wasmprinter_tracker::{LineStart, OffsetsAndLines, Tracker};
 
 impl Config {
-    /// Appends the text of a module to `storage`, and says where its lines begin.
-    pub(crate) fn print_with_starts(
+    /// Appends the text of a module in the binary format to `storage`, and returns where its lines begin.
+    ///
+    /// A [`LineStart`] holds a line's place, a byte offset from the start of the module, and the byte offset in `storage` of the line's
+    /// first byte. [`OffsetsAndLines::new`] makes an iterator over the lines from both. The old text of `storage` stays before the first
+    /// line. [`Config::offsets_and_lines`] does both steps. Unlike that method, this one promises by its contract what `storage` holds
+    /// after the call: its old text and then the text of the module, or after an error a text that begins with the old one.
+    ///
+    /// # Errors
+    ///
+    /// As [`Config::print_to_string`]. `storage` then begins with its old text.
+    pub fn print_with_line_starts(
         &self,
         alloc: Global,
         wasm: &[u8],
@@ -59,7 +68,7 @@ impl Config {
         ensures refused { IfErr result (IsTrueOfText self.now wasm.now) }
         ensures component { IsErrOf result Error.Component ↔ IsComponent wasm.now }
     {
-        let starts = self.print_with_starts(alloc, wasm, storage)?;
+        let starts = self.print_with_line_starts(alloc, wasm, storage)?;
         Ok(OffsetsAndLines::new(storage.as_str(), starts))
     }
 }

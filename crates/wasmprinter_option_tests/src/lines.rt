@@ -3,7 +3,7 @@
 use crate::large::{LINES, large};
 use std::alloc::Global;
 use std::test::Fail;
-use wasmprinter::{Config, Error, OffsetsAndLines};
+use wasmprinter::{Config, Error, LineStart, OffsetsAndLines};
 use wasmprinter_samples::{IDENTITY, MINUS_ONE, PREAMBLE, expect_text};
 
 /// A line: the place of what stands on it, and its text with the line feed.
@@ -195,5 +195,44 @@ fn gives_all_lines_of_a_large_module(rt: HostRuntime) -> Result<(), Fail> {
     assert!(rt; count == LINES);
     assert!(rt; header == Some(12022));
     assert!(rt; end == Some(12024));
+    Ok(())
+}
+
+/// The line starts of `GROUP` after a text of four bytes: their places, and their byte offsets in the storage.
+const GROUP_STARTS: [(Option<u64>, usize); 5] = [
+    (Some(0x0), 4),
+    (Some(0xb), 12),
+    (Some(0xd), 19),
+    (None, 43),
+    (Some(0x10), 47),
+];
+
+/// Whether these are the starts of lines.
+fn are_starts(found: &[LineStart], expected: &[(Option<u64>, usize)]) -> bool {
+    found.len() == expected.len()
+        && found.iter().zip(expected).all(|(start, (place, at))| start.place == *place
+            && start.at == *at)
+}
+
+#[test]
+fn returns_where_lines_begin(rt: HostRuntime) -> Result<(), Fail> {
+    let mut storage = String::from_str(rt.alloc(), "old\n")?;
+    let starts = Config::new().print_with_line_starts(rt.alloc(), &GROUP, &mut storage)?;
+    expect_text(
+        storage.as_str(),
+        "old\n(module\n  (rec\n    (type (;0;) (func))\n  )\n)\n",
+    )?;
+    assert!(rt; are_starts(&starts, &GROUP_STARTS));
+    let lines = OffsetsAndLines::new(storage.as_str(), starts);
+    assert!(rt; are_lines(lines, &GROUP_LINES));
+    Ok(())
+}
+
+#[test]
+fn keeps_the_text_if_no_lines_are_returned(rt: HostRuntime) -> Result<(), Fail> {
+    let mut storage = String::from_str(rt.alloc(), "old\n")?;
+    let refused = Config::new().print_with_line_starts(rt.alloc(), &PREAMBLE[..7], &mut storage);
+    assert!(rt; matches!(refused, Err(Error::Malformed { place: 0 })));
+    expect_text(storage.as_str(), "old\n")?;
     Ok(())
 }

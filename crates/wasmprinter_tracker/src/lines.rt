@@ -4,11 +4,11 @@ ghost use Rattle.std.specs.Prelude.{◌≡◌};
 use std::marker::Model;
 
 /// Where a line begins.
-#[derive(Clone, Copy)]
+#[derive(Clone, Copy, Debug, PartialEq, Eq)]
 pub struct LineStart {
-    /// The place of what stands on the line, as a byte offset from the module's start, if it stands for anything.
+    /// The place of the line, a byte offset from the start of the module, or `None` if the line is for nothing in the module.
     pub place: Option<u64>,
-    /// The line's first byte, as a byte offset from the text's start.
+    /// The byte offset of the line's first byte from the start of the text.
     pub at: usize,
 }
 

@@ -7,7 +7,7 @@ use Rattle.wasmprinter.specs.Lined.{HasLinesBy}
 use Rattle.wasmprinter.specs.Outcome.{HasTextCause, IsTrueOfText}
 use Rattle.wasmprinter.proofs.Outcomes.{growth_cause, growth_true}
 use Rattle.wasmprinter.proofs.TrackedLines.{told_as, handed_on_as, on_err, in_front, printed_behind, printable, finished_lines, refusal_keeps}
-use Rattle.wasmprinter.proofs.config.Config.print_with_starts.Goals as goal
+use Rattle.wasmprinter.proofs.config.Config.print_with_line_starts.Goals as goal
 
 pub returns-in-Ok-clause-lines : goal.returns-in-Ok-clause-lines
 returns-in-Ok-clause-lines c =

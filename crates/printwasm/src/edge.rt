@@ -1,0 +1,335 @@
+//! Tests of what no contract of the system says: sinks, sources and error lines at each length. Expected texts are typed by hand.
+ghost use Rattle.std.specs.Prelude.{⊤};
+
+use crate::program::run;
+use crate::rendering::{ByDisplay, Render};
+use crate::system::Sink;
+use crate::tests::{has_printed, run_with};
+use std::alloc::Global;
+use std::cell::Cell;
+use std::path::Path;
+use std::test::Fail;
+use std::{fs, io};
+use wasmprinter::{Error, Source, print_file};
+use wasmprinter_samples::PREAMBLE;
+
+/// The text of the module without fields.
+const EMPTY_TEXT: &str = "(module)\n";
+
+/// Lengths of texts: short ones, and those around two sizes of buffers.
+const TEXT_LENGTHS: [(usize, usize); 3] = [(0, 300), (65_530, 65_540), (131_066, 131_078)];
+
+/// A text of this length.
+fn text_of(alloc: Global, len: usize) -> Result<String, Fail> {
+    let mut text = String::new(alloc);
+    for _ in 0..len {
+        text.push('x')?;
+    }
+    Ok(text)
+}
+
+/// Whether a sink takes a text of this length, as text and as bytes, and gains nothing else.
+fn takes_all(alloc: Global, len: usize) -> Result<bool, Fail> {
+    let text = text_of(alloc, len)?;
+    let mut written = Vec::new(alloc);
+    written.write_text(text.as_str())?;
+    let mut bytes = Vec::new(alloc);
+    bytes.write_bytes(text.as_bytes())?;
+    Ok(written.as_slice() == text.as_bytes() && bytes.as_slice() == text.as_bytes())
+}
+
+#[test]
+fn takes_texts_of_each_length(rt: HostRuntime) -> Result<(), Fail> {
+    for (from, to) in TEXT_LENGTHS {
+        for len in from..=to {
+            assert!(rt; takes_all(rt.alloc(), len)?, "{len}");
+        }
+    }
+    Ok(())
+}
+
+/// A source whose files all hold the module without fields. It counts its reads, and those of one path.
+#[derive(Drop)]
+struct Counted<'a> {
+    alloc: Global,
+    path: &'a str,
+    reads: Cell<u32>,
+    reads_of_path: Cell<u32>,
+}
+
+impl<'a> Counted<'a> {
+    fn new(alloc: Global, path: &'a str) -> Counted<'a> {
+        Counted {
+            alloc,
+            path,
+            reads: Cell::new(0),
+            reads_of_path: Cell::new(0),
+        }
+    }
+
+    /// Returns whether the path was read once, and no other path.
+    fn was_read_once(&self) -> bool {
+        self.reads.get() == 1 && self.reads_of_path.get() == 1
+    }
+}
+
+impl Source for Counted<'_> {
+    ghost gives = { λ _ _ _. ⊤ };
+
+    fn read(&self, path: Path<'_>) -> io::Result<Vec<u8>> {
+        self.reads.set(self.reads.get().saturating_add(1));
+        if path.to_str() == Some(self.path) {
+            self.reads_of_path
+                .set(self.reads_of_path.get().saturating_add(1));
+        }
+        let mut bytes = Vec::new(self.alloc);
+        bytes.extend_from_slice(&PREAMBLE)?;
+        Ok(bytes)
+    }
+}
+
+/// Whether `print_file` reads this path once, and no other path.
+fn is_read_once_by_the_library(alloc: Global, path: &str) -> Result<bool, Fail> {
+    let source = Counted::new(alloc, path);
+    let text = print_file(&source, alloc, Path::new(path))?;
+    Ok(text.as_str() == EMPTY_TEXT && source.was_read_once())
+}
+
+/// Whether the program reads this path once, and no other path.
+fn is_read_once_by_the_program(alloc: Global, path: &str) -> Result<bool, Fail> {
+    let source = Counted::new(alloc, path);
+    let mut words = Vec::new(alloc);
+    words.push(String::from_str(alloc, path)?)?;
+    let mut out = Vec::new(alloc);
+    let mut err = Vec::new(alloc);
+    let status = run(&source, &ByDisplay, alloc, &words, &mut out, &mut err);
+    Ok(status == 0 && out.as_slice() == EMPTY_TEXT.as_bytes() && source.was_read_once())
+}
+
+#[test]
+fn reads_a_path_of_each_length_once(rt: HostRuntime) -> Result<(), Fail> {
+    for len in 1..=100 {
+        let path = text_of(rt.alloc(), len)?;
+        assert!(rt;
+            is_read_once_by_the_library(rt.alloc(), path.as_str())?,
+            "{len}"
+        );
+        assert!(rt;
+            is_read_once_by_the_program(rt.alloc(), path.as_str())?,
+            "{len}"
+        );
+    }
+    Ok(())
+}
+
+/// Whether this line is written for an error, and nothing else.
+fn reports(alloc: Global, error: &Error, text: &str) -> Result<bool, Fail> {
+    let mut err = Vec::new(alloc);
+    ByDisplay.write_line(&mut err, error)?;
+    Ok(err.as_slice() == text.as_bytes())
+}
+
+/// Places of each length in hexadecimal digits.
+const PLACES: [(u64, &str); 17] = [
+    (0x0, "0x0"),
+    (0x1, "0x1"),
+    (0x12, "0x12"),
+    (0x123, "0x123"),
+    (0x1234, "0x1234"),
+    (0x1_2345, "0x12345"),
+    (0x12_3456, "0x123456"),
+    (0x123_4567, "0x1234567"),
+    (0x1234_5678, "0x12345678"),
+    (0x1_2345_6789, "0x123456789"),
+    (0x12_3456_789a, "0x123456789a"),
+    (0x123_4567_89ab, "0x123456789ab"),
+    (0x1234_5678_9abc, "0x123456789abc"),
+    (0x1_2345_6789_abcd, "0x123456789abcd"),
+    (0x12_3456_789a_bcde, "0x123456789abcde"),
+    (0x123_4567_89ab_cdef, "0x123456789abcdef"),
+    (0xfedc_ba98_7654_3210, "0xfedcba9876543210"),
+];
+
+/// Each error that has a place, and the parts of its line before and after the place.
+fn errors_at(place: u64) -> [(Error, &'static str, &'static str); 5] {
+    [
+        (
+            Error::Malformed { place },
+            "error: malformed module at byte ",
+            "\n",
+        ),
+        (
+            Error::TooManyLocals { place },
+            "error: function at byte ",
+            " has more than 50000 locals\n",
+        ),
+        (
+            Error::EmptyTableInit { place },
+            "error: table at byte ",
+            " has an empty initialiser\n",
+        ),
+        (
+            Error::FoldLegacy { place },
+            "error: legacy exception operator at byte ",
+            " can't be folded\n",
+        ),
+        (
+            Error::FoldHint { place },
+            "error: branch hint at byte ",
+            " can't be folded\n",
+        ),
+    ]
+}
+
+/// A text of three parts.
+fn joined(alloc: Global, before: &str, middle: &str, after: &str) -> Result<String, Fail> {
+    let mut text = String::from_str(alloc, before)?;
+    text.push_str(middle)?;
+    text.push_str(after)?;
+    Ok(text)
+}
+
+/// Whether the line of each error with this place shows it by these digits.
+fn show_place(alloc: Global, place: u64, digits: &str) -> Result<bool, Fail> {
+    for (error, before, after) in errors_at(place) {
+        let line = joined(alloc, before, digits, after)?;
+        if !reports(alloc, &error, line.as_str())? {
+            return Ok(false);
+        }
+    }
+    Ok(true)
+}
+
+#[test]
+fn reports_places_of_each_length(rt: HostRuntime) -> Result<(), Fail> {
+    for (place, digits) in PLACES {
+        assert!(rt; show_place(rt.alloc(), place, digits)?, "{digits}");
+    }
+    Ok(())
+}
+
+/// Counts of functions of each length, with their lines.
+const COUNTS: [(u32, &str); 10] = [
+    (9, "error: module has 9 functions, more than 1000000\n"),
+    (98, "error: module has 98 functions, more than 1000000\n"),
+    (987, "error: module has 987 functions, more than 1000000\n"),
+    (
+        9_876,
+        "error: module has 9876 functions, more than 1000000\n",
+    ),
+    (
+        98_765,
+        "error: module has 98765 functions, more than 1000000\n",
+    ),
+    (
+        987_654,
+        "error: module has 987654 functions, more than 1000000\n",
+    ),
+    (
+        9_876_543,
+        "error: module has 9876543 functions, more than 1000000\n",
+    ),
+    (
+        98_765_432,
+        "error: module has 98765432 functions, more than 1000000\n",
+    ),
+    (
+        987_654_321,
+        "error: module has 987654321 functions, more than 1000000\n",
+    ),
+    (
+        4_294_967_295,
+        "error: module has 4294967295 functions, more than 1000000\n",
+    ),
+];
+
+#[test]
+fn reports_counts_of_each_length(rt: HostRuntime) -> Result<(), Fail> {
+    for (count, line) in COUNTS {
+        assert!(rt;
+            reports(rt.alloc(), &Error::TooManyFunctions { count }, line)?,
+            "{count}"
+        );
+    }
+    Ok(())
+}
+
+/// Ids of subsections of each length, with their lines.
+const IDS: [(u8, &str); 4] = [
+    (0, "error: unknown dylink.0 subsection 0\n"),
+    (7, "error: unknown dylink.0 subsection 7\n"),
+    (42, "error: unknown dylink.0 subsection 42\n"),
+    (255, "error: unknown dylink.0 subsection 255\n"),
+];
+
+#[test]
+fn reports_ids_of_each_length(rt: HostRuntime) -> Result<(), Fail> {
+    for (id, line) in IDS {
+        assert!(rt;
+            reports(rt.alloc(), &Error::DylinkSubsection { id }, line)?,
+            "{id}"
+        );
+    }
+    Ok(())
+}
+
+#[test]
+fn reports_errors_without_a_number(rt: HostRuntime) -> Result<(), Fail> {
+    let failure = io::Error::other("no room");
+    let lines = [
+        (Error::Component, "error: components are not supported\n"),
+        (Error::Unreadable, "error: the file can't be read\n"),
+        (Error::Printer(failure), "error: the printer failed\n"),
+        (Error::Memory, "error: out of memory\n"),
+    ];
+    for (error, line) in lines {
+        assert!(rt; reports(rt.alloc(), &error, line)?, "{line}");
+    }
+    Ok(())
+}
+
+/// Sizes of files, four of them around 2^17 bytes, each with the LEB128 number that is the size of the custom section.
+const FILE_SIZES: [(usize, [u8; 3]); 5] = [
+    (131_071, [0xf3, 0xff, 0x07]),
+    (131_072, [0xf4, 0xff, 0x07]),
+    (131_073, [0xf5, 0xff, 0x07]),
+    (131_074, [0xf6, 0xff, 0x07]),
+    (200_000, [0xb4, 0x9a, 0x0c]),
+];
+
+/// The number of bytes of such a file before the content of its custom section.
+const BEFORE_CONTENT: usize = 14;
+
+/// A module of this size whose one section is custom, named `a`, and contains the letter x again and again.
+fn module_of(alloc: Global, size: usize, section_size: &[u8]) -> Result<Vec<u8>, Fail> {
+    let mut wasm = Vec::new(alloc);
+    wasm.extend_from_slice(&PREAMBLE)?;
+    wasm.push(0x00)?;
+    wasm.extend_from_slice(section_size)?;
+    wasm.extend_from_slice(&[0x01, b'a'])?;
+    for _ in BEFORE_CONTENT..size {
+        wasm.push(b'x')?;
+    }
+    Ok(wasm)
+}
+
+/// Whether the library and the program print a file of this size whole.
+fn print_whole(rt: &HostRuntime, size: usize, section_size: &[u8]) -> Result<bool, Fail> {
+    let name = "edge.wasm";
+    fs::write(rt, name, &module_of(rt.alloc(), size, section_size)?)?;
+    let content = text_of(rt.alloc(), size.saturating_sub(BEFORE_CONTENT))?;
+    let before = "(module\n  (@custom \"a\" (before first) \"";
+    let text = joined(rt.alloc(), before, content.as_str(), "\")\n)\n")?;
+    let printed = print_file(rt, rt.alloc(), Path::new(name))?;
+    let outcome = run_with(rt, &[name])?;
+    fs::remove_file(rt, name)?;
+    Ok(printed.as_str() == text.as_str() && has_printed(&outcome, text.as_str()))
+}
+
+#[test]
+fn prints_large_files_whole(rt: HostRuntime) -> Result<(), Fail> {
+    for (size, section_size) in FILE_SIZES {
+        assert!(rt; print_whole(&rt, size, &section_size)?, "{size}");
+    }
+    Ok(())
+}

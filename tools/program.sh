@@ -1,0 +1,128 @@
+#!/bin/sh
+# Starts the proved program with the words of each case below, and compares its standard output, its standard error and its status with what
+# is typed here. `rt ci` starts it with one list of words alone, and tests call `run` and `start`; here it is `main` that is tested. The
+# program has to be built (crates/printwasm/out/printwasm), as `rt ci` and `rt run` leave it. Ends with another status than 0 if a case
+# differs.
+set -eu
+cd "$(dirname "$0")/.."
+program=$PWD/crates/printwasm/out/printwasm
+work=$(mktemp -d)
+trap 'rm -rf "$work"' EXIT
+cd "$work"
+cases=0
+failed=0
+
+# colored: makes the sequences of colours of standard input's marks: {K} keyword, {N} name, {T} type, {L} literal, {C} comment, {R} reset.
+colored() {
+    escape=$(printf '\033')
+    sed "s/{K}/{R}$escape[1m$escape[38;5;11m/g; s/{N}/{R}$escape[35m/g; s/{T}/{R}$escape[1m$escape[38;5;10m/g
+        s/{L}/{R}$escape[31m/g; s/{C}/{R}$escape[36m/g; s/{R}/$escape[0m/g"
+}
+
+# case_of STATUS WORD..: starts the program with the words. It has to end with the status, write the file `out` to standard output, and the
+# file `err` to standard error.
+case_of() {
+    wanted=$1
+    shift
+    cases=$((cases + 1))
+    status=0
+    "$program" "$@" >written 2>told || status=$?
+    if [ "$status" != "$wanted" ] || ! cmp -s out written || ! cmp -s err told; then
+        echo "program: printwasm $* ended with status $status, not $wanted, or wrote another text:"
+        diff out written || true
+        diff err told || true
+        failed=$((failed + 1))
+    fi
+}
+
+# the identity function, with an export
+printf '\000asm\001\000\000\000\001\006\001\140\001\177\001\177\003\002\001\000\007\005\001\001f\000\000\012\006\001\004\000\040\000\013' \
+    >same.wasm
+
+: >out
+echo 'usage: printwasm [--offsets] [--skeleton] [--name-unnamed] [--fold] [--color] FILE' >err
+case_of 2
+case_of 2 --offsets --skeleton --name-unnamed --fold --color
+case_of 2 --offsets --skeleton --name-unnamed --fold --color same.wasm same.wasm
+case_of 2 --offsets --skeleton --name-unnamed --fold --colors same.wasm
+
+echo "error: the file can't be read" >err
+case_of 1 --offsets --skeleton --name-unnamed --fold --color missing.wasm
+
+: >err
+cat >out <<'END'
+(module
+  (type (;0;) (func (param i32) (result i32)))
+  (export "f" (func 0))
+  (func (;0;) (type 0) (param i32) (result i32)
+    local.get 0
+  )
+)
+END
+case_of 0 same.wasm
+
+cat >out <<'END'
+(module
+(;@b     ;)  (type (;0;) (func (param i32) (result i32)))
+(;@17    ;)  (export "f" (func 0))
+(;@1f    ;)  (func (;0;) (type 0) (param i32) (result i32)
+(;@20    ;)    local.get 0
+(;@22    ;)  )
+(;@23    ;))
+END
+case_of 0 --offsets same.wasm
+
+cat >out <<'END'
+(module
+  (type (;0;) (func (param i32) (result i32)))
+  (export "f" (func 0))
+  (func (;0;) (type 0) (param i32) (result i32) ...)
+)
+END
+case_of 0 --skeleton same.wasm
+
+cat >out <<'END'
+(module
+  (type $#type0 (;0;) (func (param i32) (result i32)))
+  (export "f" (func $#func0))
+  (func $#func0 (;0;) (type $#type0) (param $#local0 i32) (result i32)
+    local.get $#local0
+  )
+)
+END
+case_of 0 --name-unnamed same.wasm
+
+cat >out <<'END'
+(module
+  (type (;0;) (func (param i32) (result i32)))
+  (export "f" (func 0))
+  (func (;0;) (type 0) (param i32) (result i32)
+    (local.get 0)
+  )
+)
+END
+case_of 0 --fold same.wasm
+
+colored >out <<'END'
+({K}module{R}
+  ({K}type {R}{N}(;0;){R} ({K}func{R} ({K}param{R} {T}i32{R}) ({K}result{R} {T}i32{R})))
+  ({K}export {R}{L}"f"{R} ({K}func {R}{N}0{R}))
+  ({K}func {R}{N}(;0;){R} ({K}type {R}{N}0{R}) ({K}param{R} {T}i32{R}) ({K}result{R} {T}i32{R})
+    local.get {N}0{R}
+  )
+)
+END
+case_of 0 --color same.wasm
+
+colored >out <<'END'
+({K}module{R}
+{C}(;@b     ;){R}  ({K}type {R}{N}$#type0 (;0;){R} ({K}func{R} ({K}param{R} {T}i32{R}) ({K}result{R} {T}i32{R})))
+{C}(;@17    ;){R}  ({K}export {R}{L}"f"{R} ({K}func {R}{N}$#func0{R}))
+{C}(;@1f    ;){R}  ({K}func {R}{N}$#func0 (;0;){R} ({K}type {R}{N}$#type0{R}) ({K}param{R} $#local0 {T}i32{R}) ({K}result{R} {T}i32{R}) ...)
+{C}(;@23    ;){R})
+END
+case_of 0 --offsets --skeleton --name-unnamed --fold --color same.wasm
+case_of 0 same.wasm --color --fold --name-unnamed --skeleton --offsets
+
+echo "program: $((cases - failed)) of $cases cases as typed"
+[ "$failed" = 0 ]
