@@ -1,8 +1,7 @@
 #!/bin/sh
-# Starts the proved program with the words of each case below, and compares its standard output, its standard error and its status with what
-# is typed here. `rt ci` starts it with one list of words alone, and tests call `run` and `start`; here it is `main` that is tested. The
-# program has to be built (crates/printwasm/out/printwasm), as `rt ci` and `rt run` leave it. Ends with another status than 0 if a case
-# differs.
+# Tests `main`: starts the built program with the words of each case below, and compares its standard output, its standard error and its
+# status with the texts typed here. `rt ci` itself starts it without words only, and the crate's tests call `run` and `start`. The program is
+# crates/printwasm/out/printwasm, as `rt ci` and `rt run` leave it. Exits with a status other than 0 if a case differs.
 set -eu
 cd "$(dirname "$0")/.."
 program=$PWD/crates/printwasm/out/printwasm
@@ -12,7 +11,7 @@ cd "$work"
 cases=0
 failed=0
 
-# colored: makes the sequences of colours of standard input's marks: {K} keyword, {N} name, {T} type, {L} literal, {C} comment, {R} reset.
+# colored: replaces marks in standard input by ANSI escape sequences: {K} keyword, {N} name, {T} type, {L} literal, {C} comment, {R} reset.
 colored() {
     escape=$(printf '\033')
     sed "s/{K}/{R}$escape[1m$escape[38;5;11m/g; s/{N}/{R}$escape[35m/g; s/{T}/{R}$escape[1m$escape[38;5;10m/g

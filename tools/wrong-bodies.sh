@@ -3,7 +3,7 @@
 # of crates/NAME/must-fail/*.edit. The prover has to refuse each. Exits with a status other than 0 if it accepts one, or can't read one.
 #
 # tools/wrong-bodies.sh [NAME..]: those of these crates, or of all. It works on a copy, with `rt ci`: crates that passed on this machine are
-# not proved again, and as many crates are tried at once as there are processors.
+# not proved again, and several crates are tried at once.
 set -eu
 cd "$(dirname "$0")/.."
 began=$(date +%s)
