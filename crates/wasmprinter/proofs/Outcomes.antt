@@ -24,7 +24,7 @@ use Rattle.wasmprinter_spec.specs.Call.{Call}
 use Rattle.wasmprinter_spec.specs.Folding.Refusals.{IsFoldable}
 use Rattle.wasmprinter_foldable.specs.Refused.{HasFoldReason}
 use Rattle.wasmprinter.specs.Printed.{Printed}
-use Rattle.wasmprinter.specs.Outcome.{HasCause, HasTextCause, IsTrueOf, IsTrueOfText, IsLegacyAt, IsMisplacedAt, AnyIsUnknown, MadeUpTo, Leaves, as_growth}
+use Rattle.wasmprinter.specs.Outcome.{HasCause, HasTextCause, IsTrueOf, IsTrueOfText, IsLegacyAt, IsMisplacedAt, AnyIsRefused, MadeUpTo, Leaves, as_growth}
 use Rattle.wasmprinter_spec.specs.Names.Content.{name_of}
 use Rattle.wasmprinter_spec.specs.ModuleNames.{name_entries, module_names}
 use Rattle.wasmprinter_names.specs.Views.{NamedItem, name_at}
@@ -32,7 +32,7 @@ use Rattle.wasmprinter_labels.specs.Scan.{Scan, names_of}
 use Rattle.wasmprinter.proofs.Paints.{calls-paints}
 use Rattle.wasmprinter.proofs.Headline.{printed}
 use Rattle.wasmprinter.proofs.Named.{shown_names, one_module}
-use Rattle.wasmprinter.proofs.Subsections.{refusal_unknown}
+use Rattle.wasmprinter.proofs.Subsections.{refusal_unknown, refused_unknown, made_refused}
 
 -- bytes that spell a module are not marked as a component
 not_component : (bytes : List ℕ) (placed : PlacedModule) → Spells bytes placed → IsComponent bytes → ⊥
@@ -172,7 +172,7 @@ module _ {P : Type 0} (m : Meaning P) (colours : Bool) (o : Options) (bytes : Li
     pub ended_caused : Ended r → IfErr r (HasCause m o bytes old new)
     ended_caused v =
         with_folds (HasCause m o bytes old new) (λ x b other s. record { calls = b.calls; before = b.before; run = b.run; call = b.call; failed = b.failed })
-        (λ id u other s. subst (λ (n : PlacedModule). AnyIsUnknown id n.customs) (one_module bytes placed other spelled s) (refusal_unknown by answers placed id u.ends))
+        (λ id u other s. subst (λ (n : PlacedModule). AnyIsRefused m old new id n.customs) (one_module bytes placed other spelled s) (made_refused m old new by id answers placed u))
         (λ folds b other s. inr folds) v
 
     -- the refusal is true of the bytes
@@ -217,6 +217,7 @@ fold_unmarked o bytes placed r e spelled h f = (λ q. absurd (unmarked r e h f q
 pub growth_cause : {P : Type 0} (m : Meaning P) (o : Options) (bytes : List ℕ) (old new : P) (e : Error) → HasCause m o bytes old new e → HasTextCause o bytes (as_growth e)
 growth_cause m o bytes old new (Printer x) h = λ placed s. tt
 growth_cause m o bytes old new Memory h = λ placed s. tt
+growth_cause m o bytes old new (DylinkSubsection id) h = λ placed s. refused_unknown m old new id placed.customs (h placed s)
 growth_cause m o bytes old new _ h = h
 
 -- and the refusal is true of the bytes

@@ -1,76 +1,179 @@
--- A refused `dylink.0` section: one of the module's custom sections.
-use Rattle.std.specs.Prelude.{◌≡◌, ◌⊎◌, ℕ, ◌+◌, List, [], ◌∷◌, ◌++◌, flat_map, Bool, true, false, Option, Some, None, refl}
-use Rattle.std.proofs.Common.{ap, inl, inr}
+-- A refused `dylink.0` section: one of the module's custom sections, for which the layout asks last.
+use Rattle.std.specs.Prelude.{◌≡◌, ◌⊎◌, ℕ, ◌+◌, List, [], ◌∷◌, ◌++◌, flat_map, codes, Bool, true, false, Option, Some, None, refl}
+use Rattle.std.proofs.Common.{sym, subst, ap, ◌∙◌, inl, inr, append_assoc}
+use Rattle.wasmprinter_spec.specs.Grammar.{some_is}
 use Rattle.wasmprinter_spec.specs.Kinds.{Kind}
 use Rattle.wasmprinter_spec.specs.Placed.{CustomEntry, PlacedModule}
 use Rattle.wasmprinter_spec.specs.Names.{Names}
 use Rattle.wasmprinter_spec.specs.ModuleNames.{module_names}
+use Rattle.wasmprinter_spec.specs.Call.{Call, Claim, atoms}
+use Rattle.wasmprinter_spec.specs.Meaning.{Meaning}
 use Rattle.wasmprinter_spec.specs.Options.{Options, Answers}
-use Rattle.wasmprinter_spec.specs.Piece.{Piece}
+use Rattle.wasmprinter_spec.specs.Piece.{Piece, Begin, Open, Claimed, all_calls}
 use Rattle.wasmprinter_spec.specs.Customs.{CustomRole, Silent, Listed, Linked, Refused, Raw, Faulted, custom_role_of}
-use Rattle.wasmprinter_spec.specs.Layout.{early_scope, section_order, section_parts, module_parts, refusal}
-use Rattle.wasmprinter_spec.specs.Layout.Customs.{Part, Shown, Stops, laid_parts, role_part, custom_part, same_place, parts_at}
-use Rattle.wasmprinter.specs.Outcome.{AnyIsUnknown}
+use Rattle.wasmprinter_spec.specs.Layout.Identifiers.{leading_mark_pieces}
+use Rattle.wasmprinter_spec.specs.Layout.{early_scope, section_pieces, section_order, section_parts, module_parts, module_pieces_of, module_pieces_with, module_pieces, layout, refusal}
+use Rattle.wasmprinter_spec.specs.Layout.Customs.{Part, Shown, Stops, Laid, laid_parts, role_part, custom_part, same_place, parts_at}
+use Rattle.wasmprinter_print.specs.EmitsLaws.{atoms-append}
+use Rattle.wasmprinter_print.specs.Emits.{Whole}
+use Rattle.wasmprinter_print.specs.PrintsLaws.{all_calls-append}
+use Rattle.wasmprinter_annotations.proofs.Parts.{laid_behind, joined-append}
+use Rattle.wasmprinter.specs.Outcome.{AnyIsUnknown, IsRefused, AnyIsRefused, MadeUpTo}
 
 abbrev Stop : List Part → ℕ → Type 0
 Stop parts id = (laid_parts parts).refused ≡ Some id
 
-stop_in : (xs ys : List Part) (id : ℕ) → Stop (xs ++ ys) id → Stop xs id ⊎ Stop ys id
-stop_in [] ys id h = inr h
-stop_in (Shown ps ∷ xs) ys id h = stop_in xs ys id h
-stop_in (Stops ps i ∷ xs) ys id h = inl h
+abbrev pieces_of : List Part → List Piece
+pieces_of parts = (laid_parts parts).pieces
 
-role_stops : (skeleton : Bool) (claim : Piece) (c : CustomEntry) (r : CustomRole) (parts : List Part) (id : ℕ) → Stop (role_part skeleton claim c r ∷ parts) id → (r ≡ Refused id) ⊎ Stop parts id
-role_stops skeleton claim c Silent parts id h = inr h
-role_stops skeleton claim c (Listed fields) parts id h = inr h
-role_stops skeleton claim c (Linked ss) parts id h = inr h
-role_stops skeleton claim c (Refused i) parts id h = inl (ap (λ (n : ℕ). Refused n) cc)
-role_stops skeleton claim c Raw parts id h = inr h
-role_stops skeleton claim c Faulted parts id h = inr h
+-- the question for this section, answered with no
+abbrev question : CustomEntry → Piece
+question c = Claimed c.section.value.name c.section.value.bytes.place c.section.value.bytes.value false
 
-custom_stops : (skeleton answer : Bool) (c : CustomEntry) (parts : List Part) (id : ℕ) → Stop (custom_part skeleton answer c ∷ parts) id →
-    (custom_role_of c.section.value ≡ Refused id) ⊎ Stop parts id
-custom_stops skeleton true c parts id h = inr h
-custom_stops skeleton false c parts id h = role_stops skeleton _ c (custom_role_of c.section.value) parts id h
+-- pieces end with the question for this section, which is refused
+record IsAsked (id : ℕ) (c : CustomEntry) (ps : List Piece) : Type 0 where
+  unknown : custom_role_of c.section.value ≡ Refused id
+  front : List Piece
+  ends : ps ≡ front ++ question c ∷ []
+
+abbrev AnyIsAsked : ℕ → List CustomEntry → List Piece → Type 0
+AnyIsAsked id [] ps = ⊥
+AnyIsAsked id (c ∷ cs) ps = IsAsked id c ps ⊎ AnyIsAsked id cs ps
+
+-- behind other pieces
+asked_behind : (id : ℕ) (cs : List CustomEntry) (ps qs : List Piece) → AnyIsAsked id cs qs → AnyIsAsked id cs (ps ++ qs)
+asked_behind id [] ps qs h = absurd h
+asked_behind id (c ∷ cs) ps qs (inl a) =
+    inl (record { unknown = a.unknown; front = ps ++ a.front; ends = ap (λ (rs : List Piece). ps ++ rs) a.ends ∙ sym (append_assoc ps a.front (question c ∷ [])) })
+asked_behind id (c ∷ cs) ps qs (inr h) = inr (asked_behind id cs ps qs h)
+
+-- either the section is asked for last, or others behind pieces
+record GoesOn (part : Part) (others : List Part) (id : ℕ) : Type 0 where
+  front : List Piece
+  pieces : pieces_of (part ∷ others) ≡ front ++ pieces_of others
+  stops : Stop others id
+
+shown_on : (ps : List Piece) (others : List Part) (id : ℕ) → Stop others id → GoesOn (Shown ps) others id
+shown_on ps others id h = record { front = ps; pieces = refl; stops = h }
+
+role_stops : (skeleton : Bool) (c : CustomEntry) (r : CustomRole) (others : List Part) (id : ℕ) → custom_role_of c.section.value ≡ r →
+    Stop (role_part skeleton (question c) c r ∷ others) id →
+    IsAsked id c (pieces_of (role_part skeleton (question c) c r ∷ others)) ⊎ GoesOn (role_part skeleton (question c) c r) others id
+role_stops skeleton c Silent others id e h = inr (shown_on _ others id h)
+role_stops skeleton c (Listed fields) others id e h = inr (shown_on _ others id h)
+role_stops skeleton c (Linked ss) others id e h = inr (shown_on _ others id h)
+role_stops skeleton c (Refused i) others id e h = inl (record { unknown = e ∙ ap (λ (n : ℕ). Refused n) (some_is i id h); front = []; ends = refl })
+role_stops skeleton c Raw others id e h = inr (shown_on _ others id h)
+role_stops skeleton c Faulted others id e h = inr (shown_on _ others id h)
+
+custom_stops : (skeleton answer : Bool) (c : CustomEntry) (others : List Part) (id : ℕ) → Stop (custom_part skeleton answer c ∷ others) id →
+    IsAsked id c (pieces_of (custom_part skeleton answer c ∷ others)) ⊎ GoesOn (custom_part skeleton answer c) others id
+custom_stops skeleton true c others id h = inr (shown_on _ others id h)
+custom_stops skeleton false c others id h = role_stops skeleton c (custom_role_of c.section.value) others id refl h
 
 module _ (skeleton : Bool) (answers : Answers) (place : Option Kind) (id : ℕ) where
-  place_stops : (n : ℕ) (cs : List CustomEntry) → Stop (parts_at skeleton answers place n cs) id → AnyIsUnknown id cs
+  abbrev own_parts : ℕ → List CustomEntry → List Part
+  own_parts n cs = parts_at skeleton answers place n cs
+
+  place_stops : (n : ℕ) (cs : List CustomEntry) → Stop (own_parts n cs) id → AnyIsAsked id cs (pieces_of (own_parts n cs))
   place_stops n [] h = absurd cc
   place_stops n (c ∷ cs) h = by (same_place c.behind place) (λ rest. place_stops (n + 1) cs rest) refl
     where
       others : List Part
-      others = parts_at skeleton answers place (n + 1) cs
+      others = own_parts (n + 1) cs
 
-      here : (Stop others id → AnyIsUnknown id cs) → (custom_role_of c.section.value ≡ Refused id) ⊎ Stop others id → AnyIsUnknown id (c ∷ cs)
-      here behind (inl e) = inl e
-      here behind (inr rest) = inr (behind rest)
+      here : (Stop others id → AnyIsAsked id cs (pieces_of others)) → (part : Part) → IsAsked id c (pieces_of (part ∷ others)) ⊎ GoesOn part others id →
+          AnyIsAsked id (c ∷ cs) (pieces_of (part ∷ others))
+      here behind part (inl a) = inl a
+      here behind part (inr g) = inr (subst (AnyIsAsked id cs) (sym g.pieces) (asked_behind id cs g.front (pieces_of others) (behind g.stops)))
 
-      by : (t : Bool) → (Stop others id → AnyIsUnknown id cs) → same_place c.behind place ≡ t → AnyIsUnknown id (c ∷ cs)
-      by true behind e = here behind (custom_stops skeleton (answers n) c others id (rw e at h))
-      by false behind e = inr (behind (rw e at h))
+      by : (t : Bool) → (Stop others id → AnyIsAsked id cs (pieces_of others)) → same_place c.behind place ≡ t → AnyIsAsked id (c ∷ cs) (pieces_of (own_parts n (c ∷ cs)))
+      by true behind e = rw e (here behind (custom_part skeleton (answers n) c) (custom_stops skeleton (answers n) c others id (rw e at h)))
+      by false behind e = rw e (inr (behind (rw e at h)))
 
 module _ (o : Options) (answers : Answers) (m : PlacedModule) (id : ℕ) where
-  -- parts that stop there have such a section
-  record IsUnknownIf (parts : List Part) : Type 0 where
-    stops : Stop parts id → AnyIsUnknown id m.customs
+  -- parts that stop there ask last for such a section
+  record IsAskedIf (parts : List Part) : Type 0 where
+    stops : Stop parts id → AnyIsAsked id m.customs (pieces_of parts)
 
-  both_if : {xs ys : List Part} → IsUnknownIf xs → IsUnknownIf ys → IsUnknownIf (xs ++ ys)
-  both_if {xs} {ys} f g = record { stops = λ h. elim (stop_in xs ys id h) [ inl a ↦ f.stops a | inr b ↦ g.stops b ] }
+  joined_if : (l k : Laid) → (l.refused ≡ Some id → AnyIsAsked id m.customs l.pieces) → (k.refused ≡ Some id → AnyIsAsked id m.customs k.pieces) →
+      (laid_behind l.pieces l.refused k).refused ≡ Some id → AnyIsAsked id m.customs (laid_behind l.pieces l.refused k).pieces
+  joined_if l k f g h = by l.refused f h
+    where
+      by : (r : Option ℕ) → (r ≡ Some id → AnyIsAsked id m.customs l.pieces) → (laid_behind l.pieces r k).refused ≡ Some id → AnyIsAsked id m.customs (laid_behind l.pieces r k).pieces
+      by None f h = asked_behind id m.customs l.pieces k.pieces (g h)
+      by (Some i) f h = f h
 
-  customs_if : (place : Option Kind) → IsUnknownIf (parts_at o.skeleton answers place 0 m.customs)
+  both_if : {xs ys : List Part} → IsAskedIf xs → IsAskedIf ys → IsAskedIf (xs ++ ys)
+  both_if {xs} {ys} f g = record {
+    stops = subst (λ (l : Laid). l.refused ≡ Some id → AnyIsAsked id m.customs l.pieces) (sym (joined-append xs ys)) (joined_if (laid_parts xs) (laid_parts ys) f.stops g.stops);
+  }
+
+  customs_if : (place : Option Kind) → IsAskedIf (parts_at o.skeleton answers place 0 m.customs)
   customs_if place = record { stops = λ h. place_stops o.skeleton answers place id 0 m.customs h }
 
-  section_if : (names : Names) (k : Kind) → IsUnknownIf (section_parts o (early_scope o names m) m answers k)
-  section_if names k = record { stops = (customs_if (Some k)).stops }
+  section_if : (names : Names) (k : Kind) → IsAskedIf (section_parts o (early_scope o names m) m answers k)
+  section_if names k = record {
+    stops = λ h. asked_behind id m.customs (section_pieces o (early_scope o names m) m k) (pieces_of (parts_at o.skeleton answers (Some k) 0 m.customs)) ((customs_if (Some k)).stops h);
+  }
 
-  sections_if : (names : Names) (ks : List Kind) → IsUnknownIf (flat_map (section_parts o (early_scope o names m) m answers) ks)
+  sections_if : (names : Names) (ks : List Kind) → IsAskedIf (flat_map (section_parts o (early_scope o names m) m answers) ks)
   sections_if names [] = record { stops = λ h. absurd cc }
   sections_if names (k ∷ ks) = both_if (section_if names k) (sections_if names ks)
 
-  module_if : (names : Names) → IsUnknownIf (module_parts o answers names m)
+  module_if : (names : Names) → IsAskedIf (module_parts o answers names m)
   unfolding module_parts
   module_if names = both_if (customs_if None) (sections_if names section_order)
 
--- it is one of them
+-- ---- it is one of them
+
+forgets : (id : ℕ) (cs : List CustomEntry) (ps : List Piece) → AnyIsAsked id cs ps → AnyIsUnknown id cs
+forgets id [] ps h = absurd h
+forgets id (c ∷ cs) ps (inl a) = inl a.unknown
+forgets id (c ∷ cs) ps (inr h) = inr (forgets id cs ps h)
+
+asked : (o : Options) (answers : Answers) (m : PlacedModule) (id : ℕ) → refusal o answers m ≡ Some id →
+    AnyIsAsked id m.customs (pieces_of (module_parts o answers (module_names o.invents m) m))
+asked o answers m id h = (module_if o answers m id (module_names o.invents m)).stops h
+
 pub refusal_unknown : (o : Options) (answers : Answers) (m : PlacedModule) (id : ℕ) → refusal o answers m ≡ Some id → AnyIsUnknown id m.customs
-refusal_unknown o answers m id h = (module_if o answers m id (module_names o.invents m)).stops h
+refusal_unknown o answers m id h = forgets id m.customs (pieces_of (module_parts o answers (module_names o.invents m) m)) (asked o answers m id h)
+
+pub refused_unknown : {P : Type 0} (m : Meaning P) (old new : P) (id : ℕ) (cs : List CustomEntry) → AnyIsRefused m old new id cs → AnyIsUnknown id cs
+refused_unknown m old new id [] h = absurd h
+refused_unknown m old new id (c ∷ cs) (inl r) = inl r.unknown
+refused_unknown m old new id (c ∷ cs) (inr h) = inr (refused_unknown m old new id cs h)
+
+-- ---- the calls end with its question
+
+module _ {P : Type 0} (meaning : Meaning P) (old new : P) (o : Options) (id : ℕ) where
+  -- of pieces that end so
+  ended : (c : CustomEntry) (front : List Piece) → custom_role_of c.section.value ≡ Refused id →
+      Whole meaning old new (all_calls o (front ++ question c ∷ [])) → IsRefused meaning old new id c
+  ended c front unknown w =
+      let last : List Call = Claim c.section.value.name c.section.value.bytes.place c.section.value.bytes.value false ∷ [] in
+      record {
+        unknown = unknown;
+        calls = w.calls;
+        run = w.run;
+        before = atoms (all_calls o front);
+        asked = w.alike ∙ ap atoms (all_calls-append o front (question c ∷ [])) ∙ atoms-append (all_calls o front) last;
+      }
+
+  -- the pieces in front of those of the sections
+  any_refused : (head : List Piece) (cs : List CustomEntry) (ps : List Piece) → AnyIsAsked id cs ps → Whole meaning old new (all_calls o (head ++ ps)) → AnyIsRefused meaning old new id cs
+  any_refused head [] ps h w = absurd h
+  any_refused head (c ∷ cs) ps (inl a) w =
+      inl (ended c (head ++ a.front) a.unknown
+      (subst (λ (qs : List Piece). Whole meaning old new (all_calls o qs)) (ap (λ (qs : List Piece). head ++ qs) a.ends ∙ sym (append_assoc head a.front (question c ∷ []))) w))
+  any_refused head (c ∷ cs) ps (inr h) w = inr (any_refused head cs ps h w)
+
+  -- a layout that ends at a refusal, whose calls were made
+  pub made_refused : (answers : Answers) (m : PlacedModule) → MadeUpTo meaning old new id o m answers → AnyIsRefused meaning old new id m.customs
+  unfolding layout module_pieces module_pieces_with
+  made_refused answers m h =
+      let names : Names = module_names o.invents m in
+      let laid : Laid = laid_parts (module_parts o answers names m) in
+      let head : List Piece = Begin 0 ∷ (Open (codes "module") ∷ leading_mark_pieces names.module_name) in
+      any_refused head m.customs laid.pieces (asked o answers m id h.ends)
+      (subst (λ (r : Option ℕ). Whole meaning old new (all_calls o (module_pieces_of o names m.size laid.pieces r))) h.ends h.made)

@@ -2,8 +2,8 @@
 use Rattle.std.specs.Prelude.{◌≡◌, ℕ, List, [], ◌∷◌, ◌++◌, Bool, false, None, Result, Ok, Err, IfOk, refl}
 use Rattle.std.specs.List.{AllByRecursion}
 use Rattle.wasmprinter_error.specs.declared.error.Error.{Error}
-use Rattle.std.proofs.Common.{sym, ap, subst, ◌∙◌, append_assoc, append-nil, inl}
-use Rattle.wasmprinter_spec.specs.Call.{Call, IsUnclaimed, atoms, call_text, text_of}
+use Rattle.std.proofs.Common.{sym, ap, subst, ◌∙◌, inl}
+use Rattle.wasmprinter_spec.specs.Call.{Call, IsUnclaimed, atoms, text_of}
 use Rattle.wasmprinter_spec.specs.Meaning.{Meaning, Run}
 use Rattle.wasmprinter_spec.specs.Options.{Options, defaults, IsBlank, in_colours}
 use Rattle.wasmprinter_spec.specs.Plain.{IsPlainText}
@@ -17,16 +17,12 @@ use Rattle.wasmprinter_reading.proofs.Main.{reads_back, prints_plain_text}
 use Rattle.wasmprinter_spec.specs.Read.{read}
 use Rattle.wasmprinter_reading.proofs.Hints.Kept.{hints_stay}
 use Rattle.wasmprinter_spec.specs.Text.Hints.{text_hints}
+use Rattle.wasmprinter_print.specs.TextOnly.{text_only}
+use Rattle.wasmprinter_print.proofs.TextRuns.{takes_none, text_is_gained}
+use Rattle.wasmprinter.specs.Plain.{appends}
 use Rattle.wasmprinter.specs.Printed.{Printed, HasTextBy, HasText, no_claims}
 use Rattle.wasmprinter.proofs.Claims.{IsSame, alike_unclaimed, unclaimed_layout}
 use Rattle.wasmprinter.proofs.Headline.{foldable_in}
-
--- a view that each call extends by its text is extended by the text of a run
-run_text : {P : Type 0} (m : Meaning P) (view : P → List ℕ) → ((s : P) (c : Call) (t : P) → m.after s c t → view t ≡ view s ++ call_text c) →
-    (old new : P) (calls : List Call) → Run m old calls new → view new ≡ view old ++ text_of calls
-run_text m view grows old new [] r = sym (ap view r) ∙ sym (append-nil (view old))
-run_text m view grows old new (c ∷ calls) r =
-    run_text m view grows r.0 new calls r.2 ∙ ap (λ t. t ++ text_of calls) (grows old c r.0 r.1.step) ∙ append_assoc (view old) (call_text c) (text_of calls)
 
 -- a printer that claims nothing has claimed nothing
 pub none_claimed : {P : Type 0} (m : Meaning P) → ((s : P) (c : Call) (t : P) → m.after s c t → IsUnclaimed c) → (old new : P) (calls : List Call) → Run m old calls new →
@@ -72,13 +68,13 @@ module_text o bytes placed spelled within foldable accepted text is =
       hints = λ hs whole blank given. ap text_hints is ∙ hints_stay bytes placed by no_claims hs spelled whole refl blank can_fold accepted given;
     }
 
--- what was printed to a writer that was empty is its text
-pub printed_text : {P : Type 0} (m : Meaning P) (o : Options) (view : P → List ℕ) → ((s : P) (c : Call) (t : P) → m.after s c t → view t ≡ view s ++ call_text c) →
-    ((s : P) (c : Call) (t : P) → m.after s c t → IsUnclaimed c) → (bytes : List ℕ) (old new : P) → view old ≡ [] → Printed m false o bytes old new → HasTextBy o bytes (view new)
-printed_text m o view grows never bytes old new empty v =
-    let handed : view new ≡ text_of v.calls = run_text m view grows old new v.calls v.run ∙ ap (λ t. t ++ text_of v.calls) empty in
-    let own : IsPlainly o v.calls v.placed = plainly_printed m o never bytes old new v in
-    module_text o bytes v.placed v.spelled v.within v.foldable own.accepted (view new)
+-- what was printed to memory that was empty is its text
+pub printed_text : (o : Options) (bytes old new : List ℕ) → old ≡ [] → Printed (text_only appends) false o bytes old new → HasTextBy o bytes new
+printed_text o bytes old new empty v =
+    let handed : new ≡ text_of v.calls =
+    text_is_gained (λ text. text) appends (λ a piece b h. h) old v.calls new v.run ∙ ap (λ t. t ++ text_of v.calls) empty in
+    let own : IsPlainly o v.calls v.placed = plainly_printed (text_only appends) o (takes_none appends) bytes old new v in
+    module_text o bytes v.placed v.spelled v.within v.foldable own.accepted new
     (handed ∙ alike_texts v.calls (layout (in_colours o false) no_claims v.placed) own.alike)
 
 two_blanks : IsBlank defaults.indent

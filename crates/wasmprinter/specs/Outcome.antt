@@ -1,12 +1,12 @@
 -- Why printing is refused, and what a refusal leaves of the printer, with a line for each error.
-use Rattle.std.specs.Prelude.{◌≡◌, ◌<◌, ◌⊎◌, List, [], ◌∷◌, ℕ, Bool, true, length, Some}
+use Rattle.std.specs.Prelude.{◌≡◌, ◌<◌, ◌⊎◌, List, [], ◌∷◌, ◌++◌, ℕ, Bool, true, false, length, Some}
 use Rattle.std.specs.List.{Contains}
 use Rattle.std.specs.declared.io.Error.{Error as IoError}
 use Rattle.wasmprinter_spec.specs.Binary.{Spells, IsComponent}
 use Rattle.wasmprinter_spec.specs.Placed.{CustomEntry, PlacedModule}
 use Rattle.wasmprinter_spec.specs.Customs.{Refused, custom_role_of}
 use Rattle.wasmprinter_spec.specs.Limits.{IsWithinLimits, most_functions}
-use Rattle.wasmprinter_spec.specs.Call.{Call}
+use Rattle.wasmprinter_spec.specs.Call.{Call, Claim, atoms}
 use Rattle.wasmprinter_spec.specs.Meaning.{Meaning, Run, Failed}
 use Rattle.wasmprinter_spec.specs.Options.{Options, Answers, in_colours}
 use Rattle.wasmprinter_spec.specs.Layout.{layout, refusal}
@@ -24,6 +24,20 @@ use Rattle.wasmprinter_wasm.specs.Decoding.{HoldsSome, module_reasons}
 abbrev pub AnyIsUnknown : ℕ → List CustomEntry → Type 0
 AnyIsUnknown id [] = ⊥
 AnyIsUnknown id (c ∷ cs) = (custom_role_of c.section.value ≡ Refused id) ⊎ AnyIsUnknown id cs
+
+-- Printing ended at such a section: all calls succeeded, and the last of them, empty texts aside, asked the printer whether it takes this
+-- section, which it doesn't.
+pub record IsRefused {P : Type 0} (m : Meaning P) (old new : P) (id : ℕ) (c : CustomEntry) : Type 0 where
+  pub unknown : custom_role_of c.section.value ≡ Refused id
+  pub calls : List Call
+  pub run : Run m old calls new
+  pub before : List Call
+  pub asked : atoms calls ≡ before ++ Claim c.section.value.name c.section.value.bytes.place c.section.value.bytes.value false ∷ []
+
+-- it ended so at one of these
+abbrev pub AnyIsRefused : {P : Type 0} → Meaning P → P → P → ℕ → List CustomEntry → Type 0
+AnyIsRefused m old new id [] = ⊥
+AnyIsRefused m old new id (c ∷ cs) = IsRefused m old new id c ⊎ AnyIsRefused m old new id cs
 
 -- The reasons for the errors of printing, beside those for which decoding may be refused: a call on the printer failed with this error; a
 -- `dylink.0` section is refused for a subsection with this id; at this place stands an operator of the older `try`, which can't be folded,
@@ -56,11 +70,11 @@ IsLegacyAt o m place = (o.folds ≡ true) × Contains (legacy_places o m) place
 abbrev pub IsMisplacedAt : Options → PlacedModule → ℕ → Type 0
 IsMisplacedAt o m place = (o.folds ≡ true) × Contains (misplaced_hints o m) place
 
--- those of a module by these options, where this is so of a failed call
-abbrev pub print_reasons : Options → PlacedModule → (IoError → Type 0) → PrintReasons
-print_reasons o m failed = record {
+-- those of a module by these options, where this is so of a failed call, and this of a subsection that isn't known
+abbrev pub print_reasons : Options → PlacedModule → (IoError → Type 0) → (ℕ → Type 0) → PrintReasons
+print_reasons o m failed unknown = record {
   failed = failed;
-  unknown = λ id. AnyIsUnknown id m.customs;
+  unknown = unknown;
   legacy = IsLegacyAt o m;
   hint = IsMisplacedAt o m;
 }
@@ -91,17 +105,18 @@ abbrev pub MayGrow : Options → PlacedModule → Type 0
 MayGrow o m = HoldsSome m ⊎ (o.folds ≡ true)
 
 -- The error is answered for a cause, if bytes spell a module at all: such a one, where growths are refused only for a module that holds
--- something, or where operators are folded; a `dylink.0` section has the subsection that is refused; something can't be folded; or a call
--- on the printer failed with the error that is answered.
+-- something, or where operators are folded; a `dylink.0` section that the printer doesn't take has the subsection that is refused;
+-- something can't be folded; or a call on the printer failed with the error that is answered.
 abbrev pub HasCause : {P : Type 0} → Meaning P → Options → List ℕ → P → P → Error → Type 0
 HasCause m o bytes old new e =
     (placed : PlacedModule) → Spells bytes placed →
-    HasPrintReason (print_reasons o placed (PrinterFailed m old new)) (causes (MayGrow o placed) placed) e
+    HasPrintReason (print_reasons o placed (PrinterFailed m old new) (λ id. AnyIsRefused m old new id placed.customs)) (causes (MayGrow o placed) placed) e
 
--- The same where the text is made in memory: a growth may be refused for any module, and no printer fails.
+-- The same where the text is made in memory: a growth may be refused for any module, no printer fails, and no section is taken.
 abbrev pub HasTextCause : Options → List ℕ → Error → Type 0
 HasTextCause o bytes e =
-    (placed : PlacedModule) → Spells bytes placed → HasPrintReason (print_reasons o placed (λ x. ⊥)) (causes (Unit {0}) placed) e
+    (placed : PlacedModule) → Spells bytes placed →
+    HasPrintReason (print_reasons o placed (λ x. ⊥) (λ id. AnyIsUnknown id placed.customs)) (causes (Unit {0}) placed) e
 
 -- an error as a printer gives it that fails only where it can't grow
 abbrev pub as_growth : Error → Error

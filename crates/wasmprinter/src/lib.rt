@@ -21,6 +21,6 @@ pub use config::Config;
 pub use files::{Source, print_file};
 pub use in_memory::print_bytes;
 pub use places::place_of;
-pub use print::{Print, PrintFmtWrite, PrintIoWrite, PrintTermcolor};
+pub use print::{Print, PrintFmtWrite, PrintIoWrite, PrintTermcolor, PrintText};
 pub use wasmprinter_error::Error;
 pub use wasmprinter_tracker::{LineStart, OffsetsAndLines};

@@ -1,11 +1,10 @@
 //! A printer that keeps its text in memory, without colours.
-ghost use Rattle.std.specs.Prelude.{◌≡◌, false};
-ghost use Rattle.wasmprinter.specs.Plain.{plain_meaning};
+ghost use Rattle.wasmprinter.specs.Plain.{appends};
 
 use std::alloc::{AllocError, Global};
 use std::io;
 use std::marker::Model;
-use wasmprinter_print::Print;
+use wasmprinter_print::PrintText;
 
 /// A printer that keeps its text in memory, without colours.
 ///
@@ -53,10 +52,8 @@ impl Plain {
     }
 }
 
-impl Print for Plain {
-    ghost meaning = { plain_meaning };
-
-    ghost colors = { λ _. false };
+impl PrintText for Plain {
+    ghost writes = { appends };
 
     #[inline]
     fn write_str(&mut self, s: &str) -> io::Result<()> {
@@ -64,65 +61,8 @@ impl Print for Plain {
         Ok(())
     }
 
-    #[inline]
-    fn write_each_char(&mut self, s: &str) -> io::Result<()> {
-        self.write_str(s)
-    }
-
     #[inline(always)]
     fn takes_runs(&self) -> bool {
         true
-    }
-
-    #[inline]
-    fn newline(&mut self) -> io::Result<()> {
-        self.append("\n")?;
-        Ok(())
-    }
-
-    #[inline]
-    fn start_line(&mut self, _binary_offset: Option<u64>) {}
-
-    fn print_custom_section(
-        &mut self,
-        _name: &str,
-        _binary_offset: u64,
-        _bytes: &[u8],
-    ) -> io::Result<bool> {
-        Ok(false)
-    }
-
-    #[inline]
-    fn start_literal(&mut self) -> io::Result<()> {
-        Ok(())
-    }
-
-    #[inline]
-    fn start_name(&mut self) -> io::Result<()> {
-        Ok(())
-    }
-
-    #[inline]
-    fn start_keyword(&mut self) -> io::Result<()> {
-        Ok(())
-    }
-
-    #[inline]
-    fn start_type(&mut self) -> io::Result<()> {
-        Ok(())
-    }
-
-    #[inline]
-    fn start_comment(&mut self) -> io::Result<()> {
-        Ok(())
-    }
-
-    #[inline]
-    fn reset_color(&mut self) -> io::Result<()> {
-        Ok(())
-    }
-
-    fn supports_async_color(&self) -> bool {
-        false
     }
 }

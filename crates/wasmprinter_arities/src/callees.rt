@@ -8,7 +8,7 @@ ghost use Rattle.wasmprinter_spec.specs.Folding.Arities.{types_of, functions_of,
 use std::alloc::{AllocError, Global};
 use std::marker::Model;
 use wasmprinter_types::composite::FuncType;
-use wasmprinter_wasm::{ExternType, Module};
+use wasmprinter_wasm::{ExternType, Fields, Module};
 
 /// The types of what operators of a module name.
 #[derive(Drop)]

@@ -14,7 +14,7 @@ use crate::named::{
     block_gives_in, cast_label_in, count_in, field_count_named, function_named, index_in,
     last_label_in, tag_named, type_named,
 };
-use wasmprinter_ops::opcode::Arity;
+use wasmprinter_ops::opcode::{Arity, Listed};
 use wasmprinter_ops::operator::{Immediates, Operator};
 
 /// What an operator of the arity takes and gives, `None` where nothing is known of what it names.

@@ -17,7 +17,7 @@ use wasmprinter_print::Print;
 use wasmprinter_scope::headers::write_function_header;
 use wasmprinter_scope::scope::{FIELD_NESTING, Scope};
 use wasmprinter_text::signature::Signatures;
-use wasmprinter_wasm::{Body, Function};
+use wasmprinter_wasm::{Body, BodyParts, Function};
 use wasmprinter_words::words::{gap, open_gap, shut, word};
 
 /// How deep the operators of a body are nested.

@@ -4,7 +4,8 @@ ghost use Rattle.wasmprinter_bytes.specs.Reads.{Reads, IsWithin, end_of};
 ghost use Rattle.wasmprinter_bytes.specs.Lists.{Takes, CountsItems, BeginsList, vec_at};
 
 use crate::bytes::Cursor;
-use std::alloc::Global;
+use std::alloc::{AllocError, Global};
+use std::fmt;
 use std::marker::{Model, PhantomData};
 use wasmprinter_error::{Error, Malformed};
 
@@ -124,40 +125,40 @@ impl<'a, T: Spelled> Model for Items<'a, T> {
     ghost invariant = { λ t. HasItems T.parse t.left t.cursor };
 }
 
+/// No values.
+pub fn no_items<'a, T: Spelled>(cursor: &Cursor<'a>) -> Items<'a, T>
+    ensures { result ≡ [] }
+{
+    Items {
+        left: 0,
+        cursor: cursor.fork(),
+        item: PhantomData,
+    }
+}
+
+/// Reads a count and so many values.
+///
+/// # Errors
+///
+/// `Malformed` where the count or a value isn't spelled, with the place of what may not stand there.
+pub fn read_items<'a, T: Spelled>(cursor: &mut Cursor<'a>) -> Result<Items<'a, T>, Malformed>
+    ensures reads { Reads (λ t. t) (vec_at T.parse) cursor.old result cursor.new }
+    ensures within { IsWithin cursor.old result }
+    ensures end { end_of cursor.new ≡ end_of cursor.old }
+{
+    let count = cursor.u32()?;
+    let start = cursor.fork();
+    for _ in 0..count {
+        T::read(cursor)?;
+    }
+    Ok(Items {
+        left: count,
+        cursor: start,
+        item: PhantomData,
+    })
+}
+
 impl<'a, T: Spelled> Items<'a, T> {
-    /// No values.
-    pub fn none(cursor: &Cursor<'a>) -> Self
-        ensures { result ≡ [] }
-    {
-        Items {
-            left: 0,
-            cursor: cursor.fork(),
-            item: PhantomData,
-        }
-    }
-
-    /// Reads a count and so many values.
-    ///
-    /// # Errors
-    ///
-    /// `Malformed` where the count or a value isn't spelled, with the place of what may not stand there.
-    pub fn read(cursor: &mut Cursor<'a>) -> Result<Self, Malformed>
-        ensures reads { Reads (λ t. t) (vec_at T.parse) cursor.old result cursor.new }
-        ensures within { IsWithin cursor.old result }
-        ensures end { end_of cursor.new ≡ end_of cursor.old }
-    {
-        let count = cursor.u32()?;
-        let start = cursor.fork();
-        for _ in 0..count {
-            T::read(cursor)?;
-        }
-        Ok(Items {
-            left: count,
-            cursor: start,
-            item: PhantomData,
-        })
-    }
-
     /// How many values there are.
     pub fn len(&self) -> u32
         ensures { result ≡ length self.now }
@@ -195,5 +196,45 @@ impl<'a, T: Spelled> Iterator for Items<'a, T> {
             Ok(value) => Some(value),
             Err(_) => unreachable!(),
         }
+    }
+}
+
+// A clone is a second view of the same bytes, and takes no memory.
+impl<T: Spelled> Clone for Items<'_, T> {
+    ghost use Rattle.std.specs.Prelude.{◌≡◌, ⊤};
+
+    ghost is_clone = { λ s r. r ≡ s };
+
+    ghost is_infallible = { λ _. ⊤ };
+
+    fn clone(&self) -> Result<Self, AllocError> {
+        Ok(self.iter())
+    }
+}
+
+// Equal where their values are, wherever these stand.
+impl<T: Spelled + PartialEq> PartialEq for Items<'_, T> {
+    ghost use Rattle.std.specs.Cmp.Lexicographic.{pointwise, lists_per};
+
+    ghost eq = { λ x y. pointwise T.eq x y };
+
+    ghost laws = { lists_per T.laws };
+
+    fn eq(&self, other: &Self) -> bool {
+        let mut others = other.iter();
+        for value in self.iter() {
+            match others.next() {
+                Some(other) if value == other => {}
+                _ => return false,
+            }
+        }
+        others.next().is_none()
+    }
+}
+
+// Printed as a list of the values.
+impl<T: Spelled + fmt::Debug> fmt::Debug for Items<'_, T> {
+    fn fmt<W: fmt::Write>(&self, f: &mut fmt::Formatter<W>) -> fmt::Result {
+        f.debug_list().entries(self.iter()).finish()
     }
 }

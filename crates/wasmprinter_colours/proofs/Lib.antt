@@ -4,3 +4,5 @@ pub mod Fields
 pub mod Modules
 pub mod Calls
 pub mod Texts
+pub mod Groups
+pub mod AnyFolding

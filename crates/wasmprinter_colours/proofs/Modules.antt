@@ -15,12 +15,12 @@ use Rattle.wasmprinter_spec.specs.Piece.{Piece}
 use Rattle.wasmprinter_spec.specs.Folding.Arities.{Signatures, signatures_within}
 use Rattle.wasmprinter_spec.specs.Layout.Groups.{group_at, group_gap_at}
 use Rattle.wasmprinter_spec.specs.Layout.Identifiers.{leading_mark_pieces}
-use Rattle.wasmprinter_spec.specs.Layout.Declarations.{Scope, scope_of_function, Folding, folding_of}
+use Rattle.wasmprinter_spec.specs.Layout.Declarations.{Scope, scope_of_function, Folding}
 use Rattle.wasmprinter_spec.specs.Layout.Types.{type_section_pieces}
 use Rattle.wasmprinter_spec.specs.Layout.Functions.{local_pieces, over_lines, result_count, body_pieces, inner_pieces, function_group, function_pieces, functions_pieces}
 use Rattle.wasmprinter_spec.specs.Layout.Imports.{no_numbers}
 use Rattle.wasmprinter_spec.specs.Layout.Customs.{Part, Shown, Stops, parts_at, Laid, laid_parts}
-use Rattle.wasmprinter_spec.specs.Layout.{early_scope, section_pieces, section_order, section_parts, module_parts, module_pieces_of, module_pieces_with, module_pieces}
+use Rattle.wasmprinter_spec.specs.Layout.{scope_before, early_scope, section_pieces, section_order, section_parts, module_parts, module_pieces_of, module_pieces_with, module_pieces, parts_by, pieces_by, refusal}
 use Rattle.wasmprinter_colours.proofs.Painted.{Painted, none, same, same_all, both, behind, closed, in_line_group_gap, numbered_so}
 use Rattle.wasmprinter_colours.proofs.Nodes.{Bared, flat, folded, body_so}
 use Rattle.wasmprinter_colours.proofs.Fields.{in_way, table_so, global_so, element_so, data_so, imports_same, memory_same, header_same, tag_same, export_same, start_same}
@@ -130,13 +130,12 @@ folding_bared : (folds paints : Bool) (signatures : Option ℕ → Signatures) �
 folding_bared true paints signatures = folded
 folding_bared false paints signatures = flat
 
-module_parts_so : (o : Options) (answers : Answers) (names : Names) (m : PlacedModule) →
-    PaintedParts (module_parts o answers names m) (module_parts (unpainted o) answers names m)
-unfolding module_parts
-module_parts_so o answers names m =
-    let d : Bared (folding_of o m) (folding_of (unpainted o) m) = folding_bared o.folds o.paints (signatures_within m) in
+parts_so : {x y : Option Folding} → Bared x y → (o : Options) (answers : Answers) (names : Names) (m : PlacedModule) →
+    PaintedParts (parts_by x o answers names m) (parts_by y (unpainted o) answers names m)
+unfolding parts_by
+parts_so {x} {y} d o answers names m =
     same_parts (parts_at o.skeleton answers None 0 m.customs)
-    and_then sections_so o answers m (folding_of o m) (folding_of (unpainted o) m) d (early_scope o names m) section_order
+    and_then sections_so o answers m x y d (scope_before x names m) section_order
 
 -- ---- the module
 
@@ -147,15 +146,25 @@ pieces_of_so o names size None h =
     same (same (both (closed (Some size) 0 (λ b. o.offsets || b) (behind (leading_mark_pieces names.module_name) h)) (same none)))
 pieces_of_so o names size (Some id) h = same (same (behind (leading_mark_pieces names.module_name) h))
 
--- The pieces of a module with colours in their text are those without, but for the sequences of some styles.
-pub module_so : (o : Options) (answers : Answers) (m : PlacedModule) →
-    Painted (module_pieces o answers m) (module_pieces (unpainted o) answers m)
-unfolding module_pieces module_pieces_with
-module_so o answers m =
-    let names : Names = module_names o.invents m in
-    let a : Laid = laid_parts (module_parts o answers names m) in
-    let b : Laid = laid_parts (module_parts (unpainted o) answers names m) in
-    let h : Painted a.pieces b.pieces × (a.refused ≡ b.refused) = laid_so (module_parts_so o answers names m) in
+-- However operators are folded, the pieces of a module with colours in their text are those without, but for the sequences of some styles.
+pub pieces_so : {x y : Option Folding} → Bared x y → (o : Options) (answers : Answers) (names : Names) (m : PlacedModule) →
+    Painted (pieces_by x o answers names m) (pieces_by y (unpainted o) answers names m)
+unfolding pieces_by
+pieces_so {x} {y} d o answers names m =
+    let a : Laid = laid_parts (parts_by x o answers names m) in
+    let b : Laid = laid_parts (parts_by y (unpainted o) answers names m) in
+    let h : Painted a.pieces b.pieces × (a.refused ≡ b.refused) = laid_so (parts_so d o answers names m) in
     let coloured : List Piece = module_pieces_of o names m.size a.pieces a.refused in
     subst (λ (r : Option ℕ). Painted coloured (module_pieces_of (unpainted o) names m.size b.pieces r)) h.1
     (pieces_of_so o names m.size a.refused h.0)
+
+-- where they are folded as the options say
+pub module_so : (o : Options) (answers : Answers) (m : PlacedModule) →
+    Painted (module_pieces o answers m) (module_pieces (unpainted o) answers m)
+unfolding module_pieces module_pieces_with module_parts pieces_by
+module_so o answers m = pieces_so (folding_bared o.folds o.paints (signatures_within m)) o answers (module_names o.invents m) m
+
+-- A section is refused with colours where it is without.
+pub refusal_so : (o : Options) (answers : Answers) (m : PlacedModule) → refusal o answers m ≡ refusal (unpainted o) answers m
+unfolding module_parts
+refusal_so o answers m = (laid_so (parts_so (folding_bared o.folds o.paints (signatures_within m)) o answers (module_names o.invents m) m)).1

@@ -31,7 +31,7 @@ with_colours o form first nesting (Snoc before head results held) =
     (both (behind (comment_end (is_nil held) (head_text o head) place nesting) (with_colours o form false (nesting + 1) held)) (same_all (Shut ∷ []))))
 
 -- with colours or not
-nodes_so : (o : Options) (paints : Bool) (form : Form) (first : Bool) (nesting : ℕ) (f : Nodes) →
+pub nodes_so : (o : Options) (paints : Bool) (form : Form) (first : Bool) (nesting : ℕ) (f : Nodes) →
     Painted (node_pieces o paints form first nesting f) (node_pieces o false form first nesting f)
 nodes_so o true form first nesting f = with_colours o form first nesting f
 nodes_so o false form first nesting f = same_all (node_pieces o false form first nesting f)

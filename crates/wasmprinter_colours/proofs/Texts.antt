@@ -11,7 +11,7 @@ use Rattle.wasmprinter_spec.specs.Layout.Folded.{painted_text}
 use Rattle.wasmprinter_spec.specs.Layout.{module_pieces, layout}
 use Rattle.wasmprinter_spec.specs.Laws.{PrintsPlainText, PaintsAddColours, ColoursStandInTexts, ColouredTextKeeps}
 use Rattle.wasmprinter_colours.specs.PlainLaws.{PaintsAddColoursTo, ColouredTextKeepsTo}
-use Rattle.wasmprinter_colours.proofs.Painted.{uncoloured}
+use Rattle.wasmprinter_colours.proofs.Painted.{Painted, uncoloured}
 use Rattle.wasmprinter_colours.proofs.Calls.{bare_painted}
 use Rattle.wasmprinter_colours.proofs.Modules.{unpainted, module_so}
 
@@ -58,20 +58,22 @@ same_all_calls o [] = refl
 same_all_calls o (p ∷ ps) = ap₂ (λ (a b : List Call). a ++ b) (same_calls o p) (same_all_calls o ps)
 
 -- with the sequences of every style, or those in the text alone
-text_so : (b : Bool) (m : PlacedModule) (o : Options) (answers : Answers) → IsPlainText (text_of (layout (unpainted o) answers m)) →
+pub text_so : (b : Bool) (o : Options) (ps qs : List Piece) → Painted ps qs → IsPlainText (text_of (all_calls (unpainted o) qs)) →
+    uncolour (painted_text b (all_calls o ps)) ≡ text_of (all_calls (unpainted o) qs)
+text_so b o ps qs h plain =
+    let e : text_of (all_calls o qs) ≡ text_of (all_calls (unpainted o) qs) = ap text_of (same_all_calls o qs) in
+    uncoloured b o ps qs h (subst IsPlainText (sym e) plain) ∙ e
+
+pub layout_so : (b : Bool) (m : PlacedModule) (o : Options) (answers : Answers) → IsPlainText (text_of (layout (unpainted o) answers m)) →
     uncolour (painted_text b (layout o answers m)) ≡ text_of (layout (unpainted o) answers m)
 unfolding layout
-text_so b m o answers plain =
-    let ps : List Piece = module_pieces o answers m in
-    let qs : List Piece = module_pieces (unpainted o) answers m in
-    let e : text_of (all_calls o qs) ≡ text_of (all_calls (unpainted o) qs) = ap text_of (same_all_calls o qs) in
-    uncoloured b o ps qs (module_so o answers m) (subst IsPlainText (sym e) plain) ∙ e
+layout_so b m o answers plain = text_so b o (module_pieces o answers m) (module_pieces (unpainted o) answers m) (module_so o answers m) plain
 
 pub paints_add_colours_to : PaintsAddColoursTo
-paints_add_colours_to m o answers plain = text_so false m o answers plain
+paints_add_colours_to m o answers plain = layout_so false m o answers plain
 
 pub coloured_text_keeps_to : ColouredTextKeepsTo
-coloured_text_keeps_to m o answers plain = text_so true m o answers plain
+coloured_text_keeps_to m o answers plain = layout_so true m o answers plain
 
 -- at every module that bytes spell, since its text is plain
 pub paints_add_colours : PrintsPlainText → PaintsAddColours

@@ -9,7 +9,7 @@ ghost use Rattle.wasmprinter_bytes.specs.Reads.{Reads, IsWithin, end_of};
 use crate::items::{ItemsIn, ReadFrom};
 use std::marker::Model;
 use wasmprinter_bytes::bytes::Cursor;
-use wasmprinter_bytes::lists::{Items, Spelled};
+use wasmprinter_bytes::lists::{Items, Spelled, no_items, read_items};
 use wasmprinter_error::Malformed;
 
 /// The name of sections of branch hints. Of several the last counts.
@@ -130,7 +130,7 @@ impl<'a> FunctionHints<'a> {
         ensures { result ≡ [] }
     {
         FunctionHints {
-            hints: Items::none(&Cursor::new(0, &[])),
+            hints: no_items(&Cursor::new(0, &[])),
         }
     }
 
@@ -173,7 +173,7 @@ impl<'a> ReadFrom for Entry<'a> {
     fn read(cursor: &mut Cursor<'a>) -> Result<Entry<'a>, Malformed> {
         let place = cursor.place();
         let function = cursor.u32()?;
-        let hints = Items::read(cursor)?;
+        let hints = read_items(cursor)?;
         if hints.len() > MOST_HINTS {
             return Err(Malformed { place });
         }

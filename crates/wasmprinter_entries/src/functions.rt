@@ -7,7 +7,7 @@ ghost use Rattle.wasmprinter_entries.specs.Contents.{TakesIndices, TakesHeld};
 use crate::expected::expect_end;
 use std::alloc::Global;
 use wasmprinter_bytes::bytes::Cursor;
-use wasmprinter_bytes::lists::Items;
+use wasmprinter_bytes::lists::read_items;
 use wasmprinter_error::Error;
 
 /// The most functions that a module may define.
@@ -18,7 +18,7 @@ fn read_type_indices(alloc: Global, cursor: &mut Cursor) -> Result<Vec<u32>, Err
     ensures reads { TakesIndices (λ v. v.items) cursor.old result cursor.new }
     ensures end { end_of cursor.new ≡ end_of cursor.old }
 {
-    let indices = Items::<u32>::read(cursor)?;
+    let indices = read_items::<u32>(cursor)?;
     let count = indices.len();
     if count > MOST_FUNCTIONS {
         return Err(Error::TooManyFunctions { count });

@@ -8,7 +8,7 @@ use crate::flags::has_bit;
 use crate::limits::{Limits, MAX_BIT, WIDE_BIT};
 use wasmprinter_bytes::bytes::Cursor;
 use wasmprinter_error::Malformed;
-use wasmprinter_types::RefType;
+use wasmprinter_types::{RefType, read_ref_type};
 
 /// Flags of a least size alone, with indices of 32 bits.
 const MIN: u32 = 0x00;
@@ -44,7 +44,7 @@ impl TableType {
         ensures within { IsWithin cursor.old result }
         ensures end { end_of cursor.new ≡ end_of cursor.old }
     {
-        let element = RefType::read(cursor)?;
+        let element = read_ref_type(cursor)?;
         let place = cursor.place();
         let flags = u32::from(cursor.u8()?);
         match flags {

@@ -24,7 +24,7 @@ use wasmprinter_labels::OpenLabels;
 use wasmprinter_lines::lines::{break_inside, put_break_inside};
 use wasmprinter_lines::options::PrintOptions;
 use wasmprinter_ops::expression::Expression;
-use wasmprinter_ops::opcode::Role;
+use wasmprinter_ops::opcode::{Listed, Role};
 use wasmprinter_ops::operator::Operator;
 use wasmprinter_print::{Fault, Print};
 use wasmprinter_text::signature::Signatures;

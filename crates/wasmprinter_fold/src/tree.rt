@@ -24,7 +24,7 @@ use wasmprinter_labels::OpenLabels;
 use wasmprinter_node_text::texts::Texts;
 use wasmprinter_nodes::Builder;
 use wasmprinter_ops::expression::Expression;
-use wasmprinter_ops::opcode::Role;
+use wasmprinter_ops::opcode::{Listed, Role};
 use wasmprinter_ops::operator::Operator;
 use wasmprinter_text::signature::Signatures;
 

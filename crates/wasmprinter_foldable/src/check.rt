@@ -10,7 +10,7 @@ use crate::hints::check_hints;
 use crate::lists::{check_bodies, check_each};
 use wasmprinter_error::Error;
 use wasmprinter_lines::options::PrintOptions;
-use wasmprinter_wasm::Module;
+use wasmprinter_wasm::{Fields, Module};
 
 /// Refuses the first operator of the older `try` in constant expressions.
 #[tactic(auto, using(crate::proofs::Steps::constants_parts, crate::proofs::Steps::front_refused, crate::proofs::Steps::front_passed))]

@@ -10,8 +10,8 @@ ghost use Rattle.wasmprinter_foldable.specs.Refused.{error_of_first};
 
 use wasmprinter_customs::{FunctionHints, Hint, Hints, is_hint_section};
 use wasmprinter_error::Error;
-use wasmprinter_ops::opcode::Role;
-use wasmprinter_wasm::{Body, CustomEntry, ExternKind, Module};
+use wasmprinter_ops::opcode::{Listed, Role};
+use wasmprinter_wasm::{Body, CustomEntry, ExternKind, Fields, Module};
 
 /// The branch hints that custom sections give: those of the last section that has some.
 pub fn hints_of<'a>(customs: &[CustomEntry<'a>]) -> Hints<'a>

@@ -6,6 +6,7 @@ ghost use Rattle.wasmprinter_foldable.specs.Refused.{error_of_first};
 
 use wasmprinter_error::Error;
 use wasmprinter_ops::expression::Expression;
+use wasmprinter_ops::opcode::Listed;
 
 /// Refuses the first operator of the older `try`: `FoldLegacy` with its place.
 #[tactic(auto, using(crate::proofs::Steps::legacy_none))]

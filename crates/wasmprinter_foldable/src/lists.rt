@@ -9,7 +9,9 @@ ghost use Rattle.wasmprinter_foldable.specs.Refused.{error_of_first};
 use crate::legacy::check_expression;
 use wasmprinter_error::Error;
 use wasmprinter_ops::expression::Expression;
-use wasmprinter_wasm::{Data, DataMode, Element, ElementItems, ElementMode, Global, Module, Table};
+use wasmprinter_wasm::{
+    BodyParts, Data, DataMode, Element, ElementItems, ElementMode, Fields, Global, Module, Table,
+};
 
 /// What holds lists of operators.
 pub(crate) trait Holder {

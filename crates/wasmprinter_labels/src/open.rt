@@ -15,7 +15,7 @@ use crate::blocks::{NameAt, NamedBlocks};
 use crate::numbers::{NumberedLabel, numbered_labels};
 use std::alloc::{AllocError, Global};
 use std::marker::Model;
-use wasmprinter_names::{Identifier, Identifiers, Space};
+use wasmprinter_names::{Identifier, Identifiers, NameEntries, Space};
 use wasmprinter_ops::opcode::Role;
 
 /// What a label means to a printer.

@@ -7,7 +7,7 @@ ghost use Rattle.wasmprinter_names.specs.Views.{name_at};
 ghost use Rattle.wasmprinter_names.specs.Shown.{identifier_view, invented_view};
 
 use crate::space::Space;
-use crate::store::{Name, Names};
+use crate::store::{Name, NameEntries, Names};
 
 /// The identifier of an item.
 #[derive(Clone, Copy, Debug, PartialEq, Eq)]

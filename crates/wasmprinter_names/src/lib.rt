@@ -15,4 +15,4 @@ mod subsection;
 pub use identifiers::{Identifier, Identifiers};
 pub use read::read_names;
 pub use space::Space;
-pub use store::{LabelName, Name, Names, NamesBuilder};
+pub use store::{LabelName, Name, NameEntries, Names, NamesBuilder};

@@ -232,9 +232,42 @@ impl Names<'_> {
         find(&self.entries, likely, place).map(|stored| stored.name())
     }
 
+    /// What stands behind the dollar sign for an item, `None` where no name is given for it. `outer` is the function of a local or a label
+    /// and the type of a field, and else ignored.
+    pub fn identifier(&self, space: Space, outer: u32, index: u32) -> Option<&str>
+        ensures { option_copied result ≡ option_map (λ n. n.content) (name_at self.now (id_of space) (outer_of space outer) index) }
+    {
+        self.name(space, u64::from(outer), u64::from(index))
+            .map(|name| name.content)
+    }
+
+    /// What stands behind the dollar sign for the module.
+    pub fn module(&self) -> Option<&str>
+        ensures { option_copied result ≡ option_map (λ n. n.content) (name_at self.now module_subsection 0 0) }
+    {
+        self.module_name().map(|name| name.content)
+    }
+}
+
+/// The names of a module as they were given, each with the identifier that the text has for it.
+pub trait NameEntries {
     /// The name of an item, `None` where none is given. `outer` is the function of a local or a label and the type of a field, and else
     /// ignored.
-    pub fn name(&self, space: Space, outer: u64, index: u64) -> Option<Name<'_>>
+    fn name(&self, space: Space, outer: u64, index: u64) -> Option<Name<'_>>;
+
+    /// The labels that have names, by function and number.
+    ///
+    /// # Errors
+    ///
+    /// Where memory is refused. None is asked for if no label has a name.
+    fn labels(&self, alloc: Global) -> Result<Vec<LabelName<'_>>, AllocError>;
+
+    /// The name of the module.
+    fn module_name(&self) -> Option<Name<'_>>;
+}
+
+impl NameEntries for Names<'_> {
+    fn name(&self, space: Space, outer: u64, index: u64) -> Option<Name<'_>>
         ensures { option_map name_view result ≡ name_at self.now (id_of space) (outer_of space outer) index }
     {
         self.get(Place {
@@ -244,20 +277,7 @@ impl Names<'_> {
         })
     }
 
-    /// What stands behind the dollar sign for an item, `None` where no name is given for it. `outer` is as for [`Names::name`].
-    pub fn identifier(&self, space: Space, outer: u32, index: u32) -> Option<&str>
-        ensures { option_copied result ≡ option_map (λ n. n.content) (name_at self.now (id_of space) (outer_of space outer) index) }
-    {
-        self.name(space, u64::from(outer), u64::from(index))
-            .map(|name| name.content)
-    }
-
-    /// The labels that have names, by function and number.
-    ///
-    /// # Errors
-    ///
-    /// Where memory is refused. None is asked for if no label has a name.
-    pub fn labels(&self, alloc: Global) -> Result<Vec<LabelName<'_>>, AllocError>
+    fn labels(&self, alloc: Global) -> Result<Vec<LabelName<'_>>, AllocError>
         ensures all { IfOk result (λ labels. map label_view labels.items ≡ labels_in self.now) }
         ensures ascend { Ascend (labels_in self.now) }
         ensures of_labels { AreOfLabels self.now }
@@ -276,8 +296,7 @@ impl Names<'_> {
         Ok(labels)
     }
 
-    /// The name of the module.
-    pub fn module_name(&self) -> Option<Name<'_>>
+    fn module_name(&self) -> Option<Name<'_>>
         ensures { option_map name_view result ≡ name_at self.now module_subsection 0 0 }
     {
         self.get(Place {
@@ -285,12 +304,5 @@ impl Names<'_> {
             outer: 0,
             index: 0,
         })
-    }
-
-    /// What stands behind the dollar sign for the module.
-    pub fn module(&self) -> Option<&str>
-        ensures { option_copied result ≡ option_map (λ n. n.content) (name_at self.now module_subsection 0 0) }
-    {
-        self.module_name().map(|name| name.content)
     }
 }

@@ -6,3 +6,4 @@ pub mod Skipping
 pub mod Walking
 pub mod BlockTypes
 pub mod Pairs
+pub mod MadeAgain

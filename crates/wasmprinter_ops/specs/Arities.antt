@@ -1,8 +1,6 @@
 -- How many operands operators take and how many results they give: the program's arities, and those of the table of operators.
 use Rattle.std.specs.Prelude.{Option, Some, None}
-use Rattle.wasmprinter_spec.specs.Operator.{Opcode}
-use Rattle.wasmprinter_spec.specs.Row.{Row, Arity, Fixed, OfCall, OfReturnCall, OfIndirectCall, OfReturnIndirectCall, OfThrow, OfReturn, OfBranch, OfBranchIf, OfBranchTable, OfBranchOnNull, OfBranchOnNonNull, OfBranchOnCast, OfBlock, OfStruct, OfCount}
-use Rattle.wasmprinter_spec.specs.Table.{by_opcode}
+use Rattle.wasmprinter_spec.specs.Row.{Arity, Fixed, OfCall, OfReturnCall, OfIndirectCall, OfReturnIndirectCall, OfThrow, OfReturn, OfBranch, OfBranchIf, OfBranchTable, OfBranchOnNull, OfBranchOnNonNull, OfBranchOnCast, OfBlock, OfStruct, OfCount}
 use Rattle.wasmprinter_ops.specs.declared.opcode.Arity.{Arity as ProgramArity}
 use Rattle.wasmprinter_ops.specs.declared.opcode.Arity.TheVariants as arities
 
@@ -29,11 +27,3 @@ arity_view arities.OfCount = OfCount
 abbrev pub optional_arity_view : Option ProgramArity → Option Arity
 optional_arity_view None = None
 optional_arity_view (Some a) = Some (arity_view a)
-
-abbrev pub arity_of_row : Option Row → Option Arity
-arity_of_row None = None
-arity_of_row (Some r) = Some r.arity
-
--- the arity of an opcode, if it is listed
-abbrev pub arity_of : Opcode → Option Arity
-arity_of o = arity_of_row (by_opcode o)

@@ -1,5 +1,5 @@
 -- Immediates as the definitions see them, and the shapes that they have.
-use Rattle.std.specs.Prelude.{IsTrue, MatchOption}
+use Rattle.std.specs.Prelude.{◌<◌, IsTrue, MatchOption}
 use Rattle.wasmprinter_spec.specs.Operator.{Opcode, NoImmediates, Block, TryTable, Index, Indices, BranchTable, Types, Heap, Cast, Memory, MemoryLane, Lane, I32, I64, F32, F64, Bytes}
 use Rattle.wasmprinter_spec.specs.Operator.{Immediates as ImmediatesValue}
 use Rattle.wasmprinter_spec.specs.Row.{Shape}
@@ -38,3 +38,8 @@ HasShape s i = IsTrue (has_shape s i)
 -- the table lists the opcode with immediates of this shape
 abbrev pub IsListedAs : Opcode → ImmediatesValue → Type 0
 IsListedAs o i = MatchOption (by_opcode o) ⊥ (λ r. HasShape r.shape i)
+
+-- a cast has flags of two bits (section 5.4, "Reference Instructions")
+abbrev pub HasCastFlags : Immediates → Type 0
+HasCastFlags (i.Cast flags l s t) = flags < 4
+HasCastFlags _ = Unit {0}

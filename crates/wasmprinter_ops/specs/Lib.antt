@@ -7,3 +7,4 @@ pub mod Operands
 pub mod Immediates
 pub mod Nesting
 pub mod Operators
+pub mod Made

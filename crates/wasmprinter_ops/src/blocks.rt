@@ -6,9 +6,9 @@ ghost use Rattle.wasmprinter_bytes.specs.Reads.{Reads, IsWithin, end_of};
 ghost use Rattle.wasmprinter_ops.specs.Blocks.{block_type_view, catch_at, catches_view};
 
 use wasmprinter_bytes::bytes::Cursor;
-use wasmprinter_bytes::lists::{Items, Spelled};
+use wasmprinter_bytes::lists::{Items, Spelled, read_items};
 use wasmprinter_error::Malformed;
-use wasmprinter_types::{HeapType, ValType, read_type};
+use wasmprinter_types::{ValType, begins_type, read_type, read_type_index};
 
 /// The byte that is the type of a block without parameters and results.
 const EMPTY: u8 = 0x40;
@@ -71,7 +71,7 @@ pub(crate) fn read_catches<'a>(cursor: &mut Cursor<'a>) -> Result<Catches<'a>, M
     ensures within { IsWithin cursor.old result }
     ensures end { end_of cursor.new ≡ end_of cursor.old }
 {
-    Catches::read(cursor)
+    read_items(cursor)
 }
 
 /// Reads the type of a block: the byte 40, a value type, or a type index.
@@ -87,9 +87,9 @@ pub(crate) fn read_block_type(cursor: &mut Cursor) -> Result<BlockType, Malforme
     if first == EMPTY {
         cursor.u8()?;
         Ok(BlockType::Empty)
-    } else if ValType::begins(first) {
+    } else if begins_type(first) {
         Ok(BlockType::Value(read_type(cursor)?))
     } else {
-        Ok(BlockType::Func(HeapType::read_index(cursor)?))
+        Ok(BlockType::Func(read_type_index(cursor)?))
     }
 }

@@ -1,19 +1,16 @@
 //! Opcodes, and what the table of operators says of them.
 ghost use Rattle.std.specs.Prelude.{◌≡◌, map};
 ghost use Rattle.wasmprinter_spec.specs.Operator.{opcode};
-ghost use Rattle.wasmprinter_spec.specs.Table.{word_of, role_of, shape_of};
+ghost use Rattle.wasmprinter_spec.specs.Table.{word_of, role_of, shape_of, arity_of};
 ghost use Rattle.wasmprinter_spec.specs.Folding.Code.{is_try};
-ghost use Rattle.wasmprinter_spec.specs.Instructions.{is_prefix as is_prefix_byte, opcode_grammar};
-ghost use Rattle.wasmprinter_bytes.specs.Reads.{Reads, IsWithin, end_of};
-ghost use Rattle.wasmprinter_ops.specs.Arities.{optional_arity_view, arity_of};
+ghost use Rattle.wasmprinter_spec.specs.Instructions.{is_prefix as is_prefix_byte};
+ghost use Rattle.wasmprinter_ops.specs.Arities.{optional_arity_view};
 ghost use Rattle.wasmprinter_ops.specs.ByNumber.{entry_of, each_entry, each_role};
 ghost use Rattle.wasmprinter_ops.specs.Shapes.{optional_shape_view, entry_view, role_view};
 
 use crate::tables;
 use crate::tables::Entry;
 use std::marker::Model;
-use wasmprinter_bytes::bytes::Cursor;
-use wasmprinter_error::Malformed;
 
 /// The prefix of operators on structures, arrays and references.
 const GC: u8 = 0xfb;
@@ -292,25 +289,6 @@ impl Opcode {
         Opcode { prefix, number }
     }
 
-    /// Reads a byte, and behind a prefix a number.
-    ///
-    /// # Errors
-    ///
-    /// `Malformed` where no byte is left, or no number stands behind a prefix. An opcode need not be listed.
-    pub fn read(cursor: &mut Cursor) -> Result<Self, Malformed>
-        ensures reads { Reads (λ o. o) opcode_grammar.parse cursor.old result cursor.new }
-        ensures within { IsWithin cursor.old result }
-        ensures end { end_of cursor.new ≡ end_of cursor.old }
-    {
-        let byte = cursor.u8()?;
-        if is_prefix(byte) {
-            let number = cursor.u32()?;
-            Ok(Opcode::behind(byte, number))
-        } else {
-            Ok(Opcode::of_byte(byte))
-        }
-    }
-
     /// The word, the shape and the arity, `None` for an opcode that isn't listed.
     fn entry(&self) -> Option<Entry>
         ensures { entry_view result ≡ entry_of self.now }
@@ -330,9 +308,22 @@ impl Opcode {
             None => "",
         }
     }
+}
 
+/// What the table of operators says of an opcode, its word aside.
+pub trait Listed {
     /// The shape of the immediates, `None` for an opcode that isn't listed.
-    pub fn shape(&self) -> Option<Shape>
+    fn shape(&self) -> Option<Shape>;
+
+    /// How many operands the operator takes and how many results it gives, `None` for an opcode that isn't listed.
+    fn arity(&self) -> Option<Arity>;
+
+    /// How the operator stands to the blocks around it, `Plain` for an opcode that isn't listed.
+    fn role(&self) -> Role;
+}
+
+impl Listed for Opcode {
+    fn shape(&self) -> Option<Shape>
         ensures { optional_shape_view result ≡ shape_of self.now }
     {
         match self.entry() {
@@ -341,8 +332,7 @@ impl Opcode {
         }
     }
 
-    /// How many operands the operator takes and how many results it gives, `None` for an opcode that isn't listed.
-    pub fn arity(&self) -> Option<Arity>
+    fn arity(&self) -> Option<Arity>
         ensures { optional_arity_view result ≡ arity_of self.now }
     {
         match self.entry() {
@@ -351,8 +341,7 @@ impl Opcode {
         }
     }
 
-    /// How the operator stands to the blocks around it, `Plain` for an opcode that isn't listed.
-    pub fn role(&self) -> Role
+    fn role(&self) -> Role
         ensures { role_view result ≡ role_of self.now }
     {
         match roles_of(self.prefix).get(self.number as usize) {

@@ -4,20 +4,22 @@ ghost use Rattle.wasmprinter_spec.specs.Grammar.{value_with_place};
 ghost use Rattle.wasmprinter_spec.specs.Row.{FenceShape, TryTableShape, FieldShape, BranchTableShape, CastShape, MemoryLaneShape};
 ghost use Rattle.wasmprinter_spec.specs.Instructions.{operator, immediates as immediates_grammar, indices, cast};
 ghost use Rattle.wasmprinter_bytes.specs.Reads.{Reads, IsWithin, end_of};
-ghost use Rattle.wasmprinter_ops.specs.Immediates.{immediates_view, HasShape};
+ghost use Rattle.wasmprinter_ops.specs.Immediates.{immediates_view, HasShape, HasCastFlags};
 ghost use Rattle.wasmprinter_ops.specs.Operators.{placed_view, BehindOpcode, Passes, PassesOperator};
 ghost use Rattle.wasmprinter_ops.specs.Shapes.{shape_view};
 
 use crate::blocks::{BlockType, Catches, Targets, read_block_type, read_catches};
-use crate::opcode::{Opcode, Role, Shape, is_prefix};
+use crate::opcode::{Listed, Opcode, Role, Shape, is_prefix};
 use crate::operands::{MOST_FLAGS, MemArg, read_bytes, read_f32_bits, read_f64_bits};
+use std::alloc::AllocError;
 use std::marker::Model;
 use wasmprinter_bytes::bytes::Cursor;
+use wasmprinter_bytes::lists::read_items;
 use wasmprinter_error::Malformed;
-use wasmprinter_types::{HeapType, ValTypes, read_types};
+use wasmprinter_types::{HeapType, ValTypes, read_heap_type, read_types};
 
 /// What stands behind an opcode, in the order of the bytes (section 5.4).
-#[derive(Drop)]
+#[derive(Debug, PartialEq, Drop)]
 pub enum Immediates<'a> {
     /// Nothing, or a byte 00 that says nothing.
     None,
@@ -57,7 +59,7 @@ pub enum Immediates<'a> {
 }
 
 /// An opcode of the table with immediates of the shape that the table gives it.
-#[derive(Drop)]
+#[derive(Clone, Debug, Drop)]
 pub struct Operator<'a> {
     /// Which operator it is.
     pub opcode: Opcode,
@@ -67,13 +69,69 @@ pub struct Operator<'a> {
 
 impl<'a> Model for Operator<'a> {
     ghost use Rattle.wasmprinter_spec.specs.Operator.{Operator as OperatorValue};
-    ghost use Rattle.wasmprinter_ops.specs.Immediates.{immediates_view, IsListedAs};
+    ghost use Rattle.wasmprinter_ops.specs.Immediates.{immediates_view, IsListedAs, HasCastFlags};
 
     ghost Value = { OperatorValue };
 
     ghost view = { λ o. record { opcode = o.opcode; immediates = immediates_view o.immediates } };
 
-    ghost invariant = { λ o. IsListedAs o.opcode (immediates_view o.immediates) };
+    ghost invariant = { λ o. IsListedAs o.opcode (immediates_view o.immediates) × HasCastFlags o.immediates };
+}
+
+// The lists of a clone are second views of the same bytes, so it takes no memory.
+impl Clone for Immediates<'_> {
+    ghost use Rattle.std.specs.Prelude.{⊤};
+
+    ghost is_clone = { λ s r. r ≡ s };
+
+    ghost is_infallible = { λ _. ⊤ };
+
+    fn clone(&self) -> Result<Self, AllocError> {
+        Ok(match self {
+            Immediates::None => Immediates::None,
+            Immediates::Block(block_type) => Immediates::Block(*block_type),
+            Immediates::TryTable(block_type, catches) => {
+                Immediates::TryTable(*block_type, catches.iter())
+            }
+            Immediates::Index(index) => Immediates::Index(*index),
+            Immediates::Indices(first, second) => Immediates::Indices(*first, *second),
+            Immediates::BrTable(targets, otherwise) => {
+                Immediates::BrTable(targets.iter(), *otherwise)
+            }
+            Immediates::Types(types) => Immediates::Types(types.iter()),
+            Immediates::Heap(heap) => Immediates::Heap(*heap),
+            Immediates::Cast(flags, label, source, target) => {
+                Immediates::Cast(*flags, *label, *source, *target)
+            }
+            Immediates::Memory(operand) => Immediates::Memory(*operand),
+            Immediates::MemoryLane(operand, lane) => Immediates::MemoryLane(*operand, *lane),
+            Immediates::Lane(lane) => Immediates::Lane(*lane),
+            Immediates::I32(number) => Immediates::I32(*number),
+            Immediates::I64(number) => Immediates::I64(*number),
+            Immediates::F32(bits) => Immediates::F32(*bits),
+            Immediates::F64(bits) => Immediates::F64(*bits),
+            Immediates::Bytes(bytes) => Immediates::Bytes(*bytes),
+        })
+    }
+}
+
+// Equal where the opcodes and the immediates are.
+impl PartialEq for Operator<'_> {
+    ghost use Rattle.std.specs.Cmp.{and_per, on_per};
+    ghost use Rattle.wasmprinter_ops.specs.contracts.opcode.OpcodePartialEq.TheImpl.Laws.{laws-law as opcodes_compare};
+    ghost use Rattle.wasmprinter_ops.specs.contracts.operator.ImmediatesPartialEq.TheImpl.Laws.{laws-law as immediates_compare};
+    ghost use Rattle.std.specs.Ordering.{eq_of_both, on};
+    ghost use Rattle.wasmprinter_ops.specs.Made.{immediates_of_view};
+
+    ghost eq = { eq_of_both (on (λ o. o.opcode) ⟦<Opcode as PartialEq>⟧.eq)
+        (on (λ o. immediates_of_view o.immediates) ⟦<Immediates<'static> as PartialEq>⟧.eq) };
+
+    ghost laws = { and_per (on_per (λ o. o.opcode) opcodes_compare)
+        (on_per (λ o. immediates_of_view o.immediates) immediates_compare) };
+
+    fn eq(&self, other: &Self) -> bool {
+        self.opcode == other.opcode && self.immediates == other.immediates
+    }
 }
 
 impl<'a> Immediates<'a> {
@@ -83,6 +141,7 @@ impl<'a> Immediates<'a> {
         ensures within { IsWithin cursor.old result }
         ensures end { end_of cursor.new ≡ end_of cursor.old }
         ensures shape { IfOk result (λ i. HasShape (shape_view shape) (immediates_view i)) }
+        ensures flags { IfOk result (λ i. HasCastFlags i) }
     {
         match shape {
             Shape::None => Ok(Immediates::None),
@@ -94,7 +153,7 @@ impl<'a> Immediates<'a> {
             Shape::Field | Shape::Count | Shape::Call => read_indices(cursor),
             Shape::BranchTable => read_branch_table(cursor),
             Shape::Select => Ok(Immediates::Types(read_types(cursor)?)),
-            Shape::Heap | Shape::Ref(_) => Ok(Immediates::Heap(HeapType::read(cursor)?)),
+            Shape::Heap | Shape::Ref(_) => Ok(Immediates::Heap(read_heap_type(cursor)?)),
             Shape::Cast => read_cast(cursor),
             Shape::Memory(_) => Ok(Immediates::Memory(MemArg::read(cursor)?)),
             Shape::MemoryLane(_) => read_memory_lane(cursor),
@@ -151,7 +210,7 @@ fn pass_behind(cursor: &mut Cursor, place: u64, opcode: Opcode) -> Result<Role, 
     Ok(opcode.role())
 }
 
-/// Passes by an opcode that the table lists and its immediates, and answers its role. As [`Operator::read`] it tells opcodes of one byte
+/// Passes by an opcode that the table lists and its immediates, and answers its role. As [`read_operator`] it tells opcodes of one byte
 /// from others first, since most are.
 #[inline]
 pub(crate) fn pass_operator(cursor: &mut Cursor) -> Result<Role, Malformed>
@@ -175,6 +234,7 @@ fn read_fence<'a>(cursor: &mut Cursor<'a>) -> Result<Immediates<'a>, Malformed>
     ensures within { IsWithin cursor.old result }
     ensures end { end_of cursor.new ≡ end_of cursor.old }
     ensures shape { IfOk result (λ i. HasShape FenceShape (immediates_view i)) }
+    ensures flags { IfOk result (λ i. HasCastFlags i) }
 {
     let place = cursor.place();
     match cursor.u8()? {
@@ -189,6 +249,7 @@ fn read_try_table<'a>(cursor: &mut Cursor<'a>) -> Result<Immediates<'a>, Malform
     ensures within { IsWithin cursor.old result }
     ensures end { end_of cursor.new ≡ end_of cursor.old }
     ensures shape { IfOk result (λ i. HasShape TryTableShape (immediates_view i)) }
+    ensures flags { IfOk result (λ i. HasCastFlags i) }
 {
     let block_type = read_block_type(cursor)?;
     Ok(Immediates::TryTable(block_type, read_catches(cursor)?))
@@ -200,6 +261,7 @@ fn read_indices<'a>(cursor: &mut Cursor<'a>) -> Result<Immediates<'a>, Malformed
     ensures within { IsWithin cursor.old result }
     ensures end { end_of cursor.new ≡ end_of cursor.old }
     ensures shape { IfOk result (λ i. HasShape FieldShape (immediates_view i)) }
+    ensures flags { IfOk result (λ i. HasCastFlags i) }
 {
     let first = cursor.u32()?;
     Ok(Immediates::Indices(first, cursor.u32()?))
@@ -211,8 +273,9 @@ fn read_branch_table<'a>(cursor: &mut Cursor<'a>) -> Result<Immediates<'a>, Malf
     ensures within { IsWithin cursor.old result }
     ensures end { end_of cursor.new ≡ end_of cursor.old }
     ensures shape { IfOk result (λ i. HasShape BranchTableShape (immediates_view i)) }
+    ensures flags { IfOk result (λ i. HasCastFlags i) }
 {
-    let targets = Targets::read(cursor)?;
+    let targets = read_items(cursor)?;
     Ok(Immediates::BrTable(targets, cursor.u32()?))
 }
 
@@ -222,6 +285,7 @@ fn read_cast<'a>(cursor: &mut Cursor<'a>) -> Result<Immediates<'a>, Malformed>
     ensures within { IsWithin cursor.old result }
     ensures end { end_of cursor.new ≡ end_of cursor.old }
     ensures shape { IfOk result (λ i. HasShape CastShape (immediates_view i)) }
+    ensures flags { IfOk result (λ i. HasCastFlags i) }
 {
     let place = cursor.place();
     let flags = cursor.u8()?;
@@ -229,8 +293,8 @@ fn read_cast<'a>(cursor: &mut Cursor<'a>) -> Result<Immediates<'a>, Malformed>
         return Err(Malformed { place });
     }
     let label = cursor.u32()?;
-    let source = HeapType::read(cursor)?;
-    let target = HeapType::read(cursor)?;
+    let source = read_heap_type(cursor)?;
+    let target = read_heap_type(cursor)?;
     Ok(Immediates::Cast(flags, label, source, target))
 }
 
@@ -240,32 +304,13 @@ fn read_memory_lane<'a>(cursor: &mut Cursor<'a>) -> Result<Immediates<'a>, Malfo
     ensures within { IsWithin cursor.old result }
     ensures end { end_of cursor.new ≡ end_of cursor.old }
     ensures shape { IfOk result (λ i. HasShape (MemoryLaneShape 0) (immediates_view i)) }
+    ensures flags { IfOk result (λ i. HasCastFlags i) }
 {
     let operand = MemArg::read(cursor)?;
     Ok(Immediates::MemoryLane(operand, cursor.u8()?))
 }
 
 impl<'a> Operator<'a> {
-    /// Reads an opcode that the table lists, and its immediates.
-    ///
-    /// # Errors
-    ///
-    /// `Malformed` with the place of the opcode where it isn't listed, else with that of what may not stand there.
-    pub fn read(cursor: &mut Cursor<'a>) -> Result<Self, Malformed>
-        ensures reads { Reads (λ o. o) operator.parse cursor.old result cursor.new }
-        ensures within { IsWithin cursor.old result }
-        ensures end { end_of cursor.new ≡ end_of cursor.old }
-    {
-        let place = cursor.place();
-        let byte = cursor.u8()?;
-        if is_prefix(byte) {
-            let number = cursor.u32()?;
-            Operator::read_behind(cursor, place, Opcode::behind(byte, number))
-        } else {
-            Operator::read_behind(cursor, place, Opcode::of_byte(byte))
-        }
-    }
-
     /// Reads what stands behind an opcode, which lies at the place.
     #[inline(always)]
     fn read_behind(cursor: &mut Cursor<'a>, place: u64, opcode: Opcode) -> Result<Self, Malformed>
@@ -282,17 +327,37 @@ impl<'a> Operator<'a> {
     }
 }
 
+/// Reads an opcode that the table lists, and its immediates.
+///
+/// # Errors
+///
+/// `Malformed` with the place of the opcode where it isn't listed, else with that of what may not stand there.
+pub fn read_operator<'a>(cursor: &mut Cursor<'a>) -> Result<Operator<'a>, Malformed>
+    ensures reads { Reads (λ o. o) operator.parse cursor.old result cursor.new }
+    ensures within { IsWithin cursor.old result }
+    ensures end { end_of cursor.new ≡ end_of cursor.old }
+{
+    let place = cursor.place();
+    let byte = cursor.u8()?;
+    if is_prefix(byte) {
+        let number = cursor.u32()?;
+        Operator::read_behind(cursor, place, Opcode::behind(byte, number))
+    } else {
+        Operator::read_behind(cursor, place, Opcode::of_byte(byte))
+    }
+}
+
 /// Reads an operator, with its place in front.
 ///
 /// # Errors
 ///
-/// Those of [`Operator::read`].
+/// Those of [`read_operator`].
 pub fn read_placed<'a>(cursor: &mut Cursor<'a>) -> Result<(u64, Operator<'a>), Malformed>
     ensures reads { Reads placed_view (value_with_place operator).parse cursor.old result cursor.new }
     ensures within { IsWithin cursor.old result }
     ensures end { end_of cursor.new ≡ end_of cursor.old }
 {
     let place = cursor.place();
-    let operator = Operator::read(cursor)?;
+    let operator = read_operator(cursor)?;
     Ok((place, operator))
 }

@@ -3,7 +3,7 @@
 use std::process::Abort;
 use std::test::Fail;
 use wasmprinter_bytes::bytes::Cursor;
-use wasmprinter_bytes::lists::Items;
+use wasmprinter_bytes::lists::read_items;
 use wasmprinter_error::Malformed;
 
 /// A number that is expected, or the place of a fault, under the name of the method that reads it.
@@ -112,7 +112,7 @@ fn parts_and_names_are_read(rt: HostRuntime) -> Result<(), Fail> {
 /// The sum of the items of a vector of numbers.
 fn total(cursor: &mut Cursor) -> Result<u64, Malformed> {
     let mut sum: u64 = 0;
-    for item in Items::<u32>::read(cursor)?.iter() {
+    for item in read_items::<u32>(cursor)?.iter() {
         sum = sum.wrapping_add(u64::from(item));
     }
     Ok(sum)

@@ -10,8 +10,8 @@ use wasmprinter_bytes::bytes::Cursor;
 use wasmprinter_error::{Error, Malformed};
 use wasmprinter_ops::blocks::{Catches, Targets};
 use wasmprinter_ops::expression::Expression;
-use wasmprinter_ops::opcode::{Role, Shape, Space};
-use wasmprinter_ops::operator::{Immediates, Operator};
+use wasmprinter_ops::opcode::{Listed, Role, Shape, Space};
+use wasmprinter_ops::operator::{Immediates, Operator, read_operator};
 use wasmprinter_types::ValTypes;
 
 /// Where the first byte lies.
@@ -359,7 +359,7 @@ fn is_same(found: &Result<Operator, Malformed>, wanted: &Result<ModelOperator, M
 fn is_read_as_before(bytes: &[u8]) -> bool {
     let mut cursor = Cursor::new(PLACE, bytes);
     let mut model = ModelCursor::new(PLACE, bytes);
-    let found = Operator::read(&mut cursor);
+    let found = read_operator(&mut cursor);
     let wanted = ModelOperator::read(&mut model);
     is_same(&found, &wanted) && cursor.place() == model.place()
 }
@@ -494,7 +494,7 @@ fn agree_on_all(alloc: Global, bytes: &[u8]) -> bool {
 /// Whether the bytes are an operator whose immediates have this shape, and nothing else.
 fn has_shape(bytes: &[u8], shape: Shape) -> bool {
     let mut cursor = Cursor::new(PLACE, bytes);
-    match Operator::read(&mut cursor) {
+    match read_operator(&mut cursor) {
         Ok(operator) => operator.opcode.shape() == Some(shape) && cursor.is_empty(),
         Err(Malformed { .. }) => false,
     }

@@ -11,9 +11,9 @@ use wasmprinter_error::{Error, Malformed};
 use wasmprinter_ops::blocks::{BlockType, Catch, Catches, Targets};
 use wasmprinter_ops::expression::{Expression, OperatorsReader};
 use wasmprinter_ops::operands::MemArg;
-use wasmprinter_ops::operator::{Immediates, Operator};
+use wasmprinter_ops::operator::{Immediates, Operator, read_operator};
 use wasmprinter_types::composite::{CompositeType, FieldType, StorageType, SubType, SubTypes};
-use wasmprinter_types::{HeapType, RefType, ValType, ValTypes, read_type};
+use wasmprinter_types::{HeapType, RefType, ValType, ValTypes, read_type, read_types};
 
 /// Immediates that are expected.
 #[derive(Clone, Copy)]
@@ -306,7 +306,7 @@ const REFUSED: [&[u8]; 7] = [
 #[test]
 fn other_operators_are_refused(rt: HostRuntime) {
     for (row, bytes) in REFUSED.iter().enumerate() {
-        let found = Operator::read(&mut Cursor::new(0, *bytes));
+        let found = read_operator(&mut Cursor::new(0, *bytes));
         assert!(rt; found.is_err(), "row {row}");
     }
 }
@@ -368,7 +368,7 @@ fn blocks_nest_deep(rt: HostRuntime) -> Result<(), Fail> {
 
 /// The second of the value types that stand there.
 fn second(cursor: &mut Cursor) -> Result<Option<ValType>, Malformed> {
-    let mut types = ValTypes::read(cursor)?.iter();
+    let mut types = read_types(cursor)?.iter();
     types.next();
     Ok(types.next())
 }

@@ -1,10 +1,11 @@
 //! The examples of the README.
 
 use std::alloc::Global;
+use std::io;
 use std::test::Fail;
 use wasmprinter::print::Ansi;
 use wasmprinter::wasm::decode;
-use wasmprinter::{Config, Error, PrintTermcolor, place_of, print_bytes};
+use wasmprinter::{Config, Error, PrintTermcolor, PrintText, place_of, print_bytes};
 use wasmprinter_samples::{IDENTITY, expect_text};
 
 /// The text of a module, or what is wrong with its bytes.
@@ -38,6 +39,24 @@ fn line_of_operator(
     Ok(place_of(&module, &lines, function, operator))
 }
 
+/// A printer that counts the bytes of a text.
+#[derive(Drop)]
+struct Length(usize);
+
+impl PrintText for Length {
+    fn write_str(&mut self, s: &str) -> io::Result<()> {
+        self.0 = self.0.saturating_add(s.len());
+        Ok(())
+    }
+}
+
+/// How many bytes the text of a module has.
+fn text_length(alloc: Global, wasm: &[u8]) -> Result<usize, Error> {
+    let mut length = Length(0);
+    Config::new().print(alloc, wasm, &mut length)?;
+    Ok(length.0)
+}
+
 #[test]
 fn shows_a_module_and_what_is_none(rt: HostRuntime) -> Result<(), Fail> {
     let module = [0x00, 0x61, 0x73, 0x6d, 0x01, 0x00, 0x00, 0x00];
@@ -60,5 +79,14 @@ fn outlines_a_module(rt: HostRuntime) -> Result<(), Fail> {
 fn finds_an_operator(rt: HostRuntime) -> Result<(), Fail> {
     assert!(rt; line_of_operator(rt.alloc(), &IDENTITY, 0, 0)? == Some((4, 0x20)));
     assert!(rt; line_of_operator(rt.alloc(), &IDENTITY, 0, 1)? == None);
+    Ok(())
+}
+
+#[test]
+fn counts_the_bytes_of_a_text(rt: HostRuntime) -> Result<(), Fail> {
+    let module = [0x00, 0x61, 0x73, 0x6d, 0x01, 0x00, 0x00, 0x00];
+    assert!(rt; text_length(rt.alloc(), &module)? == "(module)\n".len());
+    let text = print_bytes(rt.alloc(), &IDENTITY)?;
+    assert!(rt; text_length(rt.alloc(), &IDENTITY)? == text.len());
     Ok(())
 }

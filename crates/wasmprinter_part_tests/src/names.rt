@@ -6,7 +6,7 @@ use std::test::Fail;
 use wasmprinter_bytes::bytes::Cursor;
 use wasmprinter_error::Error;
 use wasmprinter_names::{
-    Identifier, Identifiers, LabelName, Name, Names, NamesBuilder, Space, read_names,
+    Identifier, Identifiers, LabelName, Name, NameEntries, Names, NamesBuilder, Space, read_names,
 };
 use wasmprinter_samples::expect_text;
 

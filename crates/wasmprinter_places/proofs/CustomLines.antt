@@ -21,12 +21,12 @@ use Rattle.wasmprinter_places.proofs.FieldLines.{elsewhere_both, pieces_elsewher
 
 -- ---- what stays on a line
 
-place_stays : (k : Option Kind) → IsOneLine (place_pieces k)
+pub place_stays : (k : Option Kind) → IsOneLine (place_pieces k)
 unfolding place_pieces
 place_stays None = then_stay refl (then_stay refl (then_stay refl (alone_stays refl)))
 place_stays (Some kind) = then_stay refl (then_stay refl (then_stay refl (alone_stays refl)))
 
-quoted_list_stays : (ss : List (List ℕ)) → IsOneLine (gap_quoted_list ss)
+pub quoted_list_stays : (ss : List (List ℕ)) → IsOneLine (gap_quoted_list ss)
 unfolding gap_quoted_list
 quoted_list_stays [] = nothing_stays
 quoted_list_stays (s ∷ ss) = then_stay refl (then_stay refl (quoted_list_stays ss))
@@ -36,11 +36,11 @@ unfolding flags_by
 flags_by_stay [] rest = cond_stays (rest == 0) nothing_stays (then_stay refl (alone_stays refl))
 flags_by_stay (row ∷ rows) rest = cond_stays (has_flag rest row.0) (then_stay refl (then_stay refl (flags_by_stay rows (rest - row.0)))) (flags_by_stay rows rest)
 
-flags_stay : (flags : ℕ) → IsOneLine (flags_pieces flags)
+pub flags_stay : (flags : ℕ) → IsOneLine (flags_pieces flags)
 unfolding flags_pieces
 flags_stay flags = flags_by_stay flag_words flags
 
-sizes_group_stays : (w : List ℕ) (a b : ℕ) → IsOneLine (sizes_group w a b)
+pub sizes_group_stays : (w : List ℕ) (a b : ℕ) → IsOneLine (sizes_group w a b)
 unfolding sizes_group
 sizes_group_stays w a b =
     cond_stays ((a == 0) && (b == 0)) nothing_stays (then_stay refl (then_stay refl (then_stay refl (then_stay refl (then_stay refl (then_stay refl (alone_stays refl)))))))

@@ -15,3 +15,8 @@ pub mod BodyLines
 pub mod ModuleLines
 pub mod FunctionLines
 pub mod Finding
+pub mod NoBegin
+pub mod NoBeginCode
+pub mod NoBeginFields
+pub mod NoBeginCustoms
+pub mod Fed

@@ -28,7 +28,7 @@ places_begun [] = refl
 places_begun (Line place ∷ cs) = ap (λ (ps : List (Option ℕ)). place ∷ ps) (places_begun cs)
 places_begun (c ∷ cs) = places_begun cs
 
-place_begins_none : (offsets : Bool) (place : Option ℕ) → flat_map begun (place_calls offsets place) ≡ []
+pub place_begins_none : (offsets : Bool) (place : Option ℕ) → flat_map begun (place_calls offsets place) ≡ []
 place_begins_none false place = refl
 place_begins_none true None = refl
 place_begins_none true (Some p) = refl
@@ -54,7 +54,7 @@ float_begins w bits =
     (unsigned_begins w false (bits / 2 ^ w.fraction) (bits % 2 ^ w.fraction))
     (unsigned_begins w true ((bits - sign_bit w) / 2 ^ w.fraction) ((bits - sign_bit w) % 2 ^ w.fraction))
 
-piece_begins : (o : Options) (p : Piece) → flat_map begun (calls o p) ≡ starts p
+pub piece_begins : (o : Options) (p : Piece) → flat_map begun (calls o p) ≡ starts p
 piece_begins o (Break place nesting) = break_begins o.offsets place _
 piece_begins o (Begin place) = refl
 piece_begins o (Float w bits) = float_begins w bits

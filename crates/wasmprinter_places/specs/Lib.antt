@@ -1,1 +1,2 @@
--- This crate's laws are of the definitions alone: its contracts cite those of wasmprinter_spec.
+-- What this crate's contracts cite besides the definitions of wasmprinter_spec.
+pub mod Feeds

@@ -4,6 +4,7 @@
 
 ghost use Rattle.wasmprinter_spec.specs.PlaceLaws.{AlikeHaveSameLines, LinesJoin, BodiesLieApart, FunctionsHaveLines};
 ghost use Rattle.wasmprinter_spec.specs.PlaceLaws.{FindsPlace, FindsLine};
+ghost use Rattle.wasmprinter_places.specs.Feeds.{LinesBeginBehindFeeds};
 
 /// Two lists of calls that differ only in how text is cut into pieces have the same lines.
 pub fn alike_calls_have_the_same_lines()
@@ -13,6 +14,12 @@ pub fn alike_calls_have_the_same_lines()
 /// The lines of a module joined are its text.
 pub fn lines_join_to_the_text()
     ensures { LinesJoin }
+{}
+
+/// In the calls of a module each line but the first begins directly behind a line feed, whatever the options, the answers and the module.
+/// So no line begins directly behind the beginning of another.
+pub fn lines_begin_behind_feeds()
+    ensures { LinesBeginBehindFeeds }
 {}
 
 /// The bodies of a module that bytes spell lie in an interval of their own, with rising places.

@@ -9,4 +9,5 @@ pub mod PutLaws
 pub mod Puts
 pub mod PutsLaws
 pub mod Styles
+pub mod TextOnly
 pub mod Writers

@@ -1,10 +1,10 @@
 //! A printer over a writer of text.
-ghost use Rattle.std.specs.Prelude.{◌≡◌, None, false};
+ghost use Rattle.std.specs.Prelude.{◌≡◌};
 ghost use Rattle.std.specs.IoError.{error_kind};
 ghost use Rattle.std.specs.declared.io.ErrorKind.TheVariants.{Other};
-ghost use Rattle.wasmprinter_print.specs.Writers.{FmtAfter, FmtMayFail};
+ghost use Rattle.wasmprinter_print.specs.Writers.{WritesFmt};
 
-use crate::Print;
+use crate::PrintText;
 use std::io::ErrorKind;
 use std::{fmt, io};
 
@@ -19,60 +19,10 @@ fn error_of_refusal(_e: fmt::Error) -> io::Error
     io::Error::from(ErrorKind::Other)
 }
 
-impl<T: fmt::Write> Print for PrintFmtWrite<T> {
-    ghost meaning = { record {
-      after = λ s c t. FmtAfter T.write_str_gives s.0 c t.0;
-      may_fail = λ _ c. FmtMayFail c;
-      partly = λ _ _ e _. error_kind e ≡ Other;
-      faults = λ _. None;
-    } };
-
-    ghost colors = { λ _. false };
+impl<T: fmt::Write> PrintText for PrintFmtWrite<T> {
+    ghost writes = { λ old bytes answer new. WritesFmt T.write_str_gives old.0 bytes answer new.0 };
 
     fn write_str(&mut self, s: &str) -> io::Result<()> {
         self.0.write_str(s).map_err(error_of_refusal)
-    }
-
-    fn newline(&mut self) -> io::Result<()> {
-        self.write_str("\n")
-    }
-
-    fn start_line(&mut self, _binary_offset: Option<u64>) {}
-
-    fn print_custom_section(
-        &mut self,
-        _name: &str,
-        _binary_offset: u64,
-        _bytes: &[u8],
-    ) -> io::Result<bool> {
-        Ok(false)
-    }
-
-    fn start_literal(&mut self) -> io::Result<()> {
-        Ok(())
-    }
-
-    fn start_name(&mut self) -> io::Result<()> {
-        Ok(())
-    }
-
-    fn start_keyword(&mut self) -> io::Result<()> {
-        Ok(())
-    }
-
-    fn start_type(&mut self) -> io::Result<()> {
-        Ok(())
-    }
-
-    fn start_comment(&mut self) -> io::Result<()> {
-        Ok(())
-    }
-
-    fn reset_color(&mut self) -> io::Result<()> {
-        Ok(())
-    }
-
-    fn supports_async_color(&self) -> bool {
-        false
     }
 }

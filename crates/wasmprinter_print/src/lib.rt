@@ -26,12 +26,14 @@ ghost use Rattle.wasmprinter_print.specs.PieceLaws.{PieceHandsOn, PiecesHandOn, 
 mod calls;
 mod faults;
 mod fmt_write;
+mod print_text;
 
 pub use calls::{Style, feed, reset, start, text, text_in_style};
 pub use faults::{
     Fault, put_each_char, put_feed, put_line, put_reset, put_start, put_text, put_text_in_style,
 };
 pub use fmt_write::PrintFmtWrite;
+pub use print_text::{PrintText, text_is_gained};
 use std::io;
 
 /// A destination for the text of a module.

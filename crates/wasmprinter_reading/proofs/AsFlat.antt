@@ -5,9 +5,11 @@ use Rattle.wasmprinter_spec.specs.Names.{Names}
 use Rattle.wasmprinter_spec.specs.Placed.{PlacedModule}
 use Rattle.wasmprinter_spec.specs.Options.{Options, Answers}
 use Rattle.wasmprinter_spec.specs.Layout.Customs.{Part, Shown, Stops, laid_parts}
-use Rattle.wasmprinter_spec.specs.Layout.{module_parts, refusal}
+use Rattle.wasmprinter_spec.specs.Layout.Declarations.{Folding, folding_of}
+use Rattle.wasmprinter_spec.specs.Layout.{refusal, parts_by}
 use Rattle.wasmprinter_spec.specs.Folding.Refusals.{IsFoldable}
 use Rattle.wasmprinter_reading.specs.FoldedLaws.{FoldedModulesReadAsFlat}
+use Rattle.wasmprinter_reading.proofs.AsAsked.{refused_as_asked}
 use Rattle.wasmprinter_reading.proofs.Main.{reads_back}
 
 -- ---- whether a section is refused doesn't depend on how operators are printed
@@ -28,22 +30,29 @@ refused-append behind [] ys = refl
 refused-append behind (Shown ps ∷ xs) ys = refused-append behind xs ys
 refused-append behind (Stops ps id ∷ xs) ys = refl
 
-refused-parts : (o : Options) (folds : Bool) (answers : Answers) (names : Names) (m : PlacedModule) →
-    refused_before None (module_parts o answers names m) ≡ refused_before None (module_parts (record o { folds = folds }) answers names m)
-unfolding module_parts
-refused-parts o folds answers names m = simp refused-append refl
+refused-parts : (x y : Option Folding) (o : Options) (folds paints : Bool) (answers : Answers) (names : Names) (m : PlacedModule) →
+    refused_before None (parts_by x o answers names m) ≡ refused_before None (parts_by y (record o { folds = folds; paints = paints }) answers names m)
+unfolding parts_by
+refused-parts x y o folds paints answers names m = simp refused-append refl
+
+pub refused-by : (x y : Option Folding) (o : Options) (folds paints : Bool) (answers : Answers) (names : Names) (m : PlacedModule) →
+    (laid_parts (parts_by x o answers names m)).refused ≡ (laid_parts (parts_by y (record o { folds = folds; paints = paints }) answers names m)).refused
+refused-by x y o folds paints answers names m =
+    refused-laid (parts_by x o answers names m)
+    ∙ refused-parts x y o folds paints answers names m
+    ∙ sym (refused-laid (parts_by y (record o { folds = folds; paints = paints }) answers names m))
 
 refusal-folds : (o : Options) (folds : Bool) (answers : Answers) (m : PlacedModule) → refusal o answers m ≡ refusal (record o { folds = folds }) answers m
 refusal-folds o folds answers m =
-    let names : Names = module_names o.invents m in
-    refused-laid (module_parts o answers names m)
-    ∙ refused-parts o folds answers names m
-    ∙ sym (refused-laid (module_parts (record o { folds = folds }) answers names m))
+    let p : Options = record o { folds = folds } in
+    refused_as_asked o answers m
+    ∙ refused-by (folding_of o m) (folding_of p m) o folds o.paints answers (module_names o.invents m) m
+    ∙ sym (refused_as_asked p answers m)
 
 -- ---- the law
 
 -- of a flat text nothing is asked
-flat_is_foldable : (o : Options) (m : PlacedModule) → IsFoldable (record o { folds = false }) m
+pub flat_is_foldable : (o : Options) (m : PlacedModule) → IsFoldable (record o { folds = false }) m
 flat_is_foldable o m = record { legacy = λ e. absurd cc; hints = λ e. absurd cc }
 
 pub folded_modules_read_as_flat : FoldedModulesReadAsFlat

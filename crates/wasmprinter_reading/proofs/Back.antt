@@ -16,13 +16,12 @@ use Rattle.wasmprinter_spec.specs.Limits.{HasNoEmptyInit}
 use Rattle.wasmprinter_spec.specs.Indexed as indexed
 use Rattle.wasmprinter_spec.specs.Indexed.{IsDeclaredSub, Counts, IsIndexed, IsIndexedFunction, IsIndexedImport, IsIndexedTable, IsIndexedGlobal, IsIndexedExport, IsIndexedElement, IsIndexedData, NamesFunction, space_of, counts_of}
 use Rattle.wasmprinter_spec.specs.IndexSpaces.{Identifiers, index_space, space_in, Spaces, Context}
-use Rattle.wasmprinter_spec.specs.Options.{Options}
 use Rattle.wasmprinter_spec.specs.Customs.Hints.{Hint, FunctionHints, hints_of, next_hints, hints_behind}
 use Rattle.wasmprinter_spec.specs.Folding.Refusals.{Operators, init_list, offset_list, item_lists, element_lists, data_lists}
-use Rattle.wasmprinter_spec.specs.Layout.Declarations.{Scope, scope_of, folding_of}
+use Rattle.wasmprinter_spec.specs.Layout.Declarations.{Folding, Scope, scope_of}
 use Rattle.wasmprinter_spec.specs.Layout.Expressions.{in_line}
 use Rattle.wasmprinter_spec.specs.Layout.Imports.{Numbers, no_numbers, number_of, numbers_behind}
-use Rattle.wasmprinter_spec.specs.Layout.{early_scope, scope_behind, section_order}
+use Rattle.wasmprinter_spec.specs.Layout.{scope_before, scope_behind, section_order}
 use Rattle.wasmprinter_spec.specs.Text.Items.{each, identifier_in_front}
 use Rattle.wasmprinter_spec.specs.Text.Types as text
 use Rattle.wasmprinter_spec.specs.Text.Types.{read_group}
@@ -75,7 +74,7 @@ each-numbered read items value law i [] h = refl
 each-numbered read items value law i (x ∷ xs) h = rw (law i x h.0, each-numbered read items value law (i + 1) xs h.1)
 
 -- both facts of each
-and_each : {A : Type 0} (P Q : A → Type 0) (xs : List A) → AllByRecursion P xs → AllByRecursion Q xs → AllByRecursion (λ x. P x × Q x) xs
+pub and_each : {A : Type 0} (P Q : A → Type 0) (xs : List A) → AllByRecursion P xs → AllByRecursion Q xs → AllByRecursion (λ x. P x × Q x) xs
 and_each P Q [] h k = tt
 and_each P Q (x ∷ xs) h k = ((h.0, k.0), and_each P Q xs h.1 k.1)
 
@@ -112,7 +111,7 @@ all_bounded : (n : ℕ) (gs : List (List SubType)) → AllByRecursion (λ g. All
     AllByRecursion (λ g. AllByRecursion (IsDeclaredSub (min (2 ^ 32) n)) g) gs
 all_bounded n gs h k = of_least (λ b. AllByRecursion (λ g. AllByRecursion (IsDeclaredSub b) g) gs) (2 ^ 32) n h k
 
-module _ (o : Options) (names : Names) (m : PlacedModule) where
+module _ (folding : Option Folding) (names : Names) (m : PlacedModule) where
   abbrev pub own_types : List SubType
   own_types = all_types (groups_of m.types)
 
@@ -121,7 +120,7 @@ module _ (o : Options) (names : Names) (m : PlacedModule) where
 
   -- what stands before functions and what stands behind them
   abbrev pub early : Scope
-  early = early_scope o names m
+  early = scope_before folding names m
 
   abbrev pub late : Scope
   late = scope_behind m early
@@ -130,7 +129,7 @@ module _ (o : Options) (names : Names) (m : PlacedModule) where
   abbrev pub before : ExternKind → ℕ
   before kind = imports_of kind (without_places m.imports)
 
-  abbrev own_table : ℕ → Placed (Table (Placed Operator)) → Forest
+  abbrev pub own_table : ℕ → Placed (Table (Placed Operator)) → Forest
   own_table i t = table_items early i t.value
 
   abbrev own_memory : ℕ → Placed MemoryType → Forest
@@ -139,13 +138,13 @@ module _ (o : Options) (names : Names) (m : PlacedModule) where
   abbrev own_tag : ℕ → Placed ℕ → Forest
   own_tag i tag = tag_items early i tag.value
 
-  abbrev own_global : ℕ → Placed (Global (Placed Operator)) → Forest
+  abbrev pub own_global : ℕ → Placed (Global (Placed Operator)) → Forest
   own_global i g = global_items early i g.value
 
   abbrev own_export : ℕ → Placed Export → Forest
   own_export i e = export_items early e.value
 
-  abbrev own_element : Bool → ℕ → Placed ElementEntry → Forest
+  abbrev pub own_element : Bool → ℕ → Placed ElementEntry → Forest
   own_element skeleton i e = element_items early skeleton i e.value
 
   -- the hints that wait behind so many functions
@@ -160,7 +159,7 @@ module _ (o : Options) (names : Names) (m : PlacedModule) where
   abbrev pub own_function : Bool → ℕ → PlacedFunction → Forest
   own_function skeleton i f = function_items skeleton early i (own_hints i) f
 
-  abbrev own_data : Bool → ℕ → Placed (Data (Placed Operator)) → Forest
+  abbrev pub own_data : Bool → ℕ → Placed (Data (Placed Operator)) → Forest
   own_data skeleton i d = data_items late skeleton i d.value
 
   -- what the fields of the section of a kind are written as, functions and segments whole or not
@@ -193,7 +192,7 @@ module _ (o : Options) (names : Names) (m : PlacedModule) where
   own_imports = imports_held early no_numbers m.imports
 
   -- the fields as they are sorted
-  all_fields : Fields
+  unfoldable pub all_fields : Fields
   all_fields = record {
     types = group_bodies names 0 m.types;
     imports = own_imports;
@@ -208,7 +207,7 @@ module _ (o : Options) (names : Names) (m : PlacedModule) where
     datas = map_numbered (own_data false) 0 m.datas;
   }
 
-  fields-module_items : IsRanged m → fields (module_items false) ≡ Some all_fields
+  pub fields-module_items : IsRanged m → fields (module_items false) ≡ Some all_fields
   unfolding module_items all_fields
   fields-module_items h =
       fields-types names 0 m.types _ _ h.each_group
@@ -316,7 +315,7 @@ module _ (o : Options) (names : Names) (m : PlacedModule) where
   own_signatures : (i : ℕ) → whole_context.signature i ≡ signature_at own_types i
   own_signatures i = ap (λ gs. signature_at (all_types gs) i) (group_types-identifiers_of names 0 m.types)
 
-  module _ (apart : AreApart names) (named : AreNamed names) (foldable : CanFold o m) (k : IsIndexed (module_of m)) (h : IsRanged m) where
+  module _ (apart : AreApart names) (named : AreNamed names) (foldable : CanFold folding m) (k : IsIndexed (module_of m)) (h : IsRanged m) where
     spaces_are : (f : ℕ) (space : Space) → space_in all_spaces space ≡ identifiers (in_function names f space) (count_in own_counts space)
     unfolding all_spaces
     spaces_are f Types = refl
@@ -342,10 +341,10 @@ module _ (o : Options) (names : Names) (m : PlacedModule) where
     spaces_few row.Local = omega arith
     spaces_few row.Label = omega arith
 
-    same_types : (f : ℕ) → HaveSameTypes (in_line (scope_of own_types names f (folding_of o m)) 2) whole_context own_counts
+    same_types : (f : ℕ) → HaveSameTypes (in_line (scope_of own_types names f folding) 2) whole_context own_counts
     same_types f = record { read = own_signatures; counted = λ i. refl; in_range = signatures_ranged h }
 
-    same_names : (f : ℕ) → HaveSameNames (in_line (scope_of own_types names f (folding_of o m)) 2) whole_context own_counts
+    same_names : (f : ℕ) → HaveSameNames (in_line (scope_of own_types names f folding) 2) whole_context own_counts
     same_names f = record {
       spaces = spaces_are f;
       fields = λ t fs e. field_space-identifiers_of names m.types t fs e;
@@ -356,12 +355,12 @@ module _ (o : Options) (names : Names) (m : PlacedModule) where
       structures = λ t fs e. own_fields_counted m.types t fs e;
     }
 
-    scoped : (f : ℕ) → AreScoped (scope_of own_types names f (folding_of o m)) whole_context own_counts
+    scoped : (f : ℕ) → AreScoped (scope_of own_types names f folding) whole_context own_counts
     scoped f = record { types = same_types f; names = same_names f; apart = apart; named = named; few = λ i. own_parameters_few m.types i h.each_group }
 
     -- ---- each field
 
-    read_function-own : (i : ℕ) (f : PlacedFunction) → (IsRangedFunction f × Foldable o m f.body.value.operators) × IsIndexedFunction (module_of m) (function_of f) →
+    read_function-own : (i : ℕ) (f : PlacedFunction) → (IsRangedFunction f × Foldable folding m f.body.value.operators) × IsIndexedFunction (module_of m) (function_of f) →
         read_function whole_context (own_function false i f) ≡ Some (function_of f)
     read_function-own i f ((ranged, folds), indexes) =
         let few : variable_count (signature_at own_types f.type_index) f ≤ 2 ^ 64 =
@@ -391,17 +390,17 @@ module _ (o : Options) (names : Names) (m : PlacedModule) where
         )
 
     indexed_init : (i : Option (List (Placed Operator))) → indexed.IsIndexedInit (module_of m) (option_map without_places i) →
-        AllFoldable o m (elim i as (λ x. List Operators) [ None ↦ [] | Some os ↦ os ∷ [] ]) → tables.IsIndexedInit early whole_context own_counts (scoped early.function) i
+        AllFoldable folding m (elim i as (λ x. List Operators) [ None ↦ [] | Some os ↦ os ∷ [] ]) → tables.IsIndexedInit early whole_context own_counts (scoped early.function) i
     indexed_init None d l = tt
     indexed_init (Some os) d l = (d, l.0)
 
     read_table-own : (i : ℕ) (t : Placed (Table (Placed Operator))) →
-        ((IsRangedTable t.value × HasNoEmptyInit t.value.init) × AllFoldable o m (init_list t)) × IsIndexedTable (module_of m) (table_without_places t.value) →
+        ((IsRangedTable t.value × HasNoEmptyInit t.value.init) × AllFoldable folding m (init_list t)) × IsIndexedTable (module_of m) (table_without_places t.value) →
         read_table whole_context (own_table i t) ≡ Some (table_without_places t.value)
     read_table-own i t (((ranged, some), folds), indexes) =
         read_table-items early whole_context own_counts (scoped early.function) i t.value ranged some indexes.element (indexed_init t.value.init indexes.init folds)
 
-    read_global-own : (i : ℕ) (g : Placed (Global (Placed Operator))) → (IsRangedGlobal g.value × Foldable o m g.value.init) × IsIndexedGlobal (module_of m) (global_without_places g.value) →
+    read_global-own : (i : ℕ) (g : Placed (Global (Placed Operator))) → (IsRangedGlobal g.value × Foldable folding m g.value.init) × IsIndexedGlobal (module_of m) (global_without_places g.value) →
         read_global whole_context (own_global i g) ≡ Some (global_without_places g.value)
     read_global-own i g ((ranged, folds), indexes) =
         read_global-items early whole_context own_counts (scoped early.function) i g.value ranged indexes.type (indexes.init, folds)
@@ -413,35 +412,35 @@ module _ (o : Options) (names : Names) (m : PlacedModule) where
     indexed_start None d = tt
     indexed_start (Some i) d = d
 
-    indexed_mode : (x : ElementMode (Placed Operator)) → indexed.IsIndexedMode (module_of m) (mode_without_places x) → AllFoldable o m (offset_list x) →
+    indexed_mode : (x : ElementMode (Placed Operator)) → indexed.IsIndexedMode (module_of m) (mode_without_places x) → AllFoldable folding m (offset_list x) →
         elements.IsIndexedMode early whole_context own_counts (scoped early.function) x
     indexed_mode Passive d l = tt
     indexed_mode Declared d l = tt
     indexed_mode (Active t offset) d l = (d.0, (d.1, l.0))
 
-    indexed_expressions : (es : List (List (Placed Operator))) → AllByRecursion (indexed.IsIndexedExpression (module_of m)) (map without_places es) → AllFoldable o m es →
+    indexed_expressions : (es : List (List (Placed Operator))) → AllByRecursion (indexed.IsIndexedExpression (module_of m)) (map without_places es) → AllFoldable folding m es →
         AllByRecursion (AreIndexed early own_counts) es
     indexed_expressions [] d l = tt
     indexed_expressions (e ∷ es) d l = ((d.0, l.0), indexed_expressions es d.1 l.1)
 
-    indexed_items : (is : Items (Placed Operator)) → indexed.AreIndexedItems (module_of m) (items_without_places is) → AllFoldable o m (item_lists is) →
+    indexed_items : (is : Items (Placed Operator)) → indexed.AreIndexedItems (module_of m) (items_without_places is) → AllFoldable folding m (item_lists is) →
         elements.AreIndexedItems early whole_context own_counts (scoped early.function) is
     indexed_items (Functions is) d l = d
     indexed_items (Expressions t es) d l = (d.0, indexed_expressions es d.1 l)
 
-    read_element-own : (i : ℕ) (e : Placed ElementEntry) → (IsRangedElement e.value × AllFoldable o m (element_lists false e)) × IsIndexedElement (module_of m) (element_without_places e.value) →
+    read_element-own : (i : ℕ) (e : Placed ElementEntry) → (IsRangedElement e.value × AllFoldable folding m (element_lists false e)) × IsIndexedElement (module_of m) (element_without_places e.value) →
         read_element whole_context (own_element false i e) ≡ Some (element_without_places e.value)
     read_element-own i e ((ranged, folds), indexes) =
-        let parts = all_parts (Foldable o m) (offset_list e.value.element.mode) (item_lists e.value.element.items) folds in
+        let parts = all_parts (Foldable folding m) (offset_list e.value.element.mode) (item_lists e.value.element.items) folds in
         read_element-items early whole_context own_counts (scoped early.function) i e.value ranged
         (indexed_mode e.value.element.mode indexes.mode parts.0) (indexed_items e.value.element.items indexes.items parts.1)
 
     indexed_data_mode : (x : DataMode (Placed Operator)) → indexed.IsIndexedDataMode (module_of m) (data_mode_without_places x) →
-        AllFoldable o m (elim x as (λ y. List Operators) [ PassiveData ↦ [] | ActiveData memory os ↦ os ∷ [] ]) → datas.IsIndexedDataMode late whole_context own_counts (scoped late.function) x
+        AllFoldable folding m (elim x as (λ y. List Operators) [ PassiveData ↦ [] | ActiveData memory os ↦ os ∷ [] ]) → datas.IsIndexedDataMode late whole_context own_counts (scoped late.function) x
     indexed_data_mode PassiveData d l = tt
     indexed_data_mode (ActiveData memory offset) d l = (d.0, (d.1, l.0))
 
-    read_data-own : (i : ℕ) (d : Placed (Data (Placed Operator))) → (IsRangedData d.value × AllFoldable o m (data_lists d)) × IsIndexedData (module_of m) (data_without_places d.value) →
+    read_data-own : (i : ℕ) (d : Placed (Data (Placed Operator))) → (IsRangedData d.value × AllFoldable folding m (data_lists d)) × IsIndexedData (module_of m) (data_without_places d.value) →
         read_data whole_context (own_data false i d) ≡ Some (data_without_places d.value)
     read_data-own i x ((ranged, folds), indexes) =
         read_data-items late whole_context own_counts (scoped late.function) i x.value ranged (indexed_data_mode x.value.mode indexes folds)
@@ -451,15 +450,15 @@ module _ (o : Options) (names : Names) (m : PlacedModule) where
     read_functions : each (read_function whole_context) (map_numbered (own_function false) (before FuncKind) m.functions) ≡ Some (map function_of m.functions)
     read_functions =
         each-numbered (read_function whole_context) (own_function false) function_of read_function-own _ m.functions
-        (both_of_each (λ f. IsRangedFunction f × Foldable o m f.body.value.operators) (IsIndexedFunction (module_of m)) function_of m.functions
-        (and_each IsRangedFunction (λ f. Foldable o m f.body.value.operators) m.functions h.each_function foldable.functions) k.functions)
+        (both_of_each (λ f. IsRangedFunction f × Foldable folding m f.body.value.operators) (IsIndexedFunction (module_of m)) function_of m.functions
+        (and_each IsRangedFunction (λ f. Foldable folding m f.body.value.operators) m.functions h.each_function foldable.functions) k.functions)
 
     read_tables : AllByRecursion (λ t. HasNoEmptyInit t.value.init) m.tables →
         each (read_table whole_context) (map_numbered own_table (before TableKind) m.tables) ≡ Some (each_value table_without_places m.tables)
     read_tables some =
         each-numbered (read_table whole_context) own_table (λ t. table_without_places t.value) read_table-own _ m.tables
-        (both_of_each (λ t. (IsRangedTable t.value × HasNoEmptyInit t.value.init) × AllFoldable o m (init_list t)) (IsIndexedTable (module_of m)) (λ t. table_without_places t.value) m.tables
-        (and_each (λ t. IsRangedTable t.value × HasNoEmptyInit t.value.init) (λ t. AllFoldable o m (init_list t)) m.tables
+        (both_of_each (λ t. (IsRangedTable t.value × HasNoEmptyInit t.value.init) × AllFoldable folding m (init_list t)) (IsIndexedTable (module_of m)) (λ t. table_without_places t.value) m.tables
+        (and_each (λ t. IsRangedTable t.value × HasNoEmptyInit t.value.init) (λ t. AllFoldable folding m (init_list t)) m.tables
         (and_each (λ t. IsRangedTable t.value) (λ t. HasNoEmptyInit t.value.init) m.tables h.each_table some) foldable.tables) k.tables)
 
     read_memories : each read_memory (map_numbered own_memory (before MemoryKind) m.memories) ≡ Some (without_places m.memories)
@@ -474,8 +473,8 @@ module _ (o : Options) (names : Names) (m : PlacedModule) where
     read_globals : each (read_global whole_context) (map_numbered own_global (before GlobalKind) m.globals) ≡ Some (each_value global_without_places m.globals)
     read_globals =
         each-numbered (read_global whole_context) own_global (λ g. global_without_places g.value) read_global-own _ m.globals
-        (both_of_each (λ g. IsRangedGlobal g.value × Foldable o m g.value.init) (IsIndexedGlobal (module_of m)) (λ g. global_without_places g.value) m.globals
-        (and_each (λ g. IsRangedGlobal g.value) (λ g. Foldable o m g.value.init) m.globals h.each_global foldable.globals) k.globals)
+        (both_of_each (λ g. IsRangedGlobal g.value × Foldable folding m g.value.init) (IsIndexedGlobal (module_of m)) (λ g. global_without_places g.value) m.globals
+        (and_each (λ g. IsRangedGlobal g.value) (λ g. Foldable folding m g.value.init) m.globals h.each_global foldable.globals) k.globals)
 
     read_exports : each (read_export whole_context) (map_numbered own_export 0 m.exports) ≡ Some (without_places m.exports)
     read_exports =
@@ -485,14 +484,14 @@ module _ (o : Options) (names : Names) (m : PlacedModule) where
     read_elements : each (read_element whole_context) (map_numbered (own_element false) 0 m.elements) ≡ Some (each_value element_without_places m.elements)
     read_elements =
         each-numbered (read_element whole_context) (own_element false) (λ e. element_without_places e.value) read_element-own 0 m.elements
-        (both_of_each (λ e. IsRangedElement e.value × AllFoldable o m (element_lists false e)) (IsIndexedElement (module_of m)) (λ e. element_without_places e.value) m.elements
-        (and_each (λ e. IsRangedElement e.value) (λ e. AllFoldable o m (element_lists false e)) m.elements h.each_element foldable.elements) k.elements)
+        (both_of_each (λ e. IsRangedElement e.value × AllFoldable folding m (element_lists false e)) (IsIndexedElement (module_of m)) (λ e. element_without_places e.value) m.elements
+        (and_each (λ e. IsRangedElement e.value) (λ e. AllFoldable folding m (element_lists false e)) m.elements h.each_element foldable.elements) k.elements)
 
     read_datas : each (read_data whole_context) (map_numbered (own_data false) 0 m.datas) ≡ Some (each_value data_without_places m.datas)
     read_datas =
         each-numbered (read_data whole_context) (own_data false) (λ d. data_without_places d.value) read_data-own 0 m.datas
-        (both_of_each (λ d. IsRangedData d.value × AllFoldable o m (data_lists d)) (IsIndexedData (module_of m)) (λ d. data_without_places d.value) m.datas
-        (and_each (λ d. IsRangedData d.value) (λ d. AllFoldable o m (data_lists d)) m.datas h.each_data foldable.datas) k.datas)
+        (both_of_each (λ d. IsRangedData d.value × AllFoldable folding m (data_lists d)) (IsIndexedData (module_of m)) (λ d. data_without_places d.value) m.datas
+        (and_each (λ d. IsRangedData d.value) (λ d. AllFoldable folding m (data_lists d)) m.datas h.each_data foldable.datas) k.datas)
 
     read_types : each (read_group all_spaces.types) (group_bodies names 0 m.types) ≡ Some own_groups
     unfolding all_spaces
@@ -538,12 +537,12 @@ module _ (o : Options) (names : Names) (m : PlacedModule) where
   unidentified_kinds [] = refl
   unidentified_kinds (k ∷ ks) = unidentified_fields k (kinds_items false ks) (unidentified_kinds ks)
 
-  no_identifier : IsUnidentified (module_items false)
+  pub no_identifier : IsUnidentified (module_items false)
   unfolding module_items
   no_identifier = unidentified_kinds section_order
 
   -- behind the word `module` stand the module's identifier and its fields
-  pub module_reads : AreApart names → AreNamed names → CanFold o m → IsIndexed (module_of m) → IsRanged m → AllByRecursion (λ t. HasNoEmptyInit t.value.init) m.tables →
+  pub module_reads : AreApart names → AreNamed names → CanFold folding m → IsIndexed (module_of m) → IsRanged m → AllByRecursion (λ t. HasNoEmptyInit t.value.init) m.tables →
       read_forest (Group (Word (codes "module") (onto (id_items names.module_name) (module_items false))) End) ≡ Some (record (module_of m) { customs = [] })
   module_reads apart named foldable k h some =
       rw (declaration-items names.module_name (module_items false) no_identifier, fields-module_items h, module_of-all_fields apart named foldable k h some)

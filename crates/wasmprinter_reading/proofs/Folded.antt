@@ -9,5 +9,6 @@ pub mod Texts
 pub mod Spelled
 pub mod Writes
 pub mod ReadBack
+pub mod Groups
 pub mod Lists
 pub mod Begins

@@ -4,4 +4,7 @@ pub mod Bare
 pub mod FoldedBodies
 pub mod Fields
 pub mod Taken
+pub mod Counts
+pub mod Nodes
+pub mod CountedBodies
 pub mod Kept

@@ -24,6 +24,7 @@ pub mod Fields
 pub mod Sorted
 pub mod DeclaredTypes
 pub mod Foldable
+pub mod AsAsked
 pub mod Back
 pub mod Written
 pub mod Stays
@@ -33,4 +34,6 @@ pub mod AsFlat
 pub mod Hints
 pub mod OperatorRows
 pub mod ModuleRows
+pub mod NodeRows
+pub mod Trees
 pub mod Names

@@ -1,5 +1,6 @@
 -- Printed text reads back, and its tokens do not depend on places and indent.
 use Rattle.std.proofs.Common.{◌≡◌, ℕ, ◌+◌, cond, List, [], ◌∷◌, ◌++◌, Option, Some, None, refl, sym, ap, ◌∙◌, codes, Bool, false, subst, append-nil, map}
+use Rattle.std.specs.List.{AllByRecursion}
 use Rattle.std.proofs.lemmas.Str.{is_utf8-from_IsUtf8}
 use Rattle.wasmprinter_spec.specs.Grammar.{◌>>=◌}
 use Rattle.wasmprinter_spec.specs.Forest.{Forest, End, Word, Name, String, Reserved, Group, Note, onto, forest, without_annotations, row_customs, customs}
@@ -15,10 +16,13 @@ use Rattle.wasmprinter_spec.specs.Customs.Hints.{FunctionHints, hints_of, hints_
 use Rattle.wasmprinter_spec.specs.Placed.{PlacedModule, PlacedFunction}
 use Rattle.wasmprinter_spec.specs.Names.{Names, AreNamed}
 use Rattle.wasmprinter_spec.specs.Labels.{Named}
-use Rattle.wasmprinter_spec.specs.Layout.Declarations.{Scope}
+use Rattle.wasmprinter_spec.specs.Layout.Declarations.{Folding, Scope, folding_of}
 use Rattle.wasmprinter_spec.specs.ModuleNames.{module_names}
+use Rattle.wasmprinter_spec.specs.Limits.{HasNoEmptyInit}
+use Rattle.wasmprinter_spec.specs.Indexed.{IsIndexed}
 use Rattle.wasmprinter_spec.specs.Module.{Module, module_of}
-use Rattle.wasmprinter_spec.specs.Layout.{section_order, module_pieces_with, module_pieces, layout, refusal}
+use Rattle.wasmprinter_spec.specs.Layout.Customs.{laid_parts}
+use Rattle.wasmprinter_spec.specs.Layout.{section_order, module_pieces, layout, parts_by, pieces_by}
 use Rattle.wasmprinter_spec.specs.Laws.{ReadsBack, TokensStay, PrintsPlainText}
 use Rattle.wasmprinter_spec.specs.Read.{read, read_groups, read_forest, read_customs}
 use Rattle.wasmprinter_spec.specs.Text.Items.{each}
@@ -34,11 +38,13 @@ use Rattle.wasmprinter_lexical.proofs.Respelled.{all_lexed, pieces_lexed}
 use Rattle.wasmprinter_lexical.proofs.Noted.{Noted, noted-without_annotations, noted-raw_groups}
 use Rattle.wasmprinter_lexical.proofs.Writes.{Writes, pieces_tokens, writes_text, writes_forest}
 use Rattle.wasmprinter_reading.proofs.Identifiers.{id_items}
+use Rattle.wasmprinter_reading.proofs.Folded.Lists.{IsUnpainted}
 use Rattle.wasmprinter_reading.proofs.Fields.Functions.{functions_hinted}
 use Rattle.wasmprinter_reading.proofs.Customs.Notes.{at_place, RowReads, both_rows}
 use Rattle.wasmprinter_reading.proofs.Customs.Places.{raws_over, raws_over_all}
 use Rattle.wasmprinter_reading.proofs.Written.{fields_noted, fields_write, noting, noted, kinds_noted, module_noted, laid, module_writes, Stands, module_stands}
-use Rattle.wasmprinter_reading.proofs.Foldable.{can_fold}
+use Rattle.wasmprinter_reading.proofs.Foldable.{CanFold}
+use Rattle.wasmprinter_reading.proofs.AsAsked.{pieces_as_asked, layout_as_asked, refused_as_asked, can_fold_as_asked, unpainted_as_asked}
 use Rattle.wasmprinter_reading.proofs.Back.{early, before, module_items, module_reads}
 
 -- ---- raw custom sections read back
@@ -77,56 +83,56 @@ each-map : {A B C : Type 0} (f : B → Option C) (g : A → B) (xs : List A) →
 each-map f g [] = refl
 each-map f g (x ∷ xs) = ap (λ t. f (g x) >>= λ y. t >>= λ ys. Some (y ∷ ys)) (each-map f g xs)
 
-module _ (o : Options) (names : Names) (named : AreNamed names) (m : PlacedModule) (h : IsRanged m) (plain : o.paints ≡ false) (answers : Answers) (unclaimed : AreUnclaimed answers)
-    (whole : o.skeleton ≡ false) where
+module _ (folding : Option Folding) (bare : IsUnpainted folding) (o : Options) (names : Names) (named : AreNamed names) (m : PlacedModule) (h : IsRanged m) (answers : Answers)
+    (unclaimed : AreUnclaimed answers) (whole : o.skeleton ≡ false) where
   raws : Option Kind → List RawCustom
   raws place = raw_customs (at_place place m.customs)
 
   own_noted : Option Kind → Forest
-  own_noted place = noted o names named m h plain answers place
+  own_noted place = noted folding bare o names named m h answers place
 
   place_row : (place : Option Kind) → RawRow (own_noted place) (raws place)
   unfolding own_noted raws
-  place_row place = record { reads = (noting o names named m h plain answers place).reads unclaimed whole }
+  place_row place = record { reads = (noting folding bare o names named m h answers place).reads unclaimed whole }
 
   -- no custom section is among the fields
-  fields_row : (k : Kind) → RawRow (fields_noted o names named m h plain k) []
+  fields_row : (k : Kind) → RawRow (fields_noted folding bare o names named m h k) []
   fields_row CodeSection =
-      record { reads = functions_row o.skeleton (early o names m) (hints_of m.customs) (before o names m FuncKind) m.functions }
-  fields_row k = plain_row (fields_write o names named m h plain k)
+      record { reads = functions_row o.skeleton (early folding names m) (hints_of m.customs) (before folding names m FuncKind) m.functions }
+  fields_row k = plain_row (fields_write folding bare o names named m h k)
 
   -- those behind the fields of sections in order
-  kinds_row : (ks : List Kind) → RawRow (kinds_noted o names named m h plain answers ks) (raws_over (map Some ks) m.customs)
+  kinds_row : (ks : List Kind) → RawRow (kinds_noted folding bare o names named m h answers ks) (raws_over (map Some ks) m.customs)
   unfolding own_noted raws
   kinds_row [] = record { reads = refl }
   kinds_row (k ∷ ks) = raw_rows (fields_row k) (raw_rows (place_row (Some k)) (kinds_row ks))
 
-  module_row : RawRow (module_noted o names named m h plain answers) (raw_customs m.customs)
+  module_row : RawRow (module_noted folding bare o names named m h answers) (raw_customs m.customs)
   unfolding module_noted own_noted raws
   module_row =
-      subst (RawRow (module_noted o names named m h plain answers)) (raws_over_all 0 m.customs h.customs_in_order)
+      subst (RawRow (module_noted folding bare o names named m h answers)) (raws_over_all 0 m.customs h.customs_in_order)
       (raw_rows (place_row None) (kinds_row section_order))
 
   abbrev own_items : Forest
-  own_items = Group (Word (codes "module") (onto (id_items names.module_name) (module_items o names m o.skeleton))) End
+  own_items = Group (Word (codes "module") (onto (id_items names.module_name) (module_items folding names m o.skeleton))) End
 
   abbrev own_forest : Forest
-  own_forest = Group (Word (codes "module") (onto (id_items names.module_name) (module_noted o names named m h plain answers))) End
+  own_forest = Group (Word (codes "module") (onto (id_items names.module_name) (module_noted folding bare o names named m h answers))) End
 
   customs_read : (f : Forest) → Noted f own_forest → read_customs f ≡ Some (raw_customs m.customs)
   customs_read f n =
       each-map read_custom without_annotations (customs f)
       ∙ ap (each read_custom) (noted-raw_groups n)
-      ∙ ap (λ cs. each read_custom (map without_annotations cs)) (append-nil (row_customs (onto (id_items names.module_name) (module_noted o names named m h plain answers))))
+      ∙ ap (λ cs. each read_custom (map without_annotations cs)) (append-nil (row_customs (onto (id_items names.module_name) (module_noted folding bare o names named m h answers))))
       ∙ (raw_rows (id_row names.module_name) module_row).reads
 
   -- ---- the text reads as the module
 
-  read_pieces : IsBlank o.indent → (laid o names named m h plain answers).refused ≡ None → (x : Module) → read_forest own_items ≡ Some x →
-      read (text_of (all_calls o (module_pieces_with o answers names m))) ≡ Some (record x { customs = raw_customs m.customs })
+  read_pieces : IsBlank o.indent → (laid folding bare o names named m h answers).refused ≡ None → (x : Module) → read_forest own_items ≡ Some x →
+      read (text_of (all_calls o (pieces_by folding o answers names m))) ≡ Some (record x { customs = raw_customs m.customs })
   read_pieces blank none x e =
-      let ps : List Piece = module_pieces_with o answers names m in
-      let w = module_writes o names named m h plain answers none in
+      let ps : List Piece = pieces_by folding o answers names m in
+      let w = module_writes folding bare o names named m h answers none in
       let readable : IsPlainText (text_of (all_calls o ps)) = subst IsPlainText (sym (writes_text o ps w)) (text_is_plain o blank w.printed w.are) in
       ap (λ t. cond t (forest (text_of (all_calls o ps)) >>= read_groups) None) (is_utf8-from_IsUtf8 _ (plain_is_utf8 _ readable))
       ∙ ap (λ f. f >>= read_groups) (writes_forest o blank ps w)
@@ -134,52 +140,63 @@ module _ (o : Options) (names : Names) (named : AreNamed names) (m : PlacedModul
       ∙ ap (λ r. r >>= λ y. read_customs w.whole >>= λ cs. Some (record y { customs = cs })) e
       ∙ ap (λ r. r >>= λ cs. Some (record x { customs = cs })) (customs_read w.whole w.noted)
 
--- ---- the laws
+-- ---- of a module with its own identifiers
 
-module _ (o : Options) (answers : Answers) (m : PlacedModule) (h : IsRanged m) (plain : o.paints ≡ false) (blank : IsBlank o.indent) where
+module _ (folding : Option Folding) (bare : IsUnpainted folding) (o : Options) (answers : Answers) (m : PlacedModule) (h : IsRanged m) (blank : IsBlank o.indent) where
   abbrev own_names : Names
   own_names = module_names o.invents m
+
+  abbrev own_pieces : List Piece
+  own_pieces = pieces_by folding o answers own_names m
 
   named : AreNamed own_names
   named = module_names_named o.invents m h
 
-  layout_stands : Stands (module_pieces o answers m)
-  unfolding module_pieces
-  layout_stands = module_stands o own_names named m h plain answers
+  pieces_stand : Stands own_pieces
+  pieces_stand = module_stands folding bare o own_names named m h answers
 
-  layout_text : text_of (all_calls o (module_pieces o answers m)) ≡ text_of (all_calls o layout_stands.printed)
-  layout_text = text_of-all_calls o (module_pieces o answers m) ∙ layout_stands.spelled.text o ∙ sym (text_of-all_calls o layout_stands.printed)
+  pieces_text : text_of (all_calls o own_pieces) ≡ text_of (all_calls o pieces_stand.printed)
+  pieces_text = text_of-all_calls o own_pieces ∙ pieces_stand.spelled.text o ∙ sym (text_of-all_calls o pieces_stand.printed)
 
-  layout_tokens : tokens (text_of (all_calls o (module_pieces o answers m))) ≡ all_lexed (module_pieces o answers m)
-  layout_tokens =
-      ap tokens layout_text
-      ∙ pieces_tokens o blank layout_stands.printed layout_stands.joins layout_stands.are
-      ∙ sym (layout_stands.spelled.tokens ∙ pieces_lexed layout_stands.printed layout_stands.are)
+  tokens_of_pieces : tokens (text_of (all_calls o own_pieces)) ≡ all_lexed own_pieces
+  tokens_of_pieces =
+      ap tokens pieces_text
+      ∙ pieces_tokens o blank pieces_stand.printed pieces_stand.joins pieces_stand.are
+      ∙ sym (pieces_stand.spelled.tokens ∙ pieces_lexed pieces_stand.printed pieces_stand.are)
 
-  layout_is_plain : IsPlainText (text_of (all_calls o (module_pieces o answers m)))
-  layout_is_plain = subst IsPlainText (sym layout_text) (text_is_plain o blank layout_stands.printed layout_stands.are)
+  pub pieces_are_plain : IsPlainText (text_of (all_calls o own_pieces))
+  pieces_are_plain = subst IsPlainText (sym pieces_text) (text_is_plain o blank pieces_stand.printed pieces_stand.are)
 
-  read_layout : AreUnclaimed answers → o.skeleton ≡ false → refusal o answers m ≡ None → (x : Module) →
-      read_forest (Group (Word (codes "module") (onto (id_items own_names.module_name) (module_items o own_names m o.skeleton))) End) ≡ Some x →
-      read (text_of (all_calls o (module_pieces o answers m))) ≡ Some (record x { customs = raw_customs m.customs })
-  unfolding module_pieces
-  read_layout unclaimed whole none x e = read_pieces o own_names named m h plain answers unclaimed whole blank none x e
+  -- however operators are folded
+  pub pieces_read_back : AreUnclaimed answers → o.skeleton ≡ false → IsIndexed (module_of m) → AllByRecursion (λ t. HasNoEmptyInit t.value.init) m.tables →
+      CanFold folding m → (laid_parts (parts_by folding o answers own_names m)).refused ≡ None → read (text_of (all_calls o own_pieces)) ≡ Some (module_of m)
+  pieces_read_back unclaimed whole indexed some foldable none =
+      read_pieces folding bare o own_names named m h answers unclaimed whole blank none (record (module_of m) { customs = [] })
+      (ap (λ s. read_forest (Group (Word (codes "module") (onto (id_items own_names.module_name) (module_items folding own_names m s))) End)) whole
+      ∙ module_reads folding own_names m (module_names_apart o.invents m h) named foldable indexed h some)
+
+-- ---- the laws, where operators are folded as the options say
 
 pub reads_back : ReadsBack
-unfolding layout
 reads_back bytes m o answers spelled indexed some whole plain blank unclaimed foldable none =
-    let h : IsRanged m = ranged bytes m spelled in
-    let names : Names = module_names o.invents m in
-    read_layout o answers m h plain blank unclaimed whole none (record (module_of m) { customs = [] })
-    (ap (λ s. read_forest (Group (Word (codes "module") (onto (id_items names.module_name) (module_items o names m s))) End)) whole
-    ∙ module_reads o names m (module_names_apart o.invents m h) (module_names_named o.invents m h) (can_fold o m whole foldable) indexed h some)
+    ap (λ cs. read (text_of cs)) (layout_as_asked o answers m)
+    ∙ pieces_read_back (folding_of o m) (unpainted_as_asked o m plain) o answers m (ranged bytes m spelled) blank unclaimed whole indexed some
+    (can_fold_as_asked o m whole foldable) (sym (refused_as_asked o answers m) ∙ none)
 
 pub prints_plain_text : PrintsPlainText
-unfolding layout
-prints_plain_text bytes m o answers spelled plain blank = layout_is_plain o answers m (ranged bytes m spelled) plain blank
+prints_plain_text bytes m o answers spelled plain blank =
+    subst (λ cs. IsPlainText (text_of cs)) (sym (layout_as_asked o answers m))
+    (pieces_are_plain (folding_of o m) (unpainted_as_asked o m plain) o answers m (ranged bytes m spelled) blank)
+
+layout_tokens : (o : Options) (answers : Answers) (m : PlacedModule) → IsRanged m → o.paints ≡ false → IsBlank o.indent →
+    tokens (text_of (layout o answers m)) ≡ all_lexed (module_pieces o answers m)
+unfolding module_pieces
+layout_tokens o answers m h plain blank =
+    ap (λ cs. tokens (text_of cs)) (layout_as_asked o answers m)
+    ∙ tokens_of_pieces (folding_of o m) (unpainted_as_asked o m plain) o answers m h blank
+    ∙ ap all_lexed (sym (pieces_as_asked o answers (module_names o.invents m) m))
 
 pub tokens_stay : TokensStay
-unfolding layout
 tokens_stay bytes m o p answers spelled same invents folds plain_o plain_p blank_o blank_p =
     let h : IsRanged m = ranged bytes m spelled in
     layout_tokens o answers m h plain_o blank_o ∙ module_pieces_stay o p same folds (plain_o ∙ sym plain_p) invents answers m ∙ sym (layout_tokens p answers m h plain_p blank_p)

@@ -1,5 +1,5 @@
 -- A module: what its pieces write, field by field, with the custom sections at their places among them.
-use Rattle.std.proofs.Common.{◌≡◌, ℕ, ◌≤◌, ◌+◌, ◌^◌, List, [], ◌∷◌, ◌++◌, length, Option, Some, None, refl, sym, ap, ◌∙◌, suc, ◌-◌, cond, Bool, false, codes, arith, true, subst}
+use Rattle.std.proofs.Common.{◌≡◌, ℕ, ◌≤◌, ◌+◌, ◌^◌, List, [], ◌∷◌, ◌++◌, length, Option, Some, None, refl, sym, ap, ◌∙◌, suc, ◌-◌, codes, arith, true, subst}
 use Rattle.std.specs.Prelude.{flat_map}
 use Rattle.std.specs.List.{AllByRecursion}
 use Rattle.wasmprinter_spec.specs.Character.{class}
@@ -14,11 +14,10 @@ use Rattle.wasmprinter_spec.specs.Placed.{PlacedModule, PlacedFunction}
 use Rattle.wasmprinter_spec.specs.Names.{Names, AreNamed}
 use Rattle.wasmprinter_spec.specs.Layout.Identifiers.{leading_mark_pieces}
 use Rattle.wasmprinter_spec.specs.Layout.Customs.{Laid, laid_parts}
-use Rattle.wasmprinter_spec.specs.Folding.Arities.{signatures_within}
-use Rattle.wasmprinter_spec.specs.Layout.Declarations.{folding_of}
+use Rattle.wasmprinter_spec.specs.Layout.Declarations.{Folding}
 use Rattle.wasmprinter_spec.specs.Layout.Functions.{function_pieces, functions_pieces}
 use Rattle.wasmprinter_spec.specs.Layout.Imports.{no_numbers}
-use Rattle.wasmprinter_spec.specs.Layout.{section_pieces, section_order, section_parts, module_parts, module_pieces_of, module_pieces_with}
+use Rattle.wasmprinter_spec.specs.Layout.{section_pieces, section_order, section_parts, module_pieces_of, parts_by, pieces_by}
 use Rattle.wasmprinter_lexical.proofs.Pieces.{Free, Bound, pieces_follow, ArePieces}
 use Rattle.wasmprinter_lexical.proofs.Respelled.{Respelled, first_spelled}
 use Rattle.wasmprinter_lexical.proofs.Writes.{Writes, WritesNoted, IsWritten, written, writes_joined, both_write, nothing_writes, break_writes, begin_writes, group_at_then, feed_writes}
@@ -51,90 +50,83 @@ pub record Stands (ps : List Piece) : Type 0 where
   pub joins : pieces_follow Free printed ≡ true
   pub are : ArePieces printed
 
-module _ (o : Options) (names : Names) (named : AreNamed names) (m : PlacedModule) (h : IsRanged m) (plain : o.paints ≡ false) where
-  signatures : AreSignaturesInRange (signature_at (own_types o names m))
-  signatures = signatures_ranged o names m h
-
-  bare : IsUnpainted (folding_of o m)
-  bare = by o.folds
-    where
-      by : (t : Bool) → IsUnpainted (cond t (Some (record { paints = o.paints; signatures = signatures_within m })) None)
-      by true = plain
-      by false = tt
+module _ (folding : Option Folding) (bare : IsUnpainted folding) (o : Options) (names : Names) (named : AreNamed names) (m : PlacedModule) (h : IsRanged m) where
+  signatures : AreSignaturesInRange (signature_at (own_types folding names m))
+  signatures = signatures_ranged folding names m h
 
   -- ---- the fields of each section
 
   -- what waits behind a function
-  next_waiting : (i : ℕ) → before o names m FuncKind ≤ i →
-      hints_behind i (waiting o names m (i - before o names m FuncKind)) ≡ waiting o names m (i + 1 - before o names m FuncKind)
+  pub next_waiting : (i : ℕ) → before folding names m FuncKind ≤ i →
+      hints_behind i (waiting folding names m (i - before folding names m FuncKind)) ≡ waiting folding names m (i + 1 - before folding names m FuncKind)
   next_waiting i low =
-      let b : ℕ = before o names m FuncKind in
+      let b : ℕ = before folding names m FuncKind in
       let same : i ≡ b + (i - b) = omega (arith, low) in
       let more : suc (i - b) ≡ i + 1 - b = omega (arith, low) in
-      ap (λ k. hints_behind k (waiting o names m (i - b))) same ∙ ap (waiting o names m) more
+      ap (λ k. hints_behind k (waiting folding names m (i - b))) same ∙ ap (waiting folding names m) more
 
   -- functions from i on, before which these hints wait, are written with those that they take
   abbrev AreWritten : List FunctionHints → ℕ → List PlacedFunction → Type 0
   AreWritten es i fs =
-      WritesNoted Bound (functions_pieces o (early o names m) es i fs) Bound
-      (field_rows (codes "func") (own_function o names m o.skeleton) i fs) (functions_hinted o.skeleton (early o names m) es i fs)
+      WritesNoted Bound (functions_pieces o (early folding names m) es i fs) Bound
+      (field_rows (codes "func") (own_function folding names m o.skeleton) i fs) (functions_hinted o.skeleton (early folding names m) es i fs)
 
   -- the hints that the functions take, in order
-  own_functions_write : (i : ℕ) → before o names m FuncKind ≤ i → (fs : List PlacedFunction) → i + length fs ≤ 2 ^ 64 →
-      AllByRecursion IsRangedFunction fs → AreWritten (waiting o names m (i - before o names m FuncKind)) i fs
+  own_functions_write : (i : ℕ) → before folding names m FuncKind ≤ i → (fs : List PlacedFunction) → i + length fs ≤ 2 ^ 64 →
+      AllByRecursion IsRangedFunction fs → AreWritten (waiting folding names m (i - before folding names m FuncKind)) i fs
   unfolding functions_pieces function_pieces rows
   own_functions_write i low [] small k = nothing_writes
   own_functions_write i low (f ∷ fs) small k =
-      let hs : List (Placed Hint) = own_hints o names m i in
+      let hs : List (Placed Hint) = own_hints folding names m i in
       both_write
-      (break_writes (function_writes (early o names m) named signatures bare {a = Free} refl o.skeleton o.offsets i hs f (omega arith) k.0))
+      (break_writes (function_writes (early folding names m) named signatures bare {a = Free} refl o.skeleton o.offsets i hs f (omega arith) k.0))
       (subst (λ es. AreWritten es (i + 1) fs) (sym (next_waiting i low))
       (own_functions_write (i + 1) (omega (arith, low)) fs (omega arith) k.1))
 
-  functions_write : AreWritten (hints_of m.customs) (before o names m FuncKind) m.functions
+  functions_write : AreWritten (hints_of m.customs) (before folding names m FuncKind) m.functions
   functions_write =
-      let b : ℕ = before o names m FuncKind in
+      let b : ℕ = before folding names m FuncKind in
       let none : b - b ≡ 0 = omega arith in
-      subst (λ (k : ℕ). AreWritten (waiting o names m k) b m.functions) none
-      (own_functions_write b (omega arith) m.functions (numbers_fit o names m h FuncKind _ h.functions) h.each_function)
+      subst (λ (k : ℕ). AreWritten (waiting folding names m k) b m.functions) none
+      (own_functions_write b (omega arith) m.functions (numbers_fit folding names m h FuncKind _ h.functions) h.each_function)
 
   -- the fields of the section of a kind with their hints, which functions alone have
   abbrev pub fields_noted : Kind → Forest
-  fields_noted CodeSection = functions_hinted o.skeleton (early o names m) (hints_of m.customs) (before o names m FuncKind) m.functions
-  fields_noted kind = fields_items o names m o.skeleton kind
+  fields_noted CodeSection = functions_hinted o.skeleton (early folding names m) (hints_of m.customs) (before folding names m FuncKind) m.functions
+  fields_noted kind = fields_items folding names m o.skeleton kind
 
   pub fields_write : (kind : Kind) →
-      WritesNoted Bound (section_pieces o (early o names m) m kind) Bound (fields_items o names m o.skeleton kind) (fields_noted kind)
+      WritesNoted Bound (section_pieces o (early folding names m) m kind) Bound (fields_items folding names m o.skeleton kind) (fields_noted kind)
   fields_write TypeSection = type_section_writes names named 0 m.types (omega (arith, h.types)) h.each_group
   fields_write ImportSection =
       let small : 0 + length m.imports ≤ 2 ^ 64 = omega (arith, h.imports) in
-      imports_write (early o names m) named signatures no_numbers m.imports
+      imports_write (early folding names m) named signatures no_numbers m.imports
       (record { functions = small; tables = small; memories = small; globals = small; tags = small })
       h.each_import
   fields_write FunctionSection = nothing_writes
   fields_write TableSection =
-      numbered_writes _ _ _ (table_writes (early o names m) named signatures bare)
-      _ m.tables (numbers_fit o names m h TableKind _ h.tables) h.each_table
+      numbered_writes _ _ _ (table_writes (early folding names m) named signatures bare)
+      _ m.tables (numbers_fit folding names m h TableKind _ h.tables) h.each_table
   fields_write MemorySection =
-      numbered_writes _ _ _ (memory_writes (early o names m) named)
-      _ m.memories (numbers_fit o names m h MemoryKind _ h.memories) h.each_memory
+      numbered_writes _ _ _ (memory_writes (early folding names m) named)
+      _ m.memories (numbers_fit folding names m h MemoryKind _ h.memories) h.each_memory
   fields_write TagSection =
-      numbered_writes _ _ _ (tag_writes (early o names m) named signatures)
-      _ m.tags (numbers_fit o names m h TagKind _ h.tags) h.each_tag
+      numbered_writes _ _ _ (tag_writes (early folding names m) named signatures)
+      _ m.tags (numbers_fit folding names m h TagKind _ h.tags) h.each_tag
   fields_write GlobalSection =
-      numbered_writes _ _ _ (global_writes (early o names m) named signatures bare)
-      _ m.globals (numbers_fit o names m h GlobalKind _ h.globals) h.each_global
+      numbered_writes _ _ _ (global_writes (early folding names m) named signatures bare)
+      _ m.globals (numbers_fit folding names m h GlobalKind _ h.globals) h.each_global
   fields_write ExportSection =
-      numbered_writes _ _ _ (λ i e small k. export_writes (early o names m) named e k)
+      numbered_writes _ _ _ (λ i e small k. export_writes (early folding names m) named e k)
       0 m.exports (omega (arith, h.exports)) h.each_export
-  fields_write StartSection = start_writes (early o names m) named m.start h.start
+  fields_write StartSection = start_writes (early folding names m) named m.start h.start
   fields_write ElementSection =
-      numbered_writes _ _ _ (element_writes (early o names m) named signatures bare o.skeleton)
+      numbered_writes _ _ _ (element_writes (early folding names m) named signatures bare o.skeleton)
       0 m.elements (omega (arith, h.elements)) h.each_element
   fields_write DataCountSection = nothing_writes
   fields_write CodeSection = functions_write
   fields_write DataSection =
-      numbered_writes _ _ _ (data_writes (late o names m) named signatures bare o.skeleton)
+      numbered_writes _ _ _ (data_writes (late folding names m) named signatures bare o.skeleton)
       0 m.datas (omega (arith, h.datas)) h.each_data
   fields_write CustomSection = nothing_writes
 
@@ -157,35 +149,35 @@ module _ (o : Options) (names : Names) (named : AreNamed names) (m : PlacedModul
     module_noted = onto (noted None) (kinds_noted section_order)
 
     kinds_write : (ks : List Kind) →
-        PartsWrite (flat_map (section_parts o (early o names m) m answers) ks) (kinds_items o names m o.skeleton ks) (kinds_noted ks)
+        PartsWrite (flat_map (section_parts o (early folding names m) m answers) ks) (kinds_items folding names m o.skeleton ks) (kinds_noted ks)
     kinds_write [] = no_parts
     kinds_write (k ∷ ks) = shown (fields_write k) (both_parts (noting (Some k)).write (kinds_write ks))
 
-    pub parts_write : PartsWrite (module_parts o answers names m) (module_items o names m o.skeleton) module_noted
-    unfolding module_parts module_noted module_items
+    pub parts_write : PartsWrite (parts_by folding o answers names m) (module_items folding names m o.skeleton) module_noted
+    unfolding parts_by module_noted module_items
     parts_write = both_parts (noting None).write (kinds_write section_order)
 
     -- ---- the module
 
     abbrev pub laid : Laid
-    laid = laid_parts (module_parts o answers names m)
+    laid = laid_parts (parts_by folding o answers names m)
 
-    pub module_writes : laid.refused ≡ None → WritesNoted Free (module_pieces_with o answers names m) Free
-        (Group (Word (codes "module") (onto (id_items names.module_name) (module_items o names m o.skeleton))) End)
+    pub module_writes : laid.refused ≡ None → WritesNoted Free (pieces_by folding o answers names m) Free
+        (Group (Word (codes "module") (onto (id_items names.module_name) (module_items folding names m o.skeleton))) End)
         (Group (Word (codes "module") (onto (id_items names.module_name) module_noted)) End)
-    unfolding module_pieces_with class
+    unfolding pieces_by class
     module_writes none =
         let last : Writes Bound (Feed ∷ []) Free End = feed_writes nothing_writes in
         let held = both_write (leading_mark_writes names.module_name named.module_name) (parts_whole parts_write none) in
         let inner : List Piece = leading_mark_pieces names.module_name ++ laid.pieces in
         let written = begin_writes {place = 0} (group_at_then o.offsets m.size 0 (codes "module") inner (Feed ∷ []) refl refl held last) in
         subst (λ r. WritesNoted Free (module_pieces_of o names m.size laid.pieces r) Free
-        (Group (Word (codes "module") (onto (id_items names.module_name) (module_items o names m o.skeleton))) End)
+        (Group (Word (codes "module") (onto (id_items names.module_name) (module_items folding names m o.skeleton))) End)
         (Group (Word (codes "module") (onto (id_items names.module_name) module_noted)) End)) (sym none) written
 
     -- whole or not, its pieces may stand so
-    pub module_stands : Stands (module_pieces_with o answers names m)
-    unfolding module_pieces_with class
+    pub module_stands : Stands (pieces_by folding o answers names m)
+    unfolding pieces_by class
     module_stands = by laid.refused
       where
         inner : List Piece

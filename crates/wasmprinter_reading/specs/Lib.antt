@@ -4,3 +4,5 @@ pub mod OperatorLaws
 pub mod NameLaws
 pub mod LabelLaws
 pub mod FoldedLaws
+pub mod NodeLaws
+pub mod TreeLaws

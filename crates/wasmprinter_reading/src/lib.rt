@@ -6,6 +6,8 @@ ghost use Rattle.wasmprinter_spec.specs.Laws.{SpellsOne, TakesNested, ReadsBack,
 ghost use Rattle.wasmprinter_spec.specs.Laws.{PrintsPlainText, PlainTextIsUtf8, PlainTextHasNoColour, PlainTextsJoin};
 ghost use Rattle.wasmprinter_reading.specs.OperatorLaws.{OperatorsReadBack, NamedOperatorsReadBack};
 ghost use Rattle.wasmprinter_reading.specs.FoldedLaws.{FoldedOperatorsReadBack, FoldedModulesReadAsFlat};
+ghost use Rattle.wasmprinter_reading.specs.NodeLaws.{FoldedGroupsAreNodes};
+ghost use Rattle.wasmprinter_reading.specs.TreeLaws.{FoldedModulesHaveTrees};
 ghost use Rattle.wasmprinter_reading.specs.NameLaws.{NamesAreOneList, EntriesAreGiven, NameMapsAreListed, BytesGiveEntries};
 ghost use Rattle.wasmprinter_reading.specs.NameLaws.{IdentifiersAreApart, IdentifiersAreNamed, ModulesHaveIdentifiers, IdentifiersResolve};
 ghost use Rattle.wasmprinter_reading.specs.LabelLaws.{LabelsMeanTheirBlocks};
@@ -82,10 +84,24 @@ pub fn folded_operators_read_back()
     ensures { FoldedOperatorsReadBack }
 {}
 
+/// The groups of folded text are the nodes of its tree: of the text that is laid out for folded operators, whatever numbers of operands and
+/// results they are said to have, there is one group for each node, in the same order and at the same depth, and what stands in it in front
+/// of the nodes that it holds is what its own operator's text reads as, or the word `then` or `else`.
+pub fn folded_groups_are_nodes()
+    ensures { FoldedGroupsAreNodes }
+{}
+
 /// The text of a module whose operators are folded reads as its flat text does. The module and its text are as in the reading law
 /// ([`printed_text_reads_back`]), and all operators can be folded.
 pub fn folded_text_reads_as_flat()
     ensures { FoldedModulesReadAsFlat }
+{}
+
+/// The groups of the text of a module whose operators are folded are the nodes of its trees, field by field: a function has those of its
+/// body, a global and a table those of their initialisers, and a segment those of its offset and of its items. All operators can be folded,
+/// the text is no skeleton and has no colours, its indent is of blanks and tabs, and no `dylink.0` section is refused.
+pub fn folded_modules_have_trees()
+    ensures { FoldedModulesHaveTrees }
 {}
 
 /// Each data of a name section gives exactly one list of entries (appendix "Name Section" of the standard).

@@ -1,11 +1,13 @@
 //! A printer for tests, which writes down each call as it is made, and refuses one if it is told to.
 #![tactic(auto)]
 
-ghost use Rattle.std.specs.Prelude.{None, false};
+ghost use Rattle.std.specs.Prelude.{◌≡◌, false};
+ghost use Rattle.wasmprinter_recorder.specs.Counting.{Counts, counting};
 
 use std::alloc::{AllocError, Global};
 use std::io;
 use std::io::ErrorKind;
+use std::marker::Model;
 #[cfg(test)]
 use std::test::Fail;
 use wasmprinter_print::Print;
@@ -35,28 +37,46 @@ pub struct Recorder {
     taken: &'static str,
     /// A call could not be written down.
     lost: bool,
+    /// How many calls failed.
+    faults: u64,
+}
+
+// Contracts see how many calls failed, and nothing else.
+impl Model for Recorder {
+    ghost use Rattle.std.specs.Prelude.{ℕ};
+
+    ghost Value = { ℕ };
+
+    ghost view = { λ r. r.faults };
 }
 
 impl Recorder {
-    pub fn new(alloc: Global) -> Recorder {
+    pub fn new(alloc: Global) -> Recorder
+        ensures { result ≡ 0 }
+    {
         Recorder {
             calls: String::new(alloc),
             made: 0,
             refusal: None,
             taken: "",
             lost: false,
+            faults: 0,
         }
     }
 
     /// Refuses the call with the number among those that can fail, the first of which is 1.
-    pub fn with_refusal(alloc: Global, call: u32, kind: ErrorKind) -> Recorder {
+    pub fn with_refusal(alloc: Global, call: u32, kind: ErrorKind) -> Recorder
+        ensures { result ≡ 0 }
+    {
         let mut recorder = Recorder::new(alloc);
         recorder.refusal = Some((call, kind));
         recorder
     }
 
     /// Takes the custom sections with this name itself.
-    pub fn with_section_taken(alloc: Global, name: &'static str) -> Recorder {
+    pub fn with_section_taken(alloc: Global, name: &'static str) -> Recorder
+        ensures { result ≡ 0 }
+    {
         let mut recorder = Recorder::new(alloc);
         recorder.taken = name;
         recorder
@@ -77,26 +97,17 @@ impl Recorder {
         !self.lost
     }
 
-    fn write_text(&mut self, s: &str) -> Result<(), AllocError> {
-        for c in s.chars() {
-            match c {
-                '\n' => self.calls.push_str("\\n")?,
-                '{' | '}' | '[' | ']' | '\\' => write!(self.calls, "\\{c}")?,
-                _ => write!(self.calls, "{c}")?,
-            }
-        }
-        Ok(())
-    }
-
-    fn write_line(&mut self, place: Option<u64>) -> Result<(), AllocError> {
-        match place {
-            Some(place) => write!(self.calls, "[{place:#x}]"),
-            None => self.calls.push_str("[]"),
-        }
+    /// How many calls failed.
+    pub fn faults(&self) -> u64
+        ensures { result ≡ self.now }
+    {
+        self.faults
     }
 
     /// The answer to a call that was written down so.
-    fn answer(&mut self, written: Result<(), AllocError>) -> io::Result<()> {
+    fn answer(&mut self, written: Result<(), AllocError>) -> io::Result<()>
+        ensures { Counts self.old self.new result }
+    {
         self.made = self.made.saturating_add(1);
         if written.is_err() {
             self.lost = true;
@@ -106,30 +117,46 @@ impl Recorder {
                 if self.calls.push_str(REFUSED).is_err() {
                     self.lost = true;
                 }
+                self.faults = self.faults.saturating_add(1);
                 Err(io::Error::from(kind))
             }
             _ => Ok(()),
         }
     }
 
-    fn style(&mut self, word: &str) -> io::Result<()> {
+    fn style(&mut self, word: &str) -> io::Result<()>
+        ensures { Counts self.old self.new result }
+    {
         let written = self.calls.push_str(word);
         self.answer(written)
     }
 }
 
+fn write_text(calls: &mut String, s: &str) -> Result<(), AllocError> {
+    for c in s.chars() {
+        match c {
+            '\n' => calls.push_str("\\n")?,
+            '{' | '}' | '[' | ']' | '\\' => write!(calls, "\\{c}")?,
+            _ => write!(calls, "{c}")?,
+        }
+    }
+    Ok(())
+}
+
+fn write_line(calls: &mut String, place: Option<u64>) -> Result<(), AllocError> {
+    match place {
+        Some(place) => write!(calls, "[{place:#x}]"),
+        None => calls.push_str("[]"),
+    }
+}
+
 impl Print for Recorder {
-    ghost meaning = { record {
-      after = λ _ _ _. Unit {0};
-      may_fail = λ _ _. Unit {0};
-      partly = λ _ _ _ _. Unit {0};
-      faults = λ _. None;
-    } };
+    ghost meaning = { counting };
 
     ghost colors = { λ _. false };
 
     fn write_str(&mut self, s: &str) -> io::Result<()> {
-        let written = self.write_text(s);
+        let written = write_text(&mut self.calls, s);
         self.answer(written)
     }
 
@@ -139,7 +166,7 @@ impl Print for Recorder {
     }
 
     fn start_line(&mut self, binary_offset: Option<u64>) {
-        if self.write_line(binary_offset).is_err() {
+        if write_line(&mut self.calls, binary_offset).is_err() {
             self.lost = true;
         }
     }
@@ -202,6 +229,7 @@ fn writes_down_each_call_at_once(rt: HostRuntime) -> Result<(), Fail> {
         "[][0x1f]\\[0\\]\\n\\{K\\}\\\\\n{K}{? \"a\\\"b\" 0x8 [1, 2]}{T}{!}{R}[0x0]",
     )?;
     assert!(rt; recorder.call_count() == 6);
+    assert!(rt; recorder.faults() == 1);
     assert!(rt; recorder.is_complete());
     Ok(())
 }

@@ -24,7 +24,7 @@ use wasmprinter_text::types;
 use wasmprinter_text::types::composite::type_field;
 use wasmprinter_types::composite::{FuncType, SubType};
 use wasmprinter_types::{RefType, ValType};
-use wasmprinter_wasm::Module;
+use wasmprinter_wasm::{Fields, Module};
 
 /// How deep the fields of a module are nested.
 pub const FIELD_NESTING: u64 = 1;

@@ -24,7 +24,7 @@ use wasmprinter_lines::options::PrintOptions;
 use wasmprinter_print::Print;
 use wasmprinter_scope::scope::{ModuleTypes, Scope};
 use wasmprinter_text::indices::write_leading_mark;
-use wasmprinter_wasm::{ExternKind, Module, SectionKind};
+use wasmprinter_wasm::{ExternKind, Fields, Module, SectionKind};
 use wasmprinter_words::words::open;
 
 /// The kinds of sections, in the order of the sections.

@@ -24,7 +24,7 @@ use wasmprinter_foldable::hints::hints_of;
 use wasmprinter_lines::options::PrintOptions;
 use wasmprinter_print::Print;
 use wasmprinter_scope::scope::Scope;
-use wasmprinter_wasm::{ExternKind, Module, SectionKind};
+use wasmprinter_wasm::{ExternKind, Fields, Module, SectionKind};
 
 /// Writes the functions that the module defines, with their branch hints; their numbers begin behind the imported ones.
 fn write_functions<P: Print>(

@@ -14,7 +14,7 @@ ghost use Rattle.wasmprinter_entries.specs.Contents.{TakesHeld};
 use std::alloc::Global;
 use std::marker::Model;
 use wasmprinter_bytes::bytes::Cursor;
-use wasmprinter_bytes::lists::{Items, Spelled};
+use wasmprinter_bytes::lists::{Items, Spelled, read_items};
 use wasmprinter_entries::expected::expect_end;
 use wasmprinter_error::{Error, Malformed};
 use wasmprinter_ops::expression::{Expression, OperatorsReader};
@@ -121,7 +121,7 @@ impl<'a> Body<'a> {
         ensures end { end_of cursor.new ≡ end_of cursor.old }
     {
         let place = cursor.place();
-        let locals = Locals::read(cursor)?;
+        let locals = read_items(cursor)?;
         if are_too_many(&locals) {
             return Err(Error::TooManyLocals { place });
         }
@@ -169,14 +169,6 @@ impl<'a> Body<'a> {
         self.code.operators()
     }
 
-    /// The operators as an expression.
-    pub fn expression(&self) -> &Expression<'a>
-        ensures operators { result.now.items ≡ self.now.value.operators }
-        ensures end { result.now.end ≡ self.now.value.end }
-    {
-        &self.code
-    }
-
     /// The place of the body's first byte: a byte offset from the module's start.
     pub fn place(&self) -> u64
         ensures { result ≡ self.now.place }
@@ -184,18 +176,35 @@ impl<'a> Body<'a> {
         self.place
     }
 
-    /// The locals, parameters not among them.
-    pub fn locals(&self) -> Locals<'a>
-        ensures { result ≡ self.now.value.locals }
-    {
-        self.locals.iter()
-    }
-
     /// The place of the last `end`: a byte offset from the module's start.
     pub fn end(&self) -> u64
         ensures { result ≡ self.now.value.end }
     {
         self.code.end()
+    }
+}
+
+/// The parts of a function's body.
+pub trait BodyParts<'a> {
+    /// The locals, parameters not among them.
+    fn locals(&self) -> Locals<'a>;
+
+    /// The operators as an expression.
+    fn expression(&self) -> &Expression<'a>;
+}
+
+impl<'a> BodyParts<'a> for Body<'a> {
+    fn locals(&self) -> Locals<'a>
+        ensures { result ≡ self.now.value.locals }
+    {
+        self.locals.iter()
+    }
+
+    fn expression(&self) -> &Expression<'a>
+        ensures operators { result.now.items ≡ self.now.value.operators }
+        ensures end { result.now.end ≡ self.now.value.end }
+    {
+        &self.code
     }
 }
 

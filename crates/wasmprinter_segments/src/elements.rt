@@ -13,12 +13,12 @@ ghost use Rattle.wasmprinter_segments.specs.Segments.{element_mode_view, element
 use std::alloc::Global;
 use std::marker::Model;
 use wasmprinter_bytes::bytes::Cursor;
-use wasmprinter_bytes::lists::{GrownIn, Items, read_grown_list};
+use wasmprinter_bytes::lists::{GrownIn, Items, read_grown_list, read_items};
 use wasmprinter_entries::expected::{expect_end, read_only};
 use wasmprinter_entries::flags::has_bit;
 use wasmprinter_error::{Error, Malformed};
 use wasmprinter_ops::expression::Expression;
-use wasmprinter_types::{HeapType, RefType};
+use wasmprinter_types::{HeapType, RefType, read_ref_type};
 
 /// In front of the indices of functions, where their kind is written.
 const FUNCTIONS: u8 = 0x00;
@@ -115,7 +115,7 @@ impl<'a> ElementItems<'a> {
         ensures within { IsWithin cursor.old result }
         ensures end { end_of cursor.new ≡ end_of cursor.old }
     {
-        Ok(ElementItems::Functions(Items::<u32>::read(cursor)?))
+        Ok(ElementItems::Functions(read_items(cursor)?))
     }
 
     /// Reads a count and so many expressions.
@@ -137,7 +137,7 @@ impl<'a> ElementItems<'a> {
             let ty = if is_omitted {
                 FUNCREF
             } else {
-                RefType::read(cursor)?
+                read_ref_type(cursor)?
             };
             return ElementItems::read_expressions(alloc, ty, cursor);
         }

@@ -5,7 +5,7 @@ use Rattle.wasmprinter_spec.specs.Types as types
 use Rattle.wasmprinter_spec.specs.Types.{FuncType, ValType, StructComposite, field_type, Val, final_type, FuncExtern, TagExtern}
 use Rattle.wasmprinter_spec.specs.Operator.{Empty, Value, OfType, NoImmediates, Index, Operator}
 use Rattle.wasmprinter_spec.specs.Row.{OfBranchIf, OfBranchOnNull}
-use Rattle.wasmprinter_spec.specs.Table.{table}
+use Rattle.wasmprinter_spec.specs.Table.{table, arity_of}
 use Rattle.wasmprinter_spec.specs.Placed.{import_of, PlacedModule}
 use Rattle.wasmprinter_spec.specs.Folding.Arities.{Signatures, OperandCounts, takes_and_gives, greatest, saturating_sum, label_of_block, counts, counts_of, signatures_within}
 use Rattle.wasmprinter_spec.proofs.Samples.{func, bare, empty_placed, made}
@@ -17,10 +17,11 @@ use Rattle.wasmprinter_spec.proofs.FromBytes.{spelled}
 abbrev signature : List ValType → List ValType → FuncType
 signature ps rs = record { params = ps; results = rs }
 
--- a function type of two parameters and a result, which function 0 has; a structure of three fields; a tag of three parameters;
--- around is a function of two results
+-- the arities of the table; a function type of two parameters and a result, which function 0 has; a structure of three fields; a tag of
+-- three parameters; around is a function of two results
 abbrev known : Signatures
 known = record {
+  arities = arity_of;
   types = slice_get (signature (types.I32 ∷ types.I64 ∷ []) (types.F32 ∷ []) ∷ []);
   functions = slice_get (signature (types.I32 ∷ types.I64 ∷ []) (types.F32 ∷ []) ∷ []);
   tags = slice_get (signature (types.I32 ∷ types.I32 ∷ types.I32 ∷ []) [] ∷ []);

@@ -1,6 +1,6 @@
 -- Worked rows of custom sections and branch hints: the texts that modules give, the calls that ask for claims, and that the
 -- texts read as the same modules.
-use Rattle.std.specs.Prelude.{◌≡◌, ℕ, List, [], ◌∷◌, ◌++◌, length, true, false, ◌==◌, codes, Option, Some, None, option_map, refl}
+use Rattle.std.specs.Prelude.{◌≡◌, ℕ, List, [], ◌∷◌, ◌++◌, length, map, true, false, ◌==◌, codes, Option, Some, None, option_map, refl}
 use Rattle.wasmprinter_spec.specs.Grammar.{◌>>=◌}
 use Rattle.wasmprinter_spec.specs.Call.{Call, Claim, text_of}
 use Rattle.wasmprinter_spec.specs.Options.{defaults, Answers}
@@ -318,3 +318,36 @@ hint_of_a_group : text_hints (codes "(module (import \"m\" \"f\" (func $f)) (fun
     ≡ Some (operator_hint 1 1 false ∷ [])
 unfolding reading
 hint_of_a_group = refl
+
+-- an annotation of a hint
+abbrev stray : List ℕ
+stray = codes "(@metadata.code.branch_hint \"\\01\")"
+
+-- two hints in front of an operator, comments and annotations between; annotations around the module and in an import, which counts
+many_hints : map text_hints (
+    (codes "(module (func " ++ (stray ++ (codes " (; c ;) (@a) " ++ (stray ++ codes " nop)) "))))
+    ∷ (codes "(@a) (module (import \"m\" \"f\" (@a) (func (type 0) (@a)) (@a)) (func " ++ (stray ++ codes " nop)) (@a (@b))"))
+    ∷ [])
+    ≡ Some (operator_hint 0 0 true ∷ operator_hint 0 0 true ∷ []) ∷ Some (operator_hint 1 0 true ∷ []) ∷ []
+unfolding reading
+many_hints = refl
+
+-- a hint that stands in front of no operator and of no group of one, or behind the parenthesis of its group: there is no list of hints
+stray_hints : map text_hints (
+    (codes "(module " ++ (stray ++ codes " (func))"))
+    ∷ (codes "(module (global i32 " ++ (stray ++ codes " i32.const 0))"))
+    ∷ (codes "(module (func br_if " ++ (stray ++ codes " 0))"))
+    ∷ (codes "(module (func nop " ++ (stray ++ codes "))"))
+    ∷ (codes "(module (func (if (i32.const 0) " ++ (stray ++ codes " (then))))"))
+    ∷ (codes "(module (func (param i32 " ++ (stray ++ codes ")))"))
+    ∷ (codes "(module (func (" ++ (stray ++ codes " drop (i32.const 0))))"))
+    ∷ (stray ++ codes " (module)")
+    ∷ [])
+    ≡ None ∷ None ∷ None ∷ None ∷ None ∷ None ∷ None ∷ None ∷ []
+unfolding reading
+stray_hints = refl
+
+-- inside another annotation it is no hint of the text
+noted_hint : text_hints (codes "(module (@a " ++ (stray ++ codes ") (func))")) ≡ Some []
+unfolding reading
+noted_hint = refl

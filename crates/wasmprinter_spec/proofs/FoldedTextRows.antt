@@ -1,15 +1,21 @@
 -- Worked rows of whole modules whose operators are folded: the texts that they give, that these texts read as the same modules, and
 -- what can't be folded in a module.
-use Rattle.std.specs.Prelude.{◌≡◌, ℕ, ◌+◌, List, [], ◌∷◌, ◌++◌, length, true, codes, Some, option_map, refl}
+use Rattle.std.specs.Prelude.{◌≡◌, ℕ, ◌+◌, List, [], ◌∷◌, ◌++◌, length, true, false, codes, Some, option_map, refl}
 use Rattle.std.specs.List.{AllByRecursion}
+use Rattle.wasmprinter_spec.specs.Row.{Fixed}
+use Rattle.wasmprinter_spec.specs.Placed.{PlacedModule}
+use Rattle.wasmprinter_spec.specs.Call.{text_of}
 use Rattle.wasmprinter_spec.specs.Options.{Options, defaults}
+use Rattle.wasmprinter_spec.specs.Layout.Declarations.{Folding}
+use Rattle.wasmprinter_spec.specs.Layout.{layout_folded}
 use Rattle.wasmprinter_spec.specs.Layout.Folded.{items, node_pieces, folded_pieces}
+use Rattle.wasmprinter_spec.specs.Folding.Arities.{signatures_within}
 use Rattle.wasmprinter_spec.specs.Folding.Refusals.{legacy_places, misplaced_hints}
 use Rattle.wasmprinter_spec.specs.Read.{read}
 use Rattle.wasmprinter_spec.proofs.Samples.{head_bytes, lines, section, custom}
 use Rattle.wasmprinter_spec.proofs.SectionSamples.{with_item, one_field}
 use Rattle.wasmprinter_spec.proofs.Computing.{composing, reading}
-use Rattle.wasmprinter_spec.proofs.FromBytes.{parsed, decoded, printed_by}
+use Rattle.wasmprinter_spec.proofs.FromBytes.{parsed, decoded, unclaimed, printed_by}
 use Rattle.wasmprinter_spec.proofs.Sequences.{escape}
 
 abbrev folded : Options
@@ -152,6 +158,27 @@ sum_with_places : printed_by (record folded { offsets = true }) (plain_bytes (0x
     ∷ []))
 unfolding composing reading items node_pieces folded_pieces
 sum_with_places = refl
+
+-- ---- by other arities
+
+-- by what operators name in the module, but each opcode takes one and gives one
+abbrev chained : PlacedModule → Folding
+chained m = record { paints = false; signatures = λ own. record (signatures_within m own) { arities = λ o. Some (Fixed 1 1) } }
+
+abbrev chained_text : PlacedModule → List ℕ
+chained_text m = text_of (layout_folded (chained m) defaults unclaimed m)
+
+abbrev sum_chained : List ℕ
+sum_chained = plain_text (codes "    (i32.add" ∷ codes "      (i32.const 2" ∷ codes "        (i32.const 1)))" ∷ [])
+
+-- an operator takes the one before it, whatever the options say of folding
+chained_print : option_map chained_text (parsed (plain_bytes sum_bytes)) ≡ Some sum_chained
+unfolding composing reading items node_pieces folded_pieces
+chained_print = refl
+
+chained_read : read sum_chained ≡ decoded (plain_bytes sum_bytes)
+unfolding reading
+chained_read = refl
 
 -- ---- colours
 

@@ -1,9 +1,12 @@
 -- Worked rows of folding: how bodies and constant expressions are printed when they are folded, and that these
 -- texts read as the same operators.
-use Rattle.std.specs.Prelude.{◌≡◌, ℕ, List, [], ◌∷◌, ◌++◌, map, flat_map, true, false, codes, slice_get, Option, Some, None, option_map, refl}
+use Rattle.std.specs.Prelude.{◌≡◌, ℕ, ◌==◌, cond, List, [], ◌∷◌, ◌++◌, map, flat_map, true, false, codes, slice_get, Option, Some, None, option_map, refl}
 use Rattle.wasmprinter_spec.specs.Grammar.{input, Placed}
 use Rattle.wasmprinter_spec.specs.Types as types
+use Rattle.wasmprinter_spec.specs.Operator.{Opcode}
+use Rattle.wasmprinter_spec.specs.Row.{Arity, Fixed}
 use Rattle.wasmprinter_spec.specs.Instructions.{expression}
+use Rattle.wasmprinter_spec.specs.Table.{arity_of}
 use Rattle.wasmprinter_spec.specs.Names.{Names, no_names}
 use Rattle.wasmprinter_spec.specs.LabelNames.{label_naming}
 use Rattle.wasmprinter_spec.specs.Customs.Hints.{Hint}
@@ -21,6 +24,7 @@ use Rattle.wasmprinter_spec.proofs.FromText.{read_back}
 -- no types; function 0 gives two values
 abbrev pair_giving : Signatures
 pair_giving = record {
+  arities = arity_of;
   types = λ t. None;
   functions = slice_get (record { params = []; results = types.I32 ∷ types.I32 ∷ [] } ∷ []);
   tags = λ t. None;
@@ -153,6 +157,20 @@ leaving_without_type : body no_names (giving None) leaving
     ≡ Some (Some (body_lines (codes "(i32.const 5)" ∷ codes "(br 0)" ∷ codes "(i32.const 6)" ∷ codes "(return)" ∷ codes "(i32.const 7)" ∷ codes "(br_if 0)" ∷ [])))
 unfolding printing items node_pieces folded_pieces
 leaving_without_type = refl
+
+-- by other arities: where all take one and give one, where none is listed, and where two results are said to come of a constant
+abbrev by_arities : (Opcode → Option Arity) → List ℕ → Option (Option (List ℕ))
+by_arities arities bytes = body no_names (record pair_giving { arities = arities }) bytes
+
+other_arities : map (λ arities. by_arities arities (0x41 ∷ 0x01 ∷ 0x41 ∷ 0x02 ∷ 0x6a ∷ []))
+    ((λ o. Some (Fixed 1 1)) ∷ (λ o. None) ∷ (λ o. cond (o.number == 0x41) (Some (Fixed 0 2)) (arity_of o)) ∷ [])
+    ≡ map (λ ls. Some (Some (body_lines ls))) (
+    (codes "(i32.add" ∷ codes "  (i32.const 2" ∷ codes "    (i32.const 1)))" ∷ [])
+    ∷ (codes "(i32.const 1)" ∷ codes "(i32.const 2)" ∷ codes "(i32.add)" ∷ [])
+    ∷ (codes "(i32.const 1)" ∷ codes "(i32.add" ∷ codes "  (i32.const 2))" ∷ [])
+    ∷ [])
+unfolding printing items node_pieces folded_pieces
+other_arities = refl
 
 older_try : map (body no_names pair_giving) ((0x06 ∷ 0x40 ∷ 0x19 ∷ 0x0b ∷ []) ∷ (0x06 ∷ 0x40 ∷ 0x07 ∷ 0x00 ∷ 0x0b ∷ []) ∷ (0x02 ∷ 0x40 ∷ 0x06 ∷ 0x40 ∷ 0x18 ∷ 0x00 ∷ 0x0b ∷ []) ∷ [])
     ≡ Some None ∷ Some None ∷ Some None ∷ []

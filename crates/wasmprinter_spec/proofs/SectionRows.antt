@@ -1,5 +1,5 @@
--- Worked rows of the sections of imports, tables, globals, element segments, data segments and the data count (section 5.5 of the
--- standard): what single lists of bytes spell, and what of it a module is.
+-- Worked rows of the sections of imports, tables, memories, globals, element segments, data segments and the data count (section 5.5 of
+-- the standard): what single lists of bytes spell, and what of it a module is.
 use Rattle.std.specs.Prelude.{◌≡◌, ℕ, List, [], ◌∷◌, ◌++◌, map, Option, Some, None, refl}
 use Rattle.std.specs.List.{AllByRecursion}
 use Rattle.wasmprinter_spec.specs.Placed.{PassiveData, data_of, PlacedModule}
@@ -8,7 +8,7 @@ use Rattle.wasmprinter_spec.specs.Sections.{rank}
 use Rattle.wasmprinter_spec.specs.Layout.{section_order}
 use Rattle.wasmprinter_spec.specs.Limits.{IsWithinLimits}
 use Rattle.wasmprinter_spec.proofs.Samples.{head_bytes, empty_placed}
-use Rattle.wasmprinter_spec.proofs.SectionSamples.{Sample, with_item, emptied_table, tables, globals, elements, datas, imports}
+use Rattle.wasmprinter_spec.proofs.SectionSamples.{Sample, with_item, emptied_table, tables, globals, elements, datas, memories, imports}
 use Rattle.wasmprinter_spec.proofs.Computing.{reading}
 use Rattle.wasmprinter_spec.proofs.FromBytes.{parsed}
 
@@ -44,6 +44,10 @@ datas_parse : AllByRecursion Parses datas
 unfolding reading
 datas_parse = (refl, (refl, (refl, (refl, (refl, tt)))))
 
+memories_parse : AllByRecursion Parses memories
+unfolding reading
+memories_parse = (refl, (refl, (refl, (refl, (refl, (refl, (refl, (refl, (refl, tt)))))))))
+
 imports_parse : Parses imports
 unfolding reading
 imports_parse = refl
@@ -67,6 +71,9 @@ elements_are = (refl, (refl, (refl, (refl, (refl, (refl, (refl, (refl, (refl, tt
 
 datas_are : AllByRecursion IsModule datas
 datas_are = (refl, (refl, (refl, (refl, (refl, tt)))))
+
+memories_are : AllByRecursion IsModule memories
+memories_are = (refl, (refl, (refl, (refl, (refl, (refl, (refl, (refl, (refl, tt)))))))))
 
 imports_are : IsModule imports
 imports_are = refl
@@ -151,3 +158,14 @@ no_imports : unspelled 2 (
     ∷ []) ≡ None ∷ None ∷ None ∷ None ∷ None ∷ []
 unfolding reading
 no_imports = refl
+
+-- flags of 16, which have no meaning; an exponent of 64; flags of two bytes; a size of pages that is missing, and one without its flag
+no_memories : unspelled 5 (
+    (0x10 ∷ 0x01 ∷ [])
+    ∷ (0x08 ∷ 0x01 ∷ 0x40 ∷ [])
+    ∷ (0x80 ∷ 0x00 ∷ 0x01 ∷ [])
+    ∷ (0x08 ∷ 0x01 ∷ [])
+    ∷ (0x00 ∷ 0x01 ∷ 0x10 ∷ [])
+    ∷ []) ≡ None ∷ None ∷ None ∷ None ∷ None ∷ []
+unfolding reading
+no_memories = refl

@@ -1,9 +1,9 @@
--- Modules of one field, written by hand, which the worked rows share: a table, a global, an element segment, a data segment, and imports of
--- each kind. Of each its bytes, what these spell with places, the module, and the line of its text.
+-- Modules of one field, written by hand, which the worked rows share: a table, a global, an element segment, a data segment, a memory, and
+-- imports of each kind. Of each its bytes, what these spell with places, the module, and the line of its text.
 use Rattle.std.specs.Prelude.{ℕ, ◌+◌, pos, List, [], ◌∷◌, ◌++◌, Bool, true, false, length, codes, Option, Some, None}
 use Rattle.wasmprinter_spec.specs.Grammar.{Placed}
 use Rattle.wasmprinter_spec.specs.Types as types
-use Rattle.wasmprinter_spec.specs.Types.{limits_of, ref_type, TableType, table_type_of, memory_type_of, GlobalType, global_type_of, FuncExtern, TableExtern, MemoryExtern, GlobalExtern, TagExtern}
+use Rattle.wasmprinter_spec.specs.Types.{limits_of, ref_type, TableType, table_type_of, MemoryType, memory_type_of, GlobalType, global_type_of, FuncExtern, TableExtern, MemoryExtern, GlobalExtern, TagExtern}
 use Rattle.wasmprinter_spec.specs.Operator.{Value, Index, Heap, Operator}
 use Rattle.wasmprinter_spec.specs.Placed as layout
 use Rattle.wasmprinter_spec.specs.Placed.{table_of, global_of, ElementMode, Passive, Declared, Active, Items, Functions, Expressions, element_of, entry_of, DataMode, PassiveData, ActiveData, data_of, import_of, PlacedModule}
@@ -162,6 +162,30 @@ datas =
     (codes "(data (;0;) (memory 1) (i32.const 0) \"\")")
     ∷ data_sample (0x02 ∷ 0x00 ∷ 0x41 ∷ 0x00 ∷ 0xd2 ∷ 0x01 ∷ 0x0b ∷ 0x00 ∷ []) (ActiveData 0 (at 0xd zero_const ∷ at 0xf (ref_func 1) ∷ []))
     (ActiveData 0 (zero_const ∷ ref_func 1 ∷ [])) [] (codes "(data (;0;) (offset i32.const 0 ref.func 1) \"\")")
+    ∷ []
+
+-- ---- memories
+
+abbrev memory_sample : List ℕ → MemoryType → List ℕ → Sample
+memory_sample item t text = record {
+  bytes = with_item 5 item;
+  placed = record empty_placed { memories = at_first t; size = size_with item };
+  value = record empty { memories = t ∷ [] };
+  text = one_field text;
+}
+
+-- each flag alone and with others; pages of 1, 2, 2 ^ 16 and 2 ^ 63 bytes
+abbrev pub memories : List Sample
+memories =
+    memory_sample (0x01 ∷ 0x01 ∷ 0x02 ∷ []) (memory_type_of false false (limits_of 1 (Some 2)) None) (codes "(memory (;0;) 1 2)")
+    ∷ memory_sample (0x02 ∷ 0x01 ∷ []) (memory_type_of false true (limits_of 1 None) None) (codes "(memory (;0;) 1 shared)")
+    ∷ memory_sample (0x03 ∷ 0x01 ∷ 0x02 ∷ []) (memory_type_of false true (limits_of 1 (Some 2)) None) (codes "(memory (;0;) 1 2 shared)")
+    ∷ memory_sample (0x04 ∷ 0x01 ∷ []) (memory_type_of true false (limits_of 1 None) None) (codes "(memory (;0;) i64 1)")
+    ∷ memory_sample (0x07 ∷ 0x01 ∷ 0x02 ∷ []) (memory_type_of true true (limits_of 1 (Some 2)) None) (codes "(memory (;0;) i64 1 2 shared)")
+    ∷ memory_sample (0x08 ∷ 0x01 ∷ 0x00 ∷ []) (memory_type_of false false (limits_of 1 None) (Some 0)) (codes "(memory (;0;) 1 (pagesize 0x1))")
+    ∷ memory_sample (0x0a ∷ 0x01 ∷ 0x01 ∷ []) (memory_type_of false true (limits_of 1 None) (Some 1)) (codes "(memory (;0;) 1 shared (pagesize 0x2))")
+    ∷ memory_sample (0x0f ∷ 0x01 ∷ 0x02 ∷ 0x10 ∷ []) (memory_type_of true true (limits_of 1 (Some 2)) (Some 16)) (codes "(memory (;0;) i64 1 2 shared (pagesize 0x10000))")
+    ∷ memory_sample (0x0c ∷ 0x00 ∷ 0x3f ∷ []) (memory_type_of true false (limits_of 0 None) (Some 63)) (codes "(memory (;0;) i64 0 (pagesize 0x8000000000000000))")
     ∷ []
 
 -- ---- imports of each kind, and what is defined behind them

@@ -1,4 +1,4 @@
--- Worked rows of imports, tables, globals, element segments and data segments in the text format (sections 6.4 to 6.6 of the standard): the
+-- Worked rows of imports, tables, memories, globals, element segments and data segments in the text format (sections 6.4 to 6.6 of the standard): the
 -- texts that single modules give, and what texts write.
 use Rattle.std.specs.Prelude.{◌≡◌, [], ◌∷◌, map, true, false, codes, Option, Some, None, refl}
 use Rattle.std.specs.List.{AllByRecursion}
@@ -10,7 +10,7 @@ use Rattle.wasmprinter_spec.specs.Module.{Module}
 use Rattle.wasmprinter_spec.specs.Options.{defaults}
 use Rattle.wasmprinter_spec.specs.Read.{read}
 use Rattle.wasmprinter_spec.proofs.Samples.{empty, func, made}
-use Rattle.wasmprinter_spec.proofs.SectionSamples.{Sample, one_field, ref_null_func, ref_func, filled_table, emptied_table, tables, globals, elements, datas, imports, zero_const}
+use Rattle.wasmprinter_spec.proofs.SectionSamples.{Sample, one_field, ref_null_func, ref_func, filled_table, emptied_table, tables, globals, elements, datas, memories, imports, zero_const}
 use Rattle.wasmprinter_spec.proofs.UnreadRows.{numbers_read}
 use Rattle.wasmprinter_spec.proofs.Computing.{composing, reading}
 use Rattle.wasmprinter_spec.proofs.FromBytes.{skeleton, text_by}
@@ -39,6 +39,10 @@ datas_print : AllByRecursion Prints datas
 unfolding composing
 datas_print = (refl, (refl, (refl, (refl, (refl, tt)))))
 
+memories_print : AllByRecursion Prints memories
+unfolding composing
+memories_print = (refl, (refl, (refl, (refl, (refl, (refl, (refl, (refl, (refl, tt)))))))))
+
 imports_print : Prints imports
 unfolding composing
 imports_print = refl
@@ -58,6 +62,10 @@ elements_read = (refl, (refl, (refl, (refl, (refl, (refl, (refl, (refl, (refl, t
 datas_read : AllByRecursion ReadsBack datas
 unfolding reading
 datas_read = (refl, (refl, (refl, (refl, (refl, tt)))))
+
+memories_read : AllByRecursion ReadsBack memories
+unfolding reading
+memories_read = (refl, (refl, (refl, (refl, (refl, (refl, (refl, (refl, (refl, tt)))))))))
 
 imports_read : ReadsBack imports
 unfolding reading
@@ -227,3 +235,15 @@ unread_fields : numbers_read (
     ∷ []) ≡ 1 ∷ []
 unfolding reading
 unread_fields = refl
+
+-- sizes of pages that are no power of two, that have more than 64 bits, or that stand in front of `shared`
+unread_memories : numbers_read (
+    codes "(module (memory 1 (pagesize 0x8000000000000000)))"
+    ∷ codes "(module (memory 1 (pagesize 3)))"
+    ∷ codes "(module (memory 1 (pagesize 0)))"
+    ∷ codes "(module (memory 1 (pagesize 18446744073709551616)))"
+    ∷ codes "(module (memory 1 (pagesize)))"
+    ∷ codes "(module (memory 1 (pagesize 1) shared))"
+    ∷ []) ≡ 0 ∷ []
+unfolding reading
+unread_memories = refl

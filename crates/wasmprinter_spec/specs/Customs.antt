@@ -57,10 +57,14 @@ pub record RawCustom : Type 0 where
 abbrev pub raw_custom : CustomEntry → RawCustom
 raw_custom c = record { behind = c.behind; name = c.section.value.name; bytes = c.section.value.bytes.value }
 
+-- A refused section is not among them: a text ends in front of it.
 abbrev pub is_raw : CustomRole → Bool
+is_raw Silent = false
+is_raw (Listed fields) = false
+is_raw (Linked subsections) = false
+is_raw (Refused id) = false
 is_raw Raw = true
 is_raw Faulted = true
-is_raw _ = false
 
 abbrev pub raw_customs : List CustomEntry → List RawCustom
 raw_customs [] = []

@@ -13,7 +13,7 @@ use Rattle.wasmprinter_spec.specs.Options.{Options, Answers}
 use Rattle.wasmprinter_spec.specs.Piece.{Piece, Begin, Feed, Open, all_calls}
 use Rattle.wasmprinter_spec.specs.Layout.Groups.{group_at, numbered_pieces}
 use Rattle.wasmprinter_spec.specs.Layout.Identifiers.{leading_mark_pieces}
-use Rattle.wasmprinter_spec.specs.Layout.Declarations.{Scope, scope_of, scope_of_function, folding_of}
+use Rattle.wasmprinter_spec.specs.Layout.Declarations.{Folding, Scope, scope_of, scope_of_function, folding_of}
 use Rattle.wasmprinter_spec.specs.Layout.Types.{type_section_pieces}
 use Rattle.wasmprinter_spec.specs.Layout.Functions.{functions_pieces}
 use Rattle.wasmprinter_spec.specs.Layout.Imports.{no_numbers, imports_pieces}
@@ -54,10 +54,15 @@ pub mod Customs
 abbrev count_of_imported : {A : Type 0} → (ExternType → Option A) → PlacedModule → ℕ
 count_of_imported of_kind m = length (imported_types of_kind (without_places m.imports))
 
--- Expressions in front of the functions mean the labels and locals of the first function that is defined, those behind them of the one that
--- would be next. (In a valid module no such expression has any.)
+-- The scope before the functions, where operators are folded in this way, or flat. Expressions in front of the functions mean the labels
+-- and locals of the first function that is defined, those behind them of the one that would be next. (In a valid module no such expression
+-- has any.)
+abbrev pub scope_before : Option Folding → Names → PlacedModule → Scope
+scope_before folding names m = scope_of (all_types (groups_of m.types)) names (count_of_imported func_import m) folding
+
+-- where they are folded as the options say
 abbrev pub early_scope : Options → Names → PlacedModule → Scope
-early_scope o names m = scope_of (all_types (groups_of m.types)) names (count_of_imported func_import m) (folding_of o m)
+early_scope o names m = scope_before (folding_of o m) names m
 
 -- the scope behind the functions, from any scope of the module
 abbrev pub scope_behind : PlacedModule → Scope → Scope
@@ -93,10 +98,15 @@ section_order =
 abbrev pub section_parts : Options → Scope → PlacedModule → Answers → Kind → List Part
 section_parts o s m answers kind = Shown (section_pieces o s m kind) ∷ parts_at o.skeleton answers (Some kind) 0 m.customs
 
--- the fields in the order of their sections, and the custom sections at their places among them
+-- The fields in the order of their sections, and the custom sections at their places among them. Operators are folded in this way, or flat.
+unfoldable pub parts_by : Option Folding → Options → Answers → Names → PlacedModule → List Part
+parts_by folding o answers names m =
+    parts_at o.skeleton answers None 0 m.customs ++ flat_map (section_parts o (scope_before folding names m) m answers) section_order
+
+-- as the options say
 unfoldable pub module_parts : Options → Answers → Names → PlacedModule → List Part
-module_parts o answers names m =
-    parts_at o.skeleton answers None 0 m.customs ++ flat_map (section_parts o (early_scope o names m) m answers) section_order
+unfolding parts_by
+module_parts o answers names m = parts_by (folding_of o m) o answers names m
 
 -- ---- the module
 
@@ -124,3 +134,16 @@ layout o answers m = all_calls o (module_pieces o answers m)
 -- the id of the first subsection that isn't known of an unclaimed `dylink.0` section, behind whose claim the layout ends
 abbrev pub refusal : Options → Answers → PlacedModule → Option ℕ
 refusal o answers m = (laid_parts (module_parts o answers (module_names o.invents m) m)).refused
+
+-- ---- operators folded in any way
+
+-- a module with these identifiers, whose operators are folded in this way, or flat
+unfoldable pub pieces_by : Option Folding → Options → Answers → Names → PlacedModule → List Piece
+pieces_by folding o answers names m =
+    let laid : Laid = laid_parts (parts_by folding o answers names m) in
+    module_pieces_of o names m.size laid.pieces laid.refused
+
+-- The calls for a module whose operators are folded in this way: with colours in their text or not, and by any arities. What the options
+-- say of folding and of colours is nothing to them.
+unfoldable pub layout_folded : Folding → Options → Answers → PlacedModule → List Call
+layout_folded f o answers m = all_calls o (pieces_by (Some f) o answers (module_names o.invents m) m)

@@ -1,9 +1,9 @@
 -- The operators (sections 5.4 and 6.5 of the standard): a row for each opcode. Grammar, layout and reader take opcodes, words and
--- immediates from these rows. The program has tables of its own: its words, shapes and roles are proved equal to these.
+-- immediates from these rows. The program has tables of its own: its words, shapes, arities and roles are proved equal to these.
 use Rattle.std.specs.Prelude.{ℕ, List, [], ◌∷◌, ◌++◌, Bool, ◌&&◌, ◌==◌, cond, bytes_eq, Option, Some, None}
 use Rattle.std.specs.List.{filter}
 use Rattle.wasmprinter_spec.specs.Operator.{Opcode}
-use Rattle.wasmprinter_spec.specs.Row.{Row, Shape, Role, Plain}
+use Rattle.wasmprinter_spec.specs.Row.{Row, Shape, Arity, Role, Plain}
 use Rattle.wasmprinter_spec.specs.Table.Control.{control_rows}
 use Rattle.wasmprinter_spec.specs.Table.Variables.{variable_rows}
 use Rattle.wasmprinter_spec.specs.Table.Memory.{memory_rows}
@@ -74,3 +74,11 @@ shape_of_row (Some r) = Some r.shape
 -- the shape of the immediates of an opcode, if it is listed
 abbrev pub shape_of : Opcode → Option Shape
 shape_of o = shape_of_row (by_opcode o)
+
+abbrev pub arity_of_row : Option Row → Option Arity
+arity_of_row None = None
+arity_of_row (Some r) = Some r.arity
+
+-- the arity of an opcode, if it is listed
+abbrev pub arity_of : Opcode → Option Arity
+arity_of o = arity_of_row (by_opcode o)

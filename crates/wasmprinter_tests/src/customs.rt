@@ -7,11 +7,12 @@ use crate::printing::{
 };
 use std::alloc::{AllocError, Global};
 use std::test::Fail;
-use wasmprinter::wasm::{CustomEntry, SectionKind, decode};
+use wasmprinter::wasm::decode;
 use wasmprinter::{Config, Error, print_bytes};
 use wasmprinter_recorder::Recorder;
 use wasmprinter_samples::sections::{CUSTOM, START, add_custom, add_section};
 use wasmprinter_samples::{PREAMBLE, expect_text};
+use wasmprinter_wasm::{CustomEntry, Fields, SectionKind};
 
 /// A custom section: its name and the bytes behind it.
 type Section = (&'static str, &'static [u8]);

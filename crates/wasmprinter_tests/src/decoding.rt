@@ -4,10 +4,11 @@ use std::alloc::{AllocError, Global};
 use std::test::Fail;
 use wasmprinter::Error;
 use wasmprinter::wasm::{
-    BlockType, Body, Catch, Export, ExternKind, Immediates, LocalEntry, Module, Opcode, Operator,
-    OperatorsReader, TypeGroup, ValType, decode,
+    BlockType, Body, Catch, Immediates, Module, Opcode, Operator, OperatorsReader, ValType, decode,
 };
+use wasmprinter_ops::opcode::Listed;
 use wasmprinter_samples::{CONTROL, EVERYTHING, PREAMBLE, expect_text};
+use wasmprinter_wasm::{BodyParts, Export, ExternKind, Fields, LocalEntry, TypeGroup};
 
 /// What stands behind an opcode, with lists as slices.
 #[derive(Clone, Copy)]

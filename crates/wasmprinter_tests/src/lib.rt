@@ -8,6 +8,7 @@ mod calls;
 mod customs;
 #[cfg(test)]
 mod decoding;
+pub mod faults;
 #[cfg(test)]
 mod hints;
 #[cfg(test)]

@@ -7,7 +7,7 @@ use std::alloc::{AllocError, Global};
 use std::io;
 use std::test::Fail;
 use wasmprinter::text::{write_bytes, write_quoted};
-use wasmprinter::{Error, Print};
+use wasmprinter::{Error, Print, PrintText};
 use wasmprinter_samples::expect_text;
 
 /// The pieces of text so far: one of `write_str` has a bar after it, one of `write_each_char` has angle brackets around it.
@@ -175,6 +175,30 @@ impl Print for WithoutRuns {
     }
 }
 
+/// A printer of text alone.
+#[derive(Drop)]
+struct Plainly(Pieces);
+
+impl PrintText for Plainly {
+    fn write_str(&mut self, s: &str) -> io::Result<()> {
+        self.0.put_piece(s)
+    }
+}
+
+/// A printer of text alone that takes runs.
+#[derive(Drop)]
+struct PlainlyInRuns(Pieces);
+
+impl PrintText for PlainlyInRuns {
+    fn write_str(&mut self, s: &str) -> io::Result<()> {
+        self.0.put_piece(s)
+    }
+
+    fn takes_runs(&self) -> bool {
+        true
+    }
+}
+
 /// Writes a quoted string. It has no contract, so that its callers don't apply one to their own printers.
 fn quote<P: Print>(p: &mut P, text: &str) -> Result<(), Error> {
     write_quoted(p, text)
@@ -272,5 +296,17 @@ fn writes_each_character_by_a_call(rt: HostRuntime) -> Result<(), Fail> {
     let mut calls = Calls::new(rt.alloc(), 0);
     write_each(&mut calls, "ab\"c")?;
     expect_text(calls.shown(rt.alloc())?.as_str(), "a|b|\"|c|")?;
+    Ok(())
+}
+
+#[test]
+fn writes_pieces_to_printers_of_text_alone(rt: HostRuntime) -> Result<(), Fail> {
+    let mut printer = Plainly(Pieces::new(rt.alloc()));
+    quote(&mut printer, "ab\"")?;
+    expect_text(printer.0.text.as_str(), "\"|a|b|\\u{|2|2|}|\"|")?;
+    let mut printer = PlainlyInRuns(Pieces::new(rt.alloc()));
+    quote(&mut printer, "ab")?;
+    write_each(&mut printer, "cd")?;
+    expect_text(printer.0.text.as_str(), "\"|ab|\"|cd|")?;
     Ok(())
 }

@@ -1,3 +1,4 @@
 pub mod LineLaws
 pub mod CutLaws
 pub mod Runs
+pub mod NoLineLost

@@ -1,5 +1,6 @@
--- What the contracts of the tracker and of the iterator over its lines cite.
+-- What the contracts of the tracker, of the iterator over its lines and of the laws cite.
 pub mod Lined
 pub mod Cuts
 pub mod Tracked
 pub mod Tracking
+pub mod NoLineLost

@@ -12,7 +12,7 @@ ghost use Rattle.wasmprinter_types.specs.Types.{storage_view, field_view, field_
 use crate::val_types::{First, ValType, ValTypes, read_types};
 use std::marker::Model;
 use wasmprinter_bytes::bytes::Cursor;
-use wasmprinter_bytes::lists::{Items, Spelled, SpelledIn};
+use wasmprinter_bytes::lists::{Items, Spelled, SpelledIn, no_items, read_items};
 use wasmprinter_error::Malformed;
 
 /// In front of an array's field.
@@ -171,7 +171,7 @@ fn read_fields<'a>(cursor: &mut Cursor<'a>) -> Result<FieldTypes<'a>, Malformed>
     ensures within { IsWithin cursor.old result }
     ensures end { end_of cursor.new ≡ end_of cursor.old }
 {
-    FieldTypes::read(cursor)
+    read_items(cursor)
 }
 
 impl<'a> FuncType<'a> {
@@ -245,7 +245,7 @@ impl<'a> SubType<'a> {
         ensures within { IsWithin cursor.old result }
         ensures end { end_of cursor.new ≡ end_of cursor.old }
     {
-        let supertypes = TypeIndices::read(cursor)?;
+        let supertypes = read_items(cursor)?;
         let composite = CompositeType::read(cursor)?;
         Ok(SubType {
             is_final,
@@ -266,7 +266,7 @@ impl<'a> SubType<'a> {
             SUB_FINAL => SubType::read_parts(true, cursor),
             _ => Ok(SubType {
                 is_final: true,
-                supertypes: TypeIndices::none(cursor),
+                supertypes: no_items(cursor),
                 composite: CompositeType::read_behind(first, cursor)?,
             }),
         }

@@ -5,4 +5,7 @@
 pub mod composite;
 pub mod val_types;
 
-pub use val_types::{HeapType, RefType, ValType, ValTypes, read_type, read_types};
+pub use val_types::{
+    HeapType, RefType, ValType, ValTypes, begins_type, read_heap_type, read_ref_type, read_type,
+    read_type_index, read_types,
+};

@@ -9,7 +9,7 @@ ghost use Rattle.wasmprinter_bytes.specs.Reads.{Reads, IsWithin, end_of};
 ghost use Rattle.wasmprinter_types.specs.ValTypes.{heap_view, ref_view, type_view, types_view, type_at};
 
 use wasmprinter_bytes::bytes::Cursor;
-use wasmprinter_bytes::lists::{Items, Spelled};
+use wasmprinter_bytes::lists::{Items, Spelled, read_items};
 use wasmprinter_error::Malformed;
 
 /// In front of the heap type of a reference that can't be null.
@@ -139,46 +139,46 @@ impl HeapType {
             _ => None,
         }
     }
+}
 
-    /// Reads a type index, a signed number of 33 bits that isn't negative.
-    ///
-    /// # Errors
-    ///
-    /// `Malformed` where the bytes don't spell one, with the place of what may not stand there.
-    pub fn read_index(cursor: &mut Cursor) -> Result<u32, Malformed>
-        ensures reads { Reads (λ n. n) signed_index.parse cursor.old result cursor.new }
-        ensures within { IsWithin cursor.old result }
-        ensures end { end_of cursor.new ≡ end_of cursor.old }
-    {
-        let place = cursor.place();
-        match index_of(cursor.s33()?) {
-            Some(index) => Ok(index),
-            None => Err(Malformed { place }),
-        }
+/// Reads a type index, a signed number of 33 bits that isn't negative.
+///
+/// # Errors
+///
+/// `Malformed` where the bytes don't spell one, with the place of what may not stand there.
+pub fn read_type_index(cursor: &mut Cursor) -> Result<u32, Malformed>
+    ensures reads { Reads (λ n. n) signed_index.parse cursor.old result cursor.new }
+    ensures within { IsWithin cursor.old result }
+    ensures end { end_of cursor.new ≡ end_of cursor.old }
+{
+    let place = cursor.place();
+    match index_of(cursor.s33()?) {
+        Some(index) => Ok(index),
+        None => Err(Malformed { place }),
     }
+}
 
-    /// Reads the byte of an abstract heap type, or a type index.
-    ///
-    /// # Errors
-    ///
-    /// `Malformed` where the bytes don't spell a heap type, with the place of what may not stand there.
-    pub fn read(cursor: &mut Cursor) -> Result<Self, Malformed>
-        ensures reads { Reads heap_view heap_type.parse cursor.old result cursor.new }
-        ensures within { IsWithin cursor.old result }
-        ensures end { end_of cursor.new ≡ end_of cursor.old }
-    {
-        let Some(byte) = cursor.peek() else {
-            return Err(Malformed {
-                place: cursor.place(),
-            });
-        };
-        match HeapType::of_byte(byte) {
-            Some(heap) => {
-                cursor.u8()?;
-                Ok(heap)
-            }
-            None => Ok(HeapType::Index(HeapType::read_index(cursor)?)),
+/// Reads the byte of an abstract heap type, or a type index.
+///
+/// # Errors
+///
+/// `Malformed` where the bytes don't spell a heap type, with the place of what may not stand there.
+pub fn read_heap_type(cursor: &mut Cursor) -> Result<HeapType, Malformed>
+    ensures reads { Reads heap_view heap_type.parse cursor.old result cursor.new }
+    ensures within { IsWithin cursor.old result }
+    ensures end { end_of cursor.new ≡ end_of cursor.old }
+{
+    let Some(byte) = cursor.peek() else {
+        return Err(Malformed {
+            place: cursor.place(),
+        });
+    };
+    match HeapType::of_byte(byte) {
+        Some(heap) => {
+            cursor.u8()?;
+            Ok(heap)
         }
+        None => Ok(HeapType::Index(read_type_index(cursor)?)),
     }
 }
 
@@ -191,8 +191,8 @@ impl RefType {
         ensures end { end_of cursor.new ≡ end_of cursor.old }
     {
         let (nullable, heap) = match first.byte {
-            REF => (false, HeapType::read(cursor)?),
-            REF_NULL => (true, HeapType::read(cursor)?),
+            REF => (false, read_heap_type(cursor)?),
+            REF_NULL => (true, read_heap_type(cursor)?),
             byte => match HeapType::of_byte(byte) {
                 Some(heap) => (true, heap),
                 None => return Err(first.refusal()),
@@ -200,20 +200,20 @@ impl RefType {
         };
         Ok(RefType { nullable, heap })
     }
+}
 
-    /// Reads a reference type.
-    ///
-    /// # Errors
-    ///
-    /// `Malformed` where the bytes don't spell a reference type, with the place of what may not stand there.
-    pub fn read(cursor: &mut Cursor) -> Result<Self, Malformed>
-        ensures reads { Reads ref_view reference_type.parse cursor.old result cursor.new }
-        ensures within { IsWithin cursor.old result }
-        ensures end { end_of cursor.new ≡ end_of cursor.old }
-    {
-        let first = First::read(cursor)?;
-        RefType::read_behind(first, cursor)
-    }
+/// Reads a reference type.
+///
+/// # Errors
+///
+/// `Malformed` where the bytes don't spell a reference type, with the place of what may not stand there.
+pub fn read_ref_type(cursor: &mut Cursor) -> Result<RefType, Malformed>
+    ensures reads { Reads ref_view reference_type.parse cursor.old result cursor.new }
+    ensures within { IsWithin cursor.old result }
+    ensures end { end_of cursor.new ≡ end_of cursor.old }
+{
+    let first = First::read(cursor)?;
+    RefType::read_behind(first, cursor)
 }
 
 impl ValType {
@@ -231,16 +231,6 @@ impl ValType {
         }
     }
 
-    /// Whether a value type begins with the byte.
-    pub fn begins(byte: u8) -> bool
-        ensures { result ≡ begins_val_type byte }
-    {
-        ValType::of_byte(byte).is_some()
-            || byte == REF
-            || byte == REF_NULL
-            || HeapType::of_byte(byte).is_some()
-    }
-
     /// Reads what stands behind the first byte.
     pub(crate) fn read_behind(first: First, cursor: &mut Cursor) -> Result<Self, Malformed>
         requires { first.place ≤ end_of cursor.now }
@@ -253,6 +243,16 @@ impl ValType {
             None => Ok(ValType::Ref(RefType::read_behind(first, cursor)?)),
         }
     }
+}
+
+/// Whether a value type begins with the byte.
+pub fn begins_type(byte: u8) -> bool
+    ensures { result ≡ begins_val_type byte }
+{
+    ValType::of_byte(byte).is_some()
+        || byte == REF
+        || byte == REF_NULL
+        || HeapType::of_byte(byte).is_some()
 }
 
 /// Reads a value type.
@@ -287,5 +287,5 @@ pub fn read_types<'a>(cursor: &mut Cursor<'a>) -> Result<ValTypes<'a>, Malformed
     ensures within { IsWithin cursor.old result }
     ensures end { end_of cursor.new ≡ end_of cursor.old }
 {
-    ValTypes::read(cursor)
+    read_items(cursor)
 }

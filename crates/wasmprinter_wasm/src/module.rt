@@ -84,9 +84,73 @@ impl<'a> Module<'a> {
             None => None,
         }
     }
+}
+
+/// What a module holds, for those that print it.
+pub trait Fields<'a> {
+    ghost use Rattle.std.specs.Prelude.{ℕ};
+
+    // Whether the module defines a function with the number.
+    ghost defines: { Self → ℕ → Type 0 };
 
     /// The defined function with the number.
-    pub fn function(&self, number: u32) -> Function<'a>
+    fn function(&self, number: u32) -> Function<'a>
+        requires { defines self.now number };
+
+    /// The types, in their groups.
+    fn types(&self) -> &[TypeGroup<'a>];
+
+    /// The function type with the index, `None` where there is no such type or it is of another kind.
+    ///
+    /// Type indices count the types of all groups. It takes the same time for each index.
+    fn signature(&self, index: u32) -> Option<FuncType<'a>>;
+
+    /// How many fields the structure type with the index has, `None` where there is no such type or it is of another kind.
+    ///
+    /// Type indices count the types of all groups. It takes the same time for each index.
+    fn field_count(&self, index: u32) -> Option<u32>;
+
+    /// The imports.
+    fn imports(&self) -> &[Import<'a>];
+
+    /// How many imports are of the kind. It takes time in proportion to the number of imports.
+    fn imported_count(&self, kind: ExternKind) -> u64;
+
+    /// The tables that the module defines.
+    fn tables(&self) -> &[Table<'a>];
+
+    /// The memories that the module defines.
+    fn memories(&self) -> &[Memory];
+
+    /// The tags that the module defines.
+    fn tags(&self) -> &[Tag];
+
+    /// The global variables that the module defines.
+    fn globals(&self) -> &[Global<'a>];
+
+    /// The exports.
+    fn exports(&self) -> &[Export<'a>];
+
+    /// The start function, `None` where there is no start section.
+    fn start(&self) -> Option<Start>;
+
+    /// The element segments.
+    fn elements(&self) -> &[Element<'a>];
+
+    /// The data segments.
+    fn datas(&self) -> &[Data<'a>];
+
+    /// The custom sections, in their order, each with the kind of the last section in front of it that holds something.
+    fn customs(&self) -> &[CustomEntry<'a>];
+
+    /// How many bytes the module has.
+    fn size(&self) -> u64;
+}
+
+impl<'a> Fields<'a> for Module<'a> {
+    ghost defines = { λ m number. number < length m.functions };
+
+    fn function(&self, number: u32) -> Function<'a>
         requires { number < length self.now.functions }
         ensures { slice_get self.now.functions number ≡ Some result }
     {
@@ -96,42 +160,33 @@ impl<'a> Module<'a> {
         }
     }
 
-    /// The types, in their groups.
-    pub fn types(&self) -> &[TypeGroup<'a>]
+    fn types(&self) -> &[TypeGroup<'a>]
         ensures all { result.now ≡ self.now.types }
         ensures few { length (all_types (groups_of self.now.types)) < 2 ^ 64 }
     {
         self.types.groups()
     }
 
-    /// The function type with the index, `None` where there is no such type or it is of another kind.
-    ///
-    /// Type indices count the types of all groups. It takes the same time for each index.
-    pub fn signature(&self, index: u32) -> Option<FuncType<'a>>
+    fn signature(&self, index: u32) -> Option<FuncType<'a>>
         ensures { result ≡ signature_at (all_types (groups_of self.now.types)) index }
     {
         self.types.signature(index)
     }
 
-    /// How many fields the structure type with the index has, `None` where there is no such type or it is of another kind.
-    ///
-    /// Type indices count the types of all groups. It takes the same time for each index.
-    pub fn field_count(&self, index: u32) -> Option<u32>
+    fn field_count(&self, index: u32) -> Option<u32>
         ensures { result ≡ option_map length (fields_at (all_types (groups_of self.now.types)) index) }
     {
         self.types.field_count(index)
     }
 
-    /// The imports.
-    pub fn imports(&self) -> &[Import<'a>]
+    fn imports(&self) -> &[Import<'a>]
         ensures all { result.now ≡ self.now.imports }
         ensures few { length self.now.imports < 2 ^ 32 }
     {
         &self.imports
     }
 
-    /// How many imports are of the kind. It takes time in proportion to the number of imports.
-    pub fn imported_count(&self, kind: ExternKind) -> u64
+    fn imported_count(&self, kind: ExternKind) -> u64
         ensures is { result ≡ imported_count (kind_view kind) self.now.imports }
         ensures few { result < 2 ^ 32 }
     {
@@ -144,75 +199,65 @@ impl<'a> Module<'a> {
         count
     }
 
-    /// The tables that the module defines.
-    pub fn tables(&self) -> &[Table<'a>]
+    fn tables(&self) -> &[Table<'a>]
         ensures all { result.now ≡ self.now.tables }
         ensures few { length self.now.tables < 2 ^ 32 }
     {
         &self.tables
     }
 
-    /// The memories that the module defines.
-    pub fn memories(&self) -> &[Memory]
+    fn memories(&self) -> &[Memory]
         ensures all { result.now ≡ self.now.memories }
         ensures few { length self.now.memories < 2 ^ 32 }
     {
         &self.memories
     }
 
-    /// The tags that the module defines.
-    pub fn tags(&self) -> &[Tag]
+    fn tags(&self) -> &[Tag]
         ensures all { result.now ≡ self.now.tags }
         ensures few { length self.now.tags < 2 ^ 32 }
     {
         &self.tags
     }
 
-    /// The global variables that the module defines.
-    pub fn globals(&self) -> &[Global<'a>]
+    fn globals(&self) -> &[Global<'a>]
         ensures all { result.now ≡ self.now.globals }
         ensures few { length self.now.globals < 2 ^ 32 }
     {
         &self.globals
     }
 
-    /// The exports.
-    pub fn exports(&self) -> &[Export<'a>]
+    fn exports(&self) -> &[Export<'a>]
         ensures { result.now ≡ self.now.exports }
     {
         &self.exports
     }
 
-    /// The start function, `None` where there is no start section.
-    pub fn start(&self) -> Option<Start>
+    fn start(&self) -> Option<Start>
         ensures { result ≡ self.now.start }
     {
         self.start
     }
 
-    /// The element segments.
-    pub fn elements(&self) -> &[Element<'a>]
+    fn elements(&self) -> &[Element<'a>]
         ensures { result.now ≡ self.now.elements }
     {
         &self.elements
     }
 
-    /// The data segments.
-    pub fn datas(&self) -> &[Data<'a>]
+    fn datas(&self) -> &[Data<'a>]
         ensures { result.now ≡ self.now.datas }
     {
         &self.datas
     }
 
-    /// The custom sections, in their order, each with the kind of the last section in front of it that holds something.
-    pub fn customs(&self) -> &[CustomEntry<'a>]
+    fn customs(&self) -> &[CustomEntry<'a>]
         ensures { result.now ≡ self.now.customs }
     {
         &self.customs
     }
 
-    /// How many bytes the module has.
-    pub fn size(&self) -> u64
+    fn size(&self) -> u64
         ensures { result ≡ self.now.size }
     {
         self.size

@@ -5,7 +5,7 @@ ghost use Rattle.wasmprinter_spec.specs.Names.Content.{name_of};
 ghost use Rattle.wasmprinter_spec.specs.ModuleNames.{name_entries};
 ghost use Rattle.wasmprinter_names.specs.Views.{name_at};
 
-use crate::module::Module;
+use crate::module::{Fields, Module};
 use std::alloc::Global;
 use wasmprinter_error::Error;
 use wasmprinter_names::{Names, NamesBuilder, read_names};

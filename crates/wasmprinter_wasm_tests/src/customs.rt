@@ -5,7 +5,7 @@ use std::alloc::{AllocError, Global};
 use std::test::Fail;
 use wasmprinter_error::Error;
 use wasmprinter_names::{Names, Space};
-use wasmprinter_wasm::{CustomEntry, decode};
+use wasmprinter_wasm::{CustomEntry, Fields, decode};
 
 /// A name section that calls the module `m` and function 0 `a`.
 const FIRST_NAMES: &[u8] = b"\x00\x0f\x04name\x00\x02\x01m\x01\x04\x01\x00\x01a";

@@ -8,7 +8,7 @@ use wasmprinter_samples::{IDENTITY, PREAMBLE};
 use wasmprinter_types::ValType;
 use wasmprinter_types::composite::FuncType;
 use wasmprinter_wasm::{
-    Export, ExternKind, Limits, Memory, MemoryType, Module, Tag, TypeGroup, decode,
+    Export, ExternKind, Fields, Limits, Memory, MemoryType, Module, Tag, TypeGroup, decode,
 };
 
 /// A type section with the one type of no parameters and no results.

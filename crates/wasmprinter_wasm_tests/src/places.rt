@@ -4,7 +4,7 @@ use crate::modules::{CODE, EXPORTS, FUNCTIONS, MEMORIES, START, TAGS, TYPES, mod
 use std::alloc::Global;
 use std::test::Fail;
 use wasmprinter_error::Error;
-use wasmprinter_wasm::{CustomEntry, SectionKind, decode};
+use wasmprinter_wasm::{CustomEntry, Fields, SectionKind, decode};
 
 /// A custom section called `n`.
 const NOTE: &[u8] = b"\x00\x02\x01n";

@@ -8,8 +8,8 @@ use wasmprinter_error::Error;
 use wasmprinter_ops::expression::Expression;
 use wasmprinter_types::{HeapType, RefType, ValType};
 use wasmprinter_wasm::{
-    Data, DataMode, Element, ElementItems, ElementMode, ExternKind, ExternType, Global, GlobalType,
-    Import, Limits, MemoryType, Module, Table, TableType, decode,
+    Data, DataMode, Element, ElementItems, ElementMode, ExternKind, ExternType, Fields, Global,
+    GlobalType, Import, Limits, MemoryType, Module, Table, TableType, decode,
 };
 
 /// The place of the first item of the first section.

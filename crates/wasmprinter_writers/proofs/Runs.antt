@@ -5,8 +5,8 @@ use Rattle.std.specs.Io.KnownBytes.{Appends}
 use Rattle.std.proofs.Common.{sym, ap, ◌∙◌, append_assoc, append-nil, inl, inr}
 use Rattle.wasmprinter_spec.specs.Call.{Call, Text, Newline, Line, Start, Claim, call_text, text_of}
 use Rattle.wasmprinter_spec.specs.Meaning.{Meaning, Run}
+use Rattle.wasmprinter_print.specs.TextOnly.{Writes, WritesTextOnly, text_only}
 use Rattle.wasmprinter_writers.specs.Writing.{Writing, TakesWhole, WritesNothing, WritesEach}
-use Rattle.wasmprinter_writers.specs.TextCalls.{WritesText, text_meaning}
 use Rattle.wasmprinter_spec.specs.Looks.{sequences_of}
 use Rattle.wasmprinter_spec.specs.Coloured.{look_of, coloured_bytes, coloured_text}
 use Rattle.wasmprinter_writers.specs.ColourCalls.{Painting, PaintsBySequences, PaintsNothing, WritesInColour, coloured_meaning}
@@ -37,13 +37,13 @@ each_appended view takes grows (bytes ∷ rest) s t (inl h) = absurd h
 each_appended view takes grows (bytes ∷ rest) s t (inr h) =
     appends_both (view s) (view h.0) (view t) bytes (concat rest) (grows s bytes h.0 h.1) (each_appended view takes grows rest h.0 t h.2)
 
-text_call : {T : Type 0} (view : T → Option (List ℕ)) (takes : Writing T) → Grows view takes →
-    (s : T) (c : Call) (t : T) → WritesText takes s c (Ok tt) t → Appends (view s) (view t) (call_text c)
-text_call view takes grows s (Text bytes) t h = grows s bytes t h
-text_call view takes grows s Newline t h = grows s (10 ∷ []) t h
-text_call view takes grows s (Line place) t h = stays view s t h
-text_call view takes grows s (Start style) t h = stays view s t h
-text_call view takes grows s (Claim name place bytes claimed) t h = stays view s t h.1
+text_call : {P : Type 0} (view : P → Option (List ℕ)) (writes : Writes P) → Grows view writes →
+    (s : P) (c : Call) (t : P) → WritesTextOnly writes s c (Ok tt) t → Appends (view s) (view t) (call_text c)
+text_call view writes grows s (Text bytes) t h = grows s bytes t h
+text_call view writes grows s Newline t h = grows s (10 ∷ []) t h
+text_call view writes grows s (Line place) t h = stays view s t h
+text_call view writes grows s (Start style) t h = stays view s t h
+text_call view writes grows s (Claim name place bytes claimed) t h = stays view s t (h.1, h.2)
 
 coloured_call : {T : Type 0} (view : T → Option (List ℕ)) (takes : Writing T) (paints : Painting T) → Grows view takes →
     ((s : T) (look : _) (t : T) → paints s look (Ok tt) t → Appends (view s) (view t) (concat (sequences_of look))) →
@@ -72,12 +72,10 @@ run_appends m view bytes_of all none more grows s t [] r = rw (none, sym r) (app
 run_appends m view bytes_of all none more grows s t (c ∷ calls) r =
     rw (more c calls) (appends_both (view s) (view r.0) (view t) (bytes_of c) (all calls) (grows s c r.0 r.1.step) (run_appends m view bytes_of all none more grows r.0 t calls r.2))
 
--- a printer of plain text over a writer that tells its bytes
-pub text_run : {P T : Type 0} (writer_of : P → T) (contents : T → Option (List ℕ)) (s t : P) (calls : List Call) →
-    Run (text_meaning writer_of (TakesWhole contents)) s calls t → Appends (contents (writer_of s)) (contents (writer_of t)) (text_of calls)
-text_run writer_of contents =
-    run_appends (text_meaning writer_of (TakesWhole contents)) (λ p. contents (writer_of p)) call_text text_of refl (λ c cs. refl)
-    (λ s c t h. text_call contents (TakesWhole contents) (λ a b z k. k) (writer_of s) c (writer_of t) h)
+-- a printer of text alone that tells its bytes
+pub text_run : {P : Type 0} (view : P → Option (List ℕ)) (s t : P) (calls : List Call) → Run (text_only (TakesWhole view)) s calls t → Appends (view s) (view t) (text_of calls)
+text_run view =
+    run_appends (text_only (TakesWhole view)) view call_text text_of refl (λ c cs. refl) (λ s c t h. text_call view (TakesWhole view) (λ a b z k. k) s c t h)
 
 -- a printer in colours over a writer that leaves no trace of them
 pub uncoloured_run : {P T : Type 0} (writer_of : P → T) (contents : T → Option (List ℕ)) (s t : P) (calls : List Call) →

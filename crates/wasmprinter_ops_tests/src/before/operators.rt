@@ -3,7 +3,7 @@
 use super::bytes::Cursor;
 use wasmprinter_error::Malformed;
 use wasmprinter_ops::blocks::{BlockType, Catch};
-use wasmprinter_ops::opcode::{Opcode, Shape};
+use wasmprinter_ops::opcode::{Listed, Opcode, Shape};
 use wasmprinter_ops::operands::MemArg;
 use wasmprinter_types::{HeapType, RefType, ValType};
 

@@ -7,7 +7,7 @@ use std::test::Fail;
 use wasmprinter_bytes::bytes::Cursor;
 use wasmprinter_error::Malformed;
 use wasmprinter_ops::operands::{MemArg, cast_source, cast_target};
-use wasmprinter_ops::operator::Operator;
+use wasmprinter_ops::operator::read_operator;
 use wasmprinter_types::{HeapType, RefType, ValType};
 
 /// An operator: its bytes, its word and its immediates.
@@ -16,7 +16,7 @@ type Spelled = (&'static [u8], &'static str, Wanted);
 /// Whether the bytes are an operator with the word and these immediates, and nothing else.
 fn are_operator(bytes: &[u8], word: &str, wanted: &Wanted) -> bool {
     let mut cursor = Cursor::new(0, bytes);
-    match Operator::read(&mut cursor) {
+    match read_operator(&mut cursor) {
         Ok(operator) => is_operator(&operator, word, wanted) && cursor.is_empty(),
         Err(Malformed { .. }) => false,
     }
@@ -31,7 +31,7 @@ fn assert_operators(rt: &impl Abort, rows: &[(&[u8], &'static str, Wanted)]) {
 
 /// The place at which the bytes are refused, none if an operator stands there.
 fn place_of_refusal(bytes: &[u8]) -> Option<u64> {
-    match Operator::read(&mut Cursor::new(0, bytes)) {
+    match read_operator(&mut Cursor::new(0, bytes)) {
         Ok(_) => None,
         Err(Malformed { place }) => Some(place),
     }

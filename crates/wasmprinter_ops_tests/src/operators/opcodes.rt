@@ -1,5 +1,5 @@
 //! Opcodes, their words, shapes, arities and roles. What is expected is typed by hand.
-use wasmprinter_ops::opcode::{Arity, Opcode, Role, Shape, Space};
+use wasmprinter_ops::opcode::{Arity, Listed, Opcode, Role, Shape, Space};
 
 /// Opcodes by prefix and number, each with its word and the shape of its immediates.
 const OPCODES: [(u8, u32, &str, Shape); 38] = [

@@ -8,6 +8,7 @@ use Rattle.wasmprinter_spec.specs.Grammar.{◌>>=◌, bind_some, some_is}
 use Rattle.wasmprinter_spec.specs.Kinds.{Kind, CustomSection, TypeSection, ImportSection, FunctionSection, TableSection, MemorySection, TagSection, GlobalSection, ExportSection, StartSection, ElementSection, DataCountSection, CodeSection, DataSection}
 use Rattle.wasmprinter_spec.specs.Placed.{CustomEntry}
 use Rattle.wasmprinter_spec.specs.Forest.{Forest, End, Word, String, Group, Note, onto, without_annotations, row_customs}
+use Rattle.wasmprinter_spec.specs.Code.{is_hint}
 use Rattle.wasmprinter_spec.specs.Customs.{CustomRole, Silent, Listed, Linked, Refused, Raw, Faulted, custom_role_of, RawCustom, raw_custom, is_raw, raw_customs}
 use Rattle.wasmprinter_spec.specs.Options.{Answers, AreUnclaimed}
 use Rattle.wasmprinter_spec.specs.Piece as piece
@@ -139,15 +140,15 @@ both_rows f g rs ts e h =
 
 -- ---- each section
 
--- annotations alone
+-- annotations alone, and no hint among them
 abbrev pub AreNotes : Forest → Type 0
 AreNotes End = Unit {0}
-AreNotes (Note id f g) = AreNotes g
+AreNotes (Note id f g) = (is_hint id ≡ false) × AreNotes g
 AreNotes _ = ⊥
 
 notes_onto : (f g : Forest) → AreNotes f → AreNotes g → AreNotes (onto f g)
 notes_onto End g h k = k
-notes_onto (Note id x f) g h k = notes_onto f g h k
+notes_onto (Note id x f) g h k = (h.0, notes_onto f g h.1 k)
 notes_onto _ g h k = absurd h
 
 -- what a part of custom sections writes: nothing in front of a refusal
@@ -192,7 +193,7 @@ module _ (skeleton answer : Bool) (c : CustomEntry) (is : is_any_place c.behind 
       let w = fields_written fields k in
       record {
         notes = Note (codes "producers") w.noted End;
-        are = tt;
+        are = (refl, tt);
         write = claim_writes (break_writes (note_writes 1 (codes "producers") (fields_pieces fields) refl refl w.writes));
         reads = λ u x. nothing_reads (Listed fields) e refl;
       }
@@ -200,16 +201,16 @@ module _ (skeleton answer : Bool) (c : CustomEntry) (is : is_any_place c.behind 
       let w = subsections_written ss k in
       record {
         notes = Note (codes "dylink.0") w.noted End;
-        are = tt;
+        are = (refl, tt);
         write = claim_writes (break_writes (note_writes 1 (codes "dylink.0") (subsections_pieces ss) refl refl w.writes));
         reads = λ u x. nothing_reads (Linked ss) e refl;
       }
   role_notes (Refused id) e k =
       record { notes = End; are = tt; write = (claim_writes nothing_writes, refl); reads = λ u w. nothing_reads (Refused id) e refl }
   role_notes Raw e k =
-      record { notes = raw_note skeleton c; are = tt; write = claim_writes (raw_writes skeleton c is h); reads = λ u w. raw_reads Raw e refl w }
+      record { notes = raw_note skeleton c; are = (refl, tt); write = claim_writes (raw_writes skeleton c is h); reads = λ u w. raw_reads Raw e refl w }
   role_notes Faulted e k =
-      record { notes = raw_note skeleton c; are = tt; write = claim_writes (faulted_writes skeleton c is h k); reads = λ u w. raw_reads Faulted e refl w }
+      record { notes = raw_note skeleton c; are = (refl, tt); write = claim_writes (faulted_writes skeleton c is h k); reads = λ u w. raw_reads Faulted e refl w }
 
 custom_notes : (skeleton answer : Bool) (c : CustomEntry) → is_any_place c.behind ≡ true → IsRangedCustom c.section.value →
     PartNotes skeleton answer (custom_part skeleton answer c) c

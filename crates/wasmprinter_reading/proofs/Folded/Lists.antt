@@ -63,6 +63,10 @@ abbrev pub IsUnpainted : Option Folding → Type 0
 IsUnpainted None = Unit {0}
 IsUnpainted (Some f) = f.paints ≡ false
 
+abbrev pub is_folding : Option Folding → Bool
+is_folding None = false
+is_folding (Some f) = true
+
 -- where they are folded, none is of the older `try`
 abbrev pub AreFoldable : Option Folding → List (Placed Operator) → Type 0
 AreFoldable None os = Unit {0}
@@ -79,7 +83,7 @@ no_nodes_write : (form : Form) → WritesNoted (in_front form) [] Bound End End
 no_nodes_write OverLines = nothing_writes
 no_nodes_write InLine = free_writes
 
-defaults_are_blank : IsBlank defaults.indent
+pub defaults_are_blank : IsBlank defaults.indent
 defaults_are_blank = (inl refl, (inl refl, tt))
 
 row_in_front : (form : Form) (nesting : ℕ) (f : Nodes) → IsRow form f → WritesNoted (in_front form) (node_pieces defaults false form true nesting f) Bound (row_items false f) (row_items true f)

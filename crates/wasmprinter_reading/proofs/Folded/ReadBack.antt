@@ -46,7 +46,7 @@ module _ (form : Form) (xs : List Item) (printed : AllByRecursion (IsPrinted for
   code_printed = subst (AllByRecursion (IsPrinted form)) (sym (nested_code_of-tree xs code is).0) printed
 
   -- their nodes are such as a text may hold
-  nodes_row : IsRow form (tree code)
+  pub nodes_row : IsRow form (tree code)
   nodes_row = row-tree form code (nested_code_of-tree xs code is).1 code_printed
 
   -- The reader takes what they are written as for the operators in their flat order, each with its hint if hints are shown.
@@ -101,13 +101,19 @@ uncounted_printed form (x ∷ xs) h = (recounted form (without_counts x) x.takes
 chunks-without_counts : (xs : List Item) → map (own_chunk false) (map without_counts xs) ≡ map (own_chunk false) xs
 chunks-without_counts xs = map-map (own_chunk false) without_counts xs
 
+-- items of the same operators are printed alike
+pub all_printed : (s : Setting) → AreNamed s.names → AreSignaturesInRange s.signature → (signatures : Signatures) (hs : List (Placed Hint)) (os : List (Placed Operator)) →
+    AllByRecursion IsListed (without_places os) → (xs : List Item) → map without_counts xs ≡ map without_counts (items s signatures hs 0 [] [] os) → AllByRecursion (IsPrinted s.form) xs
+all_printed s named ranged signatures hs os listed xs e =
+    let own : AllByRecursion (IsPrinted s.form) (items s signatures hs 0 [] [] os) = items_printed s named ranged signatures hs 0 [] [] os tt listed in
+    uncounted_printed s.form xs (subst (AllByRecursion (IsPrinted s.form)) (sym e) (printed_uncounted s.form (items s signatures hs 0 [] [] os) own))
+
 -- ---- the law
 
 pub folded_operators_read_back : FoldedOperatorsReadBack
 folded_operators_read_back s apart named c n types same signatures hs os h xs e code is o blank =
     let ys : List Item = items s signatures hs 0 [] [] os in
-    let own : AllByRecursion (IsPrinted s.form) ys = items_printed s named types.in_range signatures hs 0 [] [] os tt h.listed in
-    let printed : AllByRecursion (IsPrinted s.form) xs = uncounted_printed s.form xs (subst (AllByRecursion (IsPrinted s.form)) (sym e) (printed_uncounted s.form ys own)) in
+    let printed : AllByRecursion (IsPrinted s.form) xs = all_printed s named types.in_range signatures hs os h.listed xs e in
     let chunks : map (own_chunk false) xs ≡ chunks_of s 0 [] (without_places os) =
     sym (chunks-without_counts xs) ∙ ap (map (own_chunk false)) e ∙ chunks-without_counts ys ∙ items_chunks s named types.in_range signatures hs 0 [] [] os tt h.listed in
     let f : Nodes = tree code in

@@ -23,7 +23,7 @@ use Rattle.wasmprinter_spec.specs.Folding.Refusals.{misplaced_hints_in, misplace
 use Rattle.wasmprinter_lexical.proofs.Grown.{onto_assoc}
 use Rattle.wasmprinter_lexical.proofs.Noted.{Noted, no_items, a_word, a_name, a_noted_name, a_string, a_group, a_note}
 use Rattle.wasmprinter_reading.specs.Listed.{AreSignaturesInRange}
-use Rattle.wasmprinter_reading.proofs.Folded.Lists.{AreFoldable}
+use Rattle.wasmprinter_reading.proofs.Folded.Lists.{AreFoldable, is_folding}
 use Rattle.wasmprinter_reading.proofs.Ranged.{IsRangedFunction}
 use Rattle.wasmprinter_reading.proofs.Identifiers.{id_items}
 use Rattle.wasmprinter_reading.proofs.Numbered.{rows}
@@ -34,7 +34,7 @@ use Rattle.wasmprinter_reading.proofs.Fields.Imports.{extern_word, extern_items,
 use Rattle.wasmprinter_reading.proofs.Fields.Functions.{function_hinted, functions_hinted}
 use Rattle.wasmprinter_reading.proofs.Customs.Notes.{AreNotes}
 use Rattle.wasmprinter_reading.proofs.Each.{nothing_joined}
-use Rattle.wasmprinter_reading.proofs.Hints.FoldedBodies.{is_folding, list_hints}
+use Rattle.wasmprinter_reading.proofs.Hints.FoldedBodies.{list_hints}
 use Rattle.wasmprinter_reading.proofs.Hints.Bodies.{taken_hints, all_taken, AreHeader, header_onto, header_noted}
 
 -- Items behind so many functions have these hints, whatever annotations stand behind their identifiers.
@@ -51,7 +51,7 @@ no_hints i = record { law = by }
 
 pub notes_before : (a : Forest) → AreNotes a → {i : ℕ} {g : Forest} {hs : List OperatorHint} → HasHints i g hs → HasHints i (onto a g) hs
 notes_before End h x = x
-notes_before (Note id y a) h {i = i} {g = g} {hs = hs} x = record { law = by (notes_before a h x) }
+notes_before (Note id y a) h {i = i} {g = g} {hs = hs} x = record { law = by (notes_before a h.1 x) }
   where
     by : HasHints i (onto a g) hs → (z : Forest) → Noted z (Note id y (onto a g)) → field_hints i z ≡ Some hs
     by more _ (a_note {f = z} m n) = more.law z n

@@ -29,7 +29,7 @@ use Rattle.wasmprinter_reading.proofs.Bytes.{bytes_same, same_bytes}
 use Rattle.wasmprinter_reading.proofs.Tabled.{StandsAlone, differs}
 use Rattle.wasmprinter_reading.proofs.Folded.Items.{item_chunk, noted_chunk, own_chunk, IsHintless}
 use Rattle.wasmprinter_reading.proofs.Folded.ReadBack.{tree_row, tree_unfolds_at}
-use Rattle.wasmprinter_reading.proofs.Folded.Lists.{AreFoldable, code_items, folded_items, list_items, has_tree}
+use Rattle.wasmprinter_reading.proofs.Folded.Lists.{AreFoldable, is_folding, code_items, folded_items, list_items, has_tree}
 use Rattle.wasmprinter_reading.proofs.Folded.Begins.{BeginsCode, row_begins}
 use Rattle.wasmprinter_reading.proofs.Each.{nothing_joined}
 use Rattle.wasmprinter_reading.proofs.Hints.Bodies.{own_hint, taken_hints, flag-byte, operators_hints}
@@ -90,7 +90,7 @@ module _ (s : Setting) (signatures : Signatures) (f : ℕ) where
       (map (own_chunk true) (items s signatures (hint_behind offset hs) (count_after r n) (labels_after r own xs) ls2 os)) (taken_hints f (k + 1) s.body (hint_behind offset hs) os)
       (items_hints os (hint_behind offset hs) (count_after r n) (labels_after r own xs) ls2 (k + 1))
 
-  all_hintless : (os : List (Placed Operator)) (hs : List (Placed Hint)) (n : ℕ) (xs : List labels.Label) (ls : List (Option ℕ)) → misplaced_hints_in s.body hs os ≡ [] →
+  pub all_hintless : (os : List (Placed Operator)) (hs : List (Placed Hint)) (n : ℕ) (xs : List labels.Label) (ls : List (Option ℕ)) → misplaced_hints_in s.body hs os ≡ [] →
       AllByRecursion (IsHintless true) (items s signatures hs n xs ls os)
   unfolding items
   all_hintless [] hs n xs ls e = tt
@@ -113,10 +113,6 @@ module _ (s : Setting) (signatures : Signatures) (f : ℕ) where
       ∙ items_hints os hs 0 [] [] 0
 
 -- ---- flat or folded
-
-abbrev pub is_folding : Option Folding → Bool
-is_folding None = false
-is_folding (Some x) = true
 
 -- the operators of a body have these hints
 pub list_hints : (folding : Option Folding) (own : Option ℕ) (s : Setting) (f : ℕ) → AreNamed s.names → AreSignaturesInRange s.signature → (hs : List (Placed Hint)) (os : List (Placed Operator)) →

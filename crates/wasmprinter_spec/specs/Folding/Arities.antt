@@ -1,19 +1,20 @@
--- How many operands an operator takes, and how many results it gives, where it stands: by the column of the table, and for those that name
--- a type, a function, a tag or a label by what these are in the module. The types of operators (section 3.4 of the standard,
--- "Instructions") say as much of valid code.
+-- How many operands an operator takes, and how many results it gives, where it stands: by the arity of its opcode, which in a module is
+-- that of the table's column, and for those that name a type, a function, a tag or a label by what these are in the module. The types of
+-- operators (section 3.4 of the standard, "Instructions") say as much of valid code.
 use Rattle.std.specs.Prelude.{ℕ, zero, suc, ◌+◌, ◌-◌, ◌^◌, ◌==◌, ◌&&◌, min, List, [], ◌∷◌, ◌++◌, length, map, slice_get, Bool, true, false, Option, Some, None, option_map}
 use Rattle.wasmprinter_spec.specs.Grammar.{◌>>=◌}
 use Rattle.wasmprinter_spec.specs.Types.{FuncType, ValType, SubType, all_types, signature_at, fields_at}
 use Rattle.wasmprinter_spec.specs.Operator.{Opcode, BlockType, Empty, Value, OfType, Immediates, Block, TryTable, Index, Indices, BranchTable, Cast, Operator}
-use Rattle.wasmprinter_spec.specs.Row.{Row, Arity, Fixed, OfCall, OfReturnCall, OfIndirectCall, OfReturnIndirectCall, OfThrow, OfReturn, OfBranch, OfBranchIf, OfBranchTable, OfBranchOnNull, OfBranchOnNonNull, OfBranchOnCast, OfBlock, OfStruct, OfCount}
-use Rattle.wasmprinter_spec.specs.Table.{by_opcode}
+use Rattle.wasmprinter_spec.specs.Row.{Arity, Fixed, OfCall, OfReturnCall, OfIndirectCall, OfReturnIndirectCall, OfThrow, OfReturn, OfBranch, OfBranchIf, OfBranchTable, OfBranchOnNull, OfBranchOnNonNull, OfBranchOnCast, OfBlock, OfStruct, OfCount}
+use Rattle.wasmprinter_spec.specs.Table.{arity_of}
 use Rattle.wasmprinter_spec.specs.Placed.{PlacedModule}
 use Rattle.wasmprinter_spec.specs.Module.{without_places, groups_of, imported_types, func_import, tag_import}
 
--- What operators name, each by its index: the function types, the types of functions and of tags, how many fields a structure type
--- has; and how many results the function around has, of which a constant expression has none. Nothing is known of an index without an
--- item, or with one of another kind.
+-- The arities of opcodes; what operators name, each by its index: the function types, the types of functions and of tags, how many fields a
+-- structure type has; and how many results the function around has, of which a constant expression has none. Nothing is known of an opcode
+-- that isn't listed, nor of an index without an item, or with one of another kind.
 pub record Signatures : Type 0 where
+  pub arities : Opcode → Option Arity
   pub types : ℕ → Option FuncType
   pub functions : ℕ → Option FuncType
   pub tags : ℕ → Option FuncType
@@ -119,13 +120,13 @@ counts s ls OfCount (Indices t n) = takes_and_gives n 1
 counts s ls _ _ = takes_and_gives 0 0
 
 -- an opcode that isn't listed takes nothing and gives nothing
-abbrev pub counts_by_row : Signatures → List (Option ℕ) → Option Row → Immediates → OperandCounts
-counts_by_row s ls None i = takes_and_gives 0 0
-counts_by_row s ls (Some r) i = counts s ls r.arity i
+abbrev pub counts_if_listed : Signatures → List (Option ℕ) → Option Arity → Immediates → OperandCounts
+counts_if_listed s ls None i = takes_and_gives 0 0
+counts_if_listed s ls (Some a) i = counts s ls a i
 
 -- an operator, where these labels are open
 abbrev pub counts_of : Signatures → List (Option ℕ) → Operator → OperandCounts
-counts_of s ls o = counts_by_row s ls (by_opcode o.opcode) o.immediates
+counts_of s ls o = counts_if_listed s ls (s.arities o.opcode) o.immediates
 
 -- ---- what the operators of a module name
 
@@ -152,6 +153,7 @@ tag_type m i = slice_get (tags_of m) i >>= signature_at (types_of m)
 -- the function around has so many results
 abbrev pub signatures_within : PlacedModule → Option ℕ → Signatures
 signatures_within m own = record {
+  arities = arity_of;
   types = signature_at (types_of m);
   functions = function_type m;
   tags = tag_type m;

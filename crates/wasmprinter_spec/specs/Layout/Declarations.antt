@@ -10,8 +10,8 @@ use Rattle.wasmprinter_spec.specs.Piece.{Piece}
 use Rattle.wasmprinter_spec.specs.Layout.Identifiers.{declaration_pieces, index_pieces}
 use Rattle.wasmprinter_spec.specs.Layout.Types.{type_use_pieces}
 
--- what operators are folded by: whether their text carries the sequences of colours, and what they name in the module, in a
--- function that has so many results
+-- what operators are folded by: whether their text carries the sequences of colours, and the arities of their opcodes and what they
+-- name in the module, in a function that has so many results
 pub record Folding : Type 0 where
   pub paints : Bool
   pub signatures : Option ℕ → Signatures

@@ -1,8 +1,10 @@
 -- The branch hints of a text (Code Metadata, a document beside the standard): each belongs to the operator or group directly behind it.
-use Rattle.std.specs.Prelude.{ℕ, ◌+◌, List, [], ◌∷◌, ◌++◌, Bool, false, ◌&&◌, codes, bytes_eq, Option, Some, None, if◌then◌else◌, map}
+-- A text in which a hint annotation stands elsewhere has no list of hints. Nor has one in which another annotation stands between a
+-- parenthesis and the keyword of a field, of a part of a function's header or of a folded operator.
+use Rattle.std.specs.Prelude.{ℕ, suc, ◌+◌, ◌==◌, List, [], ◌∷◌, ◌++◌, length, Bool, true, false, ◌&&◌, codes, bytes_eq, Option, Some, None, if◌then◌else◌, map}
 use Rattle.std.specs.List.{list_any}
 use Rattle.wasmprinter_spec.specs.Grammar.{◌>>=◌}
-use Rattle.wasmprinter_spec.specs.Forest.{Forest, End, Word, Name, String, Group, Note, forest}
+use Rattle.wasmprinter_spec.specs.Forest.{Forest, End, Word, Name, String, Reserved, Group, Note, without_annotations, forest}
 use Rattle.wasmprinter_spec.specs.Code.{Chunk, is_hint, chunks_of_forest}
 use Rattle.wasmprinter_spec.specs.Customs.Hints.{flag}
 use Rattle.wasmprinter_spec.specs.HintsOfModule.{OperatorHint, operator_hint}
@@ -39,20 +41,48 @@ abbrev pub imports_function : Forest → Bool
 imports_function (String m (String n (Group (Word w f) End))) = bytes_eq w (codes "func")
 imports_function _ = false
 
+-- whether there are annotations alone
+abbrev pub is_empty : Forest → Bool
+is_empty End = true
+is_empty (Note id f g) = is_empty g
+is_empty _ = false
+
 -- behind so many functions
 abbrev pub field_hints : ℕ → Forest → Option (List OperatorHint)
 field_hints i End = Some []
 field_hints i (Group (Word w f) g) =
     if bytes_eq w (codes "func") then (function_hints_in i f >>= λ hs. field_hints (i + 1) g >>= λ rest. Some (hs ++ rest)) else
-    (if bytes_eq w (codes "import") && imports_function f then field_hints (i + 1) g else field_hints i g)
+    (if bytes_eq w (codes "import") && imports_function (without_annotations f) then field_hints (i + 1) g else field_hints i g)
 field_hints i (Name s g) = field_hints i g
 field_hints i (Note id f g) = field_hints i g
 field_hints i _ = None
 
 abbrev pub forest_hints : Forest → Option (List OperatorHint)
-forest_hints (Group (Word w f) End) = if bytes_eq w (codes "module") then field_hints 0 f else None
+forest_hints (Group (Word w f) g) = if bytes_eq w (codes "module") && is_empty g then field_hints 0 f else None
+forest_hints (Note id f g) = forest_hints g
 forest_hints _ = None
+
+-- ---- hints that belong to no operator
+
+-- How many hint annotations stand among items and in their groups. What stands inside an annotation is part of that annotation.
+abbrev pub hint_count : Forest → ℕ
+hint_count End = 0
+hint_count (Word s f) = hint_count f
+hint_count (Name s f) = hint_count f
+hint_count (String s f) = hint_count f
+hint_count (Reserved f) = hint_count f
+hint_count (Group g f) = hint_count g + hint_count f
+hint_count (Note id g f) = if is_hint id then suc (hint_count f) else hint_count f
+
+-- hints of items, if each of their hint annotations gives one
+abbrev pub if_all : Forest → List OperatorHint → Option (List OperatorHint)
+if_all f hs = if length hs == hint_count f then Some hs else None
+
+-- ---- texts
 
 -- the hints of a text, in order
 abbrev pub text_hints : List ℕ → Option (List OperatorHint)
-text_hints text = forest text >>= forest_hints
+text_hints text = do
+  f ← forest text
+  hs ← forest_hints f
+  if_all f hs

@@ -7,7 +7,7 @@ use Rattle.wasmprinter_entries.proofs.functions.read_type_indices.Goals as goal
 pub returns-then-count-gt-MOST_FUNCTIONS-clause-reads : goal.returns-then-count-gt-MOST_FUNCTIONS-clause-reads
 returns-then-count-gt-MOST_FUNCTIONS-clause-reads c = record {
   indices = c.in_ok-indices.indices;
-  after = c.read.new.cursor;
+  after = c.read_items.new.cursor;
   read = c.in_ok-indices.ensures.reads;
   counted = sym c.len-count.ensures;
   many = omega arith;
@@ -30,7 +30,7 @@ returns-in_err-push-clause-reads c =
     let same : c.into_iter-index-iterator.result ≡ c.in_ok-indices.indices = c.into_iter-index-iterator.ensures.into_iter_gives ∙ c.iter-index-items.ensures in
     let some : 0 < length c.in_ok-indices.indices =
     omega (arith, ap length c.in-Some.ensures.steps, ap length c.loop-index.invariant.all, ap length same, length-append c.loop-index.kept.items c.loop-index.index-iterator) in
-    rw (failed, is) (counts_items u32 c.args.cursor.now (c.in_ok-indices.indices, c.read.new.cursor) c.in_ok-indices.ensures.reads some)
+    rw (failed, is) (counts_items u32 c.args.cursor.now (c.in_ok-indices.indices, c.read_items.new.cursor) c.in_ok-indices.ensures.reads some)
 
 pub returns-clause-reads : goal.returns-clause-reads
 returns-clause-reads c =

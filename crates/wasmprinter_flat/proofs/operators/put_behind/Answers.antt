@@ -5,4 +5,4 @@ use Rattle.wasmprinter_flat.proofs.operators.put_behind.Goals as goal
 
 pub put_immediates-requires-clause-shape : goal.put_immediates-requires-clause-shape
 put_immediates-requires-clause-shape g c =
-    listed-fits c.operator.inside.opcode _ _ c.operator.invariant (sym c.shape.ensures ∙ ap optional_shape_view c.in-Some.is)
+    listed-fits c.operator.inside.opcode _ _ c.operator.invariant.0 (sym c.shape.ensures ∙ ap optional_shape_view c.in-Some.is)

@@ -3,12 +3,12 @@ use Rattle.wasmprinter_types.specs.ValTypes.{type_view}
 use Rattle.wasmprinter_ops.proofs.BlockTypes.{index_read, value_read}
 use Rattle.wasmprinter_ops.proofs.blocks.read_block_type.Goals as goal
 
-pub returns-in_ok-read_index-clause-reads : goal.returns-in_ok-read_index-clause-reads
-returns-in_ok-read_index-clause-reads c =
-    index_read c.args.cursor.now c.in-Some.first (c.in_ok-read_index.field-0, c.read_index.new.cursor)
-    c.in-Some.ensures c.if-first-eq-EMPTY.false (sym c.if-begins.ensures) c.in_ok-read_index.ensures.reads
+pub returns-in_ok-read_type_index-clause-reads : goal.returns-in_ok-read_type_index-clause-reads
+returns-in_ok-read_type_index-clause-reads c =
+    index_read c.args.cursor.now c.in-Some.first (c.in_ok-read_type_index.field-0, c.read_type_index.new.cursor)
+    c.in-Some.ensures c.if-first-eq-EMPTY.false (sym c.if-begins_type.ensures) c.in_ok-read_type_index.ensures.reads
 
 pub returns-in_ok-read_type-clause-reads : goal.returns-in_ok-read_type-clause-reads
 returns-in_ok-read_type-clause-reads c =
     value_read c.args.cursor.now c.in-Some.first (type_view c.in_ok-read_type.field-0, c.read_type.new.cursor)
-    c.in-Some.ensures c.if-first-eq-EMPTY.false (sym c.if-begins.ensures) c.in_ok-read_type.ensures.reads
+    c.in-Some.ensures c.if-first-eq-EMPTY.false (sym c.if-begins_type.ensures) c.in_ok-read_type.ensures.reads

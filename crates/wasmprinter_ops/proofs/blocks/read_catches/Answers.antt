@@ -12,4 +12,4 @@ seen_made (All label) = refl
 seen_made (AllRef label) = refl
 
 pub returns-clause-reads : goal.returns-clause-reads
-returns-clause-reads c = reads_made catch_of_view catch_view seen_made catch.parse c.args.cursor.now c.read.new.cursor c.read.result c.read.ensures.reads
+returns-clause-reads c = reads_made catch_of_view catch_view seen_made catch.parse c.args.cursor.now c.read_items.new.cursor c.read_items.result c.read_items.ensures.reads

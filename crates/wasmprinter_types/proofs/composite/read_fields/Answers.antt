@@ -5,4 +5,4 @@ use Rattle.wasmprinter_types.proofs.Seen.{field_seen}
 use Rattle.wasmprinter_types.proofs.composite.read_fields.Goals as goal
 
 pub returns-clause-reads : goal.returns-clause-reads
-returns-clause-reads c = reads_made field_of_view field_view field_seen field.parse c.args.cursor.now c.read.new.cursor c.read.result c.read.ensures.reads
+returns-clause-reads c = reads_made field_of_view field_view field_seen field.parse c.args.cursor.now c.read_items.new.cursor c.read_items.result c.read_items.ensures.reads

@@ -2,4 +2,4 @@ use Rattle.wasmprinter_writers.proofs.Runs.{text_run}
 use Rattle.wasmprinter_writers.proofs.laws.io_write_gains_text.Goals as goal
 
 pub returns : goal.returns
-returns g c = text_run (λ p. p.0) g.W.Write.contents
+returns g c = text_run (λ p. g.W.Write.contents p.0)

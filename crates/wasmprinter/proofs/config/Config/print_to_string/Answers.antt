@@ -1,14 +1,12 @@
 use Rattle.std.proofs.Common.{sym, subst}
 use Rattle.wasmprinter.specs.Outcome.{HasTextCause, IsTrueOfText}
-use Rattle.wasmprinter.specs.Plain.{plain_meaning}
 use Rattle.wasmprinter.proofs.Outcomes.{growth_cause, growth_true}
 use Rattle.wasmprinter.proofs.Texts.{printed_text}
 use Rattle.wasmprinter.proofs.config.Config.print_to_string.Goals as goal
 
 pub returns-in-Ok-clause-printed : goal.returns-in-Ok-clause-printed
 returns-in-Ok-clause-printed c =
-    rw c.into_string.ensures
-    (printed_text plain_meaning c.args.self.now (λ p. p) (λ s call t h. h.0) (λ s call t h. h.1) c.args.wasm.now _ c.print.new.printer c.new-printer.ensures c.in-Ok.ensures.printed)
+    rw c.into_string.ensures (printed_text c.args.self.now c.args.wasm.now _ c.print.new.printer c.new-printer.ensures c.in-Ok.ensures.printed)
 
 pub returns-in-Err-clause-caused : goal.returns-in-Err-clause-caused
 returns-in-Err-clause-caused c =

@@ -1,0 +1,33 @@
+-- The laws of a module whose operators are folded in any way: by whatever arities, by whatever types of what they name, with colours in
+-- their text or not.
+use Rattle.std.specs.Prelude.{◌≡◌, ℕ, List, [], true, false, Some, None}
+use Rattle.std.specs.List.{AllByRecursion}
+use Rattle.wasmprinter_spec.specs.Binary.{Spells}
+use Rattle.wasmprinter_spec.specs.Placed.{PlacedModule}
+use Rattle.wasmprinter_spec.specs.Module.{module_of}
+use Rattle.wasmprinter_spec.specs.Indexed.{IsIndexed}
+use Rattle.wasmprinter_spec.specs.Limits.{HasNoEmptyInit}
+use Rattle.wasmprinter_spec.specs.Call.{text_of}
+use Rattle.wasmprinter_spec.specs.Colour.{uncolour}
+use Rattle.wasmprinter_spec.specs.Options.{Options, Answers, AreUnclaimed, IsBlank}
+use Rattle.wasmprinter_spec.specs.Folding.Arities.{signatures_within}
+use Rattle.wasmprinter_spec.specs.Folding.Refusals.{legacy_places}
+use Rattle.wasmprinter_spec.specs.Layout.Declarations.{Folding}
+use Rattle.wasmprinter_spec.specs.Layout.{layout, layout_folded, refusal}
+use Rattle.wasmprinter_spec.specs.Read.{read}
+
+-- Where the options ask for it, operators are folded by the arities of the table and by what they name in the module.
+abbrev pub FoldsByOwnArities : Type 0
+FoldsByOwnArities =
+    (m : PlacedModule) (o : Options) (answers : Answers) →
+    o.folds ≡ true → layout o answers m ≡ layout_folded (record { paints = o.paints; signatures = signatures_within m }) o answers m
+
+-- Folded in any way or flat, the text of a module reads as that module when the sequences of colours are deleted. (As in the reading law,
+-- no initialiser of a table is empty, and no `dylink.0` section is refused. No operator of the older `try` stands in what is printed.)
+abbrev pub FoldedAnyhowReadsAsFlat : Type 0
+FoldedAnyhowReadsAsFlat =
+    (bytes : List ℕ) (m : PlacedModule) (o : Options) (answers : Answers) (folding : Folding) →
+    Spells bytes m → IsIndexed (module_of m) → AllByRecursion (λ t. HasNoEmptyInit t.value.init) m.tables → o.skeleton ≡ false →
+    IsBlank o.indent → AreUnclaimed answers → legacy_places o m ≡ [] → refusal o answers m ≡ None →
+    (read (uncolour (text_of (layout_folded folding o answers m))) ≡ Some (module_of m))
+    × (read (uncolour (text_of (layout (record o { folds = false }) answers m))) ≡ Some (module_of m))

@@ -1,0 +1,47 @@
+-- The laws of the groups of folded text with colours: they are the nodes of its trees, as they are without.
+use Rattle.std.specs.Prelude.{◌≡◌, ℕ, List, [], map, Bool, true, false, Some, None, option_map}
+use Rattle.std.specs.List.{AllByRecursion}
+use Rattle.wasmprinter_spec.specs.Grammar.{Placed, ◌>>=◌}
+use Rattle.wasmprinter_spec.specs.Binary.{Spells}
+use Rattle.wasmprinter_spec.specs.Operator.{Operator}
+use Rattle.wasmprinter_spec.specs.Placed.{PlacedModule}
+use Rattle.wasmprinter_spec.specs.Module.{without_places}
+use Rattle.wasmprinter_spec.specs.Colour.{uncolour}
+use Rattle.wasmprinter_spec.specs.Options.{Options, Answers, IsBlank}
+use Rattle.wasmprinter_spec.specs.Names.{AreNamed}
+use Rattle.wasmprinter_spec.specs.Piece.{all_calls}
+use Rattle.wasmprinter_spec.specs.Customs.Hints.{Hint}
+use Rattle.wasmprinter_spec.specs.Layout.{layout, refusal}
+use Rattle.wasmprinter_spec.specs.Layout.Operators.{Setting}
+use Rattle.wasmprinter_spec.specs.Layout.Folded.{items, head_text, painted_text, node_pieces}
+use Rattle.wasmprinter_spec.specs.Folding.Arities.{Signatures}
+use Rattle.wasmprinter_spec.specs.Folding.Code.{Item, NestedCode, nested_code_of}
+use Rattle.wasmprinter_spec.specs.Folding.Refusals.{IsFoldable}
+use Rattle.wasmprinter_spec.specs.Folding.Tree.{tree}
+use Rattle.wasmprinter_spec.specs.Read.{Fields, fields, module_fields}
+use Rattle.wasmprinter_reading.specs.Listed.{IsListed, AreSignaturesInRange}
+use Rattle.wasmprinter_reading.specs.FoldedLaws.{without_counts}
+use Rattle.wasmprinter_reading.specs.NodeLaws.{items_in, nodes_in, with_heads}
+use Rattle.wasmprinter_reading.specs.TreeLaws.{HaveTrees}
+
+-- With colours in the text of folded operators or without, and with the sequences of all styles or without: what stays when the sequences
+-- are deleted has the nodes of the tree.
+abbrev pub PaintedGroupsAreNodes : Type 0
+PaintedGroupsAreNodes =
+    (s : Setting) → AreNamed s.names → AreSignaturesInRange s.signature →
+    (signatures : Signatures) (hs : List (Placed Hint)) (os : List (Placed Operator)) → AllByRecursion IsListed (without_places os) →
+    (xs : List Item) → map without_counts xs ≡ map without_counts (items s signatures hs 0 [] [] os) →
+    (code : NestedCode) → nested_code_of xs ≡ Some code →
+    (o : Options) → IsBlank o.indent → (styles paints : Bool) →
+    option_map (with_heads (λ f. Some f))
+    (nodes_in (uncolour (painted_text styles (all_calls o (node_pieces o paints s.form true s.nesting (tree code))))))
+    ≡ Some (with_heads (λ h. items_in (head_text o h)) (tree code))
+
+-- The text of a module whose operators are folded, with colours or without: in what stays when the sequences are deleted the groups are the
+-- nodes of the module's trees, field by field. (All operators can be folded, and no `dylink.0` section is refused.)
+abbrev pub PaintedModulesHaveTrees : Type 0
+PaintedModulesHaveTrees =
+    (bytes : List ℕ) (m : PlacedModule) (o : Options) (answers : Answers) →
+    Spells bytes m → o.folds ≡ true → o.skeleton ≡ false → IsBlank o.indent →
+    IsFoldable o m → refusal o answers m ≡ None → (styles : Bool) →
+    (fs : Fields) × ((items_in (uncolour (painted_text styles (layout o answers m))) >>= module_fields >>= fields) ≡ Some fs) × HaveTrees o.invents m fs

@@ -1,0 +1,80 @@
+-- What a module that is printed leaves of a printer of text alone; and, printed in colours and without, of two writers.
+use Rattle.std.specs.Prelude.{◌≡◌, ℕ, List, Option, true, false, Ok}
+use Rattle.std.proofs.Common.{ap, ◌∙◌, sym}
+use Rattle.std.specs.Io.KnownBytes.{Appends}
+use Rattle.wasmprinter_spec.specs.Grammar.{input, some_is}
+use Rattle.wasmprinter_spec.specs.Binary.{Spells, binary}
+use Rattle.wasmprinter_spec.specs.Call.{Call, Text, Newline, Line, Start, Claim, IsUnclaimed, atoms, text_of}
+use Rattle.wasmprinter_spec.specs.Colour.{uncolour}
+use Rattle.wasmprinter_spec.specs.Coloured.{coloured_text}
+use Rattle.wasmprinter_spec.specs.Options.{Options, IsBlank, in_colours}
+use Rattle.wasmprinter_spec.specs.Placed.{PlacedModule}
+use Rattle.wasmprinter_spec.specs.Layout.{layout}
+use Rattle.wasmprinter_spec.proofs.Texts.{alike_texts, alike_coloured}
+use Rattle.wasmprinter_reading.proofs.Main.{prints_plain_text}
+use Rattle.wasmprinter_colours.proofs.Texts.{coloured_text_keeps}
+use Rattle.wasmprinter_writers.specs.Writing.{Writing, TakesWhole}
+use Rattle.wasmprinter_writers.specs.ColourCalls.{Painting, PaintsBySequences, PaintsNothing, WritesInColour, coloured_meaning}
+use Rattle.wasmprinter_writers.proofs.Runs.{coloured_run, uncoloured_run}
+use Rattle.wasmprinter.specs.Printed.{Printed, no_claims}
+use Rattle.wasmprinter_laws.specs.Gained.{GainAlike, GainsText}
+use Rattle.wasmprinter.proofs.Claims.{IsSame}
+use Rattle.wasmprinter_print.specs.TextOnly.{Writes, Grows, text_only}
+use Rattle.wasmprinter_print.proofs.TextRuns.{takes_none, text_is_gained}
+use Rattle.wasmprinter.proofs.Texts.{IsPlainly, unclaimed_printed, plainly_printed, module_text}
+
+-- bytes spell at most one module
+spells_one : (bytes : List ℕ) (m n : PlacedModule) → Spells bytes m → Spells bytes n → m ≡ n
+spells_one bytes m n s t = some_is m n (sym (binary.complete (input 0 bytes) m s.spelled) ∙ binary.complete (input 0 bytes) n t.spelled)
+
+-- a printer in colours takes no custom section
+leaves_sections : {T : Type 0} (takes : Writing T) (paints : Painting T) (s : T) (c : Call) (t : T) → WritesInColour takes paints s c (Ok tt) t → IsUnclaimed c
+leaves_sections takes paints s (Text bytes) t h = tt
+leaves_sections takes paints s Newline t h = tt
+leaves_sections takes paints s (Line place) t h = tt
+leaves_sections takes paints s (Start style) t h = tt
+leaves_sections takes paints s (Claim name place bytes claimed) t h = h.0
+
+module _ {P S U Q R : Type 0} (writer : P → S) (inner : S → U) (told : U → Option (List ℕ)) (plain_writer : Q → R) (plain_told : R → Option (List ℕ)) where
+  abbrev own_takes : Writing S
+  own_takes = TakesWhole (λ w. told (inner w))
+
+  abbrev own_paints : Painting S
+  own_paints = PaintsBySequences inner (TakesWhole told)
+
+  pub gained_alike : (o : Options) (bytes : List ℕ) → IsBlank o.indent → (s t : P) (x y : Q) →
+      Printed (coloured_meaning writer own_takes own_paints) true o bytes s t → Printed (coloured_meaning plain_writer (TakesWhole plain_told) PaintsNothing) false o bytes x y →
+      GainAlike (told (inner (writer s))) (told (inner (writer t))) (plain_told (plain_writer x)) (plain_told (plain_writer y))
+  gained_alike o bytes blank s t x y v u =
+      let by : Options = in_colours o true in
+      let m = coloured_meaning writer own_takes own_paints in
+      let n = coloured_meaning plain_writer (TakesWhole plain_told) PaintsNothing in
+      let own : IsSame by v.answers v.placed = unclaimed_printed m true o (λ a c b h. leaves_sections own_takes own_paints (writer a) c (writer b) h) bytes s t v in
+      let laid : List Call = layout by no_claims v.placed in
+      let other : IsPlainly o u.calls u.placed = plainly_printed n o (λ a c b h. leaves_sections (TakesWhole plain_told) PaintsNothing (plain_writer a) c (plain_writer b) h) bytes x y u in
+      let bare : PlacedModule → List ℕ = λ placed. text_of (layout (in_colours o false) no_claims placed) in
+      record {
+        coloured = coloured_text v.calls;
+        plain = text_of u.calls;
+        first = coloured_run writer inner told s t v.calls v.run;
+        second = uncoloured_run plain_writer plain_told x y u.calls u.run;
+        same =
+            ap uncolour (alike_coloured v.calls laid (v.alike ∙ ap atoms own.layout))
+            ∙ coloured_text_keeps prints_plain_text bytes v.placed by no_claims v.spelled blank
+            ∙ ap bare (spells_one bytes v.placed u.placed v.spelled u.spelled)
+            ∙ sym (alike_texts u.calls (layout (in_colours o false) no_claims u.placed) other.alike);
+      }
+
+-- ---- printers of text alone
+
+pub gains_text : {P : Type 0} (view : P → List ℕ) (writes : Writes P) → Grows view writes → (o : Options) (bytes : List ℕ) (old new : P) →
+    Printed (text_only writes) false o bytes old new → GainsText o bytes (view old) (view new)
+gains_text view writes grows o bytes old new v =
+    let own : IsPlainly o v.calls v.placed = plainly_printed (text_only writes) o (takes_none writes) bytes old new v in
+    record {
+      text = text_of v.calls;
+      gained = text_is_gained view writes grows old v.calls new v.run;
+      is =
+          module_text o bytes v.placed v.spelled v.within v.foldable own.accepted (text_of v.calls)
+          (alike_texts v.calls (layout (in_colours o false) no_claims v.placed) own.alike);
+    }

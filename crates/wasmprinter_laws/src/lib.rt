@@ -1,0 +1,29 @@
+//! Laws that follow from what the library promises. Each law is the contract of a function with an empty body.
+#![tactic(auto)]
+
+ghost use Rattle.std.specs.Prelude.{ℕ, List};
+ghost use Rattle.wasmprinter_spec.specs.Options.{IsBlank};
+ghost use Rattle.wasmprinter_print.specs.TextOnly.{Grows};
+ghost use Rattle.wasmprinter.specs.Printed.{Printed};
+ghost use Rattle.wasmprinter_laws.specs.Gained.{GainAlike, GainsText};
+
+use std::io::Write;
+use wasmprinter::print::{Ansi, NoColor};
+use wasmprinter::{Print, PrintTermcolor, PrintText};
+
+/// One module, printed by the same options in colours and without: what a writer gains through [`Ansi`], the colour sequences deleted, is
+/// what another gains through [`NoColor`]. This holds for writers that tell their bytes and an indent of blanks and tabs, whether operators
+/// are folded or not.
+pub fn colors_add_sequences_alone<V: Write, W: Write>()
+    ensures { (o : _) (bytes : List ℕ) → IsBlank o.indent → (s t : _) (x y : _)
+        → Printed ⟦<PrintTermcolor<Ansi<V>> as Print>⟧.meaning (⟦<PrintTermcolor<Ansi<V>> as Print>⟧.colors s) o bytes s t
+        → Printed ⟦<PrintTermcolor<NoColor<W>> as Print>⟧.meaning (⟦<PrintTermcolor<NoColor<W>> as Print>⟧.colors x) o bytes x y
+        → GainAlike (V.contents s.0.inner) (V.contents t.0.inner) (W.contents x.0.inner) (W.contents y.0.inner) }
+{}
+
+/// What is seen of a printer of text alone grows by the text of the module, where each write that succeeds appends its bytes to it.
+pub fn text_printers_gain_the_text<T: PrintText>()
+    ensures { (view : T → List ℕ) → Grows view T.writes → (o : _) (bytes : List ℕ) (s t : T)
+        → Printed ⟦<T as Print>⟧.meaning (⟦<T as Print>⟧.colors s) o bytes s t
+        → GainsText o bytes (view s) (view t) }
+{}

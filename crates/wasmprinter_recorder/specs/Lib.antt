@@ -1,0 +1,2 @@
+-- What the contracts of the recorder cite.
+pub mod Counting

@@ -1,0 +1,23 @@
+//! Every public item of the crate `wasmprinter`, used by its path. Expected values are typed by hand.
+#![tactic(auto)]
+
+#[cfg(test)]
+mod bodies;
+#[cfg(test)]
+mod errors;
+#[cfg(test)]
+mod expecting;
+#[cfg(test)]
+mod files;
+#[cfg(test)]
+mod lines;
+#[cfg(test)]
+mod named;
+#[cfg(test)]
+mod options;
+#[cfg(test)]
+mod painting;
+#[cfg(test)]
+mod printers;
+#[cfg(test)]
+mod values;

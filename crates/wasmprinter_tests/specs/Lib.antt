@@ -1,0 +1,2 @@
+-- What the contract of a test's function cites.
+pub mod Faults

@@ -1,0 +1,52 @@
+//! A printer that counts the calls that failed: the count tells whether one did while a module was printed.
+ghost use Rattle.std.specs.Prelude.{◌≡◌, OnOk, IfErr};
+ghost use Rattle.wasmprinter_tests.specs.Faults.{faults_after};
+
+use std::alloc::Global;
+#[cfg(test)]
+use std::io::ErrorKind;
+#[cfg(test)]
+use std::test::Fail;
+use wasmprinter::{Config, Error};
+use wasmprinter_recorder::Recorder;
+#[cfg(test)]
+use wasmprinter_samples::IDENTITY;
+
+/// Prints a module. The recorder counts one failed call more if the answer is `Printer`, and else none. A count of 2^64 - 1 stays.
+pub fn print_counted(
+    config: &Config,
+    alloc: Global,
+    wasm: &[u8],
+    recorder: &mut Recorder,
+) -> Result<(), Error>
+    ensures printed { OnOk result (recorder.new ≡ recorder.old) }
+    ensures refused { IfErr result (λ e. recorder.new ≡ faults_after e recorder.old) }
+{
+    config.print(alloc, wasm, recorder)
+}
+
+#[test]
+fn counts_a_failed_call(rt: HostRuntime) -> Result<(), Fail> {
+    let config = Config::new();
+    for call in 1..10 {
+        let mut recorder = Recorder::with_refusal(rt.alloc(), call, ErrorKind::BrokenPipe);
+        let answer = print_counted(&config, rt.alloc(), &IDENTITY, &mut recorder);
+        assert!(rt; matches!(answer, Err(Error::Printer(e)) if e.kind() == ErrorKind::BrokenPipe));
+        assert!(rt; recorder.call_count() == call);
+        assert!(rt; recorder.faults() == 1);
+    }
+    Ok(())
+}
+
+#[test]
+fn counts_nothing_where_no_call_failed(rt: HostRuntime) -> Result<(), Fail> {
+    let config = Config::new();
+    let mut recorder = Recorder::new(rt.alloc());
+    print_counted(&config, rt.alloc(), &IDENTITY, &mut recorder)?;
+    assert!(rt; recorder.call_count() > 0);
+    assert!(rt; recorder.faults() == 0);
+    let refused = print_counted(&config, rt.alloc(), &IDENTITY[..34], &mut recorder);
+    assert!(rt; matches!(refused, Err(Error::Malformed { .. })));
+    assert!(rt; recorder.faults() == 0);
+    Ok(())
+}

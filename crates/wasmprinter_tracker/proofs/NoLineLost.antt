@@ -1,0 +1,81 @@
+-- A tracker loses no line on calls that are a beginning of a module's.
+use Rattle.std.proofs.Common.{◌≡◌, ℕ, List, [], ◌∷◌, ◌++◌, map, refl, sym, ap, ◌∙◌, subst, true≢false}
+use Rattle.std.specs.Prelude.{Option, Bool, true, false}
+use Rattle.wasmprinter_spec.specs.Call.{Call, Text, Newline, Line, Start, Claim, calls_of_bytes, atoms}
+use Rattle.wasmprinter_spec.specs.Layout.{layout}
+use Rattle.wasmprinter_spec.specs.Meaning.{Run}
+use Rattle.wasmprinter_places.proofs.Fed.{Fed, layout_fed}
+use Rattle.wasmprinter_tracker.specs.Tracked.{Tracked, without_lines, with_line_if}
+use Rattle.wasmprinter_tracker.specs.Tracking.{tracked_after, tracked_meaning}
+use Rattle.wasmprinter_tracker.specs.NoLineLost.{NoLineLost}
+
+-- ---- calls with their texts cut
+
+-- the bytes of a text, each as a text of its own, and calls behind them
+abbrev texts_and : List ℕ → List Call → List Call
+texts_and s cs = map (λ b. Text (b ∷ [])) s ++ cs
+
+-- text in front of calls that may stand behind anything
+texts_fed : (s : List ℕ) (cs : List Call) → ((behind : Bool) → Fed behind cs) → (fed : Bool) → Fed fed (texts_and s cs)
+texts_fed [] cs h fed = h fed
+texts_fed (b ∷ s) cs h fed = texts_fed s cs h false
+
+-- An empty text has no atom. So in front of the atoms a line feed may stand where none stood in front of the calls.
+atoms_fed : (fed now : Bool) → (fed ≡ true → now ≡ true) → (cs : List Call) → Fed fed cs → Fed now (atoms cs)
+atoms_fed fed now le [] h = tt
+atoms_fed fed now le (Text s ∷ cs) h = texts_fed s (atoms cs) (λ behind. atoms_fed false behind (λ e. absurd (true≢false (sym e))) cs h) now
+atoms_fed fed now le (Newline ∷ cs) h = atoms_fed true true (λ e. e) cs h
+atoms_fed fed now le (Line place ∷ cs) h = (le h.0, atoms_fed false false (λ e. e) cs h.1)
+atoms_fed fed now le (Start style ∷ cs) h = atoms_fed false false (λ e. e) cs h
+atoms_fed fed now le (Claim name place bytes answer ∷ cs) h = atoms_fed false false (λ e. e) cs h
+
+-- a beginning of calls
+first_fed : (fed : Bool) (k l : List Call) → Fed fed (k ++ l) → Fed fed k
+first_fed fed [] l h = tt
+first_fed fed (Newline ∷ k) l h = first_fed true k l h
+first_fed fed (Line place ∷ k) l h = (h.0, first_fed false k l h.1)
+first_fed fed (c ∷ k) l h = first_fed false k l h
+
+-- Calls behind a text: a line feed stands in front of them only where the text is empty.
+behind_texts : (fed : Bool) (s : List ℕ) (cs : List Call) → Fed fed (texts_and s cs) → (behind : Bool) × Fed behind cs
+behind_texts fed [] cs h = (fed, h)
+behind_texts fed (b ∷ s) cs h = behind_texts false s cs h
+
+-- ---- a run
+
+-- A line that begins behind no other beginning is kept.
+kept_if : (b : Bool) (t : Tracked) (place : Option ℕ) → b ≡ false → t.lost ≡ false → (with_line_if b t place).lost ≡ false
+kept_if true t place e kept = absurd (true≢false e)
+kept_if false t place e kept = kept
+
+-- No line was lost, and none will be by these calls: where a line may begin, none has just begun.
+record Keeps (t : Tracked) (cs : List Call) : Type 0 where
+  fed : Bool
+  ready : fed ≡ true → t.new_line ≡ false
+  kept : t.lost ≡ false
+  follow : Fed fed cs
+
+after_call : (t : Tracked) (c : Call) (cs : List Call) → Keeps t (calls_of_bytes c ++ cs) → Keeps (tracked_after t c) cs
+after_call t (Text s) cs h =
+    let behind = behind_texts h.fed s cs h.follow in record { fed = behind.0; ready = λ e. refl; kept = h.kept; follow = behind.1 }
+after_call t Newline cs h = record { fed = true; ready = λ e. refl; kept = h.kept; follow = h.follow }
+after_call t (Line place) cs h = record {
+  fed = false;
+  ready = λ e. absurd (true≢false (sym e));
+  kept = kept_if t.new_line t place (h.ready h.follow.0) h.kept;
+  follow = h.follow.1;
+}
+after_call t (Start style) cs h = record { fed = false; ready = λ e. absurd (true≢false (sym e)); kept = h.kept; follow = h.follow }
+after_call t (Claim name place bytes answer) cs h =
+    record { fed = false; ready = λ e. absurd (true≢false (sym e)); kept = h.kept; follow = h.follow }
+
+run_keeps_lines : (s : Tracked) (calls : List Call) (t : Tracked) → Keeps s (atoms calls) → Run tracked_meaning s calls t → t.lost ≡ false
+run_keeps_lines s [] t h r = ap (λ (u : Tracked). u.lost) (sym r) ∙ h.kept
+run_keeps_lines s (c ∷ calls) t h (between, called, rest) =
+    run_keeps_lines between calls t (subst (λ (u : Tracked). Keeps u (atoms calls)) (sym called.step.0) (after_call s c (atoms calls) h)) rest
+
+pub no_line_lost : NoLineLost
+no_line_lost o answers m base calls rest t r e =
+    let whole : Fed true (atoms (layout o answers m)) = atoms_fed true true (λ same. same) (layout o answers m) (layout_fed o answers m) in
+    run_keeps_lines (without_lines base) calls t
+    (record { fed = true; ready = λ same. refl; kept = refl; follow = first_fed true (atoms calls) rest (subst (Fed true) (sym e) whole) }) r
