@@ -40,14 +40,14 @@ abbrev AnyIsAsked : ℕ → List CustomEntry → List Piece → Type 0
 AnyIsAsked id [] ps = ⊥
 AnyIsAsked id (c ∷ cs) ps = IsAsked id c ps ⊎ AnyIsAsked id cs ps
 
--- behind other pieces
+-- after other pieces
 asked_behind : (id : ℕ) (cs : List CustomEntry) (ps qs : List Piece) → AnyIsAsked id cs qs → AnyIsAsked id cs (ps ++ qs)
 asked_behind id [] ps qs h = absurd h
 asked_behind id (c ∷ cs) ps qs (inl a) =
     inl (record { unknown = a.unknown; front = ps ++ a.front; ends = ap (λ (rs : List Piece). ps ++ rs) a.ends ∙ sym (append_assoc ps a.front (question c ∷ [])) })
 asked_behind id (c ∷ cs) ps qs (inr h) = inr (asked_behind id cs ps qs h)
 
--- either the section is asked for last, or others behind pieces
+-- either the section is asked for last, or others after pieces
 record GoesOn (part : Part) (others : List Part) (id : ℕ) : Type 0 where
   front : List Piece
   pieces : pieces_of (part ∷ others) ≡ front ++ pieces_of others
@@ -160,7 +160,7 @@ module _ {P : Type 0} (meaning : Meaning P) (old new : P) (o : Options) (id : �
         asked = w.alike ∙ ap atoms (all_calls-append o front (question c ∷ [])) ∙ atoms-append (all_calls o front) last;
       }
 
-  -- the pieces in front of those of the sections
+  -- the pieces before those of the sections
   any_refused : (head : List Piece) (cs : List CustomEntry) (ps : List Piece) → AnyIsAsked id cs ps → Whole meaning old new (all_calls o (head ++ ps)) → AnyIsRefused meaning old new id cs
   any_refused head [] ps h w = absurd h
   any_refused head (c ∷ cs) ps (inl a) w =

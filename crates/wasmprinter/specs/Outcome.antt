@@ -25,8 +25,7 @@ abbrev pub AnyIsUnknown : ℕ → List CustomEntry → Type 0
 AnyIsUnknown id [] = ⊥
 AnyIsUnknown id (c ∷ cs) = (custom_role_of c.section.value ≡ Refused id) ⊎ AnyIsUnknown id cs
 
--- Printing ended at such a section: all calls succeeded, and the last of them, empty texts aside, asked the printer whether it takes this
--- section, which it doesn't.
+-- All calls succeeded. The last one, apart from empty texts, asked whether the printer claims this section. The answer was no.
 pub record IsRefused {P : Type 0} (m : Meaning P) (old new : P) (id : ℕ) (c : CustomEntry) : Type 0 where
   pub unknown : custom_role_of c.section.value ≡ Refused id
   pub calls : List Call
@@ -104,9 +103,9 @@ causes growth placed = record {
 abbrev pub MayGrow : Options → PlacedModule → Type 0
 MayGrow o m = HoldsSome m ⊎ (o.folds ≡ true)
 
--- The error is answered for a cause, if bytes spell a module at all: such a one, where growths are refused only for a module that holds
--- something, or where operators are folded; a `dylink.0` section that the printer doesn't take has the subsection that is refused;
--- something can't be folded; or a call on the printer failed with the error that is answered.
+-- If the bytes encode a module, the error has one of these causes: a limit or an empty initialiser, as above; an allocation that failed,
+-- only if the module holds something that is kept or operators are folded; a subsection of a `dylink.0` section that the printer does not
+-- claim; an operator or a hint that can't be folded; a call on the printer that failed with this very error.
 abbrev pub HasCause : {P : Type 0} → Meaning P → Options → List ℕ → P → P → Error → Type 0
 HasCause m o bytes old new e =
     (placed : PlacedModule) → Spells bytes placed →

@@ -6,52 +6,70 @@ use std::alloc::{AllocError, AllocFailed};
 use std::io;
 use thiserror::Error;
 
-/// Why printing stopped. Places are bytes from the module's first byte on.
+/// Why printing stopped. Places are byte offsets from the start of the module.
 #[derive(Debug, Drop, Error)]
 pub enum Error {
-    /// The bytes aren't in the binary format. The place is where that begins which may not stand there: a byte, a number, an entry, or
-    /// bytes whose length reaches too far; where the section, the body or the module ends, if something is missing in it; where the module
-    /// ends, if two sections disagree about a count.
+    /// The bytes are not in the binary format.
     #[error("malformed module at byte {place:#x}")]
-    Malformed { place: u64 },
+    Malformed {
+        /// The offset of the first unexpected byte, number or entry, or of bytes whose length reaches too far. If something is missing,
+        /// the end of the section, of the body or of the module. If two sections disagree about a count, the end of the module.
+        place: u64,
+    },
     /// The bytes are marked as a component.
     #[error("components are not supported")]
     Component,
-    /// The locals of the function whose body lies at the place are too many; parameters aren't counted.
+    /// A function has too many locals. Parameters are not counted.
     #[error("function at byte {place:#x} has more than 50000 locals")]
-    TooManyLocals { place: u64 },
+    TooManyLocals {
+        /// The offset of the function's body.
+        place: u64,
+    },
     /// The module defines too many functions.
     #[error("module has {count} functions, more than 1000000")]
-    TooManyFunctions { count: u32 },
-    /// The initialiser of the table at the place, the first such table, has no operators.
+    TooManyFunctions {
+        /// The number of functions that the module defines.
+        count: u32,
+    },
+    /// The initialiser of a table has no operators: its text would equal that of a table without an initialiser.
     #[error("table at byte {place:#x} has an empty initialiser")]
-    EmptyTableInit { place: u64 },
-    /// A `try`, `catch`, `catch_all` or `delegate` is to be folded.
+    EmptyTableInit {
+        /// The offset of the first such table.
+        place: u64,
+    },
+    /// Operators are folded, and a `try`, `catch`, `catch_all` or `delegate` would be printed.
     #[error("legacy exception operator at byte {place:#x} can't be folded")]
-    FoldLegacy { place: u64 },
-    /// A branch hint stands where folded text has no place for it.
+    FoldLegacy {
+        /// The offset of the operator.
+        place: u64,
+    },
+    /// Operators are folded, and folded text has nowhere to put a branch hint.
     #[error("branch hint at byte {place:#x} can't be folded")]
-    FoldHint { place: u64 },
+    FoldHint {
+        /// The offset of the hint's first byte.
+        place: u64,
+    },
     /// A subsection of `dylink.0` has an unknown id.
     #[error("unknown dylink.0 subsection {id}")]
-    DylinkSubsection { id: u8 },
+    DylinkSubsection {
+        /// The first unknown id.
+        id: u8,
+    },
     /// Reading the file failed.
     #[error("the file can't be read")]
     Unreadable,
     /// A call on the printer failed.
     #[error("the printer failed")]
     Printer(io::Error),
-    /// A growth was refused.
+    /// An allocation failed.
     #[error("out of memory")]
     Memory,
 }
 
-/// What the binary format wants doesn't stand at the place.
-///
-/// Readers that never grow anything answer it, so that their callers know that memory can't run out.
+/// The bytes are not in the binary format. Readers that allocate nothing return this error.
 #[derive(Clone, Copy, Debug, PartialEq, Eq)]
 pub struct Malformed {
-    /// The byte, from the module's first byte on.
+    /// The offset of the error in bytes from the start of the module, as in [`Error::Malformed`].
     pub place: u64,
 }
 

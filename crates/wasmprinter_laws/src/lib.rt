@@ -11,9 +11,9 @@ use std::io::Write;
 use wasmprinter::print::{Ansi, NoColor};
 use wasmprinter::{Print, PrintTermcolor, PrintText};
 
-/// One module, printed by the same options in colours and without: what a writer gains through [`Ansi`], the colour sequences deleted, is
-/// what another gains through [`NoColor`]. This holds for writers that tell their bytes and an indent of blanks and tabs, whether operators
-/// are folded or not.
+/// One module is printed with the same options to two writers. What the first gains through [`Ansi`], without its ANSI escape sequences,
+/// equals what the second gains through [`NoColor`]. Both writers specify the bytes that they hold, and the indent consists of spaces and
+/// tabs. Operators are folded or not.
 pub fn colors_add_sequences_alone<V: Write, W: Write>()
     ensures { (o : _) (bytes : List ℕ) → IsBlank o.indent → (s t : _) (x y : _)
         → Printed ⟦<PrintTermcolor<Ansi<V>> as Print>⟧.meaning (⟦<PrintTermcolor<Ansi<V>> as Print>⟧.colors s) o bytes s t
@@ -21,7 +21,7 @@ pub fn colors_add_sequences_alone<V: Write, W: Write>()
         → GainAlike (V.contents s.0.inner) (V.contents t.0.inner) (W.contents x.0.inner) (W.contents y.0.inner) }
 {}
 
-/// What is seen of a printer of text alone grows by the text of the module, where each write that succeeds appends its bytes to it.
+/// If each write that succeeds appends its bytes to a view of a `PrintText`, then printing a module appends the module's text to it.
 pub fn text_printers_gain_the_text<T: PrintText>()
     ensures { (view : T → List ℕ) → Grows view T.writes → (o : _) (bytes : List ℕ) (s t : T)
         → Printed ⟦<T as Print>⟧.meaning (⟦<T as Print>⟧.colors s) o bytes s t

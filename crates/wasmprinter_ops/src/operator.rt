@@ -78,7 +78,8 @@ impl<'a> Model for Operator<'a> {
     ghost invariant = { λ o. IsListedAs o.opcode (immediates_view o.immediates) × HasCastFlags o.immediates };
 }
 
-// The lists of a clone are second views of the same bytes, so it takes no memory.
+// The lists of a clone are second views of the same bytes, so it takes no memory. A derived `Clone` promises only equal values: it would
+// lose that the flags of a cast are below 4, which the invariant of `Operator` needs.
 impl Clone for Immediates<'_> {
     ghost use Rattle.std.specs.Prelude.{⊤};
 
@@ -115,7 +116,7 @@ impl Clone for Immediates<'_> {
     }
 }
 
-// Equal where the opcodes and the immediates are.
+// Operators are equal if their opcodes and immediates are. A derived `PartialEq` would need `Immediates` to have a model.
 impl PartialEq for Operator<'_> {
     ghost use Rattle.std.specs.Cmp.{and_per, on_per};
     ghost use Rattle.wasmprinter_ops.specs.contracts.opcode.OpcodePartialEq.TheImpl.Laws.{laws-law as opcodes_compare};

@@ -5,8 +5,8 @@ use Rattle.wasmprinter_spec.specs.Call.{Call, Newline, Line}
 use Rattle.wasmprinter_spec.specs.Options.{Options, Answers}
 use Rattle.wasmprinter_spec.specs.Layout.{layout}
 
--- In the calls of a module each beginning of a line, but for the first call, stands directly behind a line feed. So there are never two
--- beginnings in a row. This is so for all options, answers and modules, and up to a refusal too.
+-- Every `Line` call except the first call directly follows a `Newline`. So two `Line` calls never follow one another. This holds for all
+-- options, answers and modules, and for the calls before a refusal.
 abbrev pub LinesBeginBehindFeeds : Type 0
 LinesBeginBehindFeeds =
     (o : Options) (answers : Answers) (m : PlacedModule) (before after : List Call) (c : Call) (place : Option ℕ) →

@@ -16,8 +16,8 @@ pub fn lines_join_to_the_text()
     ensures { LinesJoin }
 {}
 
-/// In the calls of a module each line but the first begins directly behind a line feed, whatever the options, the answers and the module.
-/// So no line begins directly behind the beginning of another.
+/// Every `Line` call of a layout, except its first call, directly follows a `Newline`, whatever the options, the answers and the module.
+/// So two `Line` calls never follow one another.
 pub fn lines_begin_behind_feeds()
     ensures { LinesBeginBehindFeeds }
 {}

@@ -22,6 +22,7 @@ fn error_of_refusal(_e: fmt::Error) -> io::Error
 impl<T: fmt::Write> PrintText for PrintFmtWrite<T> {
     ghost writes = { λ old bytes answer new. WritesFmt T.write_str_gives old.0 bytes answer new.0 };
 
+    #[inline]
     fn write_str(&mut self, s: &str) -> io::Result<()> {
         self.0.write_str(s).map_err(error_of_refusal)
     }

@@ -36,7 +36,7 @@ pub use fmt_write::PrintFmtWrite;
 pub use print_text::{PrintText, text_is_gained};
 use std::io;
 
-/// A destination for the text of a module.
+/// A destination for the text of a module. A printer that needs only the text implements [`PrintText`] instead.
 ///
 /// An implementation states what its calls mean: the state that each leaves, when it may fail, and what a failed call leaves.
 /// All that prints is proved against this meaning. It stops at the first call that fails, and hands that call's error on.

@@ -5,23 +5,23 @@ ghost use Rattle.wasmprinter_print.specs.TextOnly.{text_only, Grows, TextIsGaine
 use crate::Print;
 use std::io;
 
-/// A printer of text alone. It is a [`Print`] too.
+/// A printer that writes text and nothing else. Each `PrintText` is a [`Print`] too.
 ///
-/// Lines and styles leave no trace and don't fail, and no custom section is taken. A line feed is a text as any other. A printer that needs
-/// to tell any of these apart implements `Print` itself.
+/// Calls for lines and styles do nothing and succeed. It claims no custom section. A line feed is written as text. A printer that needs
+/// more than the text implements `Print` itself.
 pub trait PrintText {
     ghost use Rattle.std.specs.Prelude.{ℕ, List, Result};
     ghost use Rattle.std.specs.declared.io.Error.{Error as IoError};
 
-    // What a write of these bytes may answer, and what it makes of the printer. The default says nothing.
+    // The results that a write of these bytes may have, and the states of the printer after it. The default allows all.
     ghost writes: { Self → List ℕ → Result (Unit {0}) IoError → Self → Type 0 } = { λ _ _ _ _. Unit {0} };
 
-    /// Writes a piece of text. Its error is that of the call on the printer.
+    /// Writes a piece of text. Printing stops at an error and returns it.
     fn write_str(&mut self, s: &str) -> io::Result<()>
         ensures { writes self.old s.now result self.new };
 
-    /// Returns whether a run of several characters of a quoted string comes in one piece, as [`Print::takes_runs`]. By default each
-    /// character comes by itself.
+    /// Returns whether several characters of a quoted string may be written in one call, as [`Print::takes_runs`]. By default each
+    /// character is written in a call of its own.
     #[inline(always)]
     fn takes_runs(&self) -> bool {
         false
@@ -33,7 +33,7 @@ impl<T: PrintText> Print for T {
 
     ghost colors = { λ _. false };
 
-    #[inline]
+    #[inline(always)]
     fn write_str(&mut self, s: &str) -> io::Result<()> {
         PrintText::write_str(self, s)
     }
@@ -49,7 +49,7 @@ impl<T: PrintText> Print for T {
         PrintText::takes_runs(self)
     }
 
-    #[inline]
+    #[inline(always)]
     fn newline(&mut self) -> io::Result<()> {
         PrintText::write_str(self, "\n")
     }
@@ -101,8 +101,7 @@ impl<T: PrintText> Print for T {
     }
 }
 
-/// A law: where each write that succeeds appends its bytes to what is seen of a printer of text alone, calls that all succeed append
-/// their text.
+/// A law: if each write that succeeds appends its bytes to a view of the printer, then calls that all succeed append their text to it.
 pub fn text_is_gained<T: PrintText>()
     ensures { (view : T → List ℕ) → Grows view T.writes → TextIsGained view T.writes }
 {}

@@ -21,7 +21,7 @@ use Rattle.wasmprinter_reading.specs.FoldedLaws.{without_counts}
 
 -- ---- the nodes of a text
 
--- a row of items: those in front of its first node, and its nodes, each with the items in front of the nodes that it holds
+-- a row of items: those before its first node, and its nodes, each with the items before the nodes that it holds
 pub record NodeRow : Type 0 where
   pub front : Forest
   pub nodes : NodesOf Forest
@@ -42,11 +42,11 @@ is_node _ = false
 abbrev pub with_item : (Forest → Forest) → Option NodeRow → Option NodeRow
 with_item item r = option_map (λ r. node_row (item r.front) r.nodes) r
 
--- nodes, and nothing in front of them
+-- nodes, and no item before them
 abbrev pub only_nodes : NodeRow → Option (NodesOf Forest)
 only_nodes r = elim r.front as (λ f. Option (NodesOf Forest)) [ End ↦ Some r.nodes | _ ↦ None ]
 
--- a node, with what it holds; nothing but nodes stands behind it
+-- a node, with what it holds; only nodes follow it
 abbrev pub with_node : Option NodeRow → Option NodeRow → Option NodeRow
 with_node inner rest = do
   r ← inner
@@ -82,9 +82,8 @@ abbrev pub with_heads : {H K : Type 0} → (H → K) → NodesOf H → NodesOf K
 with_heads make Nil = Nil
 with_heads make (Snoc before head results held) = Snoc (with_heads make before) (make head) 0 (with_heads make held)
 
--- The nodes of the text that is laid out for folded operators are those of their tree: there is one group for each node, in the same order
--- and at the same depth, and what stands in it in front of the nodes that it holds is what its own operator's text reads as, or the word
--- `then` or `else`.
+-- The nodes of the text of folded operators are those of their tree: one group for each node, in the same order and at the same depth. The
+-- items of a group before the nodes that it holds are what the text of its operator reads as, or the word `then` or `else`.
 abbrev pub FoldedGroupsAreNodes : Type 0
 FoldedGroupsAreNodes =
     (s : Setting) → AreNamed s.names → AreSignaturesInRange s.signature →

@@ -27,11 +27,11 @@ use Rattle.wasmprinter_reading.specs.NodeLaws.{is_node_head, node_row_of, node_g
 
 -- ---- the nodes of fields
 
--- those behind what a field holds in front of them: the body of a function, the initialiser of a global or of a table
+-- those after the other items of a field: the body of a function, the initialiser of a global or of a table
 abbrev pub field_nodes : Forest → Option (NodesOf Forest)
 field_nodes f = option_map (λ r. r.nodes) (node_row_of f)
 
--- those of an expression in a group of its own: behind the word `offset` or `item`, or a node that stands there alone
+-- those of an expression in a group of its own: after the word `offset` or `item`, or a single node
 abbrev pub group_nodes : Forest → List (Option (NodesOf Forest))
 group_nodes (Word w f) =
     cond (bytes_eq w (codes "offset") || bytes_eq w (codes "item")) (node_groups f ∷ [])
@@ -55,7 +55,7 @@ abbrev pub tree_of : Setting → Signatures → List (Placed Hint) → List (Pla
 tree_of s signatures hs os = option_map tree (nested_code_of (items s signatures hs 0 [] [] os))
 
 module _ (m : PlacedModule) where
-  -- of a constant expression, nested so deep
+  -- of a constant expression at this nesting depth
   abbrev pub constant_tree : Scope → ℕ → List (Placed Operator) → Option Nodes
   constant_tree s nesting os = tree_of (in_line s nesting) (signatures_within m (Some 0)) [] os
 
@@ -84,7 +84,7 @@ AreAlike R [] [] = Unit {0}
 AreAlike R (x ∷ xs) (y ∷ ys) = R x y × AreAlike R xs ys
 AreAlike R _ _ = ⊥
 
--- Nodes of a text are those of a tree, each with what its own operator's text reads as in front of the nodes that it holds.
+-- Nodes of a text are those of a tree. Before the nodes that it holds, each has what the text of its own operator reads as.
 abbrev pub AreNodesOf : Option (NodesOf Forest) → Option Nodes → Type 0
 AreNodesOf found expected =
     (t : Nodes) × (expected ≡ Some t) × (option_map (with_heads (λ f. Some f)) found ≡ Some (with_heads (λ h. items_in (head_text defaults h)) t))

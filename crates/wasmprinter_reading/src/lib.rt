@@ -84,9 +84,9 @@ pub fn folded_operators_read_back()
     ensures { FoldedOperatorsReadBack }
 {}
 
-/// The groups of folded text are the nodes of its tree: of the text that is laid out for folded operators, whatever numbers of operands and
-/// results they are said to have, there is one group for each node, in the same order and at the same depth, and what stands in it in front
-/// of the nodes that it holds is what its own operator's text reads as, or the word `then` or `else`.
+/// The groups of folded text are the nodes of its tree: one group for each node, in the same order and at the same depth. The items of a
+/// group before the nodes that it holds are what the text of its operator reads as, or the word `then` or `else`. This holds for any
+/// numbers of operands and results by which operators are folded.
 pub fn folded_groups_are_nodes()
     ensures { FoldedGroupsAreNodes }
 {}

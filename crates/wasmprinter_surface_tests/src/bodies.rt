@@ -180,40 +180,27 @@ fn is_row(
     )
 }
 
-/// Whether the operators that are left are just these.
-fn are_rows(
-    alloc: Global,
-    operators: OperatorsReader<'_>,
-    rows: &[Row],
-) -> Result<bool, AllocError> {
+/// Fails, with the word of the first row that differs, unless the remaining operators are exactly these.
+fn expect_rows(alloc: Global, operators: OperatorsReader<'_>, rows: &[Row]) -> Result<(), Fail> {
     let mut left = operators;
     for row in rows {
-        let Some((place, operator)) = left.next() else {
-            return Ok(false);
-        };
+        let (place, operator) = left.next().ok_or(row.2)?;
         if !is_row(alloc, place, &operator, row)? {
-            return Ok(false);
+            return Err(Fail::from(row.2));
         }
     }
-    Ok(left.next().is_none())
-}
-
-/// Whether the one body of a module has these operators, and those of a second view of it too.
-fn has_rows(alloc: Global, module: &Module<'_>, rows: &[Row]) -> Result<bool, AllocError> {
-    match module.body(0) {
-        Some(body) => Ok(
-            are_rows(alloc, body.operators(), rows)?
-                && are_rows(alloc, body.fork().operators(), rows)?,
-        ),
-        None => Ok(false),
+    match left.next() {
+        None => Ok(()),
+        Some(_) => Err(Fail::from("an operator too many")),
     }
 }
 
 #[test]
 fn walks_over_immediates_of_each_kind(rt: HostRuntime) -> Result<(), Fail> {
     let module = decode(rt.alloc(), &EVERY_KIND)?;
-    assert!(rt; has_rows(rt.alloc(), &module, &ROWS)?);
-    Ok(())
+    let body = module.body(0).ok_or("no body")?;
+    expect_rows(rt.alloc(), body.operators(), &ROWS)?;
+    expect_rows(rt.alloc(), body.fork().operators(), &ROWS)
 }
 
 #[test]
@@ -240,6 +227,57 @@ fn differ(operators: OperatorsReader<'_>) -> bool {
         && first.immediates != second.immediates
         && first == first
         && second.immediates == second.immediates
+}
+
+/// A function whose operators have lists of value types and of labels: of each kind two equal lists, one of another length, and one that
+/// differs in its last item.
+const LISTS: [u8; 60] = [
+    0x00, 0x61, 0x73, 0x6d, 0x01, 0x00, 0x00, 0x00, // preamble
+    0x01, 0x04, 0x01, 0x60, 0x00, 0x00, // types
+    0x03, 0x02, 0x01, 0x00, // functions
+    0x0a, 0x28, 0x01, 0x26, 0x00, // code
+    0x1c, 0x02, 0x7f, 0x70, 0x1c, 0x02, 0x7f, 0x70, // two equal lists of types
+    0x1c, 0x03, 0x7f, 0x70, 0x70, 0x1c, 0x02, 0x7f, 0x7e, // a longer one, and one that differs in its last type
+    0x0e, 0x02, 0x00, 0x01, 0x03, 0x0e, 0x02, 0x00, 0x01, 0x03, // two equal lists of labels
+    0x0e, 0x01, 0x00, 0x03, 0x0e, 0x02, 0x00, 0x02, 0x03, // a shorter one, and one that differs in its last label
+    0x0b,
+];
+
+/// Whether of four operators the first two are equal, and the other two differ from the first. Clones are compared too.
+fn are_one_pair(operators: &mut OperatorsReader<'_>) -> Result<bool, AllocError> {
+    let Some((_, first)) = operators.next() else {
+        return Ok(false);
+    };
+    let Some((_, second)) = operators.next() else {
+        return Ok(false);
+    };
+    let Some((_, third)) = operators.next() else {
+        return Ok(false);
+    };
+    let Some((_, fourth)) = operators.next() else {
+        return Ok(false);
+    };
+    let kept = first.clone()?;
+    Ok(
+        first == second
+            && kept == second
+            && first.immediates.clone()? == second.immediates
+            && first != third
+            && third != first
+            && kept != third
+            && first != fourth
+            && kept.immediates != fourth.immediates,
+    )
+}
+
+#[test]
+fn compares_lists(rt: HostRuntime) -> Result<(), Fail> {
+    let module = decode(rt.alloc(), &LISTS)?;
+    let body = module.body(0).ok_or("no body")?;
+    let mut operators = body.operators();
+    assert!(rt; are_one_pair(&mut operators)?);
+    assert!(rt; are_one_pair(&mut operators)?);
+    Ok(())
 }
 
 #[test]

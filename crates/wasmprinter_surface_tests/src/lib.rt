@@ -4,6 +4,8 @@
 #[cfg(test)]
 mod bodies;
 #[cfg(test)]
+mod custom;
+#[cfg(test)]
 mod errors;
 #[cfg(test)]
 mod expecting;

@@ -25,17 +25,25 @@ pub fn print_counted(
     config.print(alloc, wasm, recorder)
 }
 
+/// Whether printing by these options fails at the call with this number, with its error, and counts one failed call.
+#[cfg(test)]
+fn fails_once(config: &Config, alloc: Global, call: u32) -> bool {
+    let mut recorder = Recorder::with_refusal(alloc, call, ErrorKind::BrokenPipe);
+    let answer = print_counted(config, alloc, &IDENTITY, &mut recorder);
+    matches!(answer, Err(Error::Printer(e)) if e.kind() == ErrorKind::BrokenPipe)
+        && recorder.call_count() == call
+        && recorder.faults() == 1
+}
+
 #[test]
-fn counts_a_failed_call(rt: HostRuntime) -> Result<(), Fail> {
-    let config = Config::new();
+fn counts_a_failed_call(rt: HostRuntime) {
+    let flat = Config::new();
+    let mut folded = Config::new();
+    folded.fold_instructions(true).print_offsets(true);
     for call in 1..10 {
-        let mut recorder = Recorder::with_refusal(rt.alloc(), call, ErrorKind::BrokenPipe);
-        let answer = print_counted(&config, rt.alloc(), &IDENTITY, &mut recorder);
-        assert!(rt; matches!(answer, Err(Error::Printer(e)) if e.kind() == ErrorKind::BrokenPipe));
-        assert!(rt; recorder.call_count() == call);
-        assert!(rt; recorder.faults() == 1);
+        assert!(rt; fails_once(&flat, rt.alloc(), call));
+        assert!(rt; fails_once(&folded, rt.alloc(), call));
     }
-    Ok(())
 }
 
 #[test]

@@ -23,14 +23,14 @@ pub struct Ansi<W> {
 }
 
 impl<W> Ansi<W> {
-    /// Over a writer.
+    /// Wraps a writer.
     pub fn new(inner: W) -> Ansi<W>
         ensures { result.inner ≡ inner }
     {
         Ansi { inner }
     }
 
-    /// The writer.
+    /// Returns the writer.
     pub fn into_inner(self) -> W
         ensures { result ≡ self.inner }
     {

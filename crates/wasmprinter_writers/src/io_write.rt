@@ -10,6 +10,7 @@ pub struct PrintIoWrite<T>(pub T);
 impl<T: WriteBytes> PrintText for PrintIoWrite<T> {
     ghost writes = { λ old bytes answer new. T.takes old.0 bytes answer new.0 };
 
+    #[inline]
     fn write_str(&mut self, s: &str) -> io::Result<()> {
         self.0.write_bytes(s.as_bytes())
     }

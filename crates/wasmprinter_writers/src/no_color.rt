@@ -14,14 +14,14 @@ pub struct NoColor<W> {
 }
 
 impl<W> NoColor<W> {
-    /// Over a writer.
+    /// Wraps a writer.
     pub fn new(inner: W) -> NoColor<W>
         ensures { result.inner ≡ inner }
     {
         NoColor { inner }
     }
 
-    /// The writer.
+    /// Returns the writer.
     pub fn into_inner(self) -> W
         ensures { result ≡ self.inner }
     {
