@@ -1,0 +1,203 @@
+//! Lines with their places, places of operators, and the lines of operators.
+
+use crate::expecting::expect_printed_by;
+use crate::modules::sections::RECURSION_GROUP;
+use crate::modules::whole::{EMPTY, IDENTITY, MINUS_ONE};
+use std::alloc::Global;
+use std::test::Fail;
+use wasmprinter::wasm::{OperatorsReader, decode};
+use wasmprinter::{Config, Error, OffsetsAndLines, place_of};
+use wasmprinter_samples::expect_text;
+
+/// The place of a line, and its text.
+type Line = (Option<u64>, &'static str);
+
+/// The lines of `IDENTITY`.
+const IDENTITY_LINES: [Line; 7] = [
+    (Some(0x0), "(module\n"),
+    (
+        Some(0xb),
+        "  (type (;0;) (func (param i32) (result i32)))\n",
+    ),
+    (Some(0x17), "  (export \"f\" (func 0))\n"),
+    (
+        Some(0x1f),
+        "  (func (;0;) (type 0) (param i32) (result i32)\n",
+    ),
+    (Some(0x20), "    local.get 0\n"),
+    (Some(0x22), "  )\n"),
+    (Some(0x23), ")\n"),
+];
+
+/// The lines of `MINUS_ONE`.
+const MINUS_ONE_LINES: [Line; 9] = [
+    (Some(0x0), "(module\n"),
+    (Some(0xb), "  (type (;0;) (func (result i64)))\n"),
+    (Some(0x17), "  (func (;0;) (type 0) (result i64)\n"),
+    (Some(0x18), "    (local i64)\n"),
+    (Some(0x1a), "    i64.const -1\n"),
+    (Some(0x1c), "    local.set 0\n"),
+    (Some(0x1e), "    local.get 0\n"),
+    (Some(0x20), "  )\n"),
+    (Some(0x21), ")\n"),
+];
+
+/// The lines of `RECURSION_GROUP`. The end of the group has no place.
+const GROUP_LINES: [Line; 5] = [
+    (Some(0x0), "(module\n"),
+    (Some(0xb), "  (rec\n"),
+    (Some(0xd), "    (type (;0;) (func))\n"),
+    (None, "  )\n"),
+    (Some(0x10), ")\n"),
+];
+
+/// Returns whether these are the lines.
+fn are_lines(found: OffsetsAndLines<'_>, lines: &[Line]) -> bool {
+    found.eq(lines.iter().copied())
+}
+
+/// Returns whether a module has these lines.
+fn has_lines(alloc: Global, wasm: &[u8], lines: &[Line]) -> Result<bool, Error> {
+    let mut storage = String::new(alloc);
+    let found = Config::new().offsets_and_lines(alloc, wasm, &mut storage)?;
+    Ok(are_lines(found, lines))
+}
+
+#[test]
+fn returns_the_lines_of_a_function(rt: HostRuntime) -> Result<(), Fail> {
+    assert!(rt; has_lines(rt.alloc(), IDENTITY, &IDENTITY_LINES)?);
+    Ok(())
+}
+
+#[test]
+fn returns_the_lines_of_a_function_with_a_local(rt: HostRuntime) -> Result<(), Fail> {
+    assert!(rt; has_lines(rt.alloc(), MINUS_ONE, &MINUS_ONE_LINES)?);
+    Ok(())
+}
+
+#[test]
+fn returns_no_place_for_the_end_of_a_group(rt: HostRuntime) -> Result<(), Fail> {
+    assert!(rt; has_lines(rt.alloc(), RECURSION_GROUP, &GROUP_LINES)?);
+    Ok(())
+}
+
+#[test]
+fn prints_spaces_for_a_line_without_a_place(rt: HostRuntime) -> Result<(), Fail> {
+    let mut config = Config::new();
+    config.print_offsets(true);
+    expect_printed_by(
+        rt.alloc(),
+        &config,
+        RECURSION_GROUP,
+        r#"(module
+(;@b     ;)  (rec
+(;@d     ;)    (type (;0;) (func))
+             )
+(;@10    ;))
+"#,
+    )
+}
+
+#[test]
+fn appends_lines_to_the_storage(rt: HostRuntime) -> Result<(), Fail> {
+    let mut storage = String::from_str(rt.alloc(), "old\n")?;
+    let found = Config::new().offsets_and_lines(rt.alloc(), EMPTY, &mut storage)?;
+    assert!(rt; are_lines(found, &[(Some(0), "(module)\n")]));
+    expect_text(storage.as_str(), "old\n(module)\n")?;
+    Ok(())
+}
+
+/// Returns whether operators have these places.
+fn have_places(operators: OperatorsReader<'_>, places: &[u64]) -> bool {
+    let mut left = operators;
+    for place in places {
+        match left.next() {
+            Some((found, _)) if found == *place => {}
+            _ => return false,
+        }
+    }
+    left.next().is_none()
+}
+
+#[test]
+fn returns_the_places_of_operators(rt: HostRuntime) -> Result<(), Fail> {
+    let module = decode(rt.alloc(), MINUS_ONE)?;
+    let body = module.body(0).ok_or("no body")?;
+    assert!(rt; have_places(body.operators(), &[0x1a, 0x1c, 0x1e]));
+    Ok(())
+}
+
+/// An operator of a function, and the number and the place of its line.
+struct Found {
+    function: u32,
+    operator: u32,
+    line: Option<(usize, u64)>,
+}
+
+const IN_IDENTITY: [Found; 3] = [
+    Found {
+        function: 0,
+        operator: 0,
+        line: Some((4, 0x20)),
+    },
+    Found {
+        function: 0,
+        operator: 1,
+        line: None,
+    },
+    Found {
+        function: 1,
+        operator: 0,
+        line: None,
+    },
+];
+
+const IN_MINUS_ONE: [Found; 3] = [
+    Found {
+        function: 0,
+        operator: 0,
+        line: Some((4, 0x1a)),
+    },
+    Found {
+        function: 0,
+        operator: 1,
+        line: Some((5, 0x1c)),
+    },
+    Found {
+        function: 0,
+        operator: 2,
+        line: Some((6, 0x1e)),
+    },
+];
+
+/// Returns whether these are the lines of operators among all lines of a module.
+fn are_found(alloc: Global, wasm: &[u8], operators: &[Found]) -> Result<bool, Error> {
+    let module = decode(alloc, wasm)?;
+    let mut storage = String::new(alloc);
+    let all = Config::new().offsets_and_lines(alloc, wasm, &mut storage)?;
+    let lines: Vec<(Option<u64>, &str)> = all.collect(alloc)?;
+    Ok(
+        operators
+            .iter()
+            .all(|found| place_of(&module, &lines, found.function, found.operator) == found.line),
+    )
+}
+
+#[test]
+fn finds_the_only_operator(rt: HostRuntime) -> Result<(), Fail> {
+    assert!(rt; are_found(rt.alloc(), IDENTITY, &IN_IDENTITY)?);
+    Ok(())
+}
+
+#[test]
+fn finds_each_of_three_operators(rt: HostRuntime) -> Result<(), Fail> {
+    assert!(rt; are_found(rt.alloc(), MINUS_ONE, &IN_MINUS_ONE)?);
+    Ok(())
+}
+
+#[test]
+fn finds_no_operator_without_lines(rt: HostRuntime) -> Result<(), Fail> {
+    let module = decode(rt.alloc(), IDENTITY)?;
+    assert!(rt; place_of(&module, &[], 0, 0) == None);
+    Ok(())
+}
