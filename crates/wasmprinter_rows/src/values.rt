@@ -7,12 +7,14 @@ use wasmprinter::{Error, PrintFmtWrite};
 use wasmprinter_samples::expect_text;
 
 /// The bits of an f32, and its text.
+#[derive(Clone, Copy)]
 struct Single {
     bits: u32,
     text: &'static str,
 }
 
 /// The bits of an f64, and its text.
+#[derive(Clone, Copy)]
 struct Double {
     bits: u64,
     text: &'static str,
@@ -102,18 +104,18 @@ fn double_text(alloc: Global, bits: u64) -> Result<String, Error> {
 
 #[test]
 fn writes_floats_of_32_bits(rt: HostRuntime) -> Result<(), Fail> {
-    for Single { bits, text } in &SINGLES {
-        let found = single_text(rt.alloc(), *bits)?;
-        assert!(rt; found.as_str() == *text, "{bits:#x}");
+    for Single { bits, text } in SINGLES {
+        let found = single_text(rt.alloc(), bits)?;
+        assert!(rt; found.as_str() == text, "bits {bits:#x}");
     }
     Ok(())
 }
 
 #[test]
 fn writes_floats_of_64_bits(rt: HostRuntime) -> Result<(), Fail> {
-    for Double { bits, text } in &DOUBLES {
-        let found = double_text(rt.alloc(), *bits)?;
-        assert!(rt; found.as_str() == *text, "{bits:#x}");
+    for Double { bits, text } in DOUBLES {
+        let found = double_text(rt.alloc(), bits)?;
+        assert!(rt; found.as_str() == text, "bits {bits:#x}");
     }
     Ok(())
 }
