@@ -22,11 +22,7 @@ fn marks_branches_to_blocks_and_not_to_the_body(rt: HostRuntime) -> Result<(), F
 
 #[test]
 fn marks_a_branch_past_the_body_as_invalid(rt: HostRuntime) -> Result<(), Fail> {
-    expect_body(
-        rt.alloc(),
-        BRANCH_PAST_THE_BODY,
-        "    br 7 (; INVALID ;)\n",
-    )
+    expect_body(rt.alloc(), BRANCH_PAST_THE_BODY, "    br 7 (; INVALID ;)\n")
 }
 
 #[test]

@@ -117,11 +117,7 @@ fn prints_the_table_of_elements_that_name_it(rt: HostRuntime) -> Result<(), Fail
 
 #[test]
 fn prints_declared_elements(rt: HostRuntime) -> Result<(), Fail> {
-    expect_field(
-        rt.alloc(),
-        DECLARED_ELEMENTS,
-        "(elem (;0;) declare func 0)",
-    )
+    expect_field(rt.alloc(), DECLARED_ELEMENTS, "(elem (;0;) declare func 0)")
 }
 
 #[test]
@@ -135,11 +131,7 @@ fn prints_elements_that_are_expressions(rt: HostRuntime) -> Result<(), Fail> {
 
 #[test]
 fn prints_an_offset_of_one_operator_without_a_word(rt: HostRuntime) -> Result<(), Fail> {
-    expect_field(
-        rt.alloc(),
-        ACTIVE_DATA,
-        "(data (;0;) (i32.const 0) \"a\")",
-    )
+    expect_field(rt.alloc(), ACTIVE_DATA, "(data (;0;) (i32.const 0) \"a\")")
 }
 
 #[test]

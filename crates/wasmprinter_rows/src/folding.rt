@@ -21,11 +21,7 @@ fn folds_a_block_of_an_initializer_in_its_line(rt: HostRuntime) -> Result<(), Fa
 
 #[test]
 fn ends_the_line_of_a_label_comment(rt: HostRuntime) -> Result<(), Fail> {
-    expect_folded_body(
-        rt.alloc(),
-        EMPTY_BLOCK,
-        "    (block ;; label = @1\n    )\n",
-    )
+    expect_folded_body(rt.alloc(), EMPTY_BLOCK, "    (block ;; label = @1\n    )\n")
 }
 
 #[test]

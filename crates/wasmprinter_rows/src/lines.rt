@@ -177,9 +177,8 @@ fn are_found(alloc: Global, wasm: &[u8], operators: &[Found]) -> Result<bool, Er
     let all = Config::new().offsets_and_lines(alloc, wasm, &mut storage)?;
     let lines: Vec<(Option<u64>, &str)> = all.collect(alloc)?;
     Ok(
-        operators
-            .iter()
-            .all(|found| place_of(&module, &lines, found.function, found.operator) == found.line),
+        operators.iter().all(|found| place_of(&module, &lines, found.function, found.operator)
+            == found.line),
     )
 }
 

@@ -108,7 +108,9 @@ fn annotates_names_that_are_not_unique_identifiers(rt: HostRuntime) -> Result<()
 
 /// Checks the text of a module with one function, given its identifier, annotation and number.
 fn expect_declared(alloc: Global, wasm: &[u8], declaration: &str) -> Result<(), Fail> {
-    let text = format!(in alloc; "(module\n  (type (;0;) (func))\n  (func {declaration} (type 0))\n)\n")?;
+    let text = format!(in alloc;
+        "(module\n  (type (;0;) (func))\n  (func {declaration} (type 0))\n)\n"
+    )?;
     expect_printed(alloc, wasm, text.as_str())
 }
 
