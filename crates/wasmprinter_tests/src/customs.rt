@@ -404,8 +404,17 @@ fn refuses_a_subsection_that_is_not_known(rt: HostRuntime) -> Result<(), Fail> {
 /// Data of a `dylink.0` section with a subsection that is not known behind a known one, with bytes that stand whole.
 const UNKNOWN: &[u8] = b"\x01\x04\x00\x00\x00\x00\x07\x01\x00";
 
-/// Data of such sections with a fault in front of it, or with its own size past the end.
-const FAULTY: [&[u8]; 2] = [b"\x01\x01\x00\x07\x01\x00", b"\x07\x02\x00"];
+/// Data of sections with a fault before that subsection, or with its own size past the end, and the texts of their modules.
+const FAULTY: [(&[u8], &str); 2] = [
+    (
+        b"\x01\x01\x00\x07\x01\x00",
+        "(module\n  ;; failed to parse custom section `dylink.0`\n  (@custom \"dylink.0\" (before first) \"\\01\\01\\00\\07\\01\\00\")\n)\n",
+    ),
+    (
+        b"\x07\x02\x00",
+        "(module\n  ;; failed to parse custom section `dylink.0`\n  (@custom \"dylink.0\" (before first) \"\\07\\02\\00\")\n)\n",
+    ),
+];
 
 /// Whether a `dylink.0` section is refused for its subsection 7.
 fn is_refused_for_seven(alloc: Global, data: &[u8]) -> bool {
@@ -413,17 +422,11 @@ fn is_refused_for_seven(alloc: Global, data: &[u8]) -> bool {
     matches!(text, Err(Error::DylinkSubsection { id: 7 }))
 }
 
-/// Whether the text of a `dylink.0` section begins with a remark that it could not be read.
-fn is_remarked(alloc: Global, data: &[u8]) -> Result<bool, Error> {
-    let text = text_of_custom(alloc, "dylink.0", data)?;
-    Ok(text.starts_with("(module\n  ;; failed to parse custom section `dylink.0`\n"))
-}
-
 #[test]
 fn judges_dylink_in_order(rt: HostRuntime) -> Result<(), Fail> {
     assert!(rt; is_refused_for_seven(rt.alloc(), UNKNOWN));
-    for data in FAULTY {
-        assert!(rt; is_remarked(rt.alloc(), data)?);
+    for (data, expected) in FAULTY {
+        expect_custom(rt.alloc(), "dylink.0", data, expected)?;
     }
     Ok(())
 }

@@ -1,7 +1,7 @@
 //! The greatest numbers that are taken, and what comes past them.
 
 use crate::decoding::counts_functions;
-use crate::printing::{early_refusal_of, refusal_of};
+use crate::printing::{early_refusal_of, expect_printed, refusal_of};
 use std::alloc::{AllocError, Global};
 use std::test::Fail;
 use wasmprinter::wasm::decode;
@@ -22,10 +22,17 @@ fn with_code(alloc: Global, code: &[u8]) -> Result<Vec<u8>, AllocError> {
     Ok(wasm)
 }
 
-/// How often the text of a module has this within.
-fn count_in_text(alloc: Global, wasm: &[u8], word: &str) -> Result<usize, Error> {
-    let text = print_bytes(alloc, wasm)?;
-    Ok(text.as_str().matches(word).count())
+/// The text of a module whose function has this many locals of i32, and no operators.
+fn text_with_locals(alloc: Global, count: u32) -> Result<String, AllocError> {
+    let mut text = String::from_str(
+        alloc,
+        "(module\n  (type (;0;) (func))\n  (func (;0;) (type 0)\n    (local",
+    )?;
+    for _ in 0..count {
+        text.push_str(" i32")?;
+    }
+    text.push_str(")\n  )\n)\n")?;
+    Ok(text)
 }
 
 #[test]
@@ -35,7 +42,7 @@ fn takes_fifty_thousand_locals_and_no_more(rt: HostRuntime) -> Result<(), Fail> 
         alloc,
         &[0x0a, 0x08, 0x01, 0x06, 0x01, 0xd0, 0x86, 0x03, 0x7f, 0x0b],
     )?;
-    assert!(rt; count_in_text(alloc, &most, " i32")? == 50_000);
+    expect_printed(alloc, &most, text_with_locals(alloc, 50_000)?.as_str())?;
     let more = with_code(
         alloc,
         &[0x0a, 0x08, 0x01, 0x06, 0x01, 0xd1, 0x86, 0x03, 0x7f, 0x0b],
@@ -171,17 +178,21 @@ fn with_thousands(alloc: Global) -> Result<Vec<u8>, AllocError> {
     Ok(wasm)
 }
 
-/// Whether a text has that many types, the last of which has the last number, and that many exports.
-fn has_thousands(text: &str) -> bool {
-    text.matches("\n  (type (;").count() == 3_000
-        && text.matches("\n  (export \"\" (func 0))").count() == 3_000
-        && text.contains("\n  (type (;2999;) (func))\n")
+/// The text of that module.
+fn text_of_thousands(alloc: Global) -> Result<String, AllocError> {
+    let mut text = String::from_str(alloc, "(module\n")?;
+    for number in 0..THOUSANDS {
+        write!(text, "  (type (;{number};) (func))\n")?;
+    }
+    for _ in 0..THOUSANDS {
+        text.push_str("  (export \"\" (func 0))\n")?;
+    }
+    text.push_str(")\n")?;
+    Ok(text)
 }
 
 #[test]
 fn prints_thousands_of_types_and_exports(rt: HostRuntime) -> Result<(), Fail> {
     let wasm = with_thousands(rt.alloc())?;
-    let text = print_bytes(rt.alloc(), &wasm)?;
-    assert!(rt; has_thousands(text.as_str()));
-    Ok(())
+    expect_printed(rt.alloc(), &wasm, text_of_thousands(rt.alloc())?.as_str())
 }

@@ -26,9 +26,9 @@ pub fn refusal_of(alloc: Global, wasm: &[u8]) -> Option<Error> {
     print_bytes(alloc, wasm).err()
 }
 
-/// Whether a module has no text because it is malformed.
+/// Whether a module has no text because it is malformed, at a place within it or at its end.
 pub fn is_malformed(alloc: Global, wasm: &[u8]) -> bool {
-    matches!(print_bytes(alloc, wasm), Err(Error::Malformed { .. }))
+    matches!(print_bytes(alloc, wasm), Err(Error::Malformed { place }) if place <= wasm.len() as u64)
 }
 
 /// Prints to any printer. It promises nothing, so that no caller works out what the promises mean for its own printer.

@@ -111,6 +111,15 @@ fn is_component(alloc: Global, wasm: &[u8]) -> bool {
         && matches!(decode(alloc, wasm), Err(Error::Component))
 }
 
+/// Whether each public call refuses the bytes as malformed at the first of them, and none calls the printer.
+fn is_malformed_at_its_start(alloc: Global, wasm: &[u8]) -> bool {
+    matches!(
+        early_refusal_of(alloc, wasm),
+        Some(Error::Malformed { place: 0 })
+    ) && matches!(refusal_of(alloc, wasm), Some(Error::Malformed { place: 0 }))
+        && matches!(decode(alloc, wasm), Err(Error::Malformed { place: 0 }))
+}
+
 /// The mark of a component, and 92 bytes behind it.
 fn long_component(alloc: Global) -> Result<Vec<u8>, AllocError> {
     let mut long = Vec::from_slice(alloc, &COMPONENT)?;
@@ -123,9 +132,13 @@ fn long_component(alloc: Global) -> Result<Vec<u8>, AllocError> {
 #[test]
 fn refuses_components(rt: HostRuntime) -> Result<(), Fail> {
     assert!(rt; is_component(rt.alloc(), &COMPONENT));
-    assert!(rt; !is_component(rt.alloc(), &COMPONENT[..7]));
-    assert!(rt; !is_component(rt.alloc(), &PREAMBLE));
     let long = long_component(rt.alloc())?;
     assert!(rt; long.len() == 100 && is_component(rt.alloc(), &long));
     Ok(())
+}
+
+#[test]
+fn refuses_seven_bytes_of_a_preamble_as_malformed(rt: HostRuntime) {
+    assert!(rt; is_malformed_at_its_start(rt.alloc(), &COMPONENT[..7]));
+    assert!(rt; is_malformed_at_its_start(rt.alloc(), &PREAMBLE[..7]));
 }

@@ -245,10 +245,6 @@ fn refuses_what_is_not_nested(rt: HostRuntime) -> Result<(), Fail> {
     Ok(())
 }
 
-/// The line of the innermost of 100,000 blocks: no line is indented by more than 50 levels.
-const INNERMOST: &str =
-    "\n                                                                                                    block ;; label = @100000\n";
-
 /// Appends bytes so many times.
 fn repeat(wasm: &mut Vec<u8>, times: u32, bytes: &[u8]) -> Result<(), AllocError> {
     for _ in 0..times {
@@ -277,9 +273,71 @@ pub fn with_blocks(
     Ok(wasm)
 }
 
-/// Whether a text has so many lines, this line, and this end.
-fn has_lines(text: &str, count: usize, line: &str, end: &str) -> bool {
-    text.matches("\n").count() == count && text.contains(line) && text.ends_with(end)
+/// The levels by which a line is indented at most.
+const MOST_LEVELS: u32 = 50;
+
+/// Appends the indent of a line at this nesting depth.
+fn push_indent(text: &mut String, depth: u32) -> Result<(), AllocError> {
+    for _ in 0..depth.min(MOST_LEVELS) {
+        text.push_str("  ")?;
+    }
+    Ok(())
+}
+
+/// Appends the line that opens the block with this label by this word. The function's body has depth 2, and the first block the label 1.
+fn push_opening(text: &mut String, word: &str, label: u32) -> Result<(), AllocError> {
+    push_indent(text, label.saturating_add(1))?;
+    write!(text, "{word} ;; label = @{label}\n")
+}
+
+/// Appends a line of the block with this label.
+fn push_line(text: &mut String, label: u32, line: &str) -> Result<(), AllocError> {
+    push_indent(text, label.saturating_add(1))?;
+    text.push_str(line)?;
+    text.push('\n')
+}
+
+/// Appends the `delegate` of the `try` with this label, which delegates to the block around it.
+fn push_delegate(text: &mut String, label: u32) -> Result<(), AllocError> {
+    push_indent(text, label.saturating_add(1))?;
+    match label {
+        1 => text.push_str("delegate 0\n"),
+        _ => write!(text, "delegate 0 (;@{};)\n", label.saturating_sub(1)),
+    }
+}
+
+/// Returns the beginning of the text of a module whose function opens `depth` blocks in one another by this word.
+fn opened(alloc: Global, depth: u32, word: &str) -> Result<String, AllocError> {
+    let mut text = String::from_str(
+        alloc,
+        "(module\n  (type (;0;) (func))\n  (func (;0;) (type 0)\n",
+    )?;
+    for label in 1..=depth {
+        push_opening(&mut text, word, label)?;
+    }
+    Ok(text)
+}
+
+/// Returns the text of the module, if these lines close each block.
+fn closed_by(alloc: Global, depth: u32, word: &str, lines: &[&str]) -> Result<String, AllocError> {
+    let mut text = opened(alloc, depth, word)?;
+    for outer in 0..depth {
+        for line in lines {
+            push_line(&mut text, depth.saturating_sub(outer), line)?;
+        }
+    }
+    text.push_str("  )\n)\n")?;
+    Ok(text)
+}
+
+/// Returns the text of the module, if a `delegate` closes each block.
+fn closed_by_delegates(alloc: Global, depth: u32) -> Result<String, AllocError> {
+    let mut text = opened(alloc, depth, "try")?;
+    for outer in 0..depth {
+        push_delegate(&mut text, depth.saturating_sub(outer))?;
+    }
+    text.push_str("  )\n)\n")?;
+    Ok(text)
 }
 
 #[test]
@@ -287,12 +345,8 @@ fn prints_deep_blocks(rt: HostRuntime) -> Result<(), Fail> {
     // a section of 300,006 bytes, with a body of 300,002
     let code = [0x0a, 0xe6, 0xa7, 0x12, 0x01, 0xe2, 0xa7, 0x12, 0x00];
     let wasm = with_blocks(rt.alloc(), 100_000, &[0x02, 0x40], &[0x0b], &code)?;
-    let text = print_bytes(rt.alloc(), &wasm)?;
-    // the module, its type, the function, two lines for each block, and two parentheses
-    let end = "\n      end\n    end\n  )\n)\n";
-    assert!(rt; has_lines(text.as_str(), 200_005, INNERMOST, end));
-    assert!(rt; !text.as_str().contains("@100001"));
-    Ok(())
+    let typed = closed_by(rt.alloc(), 100_000, "block", &["end"])?;
+    expect_printed(rt.alloc(), &wasm, typed.as_str())
 }
 
 #[test]
@@ -300,11 +354,8 @@ fn prints_deep_ifs(rt: HostRuntime) -> Result<(), Fail> {
     // a section of 80,006 bytes, with a body of 80,002
     let code = [0x0a, 0x86, 0xf1, 0x04, 0x01, 0x82, 0xf1, 0x04, 0x00];
     let wasm = with_blocks(rt.alloc(), 20_000, &[0x04, 0x40], &[0x05, 0x0b], &code)?;
-    let text = print_bytes(rt.alloc(), &wasm)?;
-    let line = "  if ;; label = @20000\n";
-    let end = "\n      else\n      end\n    else\n    end\n  )\n)\n";
-    assert!(rt; has_lines(text.as_str(), 60_005, line, end));
-    Ok(())
+    let typed = closed_by(rt.alloc(), 20_000, "if", &["else", "end"])?;
+    expect_printed(rt.alloc(), &wasm, typed.as_str())
 }
 
 #[test]
@@ -312,10 +363,6 @@ fn prints_deep_tries(rt: HostRuntime) -> Result<(), Fail> {
     // a section of 80,006 bytes, with a body of 80,002
     let code = [0x0a, 0x86, 0xf1, 0x04, 0x01, 0x82, 0xf1, 0x04, 0x00];
     let wasm = with_blocks(rt.alloc(), 20_000, &[0x06, 0x40], &[0x18, 0x00], &code)?;
-    let text = print_bytes(rt.alloc(), &wasm)?;
-    let line = "  try ;; label = @20000\n";
-    let end = "\n      delegate 0 (;@1;)\n    delegate 0\n  )\n)\n";
-    assert!(rt; has_lines(text.as_str(), 40_005, line, end));
-    assert!(rt; text.as_str().contains("  delegate 0 (;@19999;)\n"));
-    Ok(())
+    let typed = closed_by_delegates(rt.alloc(), 20_000)?;
+    expect_printed(rt.alloc(), &wasm, typed.as_str())
 }

@@ -1,63 +1,90 @@
-//! How quoted strings are split into calls on a user-defined printer. Contracts fix the text alone; these tests fix the calls, also up to one
-//! that fails: those of an earlier form of the library, which is kept in `before`. The lengths lie around the sizes of runs that the library
-//! writes to its own printers.
+//! How quoted strings are split into calls on a user-defined printer. Contracts fix the text alone. Here the calls for each character and
+//! each byte are typed, and a string is made of its characters' calls, also up to a call that fails. The lengths are around the sizes of the
+//! runs that the library writes to its own printers.
 
-mod before;
 pub mod calls;
+mod samples;
 
-use calls::{Calls, Ending};
+use calls::{Calls, Ending, shown_calls};
+use samples::{
+    ACUTE, GREATEST, Letter, QUOTE, SPACE, Sample, letters, letters_but, mixed, repeated,
+};
 use std::alloc::{AllocError, Global};
 use std::test::Fail;
 use wasmprinter::text::{write_bytes, write_quoted};
 use wasmprinter::{Config, Error, Print};
-use wasmprinter_samples::PREAMBLE;
+use wasmprinter_samples::{PREAMBLE, expect_text};
 
-/// What is handed over in quotes.
+/// What is written in quotes.
 #[derive(Clone, Copy)]
 enum Input<'a> {
     Bytes(&'a [u8]),
     Text(&'a str),
 }
 
-/// Hands it over by the form that the library had before.
-fn hand_before<P: Print>(p: &mut P, input: Input) -> Result<(), Error> {
-    match input {
-        Input::Bytes(bytes) => before::write_bytes(p, bytes),
-        Input::Text(text) => before::write_quoted(p, text),
-    }
-}
-
-/// Hands it over by the library. It promises nothing, so that no caller works out what the promises mean for its own printer.
-fn hand<P: Print>(p: &mut P, input: Input) -> Result<(), Error> {
+/// Writes the input. It promises nothing, so that no caller works out what the promises mean for its own printer.
+fn write_input<P: Print>(p: &mut P, input: Input) -> Result<(), Error> {
     match input {
         Input::Bytes(bytes) => write_bytes(p, bytes),
         Input::Text(text) => write_quoted(p, text),
     }
 }
 
-/// Whether both forms make the same calls, of which the one of this number is refused (none where it is 0), and end in the same way.
-fn agree(alloc: Global, input: Input, refused: usize) -> bool {
-    let mut wanted = Calls::new(alloc, refused);
+/// Returns whether writing the input makes these calls.
+fn makes(alloc: Global, input: Input, wanted: &[u8]) -> bool {
+    let mut found = Calls::new(alloc, 0);
+    Ending::of(write_input(&mut found, input)) == Ending::Whole && found.are(wanted)
+}
+
+/// Returns whether writing the input stops at the call with this number, if that call fails: the calls up to it are the first of these.
+fn stops_at(alloc: Global, input: Input, wanted: &[u8], refused: usize) -> bool {
     let mut found = Calls::new(alloc, refused);
-    let ending = Ending::of(hand_before(&mut wanted, input));
-    Ending::of(hand(&mut found, input)) == ending && found.is_same(&wanted) && found.has_stopped()
+    Ending::of(write_input(&mut found, input)) == Ending::Refused
+        && found.is_complete()
+        && found.count() == refused
+        && wanted.starts_with(found.list())
 }
 
-/// Whether they do for a text and for its bytes.
-fn agree_on_both(alloc: Global, text: &str) -> bool {
-    agree(alloc, Input::Text(text), 0) && agree(alloc, Input::Bytes(text.as_bytes()), 0)
-}
-
-/// Whether they do where any one of the calls is refused, and where the one behind the last would be.
-fn agree_at_each_call(alloc: Global, input: Input) -> bool {
-    let mut whole = Calls::new(alloc, 0);
-    let ending = Ending::of(hand_before(&mut whole, input));
-    for refused in 1..=whole.count().saturating_add(1) {
-        if !agree(alloc, input, refused) {
+/// Returns whether writing the input makes these calls, and stops at any of them that fails.
+fn stops_at_each_call(alloc: Global, input: Input, wanted: &[u8]) -> bool {
+    let mut whole = Calls::new(alloc, usize::MAX);
+    if Ending::of(write_input(&mut whole, input)) != Ending::Whole || !whole.are(wanted) {
+        return false;
+    }
+    for refused in 1..=whole.count() {
+        if !stops_at(alloc, input, wanted, refused) {
             return false;
         }
     }
-    ending == Ending::Whole
+    true
+}
+
+/// Returns the calls for a string whose content takes these calls.
+fn in_quotes(alloc: Global, content: &[u8]) -> Result<Vec<u8>, AllocError> {
+    let mut calls = Vec::from_slice(alloc, b"\xfe\"\xff")?;
+    calls.extend_from_slice(content)?;
+    calls.extend_from_slice(b"\"\xff\xfd")?;
+    Ok(calls)
+}
+
+/// Returns whether the text is split as it has to be, as a quoted string and as a byte string.
+fn is_split(alloc: Global, sample: &Sample) -> Result<bool, AllocError> {
+    let text = Input::Text(sample.text.as_str());
+    let bytes = Input::Bytes(sample.text.as_bytes());
+    Ok(
+        makes(alloc, text, &in_quotes(alloc, &sample.quoted)?)
+            && makes(alloc, bytes, &in_quotes(alloc, &sample.bytes)?),
+    )
+}
+
+/// Returns whether the text is split as it has to be, also up to any call that fails.
+fn is_split_up_to_each_call(alloc: Global, sample: &Sample) -> Result<bool, AllocError> {
+    let text = Input::Text(sample.text.as_str());
+    let bytes = Input::Bytes(sample.text.as_bytes());
+    Ok(
+        stops_at_each_call(alloc, text, &in_quotes(alloc, &sample.quoted)?)
+            && stops_at_each_call(alloc, bytes, &in_quotes(alloc, &sample.bytes)?),
+    )
 }
 
 /// Lengths of texts, as ranges. A run of characters has at most 256 bytes, and a run of bytes is made of at most 85.
@@ -67,310 +94,275 @@ const LENGTHS: [(usize, usize); 7] = [
     (168, 172),
     (250, 262),
     (505, 520),
-    (764, 772),
-    (773, 1_100),
+    (764, 776),
+    (1_018, 1_030),
 ];
 
 /// Positions around the end of the first run, of bytes and of characters.
 const THRESHOLDS: [(usize, usize); 2] = [(83, 87), (252, 258)];
 
-/// Characters that don't stand for themselves in quotes, of one, two and four bytes.
-const ESCAPED: [char; 3] = ['"', '\u{e9}', '\u{10ffff}'];
+/// Characters that are escaped, of one, two and four bytes.
+const ESCAPED: [Letter; 3] = [QUOTE, ACUTE, GREATEST];
 
-/// The letter at a place.
-fn letter_at(place: usize) -> char {
-    char::from(b'a' + (place % 26) as u8)
-}
-
-/// So many letters, but for the character at the place.
-fn letters_but(alloc: Global, len: usize, place: usize, c: char) -> Result<String, AllocError> {
-    let mut text = String::new(alloc);
-    for at in 0..len {
-        text.push(if at == place { c } else { letter_at(at) })?;
-    }
-    Ok(text)
-}
-
-/// A character so many times.
-fn repeated(alloc: Global, len: usize, c: char) -> Result<String, AllocError> {
-    let mut text = String::new(alloc);
-    for _ in 0..len {
-        text.push(c)?;
-    }
-    Ok(text)
-}
-
-/// Whether both forms agree on a text that was made.
-fn agree_on_made(alloc: Global, made: Result<String, AllocError>) -> bool {
-    match made {
-        Ok(text) => agree_on_both(alloc, text.as_str()),
-        Err(AllocError) => false,
-    }
-}
-
-/// Whether they agree on so many letters, but for the character at each of these places in turn.
-fn agree_at_places(alloc: Global, len: usize, (from, to): (usize, usize), c: char) -> bool {
-    for place in from..=to {
-        if place < len && !agree_on_made(alloc, letters_but(alloc, len, place, c)) {
-            return false;
-        }
-    }
-    true
-}
-
-/// Whether they agree on so many letters, but for one of the last five or of those at a threshold.
-fn agree_on_one_escape(alloc: Global, len: usize, c: char) -> bool {
-    for threshold in THRESHOLDS {
-        if !agree_at_places(alloc, len, threshold, c) {
-            return false;
-        }
-    }
-    agree_at_places(alloc, len, (len.saturating_sub(5), len), c)
-}
-
-/// Whether they do for each of the characters.
-fn agree_on_one_of_each(alloc: Global, len: usize) -> bool {
-    for c in ESCAPED {
-        if !agree_on_one_escape(alloc, len, c) {
-            return false;
-        }
-    }
-    true
-}
-
-/// Whether they agree on each of the characters alone, so many times.
-fn agree_on_escapes_alone(alloc: Global, len: usize) -> bool {
-    for c in ESCAPED {
-        if !agree_on_made(alloc, repeated(alloc, len, c)) {
-            return false;
-        }
-    }
-    true
-}
-
-/// Characters for texts that are mixed.
-const CHARACTERS: [char; 16] = [
-    ' ',
-    '~',
-    '"',
-    '\\',
-    '\0',
-    '\n',
-    '\t',
-    '\u{1b}',
-    '\u{7f}',
-    '\u{80}',
-    '\u{e9}',
-    '\u{7ff}',
-    '\u{800}',
-    '\u{20ac}',
-    '\u{ffff}',
-    '\u{1f600}',
-];
-
-/// How texts are mixed: where a row begins to draw, and which bits of what is drawn are 0 where the character is no letter. So one in 2, 8,
-/// 64 and 256 isn't.
+/// How texts are mixed: the number that a text begins to draw with, and which bits of a drawn number are 0 where the character is not a
+/// plain letter. So one character in 2, 8, 64 and 256 isn't.
 const MIXES: [(u32, u32); 4] = [(1, 1), (7, 7), (11, 63), (23, 255)];
 
-/// The number that is drawn behind another.
-fn drawn_behind(number: u32) -> u32 {
-    number.wrapping_mul(1_664_525).wrapping_add(1_013_904_223)
-}
-
-/// The character that a number draws.
-fn drawn_char(number: u32) -> char {
-    match CHARACTERS.get((number >> 28) as usize) {
-        Some(c) => *c,
-        None => '"',
-    }
-}
-
-/// A text of so many characters that are drawn.
-fn mixed(alloc: Global, len: usize, (seed, mask): (u32, u32)) -> Result<String, AllocError> {
-    let mut text = String::new(alloc);
-    let mut number = seed;
-    for place in 0..len {
-        number = drawn_behind(number);
-        text.push(if (number >> 16) & mask == 0 {
-            drawn_char(number)
-        } else {
-            letter_at(place)
-        })?;
-    }
-    Ok(text)
-}
-
-/// Bytes that are drawn, of which any may be no letter's.
-fn mixed_bytes(alloc: Global, len: usize, (seed, mask): (u32, u32)) -> Result<Vec<u8>, AllocError> {
-    let mut bytes = Vec::new(alloc);
-    let mut number = seed;
-    for _ in 0..len {
-        number = drawn_behind(number);
-        let [first, _, _, _] = number.to_be_bytes();
-        bytes.push(if (number >> 16) & mask == 0 {
-            first
-        } else {
-            b'z'
-        })?;
-    }
-    Ok(bytes)
-}
-
-/// Whether both forms agree on bytes that were made.
-fn agree_on_made_bytes(alloc: Global, made: Result<Vec<u8>, AllocError>) -> bool {
-    match made {
-        Ok(bytes) => agree(alloc, Input::Bytes(bytes.as_slice()), 0),
-        Err(AllocError) => false,
-    }
-}
-
-/// Whether they agree on texts and bytes of this length that are mixed in each way.
-fn agree_on_mixes(alloc: Global, len: usize) -> bool {
-    for mix in MIXES {
-        if !agree_on_made(alloc, mixed(alloc, len, mix))
-            || !agree_on_made_bytes(alloc, mixed_bytes(alloc, len, mix))
-        {
-            return false;
+/// Returns whether plain letters are split, if this character replaces the one at any of these places.
+fn is_split_at_places(
+    alloc: Global,
+    len: usize,
+    (from, to): (usize, usize),
+    letter: Letter,
+) -> Result<bool, AllocError> {
+    for place in from..=to {
+        if place < len && !is_split(alloc, &letters_but(alloc, len, place, letter)?)? {
+            return Ok(false);
         }
     }
-    true
+    Ok(true)
+}
+
+/// Returns whether plain letters are split, if this character replaces one of the last five, or one at a threshold.
+fn is_split_with(alloc: Global, len: usize, letter: Letter) -> Result<bool, AllocError> {
+    for threshold in THRESHOLDS {
+        if !is_split_at_places(alloc, len, threshold, letter)? {
+            return Ok(false);
+        }
+    }
+    is_split_at_places(alloc, len, (len.saturating_sub(5), len), letter)
 }
 
 #[test]
-fn hands_over_characters_one_by_one(rt: HostRuntime) {
-    let mut calls = Calls::new(rt.alloc(), 0);
-    let ending = Ending::of(hand(&mut calls, Input::Text("a\u{e9}\"")));
-    assert!(rt; ending == Ending::Whole);
-    assert!(rt;
-        calls.are(b"\xfe\"\xffa\xff\\u{\xffe\xff9\xff}\xff\\u{\xff2\xff2\xff}\xff\"\xff\xfd")
-    );
-    let mut calls = Calls::new(rt.alloc(), 0);
-    let ending = Ending::of(hand(&mut calls, Input::Bytes(b"a\x1fb")));
-    assert!(rt; ending == Ending::Whole);
-    assert!(rt; calls.are(b"\xfe\"\xffa\xff\\\xff1\xfff\xffb\xff\"\xff\xfd"));
+fn splits_letters(rt: HostRuntime) -> Result<(), Fail> {
+    for (from, to) in LENGTHS {
+        for len in from..=to {
+            assert!(rt;
+                is_split(rt.alloc(), &letters(rt.alloc(), len)?)?,
+                "at {len}"
+            );
+        }
+    }
+    Ok(())
+}
+
+#[test]
+fn splits_letters_and_an_escape(rt: HostRuntime) -> Result<(), Fail> {
+    for (from, to) in LENGTHS {
+        for len in from..=to {
+            for letter in ESCAPED {
+                assert!(rt; is_split_with(rt.alloc(), len, letter)?, "at {len}");
+            }
+        }
+    }
+    Ok(())
+}
+
+#[test]
+fn splits_escapes_alone(rt: HostRuntime) -> Result<(), Fail> {
+    for (from, to) in LENGTHS {
+        for len in from..=to {
+            for letter in ESCAPED {
+                let sample = repeated(rt.alloc(), len, letter)?;
+                assert!(rt; is_split(rt.alloc(), &sample)?, "at {len}");
+            }
+        }
+    }
+    Ok(())
+}
+
+#[test]
+fn splits_mixed_texts(rt: HostRuntime) -> Result<(), Fail> {
+    for (from, to) in LENGTHS {
+        for len in from..=to {
+            for mix in MIXES {
+                let sample = mixed(rt.alloc(), len, mix)?;
+                assert!(rt; is_split(rt.alloc(), &sample)?, "at {len}");
+            }
+        }
+    }
+    Ok(())
+}
+
+/// The calls for the characters below 128 in a quoted string, sixteen in a row, as `Calls::shown` writes them.
+const CHARACTERS: [&str; 8] = [
+    r"\u{|0|}|\u{|1|}|\u{|2|}|\u{|3|}|\u{|4|}|\u{|5|}|\u{|6|}|\u{|7|}|\u{|8|}|\u{|9|}|\u{|a|}|\u{|b|}|\u{|c|}|\u{|d|}|\u{|e|}|\u{|f|}|",
+    r"\u{|1|0|}|\u{|1|1|}|\u{|1|2|}|\u{|1|3|}|\u{|1|4|}|\u{|1|5|}|\u{|1|6|}|\u{|1|7|}|\u{|1|8|}|\u{|1|9|}|\u{|1|a|}|\u{|1|b|}|\u{|1|c|}|\u{|1|d|}|\u{|1|e|}|\u{|1|f|}|",
+    r" |!|\u{|2|2|}|#|$|%|&|'|(|)|*|+|,|-|.|/|",
+    "0|1|2|3|4|5|6|7|8|9|:|;|<|=|>|?|",
+    "@|A|B|C|D|E|F|G|H|I|J|K|L|M|N|O|",
+    r"P|Q|R|S|T|U|V|W|X|Y|Z|[|\u{|5|c|}|]|^|_|",
+    "`|a|b|c|d|e|f|g|h|i|j|k|l|m|n|o|",
+    r"p|q|r|s|t|u|v|w|x|y|z|{|||}|~|\u{|7|f|}|",
+];
+
+/// The calls for the bytes in a byte string, sixteen in a row.
+const BYTES: [&str; 16] = [
+    r"\|0|0|\|0|1|\|0|2|\|0|3|\|0|4|\|0|5|\|0|6|\|0|7|\|0|8|\|0|9|\|0|a|\|0|b|\|0|c|\|0|d|\|0|e|\|0|f|",
+    r"\|1|0|\|1|1|\|1|2|\|1|3|\|1|4|\|1|5|\|1|6|\|1|7|\|1|8|\|1|9|\|1|a|\|1|b|\|1|c|\|1|d|\|1|e|\|1|f|",
+    r" |!|\|2|2|#|$|%|&|'|(|)|*|+|,|-|.|/|",
+    "0|1|2|3|4|5|6|7|8|9|:|;|<|=|>|?|",
+    "@|A|B|C|D|E|F|G|H|I|J|K|L|M|N|O|",
+    r"P|Q|R|S|T|U|V|W|X|Y|Z|[|\|5|c|]|^|_|",
+    "`|a|b|c|d|e|f|g|h|i|j|k|l|m|n|o|",
+    r"p|q|r|s|t|u|v|w|x|y|z|{|||}|~|\|7|f|",
+    r"\|8|0|\|8|1|\|8|2|\|8|3|\|8|4|\|8|5|\|8|6|\|8|7|\|8|8|\|8|9|\|8|a|\|8|b|\|8|c|\|8|d|\|8|e|\|8|f|",
+    r"\|9|0|\|9|1|\|9|2|\|9|3|\|9|4|\|9|5|\|9|6|\|9|7|\|9|8|\|9|9|\|9|a|\|9|b|\|9|c|\|9|d|\|9|e|\|9|f|",
+    r"\|a|0|\|a|1|\|a|2|\|a|3|\|a|4|\|a|5|\|a|6|\|a|7|\|a|8|\|a|9|\|a|a|\|a|b|\|a|c|\|a|d|\|a|e|\|a|f|",
+    r"\|b|0|\|b|1|\|b|2|\|b|3|\|b|4|\|b|5|\|b|6|\|b|7|\|b|8|\|b|9|\|b|a|\|b|b|\|b|c|\|b|d|\|b|e|\|b|f|",
+    r"\|c|0|\|c|1|\|c|2|\|c|3|\|c|4|\|c|5|\|c|6|\|c|7|\|c|8|\|c|9|\|c|a|\|c|b|\|c|c|\|c|d|\|c|e|\|c|f|",
+    r"\|d|0|\|d|1|\|d|2|\|d|3|\|d|4|\|d|5|\|d|6|\|d|7|\|d|8|\|d|9|\|d|a|\|d|b|\|d|c|\|d|d|\|d|e|\|d|f|",
+    r"\|e|0|\|e|1|\|e|2|\|e|3|\|e|4|\|e|5|\|e|6|\|e|7|\|e|8|\|e|9|\|e|a|\|e|b|\|e|c|\|e|d|\|e|e|\|e|f|",
+    r"\|f|0|\|f|1|\|f|2|\|f|3|\|f|4|\|f|5|\|f|6|\|f|7|\|f|8|\|f|9|\|f|a|\|f|b|\|f|c|\|f|d|\|f|e|\|f|f|",
+];
+
+/// Checks that writing the input makes the calls of these rows, in quotes.
+fn expect_rows(alloc: Global, input: Input, rows: &[&str]) -> Result<(), Fail> {
+    let mut calls = Calls::new(alloc, 0);
+    write_input(&mut calls, input)?;
+    let mut wanted = String::from_str(alloc, "{L}\"|")?;
+    for row in rows {
+        wanted.push_str(row)?;
+    }
+    wanted.push_str("\"|{R}")?;
+    expect_text(calls.shown(alloc)?.as_str(), wanted.as_str())?;
+    Ok(())
+}
+
+#[test]
+fn splits_each_character_below_128(rt: HostRuntime) -> Result<(), Fail> {
+    let mut text = String::new(rt.alloc());
+    for byte in 0..128 {
+        text.push(char::from(byte))?;
+    }
+    expect_rows(rt.alloc(), Input::Text(text.as_str()), &CHARACTERS)
+}
+
+#[test]
+fn splits_each_byte(rt: HostRuntime) -> Result<(), Fail> {
+    let mut bytes = Vec::new(rt.alloc());
+    for byte in 0..=u8::MAX {
+        bytes.push(byte)?;
+    }
+    expect_rows(rt.alloc(), Input::Bytes(bytes.as_slice()), &BYTES)
 }
 
 #[test]
 fn stops_in_the_middle_of_an_escape(rt: HostRuntime) {
     let mut calls = Calls::new(rt.alloc(), 5);
-    let ending = Ending::of(hand(&mut calls, Input::Text("a\u{e9}")));
+    let ending = Ending::of(write_input(&mut calls, Input::Text("a\u{e9}")));
     assert!(rt; ending == Ending::Refused && calls.count() == 5);
     assert!(rt; calls.are(b"\xfe\"\xffa\xff\\u{\xffe\xff"));
     let mut calls = Calls::new(rt.alloc(), 5);
-    let ending = Ending::of(hand(&mut calls, Input::Bytes(b"a\x1fb")));
+    let ending = Ending::of(write_input(&mut calls, Input::Bytes(b"a\x1fb")));
     assert!(rt; ending == Ending::Refused && calls.count() == 5);
     assert!(rt; calls.are(b"\xfe\"\xffa\xff\\\xff1\xff"));
 }
 
-#[test]
-fn cuts_letters_as_before(rt: HostRuntime) {
-    for (from, to) in LENGTHS {
-        for len in from..=to {
-            let made = repeated(rt.alloc(), len, 'a');
-            assert!(rt; agree_on_made(rt.alloc(), made), "at {len}");
-        }
-    }
-}
-
-#[test]
-fn cuts_letters_and_an_escape_as_before(rt: HostRuntime) {
-    for (from, to) in LENGTHS {
-        for len in from..=to {
-            assert!(rt; agree_on_one_of_each(rt.alloc(), len), "at {len}");
-        }
-    }
-}
-
-#[test]
-fn cuts_escapes_alone_as_before(rt: HostRuntime) {
-    for (from, to) in LENGTHS {
-        for len in from..=to {
-            assert!(rt; agree_on_escapes_alone(rt.alloc(), len), "at {len}");
-        }
-    }
-}
-
-#[test]
-fn cuts_mixed_texts_as_before(rt: HostRuntime) {
-    for (from, to) in LENGTHS {
-        for len in from..=to {
-            assert!(rt; agree_on_mixes(rt.alloc(), len), "at {len}");
-        }
-    }
-}
-
-/// Lengths of texts of which each call is refused in turn.
+/// Lengths of texts of which each call fails in turn.
 const REFUSED_LENGTHS: [usize; 6] = [0, 1, 3, 86, 254, 257];
 
-/// How the texts are mixed.
+/// How these texts are mixed.
 const REFUSED_MIXES: [(u32, u32); 2] = [(1, 1), (11, 63)];
 
-/// Whether both forms agree at each call of a text and of its bytes.
-fn agree_at_each_call_of(alloc: Global, made: Result<String, AllocError>) -> bool {
-    match made {
-        Ok(text) => {
-            agree_at_each_call(alloc, Input::Text(text.as_str()))
-                && agree_at_each_call(alloc, Input::Bytes(text.as_bytes()))
-        }
-        Err(AllocError) => false,
-    }
-}
-
 #[test]
-fn stops_at_each_call_of_letters_as_before(rt: HostRuntime) {
+fn stops_at_each_call_of_letters(rt: HostRuntime) -> Result<(), Fail> {
     for len in REFUSED_LENGTHS {
-        let made = letters_but(rt.alloc(), len, 253, '"');
-        assert!(rt; agree_at_each_call_of(rt.alloc(), made), "at {len}");
+        let sample = letters_but(rt.alloc(), len, 253, QUOTE)?;
+        assert!(rt; is_split_up_to_each_call(rt.alloc(), &sample)?, "at {len}");
     }
+    Ok(())
 }
 
 #[test]
-fn stops_at_each_call_of_mixed_texts_as_before(rt: HostRuntime) {
+fn stops_at_each_call_of_mixed_texts(rt: HostRuntime) -> Result<(), Fail> {
     for len in REFUSED_LENGTHS {
         for mix in REFUSED_MIXES {
-            let made = mixed(rt.alloc(), len, mix);
-            assert!(rt; agree_at_each_call_of(rt.alloc(), made), "at {len}");
+            let sample = mixed(rt.alloc(), len, mix)?;
+            assert!(rt; is_split_up_to_each_call(rt.alloc(), &sample)?, "at {len}");
         }
     }
+    Ok(())
 }
+
+/// A type, at 0xb, and imports of two functions without names, at 0x11 and 0x15.
+const TWO_IMPORTS: [u8; 17] = [
+    0x01, 0x04, 0x01, 0x60, 0x00, 0x00, // types
+    0x02, 0x09, 0x02, 0x00, 0x00, 0x00, 0x00, 0x00, 0x00, 0x00, 0x00, // imports
+];
+
+/// The offset of the data of the name section after these.
+const NAMES: usize = 0x21;
 
 /// Appends a number that is less than 2^14, in two bytes.
 fn push_number(wasm: &mut Vec<u8>, number: usize) -> Result<(), AllocError> {
     wasm.extend_from_slice(&[(number % 128) as u8 | 0x80, (number / 128 % 128) as u8])
 }
 
-/// Appends the names of `count` functions, which are all this one.
-fn push_function_names(wasm: &mut Vec<u8>, count: u8, name: &str) -> Result<(), AllocError> {
-    wasm.push(count)?;
-    for function in 0..count {
-        wasm.push(function)?;
-        push_number(wasm, name.len())?;
-        wasm.extend_from_slice(name.as_bytes())?;
-    }
-    Ok(())
+/// Returns the length of the subsection with a name of this length for two functions: a count, and twice an index, a length of two bytes
+/// and the name.
+fn subsection_len(name_len: usize) -> usize {
+    name_len
+        .saturating_add(3)
+        .saturating_mul(2)
+        .saturating_add(1)
 }
 
-/// Returns a module with `count` imports of functions that all have the name. There are fewer than 32, and their names have fewer than
-/// 2^14 bytes in all.
-fn with_name(alloc: Global, count: u8, name: &str) -> Result<Vec<u8>, AllocError> {
+/// Returns the length of the data of that name section: an id, a size of two bytes, and the subsection.
+fn names_len(name_len: usize) -> usize {
+    subsection_len(name_len).saturating_add(3)
+}
+
+/// Returns a module with two imports of functions that both have the name, which is shorter than 2^12 bytes.
+fn with_name(alloc: Global, name: &str) -> Result<Vec<u8>, AllocError> {
     let mut wasm = Vec::from_slice(alloc, &PREAMBLE)?;
-    // a type, and imports of functions
-    wasm.extend_from_slice(&[0x01, 0x04, 0x01, 0x60, 0x00, 0x00])?;
-    let count = count.min(31);
-    wasm.extend_from_slice(&[0x02, 4 * count + 1, count])?;
-    for _ in 0..count {
-        wasm.extend_from_slice(&[0x00, 0x00, 0x00, 0x00])?;
-    }
-    // the name section, and in it the names of functions
-    let len = usize::from(count)
-        .saturating_mul(name.len().saturating_add(3))
-        .saturating_add(1);
+    wasm.extend_from_slice(&TWO_IMPORTS)?;
     wasm.push(0x00)?;
-    push_number(&mut wasm, len.saturating_add(8))?;
+    push_number(&mut wasm, names_len(name.len()).saturating_add(5))?;
     wasm.extend_from_slice(b"\x04name\x01")?;
-    push_number(&mut wasm, len)?;
-    push_function_names(&mut wasm, count, name)?;
+    push_number(&mut wasm, subsection_len(name.len()))?;
+    wasm.push(2)?;
+    for function in 0..2 {
+        wasm.push(function)?;
+        push_number(&mut wasm, name.len())?;
+        wasm.extend_from_slice(name.as_bytes())?;
+    }
     Ok(wasm)
+}
+
+/// The calls for that module up to what follows the dollar sign of the first identifier.
+const UP_TO_FIRST: &str = r#"[0x0](|{K}module|{R}
+[0xb]  |(|{K}type| |{R}{N}(;|0|;)|{R} |(|{K}func|{R})|)|
+[0x11]  |(|{K}import| |{R}{L}"|"|{R} |{L}"|"|{R} |(|{K}func| |{R}{N}$|"#;
+
+/// The calls from there to the name in the second identifier, which the first function has already.
+const UP_TO_SECOND: &str = r##" |(;|0|;)|{R} |(|{K}type| |{R}{N}0|{R})|)|)|
+[0x15]  |(|{K}import| |{R}{L}"|"|{R} |{L}"|"|{R} |(|{K}func| |{R}{N}$|"|#|f|u|n|c|1| |"##;
+
+/// The calls from there to the name in the annotation.
+const UP_TO_ANNOTATION: &str = r#""| |(|{K}@name "|{R}"#;
+
+/// The calls from there to the place and the length of the name section.
+const UP_TO_SECTION: &str = r#"")| |(;|1|;)|{R} |(|{K}type| |{R}{N}0|{R})|)|)|{? name "#;
+
+/// Returns the calls for the module with this name, as `Calls::shown` writes them. An identifier without quotes is one call.
+fn named_calls(alloc: Global, sample: &Sample) -> Result<String, AllocError> {
+    let quoted = shown_calls(alloc, &sample.quoted)?;
+    let mut calls = String::from_str(alloc, UP_TO_FIRST)?;
+    if sample.is_id {
+        write!(calls, "{}|", sample.text)?;
+    } else {
+        write!(calls, "\"|{quoted}\"|")?;
+    }
+    calls.push_str(UP_TO_SECOND)?;
+    calls.push_str(quoted.as_str())?;
+    calls.push_str(UP_TO_ANNOTATION)?;
+    calls.push_str(quoted.as_str())?;
+    calls.push_str(UP_TO_SECTION)?;
+    let len = names_len(sample.text.len());
+    let end = NAMES.saturating_add(len);
+    write!(calls, "{NAMES:#x} {len}}}\n[{end:#x}]|)|\n")?;
+    Ok(calls)
 }
 
 /// Prints a module to any printer. It promises nothing, so that no caller works out what the promises mean for its own printer.
@@ -378,142 +370,23 @@ fn print_to<P: Print>(alloc: Global, wasm: &[u8], p: &mut P) -> Result<(), Error
     Config::new().print(alloc, wasm, p)
 }
 
-/// Whether bytes stand in a row somewhere in others.
-fn contains(bytes: &[u8], part: &[u8]) -> bool {
-    for start in 0..bytes.len() {
-        if bytes[start..].starts_with(part) {
-            return true;
-        }
+/// Checks the calls for two functions with this name.
+fn expect_named(alloc: Global, sample: &Sample) -> Result<(), Fail> {
+    let mut calls = Calls::new(alloc, 0);
+    print_to(alloc, &with_name(alloc, sample.text.as_str())?, &mut calls)?;
+    if !calls.is_complete() {
+        return Err(Fail::new("a call is lost"));
     }
-    false
-}
-
-/// Hands over the style of a name and an identifier, by the form that the library had before.
-fn hand_identifier<P: Print>(p: &mut P, content: &str) -> Result<(), Error> {
-    p.start_name()?;
-    before::write_identifier(p, content)?;
+    expect_text(
+        calls.shown(alloc)?.as_str(),
+        named_calls(alloc, sample)?.as_str(),
+    )?;
     Ok(())
-}
-
-/// Passes the annotation of a name to the printer, by the form that the library had before.
-fn hand_annotation<P: Print>(p: &mut P, name: &str) -> Result<(), Error> {
-    before::write_name_annotation(p, name)?;
-    Ok(())
-}
-
-/// Returns whether printing the module ends well, and makes these calls somewhere.
-fn prints_calls(alloc: Global, wasm: &[u8], wanted: &Calls) -> bool {
-    let mut found = Calls::new(alloc, 0);
-    Ending::of(print_to(alloc, wasm, &mut found)) == Ending::Whole
-        && wanted.is_complete()
-        && found.is_complete()
-        && contains(found.list(), wanted.list())
-}
-
-/// Whether printing the module ends well, and hands over an identifier of this content by the calls that were made before.
-fn prints_identifier_as_before(alloc: Global, wasm: &[u8], content: &str) -> bool {
-    let mut wanted = Calls::new(alloc, 0);
-    Ending::of(hand_identifier(&mut wanted, content)) == Ending::Whole
-        && prints_calls(alloc, wasm, &wanted)
-}
-
-/// Returns whether printing the module ends well, and writes the annotation of this name by the calls that were made before.
-fn prints_annotation_as_before(alloc: Global, wasm: &[u8], name: &str) -> bool {
-    let mut wanted = Calls::new(alloc, 0);
-    Ending::of(hand_annotation(&mut wanted, name)) == Ending::Whole
-        && prints_calls(alloc, wasm, &wanted)
-}
-
-/// Whether a module whose function has the name that was made is printed with an identifier as before.
-fn prints_name_as_before(alloc: Global, made: Result<String, AllocError>) -> bool {
-    let Ok(name) = made else {
-        return false;
-    };
-    match with_name(alloc, 1, name.as_str()) {
-        Ok(wasm) => prints_identifier_as_before(alloc, wasm.as_slice(), name.as_str()),
-        Err(AllocError) => false,
-    }
-}
-
-/// Returns whether a module of whose functions two have the name that was made is printed with the annotation of the name as before.
-fn prints_same_name_as_before(alloc: Global, made: Result<String, AllocError>) -> bool {
-    let Ok(name) = made else {
-        return false;
-    };
-    match with_name(alloc, 2, name.as_str()) {
-        Ok(wasm) => prints_annotation_as_before(alloc, wasm.as_slice(), name.as_str()),
-        Err(AllocError) => false,
-    }
-}
-
-/// Whether printing stops at the call of this number: the calls up to it are those of the whole text, its error is handed on, and no call
-/// is made behind it.
-fn stops_at(alloc: Global, wasm: &[u8], whole: &Calls, refused: usize) -> bool {
-    let mut found = Calls::new(alloc, refused);
-    Ending::of(print_to(alloc, wasm, &mut found)) == Ending::Refused
-        && found.is_complete()
-        && found.count() == refused
-        && whole.list().starts_with(found.list())
-}
-
-/// Whether printing a module stops at any of its calls.
-fn stops_at_each_call(alloc: Global, wasm: &[u8]) -> bool {
-    let mut whole = Calls::new(alloc, 0);
-    let ending = Ending::of(print_to(alloc, wasm, &mut whole));
-    for refused in 1..=whole.count() {
-        if !stops_at(alloc, wasm, &whole, refused) {
-            return false;
-        }
-    }
-    ending == Ending::Whole
 }
 
 /// Lengths of names, which aren't empty.
-const NAME_LENGTHS: [(usize, usize); 5] = [
+const NAME_LENGTHS: [(usize, usize); 6] = [
     (1, 6),
-    (84, 87),
-    (252, 259),
-    (773, 780),
-    (1_020, 1_030),
-];
-
-#[test]
-fn cuts_identifiers_as_before(rt: HostRuntime) {
-    for (from, to) in NAME_LENGTHS {
-        for len in from..=to {
-            let letters = repeated(rt.alloc(), len, 'a');
-            assert!(rt; prints_name_as_before(rt.alloc(), letters), "at {len}");
-            let quoted = letters_but(rt.alloc(), len, 0, '(');
-            assert!(rt; prints_name_as_before(rt.alloc(), quoted), "at {len}");
-            let escapes = repeated(rt.alloc(), len, '\u{e9}');
-            assert!(rt; prints_name_as_before(rt.alloc(), escapes), "at {len}");
-            let other = mixed(rt.alloc(), len, (7, 7));
-            assert!(rt; prints_name_as_before(rt.alloc(), other), "at {len}");
-        }
-    }
-}
-
-#[test]
-fn stops_at_each_call_of_identifiers(rt: HostRuntime) -> Result<(), Fail> {
-    for len in [3, 86, 257] {
-        let name = mixed(rt.alloc(), len, (7, 7))?;
-        let wasm = with_name(rt.alloc(), 2, name.as_str())?;
-        assert!(rt; stops_at_each_call(rt.alloc(), wasm.as_slice()), "at {len}");
-    }
-    Ok(())
-}
-
-/// Returns whether the annotation is written as before for names of this length: letters alone, with one escape, escapes alone, and mixed.
-fn prints_annotations_as_before(alloc: Global, len: usize) -> bool {
-    prints_same_name_as_before(alloc, repeated(alloc, len, 'a'))
-        && prints_same_name_as_before(alloc, letters_but(alloc, len, len / 2, '"'))
-        && prints_same_name_as_before(alloc, repeated(alloc, len, '\u{e9}'))
-        && prints_same_name_as_before(alloc, mixed(alloc, len, (7, 7)))
-}
-
-/// Lengths of names that are written as annotations.
-const ANNOTATED_LENGTHS: [(usize, usize); 6] = [
-    (0, 6),
     (84, 87),
     (252, 259),
     (510, 514),
@@ -522,10 +395,63 @@ const ANNOTATED_LENGTHS: [(usize, usize); 6] = [
 ];
 
 #[test]
-fn cuts_annotations_as_before(rt: HostRuntime) {
-    for (from, to) in ANNOTATED_LENGTHS {
+fn splits_identifiers_and_annotations(rt: HostRuntime) -> Result<(), Fail> {
+    let alloc = rt.alloc();
+    for (from, to) in NAME_LENGTHS {
         for len in from..=to {
-            assert!(rt; prints_annotations_as_before(rt.alloc(), len), "at {len}");
+            expect_named(alloc, &letters(alloc, len)?)?;
+            expect_named(alloc, &letters_but(alloc, len, 0, SPACE)?)?;
+            expect_named(alloc, &letters_but(alloc, len, len / 2, QUOTE)?)?;
+            expect_named(alloc, &repeated(alloc, len, ACUTE)?)?;
+            expect_named(alloc, &mixed(alloc, len, (7, 7))?)?;
         }
     }
+    Ok(())
+}
+
+/// The calls for two functions whose name is empty.
+const WITHOUT_A_NAME: &str = r##"[0x0](|{K}module|{R}
+[0xb]  |(|{K}type| |{R}{N}(;|0|;)|{R} |(|{K}func|{R})|)|
+[0x11]  |(|{K}import| |{R}{L}"|"|{R} |{L}"|"|{R} |(|{K}func| |{R}{N}$|"|#|f|u|n|c|0| |"| |(|{K}@name "|{R}")| |(;|0|;)|{R} |(|{K}type| |{R}{N}0|{R})|)|)|
+[0x15]  |(|{K}import| |{R}{L}"|"|{R} |{L}"|"|{R} |(|{K}func| |{R}{N}$|"|#|f|u|n|c|1| |"| |(|{K}@name "|{R}")| |(;|1|;)|{R} |(|{K}type| |{R}{N}0|{R})|)|)|{? name 0x21 10}
+[0x2b]|)|
+"##;
+
+#[test]
+fn splits_the_annotation_of_an_empty_name(rt: HostRuntime) -> Result<(), Fail> {
+    let mut calls = Calls::new(rt.alloc(), 0);
+    print_to(rt.alloc(), &with_name(rt.alloc(), "")?, &mut calls)?;
+    expect_text(calls.shown(rt.alloc())?.as_str(), WITHOUT_A_NAME)?;
+    Ok(())
+}
+
+/// Returns whether printing a module stops at the call with this number, if that call fails: the calls up to it are the first of these.
+fn prints_up_to(alloc: Global, wasm: &[u8], wanted: &str, refused: usize) -> Result<bool, Fail> {
+    let mut found = Calls::new(alloc, refused);
+    let ending = Ending::of(print_to(alloc, wasm, &mut found));
+    Ok(
+        ending == Ending::Refused
+            && found.is_complete()
+            && found.count() == refused
+            && wanted.starts_with(found.shown(alloc)?.as_str()),
+    )
+}
+
+#[test]
+fn stops_at_each_call_of_identifiers(rt: HostRuntime) -> Result<(), Fail> {
+    let alloc = rt.alloc();
+    for len in [3, 86, 257] {
+        let sample = mixed(alloc, len, (7, 7))?;
+        let wasm = with_name(alloc, sample.text.as_str())?;
+        let wanted = named_calls(alloc, &sample)?;
+        let mut whole = Calls::new(alloc, 0);
+        print_to(alloc, &wasm, &mut whole)?;
+        for refused in 1..=whole.count() {
+            assert!(rt;
+                prints_up_to(alloc, &wasm, wanted.as_str(), refused)?,
+                "{len} at {refused}"
+            );
+        }
+    }
+    Ok(())
 }

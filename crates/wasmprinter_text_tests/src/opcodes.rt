@@ -46,9 +46,13 @@ fn opcode(alloc: Global, prefix: u8, number: u32) -> Result<Vec<u8>, AllocError>
     Ok(bytes)
 }
 
+/// A prefix, 0 for none, and a number.
+type Code = (u8, u32);
+
 /// An operator and the line that it is printed on.
 #[derive(Drop)]
 struct Sample {
+    code: Code,
     bytes: Vec<u8>,
     line: String,
 }
@@ -64,7 +68,8 @@ fn samples_of(alloc: Global, group: &Group) -> Result<Vec<Sample>, Fail> {
                 let mut bytes = opcode(alloc, group.prefix, number)?;
                 bytes.extend_from_slice(group.immediates)?;
                 let line = format!(in alloc; "{item}{}", group.text)?;
-                samples.push(Sample { bytes, line })?;
+                let code = (group.prefix, number);
+                samples.push(Sample { code, bytes, line })?;
                 number = number.saturating_add(1);
             }
         }
@@ -145,8 +150,8 @@ const BLOCKS: [(&[u8], &[&str]); 6] = [
     ),
 ];
 
-/// How many opcodes these are.
-const BLOCK_OPCODES: u32 = 10;
+/// The numbers of these.
+const BLOCK_OPCODES: [u32; 10] = [0x02, 0x03, 0x04, 0x05, 0x06, 0x07, 0x0b, 0x18, 0x19, 0x1f];
 
 #[test]
 fn prints_operators_of_blocks(rt: HostRuntime) -> Result<(), Fail> {
@@ -252,8 +257,12 @@ const UNLISTED: [(u8, u32, u32); 23] = [
     (0xfe, 0x4f, 0x7f),
 ];
 
-/// How many numbers there are: of one byte up to FA, behind FB and FC up to 63, behind FD up to 511 and behind FE up to 7F.
-const NUMBERS: u32 = 251 + 64 + 64 + 512 + 128;
+/// Each prefix, 0 for none, with the number after the last that is tried: opcodes of one byte up to FA, those after FB and FC up to 63, after
+/// FD up to 511 and after FE up to 7F.
+const NUMBERS: [Code; 5] = [(0, 0xfb), (0xfb, 64), (0xfc, 64), (0xfd, 512), (0xfe, 0x80)];
+
+/// How many these are.
+const NUMBERS_LEN: usize = 251 + 64 + 64 + 512 + 128;
 
 /// Zeros, which could be the immediates of an operator of any shape, or operators.
 const ZEROS: [u8; 20] = [0x00; 20];
@@ -277,39 +286,51 @@ fn refuses_each_other_number(rt: HostRuntime) -> Result<(), Fail> {
     Ok(())
 }
 
-/// How many operators are in some groups.
-fn count_of(alloc: Global, groups: &[Group]) -> Result<u32, Fail> {
-    let mut count = 0u32;
+/// Adds the opcodes of some groups.
+fn add_groups(opcodes: &mut Vec<Code>, alloc: Global, groups: &[Group]) -> Result<(), Fail> {
     for group in groups {
-        for _ in &samples_of(alloc, group)? {
-            count = count.saturating_add(1);
+        for sample in &samples_of(alloc, group)? {
+            opcodes.push(sample.code)?;
         }
     }
-    Ok(count)
+    Ok(())
 }
 
-/// Each number is printed or refused by a test above.
-#[test]
-fn leaves_out_no_number(rt: HostRuntime) -> Result<(), Fail> {
-    let alloc = rt.alloc();
-    let mut refused = 0u32;
-    for (_, first, last) in UNLISTED {
-        for _ in first..=last {
-            refused = refused.saturating_add(1);
+/// Adds the opcodes that are refused.
+fn add_refused(opcodes: &mut Vec<Code>) -> Result<(), AllocError> {
+    for (prefix, first, last) in UNLISTED {
+        for number in first..=last {
+            opcodes.push((prefix, number))?;
         }
     }
-    let printed = [
-        BLOCK_OPCODES,
-        count_of(alloc, &PLAIN)?,
-        count_of(alloc, &MEMORIES)?,
-        count_of(alloc, &LANES)?,
-        count_of(alloc, &INDICES)?,
-        count_of(alloc, &OTHERS)?,
-    ];
-    let mut numbers = refused;
-    for count in printed {
-        numbers = numbers.saturating_add(count);
+    Ok(())
+}
+
+/// Returns each opcode that a test above prints or refuses.
+fn tested_opcodes(alloc: Global) -> Result<Vec<Code>, Fail> {
+    let mut opcodes = Vec::new(alloc);
+    for number in BLOCK_OPCODES {
+        opcodes.push((0, number))?;
     }
-    assert!(rt; numbers == NUMBERS);
+    add_groups(&mut opcodes, alloc, &PLAIN)?;
+    add_groups(&mut opcodes, alloc, &MEMORIES)?;
+    add_groups(&mut opcodes, alloc, &LANES)?;
+    add_groups(&mut opcodes, alloc, &INDICES)?;
+    add_groups(&mut opcodes, alloc, &OTHERS)?;
+    add_refused(&mut opcodes)?;
+    Ok(opcodes)
+}
+
+/// Each number is printed or refused by a test above, and by one alone.
+#[test]
+fn leaves_out_no_number(rt: HostRuntime) -> Result<(), Fail> {
+    let opcodes = tested_opcodes(rt.alloc())?;
+    for (prefix, end) in NUMBERS {
+        for number in 0..end {
+            let wanted = (prefix, number);
+            assert!(rt; opcodes.iter().any(|code| *code == wanted), "{wanted:?}");
+        }
+    }
+    assert!(rt; opcodes.len() == NUMBERS_LEN);
     Ok(())
 }

@@ -16,9 +16,9 @@ pub fn expect_printed(alloc: Global, wasm: &[u8], typed: &str) -> Result<(), Fai
     Ok(())
 }
 
-/// Whether a module is refused as malformed.
+/// Whether a module is refused as malformed, at a place within it or at its end.
 pub fn is_malformed(alloc: Global, wasm: &[u8]) -> bool {
-    matches!(print_bytes(alloc, wasm), Err(Error::Malformed { .. }))
+    matches!(print_bytes(alloc, wasm), Err(Error::Malformed { place }) if place <= wasm.len() as u64)
 }
 
 /// A module with one section.

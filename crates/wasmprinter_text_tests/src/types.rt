@@ -3,7 +3,6 @@
 use crate::printing::{expect_printed, expect_section, with_section};
 use std::alloc::{AllocError, Global};
 use std::test::Fail;
-use wasmprinter::print_bytes;
 use wasmprinter_samples::PREAMBLE;
 use wasmprinter_samples::sections::TYPE;
 
@@ -66,22 +65,17 @@ const ABSTRACT: [u8; 40] = [
     0x64, 0x6f, 0x64, 0x70, 0x64, 0x71, 0x64, 0x72, 0x64, 0x73, 0x64, 0x74,
 ];
 
-/// How its parameters are printed.
-const ABSTRACT_PARAMS: &str =
-    "(param exnref arrayref structref i31ref eqref anyref externref funcref nullref nullexternref nullfuncref nullexnref) (result";
-
-/// How its results are printed, to the end of the type.
-const ABSTRACT_RESULTS: &str =
-    "(result (ref exn) (ref array) (ref struct) (ref i31) (ref eq) (ref any) (ref extern) (ref func) \
-     (ref none) (ref noextern) (ref nofunc) (ref noexn))))\n";
+const ABSTRACT_TEXT: &str = "(module
+  (type (;0;) (func \
+(param exnref arrayref structref i31ref eqref anyref externref funcref nullref nullexternref nullfuncref nullexnref) \
+(result (ref exn) (ref array) (ref struct) (ref i31) (ref eq) (ref any) (ref extern) (ref func) \
+(ref none) (ref noextern) (ref nofunc) (ref noexn))))
+)
+";
 
 #[test]
 fn prints_references_to_abstract_types(rt: HostRuntime) -> Result<(), Fail> {
-    let text = print_bytes(rt.alloc(), &with_section(rt.alloc(), TYPE, &ABSTRACT)?)?;
-    assert!(rt;
-        text.as_str().contains(ABSTRACT_PARAMS) && text.as_str().contains(ABSTRACT_RESULTS)
-    );
-    Ok(())
+    expect_section(rt.alloc(), TYPE, &ABSTRACT, ABSTRACT_TEXT)
 }
 
 #[test]
@@ -140,16 +134,22 @@ fn with_a_thousand_types(alloc: Global) -> Result<Vec<u8>, AllocError> {
     Ok(wasm)
 }
 
-/// Whether a text has 1,002 lines, two of these types in its middle, and ends with the last.
-fn has_a_thousand_types(text: &str) -> bool {
-    text.matches("\n").count() == 1002
-        && text.contains("\n  (type (;500;) (func))\n  (type (;501;) (func))\n")
-        && text.ends_with("\n  (type (;999;) (func))\n)\n")
+/// The text of that module.
+fn text_of_a_thousand_types(alloc: Global) -> Result<String, AllocError> {
+    let mut text = String::from_str(alloc, "(module\n")?;
+    for number in 0..1000 {
+        write!(text, "  (type (;{number};) (func))\n")?;
+    }
+    text.push_str(")\n")?;
+    Ok(text)
 }
 
 #[test]
 fn prints_a_thousand_types(rt: HostRuntime) -> Result<(), Fail> {
-    let text = print_bytes(rt.alloc(), &with_a_thousand_types(rt.alloc())?)?;
-    assert!(rt; has_a_thousand_types(text.as_str()));
-    Ok(())
+    let typed = text_of_a_thousand_types(rt.alloc())?;
+    expect_printed(
+        rt.alloc(),
+        &with_a_thousand_types(rt.alloc())?,
+        typed.as_str(),
+    )
 }

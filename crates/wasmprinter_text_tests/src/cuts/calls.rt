@@ -76,34 +76,14 @@ impl Calls {
         !self.lost
     }
 
-    /// Whether no call was made behind the one that was refused.
-    pub fn has_stopped(&self) -> bool {
-        self.refused == 0 || self.made <= self.refused
-    }
-
     /// Whether these calls were made, and no other, and each was kept.
     pub fn are(&self, list: &[u8]) -> bool {
         self.is_complete() && self.list() == list
     }
 
-    /// Whether the same calls were made of both, and no other.
-    pub fn is_same(&self, other: &Calls) -> bool {
-        other.is_complete() && self.made == other.made && self.are(other.list())
-    }
-
-    /// Returns the calls in a form that can be typed and read:
-    ///
-    /// - a text as it is, with a bar after it;
-    /// - a line feed for `newline`;
-    /// - `{L}`, `{N}`, `{K}`, `{T}`, `{C}` and `{R}` for the styles and for `reset_color`;
-    /// - `[0x1f]` or `[]` for `start_line`;
-    /// - `{? name 0x1f 2}` for `print_custom_section`: the name, the place and the length of the data.
+    /// Returns the calls in a form that can be typed and read.
     pub fn shown(&self, alloc: Global) -> Result<String, AllocError> {
-        let mut shown = String::new(alloc);
-        for byte in self.list() {
-            show_byte(&mut shown, *byte)?;
-        }
-        Ok(shown)
+        shown_calls(alloc, self.list())
     }
 
     /// The answer to a call that was kept so.
@@ -154,6 +134,21 @@ fn without_cause(written: io::Result<()>) -> Result<(), AllocError> {
         Ok(()) => Ok(()),
         Err(_) => Err(AllocError),
     }
+}
+
+/// Returns a list of calls in a form that can be typed and read:
+///
+/// - a text as it is, with a bar after it;
+/// - a line feed for `newline`;
+/// - `{L}`, `{N}`, `{K}`, `{T}`, `{C}` and `{R}` for the styles and for `reset_color`;
+/// - `[0x1f]` or `[]` for `start_line`;
+/// - `{? name 0x1f 2}` for `print_custom_section`: the name, the place and the length of the data.
+pub fn shown_calls(alloc: Global, list: &[u8]) -> Result<String, AllocError> {
+    let mut shown = String::new(alloc);
+    for byte in list {
+        show_byte(&mut shown, *byte)?;
+    }
+    Ok(shown)
 }
 
 /// Appends what stands for a byte of the list of calls.
