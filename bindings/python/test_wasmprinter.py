@@ -1,0 +1,123 @@
+"""Checks every row of bindings/rows.txt."""
+
+import pathlib
+import threading
+import unittest
+
+import wasmprinter
+
+ROWS = pathlib.Path(__file__).resolve().parent.parent / "rows.txt"
+
+
+class Row:
+    """What a row gives and expects."""
+
+    def __init__(self, title):
+        self.title = title
+        self.options = {}
+        self.wasm = b""
+        self.has_places = False
+        self.lines = []
+        self.error = None
+
+    def read(self, line):
+        key, _, words = line.partition(" ")
+        if key == "set":
+            self.options.update({word: True for word in words.split()})
+        elif key == "indent":
+            # bytes that are not UTF-8 have no str
+            self.options["indent"] = bytes.fromhex(words).decode("utf-8", "surrogateescape")
+        elif key == "wasm":
+            self.wasm += bytes.fromhex(words)
+        elif key == "zeros":
+            self.wasm += bytes(int(words))
+        elif key == "places":
+            self.has_places = True
+        elif key == "error":
+            status, detail, text = words.split(" ", 2)
+            self.error = int(status), int(detail), text
+        else:
+            place, text = line.split("|", 1)
+            self.lines.append((int(place, 16) if place else None, text + "\n"))
+
+
+def rows():
+    found = []
+    for line in ROWS.read_text(encoding="utf-8").split("\n"):
+        if line.startswith("row "):
+            found.append(Row(line[4:]))
+        elif line and not line.startswith("#"):
+            found[-1].read(line)
+    return found
+
+
+# the class of each status, typed by hand
+CLASSES = {
+    1: wasmprinter.Malformed,
+    2: wasmprinter.Component,
+    3: wasmprinter.TooManyLocals,
+    4: wasmprinter.TooManyFunctions,
+    5: wasmprinter.EmptyTableInit,
+    6: wasmprinter.FoldLegacy,
+    7: wasmprinter.FoldHint,
+    8: wasmprinter.DylinkSubsection,
+}
+
+
+class Rows(unittest.TestCase):
+    def test_each_row(self):
+        found = rows()
+        self.assertGreater(len(found), 20)
+        for row in found:
+            with self.subTest(row.title):
+                self.check(row)
+
+    def check(self, row):
+        if "\udcff" in row.options.get("indent", ""):
+            with self.assertRaises(UnicodeEncodeError):
+                wasmprinter.print_bytes(row.wasm, **row.options)
+        elif row.error is None:
+            self.assertEqual(wasmprinter.print_bytes(row.wasm, **row.options), "".join(text for _, text in row.lines))
+            lines = wasmprinter.print_lines(row.wasm, **row.options)
+            self.assertEqual([line.text for line in lines], [text for _, text in row.lines])
+            if row.has_places:
+                self.assertEqual([line.place for line in lines], [place for place, _ in row.lines])
+        else:
+            status, detail, text = row.error
+            for function in (wasmprinter.print_bytes, wasmprinter.print_lines):
+                with self.assertRaises(CLASSES[status]) as raised:
+                    function(row.wasm, **row.options)
+                self.assertIs(type(raised.exception), CLASSES[status])
+                self.assertEqual(raised.exception.detail, detail)
+                self.assertEqual(str(raised.exception), text)
+
+
+class Others(unittest.TestCase):
+    def test_errors_that_no_row_has(self):
+        self.assertEqual(str(wasmprinter.TooLong()), "the text is too long")
+        self.assertEqual(str(wasmprinter.OutOfMemory()), "out of memory")
+        self.assertTrue(issubclass(wasmprinter.OutOfMemory, MemoryError))
+
+    def test_empty_input(self):
+        with self.assertRaises(wasmprinter.Malformed):
+            wasmprinter.print_bytes(b"")
+
+    def test_other_bytes(self):
+        self.assertEqual(wasmprinter.print_bytes(bytearray(b"\0asm\1\0\0\0")), "(module)\n")
+        self.assertEqual(wasmprinter.print_bytes(memoryview(b"\0asm\1\0\0\0")), "(module)\n")
+
+    def test_version(self):
+        self.assertEqual(wasmprinter.version(), (0, 263, 0))
+
+    def test_threads(self):
+        texts = []
+        threads = [threading.Thread(target=lambda: texts.append(wasmprinter.print_bytes(b"\0asm\1\0\0\0"))) for _ in range(8)]
+        for thread in threads:
+            thread.start()
+        for thread in threads:
+            thread.join()
+        self.assertEqual(texts, ["(module)\n"] * 8)
+
+
+if __name__ == "__main__":
+    unittest.main()

@@ -1,0 +1,200 @@
+-- Why printing over a buffer fails, and what that leaves in it.
+use Rattle.std.proofs.Common.{◌≡◌, ℕ, ◌≤◌, ◌^◌, List, [], ◌∷◌, ◌++◌, length, map, refl, sym, ap, ap₂, ◌∙◌, subst, append-nil, append_assoc, length-append, arith, inl, inr}
+use Rattle.std.specs.Prelude.{false, Result, Ok, Err, IfErr, OnOk}
+use Rattle.std.specs.declared.io.Error.{Error as IoError}
+use Rattle.wasmprinter_error.specs.declared.error.Error.{Error}
+use Rattle.wasmprinter_error.specs.declared.error.Error.TheVariants.{Malformed, Component, TooManyLocals, TooManyFunctions, EmptyTableInit, FoldLegacy, FoldHint, DylinkSubsection, Printer, Memory}
+use Rattle.wasmprinter_spec.specs.Call.{Call, Text, Newline, Line, Start, Claim, call_text, calls_of_bytes, atoms, text_of}
+use Rattle.wasmprinter_spec.specs.Meaning.{Run}
+use Rattle.wasmprinter_spec.specs.Options.{Options, in_colours}
+use Rattle.wasmprinter_spec.specs.Layout.{layout}
+use Rattle.wasmprinter_spec.proofs.Texts.{text_of-append, alike_texts}
+use Rattle.wasmprinter_print.specs.Emits.{Whole, Broken, Begun}
+use Rattle.wasmprinter.specs.Printed.{Printed}
+use Rattle.wasmprinter.specs.Outcome.{HasCause, Leaves, LeavesBeginning}
+use Rattle.wasmprinter.proofs.Subsections.{refused_unknown}
+use Rattle.wasmprinter_c.specs.Over.{over}
+use Rattle.wasmprinter_c.specs.Copied.{copied_meaning}
+use Rattle.wasmprinter_c.specs.Lines.{entries}
+use Rattle.wasmprinter_c.specs.Refused.{IsTooLong, HasBufferCause, HoldsPrefix, LeavesBuffer}
+use Rattle.wasmprinter_c.specs.declared.copier.Copier.{Copier}
+use Rattle.wasmprinter_c.proofs.Runs.{HasCopied, IsFresh, run_copied}
+
+-- ---- the text of calls whose texts are split
+
+bytes_text : (s : List ℕ) → text_of (map (λ b. Text (b ∷ [])) s) ≡ s
+bytes_text [] = refl
+bytes_text (b ∷ bs) = ap (λ (t : List ℕ). b ∷ t) (bytes_text bs)
+
+split_text : (c : Call) → text_of (calls_of_bytes c) ≡ call_text c
+split_text (Text s) = bytes_text s
+split_text Newline = refl
+split_text (Line place) = refl
+split_text (Start style) = refl
+split_text (Claim name place bytes answer) = refl
+
+pub text_of-atoms : (cs : List Call) → text_of (atoms cs) ≡ text_of cs
+text_of-atoms [] = refl
+text_of-atoms (c ∷ cs) = text_of-append (calls_of_bytes c) (atoms cs) ∙ ap₂ (λ (x y : List ℕ). x ++ y) (split_text c) (text_of-atoms cs)
+
+-- calls that are a prefix of a layout have a prefix of its text
+prefix_text : (k rest l : List Call) → atoms k ++ rest ≡ atoms l → text_of l ≡ text_of k ++ text_of rest
+prefix_text k rest l e =
+    sym (text_of-atoms l) ∙ ap text_of (sym e) ∙ text_of-append (atoms k) rest ∙ ap (λ (t : List ℕ). t ++ text_of rest) (text_of-atoms k)
+
+-- ---- a printer that was fresh
+
+module _ (old : Copier) (fresh : IsFresh old) where
+  whole_holds : (new : Copier) (l : List Call) → Whole copied_meaning old new l → new.out.now ≡ over (text_of l) old.out.now
+  whole_holds new l w =
+      let has : HasCopied old (text_of w.calls) (entries 0 w.calls) new = run_copied old new w.calls fresh w.run in
+      has.copied ∙ ap (λ (t : List ℕ). over t old.out.now) (alike_texts w.calls l w.alike)
+
+  begun_holds : (new : Copier) (l : List Call) → Begun copied_meaning old new l → HoldsPrefix l old.out.now new.out.now
+  begun_holds new l b =
+      let has : HasCopied old (text_of b.calls) (entries 0 b.calls) new = run_copied old new b.calls fresh b.run in
+      record { text = text_of b.calls; rest = text_of b.rest; is = prefix_text b.calls b.rest l b.alike; copied = has.copied }
+
+  -- the text of the calls before a failed one, and of that one
+  broken_text : (new : Copier) (x : IoError) (l : List Call) → (b : Broken copied_meaning old new x l) →
+      text_of l ≡ text_of b.calls ++ (call_text b.call ++ text_of b.rest)
+  broken_text new x l b =
+      let made : List Call = b.calls ++ b.call ∷ [] in
+      prefix_text made b.rest l b.alike ∙ ap (λ (t : List ℕ). t ++ text_of b.rest) (text_of-append b.calls (b.call ∷ []))
+      ∙ append_assoc (text_of b.calls) (call_text b.call ++ []) (text_of b.rest)
+      ∙ ap (λ (t : List ℕ). text_of b.calls ++ (t ++ text_of b.rest)) (append-nil (call_text b.call))
+
+  broken_holds : (new : Copier) (x : IoError) (l : List Call) → Broken copied_meaning old new x l → HoldsPrefix l old.out.now new.out.now
+  broken_holds new x l b =
+      let has : HasCopied old (text_of b.calls) (entries 0 b.calls) b.before = run_copied old b.before b.calls fresh b.run in
+      record {
+        text = text_of b.calls;
+        rest = call_text b.call ++ text_of b.rest;
+        is = broken_text new x l b;
+        copied = ap (λ (c : Copier). c.out.now) b.failed.left ∙ has.copied;
+      }
+
+  -- a call failed: the text of the layout can't be counted
+  pub broken_long : (new : Copier) (x : IoError) (l : List Call) → Broken copied_meaning old new x l → 2 ^ 64 ≤ length (text_of l)
+  broken_long new x l b =
+      let has : HasCopied old (text_of b.calls) (entries 0 b.calls) b.before = run_copied old b.before b.calls fresh b.run in
+      let n₁ = ap length (broken_text new x l b) in
+      let n₂ = length-append (text_of b.calls) (call_text b.call ++ text_of b.rest) in
+      let n₃ = length-append (call_text b.call) (text_of b.rest) in
+      let counted = has.counted in
+      let may = b.failed.may in
+      omega (arith, n₁, n₂, n₃, counted, may)
+
+  module _ (o : Options) (bytes : List ℕ) (new : Copier) where
+    too_long : (x : IoError) → Leaves copied_meaning false o bytes old new (Printer x) → IsTooLong o bytes
+    too_long x h = record {
+      placed = h.placed;
+      spelled = h.spelled;
+      within = h.within;
+      answers = h.answers;
+      long = broken_long new x (layout (in_colours o false) h.answers h.placed) h.left;
+    }
+
+    buffer_cause : (e : Error) → Leaves copied_meaning false o bytes old new e → HasCause copied_meaning o bytes old new e → HasBufferCause o bytes e
+    buffer_cause (Malformed place) l h = h
+    buffer_cause Component l h = h
+    buffer_cause (TooManyLocals place) l h = h
+    buffer_cause (TooManyFunctions count) l h = h
+    buffer_cause (EmptyTableInit place) l h = h
+    buffer_cause (FoldLegacy place) l h = h
+    buffer_cause (FoldHint place) l h = h
+    buffer_cause (DylinkSubsection id) l h = λ placed s. refused_unknown copied_meaning old new id placed.customs (h placed s)
+    buffer_cause (Printer x) l h = λ placed s. too_long x l
+    buffer_cause Memory l h = λ placed s. inl (h placed s)
+    buffer_cause _ l h = absurd l
+
+    kept : new ≡ old → new.out.now ≡ old.out.now
+    kept e = ap (λ (c : Copier). c.out.now) e
+
+    memory_left : LeavesBeginning copied_meaning false o bytes old new → LeavesBuffer o bytes Memory old.out.now new.out.now
+    memory_left (inl e) = inl (kept e)
+    memory_left (inr h) = inr (
+      h.0,
+      record {
+        placed = h.1.placed;
+        spelled = h.1.spelled;
+        within = h.1.within;
+        foldable = h.1.foldable;
+        answers = h.1.answers;
+        left = begun_holds new (layout (in_colours o false) h.1.answers h.1.placed) h.1.left;
+      },
+    )
+
+    leaves_buffer : (e : Error) → Leaves copied_meaning false o bytes old new e → LeavesBuffer o bytes e old.out.now new.out.now
+    leaves_buffer (Malformed place) h = kept h
+    leaves_buffer Component h = kept h
+    leaves_buffer (TooManyLocals place) h = kept h
+    leaves_buffer (TooManyFunctions count) h = kept h
+    leaves_buffer (EmptyTableInit place) h = kept h
+    leaves_buffer (FoldLegacy place) h = kept h
+    leaves_buffer (FoldHint place) h = kept h
+    leaves_buffer (DylinkSubsection id) h = record {
+      placed = h.placed;
+      spelled = h.spelled;
+      within = h.within;
+      foldable = h.foldable;
+      answers = h.answers;
+      left = record { ends = h.left.ends; copied = whole_holds new (layout (in_colours o false) h.answers h.placed) h.left.made };
+    }
+    leaves_buffer (Printer x) h = record {
+      placed = h.placed;
+      spelled = h.spelled;
+      within = h.within;
+      foldable = h.foldable;
+      answers = h.answers;
+      left = broken_holds new x (layout (in_colours o false) h.answers h.placed) h.left;
+    }
+    leaves_buffer Memory h = memory_left h
+    leaves_buffer _ h = absurd h
+
+    pub if_err_caused : {T : Type 0} (r : Result T Error) → IfErr r (Leaves copied_meaning false o bytes old new) →
+        IfErr r (HasCause copied_meaning o bytes old new) → IfErr r (HasBufferCause o bytes)
+    if_err_caused (Ok x) l h = tt
+    if_err_caused (Err e) l h = buffer_cause e l h
+
+    pub if_err_left : {T : Type 0} (r : Result T Error) → IfErr r (Leaves copied_meaning false o bytes old new) →
+        IfErr r (λ e. LeavesBuffer o bytes e old.out.now new.out.now)
+    if_err_left (Ok x) l = tt
+    if_err_left (Err e) l = leaves_buffer e l
+
+  -- ---- the printer keeps its buffer and its table
+
+  pub record AreSame (new : Copier) : Type 0 where
+    pub buffer : new.out.ghost_name ≡ old.out.ghost_name
+    pub table : new.lines.ghost_name ≡ old.lines.ghost_name
+
+  run_same : (new : Copier) (calls : List Call) → Run copied_meaning old calls new → AreSame new
+  run_same new calls r =
+      let has : HasCopied old (text_of calls) (entries 0 calls) new = run_copied old new calls fresh r in
+      record { buffer = has.same_buffer; table = has.same_table }
+
+  unchanged_same : (new : Copier) → new ≡ old → AreSame new
+  unchanged_same new e = record { buffer = ap (λ (c : Copier). c.out.ghost_name) e; table = ap (λ (c : Copier). c.lines.ghost_name) e }
+
+  module _ (o : Options) (bytes : List ℕ) (new : Copier) where
+    memory_same : LeavesBeginning copied_meaning false o bytes old new → AreSame new
+    memory_same (inl e) = unchanged_same new e
+    memory_same (inr h) = run_same new h.1.left.calls h.1.left.run
+
+    refused_same : (e : Error) → Leaves copied_meaning false o bytes old new e → AreSame new
+    refused_same (Malformed place) h = unchanged_same new h
+    refused_same Component h = unchanged_same new h
+    refused_same (TooManyLocals place) h = unchanged_same new h
+    refused_same (TooManyFunctions count) h = unchanged_same new h
+    refused_same (EmptyTableInit place) h = unchanged_same new h
+    refused_same (FoldLegacy place) h = unchanged_same new h
+    refused_same (FoldHint place) h = unchanged_same new h
+    refused_same (DylinkSubsection id) h = run_same new h.left.made.calls h.left.made.run
+    refused_same (Printer x) h = subst AreSame (sym h.left.failed.left) (run_same h.left.before h.left.calls h.left.run)
+    refused_same Memory h = memory_same h
+    refused_same _ h = absurd h
+
+    pub either_same : {T : Type 0} (r : Result T Error) → OnOk r (Printed copied_meaning false o bytes old new) →
+        IfErr r (Leaves copied_meaning false o bytes old new) → AreSame new
+    either_same (Ok x) v l = run_same new v.calls v.run
+    either_same (Err e) v l = refused_same e l

@@ -1,0 +1,7 @@
+pub mod Overs
+pub mod Cuts
+pub mod Bounds
+pub mod Runs
+pub mod Left
+pub mod Outcomes
+pub mod Texts

@@ -1,0 +1,179 @@
+-- What calls that succeed make of a printer over a buffer.
+use Rattle.std.proofs.Common.{◌≡◌, ℕ, ◌+◌, ◌^◌, ◌≤◌, ◌<◌, List, [], ◌∷◌, ◌++◌, length, map, refl, sym, ap, ◌∙◌, subst, append_assoc, append-nil, length-append, arith}
+use Rattle.std.specs.Prelude.{false, Option, Result, Ok, Err, OnOk}
+use Rattle.wasmprinter_error.specs.declared.error.Error.{Error}
+use Rattle.wasmprinter_spec.specs.Call.{Call, Text, Newline, Line, Start, Claim, IsUnclaimed, text_of, atoms}
+use Rattle.wasmprinter_spec.specs.Lines.{TextLine, lines_of, joined_lines, line_places, hint_places, HasFunctionLines}
+use Rattle.wasmprinter_spec.specs.Meaning.{Run}
+use Rattle.wasmprinter_spec.specs.Options.{Options, in_colours}
+use Rattle.wasmprinter_spec.specs.Layout.{layout}
+use Rattle.wasmprinter_spec.proofs.Texts.{alike_texts}
+use Rattle.wasmprinter_places.proofs.Starts.{lines_join}
+use Rattle.wasmprinter_places.proofs.FunctionLines.{function_lines}
+use Rattle.wasmprinter_tracker.specs.Cuts.{lines_at_starts}
+use Rattle.wasmprinter.specs.Printed.{Printed, no_claims}
+use Rattle.wasmprinter.proofs.Texts.{IsPlainly, plainly_printed, module_text}
+use Rattle.wasmprinter_c.specs.Over.{over, over_from}
+use Rattle.wasmprinter_c.specs.Copied.{Grows, Starts, CopiedAfter, copied_meaning}
+use Rattle.wasmprinter_c.specs.Printing.{HasLinesOver}
+use Rattle.wasmprinter_c.specs.Lines.{entry, entries, line_start}
+use Rattle.wasmprinter_c.specs.declared.copier.WasmprinterLine.{WasmprinterLine}
+use Rattle.wasmprinter_c.specs.declared.copier.Copier.{Copier}
+use Rattle.wasmprinter_c.proofs.Overs.{over_more}
+use Rattle.wasmprinter_c.proofs.Cuts.{lines-cut}
+use Rattle.wasmprinter_c.proofs.Bounds.{layout_lines}
+
+pub claims_never : (s : Copier) (c : Call) (t : Copier) → CopiedAfter s c t → IsUnclaimed c
+claims_never s (Text bytes) t h = tt
+claims_never s Newline t h = tt
+claims_never s (Line place) t h = tt
+claims_never s (Start style) t h = tt
+claims_never s (Claim name place bytes answer) t h = h.0
+
+-- This text was written over the buffer of a printer to which nothing had been printed, and these entries over its table, if they can be
+-- counted.
+pub record HasCopied (old : Copier) (text : List ℕ) (starts : List WasmprinterLine) (new : Copier) : Type 0 where
+  pub same_buffer : new.out.ghost_name ≡ old.out.ghost_name
+  pub copied : new.out.now ≡ over text old.out.now
+  pub counted : new.written ≡ length text
+  pub small : new.written < 2 ^ 64
+  pub same_table : new.lines.ghost_name ≡ old.lines.ghost_name
+  pub lines : length starts < 2 ^ 64 → (new.lines.now ≡ over starts old.lines.now) × (new.count ≡ length starts)
+
+-- more text
+copied_text : (old s t : Copier) (x y : List ℕ) (ls : List WasmprinterLine) → HasCopied old x ls s → Grows s y t → HasCopied old (x ++ y) ls t
+copied_text old s t x y ls h (same, written, counted, small, lines, count) = record {
+  same_buffer = same ∙ h.same_buffer;
+  copied = written ∙ ap (λ (n : ℕ). over_from n y s.out.now) h.counted ∙ ap (λ (o : List ℕ). over_from (length x) y o) h.copied
+      ∙ over_more x y old.out.now;
+  counted = counted ∙ ap (λ (n : ℕ). n + length y) h.counted ∙ sym (length-append x y);
+  small = small;
+  same_table = ap (λ l. l.ghost_name) lines ∙ h.same_table;
+  lines = λ few.
+      let before = h.lines few in
+      (ap (λ l. l.now) lines ∙ before.0, count ∙ before.1);
+}
+
+-- one more line
+copied_line : (old s t : Copier) (x : List ℕ) (ls : List WasmprinterLine) (place : Option ℕ) → HasCopied old x ls s → Starts s place t →
+    HasCopied old x (ls ++ entry place (length x) ∷ []) t
+copied_line old s t x ls place h (out, written, same, begun) = record {
+  same_buffer = ap (λ o. o.ghost_name) out ∙ h.same_buffer;
+  copied = ap (λ o. o.now) out ∙ h.copied;
+  counted = written ∙ h.counted;
+  small = subst (λ (n : ℕ). n < 2 ^ 64) (sym written) h.small;
+  same_table = same ∙ h.same_table;
+  lines = λ few.
+      let more = length-append ls (entry place (length x) ∷ []) in
+      let before = h.lines (omega (arith, few, more)) in
+      let count = before.1 in
+      let now = begun (omega (arith, few, more, count)) in (
+        now.0 ∙ ap (λ (n : ℕ). over_from s.count (entry place n ∷ []) s.lines.now) h.counted
+            ∙ ap (λ (n : ℕ). over_from n (entry place (length x) ∷ []) s.lines.now) before.1
+            ∙ ap (λ (l : List WasmprinterLine). over_from (length ls) (entry place (length x) ∷ []) l) before.0
+            ∙ over_more ls (entry place (length x) ∷ []) old.lines.now,
+        now.1 ∙ ap (λ (n : ℕ). n + 1) before.1 ∙ sym more,
+      );
+}
+
+-- nothing more
+copied_same : (old s t : Copier) (x : List ℕ) (ls : List WasmprinterLine) → HasCopied old x ls s → t ≡ s → HasCopied old x ls t
+copied_same old s t x ls h e = subst (λ (u : Copier). HasCopied old x ls u) (sym e) h
+
+-- text before more calls
+front : (old t : Copier) (x y : List ℕ) (ls : List WasmprinterLine) (cs : List Call) →
+    HasCopied old ((x ++ y) ++ text_of cs) (ls ++ entries (length (x ++ y)) cs) t →
+    HasCopied old (x ++ (y ++ text_of cs)) (ls ++ entries (length x + length y) cs) t
+front old t x y ls cs h =
+    subst (λ (z : List ℕ). HasCopied old z (ls ++ entries (length x + length y) cs) t) (append_assoc x y (text_of cs))
+    (subst (λ (n : ℕ). HasCopied old ((x ++ y) ++ text_of cs) (ls ++ entries n cs) t) (length-append x y) h)
+
+-- more calls
+copied_calls : (old s t : Copier) (x : List ℕ) (ls : List WasmprinterLine) (cs : List Call) → HasCopied old x ls s → Run copied_meaning s cs t →
+    HasCopied old (x ++ text_of cs) (ls ++ entries (length x) cs) t
+copied_calls old s t x ls [] h r =
+    subst (λ (z : List ℕ). HasCopied old z (ls ++ []) t) (sym (append-nil x))
+    (subst (λ (l : List WasmprinterLine). HasCopied old x l t) (sym (append-nil ls)) (copied_same old s t x ls h (sym r)))
+copied_calls old s t x ls (Text y ∷ cs) h (between, called, rest) =
+    front old t x y ls cs (copied_calls old between t (x ++ y) ls cs (copied_text old s between x y ls h called.step) rest)
+copied_calls old s t x ls (Newline ∷ cs) h (between, called, rest) =
+    front old t x (10 ∷ []) ls cs (copied_calls old between t (x ++ 10 ∷ []) ls cs (copied_text old s between x (10 ∷ []) ls h called.step) rest)
+copied_calls old s t x ls (Line place ∷ cs) h (between, called, rest) =
+    subst (λ (l : List WasmprinterLine). HasCopied old (x ++ text_of cs) l t) (append_assoc ls (entry place (length x) ∷ []) (entries (length x) cs))
+    (copied_calls old between t x (ls ++ entry place (length x) ∷ []) cs (copied_line old s between x ls place h called.step) rest)
+copied_calls old s t x ls (Start style ∷ cs) h (between, called, rest) =
+    copied_calls old between t x ls cs (copied_same old s between x ls h called.step) rest
+copied_calls old s t x ls (Claim name place bytes answer ∷ cs) h (between, called, rest) =
+    copied_calls old between t x ls cs (copied_same old s between x ls h called.step.1) rest
+
+-- nothing was printed to it
+pub record IsFresh (c : Copier) : Type 0 where
+  pub text : c.written ≡ 0
+  pub lines : c.count ≡ 0
+
+-- a run
+pub run_copied : (old new : Copier) (calls : List Call) → IsFresh old → Run copied_meaning old calls new → HasCopied old (text_of calls) (entries 0 calls) new
+run_copied old new calls fresh r =
+    let none = fresh.text in
+    copied_calls old old new [] [] calls
+    (record { same_buffer = refl; copied = refl; counted = fresh.text; small = omega (arith, none); same_table = refl; lines = λ few. (refl, fresh.lines) }) r
+
+-- ---- the entries of calls that differ only in how text is split
+
+bytes_entries : (at : ℕ) (s : List ℕ) (k : List Call) → entries at (map (λ b. Text (b ∷ [])) s ++ k) ≡ entries (at + length s) k
+bytes_entries at [] k = let same : at ≡ at + length {A = ℕ} [] = omega arith in ap (λ (n : ℕ). entries n k) same
+bytes_entries at (b ∷ s) k =
+    let same : at + length (b ∷ []) + length s ≡ at + length (b ∷ s) = omega arith in
+    bytes_entries (at + length (b ∷ [])) s k ∙ ap (λ (n : ℕ). entries n k) same
+
+entries-atoms : (at : ℕ) (cs : List Call) → entries at (atoms cs) ≡ entries at cs
+entries-atoms at [] = refl
+entries-atoms at (Text s ∷ cs) = bytes_entries at s (atoms cs) ∙ entries-atoms (at + length s) cs
+entries-atoms at (Newline ∷ cs) = entries-atoms (at + 1) cs
+entries-atoms at (Line place ∷ cs) = ap (λ (l : List WasmprinterLine). entry place at ∷ l) (entries-atoms at cs)
+entries-atoms at (Start style ∷ cs) = entries-atoms at cs
+entries-atoms at (Claim name place bytes answer ∷ cs) = entries-atoms at cs
+
+alike_entries : (k l : List Call) → atoms k ≡ atoms l → entries 0 k ≡ entries 0 l
+alike_entries k l e = sym (entries-atoms 0 k) ∙ ap (λ (c : List Call). entries 0 c) e ∙ entries-atoms 0 l
+
+-- ---- what was printed whole
+
+pub printed_over : (o : Options) (bytes : List ℕ) (old new : Copier) → IsFresh old → Printed copied_meaning false o bytes old new →
+    HasLinesOver o bytes old.out.now new.out.now old.lines.now new.lines.now new.written new.count
+printed_over o bytes old new fresh v =
+    let by : Options = in_colours o false in
+    let own : IsPlainly o v.calls v.placed = plainly_printed copied_meaning o claims_never bytes old new v in
+    let laid : List Call = layout by no_claims v.placed in
+    let has : HasCopied old (text_of v.calls) (entries 0 v.calls) new = run_copied old new v.calls fresh v.run in
+    let same : text_of v.calls ≡ text_of laid = alike_texts v.calls laid own.alike in
+    let table : entries 0 v.calls ≡ entries 0 laid = alike_entries v.calls laid own.alike in
+    let few : length (entries 0 laid) ≤ length (text_of laid) = layout_lines by no_claims v.placed in
+    let counted : new.written ≡ length (text_of laid) = has.counted ∙ ap length same in
+    let small = has.small in
+    let entered = has.lines (subst (λ (l : List WasmprinterLine). length l < 2 ^ 64) (sym table) (omega (arith, few, counted, small))) in
+    let are : lines_at_starts (map line_start (entries 0 laid)) (text_of laid) ≡ lines_of laid = lines-cut [] laid in
+    record {
+      text = text_of laid;
+      table = entries 0 laid;
+      lines = record {
+        text = text_of laid;
+        printed = module_text o bytes v.placed v.spelled v.within v.foldable own.accepted (text_of laid) refl;
+        appended = refl;
+        are = are;
+        joined = ap joined_lines are ∙ lines_join by no_claims v.placed;
+        functions = λ whole flat i f e.
+            subst (λ (ls : List TextLine). HasFunctionLines (hint_places v.placed) (line_places ls) f) (sym are)
+            (function_lines bytes v.placed by no_claims v.spelled whole flat own.accepted i f e);
+      };
+      starts = refl;
+      copied = has.copied ∙ ap (λ (t : List ℕ). over t old.out.now) same;
+      counted = counted;
+      entered = entered.0 ∙ ap (λ (l : List WasmprinterLine). over l old.lines.now) table;
+      listed = entered.1 ∙ ap (λ (l : List WasmprinterLine). length l) table;
+    }
+
+pub on_ok_over : {T : Type 0} (o : Options) (bytes : List ℕ) (old new : Copier) (r : Result T Error) → IsFresh old →
+    OnOk r (Printed copied_meaning false o bytes old new) → OnOk r (HasLinesOver o bytes old.out.now new.out.now old.lines.now new.lines.now new.written new.count)
+on_ok_over o bytes old new (Ok x) fresh v = printed_over o bytes old new fresh v
+on_ok_over o bytes old new (Err e) fresh v = tt

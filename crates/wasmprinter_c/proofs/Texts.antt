@@ -1,0 +1,87 @@
+-- A description is short, so all of it is counted.
+use Rattle.std.proofs.Common.{◌≡◌, ℕ, ◌≤◌, ◌+◌, List, [], ◌∷◌, ◌++◌, length, ap, ◌∙◌, append-nil, length-append, arith}
+use Rattle.std.specs.Prelude.{Bool, true, false, codes, decimal, Result, Ok, Err, if◌then◌else◌, ◌==◌}
+use Rattle.std.specs.Fmt.{digits}
+use Rattle.std.specs.declared.io.Error.{Error as IoError}
+use Rattle.wasmprinter_spec.specs.Call.{Text, text_of}
+use Rattle.wasmprinter_spec.proofs.Texts.{alike_texts}
+use Rattle.wasmprinter_words.proofs.Digits.{digits-length}
+use Rattle.wasmprinter_print.specs.Emits.{Emits, Whole, Broken}
+use Rattle.wasmprinter_c.specs.Over.{over}
+use Rattle.wasmprinter_c.specs.Copied.{copied_meaning}
+use Rattle.wasmprinter_c.specs.Lines.{entries}
+use Rattle.wasmprinter_c.specs.Messages.{message, with_place, with_number}
+use Rattle.wasmprinter_c.specs.declared.copier.Copier.{Copier}
+use Rattle.wasmprinter_c.proofs.Runs.{HasCopied, IsFresh, run_copied}
+use Rattle.wasmprinter_c.proofs.Left.{broken_long}
+
+-- of at most 200 bytes
+abbrev IsShort : List ℕ → Type 0
+IsShort text = length text ≤ 200
+
+short_if : (b : Bool) (x y : List ℕ) → IsShort x → IsShort y → IsShort (if b then x else y)
+short_if true x y h k = h
+short_if false x y h k = k
+
+short_place : (before after : List ℕ) (n : ℕ) → length before + length after ≤ 100 → IsShort (with_place before n after)
+short_place before after n h =
+    let e₁ = length-append before (digits 16 false n ++ after) in
+    let e₂ = length-append (digits 16 false n) after in
+    let d = digits-length 16 n in
+    omega (arith, h, e₁, e₂, d)
+
+short_number : (before after : List ℕ) (n : ℕ) → length before + length after ≤ 100 → IsShort (with_number before n after)
+short_number before after n h =
+    let e₁ = length-append before (decimal n ++ after) in
+    let e₂ = length-append (decimal n) after in
+    let d : length (decimal n) ≤ 64 = digits-length 10 n in
+    omega (arith, h, e₁, e₂, d)
+
+short_message : (status detail : ℕ) → IsShort (message status detail)
+short_message status detail =
+    short_if (status == 0) _ _ (omega arith)
+    (short_if (status == 1) _ _ (short_place (codes "malformed module at byte 0x") (codes "") detail (omega arith))
+    (short_if (status == 2) _ _ (omega arith)
+    (short_if (status == 3) _ _ (short_place (codes "function at byte 0x") (codes " has more than 50000 locals") detail (omega arith))
+    (short_if (status == 4) _ _ (short_number (codes "module has ") (codes " functions, more than 1000000") detail (omega arith))
+    (short_if (status == 5) _ _ (short_place (codes "table at byte 0x") (codes " has an empty initialiser") detail (omega arith))
+    (short_if (status == 6) _ _ (short_place (codes "legacy exception operator at byte 0x") (codes " can't be folded") detail (omega arith))
+    (short_if (status == 7) _ _ (short_place (codes "branch hint at byte 0x") (codes " can't be folded") detail (omega arith))
+    (short_if (status == 8) _ _ (short_number (codes "unknown dylink.0 subsection ") (codes "") detail (omega arith))
+    (short_if (status == 9) _ _ (omega arith)
+    (short_if (status == 10) _ _ (omega arith)
+    (short_if (status == 11) _ _ (omega arith)
+    (short_if (status == 12) _ _ (omega arith) (omega arith)))))))))))))
+
+-- all of a short text is written over the buffer, as much of it as fits, and counted
+pub record HasAll (old : Copier) (text : List ℕ) (new : Copier) : Type 0 where
+  pub copied : new.out.now ≡ over text old.out.now
+  pub counted : new.written ≡ length text
+  pub same_buffer : new.out.ghost_name ≡ old.out.ghost_name
+  pub same_table : new.lines.ghost_name ≡ old.lines.ghost_name
+
+whole_written : (old new : Copier) (text : List ℕ) → IsFresh old → Whole copied_meaning old new (Text text ∷ []) → HasAll old text new
+whole_written old new text fresh w =
+    let has : HasCopied old (text_of w.calls) (entries 0 w.calls) new = run_copied old new w.calls fresh w.run in
+    let is : text_of w.calls ≡ text = alike_texts w.calls (Text text ∷ []) w.alike ∙ append-nil text in
+    record {
+      copied = has.copied ∙ ap (λ (t : List ℕ). over t old.out.now) is;
+      counted = has.counted ∙ ap length is;
+      same_buffer = has.same_buffer;
+      same_table = has.same_table;
+    }
+
+never_broken : (old new : Copier) (x : IoError) (text : List ℕ) → IsFresh old → IsShort text → Broken copied_meaning old new x (Text text ∷ []) → ⊥
+never_broken old new x text fresh short b =
+    let long = broken_long old fresh new x (Text text ∷ []) b in
+    let same = ap length (append-nil text) in
+    omega (arith, long, same, short)
+
+emitted : (old new : Copier) (r : Result (Unit {0}) IoError) (text : List ℕ) → IsFresh old → IsShort text → Emits copied_meaning old new r (Text text ∷ []) → HasAll old text new
+emitted old new (Ok x) text fresh short m = whole_written old new text fresh m.made
+emitted old new (Err e) text fresh short m = absurd (never_broken old new e text fresh short m.made)
+
+pub described : (old new : Copier) (r : Result (Unit {0}) IoError) (status detail : ℕ) → old.written ≡ 0 → old.count ≡ 0 →
+    Emits copied_meaning old new r (Text (message status detail) ∷ []) → HasAll old (message status detail) new
+described old new r status detail text lines m =
+    emitted old new r (message status detail) (record { text = text; lines = lines }) (short_message status detail) m

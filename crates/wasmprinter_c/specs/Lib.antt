@@ -1,0 +1,8 @@
+-- What the contracts of the library for C cite.
+pub mod Copied
+pub mod Lines
+pub mod Messages
+pub mod Outcomes
+pub mod Over
+pub mod Printing
+pub mod Refused

@@ -1,0 +1,100 @@
+-- What the library for C reports of a module that is not printed.
+use Rattle.std.specs.Prelude.{◌≡◌, ◌≤◌, ◌^◌, ◌⊎◌, ℕ, List, ◌++◌, true, false, Some, length}
+use Rattle.wasmprinter_error.specs.declared.error.Error.{Error}
+use Rattle.wasmprinter_error.specs.declared.error.Error.TheVariants.{Malformed, Component, TooManyLocals, TooManyFunctions, EmptyTableInit, FoldLegacy, FoldHint, DylinkSubsection, Unreadable, Printer, Memory}
+use Rattle.wasmprinter_spec.specs.Binary.{Spells}
+use Rattle.wasmprinter_spec.specs.Placed.{PlacedModule}
+use Rattle.wasmprinter_spec.specs.Limits.{IsWithinLimits}
+use Rattle.wasmprinter_spec.specs.Call.{Call, text_of}
+use Rattle.wasmprinter_spec.specs.Options.{Options, Answers, defaults, in_colours}
+use Rattle.wasmprinter_spec.specs.Layout.{layout, refusal}
+use Rattle.wasmprinter.specs.Outcome.{HasPrintReason, print_reasons, causes, AnyIsUnknown, MayGrow, IsTrueOf, WhilePrinting}
+use Rattle.wasmprinter_c.specs.Over.{over}
+
+-- the number of an error
+abbrev pub number_of : Error → ℕ
+number_of (Malformed place) = 1
+number_of Component = 2
+number_of (TooManyLocals place) = 3
+number_of (TooManyFunctions count) = 4
+number_of (EmptyTableInit place) = 5
+number_of (FoldLegacy place) = 6
+number_of (FoldHint place) = 7
+number_of (DylinkSubsection id) = 8
+number_of Unreadable = 9
+number_of (Printer e) = 10
+number_of Memory = 11
+
+-- the place, the count or the id of an error, 0 if it has none
+abbrev pub detail_in : Error → ℕ
+detail_in (Malformed place) = place
+detail_in Component = 0
+detail_in (TooManyLocals place) = place
+detail_in (TooManyFunctions count) = count
+detail_in (EmptyTableInit place) = place
+detail_in (FoldLegacy place) = place
+detail_in (FoldHint place) = place
+detail_in (DylinkSubsection id) = id
+detail_in Unreadable = 0
+detail_in (Printer e) = 0
+detail_in Memory = 0
+
+-- an indent that is copied: every indent except the default
+abbrev pub IsCopied : List ℕ → Type 0
+IsCopied indent = ¬ (indent ≡ defaults.indent)
+
+-- the bytes encode a module whose text has 2^64 bytes or more
+pub record IsTooLong (o : Options) (bytes : List ℕ) : Type 0 where
+  pub placed : PlacedModule
+  pub spelled : Spells bytes placed
+  pub within : IsWithinLimits placed
+  pub answers : Answers
+  pub long : 2 ^ 64 ≤ length (text_of (layout (in_colours o false) answers placed))
+
+-- If the bytes encode a module, the error has one of the causes of `HasCause`. The printer fails only if the text is too long. An
+-- allocation may fail for a copy of the indent too.
+abbrev pub HasBufferCause : Options → List ℕ → Error → Type 0
+HasBufferCause o bytes e =
+    (placed : PlacedModule) → Spells bytes placed →
+    HasPrintReason (print_reasons o placed (λ x. IsTooLong o bytes) (λ id. AnyIsUnknown id placed.customs))
+    (causes (MayGrow o placed ⊎ IsCopied o.indent) placed) e
+
+-- The error is true of the bytes, as for `Config::print`, or the indent was not copied since an allocation failed.
+abbrev pub IsTrueOrUncopied : Options → List ℕ → Error → Type 0
+IsTrueOrUncopied o bytes e = IsTrueOf o bytes e ⊎ ((e ≡ Memory) × IsCopied o.indent)
+
+-- a prefix of the text of these calls was written over the buffer
+pub record HoldsPrefix (calls : List Call) (old new : List ℕ) : Type 0 where
+  pub text : List ℕ
+  pub rest : List ℕ
+  pub is : text_of calls ≡ text ++ rest
+  pub copied : new ≡ over text old
+
+-- The module that the bytes encode was being printed. The buffer holds a prefix of the text of its layout.
+abbrev pub HoldsPrefixOf : Options → List ℕ → List ℕ → List ℕ → Type 0
+HoldsPrefixOf o bytes old new =
+    WhilePrinting o bytes (λ placed answers. HoldsPrefix (layout (in_colours o false) answers placed) old new)
+
+-- the layout ends at the subsection with this id, and all of its text was written over the buffer
+pub record HoldsTextBefore (id : ℕ) (o : Options) (old new : List ℕ) (placed : PlacedModule) (answers : Answers) : Type 0 where
+  pub ends : refusal o answers placed ≡ Some id
+  pub copied : new ≡ over (text_of (layout o answers placed)) old
+
+-- What the buffer holds after an error. If the module was refused before it was printed, the buffer is unchanged. An unknown subsection
+-- of `dylink.0` ends the text. If the text is too long, or an allocation failed while operators were folded, the buffer holds a prefix.
+abbrev pub LeavesBuffer : Options → List ℕ → Error → List ℕ → List ℕ → Type 0
+LeavesBuffer o bytes (DylinkSubsection id) old new = WhilePrinting o bytes (HoldsTextBefore id (in_colours o false) old new)
+LeavesBuffer o bytes (Printer e) old new = HoldsPrefixOf o bytes old new
+LeavesBuffer o bytes Memory old new = (new ≡ old) ⊎ ((o.folds ≡ true) × HoldsPrefixOf o bytes old new)
+LeavesBuffer o bytes e old new = new ≡ old
+
+-- the module was refused for an error with this number and this detail, and nothing was counted
+pub record IsRefusedWith (o : Options) (bytes old new : List ℕ) (status whole count detail : ℕ) : Type 0 where
+  pub error : Error
+  pub numbered : status ≡ number_of error
+  pub detailed : detail ≡ detail_in error
+  pub is_so : IsTrueOrUncopied o bytes error
+  pub caused : HasBufferCause o bytes error
+  pub left : LeavesBuffer o bytes error old new
+  pub uncounted : whole ≡ 0
+  pub unlisted : count ≡ 0

@@ -1,0 +1,279 @@
+//! The printer of WebAssembly modules for C, and for languages that call C functions. `include/wasmprinter.h` declares the functions.
+//!
+//! No function keeps anything between calls or takes a lock.
+#![tactic(auto)]
+
+ghost use Rattle.std.specs.Prelude.{◌≡◌, ◌↔◌, IsTrue, OnOk, OnErr, IfOk, IfErr, IsErrOf, codes, length};
+ghost use Rattle.std.specs.Str.{IsUtf8};
+ghost use Rattle.wasmprinter_spec.specs.Binary.{IsComponent};
+ghost use Rattle.wasmprinter.specs.Outcome.{IsTrueOf};
+ghost use Rattle.wasmprinter_c.specs.Over.{over};
+ghost use Rattle.wasmprinter_c.specs.Messages.{message};
+ghost use Rattle.wasmprinter_c.specs.Printing.{chosen, HasTextOver, HasLinesOver};
+ghost use Rattle.wasmprinter_c.specs.Refused.{number_of, detail_in, IsCopied, HasBufferCause, LeavesBuffer, IsRefusedWith};
+ghost use Rattle.wasmprinter_c.specs.Outcomes.{IsOutcome};
+
+mod copier;
+mod status;
+
+use copier::Copier;
+pub use copier::WasmprinterLine;
+use status::{BAD_INDENT, PRINTED, describe, detail_of, status_of};
+use std::alloc::{AllocError, Global};
+use wasmprinter::{Config, Error};
+
+/// The version of the library: the major number times 1,000,000, the minor number times 1,000, and the patch number.
+const VERSION: u32 = 263_000;
+
+/// The text of one level of nesting by default.
+const DEFAULT_INDENT: &str = "  ";
+
+/// What is printed of a module, and how: the options of [`Config`], apart from the text of the indent.
+#[repr(C)]
+pub struct WasmprinterOptions {
+    /// Whether each line begins with its place.
+    pub offsets: bool,
+    /// Whether bodies, items of element segments, and bytes of data segments and custom sections are left out.
+    pub skeleton: bool,
+    /// Whether identifiers are synthesized for items without a name.
+    pub name_unnamed: bool,
+    /// Whether each operator is in parentheses with its operands.
+    pub fold: bool,
+}
+
+/// What a module came to.
+#[derive(Clone, Copy)]
+struct Outcome {
+    /// 0, or the number of the error.
+    status: u32,
+    /// The length of the text in bytes.
+    length: usize,
+    /// The number of its lines.
+    count: usize,
+    /// The place, the count or the id of the error.
+    detail: u64,
+}
+
+/// How much was printed.
+#[derive(Clone, Copy)]
+struct Extent {
+    /// The length of the text in bytes.
+    length: usize,
+    /// The number of its lines.
+    count: usize,
+}
+
+/// Returns whether the bytes are marked as a component.
+fn is_component(wasm: &[u8]) -> bool
+    ensures { IsTrue result ↔ IsComponent wasm.now }
+{
+    matches!(wasm, [0x00, 0x61, 0x73, 0x6d, _, _, 0x01, 0x00, ..])
+}
+
+/// Returns whether this is the default indent.
+fn is_default(indent: &str) -> bool
+    ensures { IsTrue result ↔ (indent.now ≡ codes "  ") }
+{
+    indent == DEFAULT_INDENT
+}
+
+/// Returns the printer's options with the default indent.
+fn config_of(options: &WasmprinterOptions) -> Config
+    ensures { result ≡ chosen options.now (codes "  ") }
+{
+    let mut config = Config::new();
+    config
+        .print_offsets(options.offsets)
+        .print_skeleton(options.skeleton)
+        .name_unnamed(options.name_unnamed)
+        .fold_instructions(options.fold);
+    config
+}
+
+/// Returns the printer's options with a copy of an indent. The default indent is not copied.
+fn indented(alloc: Global, options: &WasmprinterOptions, indent: &str) -> Result<Config, AllocError>
+    ensures chosen { IfOk result (λ config. config ≡ chosen options.now indent.now) }
+    ensures copied { OnErr result (IsCopied indent.now) }
+{
+    let mut config = config_of(options);
+    if !is_default(indent) {
+        config.indent_text(String::from_str(alloc, indent)?);
+    }
+    Ok(config)
+}
+
+/// Prints to a printer over a buffer, to which nothing was printed.
+fn print_to(
+    alloc: Global,
+    config: &Config,
+    wasm: &[u8],
+    copier: &mut Copier<'_>,
+) -> Result<(), Error>
+    requires no_text { copier.old.written ≡ 0 }
+    requires no_line { copier.old.count ≡ 0 }
+    ensures same_buffer { copier.new.out.ghost_name ≡ copier.old.out.ghost_name }
+    ensures same_table { copier.new.lines.ghost_name ≡ copier.old.lines.ghost_name }
+    ensures printed { OnOk result (HasLinesOver config.now wasm.now copier.old.out.now copier.new.out.now
+        copier.old.lines.now copier.new.lines.now copier.new.written copier.new.count) }
+    ensures caused { IfErr result (HasBufferCause config.now wasm.now) }
+    ensures refused { IfErr result (IsTrueOf config.now wasm.now) }
+    ensures left { IfErr result (λ e. LeavesBuffer config.now wasm.now e copier.old.out.now copier.new.out.now) }
+    ensures component { IsErrOf result Error.Component ↔ IsComponent wasm.now }
+{
+    config.print(alloc, wasm, copier)
+}
+
+/// Prints what fits, and returns how long the whole text is and how many lines it has.
+fn print_over(
+    alloc: Global,
+    config: &Config,
+    wasm: &[u8],
+    out: &mut [u8],
+    lines: &mut [WasmprinterLine],
+) -> Result<Extent, Error>
+    ensures printed { IfOk result (λ x. HasLinesOver config.now wasm.now out.old out.new lines.old lines.new x.length x.count) }
+    ensures caused { IfErr result (HasBufferCause config.now wasm.now) }
+    ensures refused { IfErr result (IsTrueOf config.now wasm.now) }
+    ensures left { IfErr result (λ e. LeavesBuffer config.now wasm.now e out.old out.new) }
+    ensures component { IsErrOf result Error.Component ↔ IsComponent wasm.now }
+{
+    let mut copier = Copier::new(out, lines);
+    print_to(alloc, config, wasm, &mut copier)?;
+    Ok(Extent {
+        length: copier.length(),
+        count: copier.count(),
+    })
+}
+
+/// Returns the outcome of an error.
+fn refused(error: &Error) -> Outcome
+    ensures { result ≡ record { status = number_of error.now; length = 0; count = 0; detail = detail_in error.now } }
+{
+    Outcome {
+        status: status_of(error),
+        length: 0,
+        count: 0,
+        detail: detail_of(error),
+    }
+}
+
+/// Prints a module by these options, as much of its text and of its lines as fits. A component is reported before a wrong indent.
+fn print_by(
+    alloc: Global,
+    wasm: &[u8],
+    options: &WasmprinterOptions,
+    indent: &[u8],
+    out: &mut [u8],
+    lines: &mut [WasmprinterLine],
+) -> Outcome
+    ensures { IsOutcome (chosen options.now indent.now) wasm.now out.old out.new lines.old lines.new
+        result.status result.length result.count result.detail }
+{
+    if is_component(wasm) {
+        return refused(&Error::Component);
+    }
+    let Ok(indent) = str::from_utf8(indent) else {
+        return Outcome {
+            status: BAD_INDENT,
+            length: 0,
+            count: 0,
+            detail: 0,
+        };
+    };
+    let Ok(config) = indented(alloc, options, indent) else {
+        return refused(&Error::Memory);
+    };
+    match print_over(alloc, &config, wasm, out, lines) {
+        Ok(extent) => Outcome {
+            status: PRINTED,
+            length: extent.length,
+            count: extent.count,
+            detail: 0,
+        },
+        Err(error) => refused(&error),
+    }
+}
+
+/// Prints the text of a module in the binary format over `out`, as much of it as fits, and stores the length of the whole text.
+#[unsafe(no_mangle)]
+pub extern "C" fn wasmprinter_print(
+    alloc: Global,
+    wasm: &[u8],
+    options: &WasmprinterOptions,
+    indent: &[u8],
+    out: &mut [u8],
+    length: &mut usize,
+    detail: &mut u64,
+) -> u32
+    ensures printed { result ≡ 0 → HasTextOver (chosen options.now indent.now) wasm.now out.old out.new length.new }
+    ensures refused { ¬ (result ≡ 0) → ¬ (result ≡ 12) →
+        IsRefusedWith (chosen options.now indent.now) wasm.now out.old out.new result length.new 0 detail.new }
+    ensures component { result ≡ 2 ↔ IsComponent wasm.now }
+    ensures wrong_indent { result ≡ 12 ↔ ((¬ IsComponent wasm.now) × (¬ IsUtf8 indent.now)) }
+    ensures untouched { result ≡ 12 → (out.new ≡ out.old) × (length.new ≡ 0) }
+{
+    let outcome = print_by(alloc, wasm, options, indent, out, &mut []);
+    *length = outcome.length;
+    *detail = outcome.detail;
+    outcome.status
+}
+
+/// Does the same, writes the entries of the lines over `lines`, as many as fit, and stores their number.
+#[unsafe(no_mangle)]
+pub extern "C" fn wasmprinter_print_lines(
+    alloc: Global,
+    wasm: &[u8],
+    options: &WasmprinterOptions,
+    indent: &[u8],
+    out: &mut [u8],
+    lines: &mut [WasmprinterLine],
+    length: &mut usize,
+    count: &mut usize,
+    detail: &mut u64,
+) -> u32
+    ensures printed { result ≡ 0 →
+        HasLinesOver (chosen options.now indent.now) wasm.now out.old out.new lines.old lines.new length.new count.new }
+    ensures refused { ¬ (result ≡ 0) → ¬ (result ≡ 12) →
+        IsRefusedWith (chosen options.now indent.now) wasm.now out.old out.new result length.new count.new detail.new }
+    ensures component { result ≡ 2 ↔ IsComponent wasm.now }
+    ensures wrong_indent { result ≡ 12 ↔ ((¬ IsComponent wasm.now) × (¬ IsUtf8 indent.now)) }
+    ensures untouched { result ≡ 12 → (out.new ≡ out.old) × (length.new ≡ 0) × (count.new ≡ 0) }
+{
+    let outcome = print_by(alloc, wasm, options, indent, out, lines);
+    *length = outcome.length;
+    *count = outcome.count;
+    *detail = outcome.detail;
+    outcome.status
+}
+
+/// Writes the description of a status with its detail to a printer over a buffer, to which nothing was printed.
+fn write_description(copier: &mut Copier<'_>, status: u32, detail: u64)
+    requires no_text { copier.old.written ≡ 0 }
+    requires no_line { copier.old.count ≡ 0 }
+    ensures same_buffer { copier.new.out.ghost_name ≡ copier.old.out.ghost_name }
+    ensures same_table { copier.new.lines.ghost_name ≡ copier.old.lines.ghost_name }
+    ensures copied { copier.new.out.now ≡ over (message status detail) copier.old.out.now }
+    ensures counted { copier.new.written ≡ length (message status detail) }
+{
+    // It can't fail: a description is shorter than `usize::MAX`.
+    let _ = describe(copier, status, detail);
+}
+
+/// Writes the description of a status with its detail over `out`, as much of it as fits, and returns the length of the whole description.
+#[unsafe(no_mangle)]
+pub extern "C" fn wasmprinter_error_text(status: u32, detail: u64, out: &mut [u8]) -> usize
+    ensures whole { result ≡ length (message status detail) }
+    ensures copied { out.new ≡ over (message status detail) out.old }
+{
+    let mut copier = Copier::new(out, &mut []);
+    write_description(&mut copier, status, detail);
+    copier.length()
+}
+
+/// Returns the version of the library: the major number times 1,000,000, the minor number times 1,000, and the patch number.
+#[unsafe(no_mangle)]
+pub extern "C" fn wasmprinter_version() -> u32
+    ensures { result ≡ 263000 }
+{
+    VERSION
+}
