@@ -289,25 +289,28 @@ fn branch_tables_are_walked(rt: HostRuntime) -> Result<(), Fail> {
     )
 }
 
-/// Bytes that spell no operator.
-const REFUSED: [&[u8]; 7] = [
-    &[0xff],
-    &[0xfc, 0x12],
+/// Bytes that spell no operator, each with the place of the fault.
+const REFUSED: [(&[u8], u64); 7] = [
+    (&[0xff], 0),
+    (&[0xfc, 0x12], 0),
     // a block type that is negative, or that wants 34 bits
-    &[0x02, 0x41],
-    &[0x02, 0x80, 0x80, 0x80, 0x80, 0x10],
+    (&[0x02, 0x41], 1),
+    (&[0x02, 0x80, 0x80, 0x80, 0x80, 0x10], 5),
     // a fifth kind of catch clause
-    &[0x1f, 0x40, 0x01, 0x04, 0x00],
+    (&[0x1f, 0x40, 0x01, 0x04, 0x00], 3),
     // counts of 2^32 - 1 with nothing behind them, of labels and of clauses
-    &[0x0e, 0xff, 0xff, 0xff, 0xff, 0x0f],
-    &[0x1f, 0x40, 0xff, 0xff, 0xff, 0xff, 0x0f],
+    (&[0x0e, 0xff, 0xff, 0xff, 0xff, 0x0f], 6),
+    (&[0x1f, 0x40, 0xff, 0xff, 0xff, 0xff, 0x0f], 7),
 ];
 
 #[test]
 fn other_operators_are_refused(rt: HostRuntime) {
-    for (row, bytes) in REFUSED.iter().enumerate() {
+    for (row, (bytes, place)) in REFUSED.iter().enumerate() {
         let found = read_operator(&mut Cursor::new(0, *bytes));
-        assert!(rt; found.is_err(), "row {row}");
+        assert!(rt;
+            matches!(found, Err(fault) if fault.place == *place),
+            "row {row}"
+        );
     }
 }
 
@@ -358,11 +361,31 @@ fn nested_blocks(alloc: Global) -> Result<Vec<u8>, AllocError> {
     Ok(bytes)
 }
 
+/// Whether the next 100,000 operators have this opcode of one byte, the first of them at this place, and the others at these distances.
+fn go_on_with(operators: &mut OperatorsReader, number: u32, first: u64, step: u64) -> bool {
+    let mut place = first;
+    for _ in 0..100_000 {
+        match operators.next() {
+            Some((found, operator))
+                if found == place
+                    && operator.opcode.prefix == 0
+                    && operator.opcode.number == number => {}
+            _ => return false,
+        }
+        place = place.saturating_add(step);
+    }
+    true
+}
+
 #[test]
 fn blocks_nest_deep(rt: HostRuntime) -> Result<(), Fail> {
     let bytes = nested_blocks(rt.alloc())?;
     let expression = Expression::read(rt.alloc(), &mut Cursor::new(0, &bytes))?;
-    assert!(rt; expression.end() == 300_000 && expression.operators().count() == 200_000);
+    assert!(rt; expression.end() == 300_000);
+    let mut operators = expression.operators();
+    assert!(rt; go_on_with(&mut operators, 0x02, 0, 2));
+    assert!(rt; go_on_with(&mut operators, 0x0b, 200_000, 1));
+    assert!(rt; operators.next().is_none());
     Ok(())
 }
 
