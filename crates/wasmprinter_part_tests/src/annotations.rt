@@ -53,12 +53,6 @@ impl<'a> Taker<'a> {
         Ok(())
     }
 
-    /// Whether the text of a section says that it failed to parse it.
-    fn fails_at(&mut self, section: &CustomEntry) -> bool {
-        let result = write_custom(self, &PrintOptions::new(), section);
-        matches!(result, Ok(_)) && self.text.as_str().contains(";; failed")
-    }
-
     /// Whether it was asked for these sections, and wrote this text.
     fn has(&self, asked: &str, text: &str) -> bool {
         self.asked.as_str() == asked && self.text.as_str() == text
@@ -189,12 +183,6 @@ fn expect_first(alloc: Global, bytes: &[u8], typed: &str) -> Result<(), Fail> {
     expect_section(alloc, &PrintOptions::new(), None, bytes, typed)
 }
 
-/// Whether the text says that it failed to parse the section of these bytes.
-fn is_failed(alloc: Global, bytes: &[u8]) -> Result<bool, Fail> {
-    let section = entry(None, bytes)?;
-    Ok(Taker::new(alloc, &[]).fails_at(&section))
-}
-
 #[test]
 fn raw_sections_stand_as_they_are(rt: HostRuntime) -> Result<(), Fail> {
     expect_first(
@@ -274,9 +262,18 @@ fn producers_have_lines(rt: HostRuntime) -> Result<(), Fail> {
 
 #[test]
 fn faulted_producers_have_none(rt: HostRuntime) -> Result<(), Fail> {
-    assert!(rt; is_failed(rt.alloc(), b"\x09producers\x00\x01")?);
-    assert!(rt; is_failed(rt.alloc(), b"\x09producers\x01\x01")?);
-    Ok(())
+    expect_first(
+        rt.alloc(),
+        b"\x09producers\x00\x01",
+        "\n  ;; failed to parse custom section `producers`\
+         \n  (@custom \"producers\" (before first) \"\\00\\01\")",
+    )?;
+    expect_first(
+        rt.alloc(),
+        b"\x09producers\x01\x01",
+        "\n  ;; failed to parse custom section `producers`\
+         \n  (@custom \"producers\" (before first) \"\\01\\01\")",
+    )
 }
 
 #[test]
@@ -386,7 +383,8 @@ fn a_section_among_others_is_refused(rt: HostRuntime) -> Result<(), Fail> {
     let customs = entries_of(rt.alloc(), FIVE)?;
     let mut printer = Taker::new(rt.alloc(), &[]);
     assert!(rt; printer.refuses_one_of(&customs, Some(SectionKind::Code)));
-    assert!(rt; printer.asked.as_str() == "[c 0x12 0][dylink.0 0x19 2]");
+    let first = "\n  (@custom \"c\" (after code) \"\")";
+    assert!(rt; printer.has("[c 0x12 0][dylink.0 0x19 2]", first));
     Ok(())
 }
 

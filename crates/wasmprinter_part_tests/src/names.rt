@@ -252,9 +252,15 @@ fn assert_identified(rt: &impl Abort, names: &Names, items: &[Identified]) {
     }
 }
 
-/// Whether the module has an identifier.
-fn is_module_identified(names: &Names, invents: bool) -> bool {
-    Identifiers { names, invents }.module().is_some()
+/// The identifier `m` by a name.
+const MODULE: Identifier<'static> = Identifier::Given(Name {
+    given: "m",
+    content: "m",
+});
+
+/// Whether this is the identifier of the module.
+fn is_module_identified(names: &Names, invents: bool, wanted: Option<Identifier>) -> bool {
+    Identifiers { names, invents }.module() == wanted
 }
 
 #[test]
@@ -262,7 +268,7 @@ fn identifiers_are_given_or_made_up(rt: HostRuntime) -> Result<(), Fail> {
     // the module is `m`; function 0 is called `f`
     let names = names_of(rt.alloc(), &[b"\x00\x02\x01m\x01\x04\x01\x00\x01f"])?;
     assert_identified(&rt, &names, &IDENTIFIED);
-    assert!(rt; is_module_identified(&names, false));
+    assert!(rt; is_module_identified(&names, false, Some(MODULE)));
     Ok(())
 }
 
@@ -276,7 +282,7 @@ fn spaces_have_words(rt: HostRuntime) -> Result<(), Fail> {
 #[test]
 fn no_identifier_is_made_up_for_a_module(rt: HostRuntime) -> Result<(), Fail> {
     let names = names_of(rt.alloc(), &[])?;
-    assert!(rt; !is_module_identified(&names, true));
+    assert!(rt; is_module_identified(&names, true, None));
     Ok(())
 }
 
@@ -471,54 +477,57 @@ fn subsection_of(alloc: Global, id: u8, content: &[u8]) -> Result<Vec<u8>, Error
     Ok(subsection)
 }
 
-/// Whether a section is taken without an error, and gives the module no name.
-fn names_no_module(alloc: Global, section: &[u8]) -> Result<bool, Error> {
-    let names = names_of(alloc, &[section])?;
-    Ok(names.module() == None)
-}
+/// A space, the id of its subsection, and the identifier of the last item.
+type Last = (Space, u8, &'static str);
 
-/// Whether a subsection of this number and content is taken so.
-fn is_read(alloc: Global, id: u8, content: &[u8]) -> Result<bool, Error> {
-    let bytes = subsection_of(alloc, id, content)?;
-    names_no_module(alloc, &bytes)
-}
-
-/// Whether a subsection of each of these numbers, with this content, is taken so.
-fn is_read_in_all(alloc: Global, ids: &[u8], content: &[u8]) -> Result<bool, Error> {
-    for id in ids {
-        if !is_read(alloc, *id, content)? {
-            return Ok(false);
-        }
-    }
-    Ok(true)
-}
-
-/// The last of 300 functions `a`, and the first.
-const MANY: [Item; 3] = [
-    (Space::Func, 0, 0, Some("a")),
-    (Space::Func, 0, 299, Some("#func299 a")),
-    (Space::Func, 0, 300, None),
+/// Each space whose items are named by their index alone, where 300 items are called `a`.
+const LAST_OF_300: [Last; 8] = [
+    (Space::Func, 1, "#func299 a"),
+    (Space::Types, 4, "#type299 a"),
+    (Space::Table, 5, "#table299 a"),
+    (Space::Memory, 6, "#memory299 a"),
+    (Space::Global, 7, "#global299 a"),
+    (Space::Elem, 8, "#elem299 a"),
+    (Space::Data, 9, "#data299 a"),
+    (Space::Tag, 11, "#tag299 a"),
 ];
 
 #[test]
 fn many_names_are_kept(rt: HostRuntime) -> Result<(), Fail> {
     let map = map_of(rt.alloc(), 300)?;
-    assert!(rt; is_read_in_all(rt.alloc(), &[1, 4, 5, 6, 7, 8, 9, 11], &map)?);
-    let bytes = subsection_of(rt.alloc(), 1, &map)?;
-    assert_names(&rt, rt.alloc(), &[&bytes], None, &MANY)
+    for (space, id, last) in LAST_OF_300 {
+        let section = subsection_of(rt.alloc(), id, &map)?;
+        let items = [
+            (space, 0, 0, Some("a")),
+            (space, 0, 299, Some(last)),
+            (space, 0, 300, None),
+        ];
+        assert_names(&rt, rt.alloc(), &[&section], None, &items)?;
+    }
+    Ok(())
 }
 
-/// Locals of the last of 40 functions, each with 20 locals `a`.
-const MANY_IN_FUNCTIONS: [Item; 3] = [
-    (Space::Local, 39, 0, Some("a")),
-    (Space::Local, 39, 19, Some("#local19 a")),
-    (Space::Local, 40, 0, None),
+/// Each space whose items belong to a function or a type, where 20 items of each are called `a`. Labels may have the same name.
+const LAST_OF_20: [Last; 3] = [
+    (Space::Local, 2, "#local19 a"),
+    (Space::Label, 3, "a"),
+    (Space::Field, 10, "#field19 a"),
 ];
 
 #[test]
 fn many_names_of_many_functions_are_kept(rt: HostRuntime) -> Result<(), Fail> {
     let maps = maps_of(rt.alloc(), &map_of(rt.alloc(), 20)?)?;
-    assert!(rt; is_read_in_all(rt.alloc(), &[2, 3, 10], &maps)?);
-    let bytes = subsection_of(rt.alloc(), 2, &maps)?;
-    assert_names(&rt, rt.alloc(), &[&bytes], None, &MANY_IN_FUNCTIONS)
+    for (space, id, last) in LAST_OF_20 {
+        let section = subsection_of(rt.alloc(), id, &maps)?;
+        let items = [
+            (space, 0, 0, Some("a")),
+            (space, 0, 19, Some(last)),
+            (space, 0, 20, None),
+            (space, 39, 0, Some("a")),
+            (space, 39, 19, Some(last)),
+            (space, 40, 0, None),
+        ];
+        assert_names(&rt, rt.alloc(), &[&section], None, &items)?;
+    }
+    Ok(())
 }
