@@ -59,33 +59,17 @@ const BODIES: [(&[u8], &str); 8] = [
     (&[0x0c, 0x01], "    (br 1 (; INVALID ;))\n"),
 ];
 
-/// The text of a module, folded and in colours.
-fn text_in_colors(alloc: Global, wasm: &[u8]) -> Result<Vec<u8>, Error> {
-    folding().print_to_ansi(alloc, wasm)
-}
-
-/// Whether the text of a module in colours, folded, is the typed one.
-fn is_in_colors(alloc: Global, wasm: &[u8], typed: &str) -> Result<bool, Error> {
-    let text = text_in_colors(alloc, wasm)?;
+/// Whether the text of a module in colours, by these options, is the typed one.
+fn is_in_colors(alloc: Global, config: &Config, wasm: &[u8], typed: &str) -> Result<bool, Error> {
+    let text = config.print_to_ansi(alloc, wasm)?;
     Ok(text.as_slice() == typed.as_bytes())
-}
-
-/// Whether the text of a module in colours, folded, begins and ends so.
-fn is_in_colors_between(
-    alloc: Global,
-    wasm: &[u8],
-    beginning: &[u8],
-    end: &[u8],
-) -> Result<bool, Error> {
-    let text = text_in_colors(alloc, wasm)?;
-    Ok(text.starts_with(beginning) && text.ends_with(end))
 }
 
 /// Whether a body with these operators is printed by these lines.
 fn is_body_in_colors(alloc: Global, operators: &[u8], lines: &str) -> Result<bool, Fail> {
     let wasm = with_body(alloc, &NO_PARAMS, operators)?;
     let typed = around(alloc, HEADER, lines)?;
-    Ok(is_in_colors(alloc, &wasm, typed.as_str())?)
+    Ok(is_in_colors(alloc, &folding(), &wasm, typed.as_str())?)
 }
 
 #[test]
@@ -99,15 +83,18 @@ fn colors_nodes_as_operators(rt: HostRuntime) -> Result<(), Fail> {
 /// The data of a hint section: one of function 0, of the operator at its first byte.
 const HINT: [u8; 6] = [0x01, 0x00, 0x01, 0x01, 0x01, 0x01];
 
-/// The end of a body in colours, an `if` with a hint.
-const HINTED: &[u8] = b"\n    (@metadata.code.branch_hint \"\\01\")\n    \
-(if \x1b[0m\x1b[36m;; label = @1\x1b[0m\n      (then))\n  )\n)\n";
+/// The lines of a body in colours, an `if` with a hint.
+const HINTED: &str = "    (@metadata.code.branch_hint \"\\01\")
+    (if \x1b[0m\x1b[36m;; label = @1\x1b[0m
+      (then))
+";
 
 #[test]
 fn colors_no_hint(rt: HostRuntime) -> Result<(), Fail> {
     let alloc = rt.alloc();
     let wasm = with_hints(alloc, &NO_PARAMS, &HINT, &[0x04, 0x40, 0x0b])?;
-    assert!(rt; is_in_colors_between(alloc, &wasm, HEADER.as_bytes(), HINTED)?);
+    let typed = around(alloc, HEADER, HINTED)?;
+    assert!(rt; is_in_colors(alloc, &folding(), &wasm, typed.as_str())?);
     Ok(())
 }
 
@@ -139,23 +126,21 @@ const EXPRESSIONS_IN_COLORS: &str = "(\x1b[0m\x1b[1m\x1b[38;5;11mmodule\x1b[0m
 #[test]
 fn colors_expressions(rt: HostRuntime) -> Result<(), Fail> {
     let wasm = with_sections(rt.alloc(), &EXPRESSIONS)?;
-    assert!(rt; is_in_colors(rt.alloc(), &wasm, EXPRESSIONS_IN_COLORS)?);
+    assert!(rt; is_in_colors(rt.alloc(), &folding(), &wasm, EXPRESSIONS_IN_COLORS)?);
     Ok(())
 }
 
-/// The end of a module in colours and with places.
-const PLACED: &[u8] = b"
+/// A module in colours and with places.
+const PLACED: &str = "(\x1b[0m\x1b[1m\x1b[38;5;11mmodule\x1b[0m
+\x1b[0m\x1b[36m(;@b     ;)\x1b[0m  (\x1b[0m\x1b[1m\x1b[38;5;11mtype \x1b[0m\x1b[0m\x1b[35m(;0;)\x1b[0m \
+(\x1b[0m\x1b[1m\x1b[38;5;11mfunc\x1b[0m))
+\x1b[0m\x1b[36m(;@16    ;)\x1b[0m  (\x1b[0m\x1b[1m\x1b[38;5;11mfunc \x1b[0m\x1b[0m\x1b[35m(;0;)\x1b[0m \
+(\x1b[0m\x1b[1m\x1b[38;5;11mtype \x1b[0m\x1b[0m\x1b[35m0\x1b[0m)
 \x1b[0m\x1b[36m(;@19    ;)\x1b[0m    (drop
 \x1b[0m\x1b[36m(;@17    ;)\x1b[0m      (i32.const\x1b[0m\x1b[31m 1\x1b[0m))
 \x1b[0m\x1b[36m(;@1a    ;)\x1b[0m  )
 \x1b[0m\x1b[36m(;@1b    ;)\x1b[0m)
 ";
-
-/// Whether the text of a module in colours ends so, by these options.
-fn ends_in_colors(alloc: Global, config: &Config, wasm: &[u8], end: &[u8]) -> Result<bool, Error> {
-    let text = config.print_to_ansi(alloc, wasm)?;
-    Ok(text.ends_with(end))
-}
 
 #[test]
 fn colors_places(rt: HostRuntime) -> Result<(), Fail> {
@@ -163,6 +148,6 @@ fn colors_places(rt: HostRuntime) -> Result<(), Fail> {
     let wasm = with_body(alloc, &NO_PARAMS, &[0x41, 0x01, 0x1a])?;
     let mut config = folding();
     config.print_offsets(true);
-    assert!(rt; ends_in_colors(alloc, &config, &wasm, PLACED)?);
+    assert!(rt; is_in_colors(alloc, &config, &wasm, PLACED)?);
     Ok(())
 }

@@ -2,8 +2,8 @@
 //! operators that have no node of their own, or whose node a hint can't stand in front of, which are refused.
 
 use crate::modules::{
-    Refusal, expect_body, expect_folded, expect_printed, expect_refusal, folded_text, folding,
-    is_text_refused, with_hints,
+    Refusal, expect_body, expect_folded, expect_printed, expect_refusal, folding, is_text_refused,
+    with_hints,
 };
 use std::alloc::{AllocError, Global};
 use std::test::Fail;
@@ -142,11 +142,52 @@ const EACH_KIND: [u8; 16] = [
     0x02, 0x40, 0x0b, 0x03, 0x40, 0x0b, 0x1f, 0x40, 0x00, 0x0b, 0x41, 0x00, 0x04, 0x40, 0x05, 0x0b,
 ];
 
+/// Their text without a hint.
+const UNHINTED: &str = r#"    (block ;; label = @1
+    )
+    (loop ;; label = @1
+    )
+    (try_table ;; label = @1
+    )
+    (if ;; label = @1
+      (i32.const 0)
+      (then)
+      (else))
+"#;
+
+/// Their text with a hint of the constant.
+const CONSTANT_HINTED: &str = r#"    (block ;; label = @1
+    )
+    (loop ;; label = @1
+    )
+    (try_table ;; label = @1
+    )
+    (if ;; label = @1
+      (@metadata.code.branch_hint "\01")
+      (i32.const 0)
+      (then)
+      (else))
+"#;
+
+/// Their text with a hint of the `if`.
+const IF_HINTED: &str = r#"    (block ;; label = @1
+    )
+    (loop ;; label = @1
+    )
+    (try_table ;; label = @1
+    )
+    (@metadata.code.branch_hint "\01")
+    (if ;; label = @1
+      (i32.const 0)
+      (then)
+      (else))
+"#;
+
 /// Where a block, a loop and a `try_table` stand, their ends, and the `else` and `end` of the `if`.
 const OF_BLOCKS: [u8; 8] = [1, 3, 4, 6, 7, 10, 15, 16];
 
-/// Where the constant stands, the `if`, and the last `end`.
-const OF_OTHERS: [u8; 3] = [11, 13, 17];
+/// The offsets of the constant, the `if` and the last `end`, each with the text for a hint at it.
+const OF_OTHERS: [(u8, &str); 3] = [(11, CONSTANT_HINTED), (13, IF_HINTED), (17, UNHINTED)];
 
 /// Whether blocks of each kind are refused for a hint at this place, where this is the data of their hints.
 fn is_hint_refused(alloc: Global, data: &[u8], place: u64) -> Result<bool, AllocError> {
@@ -154,10 +195,10 @@ fn is_hint_refused(alloc: Global, data: &[u8], place: u64) -> Result<bool, Alloc
     Ok(is_text_refused(alloc, &folding(), &wasm, Refusal::Hint(place)))
 }
 
-/// Whether blocks of each kind are printed where this is the data of their hints.
-fn are_hints_printed(alloc: Global, data: &[u8]) -> Result<bool, AllocError> {
+/// Checks that blocks of each kind are printed by these lines, if this is the data of their hints.
+fn expect_kinds(alloc: Global, data: &[u8], lines: &str) -> Result<(), Fail> {
     let wasm = module_with_hints(alloc, data, &EACH_KIND)?;
-    Ok(folded_text(alloc, &wasm).is_ok())
+    expect_body(alloc, &wasm, ONE_PARAM_HEADER, lines)
 }
 
 /// Where the constant stands, whose hint is printed.
@@ -168,27 +209,29 @@ fn hint_at(offset: u8) -> [u8; 6] {
     [0x01, 0x00, 0x01, offset, 0x01, 0x01]
 }
 
-/// Whether a hint of the operator at this byte is refused alone, and behind one of the constant if it stands behind the constant.
-fn is_refused_at(alloc: Global, offset: u8) -> Result<bool, AllocError> {
-    let second = [0x01, 0x00, 0x02, CONSTANT, 0x01, 0x01, offset, 0x01, 0x01];
-    let is_judged_second = if offset < CONSTANT {
-        are_hints_printed(alloc, &second)?
-    } else {
-        is_hint_refused(alloc, &second, 0x35)?
-    };
-    Ok(is_judged_second && is_hint_refused(alloc, &hint_at(offset), 0x32)?)
+/// The data of a hint of the constant, followed by a hint of the operator at this byte.
+fn hints_at_constant_and(offset: u8) -> [u8; 9] {
+    [0x01, 0x00, 0x02, CONSTANT, 0x01, 0x01, offset, 0x01, 0x01]
 }
 
+/// After the hint of the constant, a hint of an earlier operator is never reached.
 #[test]
 fn refuses_hints_of_blocks_and_of_their_ends(rt: HostRuntime) -> Result<(), Fail> {
-    for offset in &OF_BLOCKS {
-        assert!(rt; is_refused_at(rt.alloc(), *offset)?, "at {offset}");
-    }
-    for offset in &OF_OTHERS {
+    let alloc = rt.alloc();
+    for offset in OF_BLOCKS {
         assert!(rt;
-            are_hints_printed(rt.alloc(), &hint_at(*offset))?,
+            is_hint_refused(alloc, &hint_at(offset), 0x32)?,
             "at {offset}"
         );
+        let second = hints_at_constant_and(offset);
+        if offset < CONSTANT {
+            expect_kinds(alloc, &second, CONSTANT_HINTED)?;
+        } else {
+            assert!(rt; is_hint_refused(alloc, &second, 0x35)?, "at {offset}");
+        }
+    }
+    for (offset, lines) in OF_OTHERS {
+        expect_kinds(alloc, &hint_at(offset), lines)?;
     }
     Ok(())
 }

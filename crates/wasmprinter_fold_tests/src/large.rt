@@ -4,14 +4,16 @@ use crate::modules::folded_text;
 use std::alloc::{AllocError, Global};
 use std::test::Fail;
 use wasmprinter::print_bytes;
-use wasmprinter_samples::PREAMBLE;
+use wasmprinter_samples::{PREAMBLE, expect_text};
 
 /// How many operators of a kind a body has.
 const MANY: u32 = 100_000;
 
-/// A hundred blanks, as far as lines are indented.
-const MOST_BLANKS: &str =
-    "                                                                                                    ";
+/// The levels by which a line is indented at most.
+const MOST_LEVELS: u32 = 50;
+
+/// The nesting depth of a body's outermost nodes.
+const BODY_DEPTH: u32 = 2;
 
 /// A module with a function of no parameters and results, up to its code section.
 const WITHOUT_CODE: [u8; 18] = [
@@ -52,15 +54,33 @@ fn folded_runs(alloc: Global, runs: &[Run]) -> Result<String, Fail> {
     Ok(folded_text(alloc, &wasm)?)
 }
 
-/// Whether a text holds each of these parts so often.
-fn holds(text: &str, parts: &[(&str, usize)]) -> bool {
-    for (part, count) in parts {
-        if text.matches(*part).count() != *count {
-            return false;
-        }
+/// Appends a line feed, and the indent at this depth below the body's outermost nodes.
+fn start_line(text: &mut String, depth: u32) -> Result<(), AllocError> {
+    text.push('\n')?;
+    for _ in 0..depth.saturating_add(BODY_DEPTH).min(MOST_LEVELS) {
+        text.push_str("  ")?;
     }
-    true
+    Ok(())
 }
+
+/// Appends a text this many times.
+fn push_times(text: &mut String, part: &str, count: u32) -> Result<(), AllocError> {
+    for _ in 0..count {
+        text.push_str(part)?;
+    }
+    Ok(())
+}
+
+/// Returns the beginning of the text of a module with a function of no parameters and results, up to its body.
+fn up_to_body(alloc: Global) -> Result<String, AllocError> {
+    String::from_str(
+        alloc,
+        "(module\n  (type (;0;) (func))\n  (func (;0;) (type 0)",
+    )
+}
+
+/// What follows the body.
+const AFTER_BODY: &str = "\n  )\n)\n";
 
 /// The header of a code section of 100,008 bytes with a body of 100,004, and a constant.
 const CONSTANT: [u8; 11] = [
@@ -75,28 +95,24 @@ const CHAIN: [Run; 4] = [
     (&[0x0b], 1),
 ];
 
-/// What stands in the text of those.
-const CHAIN_PARTS: [(&str, usize); 3] = [
-    ("(i32.eqz", 100_000),
-    // three lines in front, one for each node, and two behind
-    ("\n", 100_006),
-    // seven outside of the nodes
-    (")", 100_008),
-];
-
-/// Whether the constant's line is indented as far as lines are.
-fn has_innermost_constant(alloc: Global, text: &str) -> Result<bool, AllocError> {
-    let innermost = format!(in alloc; "\n{MOST_BLANKS}(i32.const 0))))")?;
-    Ok(text.contains(innermost.as_str()))
+/// The text of that module.
+fn chain_text(alloc: Global) -> Result<String, AllocError> {
+    let mut text = up_to_body(alloc)?;
+    for depth in 0..MANY {
+        start_line(&mut text, depth)?;
+        text.push_str("(i32.eqz")?;
+    }
+    start_line(&mut text, MANY)?;
+    text.push_str("(i32.const 0)")?;
+    push_times(&mut text, ")", MANY)?;
+    text.push_str(AFTER_BODY)?;
+    Ok(text)
 }
 
 #[test]
 fn folds_a_long_chain(rt: HostRuntime) -> Result<(), Fail> {
-    let alloc = rt.alloc();
-    let text = folded_runs(alloc, &CHAIN)?;
-    assert!(rt; holds(text.as_str(), &CHAIN_PARTS));
-    assert!(rt; has_innermost_constant(alloc, text.as_str())?);
-    assert!(rt; text.as_str().ends_with("))))\n  )\n)\n"));
+    let text = folded_runs(rt.alloc(), &CHAIN)?;
+    expect_text(text.as_str(), chain_text(rt.alloc())?.as_str())?;
     Ok(())
 }
 
@@ -108,18 +124,20 @@ const SIBLINGS: [Run; 4] = [
     (&[0x1a, 0x0b], 1),
 ];
 
-/// Whether those stand in the text behind the constant.
-fn are_siblings(text: &str) -> bool {
-    text.matches("\n      (nop)").count() == 99_999
-        && text.contains("\n    (drop\n      (i32.const 0)\n      (nop)\n")
-        && text.ends_with("\n      (nop)\n      (nop))\n  )\n)\n")
+/// The text of that module.
+fn siblings_text(alloc: Global) -> Result<String, AllocError> {
+    let mut text = up_to_body(alloc)?;
+    text.push_str("\n    (drop\n      (i32.const 0)")?;
+    push_times(&mut text, "\n      (nop)", MANY - 1)?;
+    text.push(')')?;
+    text.push_str(AFTER_BODY)?;
+    Ok(text)
 }
 
 #[test]
 fn folds_many_siblings(rt: HostRuntime) -> Result<(), Fail> {
-    let alloc = rt.alloc();
-    let text = folded_runs(alloc, &SIBLINGS)?;
-    assert!(rt; are_siblings(text.as_str()));
+    let text = folded_runs(rt.alloc(), &SIBLINGS)?;
+    expect_text(text.as_str(), siblings_text(rt.alloc())?.as_str())?;
     Ok(())
 }
 
@@ -133,36 +151,23 @@ const NESTED: [Run; 5] = [
     (&[0x0b], 1),
 ];
 
-/// What stands in the text of those.
-const NESTED_PARTS: [(&str, usize); 3] = [
-    ("(block ;; label = @", 100_000),
-    // three lines in front, one for each block, one within the innermost, and two behind
-    ("\n", 100_006),
-    // seven outside of the blocks
-    (")", 100_007),
-];
-
-/// Whether the innermost block is indented as far as lines are.
-fn has_innermost_block(alloc: Global, text: &str) -> Result<bool, AllocError> {
-    let innermost = format!(in alloc;
-        "\n{MOST_BLANKS}(block ;; label = @100000\n{MOST_BLANKS}))))"
-    )?;
-    Ok(text.contains(innermost.as_str()))
-}
-
-/// Whether a line is indented farther.
-fn has_farther_line(alloc: Global, text: &str) -> Result<bool, AllocError> {
-    let farther = format!(in alloc; "\n{MOST_BLANKS} ")?;
-    Ok(text.contains(farther.as_str()))
+/// The text of that module. The comment of the innermost block's label would hide a parenthesis on its line.
+fn nested_text(alloc: Global) -> Result<String, AllocError> {
+    let mut text = up_to_body(alloc)?;
+    for depth in 0..MANY {
+        start_line(&mut text, depth)?;
+        write!(text, "(block ;; label = @{}", depth.saturating_add(1))?;
+    }
+    start_line(&mut text, MANY - 1)?;
+    push_times(&mut text, ")", MANY)?;
+    text.push_str(AFTER_BODY)?;
+    Ok(text)
 }
 
 #[test]
 fn folds_deep_nesting(rt: HostRuntime) -> Result<(), Fail> {
-    let alloc = rt.alloc();
-    let text = folded_runs(alloc, &NESTED)?;
-    assert!(rt; holds(text.as_str(), &NESTED_PARTS));
-    assert!(rt; has_innermost_block(alloc, text.as_str())?);
-    assert!(rt; !has_farther_line(alloc, text.as_str())?);
+    let text = folded_runs(rt.alloc(), &NESTED)?;
+    expect_text(text.as_str(), nested_text(rt.alloc())?.as_str())?;
     Ok(())
 }
 
@@ -190,9 +195,8 @@ const MANY_BODIES: [Run; 8] = [
     (&BODY, BODIES),
 ];
 
-/// The last function, folded.
-const LAST_FOLDED: &str = r#"
-  (func (;19999;) (type 0)
+/// A body, folded.
+const BODY_FOLDED: &str = r#"
     (if ;; label = @1
       (i32.const 0)
       (then
@@ -200,12 +204,10 @@ const LAST_FOLDED: &str = r#"
       (else
         (i32.const 0)))
   )
-)
 "#;
 
 /// And flat.
-const LAST_FLAT: &str = r#"
-  (func (;19999;) (type 0)
+const BODY_FLAT: &str = r#"
     i32.const 0
     if ;; label = @1
       i32.const 0
@@ -213,28 +215,35 @@ const LAST_FLAT: &str = r#"
       i32.const 0
     end
   )
-)
 "#;
 
-/// Whether a text holds this beginning of an `if` in each body, eight lines for each, two in front and one behind, and ends so.
-fn are_bodies(text: &str, beginning: &str, last: &str) -> bool {
-    text.matches(beginning).count() == 20_000
-        && text.matches("\n").count() == 160_003
-        && text.ends_with(last)
+/// The text of that module, whose functions have this body.
+fn text_with_bodies(alloc: Global, body: &str) -> Result<String, AllocError> {
+    let mut text = String::from_str(alloc, "(module\n  (type (;0;) (func))\n")?;
+    for number in 0..BODIES {
+        write!(text, "  (func (;{number};) (type 0){body}")?;
+    }
+    text.push_str(")\n")?;
+    Ok(text)
 }
 
 #[test]
 fn folds_many_bodies(rt: HostRuntime) -> Result<(), Fail> {
-    let alloc = rt.alloc();
-    let text = folded_runs(alloc, &MANY_BODIES)?;
-    assert!(rt; are_bodies(text.as_str(), "(if ;; label = @1", LAST_FOLDED));
+    let text = folded_runs(rt.alloc(), &MANY_BODIES)?;
+    expect_text(
+        text.as_str(),
+        text_with_bodies(rt.alloc(), BODY_FOLDED)?.as_str(),
+    )?;
     Ok(())
 }
 
 #[test]
 fn prints_many_bodies_flat(rt: HostRuntime) -> Result<(), Fail> {
-    let alloc = rt.alloc();
-    let text = print_bytes(alloc, &with_runs(alloc, &MANY_BODIES)?)?;
-    assert!(rt; are_bodies(text.as_str(), "    if ;; label = @1\n", LAST_FLAT));
+    let wasm = with_runs(rt.alloc(), &MANY_BODIES)?;
+    let text = print_bytes(rt.alloc(), &wasm)?;
+    expect_text(
+        text.as_str(),
+        text_with_bodies(rt.alloc(), BODY_FLAT)?.as_str(),
+    )?;
     Ok(())
 }

@@ -3,7 +3,7 @@
 use crate::modules::{
     Refusal, expect_printed, expect_refusal, folding, is_text_refused, with_section,
 };
-use std::alloc::{AllocError, Global};
+use std::alloc::Global;
 use std::test::Fail;
 use wasmprinter::Config;
 use wasmprinter_samples::sections::{DATA, ELEMENT, GLOBAL, TABLE};
@@ -38,12 +38,13 @@ fn refuses_legacy_operators_in_bodies(rt: HostRuntime) -> Result<(), Fail> {
     )
 }
 
-/// Sections with one `try` in an initialiser or an offset, and where it stands.
-const PRINTED_IN_A_SKELETON: [(u8, &[u8], u64); 4] = [
+/// Sections with one `try` in an initialiser or an offset, the place of the `try`, and the text of a module with that section, flat.
+const PRINTED_IN_A_SKELETON: [(u8, &[u8], u64, &str); 4] = [
     (
         GLOBAL,
         &[0x01, 0x7f, 0x00, 0x06, 0x40, 0x19, 0x0b, 0x0b],
         13,
+        "(module\n  (global (;0;) i32 try  (; label = @1 ;) catch_all end)\n)\n",
     ),
     (
         TABLE,
@@ -51,11 +52,13 @@ const PRINTED_IN_A_SKELETON: [(u8, &[u8], u64); 4] = [
             0x01, 0x40, 0x00, 0x70, 0x00, 0x01, 0x06, 0x40, 0x18, 0x00, 0x0b,
         ],
         16,
+        "(module\n  (table (;0;) 1 funcref try  (; label = @1 ;) delegate 0)\n)\n",
     ),
     (
         ELEMENT,
         &[0x01, 0x00, 0x06, 0x40, 0x18, 0x00, 0x0b, 0x00],
         12,
+        "(module\n  (elem (;0;) (offset try  (; label = @1 ;) delegate 0) func)\n)\n",
     ),
     // within a block
     (
@@ -64,6 +67,7 @@ const PRINTED_IN_A_SKELETON: [(u8, &[u8], u64); 4] = [
             0x01, 0x00, 0x02, 0x40, 0x06, 0x40, 0x07, 0x00, 0x0b, 0x0b, 0x0b, 0x00,
         ],
         14,
+        "(module\n  (data (;0;) (offset block  (; label = @1 ;) try  (; label = @2 ;) catch 0 end end) \"\")\n)\n",
     ),
 ];
 
@@ -74,28 +78,22 @@ fn folding_outlines() -> Config {
     config
 }
 
-/// Whether a module of one section is refused folded for this, also as an outline, and is printed flat.
-fn is_refused_where_folded(
-    alloc: Global,
-    id: u8,
-    content: &[u8],
-    refusal: Refusal,
-) -> Result<bool, AllocError> {
-    let wasm = with_section(alloc, id, content)?;
-    Ok(
-        is_text_refused(alloc, &folding(), &wasm, refusal)
-            && is_text_refused(alloc, &folding_outlines(), &wasm, refusal)
-            && Config::new().print_to_string(alloc, &wasm).is_ok(),
-    )
+/// Whether a module is refused folded for this, also as an outline.
+fn is_refused_where_folded(alloc: Global, wasm: &[u8], refusal: Refusal) -> bool {
+    is_text_refused(alloc, &folding(), wasm, refusal)
+        && is_text_refused(alloc, &folding_outlines(), wasm, refusal)
 }
 
 #[test]
 fn refuses_legacy_operators_in_initialisers_and_offsets(rt: HostRuntime) -> Result<(), Fail> {
-    for (id, content, place) in &PRINTED_IN_A_SKELETON {
+    let alloc = rt.alloc();
+    for (id, content, place, flat) in PRINTED_IN_A_SKELETON {
+        let wasm = with_section(alloc, id, content)?;
         assert!(rt;
-            is_refused_where_folded(rt.alloc(), *id, content, Refusal::Legacy(*place))?,
+            is_refused_where_folded(alloc, &wasm, Refusal::Legacy(place)),
             "in section {id}"
         );
+        expect_printed(alloc, &Config::new(), &wasm, flat)?;
     }
     Ok(())
 }
