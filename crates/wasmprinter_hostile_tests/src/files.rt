@@ -1,10 +1,7 @@
-//! Files that can't be read: files of the system, and files of a simulated file system that fail at a chosen point.
+//! Files of the system that can't be read.
 
-use crate::disk::{Disk, Trouble};
-use std::alloc::Global;
 use std::fs;
 use std::fs::Permissions;
-use std::io::ErrorKind;
 use std::os::unix::fs::{PermissionsExt, symlink};
 use std::path::Path;
 use std::test::Fail;
@@ -74,44 +71,5 @@ fn refuses_a_file_that_this_user_may_not_read(rt: HostRuntime) -> Result<(), Fai
             assert!(rt; matches!(error, Error::Unreadable));
         }
     }
-    Ok(())
-}
-
-/// The kinds of errors with which opening a file fails, or reading it.
-const KINDS: [ErrorKind; 4] = [
-    ErrorKind::NotFound,
-    ErrorKind::PermissionDenied,
-    ErrorKind::OutOfMemory,
-    ErrorKind::Other,
-];
-
-/// Returns the text of the file of a file system.
-fn print_from(alloc: Global, bytes: &'static [u8], trouble: Trouble) -> Result<String, Error> {
-    let disk = Disk { bytes, trouble };
-    print_file(&(disk, alloc), alloc, Path::new("identity.wasm"))
-}
-
-#[test]
-fn refuses_a_file_that_can_not_be_opened(rt: HostRuntime) {
-    for kind in KINDS {
-        let printed = print_from(rt.alloc(), IDENTITY, Trouble::Opening(kind));
-        assert!(rt; matches!(printed, Err(Error::Unreadable)), "{kind:?}");
-    }
-}
-
-/// Reading fails after each number of bytes, also after a prefix that is a module itself.
-#[test]
-fn refuses_a_file_that_fails_partway(rt: HostRuntime) -> Result<(), Fail> {
-    for len in 0..=IDENTITY.len() {
-        for kind in KINDS {
-            let printed = print_from(rt.alloc(), &IDENTITY[..len], Trouble::Reading(kind));
-            assert!(rt;
-                matches!(printed, Err(Error::Unreadable)),
-                "{kind:?} after {len} bytes"
-            );
-        }
-    }
-    let text = print_from(rt.alloc(), IDENTITY, Trouble::None)?;
-    expect_text(text.as_str(), IDENTITY_TEXT)?;
     Ok(())
 }

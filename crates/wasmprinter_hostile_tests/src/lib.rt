@@ -11,8 +11,6 @@ mod damage;
 #[cfg(test)]
 mod damaged;
 #[cfg(test)]
-mod disk;
-#[cfg(test)]
 mod examples;
 #[cfg(test)]
 mod failing;
