@@ -1,0 +1,141 @@
+//! What the calls on one module return, and whether they agree.
+
+use crate::outcome::{Outcome, Refusal};
+use crate::printing::{Layout, print_to_string};
+use std::alloc::{AllocError, Global};
+use wasmprinter::wasm::decode;
+use wasmprinter::{Config, Error, OffsetsAndLines, print_bytes};
+
+/// How the calls on a module disagree.
+#[derive(Debug, Drop)]
+pub enum Disagreement {
+    /// Decoding is refused, and flat printing isn't or for another reason. Or decoding succeeds, and flat printing is refused for another
+    /// reason than an unknown `dylink.0` subsection.
+    DecodedAndFlat,
+    /// The lines aren't the text of flat printing, or the errors differ.
+    FlatAndLines,
+    /// `print_bytes` returns another text or error than flat printing.
+    FlatAndString,
+    /// Only one of flat and folded printing is refused, or the errors differ, and not because something can't be folded.
+    FlatAndFolded,
+    /// The storage of the lines doesn't begin with its old text.
+    OldTextLost,
+    /// The module isn't damaged.
+    Undamaged,
+    /// An error that doesn't depend on the bytes of the module alone.
+    Other(Error),
+}
+
+impl From<Error> for Disagreement {
+    fn from(error: Error) -> Disagreement {
+        Disagreement::Other(error)
+    }
+}
+
+impl From<AllocError> for Disagreement {
+    fn from(error: AllocError) -> Disagreement {
+        Disagreement::Other(Error::from(error))
+    }
+}
+
+/// What the calls on one module return.
+#[derive(Drop)]
+pub struct Answers {
+    /// Why the module isn't decoded, if it isn't.
+    decoded: Option<Refusal>,
+    flat: Outcome,
+    folded: Outcome,
+    /// The joined lines of `Config::offsets_and_lines`.
+    lines: Outcome,
+    /// What `print_bytes` returns.
+    string: Outcome,
+}
+
+impl Answers {
+    /// Makes each call on a module.
+    pub fn of(alloc: Global, wasm: &[u8]) -> Result<Answers, Disagreement> {
+        Ok(Answers {
+            decoded: decoding_refusal(alloc, wasm)?,
+            flat: Outcome::of(print_to_string(Layout::Flat, alloc, wasm))?,
+            folded: Outcome::of(print_to_string(Layout::Folded, alloc, wasm))?,
+            lines: lines_outcome(alloc, wasm)?,
+            string: Outcome::of(print_bytes(alloc, wasm))?,
+        })
+    }
+
+    /// Checks that the calls agree.
+    pub fn check(&self) -> Result<(), Disagreement> {
+        if !self.is_flat_as_decoded() {
+            return Err(Disagreement::DecodedAndFlat);
+        }
+        if self.lines != self.flat {
+            return Err(Disagreement::FlatAndLines);
+        }
+        if self.string != self.flat {
+            return Err(Disagreement::FlatAndString);
+        }
+        if !self.is_folded_as_flat() {
+            return Err(Disagreement::FlatAndFolded);
+        }
+        Ok(())
+    }
+
+    /// Returns whether the module is printed flat.
+    pub fn is_printed(&self) -> bool {
+        matches!(&self.flat, Outcome::Text(_))
+    }
+
+    fn is_flat_as_decoded(&self) -> bool {
+        match (self.decoded, &self.flat) {
+            (Some(refusal), Outcome::Refused(flat)) => refusal == *flat,
+            (None, Outcome::Refused(flat)) => matches!(flat, Refusal::DylinkSubsection { .. }),
+            (decoded, Outcome::Text(_)) => decoded.is_none(),
+        }
+    }
+
+    /// Operators that can't be folded are found after the module is decoded and before it is printed.
+    fn is_folded_as_flat(&self) -> bool {
+        match (&self.folded, &self.flat) {
+            (Outcome::Text(_), Outcome::Text(_)) => true,
+            (Outcome::Refused(folded), _) if folded.is_for_folding() => self.decoded.is_none(),
+            (Outcome::Refused(folded), Outcome::Refused(flat)) => folded == flat,
+            _ => false,
+        }
+    }
+}
+
+/// Returns why a module isn't decoded, if it isn't.
+fn decoding_refusal(alloc: Global, wasm: &[u8]) -> Result<Option<Refusal>, Error> {
+    match decode(alloc, wasm) {
+        Ok(_) => Ok(None),
+        Err(error) => Ok(Some(Refusal::of(error)?)),
+    }
+}
+
+/// What a storage holds before lines are appended to it.
+const OLD_TEXT: &str = "old\n";
+
+/// Appends the lines of a module to a storage with an old text, and returns the joined lines.
+fn lines_outcome(alloc: Global, wasm: &[u8]) -> Result<Outcome, Disagreement> {
+    let mut storage = String::from_str(alloc, OLD_TEXT)?;
+    let outcome = match Config::new().offsets_and_lines(alloc, wasm, &mut storage) {
+        Ok(lines) => Outcome::Text(join(alloc, lines)?),
+        Err(error) => Outcome::Refused(Refusal::of(error)?),
+    };
+    let Some(appended) = storage.strip_prefix(OLD_TEXT) else {
+        return Err(Disagreement::OldTextLost);
+    };
+    match &outcome {
+        Outcome::Text(text) if text.as_str() != appended => Err(Disagreement::FlatAndLines),
+        _ => Ok(outcome),
+    }
+}
+
+/// Joins lines.
+fn join(alloc: Global, lines: OffsetsAndLines<'_>) -> Result<String, AllocError> {
+    let mut text = String::new(alloc);
+    for (_, line) in lines {
+        text.push_str(line)?;
+    }
+    Ok(text)
+}

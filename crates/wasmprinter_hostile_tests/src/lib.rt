@@ -1,0 +1,24 @@
+//! Tests of hostile use, through the paths of the crate `wasmprinter` alone: damaged modules, printers and writers that fail at each of
+//! their calls, and files that can't be read. What is expected is typed by hand.
+#![tactic(auto)]
+
+#[cfg(test)]
+mod answers;
+#[cfg(test)]
+mod claims;
+#[cfg(test)]
+mod damage;
+#[cfg(test)]
+mod damaged;
+#[cfg(test)]
+mod examples;
+#[cfg(test)]
+mod failing;
+#[cfg(test)]
+mod files;
+#[cfg(test)]
+mod outcome;
+#[cfg(test)]
+mod printing;
+#[cfg(test)]
+mod writers;
