@@ -7,6 +7,7 @@ use crate::system::Sink;
 use crate::tests::{has_printed, run_with};
 use std::alloc::Global;
 use std::cell::Cell;
+use std::io::ErrorKind;
 use std::path::Path;
 use std::test::Fail;
 use std::{fs, io};
@@ -48,20 +49,23 @@ fn takes_texts_of_each_length(rt: HostRuntime) -> Result<(), Fail> {
     Ok(())
 }
 
-/// A source whose files all hold the module without fields. It counts its reads, and those of one path.
+/// A source whose files all have the same content, or can't be read. It counts its reads, and those of one path.
 #[derive(Drop)]
 struct Counted<'a> {
     alloc: Global,
     path: &'a str,
+    /// The content of each file, `None` if reading fails.
+    content: Option<&'a [u8]>,
     reads: Cell<u32>,
     reads_of_path: Cell<u32>,
 }
 
 impl<'a> Counted<'a> {
-    fn new(alloc: Global, path: &'a str) -> Counted<'a> {
+    fn new(alloc: Global, path: &'a str, content: Option<&'a [u8]>) -> Counted<'a> {
         Counted {
             alloc,
             path,
+            content,
             reads: Cell::new(0),
             reads_of_path: Cell::new(0),
         }
@@ -82,27 +86,46 @@ impl Source for Counted<'_> {
             self.reads_of_path
                 .set(self.reads_of_path.get().saturating_add(1));
         }
-        let mut bytes = Vec::new(self.alloc);
-        bytes.extend_from_slice(&PREAMBLE)?;
-        Ok(bytes)
+        match self.content {
+            Some(bytes) => Ok(bytes.to_vec(self.alloc)?),
+            None => Err(io::Error::from(ErrorKind::NotFound)),
+        }
     }
 }
 
 /// Whether `print_file` reads this path once, and no other path.
 fn is_read_once_by_the_library(alloc: Global, path: &str) -> Result<bool, Fail> {
-    let source = Counted::new(alloc, path);
+    let source = Counted::new(alloc, path, Some(&PREAMBLE));
     let text = print_file(&source, alloc, Path::new(path))?;
     Ok(text.as_str() == EMPTY_TEXT && source.was_read_once())
 }
 
-/// Whether the program reads this path once, and no other path.
-fn is_read_once_by_the_program(alloc: Global, path: &str) -> Result<bool, Fail> {
-    let source = Counted::new(alloc, path);
-    let mut words = Vec::new(alloc);
-    words.push(String::from_str(alloc, path)?)?;
+/// Words of the program.
+fn words_of(alloc: Global, words: &[&str]) -> Result<Vec<String>, Fail> {
+    let mut owned = Vec::new(alloc);
+    for word in words {
+        owned.push(String::from_str(alloc, word)?)?;
+    }
+    Ok(owned)
+}
+
+/// Runs the program over a source, and returns its status and what it wrote to standard output.
+fn run_over_source(
+    alloc: Global,
+    source: &Counted<'_>,
+    words: &[&str],
+) -> Result<(u8, Vec<u8>), Fail> {
+    let words = words_of(alloc, words)?;
     let mut out = Vec::new(alloc);
     let mut err = Vec::new(alloc);
-    let status = run(&source, &ByDisplay, alloc, &words, &mut out, &mut err);
+    let status = run(source, &ByDisplay, alloc, &words, &mut out, &mut err);
+    Ok((status, out))
+}
+
+/// Whether the program reads this path once, and no other path.
+fn is_read_once_by_the_program(alloc: Global, path: &str) -> Result<bool, Fail> {
+    let source = Counted::new(alloc, path, Some(&PREAMBLE));
+    let (status, out) = run_over_source(alloc, &source, &[path])?;
     Ok(status == 0 && out.as_slice() == EMPTY_TEXT.as_bytes() && source.was_read_once())
 }
 
@@ -118,6 +141,75 @@ fn reads_a_path_of_each_length_once(rt: HostRuntime) -> Result<(), Fail> {
             is_read_once_by_the_program(rt.alloc(), path.as_str())?,
             "{len}"
         );
+    }
+    Ok(())
+}
+
+/// Paths with characters that have a meaning in paths and words.
+const PATHS: [&str; 6] = ["/", ".", "-", "-/a.wasm", "../a b.wasm", "/a/./b//c.wasm"];
+
+#[test]
+fn reads_paths_of_other_characters_once(rt: HostRuntime) -> Result<(), Fail> {
+    for path in PATHS {
+        assert!(rt; is_read_once_by_the_library(rt.alloc(), path)?, "{path}");
+        assert!(rt; is_read_once_by_the_program(rt.alloc(), path)?, "{path}");
+    }
+    Ok(())
+}
+
+/// Words with each option, and with all five.
+const WITH_EACH_OPTION: [&[&str]; 6] = [
+    &["--offsets", "a.wasm"],
+    &["a.wasm", "--skeleton"],
+    &["--name-unnamed", "a.wasm"],
+    &["a.wasm", "--fold"],
+    &["--color", "a.wasm"],
+    &[
+        "--offsets",
+        "--skeleton",
+        "a.wasm",
+        "--name-unnamed",
+        "--fold",
+        "--color",
+    ],
+];
+
+#[test]
+fn reads_once_with_each_option(rt: HostRuntime) -> Result<(), Fail> {
+    for words in WITH_EACH_OPTION {
+        let source = Counted::new(rt.alloc(), "a.wasm", Some(&PREAMBLE));
+        let (status, _) = run_over_source(rt.alloc(), &source, words)?;
+        assert!(rt; status == 0 && source.was_read_once(), "{words:?}");
+    }
+    Ok(())
+}
+
+/// Contents that give no text: a failed read, malformed bytes, and a component.
+const WITHOUT_TEXT: [Option<&[u8]>; 3] = [
+    None,
+    Some(&[0x00]),
+    Some(&[0x00, 0x61, 0x73, 0x6d, 0x0d, 0x00, 0x01, 0x00]),
+];
+
+/// Whether the library and the program read a file without text once, and print nothing.
+fn is_refused_after_one_read(alloc: Global, content: Option<&[u8]>) -> Result<bool, Fail> {
+    let source = Counted::new(alloc, "a.wasm", content);
+    let refused = print_file(&source, alloc, Path::new("a.wasm")).is_err();
+    let program_source = Counted::new(alloc, "a.wasm", content);
+    let (status, out) = run_over_source(alloc, &program_source, &["a.wasm"])?;
+    Ok(
+        refused
+            && source.was_read_once()
+            && status == 1
+            && out.is_empty()
+            && program_source.was_read_once(),
+    )
+}
+
+#[test]
+fn reads_once_if_there_is_no_text(rt: HostRuntime) -> Result<(), Fail> {
+    for content in WITHOUT_TEXT {
+        assert!(rt; is_refused_after_one_read(rt.alloc(), content)?);
     }
     Ok(())
 }
