@@ -1,6 +1,7 @@
 //! Texts with the sequences that colour them on a terminal. The sequences are typed by hand.
 
-use crate::large::large;
+use crate::large::{COUNT, large};
+use std::alloc::{AllocError, Global};
 use std::test::Fail;
 use wasmprinter::{Config, Error};
 use wasmprinter_samples::{IDENTITY, PREAMBLE};
@@ -20,8 +21,18 @@ const IDENTITY_COLORED: &str = "(\x1b[0m\x1b[1m\x1b[38;5;11mmodule\x1b[0m
 )
 ";
 
-/// Its last lines with places in front, which are comments.
-const PLACES_COLORED: &str = "\
+/// `IDENTITY` in colours with places, which are comments.
+const PLACES_COLORED: &str = "(\x1b[0m\x1b[1m\x1b[38;5;11mmodule\x1b[0m
+\x1b[0m\x1b[36m(;@b     ;)\x1b[0m  (\x1b[0m\x1b[1m\x1b[38;5;11mtype \x1b[0m\x1b[0m\x1b[35m(;0;)\x1b[0m \
+(\x1b[0m\x1b[1m\x1b[38;5;11mfunc\x1b[0m \
+(\x1b[0m\x1b[1m\x1b[38;5;11mparam\x1b[0m \x1b[0m\x1b[1m\x1b[38;5;10mi32\x1b[0m) \
+(\x1b[0m\x1b[1m\x1b[38;5;11mresult\x1b[0m \x1b[0m\x1b[1m\x1b[38;5;10mi32\x1b[0m)))
+\x1b[0m\x1b[36m(;@17    ;)\x1b[0m  (\x1b[0m\x1b[1m\x1b[38;5;11mexport \x1b[0m\x1b[0m\x1b[31m\"f\"\x1b[0m \
+(\x1b[0m\x1b[1m\x1b[38;5;11mfunc \x1b[0m\x1b[0m\x1b[35m0\x1b[0m))
+\x1b[0m\x1b[36m(;@1f    ;)\x1b[0m  (\x1b[0m\x1b[1m\x1b[38;5;11mfunc \x1b[0m\x1b[0m\x1b[35m(;0;)\x1b[0m \
+(\x1b[0m\x1b[1m\x1b[38;5;11mtype \x1b[0m\x1b[0m\x1b[35m0\x1b[0m) \
+(\x1b[0m\x1b[1m\x1b[38;5;11mparam\x1b[0m \x1b[0m\x1b[1m\x1b[38;5;10mi32\x1b[0m) \
+(\x1b[0m\x1b[1m\x1b[38;5;11mresult\x1b[0m \x1b[0m\x1b[1m\x1b[38;5;10mi32\x1b[0m)
 \x1b[0m\x1b[36m(;@20    ;)\x1b[0m    local.get \x1b[0m\x1b[35m0\x1b[0m
 \x1b[0m\x1b[36m(;@22    ;)\x1b[0m  )
 \x1b[0m\x1b[36m(;@23    ;)\x1b[0m)
@@ -45,7 +56,7 @@ fn prints_places_in_colors(rt: HostRuntime) -> Result<(), Fail> {
     let mut config = Config::new();
     config.print_offsets(true);
     let text = config.print_to_ansi(rt.alloc(), &IDENTITY)?;
-    assert!(rt; text.ends_with(PLACES_COLORED.as_bytes()));
+    assert!(rt; text.as_slice() == PLACES_COLORED.as_bytes());
     Ok(())
 }
 
@@ -64,15 +75,30 @@ fn refuses_in_colors_what_it_refuses_without(rt: HostRuntime) -> Result<(), Fail
     Ok(())
 }
 
+/// The text of the large module in colours.
+fn large_colored(alloc: Global) -> Result<String, AllocError> {
+    let mut text = String::from_str(
+        alloc,
+        "(\x1b[0m\x1b[1m\x1b[38;5;11mmodule\x1b[0m
+  (\x1b[0m\x1b[1m\x1b[38;5;11mtype \x1b[0m\x1b[0m\x1b[35m(;0;)\x1b[0m (\x1b[0m\x1b[1m\x1b[38;5;11mfunc\x1b[0m))
+",
+    )?;
+    for number in 0..COUNT {
+        write!(
+            text,
+            "  (\x1b[0m\x1b[1m\x1b[38;5;11mfunc \x1b[0m\x1b[0m\x1b[35m(;{number};)\x1b[0m \
+(\x1b[0m\x1b[1m\x1b[38;5;11mtype \x1b[0m\x1b[0m\x1b[35m0\x1b[0m))
+"
+        )?;
+    }
+    text.push_str(")\n")?;
+    Ok(text)
+}
+
 #[test]
 fn prints_a_large_module_in_colors(rt: HostRuntime) -> Result<(), Fail> {
     let wasm = large(rt.alloc())?;
     let text = Config::new().print_to_ansi(rt.alloc(), &wasm)?;
-    assert!(rt;
-        text.ends_with(
-            b"\n  (\x1b[0m\x1b[1m\x1b[38;5;11mfunc \x1b[0m\x1b[0m\x1b[35m(;2999;)\x1b[0m \
-            (\x1b[0m\x1b[1m\x1b[38;5;11mtype \x1b[0m\x1b[0m\x1b[35m0\x1b[0m))\n)\n"
-        )
-    );
+    assert!(rt; text.as_slice() == large_colored(rt.alloc())?.as_bytes());
     Ok(())
 }

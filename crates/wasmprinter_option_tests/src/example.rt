@@ -6,7 +6,7 @@ use std::test::Fail;
 use wasmprinter::print::Ansi;
 use wasmprinter::wasm::decode;
 use wasmprinter::{Config, Error, PrintTermcolor, PrintText, place_of, print_bytes};
-use wasmprinter_samples::{IDENTITY, expect_text};
+use wasmprinter_samples::{IDENTITY, IDENTITY_TEXT, expect_text};
 
 /// The text of a module, or what is wrong with its bytes.
 fn text_or_fault(alloc: Global, wasm: &[u8]) -> Result<String, Error> {
@@ -86,7 +86,6 @@ fn finds_an_operator(rt: HostRuntime) -> Result<(), Fail> {
 fn counts_the_bytes_of_a_text(rt: HostRuntime) -> Result<(), Fail> {
     let module = [0x00, 0x61, 0x73, 0x6d, 0x01, 0x00, 0x00, 0x00];
     assert!(rt; text_length(rt.alloc(), &module)? == "(module)\n".len());
-    let text = print_bytes(rt.alloc(), &IDENTITY)?;
-    assert!(rt; text_length(rt.alloc(), &IDENTITY)? == text.len());
+    assert!(rt; text_length(rt.alloc(), &IDENTITY)? == IDENTITY_TEXT.len());
     Ok(())
 }

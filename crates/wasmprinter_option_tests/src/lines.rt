@@ -1,7 +1,7 @@
 //! The lines of a text, each with its place. What is expected is typed by hand.
 
-use crate::large::{LINES, large};
-use std::alloc::Global;
+use crate::large::{COUNT, FIRST_BODY, LEN, large};
+use std::alloc::{AllocError, Global};
 use std::test::Fail;
 use wasmprinter::{Config, Error, LineStart, OffsetsAndLines};
 use wasmprinter_samples::{IDENTITY, MINUS_ONE, PREAMBLE, expect_text};
@@ -176,25 +176,46 @@ fn stays_at_the_end(rt: HostRuntime) -> Result<(), Fail> {
     Ok(())
 }
 
+/// The lines of the large module before those of its functions.
+const LARGE_LINES: [Line; 2] = [
+    (Some(0x0), "(module\n"),
+    (Some(0xb), "  (type (;0;) (func))\n"),
+];
+
+/// Returns the place of the body of this function of the large module.
+fn body_place(number: u32) -> u64 {
+    FIRST_BODY.saturating_add(u64::from(number).saturating_mul(3))
+}
+
+/// Whether the lines that follow are those of the functions of the large module.
+fn are_functions(alloc: Global, lines: &mut OffsetsAndLines<'_>) -> Result<bool, AllocError> {
+    for number in 0..COUNT {
+        let line = format!(in alloc; "  (func (;{number};) (type 0))\n")?;
+        if lines.next() != Some((Some(body_place(number)), line.as_str())) {
+            return Ok(false);
+        }
+    }
+    Ok(true)
+}
+
+/// Whether the lines that follow are these.
+fn go_on_with(lines: &mut OffsetsAndLines<'_>, expected: &[Line]) -> bool {
+    for line in expected {
+        if lines.next() != Some(*line) {
+            return false;
+        }
+    }
+    true
+}
+
 #[test]
 fn gives_all_lines_of_a_large_module(rt: HostRuntime) -> Result<(), Fail> {
     let wasm = large(rt.alloc())?;
     let mut storage = String::new(rt.alloc());
-    let mut count: u32 = 0;
-    let mut header = None;
-    let mut end = None;
-    for (place, text) in Config::new().offsets_and_lines(rt.alloc(), &wasm, &mut storage)? {
-        count = count.wrapping_add(1);
-        if text == "  (func (;2999;) (type 0))\n" {
-            header = place;
-        }
-        if text == ")\n" {
-            end = place;
-        }
-    }
-    assert!(rt; count == LINES);
-    assert!(rt; header == Some(12022));
-    assert!(rt; end == Some(12024));
+    let mut lines = Config::new().offsets_and_lines(rt.alloc(), &wasm, &mut storage)?;
+    assert!(rt; go_on_with(&mut lines, &LARGE_LINES));
+    assert!(rt; are_functions(rt.alloc(), &mut lines)?);
+    assert!(rt; are_lines(lines, &[(Some(LEN), ")\n")]));
     Ok(())
 }
 
