@@ -16,12 +16,20 @@ use wasmprinter_samples::{
 /// The module without fields in colours.
 pub const EMPTY_COLORED: &str = "(\x1b[0m\x1b[1m\x1b[38;5;11mmodule\x1b[0m)\n";
 
-/// The first two lines of `IDENTITY` in colours: a keyword, a name and a type.
-const IDENTITY_BEGINNING: &str = "(\x1b[0m\x1b[1m\x1b[38;5;11mmodule\x1b[0m
+/// `IDENTITY` in colours.
+const IDENTITY_COLORED: &str = "(\x1b[0m\x1b[1m\x1b[38;5;11mmodule\x1b[0m
   (\x1b[0m\x1b[1m\x1b[38;5;11mtype \x1b[0m\x1b[0m\x1b[35m(;0;)\x1b[0m (\x1b[0m\x1b[1m\x1b[38;5;11mfunc\x1b[0m \
 (\x1b[0m\x1b[1m\x1b[38;5;11mparam\x1b[0m \x1b[0m\x1b[1m\x1b[38;5;10mi32\x1b[0m) \
 (\x1b[0m\x1b[1m\x1b[38;5;11mresult\x1b[0m \x1b[0m\x1b[1m\x1b[38;5;10mi32\x1b[0m)))
-  (\x1b[0m\x1b[1m\x1b[38;5;11mexport \x1b[0m\x1b[0m\x1b[31m\"f\"\x1b[0m (";
+  (\x1b[0m\x1b[1m\x1b[38;5;11mexport \x1b[0m\x1b[0m\x1b[31m\"f\"\x1b[0m (\x1b[0m\x1b[1m\x1b[38;5;11mfunc \x1b[0m\x1b[0m\x1b[35m0\x1b[0m))
+  (\x1b[0m\x1b[1m\x1b[38;5;11mfunc \x1b[0m\x1b[0m\x1b[35m(;0;)\x1b[0m \
+(\x1b[0m\x1b[1m\x1b[38;5;11mtype \x1b[0m\x1b[0m\x1b[35m0\x1b[0m) \
+(\x1b[0m\x1b[1m\x1b[38;5;11mparam\x1b[0m \x1b[0m\x1b[1m\x1b[38;5;10mi32\x1b[0m) \
+(\x1b[0m\x1b[1m\x1b[38;5;11mresult\x1b[0m \x1b[0m\x1b[1m\x1b[38;5;10mi32\x1b[0m)
+    local.get \x1b[0m\x1b[35m0\x1b[0m
+  )
+)
+";
 
 /// A console whose colours take effect at once, and whose bytes nobody keeps.
 #[derive(Drop)]
@@ -78,11 +86,7 @@ fn prints_in_colors(rt: HostRuntime) -> Result<(), Fail> {
     let empty = print_colors_to(alloc, &PREAMBLE, Ansi::new(Vec::new(alloc)))?;
     assert!(rt; empty.into_inner().as_slice() == EMPTY_COLORED.as_bytes());
     let identity = print_colors_to(alloc, &IDENTITY, Ansi::new(Vec::new(alloc)))?;
-    assert!(rt;
-        identity
-            .into_inner()
-            .starts_with(IDENTITY_BEGINNING.as_bytes())
-    );
+    assert!(rt; identity.into_inner().as_slice() == IDENTITY_COLORED.as_bytes());
     Ok(())
 }
 
