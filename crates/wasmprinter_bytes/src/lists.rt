@@ -125,7 +125,7 @@ impl<'a, T: Spelled> Model for Items<'a, T> {
     ghost invariant = { λ t. HasItems T.parse t.left t.cursor };
 }
 
-/// No values.
+/// Returns an empty list.
 pub fn no_items<'a, T: Spelled>(cursor: &Cursor<'a>) -> Items<'a, T>
     ensures { result ≡ [] }
 {
@@ -136,11 +136,11 @@ pub fn no_items<'a, T: Spelled>(cursor: &Cursor<'a>) -> Items<'a, T>
     }
 }
 
-/// Reads a count and so many values.
+/// Reads a list: a count, and that many values.
 ///
 /// # Errors
 ///
-/// `Malformed` where the count or a value isn't spelled, with the place of what may not stand there.
+/// `Malformed` if the bytes do not encode the count or one of the values. Its place is the offset of the first unexpected byte or number.
 pub fn read_items<'a, T: Spelled>(cursor: &mut Cursor<'a>) -> Result<Items<'a, T>, Malformed>
     ensures reads { Reads (λ t. t) (vec_at T.parse) cursor.old result cursor.new }
     ensures within { IsWithin cursor.old result }
