@@ -25,7 +25,7 @@ case_of() {
     shift
     cases=$((cases + 1))
     status=0
-    "$program" "$@" >written 2>told || status=$?
+    timeout 60 "$program" "$@" >written 2>told || status=$?
     if [ "$status" != "$wanted" ] || ! cmp -s out written || ! cmp -s err told; then
         echo "program: printwasm $* ended with status $status, not $wanted, or wrote another text:"
         diff out written || true
@@ -48,6 +48,10 @@ case_of 2 --offsets --skeleton --name-unnamed --fold --colors same.wasm
 echo "error: the file can't be read" >err
 case_of 1 --offsets --skeleton --name-unnamed --fold --color missing.wasm
 
+echo "error: a word is not UTF-8" >err
+case_of 1 "$(printf '\377')"
+case_of 1 same.wasm "$(printf '\377')"
+
 : >err
 cat >out <<'END'
 (module
@@ -60,6 +64,11 @@ cat >out <<'END'
 END
 case_of 0 same.wasm
 
+# a pipe is read once: a second read would wait for a second writer
+mkfifo pipe
+timeout 60 sh -c 'cat same.wasm >pipe' &
+case_of 0 pipe
+
 cat >out <<'END'
 (module
 (;@b     ;)  (type (;0;) (func (param i32) (result i32)))
@@ -70,6 +79,11 @@ cat >out <<'END'
 (;@23    ;))
 END
 case_of 0 --offsets same.wasm
+repeated=$(yes -- --offsets | head -n 100)
+# shellcheck disable=SC2086 # each line is a word
+case_of 0 $repeated same.wasm
+# shellcheck disable=SC2086
+case_of 0 same.wasm $repeated
 
 cat >out <<'END'
 (module
@@ -122,6 +136,16 @@ colored >out <<'END'
 END
 case_of 0 --offsets --skeleton --name-unnamed --fold --color same.wasm
 case_of 0 same.wasm --color --fold --name-unnamed --skeleton --offsets
+
+# standard output takes nothing
+echo "error: the printer failed" >err
+cases=$((cases + 1))
+status=0
+"$program" same.wasm >/dev/full 2>told || status=$?
+if [ "$status" != 1 ] || ! cmp -s err told; then
+    echo "program: a write to a full device ended with status $status, or another text was reported"
+    failed=$((failed + 1))
+fi
 
 echo "program: $((cases - failed)) of $cases cases as typed"
 [ "$failed" = 0 ]

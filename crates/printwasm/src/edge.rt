@@ -300,6 +300,15 @@ fn reports_places_of_each_length(rt: HostRuntime) -> Result<(), Fail> {
     Ok(())
 }
 
+#[test]
+fn reports_each_small_place(rt: HostRuntime) -> Result<(), Fail> {
+    for place in 0..=300 {
+        let digits = format!(in rt.alloc(); "0x{place:x}")?;
+        assert!(rt; show_place(rt.alloc(), place, digits.as_str())?, "{place}");
+    }
+    Ok(())
+}
+
 /// Counts of functions of each length, with their lines.
 const COUNTS: [(u32, &str); 10] = [
     (9, "error: module has 9 functions, more than 1000000\n"),

@@ -4,11 +4,12 @@ ghost use Rattle.std.specs.Iterator.{IsFinite};
 ghost use Rattle.std.specs.Process.{exit_status};
 ghost use Rattle.std.specs.declared.io.Error.{Error as IoError};
 ghost use Rattle.wasmprinter_spec.specs.Binary.{IsComponent};
+ghost use Rattle.printwasm.specs.Unread.{words_error};
 ghost use Rattle.printwasm.specs.Words.{AreWordsOf, WantsWords, is_option, is_known, named_file, has, choice_of};
 ghost use Rattle.printwasm.specs.Outcome.{IsTextBy, GivesText, GivesNoText, WritesModuleText, FailsToWrite, TellsError, HasOutcome};
 ghost use Rattle.wasmprinter.specs.Outcome.{HasTextCause, IsTrueOfText};
 
-use crate::rendering::Render;
+use crate::rendering::{Render, WordsError};
 use crate::system::Sink;
 use std::alloc::Global;
 use std::io;
@@ -76,7 +77,7 @@ pub fn start<S, R, I, O, E>(
 ) -> ExitCode
 where
     S: Source,
-    R: Render<Error> + Render<io::Error>,
+    R: Render<Error> + Render<WordsError>,
     I: Iterator<Item = String>,
     O: Sink,
     E: Sink,
@@ -86,12 +87,12 @@ where
         × HasOutcome (S.gives source.now) O.takes E.takes (⟦<R as Render<Error>>⟧.renders renderer.now)
         words out.old out.new err.old err.new (exit_status result))
         ⊎ ((error : IoError) × WantsWords args error
-        × TellsError E.takes err.old err.new (⟦<R as Render<io::Error>>⟧.renders renderer.now) error
+        × TellsError E.takes err.old err.new (⟦<R as Render<WordsError>>⟧.renders renderer.now) (words_error error)
         × (out.new ≡ out.old) × (exit_status result ≡ 1)) }
 {
     let status = match words_of(alloc, args) {
         Ok(words) => run(source, renderer, alloc, &words, out, err),
-        Err(failure) => refuse(renderer, err, failure),
+        Err(cause) => refuse(renderer, err, WordsError { cause }),
     };
     ExitCode::from(status)
 }

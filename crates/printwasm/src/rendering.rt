@@ -2,12 +2,15 @@
 //!
 //! The program is generic over `Render`. So its contract can say which error it reports: generic code knows of a text only which error it
 //! belongs to. The text goes directly to the sink, so it needs no memory and is never cut.
-ghost use Rattle.std.specs.Prelude.{◌≡◌, ℕ, List, Option};
+ghost use Rattle.std.specs.Prelude.{◌≡◌, ℕ, List, Option, Some};
+ghost use Rattle.std.specs.IoError.{error_kind};
+ghost use Rattle.printwasm.specs.Messages.{words_error_text};
 ghost use Rattle.printwasm.specs.Outcome.{error_line};
 
 use crate::system::Sink;
 use std::fmt::Display;
-use std::io;
+use std::io::ErrorKind;
+use std::{fmt, io};
 
 /// Writes the lines of errors of a type.
 pub trait Render<X> {
@@ -28,5 +31,24 @@ impl<X: Display> Render<X> for ByDisplay {
 
     fn write_line<E: Sink>(&self, err: &mut E, error: &X) -> io::Result<()> {
         err.write_text(format_args!("error: {error}\n"))
+    }
+}
+
+/// Why the words of the program can't be read. It has texts of its own: no contract specifies the text of an `io::Error`.
+#[derive(Drop)]
+pub struct WordsError {
+    /// The system's error.
+    pub cause: io::Error,
+}
+
+impl Display for WordsError {
+    ghost output = { λ e. Some (words_error_text (error_kind e.cause)) };
+
+    fn fmt<W: fmt::Write>(&self, f: &mut fmt::Formatter<W>) -> fmt::Result {
+        match self.cause.kind() {
+            ErrorKind::OutOfMemory => f.write_str("out of memory"),
+            ErrorKind::InvalidData => f.write_str("a word is not UTF-8"),
+            _ => f.write_str("the words can't be read"),
+        }
     }
 }

@@ -4,7 +4,7 @@ use crate::program::{run, start};
 use crate::rendering::ByDisplay;
 use crate::system::Sink;
 use std::alloc::AllocError;
-use std::io::Write;
+use std::io::{ErrorKind, Write};
 use std::process::ExitCode;
 use std::test::Fail;
 use std::{env, fs, io};
@@ -488,9 +488,15 @@ fn tells_that_its_words_can_not_be_held(rt: HostRuntime) {
 }
 
 #[test]
-fn tells_why_the_system_gives_no_words(rt: HostRuntime) {
+fn reports_a_word_that_is_not_utf8(rt: HostRuntime) {
+    let error = io::Error::from(ErrorKind::InvalidData);
+    assert!(rt; refuses_to_start(&rt, error, "error: a word is not UTF-8\n"));
+}
+
+#[test]
+fn reports_that_the_system_gives_no_words(rt: HostRuntime) {
     let error = io::Error::other("no words");
-    assert!(rt; refuses_to_start(&rt, error, "error: no words\n"));
+    assert!(rt; refuses_to_start(&rt, error, "error: the words can't be read\n"));
 }
 
 /// How many functions the large module has.

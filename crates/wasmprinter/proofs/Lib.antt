@@ -10,3 +10,4 @@ pub mod Named
 pub mod Claims
 pub mod Subsections
 pub mod OfFile
+pub mod Prefixes

@@ -1,24 +1,31 @@
 -- The text and the lines that a tracking printer keeps.
-use Rattle.std.specs.Prelude.{◌≡◌, ℕ, List, [], ◌++◌, false, Result, Ok, Err, MatchResult, IsErrAnd, IfOk, IfErr, OnOk, OnErr}
+use Rattle.std.specs.Prelude.{◌≡◌, ℕ, List, [], ◌∷◌, ◌++◌, false, Result, Ok, Err, MatchResult, IsErrAnd, IfOk, IfErr, OnOk}
+use Rattle.std.specs.List.{AllByRecursion}
+use Rattle.std.specs.declared.io.Error.{Error as IoError}
 use Rattle.std.proofs.Common.{sym, ap, ◌∙◌, subst, append-nil, inl, inr}
 use Rattle.wasmprinter_error.specs.declared.error.Error.{Error}
 use Rattle.wasmprinter_error.specs.declared.error.Error.TheVariants.{Malformed, Component, TooManyLocals, TooManyFunctions, EmptyTableInit, FoldLegacy, FoldHint, DylinkSubsection, Printer, Memory}
-use Rattle.wasmprinter_spec.specs.Call.{Call, text_of}
-use Rattle.wasmprinter_spec.specs.Options.{Options, in_colours}
+use Rattle.wasmprinter_spec.specs.Placed.{PlacedModule}
+use Rattle.wasmprinter_spec.specs.Call.{Call, IsUnclaimed, text_of, atoms}
+use Rattle.wasmprinter_spec.specs.Meaning.{Run}
+use Rattle.wasmprinter_spec.specs.Options.{Options, Answers, in_colours}
 use Rattle.wasmprinter_spec.specs.Layout.{layout}
 use Rattle.wasmprinter_spec.specs.Lines.{TextLine, lines_of, joined_lines, line_places, hint_places, HasFunctionLines}
 use Rattle.wasmprinter_spec.proofs.Texts.{alike_texts, alike_lines}
+use Rattle.wasmprinter_print.specs.Emits.{Broken, Begun}
 use Rattle.wasmprinter_tracker.specs.declared.lines.LineStart.{LineStart}
 use Rattle.wasmprinter_tracker.specs.Cuts.{lines_at_starts}
 use Rattle.wasmprinter_tracker.specs.Tracked.{Tracked, without_lines}
-use Rattle.wasmprinter_tracker.specs.Tracking.{tracked_meaning, BeginsWith, Tracks}
-use Rattle.wasmprinter_tracker.proofs.Runs.{claims_never, run_tracks, run_keeps, broken_keeps}
+use Rattle.wasmprinter_tracker.specs.Tracking.{tracked_meaning, Tracks}
+use Rattle.wasmprinter_tracker.proofs.Runs.{claims_never, run_tracks, run_text, broken_text}
 use Rattle.wasmprinter_places.proofs.Starts.{lines_join}
 use Rattle.wasmprinter_places.proofs.FunctionLines.{function_lines}
 use Rattle.wasmprinter.specs.Printed.{Printed, no_claims}
-use Rattle.wasmprinter.specs.Outcome.{Leaves, LeavesBeginning, IsTrueOfText}
-use Rattle.wasmprinter.specs.Lined.{HasLinesBy}
-use Rattle.wasmprinter.proofs.Texts.{IsPlainly, plainly_printed, module_text}
+use Rattle.wasmprinter.specs.Outcome.{Leaves, LeavesBeginning, IsTrueOfText, as_growth}
+use Rattle.wasmprinter.specs.Lined.{HasLinesBy, GainsPrefix, LeavesStorage}
+use Rattle.wasmprinter.proofs.Claims.{alike_unclaimed}
+use Rattle.wasmprinter.proofs.Prefixes.{broken_alike}
+use Rattle.wasmprinter.proofs.Texts.{IsPlainly, plainly_printed, none_claimed, module_text}
 
 -- what was printed whole, with no line lost
 pub printed_lines : (o : Options) (bytes base : List ℕ) (t : Tracked) → t.lost ≡ false → Printed tracked_meaning false o bytes (without_lines base) t →
@@ -41,28 +48,94 @@ printed_lines o bytes base t kept v =
           (function_lines bytes v.placed by no_claims v.spelled whole flat own.accepted i f e);
     }
 
--- what was never touched begins with itself
-untouched : (old new : Tracked) → new ≡ old → BeginsWith old.text new.text
-untouched old new e = ([], ap (λ (t : Tracked). t.text) e ∙ sym (append-nil old.text))
+-- ---- what a refusal leaves
 
--- no more does what was begun
-begun_keeps : (o : Options) (bytes : List ℕ) (old new : Tracked) → LeavesBeginning tracked_meaning false o bytes old new → BeginsWith old.text new.text
-begun_keeps o bytes old new (inl e) = untouched old new e
-begun_keeps o bytes old new (inr h) = run_keeps old h.1.left.calls new h.1.left.run
+-- a tracker claims nothing
+run_claims_none : (s t : Tracked) (calls : List Call) → Run tracked_meaning s calls t → AllByRecursion IsUnclaimed calls
+run_claims_none s t calls r = none_claimed tracked_meaning claims_never s t calls r
 
--- a refusal leaves the old text in front
-pub refusal_keeps : (o : Options) (bytes : List ℕ) (old new : Tracked) (e : Error) → Leaves tracked_meaning false o bytes old new e → BeginsWith old.text new.text
-refusal_keeps o bytes old new (Malformed place) h = untouched old new h
-refusal_keeps o bytes old new Component h = untouched old new h
-refusal_keeps o bytes old new (TooManyLocals place) h = untouched old new h
-refusal_keeps o bytes old new (TooManyFunctions count) h = untouched old new h
-refusal_keeps o bytes old new (EmptyTableInit place) h = untouched old new h
-refusal_keeps o bytes old new (FoldLegacy place) h = untouched old new h
-refusal_keeps o bytes old new (FoldHint place) h = untouched old new h
-refusal_keeps o bytes old new (DylinkSubsection id) h = run_keeps old h.left.made.calls new h.left.made.run
-refusal_keeps o bytes old new (Printer x) h = broken_keeps old new x (layout (in_colours o false) h.answers h.placed) h.left
-refusal_keeps o bytes old new Memory h = begun_keeps o bytes old new h
-refusal_keeps o bytes old new _ h = absurd h
+begun_gains : (o : Options) (old new : Tracked) (placed : PlacedModule) (answers : Answers) →
+    Begun tracked_meaning old new (layout o answers placed) → GainsPrefix o old.text new.text placed answers
+begun_gains o old new placed answers b = record {
+  calls = b.calls;
+  rest = b.rest;
+  alike = b.alike;
+  unclaimed = run_claims_none old new b.calls b.run;
+  appended = run_text old b.calls new b.run;
+}
+
+broken_gains : (o : Options) (old new : Tracked) (x : IoError) (placed : PlacedModule) (answers : Answers) →
+    Broken tracked_meaning old new x (layout o answers placed) → GainsPrefix o old.text new.text placed answers
+broken_gains o old new x placed answers b = record {
+  calls = b.calls;
+  rest = atoms (b.call ∷ []) ++ b.rest;
+  alike = broken_alike tracked_meaning old new x (layout o answers placed) b;
+  unclaimed = run_claims_none old b.before b.calls b.run;
+  appended = broken_text old new x (layout o answers placed) b;
+}
+
+module _ (o : Options) (bytes : List ℕ) (old new : Tracked) where
+  memory_leaves : LeavesBeginning tracked_meaning false o bytes old new → LeavesStorage o bytes Memory old.text new.text
+  memory_leaves (inl e) = inl (ap (λ (t : Tracked). t.text) e)
+  memory_leaves (inr h) = inr (record {
+    placed = h.1.placed;
+    spelled = h.1.spelled;
+    within = h.1.within;
+    foldable = h.1.foldable;
+    answers = h.1.answers;
+    left = begun_gains (in_colours o false) old new h.1.placed h.1.answers h.1.left;
+  })
+
+  -- an error of the printer is a failed allocation
+  pub refusal_leaves : (e : Error) → Leaves tracked_meaning false o bytes old new e → LeavesStorage o bytes (as_growth e) old.text new.text
+  refusal_leaves (Malformed place) h = ap (λ (t : Tracked). t.text) h
+  refusal_leaves Component h = ap (λ (t : Tracked). t.text) h
+  refusal_leaves (TooManyLocals place) h = ap (λ (t : Tracked). t.text) h
+  refusal_leaves (TooManyFunctions count) h = ap (λ (t : Tracked). t.text) h
+  refusal_leaves (EmptyTableInit place) h = ap (λ (t : Tracked). t.text) h
+  refusal_leaves (FoldLegacy place) h = ap (λ (t : Tracked). t.text) h
+  refusal_leaves (FoldHint place) h = ap (λ (t : Tracked). t.text) h
+  refusal_leaves (DylinkSubsection id) h = record {
+    placed = h.placed;
+    spelled = h.spelled;
+    within = h.within;
+    foldable = h.foldable;
+    answers = h.answers;
+    left = record {
+      ends = h.left.ends;
+      unclaimed = alike_unclaimed h.left.made.calls (layout (in_colours o false) h.answers h.placed) h.left.made.alike
+          (run_claims_none old new h.left.made.calls h.left.made.run);
+      appended = run_text old h.left.made.calls new h.left.made.run
+          ∙ ap (λ (t : List ℕ). old.text ++ t) (alike_texts h.left.made.calls (layout (in_colours o false) h.answers h.placed) h.left.made.alike);
+    };
+  }
+  refusal_leaves (Printer x) h = inr (record {
+    placed = h.placed;
+    spelled = h.spelled;
+    within = h.within;
+    foldable = h.foldable;
+    answers = h.answers;
+    left = broken_gains (in_colours o false) old new x h.placed h.answers h.left;
+  })
+  refusal_leaves Memory h = memory_leaves h
+  refusal_leaves _ h = absurd h
+
+  -- all was printed, but a line has no entry
+  pub printed_leaves : Printed tracked_meaning false o bytes old new → LeavesStorage o bytes Memory old.text new.text
+  printed_leaves v = inr (record {
+    placed = v.placed;
+    spelled = v.spelled;
+    within = v.within;
+    foldable = v.foldable;
+    answers = v.answers;
+    left = record {
+      calls = v.calls;
+      rest = [];
+      alike = append-nil (atoms v.calls) ∙ v.alike;
+      unclaimed = run_claims_none old new v.calls v.run;
+      appended = run_text old v.calls new v.run;
+    };
+  })
 
 -- ---- what `finish` gives is handed on, and its error as want of memory
 
@@ -80,17 +153,12 @@ handed_on_as R Q (Ok v) (Err y) h q = tt
 handed_on_as R Q (Err e) (Ok w) h q = absurd h
 handed_on_as R Q (Err e) (Err y) h q = tt
 
-pub on_err : {T E : Type 0} (r : Result T E) (P : Type 0) → P → OnErr r P
-on_err (Ok x) P p = tt
-on_err (Err y) P p = p
-
 module _ (o : Options) (bytes base text : List ℕ) (old t : Tracked) (is_old : old ≡ without_lines base) (is_text : text ≡ t.text) where
-  -- the old text stands in front
-  pub in_front : BeginsWith old.text t.text → BeginsWith base text
-  in_front h = (h.0, is_text ∙ h.1 ∙ ap (λ (s : Tracked). s.text ++ h.0) is_old)
-
-  pub printed_behind : Printed tracked_meaning false o bytes old t → BeginsWith base text
-  printed_behind v = in_front (run_keeps old v.calls t v.run)
+  -- what the storage was, and what it is
+  pub leaves_as : (e : Error) → LeavesStorage o bytes e old.text t.text → LeavesStorage o bytes e base text
+  leaves_as e h =
+      subst (λ (x : List ℕ). LeavesStorage o bytes e base x) (sym is_text)
+      (subst (λ (s : Tracked). LeavesStorage o bytes e s.text t.text) is_old h)
 
   -- want of memory for a line is true of bytes that were printed
   pub printable : Printed tracked_meaning false o bytes old t → IsTrueOfText o bytes Memory

@@ -1,12 +1,17 @@
 -- What it is that the text of a module was appended to a text, with its lines.
-use Rattle.std.specs.Prelude.{◌≡◌, ◌++◌, ℕ, List, false, Some, slice_get}
-use Rattle.wasmprinter_spec.specs.Placed.{PlacedFunction}
-use Rattle.wasmprinter_spec.specs.Options.{Options, in_colours}
-use Rattle.wasmprinter_spec.specs.Layout.{layout}
+use Rattle.std.specs.Prelude.{◌≡◌, ◌⊎◌, ◌++◌, ℕ, List, false, Some, slice_get}
+use Rattle.std.specs.List.{AllByRecursion}
+use Rattle.wasmprinter_error.specs.declared.error.Error.{Error}
+use Rattle.wasmprinter_error.specs.declared.error.Error.TheVariants.{DylinkSubsection, Memory}
+use Rattle.wasmprinter_spec.specs.Placed.{PlacedModule, PlacedFunction}
+use Rattle.wasmprinter_spec.specs.Call.{Call, IsUnclaimed, atoms, text_of}
+use Rattle.wasmprinter_spec.specs.Options.{Options, Answers, in_colours}
+use Rattle.wasmprinter_spec.specs.Layout.{layout, refusal}
 use Rattle.wasmprinter_spec.specs.Lines.{TextLine, lines_of, joined_lines, line_places, hint_places, HasFunctionLines}
 use Rattle.wasmprinter_tracker.specs.declared.lines.LineStart.{LineStart}
 use Rattle.wasmprinter_tracker.specs.Cuts.{lines_at_starts}
 use Rattle.wasmprinter.specs.Printed.{HasTextBy, no_claims}
+use Rattle.wasmprinter.specs.Outcome.{WhilePrinting}
 
 -- The text of the module that the bytes spell stands behind the old text. The lines are those of its layout: joined they are that text, and
 -- where bodies are printed flat each function has its header, its locals and its operators on lines of their own.
@@ -22,3 +27,24 @@ pub record HasLinesBy (o : Options) (bytes old storage : List ℕ) (lines : List
 -- the same where the lines are those that begin at these places of the storage
 abbrev pub HasLinesAt : Options → List ℕ → List ℕ → List ℕ → List LineStart → Type 0
 HasLinesAt o bytes old storage starts = HasLinesBy o bytes old storage (lines_at_starts starts storage)
+
+-- Text was appended: that of calls which are a prefix of the module's layout, however text is split. They claim no custom section.
+pub record GainsPrefix (o : Options) (old new : List ℕ) (placed : PlacedModule) (answers : Answers) : Type 0 where
+  pub calls : List Call
+  pub rest : List Call
+  pub alike : atoms calls ++ rest ≡ atoms (layout o answers placed)
+  pub unclaimed : AllByRecursion IsUnclaimed calls
+  pub appended : new ≡ old ++ text_of calls
+
+-- The layout ends at a `dylink.0` section, for its subsection with this id, and claims no custom section. All of its text was appended.
+pub record GainsTextBefore (id : ℕ) (o : Options) (old new : List ℕ) (placed : PlacedModule) (answers : Answers) : Type 0 where
+  pub ends : refusal o answers placed ≡ Some id
+  pub unclaimed : AllByRecursion IsUnclaimed (layout o answers placed)
+  pub appended : new ≡ old ++ text_of (layout o answers placed)
+
+-- What the storage holds after an error. A `dylink.0` section with an unknown subsection ends the text. If an allocation failed, a prefix of
+-- the module's text may have been appended. After any other error the storage is unchanged.
+abbrev pub LeavesStorage : Options → List ℕ → Error → List ℕ → List ℕ → Type 0
+LeavesStorage o bytes (DylinkSubsection id) old new = WhilePrinting o bytes (GainsTextBefore id (in_colours o false) old new)
+LeavesStorage o bytes Memory old new = (new ≡ old) ⊎ WhilePrinting o bytes (GainsPrefix (in_colours o false) old new)
+LeavesStorage o bytes e old new = new ≡ old

@@ -1,9 +1,8 @@
 //! The text of a module behind another text, with its lines.
-ghost use Rattle.std.specs.Prelude.{◌↔◌, OnErr, IfOk, IfErr, IsErrOf, string_bytes};
+ghost use Rattle.std.specs.Prelude.{◌↔◌, IfOk, IfErr, IsErrOf, string_bytes};
 ghost use Rattle.wasmprinter_spec.specs.Binary.{IsComponent};
 ghost use Rattle.wasmprinter_tracker.specs.Cuts.{IsCuttable};
-ghost use Rattle.wasmprinter_tracker.specs.Tracking.{BeginsWith};
-ghost use Rattle.wasmprinter.specs.Lined.{HasLinesBy, HasLinesAt};
+ghost use Rattle.wasmprinter.specs.Lined.{HasLinesBy, HasLinesAt, LeavesStorage};
 ghost use Rattle.wasmprinter.specs.Outcome.{HasTextCause, IsTrueOfText};
 
 use crate::config::Config;
@@ -19,11 +18,12 @@ impl Config {
     /// A [`LineStart`] holds a line's place, a byte offset from the start of the module, and the byte offset in `storage` of the line's
     /// first byte. [`OffsetsAndLines::new`] makes an iterator over the lines from both. The old text of `storage` stays before the first
     /// line. [`Config::offsets_and_lines`] does both steps. Unlike that method, this one promises by its contract what `storage` holds
-    /// after the call: its old text and then the text of the module, or after an error a text that begins with the old one.
+    /// after the call: its old text, and then the text of the module, or after an error at most a prefix of it.
     ///
     /// # Errors
     ///
-    /// As [`Config::print_to_string`]. `storage` then begins with its old text.
+    /// As [`Config::print_to_string`]. `storage` keeps its old text. If an allocation failed, a prefix of the module's text may follow it.
+    /// After [`Error::DylinkSubsection`] the text before that `dylink.0` section follows. Otherwise nothing does.
     pub fn print_with_line_starts(
         &self,
         alloc: Global,
@@ -36,7 +36,7 @@ impl Config {
         ensures caused { IfErr result (HasTextCause self.now wasm.now) }
         ensures refused { IfErr result (IsTrueOfText self.now wasm.now) }
         ensures component { IsErrOf result Error.Component ↔ IsComponent wasm.now }
-        ensures left { OnErr result (BeginsWith (string_bytes storage.old) (string_bytes storage.new)) }
+        ensures left { IfErr result (λ e. LeavesStorage self.now wasm.now e (string_bytes storage.old) (string_bytes storage.new)) }
     {
         let text = mem::replace(storage, String::new(alloc));
         let mut printer = Tracker::new(alloc, text);

@@ -1,46 +1,29 @@
 -- Why printing over a buffer fails, and what that leaves in it.
-use Rattle.std.proofs.Common.{◌≡◌, ℕ, ◌≤◌, ◌^◌, List, [], ◌∷◌, ◌++◌, length, map, refl, sym, ap, ap₂, ◌∙◌, subst, append-nil, append_assoc, length-append, arith, inl, inr}
+use Rattle.std.proofs.Common.{◌≡◌, ℕ, ◌≤◌, ◌^◌, List, [], ◌∷◌, ◌++◌, length, sym, ap, ◌∙◌, subst, length-append, arith, inl, inr}
+use Rattle.std.specs.List.{AllByRecursion}
 use Rattle.std.specs.Prelude.{false, Result, Ok, Err, IfErr, OnOk}
 use Rattle.std.specs.declared.io.Error.{Error as IoError}
 use Rattle.wasmprinter_error.specs.declared.error.Error.{Error}
 use Rattle.wasmprinter_error.specs.declared.error.Error.TheVariants.{Malformed, Component, TooManyLocals, TooManyFunctions, EmptyTableInit, FoldLegacy, FoldHint, DylinkSubsection, Printer, Memory}
-use Rattle.wasmprinter_spec.specs.Call.{Call, Text, Newline, Line, Start, Claim, call_text, calls_of_bytes, atoms, text_of}
+use Rattle.wasmprinter_spec.specs.Call.{Call, IsUnclaimed, call_text, text_of, atoms}
 use Rattle.wasmprinter_spec.specs.Meaning.{Run}
 use Rattle.wasmprinter_spec.specs.Options.{Options, in_colours}
 use Rattle.wasmprinter_spec.specs.Layout.{layout}
-use Rattle.wasmprinter_spec.proofs.Texts.{text_of-append, alike_texts}
+use Rattle.wasmprinter_spec.proofs.Texts.{alike_texts}
+use Rattle.wasmprinter_print.proofs.Prefixes.{broken_parts}
 use Rattle.wasmprinter_print.specs.Emits.{Whole, Broken, Begun}
 use Rattle.wasmprinter.specs.Printed.{Printed}
 use Rattle.wasmprinter.specs.Outcome.{HasCause, Leaves, LeavesBeginning}
+use Rattle.wasmprinter.proofs.Claims.{alike_unclaimed}
+use Rattle.wasmprinter.proofs.Prefixes.{broken_alike}
+use Rattle.wasmprinter.proofs.Texts.{none_claimed}
 use Rattle.wasmprinter.proofs.Subsections.{refused_unknown}
 use Rattle.wasmprinter_c.specs.Over.{over}
 use Rattle.wasmprinter_c.specs.Copied.{copied_meaning}
 use Rattle.wasmprinter_c.specs.Lines.{entries}
 use Rattle.wasmprinter_c.specs.Refused.{IsTooLong, HasBufferCause, HoldsPrefix, LeavesBuffer}
 use Rattle.wasmprinter_c.specs.declared.copier.Copier.{Copier}
-use Rattle.wasmprinter_c.proofs.Runs.{HasCopied, IsFresh, run_copied}
-
--- ---- the text of calls whose texts are split
-
-bytes_text : (s : List ℕ) → text_of (map (λ b. Text (b ∷ [])) s) ≡ s
-bytes_text [] = refl
-bytes_text (b ∷ bs) = ap (λ (t : List ℕ). b ∷ t) (bytes_text bs)
-
-split_text : (c : Call) → text_of (calls_of_bytes c) ≡ call_text c
-split_text (Text s) = bytes_text s
-split_text Newline = refl
-split_text (Line place) = refl
-split_text (Start style) = refl
-split_text (Claim name place bytes answer) = refl
-
-pub text_of-atoms : (cs : List Call) → text_of (atoms cs) ≡ text_of cs
-text_of-atoms [] = refl
-text_of-atoms (c ∷ cs) = text_of-append (calls_of_bytes c) (atoms cs) ∙ ap₂ (λ (x y : List ℕ). x ++ y) (split_text c) (text_of-atoms cs)
-
--- calls that are a prefix of a layout have a prefix of its text
-prefix_text : (k rest l : List Call) → atoms k ++ rest ≡ atoms l → text_of l ≡ text_of k ++ text_of rest
-prefix_text k rest l e =
-    sym (text_of-atoms l) ∙ ap text_of (sym e) ∙ text_of-append (atoms k) rest ∙ ap (λ (t : List ℕ). t ++ text_of rest) (text_of-atoms k)
+use Rattle.wasmprinter_c.proofs.Runs.{HasCopied, IsFresh, run_copied, claims_never}
 
 -- ---- a printer that was fresh
 
@@ -50,27 +33,23 @@ module _ (old : Copier) (fresh : IsFresh old) where
       let has : HasCopied old (text_of w.calls) (entries 0 w.calls) new = run_copied old new w.calls fresh w.run in
       has.copied ∙ ap (λ (t : List ℕ). over t old.out.now) (alike_texts w.calls l w.alike)
 
+  -- the printer claims nothing
+  run_claims_none : (new : Copier) (calls : List Call) → Run copied_meaning old calls new → AllByRecursion IsUnclaimed calls
+  run_claims_none new calls r = none_claimed copied_meaning claims_never old new calls r
+
   begun_holds : (new : Copier) (l : List Call) → Begun copied_meaning old new l → HoldsPrefix l old.out.now new.out.now
   begun_holds new l b =
       let has : HasCopied old (text_of b.calls) (entries 0 b.calls) new = run_copied old new b.calls fresh b.run in
-      record { text = text_of b.calls; rest = text_of b.rest; is = prefix_text b.calls b.rest l b.alike; copied = has.copied }
-
-  -- the text of the calls before a failed one, and of that one
-  broken_text : (new : Copier) (x : IoError) (l : List Call) → (b : Broken copied_meaning old new x l) →
-      text_of l ≡ text_of b.calls ++ (call_text b.call ++ text_of b.rest)
-  broken_text new x l b =
-      let made : List Call = b.calls ++ b.call ∷ [] in
-      prefix_text made b.rest l b.alike ∙ ap (λ (t : List ℕ). t ++ text_of b.rest) (text_of-append b.calls (b.call ∷ []))
-      ∙ append_assoc (text_of b.calls) (call_text b.call ++ []) (text_of b.rest)
-      ∙ ap (λ (t : List ℕ). text_of b.calls ++ (t ++ text_of b.rest)) (append-nil (call_text b.call))
+      record { calls = b.calls; rest = b.rest; alike = b.alike; unclaimed = run_claims_none new b.calls b.run; copied = has.copied }
 
   broken_holds : (new : Copier) (x : IoError) (l : List Call) → Broken copied_meaning old new x l → HoldsPrefix l old.out.now new.out.now
   broken_holds new x l b =
       let has : HasCopied old (text_of b.calls) (entries 0 b.calls) b.before = run_copied old b.before b.calls fresh b.run in
       record {
-        text = text_of b.calls;
-        rest = call_text b.call ++ text_of b.rest;
-        is = broken_text new x l b;
+        calls = b.calls;
+        rest = atoms (b.call ∷ []) ++ b.rest;
+        alike = broken_alike copied_meaning old new x l b;
+        unclaimed = run_claims_none b.before b.calls b.run;
         copied = ap (λ (c : Copier). c.out.now) b.failed.left ∙ has.copied;
       }
 
@@ -78,7 +57,7 @@ module _ (old : Copier) (fresh : IsFresh old) where
   pub broken_long : (new : Copier) (x : IoError) (l : List Call) → Broken copied_meaning old new x l → 2 ^ 64 ≤ length (text_of l)
   broken_long new x l b =
       let has : HasCopied old (text_of b.calls) (entries 0 b.calls) b.before = run_copied old b.before b.calls fresh b.run in
-      let n₁ = ap length (broken_text new x l b) in
+      let n₁ = ap length (broken_parts copied_meaning old new x l b) in
       let n₂ = length-append (text_of b.calls) (call_text b.call ++ text_of b.rest) in
       let n₃ = length-append (call_text b.call) (text_of b.rest) in
       let counted = has.counted in
@@ -139,7 +118,12 @@ module _ (old : Copier) (fresh : IsFresh old) where
       within = h.within;
       foldable = h.foldable;
       answers = h.answers;
-      left = record { ends = h.left.ends; copied = whole_holds new (layout (in_colours o false) h.answers h.placed) h.left.made };
+      left = record {
+        ends = h.left.ends;
+        unclaimed = alike_unclaimed h.left.made.calls (layout (in_colours o false) h.answers h.placed) h.left.made.alike
+            (run_claims_none new h.left.made.calls h.left.made.run);
+        copied = whole_holds new (layout (in_colours o false) h.answers h.placed) h.left.made;
+      };
     }
     leaves_buffer (Printer x) h = record {
       placed = h.placed;

@@ -1,11 +1,12 @@
 -- What the library for C reports of a module that is not printed.
+use Rattle.std.specs.List.{AllByRecursion}
 use Rattle.std.specs.Prelude.{◌≡◌, ◌≤◌, ◌^◌, ◌⊎◌, ℕ, List, ◌++◌, true, false, Some, length}
 use Rattle.wasmprinter_error.specs.declared.error.Error.{Error}
 use Rattle.wasmprinter_error.specs.declared.error.Error.TheVariants.{Malformed, Component, TooManyLocals, TooManyFunctions, EmptyTableInit, FoldLegacy, FoldHint, DylinkSubsection, Unreadable, Printer, Memory}
 use Rattle.wasmprinter_spec.specs.Binary.{Spells}
 use Rattle.wasmprinter_spec.specs.Placed.{PlacedModule}
 use Rattle.wasmprinter_spec.specs.Limits.{IsWithinLimits}
-use Rattle.wasmprinter_spec.specs.Call.{Call, text_of}
+use Rattle.wasmprinter_spec.specs.Call.{Call, IsUnclaimed, atoms, text_of}
 use Rattle.wasmprinter_spec.specs.Options.{Options, Answers, defaults, in_colours}
 use Rattle.wasmprinter_spec.specs.Layout.{layout, refusal}
 use Rattle.wasmprinter.specs.Outcome.{HasPrintReason, print_reasons, causes, AnyIsUnknown, MayGrow, IsTrueOf, WhilePrinting}
@@ -63,25 +64,28 @@ HasBufferCause o bytes e =
 abbrev pub IsTrueOrUncopied : Options → List ℕ → Error → Type 0
 IsTrueOrUncopied o bytes e = IsTrueOf o bytes e ⊎ ((e ≡ Memory) × IsCopied o.indent)
 
--- a prefix of the text of these calls was written over the buffer
-pub record HoldsPrefix (calls : List Call) (old new : List ℕ) : Type 0 where
-  pub text : List ℕ
-  pub rest : List ℕ
-  pub is : text_of calls ≡ text ++ rest
-  pub copied : new ≡ over text old
+-- The text of calls which are a prefix of a layout, however text is split, was written over the buffer. They claim no custom section.
+pub record HoldsPrefix (layout : List Call) (old new : List ℕ) : Type 0 where
+  pub calls : List Call
+  pub rest : List Call
+  pub alike : atoms calls ++ rest ≡ atoms layout
+  pub unclaimed : AllByRecursion IsUnclaimed calls
+  pub copied : new ≡ over (text_of calls) old
 
 -- The module that the bytes encode was being printed. The buffer holds a prefix of the text of its layout.
 abbrev pub HoldsPrefixOf : Options → List ℕ → List ℕ → List ℕ → Type 0
 HoldsPrefixOf o bytes old new =
     WhilePrinting o bytes (λ placed answers. HoldsPrefix (layout (in_colours o false) answers placed) old new)
 
--- the layout ends at the subsection with this id, and all of its text was written over the buffer
+-- The layout ends at a `dylink.0` section, for its subsection with this id, and claims no custom section. All of its text was written over
+-- the buffer.
 pub record HoldsTextBefore (id : ℕ) (o : Options) (old new : List ℕ) (placed : PlacedModule) (answers : Answers) : Type 0 where
   pub ends : refusal o answers placed ≡ Some id
+  pub unclaimed : AllByRecursion IsUnclaimed (layout o answers placed)
   pub copied : new ≡ over (text_of (layout o answers placed)) old
 
--- What the buffer holds after an error. If the module was refused before it was printed, the buffer is unchanged. An unknown subsection
--- of `dylink.0` ends the text. If the text is too long, or an allocation failed while operators were folded, the buffer holds a prefix.
+-- What the buffer holds after an error. If the module was refused before it was printed, the buffer is unchanged. A `dylink.0` section
+-- with an unknown subsection ends the text. If the text is too long, or an allocation failed while operators were folded, the buffer holds a prefix.
 abbrev pub LeavesBuffer : Options → List ℕ → Error → List ℕ → List ℕ → Type 0
 LeavesBuffer o bytes (DylinkSubsection id) old new = WhilePrinting o bytes (HoldsTextBefore id (in_colours o false) old new)
 LeavesBuffer o bytes (Printer e) old new = HoldsPrefixOf o bytes old new

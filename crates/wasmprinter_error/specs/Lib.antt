@@ -1,2 +1,3 @@
 -- What contracts say of errors.
 pub mod Reasons
+pub mod Messages

@@ -160,6 +160,27 @@ fn keeps_the_text_behind_a_refusal(rt: HostRuntime) -> Result<(), Fail> {
     Ok(())
 }
 
+/// A custom section, and a `dylink.0` section in which a subsection that is not known follows one that is.
+const UNKNOWN_AFTER_CUSTOM: [u8; 33] = [
+    0x00, 0x61, 0x73, 0x6d, 0x01, 0x00, 0x00, 0x00, // preamble
+    0x00, 0x03, 0x01, 0x61, 0x78, // a custom section
+    0x00, 0x12, 0x08, 0x64, 0x79, 0x6c, 0x69, 0x6e, 0x6b, 0x2e, 0x30, // the name
+    0x01, 0x04, 0x01, 0x00, 0x00, 0x00, // a known subsection
+    0x09, 0x01, 0x00, // an unknown one
+];
+
+#[test]
+fn keeps_custom_sections_before_a_refusal(rt: HostRuntime) -> Result<(), Fail> {
+    let mut storage = String::from_str(rt.alloc(), "old")?;
+    let refused = refusal(rt.alloc(), &UNKNOWN_AFTER_CUSTOM, &mut storage);
+    assert!(rt; matches!(refused, Some(Error::DylinkSubsection { id: 9 })));
+    expect_text(
+        storage.as_str(),
+        "old(module\n  (@custom \"a\" (before first) \"x\")",
+    )?;
+    Ok(())
+}
+
 /// Line by line, over and over behind the last.
 fn walks_to_the_end(alloc: Global) -> Result<bool, Error> {
     let mut storage = String::new(alloc);

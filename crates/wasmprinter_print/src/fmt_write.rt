@@ -1,5 +1,5 @@
 //! A printer over a writer of text.
-ghost use Rattle.std.specs.Prelude.{◌≡◌};
+ghost use Rattle.std.specs.Prelude.{◌≡◌, OnOk};
 ghost use Rattle.std.specs.IoError.{error_kind};
 ghost use Rattle.std.specs.declared.io.ErrorKind.TheVariants.{Other};
 ghost use Rattle.wasmprinter_print.specs.Writers.{WritesFmt};
@@ -8,22 +8,49 @@ use crate::PrintText;
 use std::io::ErrorKind;
 use std::{fmt, io};
 
+/// A writer of text, as [`PrintFmtWrite`] calls it. Each [`fmt::Write`] is one.
+///
+/// The contract of a failed `fmt::Write::write_str` says nothing. Here a contract names each call and its result, so it can say which calls
+/// were made, that none was made after a failed one, and that nothing fails unless the writer does.
+pub trait WriteText: fmt::Write {
+    ghost use Rattle.std.specs.Prelude.{ℕ, List, Result};
+    ghost use Rattle.std.specs.declared.fmt.Error.{Error as FmtError};
+
+    // The results that a write of this text may have, and the states of the writer after it.
+    ghost takes: { Self → List ℕ → Result (Unit {0}) FmtError → Self → Type 0 };
+
+    /// Writes a text, or fails.
+    fn write_text(&mut self, text: &str) -> fmt::Result
+        ensures exact { takes self.old text.now result self.new }
+        ensures text { OnOk result (Self.write_str_gives self.old text.now self.new) };
+}
+
+// Of a failed write nothing is known.
+impl<W: fmt::Write> WriteText for W {
+    ghost takes = { λ old text result new. OnOk result (W.write_str_gives old text new) };
+
+    #[inline(always)]
+    fn write_text(&mut self, text: &str) -> fmt::Result {
+        self.write_str(text)
+    }
+}
+
 /// A printer over a writer of text, which gets each piece and each line feed. Styles and lines leave no trace.
 #[derive(Drop)]
 pub struct PrintFmtWrite<T>(pub T);
 
-/// The error of a writer that refused: it tells no cause, and so is of the kind `Other`.
+/// The error of a writer that failed: it tells no cause, and so is of the kind `Other`.
 fn error_of_refusal(_e: fmt::Error) -> io::Error
     ensures { error_kind result ≡ Other }
 {
     io::Error::from(ErrorKind::Other)
 }
 
-impl<T: fmt::Write> PrintText for PrintFmtWrite<T> {
-    ghost writes = { λ old bytes answer new. WritesFmt T.write_str_gives old.0 bytes answer new.0 };
+impl<T: WriteText> PrintText for PrintFmtWrite<T> {
+    ghost writes = { λ old bytes answer new. WritesFmt T.takes old.0 bytes answer new.0 };
 
     #[inline]
     fn write_str(&mut self, s: &str) -> io::Result<()> {
-        self.0.write_str(s).map_err(error_of_refusal)
+        self.0.write_text(s).map_err(error_of_refusal)
     }
 }

@@ -32,7 +32,7 @@ pub use calls::{Style, feed, reset, start, text, text_in_style};
 pub use faults::{
     Fault, put_each_char, put_feed, put_line, put_reset, put_start, put_text, put_text_in_style,
 };
-pub use fmt_write::PrintFmtWrite;
+pub use fmt_write::{PrintFmtWrite, WriteText};
 pub use print_text::{PrintText, text_is_gained};
 use std::io;
 

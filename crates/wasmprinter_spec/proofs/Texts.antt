@@ -47,7 +47,12 @@ coloured_text-atoms (c ∷ cs) = coloured_text-append (calls_of_bytes c) (atoms 
 pub alike_texts : (k l : List Call) → atoms k ≡ atoms l → text_of k ≡ text_of l
 alike_texts k l e = sym (text_of-atoms k) ∙ ap text_of e ∙ text_of-atoms l
 
--- also with the sequences of their styles.
+-- Calls that are a prefix of others up to cutting have a prefix of their text.
+pub prefix_text : (k rest l : List Call) → atoms k ++ rest ≡ atoms l → text_of l ≡ text_of k ++ text_of rest
+prefix_text k rest l e =
+    sym (text_of-atoms l) ∙ ap text_of (sym e) ∙ text_of-append (atoms k) rest ∙ ap (λ t. t ++ text_of rest) (text_of-atoms k)
+
+-- Calls that differ only in how text is cut have one text also with the sequences of their styles.
 pub alike_coloured : (k l : List Call) → atoms k ≡ atoms l → coloured_text k ≡ coloured_text l
 alike_coloured k l e = sym (coloured_text-atoms k) ∙ ap coloured_text e ∙ coloured_text-atoms l
 

@@ -14,6 +14,8 @@ mod files;
 #[cfg(test)]
 mod lines;
 #[cfg(test)]
+mod listed;
+#[cfg(test)]
 mod named;
 #[cfg(test)]
 mod options;

@@ -8,7 +8,7 @@ use Rattle.wasmprinter_spec.specs.Meaning.{Run}
 use Rattle.wasmprinter_spec.proofs.Texts.{text_of-append}
 use Rattle.wasmprinter_print.specs.Emits.{Broken}
 use Rattle.wasmprinter_tracker.specs.Tracked.{Tracked, without_lines, extend_last, with_line_if}
-use Rattle.wasmprinter_tracker.specs.Tracking.{tracked_after, tracked_meaning, BeginsWith, Tracks}
+use Rattle.wasmprinter_tracker.specs.Tracking.{tracked_after, tracked_meaning, Tracks}
 use Rattle.wasmprinter_tracker.proofs.LineLaws.{lines_of-text, lines_of-line}
 
 -- a line that begins adds no text, and is there unless it is lost
@@ -92,14 +92,6 @@ claims_never s (Line place) t h = tt
 claims_never s (Start style) t h = tt
 claims_never s (Claim name place bytes answer) t h = h.1
 
--- ---- what stays of the old text
-
-pub run_keeps : (s : Tracked) (calls : List Call) (t : Tracked) → Run tracked_meaning s calls t → BeginsWith s.text t.text
-run_keeps s calls t r = (text_of calls, run_text s calls t r)
-
 -- Where a call failed, the old text is there with that of the calls before it.
 pub broken_text : (s t : Tracked) (e : IoError) (layout : List Call) (b : Broken tracked_meaning s t e layout) → t.text ≡ s.text ++ text_of b.calls
 broken_text s t e layout b = b.failed.left.1 ∙ run_text s b.calls b.before b.run
-
-pub broken_keeps : (s t : Tracked) (e : IoError) (layout : List Call) → Broken tracked_meaning s t e layout → BeginsWith s.text t.text
-broken_keeps s t e layout b = (text_of b.calls, broken_text s t e layout b)

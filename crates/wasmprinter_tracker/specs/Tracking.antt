@@ -33,10 +33,6 @@ tracked_meaning = record {
   faults = λ t. None;
 }
 
--- new begins with old
-abbrev pub BeginsWith : List ℕ → List ℕ → Type 0
-BeginsWith old new = (more : List ℕ) × (new ≡ old ++ more)
-
 -- a tracker has the text and the lines of these calls, behind the text that stood there, unless a line was lost
 pub record Tracks (base : List ℕ) (calls : List Call) (t : Tracked) : Type 0 where
   pub text : t.text ≡ base ++ text_of calls

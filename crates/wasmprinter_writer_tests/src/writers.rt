@@ -1,6 +1,7 @@
 //! `PrintFmtWrite` over a string, and over a writer that refuses a piece.
 
 use crate::scripted::print_to;
+use std::alloc::{AllocError, Global};
 use std::fmt;
 use std::io::ErrorKind;
 use std::test::Fail;
@@ -119,5 +120,33 @@ fn gives_a_long_piece_to_the_writer(rt: HostRuntime) -> Result<(), Fail> {
     printer.write_str(piece.as_str())?;
     assert!(rt; printer.0.given == 1);
     expect_text(printer.0.text.as_str(), piece.as_str())?;
+    Ok(())
+}
+
+/// Whether a text of this length is passed on in one write, and the error of that write is returned.
+fn is_passed_on(alloc: Global, len: usize) -> Result<bool, AllocError> {
+    let mut text = String::new(alloc);
+    for _ in 0..len {
+        text.push('x')?;
+    }
+    let mut taking = PrintFmtWrite(Refusing::new(String::new(alloc), 0));
+    let taken = Print::write_str(&mut taking, text.as_str());
+    let mut refusing = PrintFmtWrite(Refusing::new(String::new(alloc), 1));
+    let refused = Print::write_str(&mut refusing, text.as_str());
+    Ok(
+        taken.is_ok()
+            && taking.0.given == 1
+            && taking.0.text.as_str() == text.as_str()
+            && matches!(refused, Err(e) if e.kind() == ErrorKind::Other)
+            && refusing.0.given == 1
+            && refusing.0.text.is_empty(),
+    )
+}
+
+#[test]
+fn passes_on_a_text_of_each_length(rt: HostRuntime) -> Result<(), Fail> {
+    for len in 0..=300 {
+        assert!(rt; is_passed_on(rt.alloc(), len)?, "{len} bytes");
+    }
     Ok(())
 }

@@ -2,11 +2,11 @@
 use Rattle.std.proofs.Common.{rules, ◌≡◌, string_bytes, sym, ap, ◌∙◌, subst}
 use Rattle.wasmprinter_tracker.specs.Cuts.{lines_at_starts}
 use Rattle.wasmprinter_tracker.specs.Tracked.{without_lines}
-use Rattle.wasmprinter_tracker.specs.Tracking.{BeginsWith}
-use Rattle.wasmprinter.specs.Lined.{HasLinesBy}
-use Rattle.wasmprinter.specs.Outcome.{HasTextCause, IsTrueOfText}
+use Rattle.wasmprinter_error.specs.declared.error.Error.TheVariants.{Memory}
+use Rattle.wasmprinter.specs.Lined.{HasLinesBy, LeavesStorage}
+use Rattle.wasmprinter.specs.Outcome.{HasTextCause, IsTrueOfText, as_growth}
 use Rattle.wasmprinter.proofs.Outcomes.{growth_cause, growth_true}
-use Rattle.wasmprinter.proofs.TrackedLines.{told_as, handed_on_as, on_err, in_front, printed_behind, printable, finished_lines, refusal_keeps}
+use Rattle.wasmprinter.proofs.TrackedLines.{told_as, handed_on_as, leaves_as, printed_leaves, printable, finished_lines, refusal_leaves}
 use Rattle.wasmprinter.proofs.config.Config.print_with_line_starts.Goals as goal
 
 pub returns-in-Ok-clause-lines : goal.returns-in-Ok-clause-lines
@@ -30,8 +30,9 @@ returns-in-Ok-clause-left c =
     let base = string_bytes c.args.storage.now in
     let text = string_bytes c.finish-text.result.0 in
     let begun : c.new-printer.result ≡ without_lines base = c.new-printer.ensures ∙ ap (λ s. without_lines (string_bytes s)) c.replace-text.ensures.value in
-    on_err c.map_err.result (BeginsWith base text)
-    (printed_behind c.args.self.now c.args.wasm.now base text c.new-printer.result c.print-printed.new.printer begun c.finish-text.ensures.text c.in-Ok.ensures.printed)
+    told_as _ (λ e y h. search rules) c.finish-text.result.1 c.map_err.result c.map_err.ensures.cases (λ e. LeavesStorage c.args.self.now c.args.wasm.now e base text)
+    (leaves_as c.args.self.now c.args.wasm.now base text c.new-printer.result c.print-printed.new.printer begun c.finish-text.ensures.text Memory
+    (printed_leaves c.args.self.now c.args.wasm.now c.new-printer.result c.print-printed.new.printer c.in-Ok.ensures.printed))
 
 pub returns-in-Err-clause-caused : goal.returns-in-Err-clause-caused
 returns-in-Err-clause-caused c =
@@ -47,5 +48,6 @@ returns-in-Err-clause-left c =
     let base = string_bytes c.args.storage.now in
     let text = string_bytes c.finish-text.result.0 in
     let begun : c.new-printer.result ≡ without_lines base = c.new-printer.ensures ∙ ap (λ s. without_lines (string_bytes s)) c.replace-text.ensures.value in
-    in_front c.args.self.now c.args.wasm.now base text c.new-printer.result c.print-printed.new.printer begun c.finish-text.ensures.text
-    (refusal_keeps c.args.self.now c.args.wasm.now c.new-printer.result c.print-printed.new.printer c.in-Err.error c.in-Err.ensures.left)
+    subst (λ e. LeavesStorage c.args.self.now c.args.wasm.now e base text) (sym c.without_printer.ensures)
+    (leaves_as c.args.self.now c.args.wasm.now base text c.new-printer.result c.print-printed.new.printer begun c.finish-text.ensures.text (as_growth c.in-Err.error)
+    (refusal_leaves c.args.self.now c.args.wasm.now c.new-printer.result c.print-printed.new.printer c.in-Err.error c.in-Err.ensures.left))

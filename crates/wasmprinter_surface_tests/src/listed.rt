@@ -1,0 +1,116 @@
+//! Lists in operators, at each length up to 50: how they are shown for debugging.
+
+use std::alloc::{AllocError, Global};
+use std::test::Fail;
+use wasmprinter::wasm::{Immediates, decode};
+
+/// The greatest length of a list. Each size in the module then fits in one byte.
+const LONGEST: usize = 50;
+
+/// An operator with a list: its bytes, and how its immediates are shown.
+#[derive(Drop)]
+struct Listing {
+    /// The bytes before the list's length.
+    before: &'static [u8],
+    /// Two items, which the list has by turns.
+    items: [&'static [u8]; 2],
+    /// The bytes after the items, with those of further operators.
+    after: &'static [u8],
+    shown_before: &'static str,
+    shown_items: [&'static str; 2],
+    shown_after: &'static str,
+}
+
+const LISTINGS: [Listing; 3] = [
+    Listing {
+        before: &[0x0e],
+        items: [&[0x07], &[0x08]],
+        after: &[0x03],
+        shown_before: "BrTable([",
+        shown_items: ["7", "8"],
+        shown_after: "], 3)",
+    },
+    Listing {
+        before: &[0x1c],
+        items: [&[0x7f], &[0x7e]],
+        after: &[],
+        shown_before: "Types([",
+        shown_items: ["I32", "I64"],
+        shown_after: "])",
+    },
+    Listing {
+        before: &[0x1f, 0x40],
+        items: [&[0x02, 0x05], &[0x03, 0x04]],
+        after: &[0x0b],
+        shown_before: "TryTable(Empty, [",
+        shown_items: ["All(5)", "AllRef(4)"],
+        shown_after: "])",
+    },
+];
+
+impl Listing {
+    /// Returns the operator with a list of this length, in a body without locals.
+    fn body(&self, alloc: Global, len: usize) -> Result<Vec<u8>, AllocError> {
+        let mut body = Vec::new(alloc);
+        body.push(0)?;
+        body.extend_from_slice(self.before)?;
+        body.push(len as u8)?;
+        for number in 0..len {
+            body.extend_from_slice(self.items[number % 2])?;
+        }
+        body.extend_from_slice(self.after)?;
+        body.push(0x0b)?;
+        Ok(body)
+    }
+
+    /// Returns a module with this body.
+    fn module(&self, alloc: Global, len: usize) -> Result<Vec<u8>, AllocError> {
+        let body = self.body(alloc, len)?;
+        let mut wasm = Vec::new(alloc);
+        wasm.extend_from_slice(b"\0asm\x01\0\0\0\x01\x04\x01\x60\0\0\x03\x02\x01\0")?;
+        wasm.extend_from_slice(&[
+            0x0a,
+            (body.len() as u8).wrapping_add(2),
+            1,
+            body.len() as u8,
+        ])?;
+        wasm.extend_from_slice(&body)?;
+        Ok(wasm)
+    }
+
+    /// Returns how the immediates are shown with a list of this length.
+    fn shown(&self, alloc: Global, len: usize) -> Result<String, AllocError> {
+        let mut shown = String::from_str(alloc, self.shown_before)?;
+        for number in 0..len {
+            shown.push_str(if number == 0 { "" } else { ", " })?;
+            shown.push_str(self.shown_items[number % 2])?;
+        }
+        shown.push_str(self.shown_after)?;
+        Ok(shown)
+    }
+
+    /// Returns whether the immediates are shown as expected.
+    fn is_shown(&self, alloc: Global, len: usize) -> Result<bool, Fail> {
+        let wasm = self.module(alloc, len)?;
+        let module = decode(alloc, &wasm)?;
+        let body = module.body(0).ok_or("no body")?;
+        let (_, operator) = body.operators().next().ok_or("no operator")?;
+        let found = format!(in alloc; "{:?}", operator.immediates)?;
+        let is_list = !matches!(operator.immediates, Immediates::None);
+        Ok(is_list && found.as_str() == self.shown(alloc, len)?.as_str())
+    }
+}
+
+#[test]
+fn shows_lists_of_each_length(rt: HostRuntime) -> Result<(), Fail> {
+    for listing in &LISTINGS {
+        for len in 0..=LONGEST {
+            assert!(rt;
+                listing.is_shown(rt.alloc(), len)?,
+                "{}{len}",
+                listing.shown_before
+            );
+        }
+    }
+    Ok(())
+}
