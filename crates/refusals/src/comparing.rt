@@ -1,16 +1,19 @@
-//! A printer that compares what it is handed with the text that is wanted. It needs no memory.
+//! A printer that compares the text that it gets with the expected text. It allocates nothing.
 
 ghost use Rattle.std.specs.Prelude.{None, false};
 
-use std::io;
-use wasmprinter::Print;
+use std::fmt::Write;
+use std::{fmt, io};
+use wasmprinter::{OffsetsAndLines, Print};
 
 #[derive(Drop)]
 pub struct Comparing<'a> {
-    /// What is still to come.
+    /// The rest of the expected text.
     rest: &'a str,
-    /// Something else came.
+    /// Whether other text came.
     differs: bool,
+    /// Whether the expected text has marks for the calls that write no text.
+    has_marks: bool,
 }
 
 impl<'a> Comparing<'a> {
@@ -18,16 +21,35 @@ impl<'a> Comparing<'a> {
         Comparing {
             rest: text,
             differs: false,
+            has_marks: false,
         }
     }
 
-    /// Whether the text came, and nothing else.
-    pub fn is_whole(&self) -> bool {
-        self.is_beginning() && self.rest.is_empty()
+    /// Returns a printer whose expected text has marks: `{@N}` for a line that starts at byte N, `{@}` for a line without a place, and one
+    /// letter for each style.
+    pub fn with_marks(text: &'a str) -> Comparing<'a> {
+        Comparing {
+            rest: text,
+            differs: false,
+            has_marks: true,
+        }
     }
 
-    /// Whether a beginning of the text came, and nothing else.
-    pub fn is_beginning(&self) -> bool {
+    /// Compares the mark of a call.
+    fn mark(&mut self, mark: &str) -> io::Result<()> {
+        if self.has_marks {
+            self.compare(mark);
+        }
+        Ok(())
+    }
+
+    /// Returns whether the text came, and nothing else.
+    pub fn is_whole(&self) -> bool {
+        self.is_prefix() && self.rest.is_empty()
+    }
+
+    /// Returns whether a prefix of the text came, and nothing else.
+    pub fn is_prefix(&self) -> bool {
         !self.differs
     }
 
@@ -36,12 +58,19 @@ impl<'a> Comparing<'a> {
         text.len().saturating_sub(self.rest.len())
     }
 
-    /// More of what came.
+    /// Compares a piece of text.
     pub fn compare(&mut self, s: &str) {
         match self.rest.strip_prefix(s) {
             Some(rest) => self.rest = rest,
             None => self.differs = true,
         }
+    }
+}
+
+impl fmt::Write for Comparing<'_> {
+    fn write_str(&mut self, s: &str) -> fmt::Result {
+        self.compare(s);
+        Ok(())
     }
 }
 
@@ -65,7 +94,15 @@ impl<'a> Print for Comparing<'a> {
         Ok(())
     }
 
-    fn start_line(&mut self, _binary_offset: Option<u64>) {}
+    fn start_line(&mut self, binary_offset: Option<u64>) {
+        if self.has_marks {
+            self.compare("{@");
+            if let Some(place) = binary_offset {
+                let _ = write!(self, "{place}");
+            }
+            self.compare("}");
+        }
+    }
 
     fn print_custom_section(
         &mut self,
@@ -77,30 +114,39 @@ impl<'a> Print for Comparing<'a> {
     }
 
     fn start_literal(&mut self) -> io::Result<()> {
-        Ok(())
+        self.mark("{L}")
     }
 
     fn start_name(&mut self) -> io::Result<()> {
-        Ok(())
+        self.mark("{N}")
     }
 
     fn start_keyword(&mut self) -> io::Result<()> {
-        Ok(())
+        self.mark("{K}")
     }
 
     fn start_type(&mut self) -> io::Result<()> {
-        Ok(())
+        self.mark("{T}")
     }
 
     fn start_comment(&mut self) -> io::Result<()> {
-        Ok(())
+        self.mark("{C}")
     }
 
     fn reset_color(&mut self) -> io::Result<()> {
-        Ok(())
+        self.mark("{R}")
     }
 
     fn supports_async_color(&self) -> bool {
         false
     }
+}
+
+/// Returns whether these lines are the text.
+pub fn are_text(lines: OffsetsAndLines<'_>, text: &str) -> bool {
+    let mut comparing = Comparing::new(text);
+    for (_, line) in lines {
+        comparing.compare(line);
+    }
+    comparing.is_whole()
 }

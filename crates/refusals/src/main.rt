@@ -1,26 +1,27 @@
-//! Prints modules of every shape, one also in lines and in colours, and one with its operators folded, and tells of each how it ended:
-//! `printed`, `out of memory`, or what else came. Standard input may name the only one to print, and the empty module behind it, or a name
-//! to write to a text in place of all of them.
+//! Prints modules of every shape, in different ways, and writes of each how it ended: `printed`, `out of memory`, or something else.
+//! Standard input may select one shape, which is then printed before the empty module, or a name to write to a text.
 //!
-//! It shows what comes of a refused request for memory (tools/refusals.sh refuses each in turn). So it asks for no memory itself, but for
-//! the text that lines are appended to, and for the requests that standard input wants it to make first: they choose which request of the
-//! library is the one that is refused. For a name, four more requests are its own.
+//! tools/refusals.sh lets each allocation of this program fail in turn, and checks what it writes. The program's own allocations are the
+//! text to which lines are appended, and those that standard input asks for: they select which allocation of the library fails.
 #![tactic(auto)]
 
-mod before;
 mod comparing;
 mod ending;
-mod limited;
+mod modules;
 mod naming;
+mod printers;
 mod shapes;
+mod ways;
+mod without_memory;
 
-use ending::{Ending, ending_of};
+use ending::Ending;
 use naming::{Form, Name};
 use shapes::{SHAPES, Shape};
 use std::alloc::{AllocError, Global};
 use std::io;
 use std::io::Read;
 use std::process::ExitCode;
+use ways::ending_of;
 
 /// How many digits each number on standard input has.
 const DIGITS: usize = 4;
@@ -115,7 +116,7 @@ fn tell(rt: &HostRuntime, name: &str, ending: Ending) -> io::Result<u8> {
 
 /// Prints a shape, tells how that ended, and answers the status of the ending.
 fn print_shape(rt: &HostRuntime, shape: &Shape) -> io::Result<u8> {
-    tell(rt, shape.name, ending_of(rt.alloc(), shape))
+    tell(rt, shape.name, ending_of(rt, shape))
 }
 
 /// Prints what is wanted, writes how each ended, and answers the status of the worst ending.

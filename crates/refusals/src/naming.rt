@@ -1,10 +1,10 @@
-//! Names that are written to a tracker whose text has room for a part of the name only. A failed allocation must leave the same text as
-//! the former code, which wrote each character by its own call, and each byte of a byte string by one to three.
+//! Names that are written to a tracker whose text has room for a part of the name only. A failed allocation must leave the pieces of the
+//! name that fit. A piece is a character of the text, except that `\u{` is one.
 
-use crate::before;
 use crate::ending::Ending;
-use crate::limited::Limited;
 use std::alloc::{AllocError, Global};
+use std::fmt;
+use std::fmt::Write;
 use std::io::ErrorKind;
 use wasmprinter::text::{write_bytes, write_quoted};
 use wasmprinter::{Error, Print};
@@ -36,6 +36,9 @@ const ROOM_STEP: usize = 31;
 
 /// By how much that room grows with the width of the characters.
 const WIDTH_STEP: usize = 17;
+
+/// The room for the text of the longest name: 300 characters of at most 13 bytes each, and the quotes.
+const LONGEST: usize = 4096;
 
 /// The function that writes a name.
 #[derive(Clone, Copy)]
@@ -83,6 +86,55 @@ fn letter(number: usize, width: usize) -> char {
     letters.chars().nth(number % LETTERS_LEN).unwrap_or('?')
 }
 
+/// Returns whether a character represents itself in a quoted string.
+fn is_plain(c: char) -> bool {
+    matches!(c, ' '..='~') && c != '"' && c != '\\'
+}
+
+/// Appends a quoted string: the text of a name.
+fn push_quoted(text: &mut String, name: &str) -> Result<(), fmt::Error> {
+    text.write_char('"')?;
+    for c in name.chars() {
+        if is_plain(c) {
+            text.write_char(c)?;
+        } else {
+            write!(text, "\\u{{{:x}}}", u32::from(c))?;
+        }
+    }
+    text.write_char('"')
+}
+
+/// Appends a quoted string: the text of bytes.
+fn push_bytes(text: &mut String, bytes: &[u8]) -> Result<(), fmt::Error> {
+    text.write_char('"')?;
+    for &byte in bytes {
+        let c = char::from(byte);
+        if is_plain(c) {
+            text.write_char(c)?;
+        } else {
+            write!(text, "\\{byte:02x}")?;
+        }
+    }
+    text.write_char('"')
+}
+
+/// Returns the length of the longest prefix of a text that consists of whole pieces and has at most `room` bytes.
+fn fitting_len(text: &str, room: usize) -> usize {
+    if text.len() <= room {
+        return text.len();
+    }
+    let mut len = 0;
+    let mut before = ' ';
+    for (at, c) in text.char_indices() {
+        let is_inside = (before == '\\' && c == 'u') || c == '{';
+        if !is_inside && at <= room {
+            len = at;
+        }
+        before = c;
+    }
+    len
+}
+
 impl Name {
     /// Returns the characters of the name.
     fn content(&self, alloc: Global) -> Result<String, AllocError> {
@@ -96,6 +148,18 @@ impl Name {
             content.push(letter(number, width))?;
         }
         Ok(content)
+    }
+
+    /// Returns the text of the name. The only allocation is made at the start.
+    fn expected(&self, alloc: Global, content: &str) -> Result<String, AllocError> {
+        let mut text = String::with_capacity(alloc, LONGEST)?;
+        let written = match self.form {
+            Form::Chars => text.write_str(content),
+            Form::Quoted => push_quoted(&mut text, content),
+            Form::Bytes => push_bytes(&mut text, content.as_bytes()),
+        };
+        written.map_err(|_| AllocError)?;
+        Ok(text)
     }
 
     /// Returns the length of the text before the name.
@@ -122,56 +186,38 @@ impl Name {
         Ok(())
     }
 
-    /// Writes the name by the former code.
-    fn write_before<P: Print>(&self, p: &mut P, content: &str) -> Result<(), Error> {
-        match self.form {
-            Form::Chars => before::write_each_char(p, content),
-            Form::Quoted => before::write_quoted(p, content),
-            Form::Bytes => before::write_bytes(p, content.as_bytes()),
-        }
-    }
-
-    /// Writes the text before the name.
-    fn write_old(&self, text: &mut String) -> Result<(), AllocError> {
+    /// Returns a text with room for `room` bytes after its old text.
+    fn old_text(&self, alloc: Global, room: usize) -> Result<String, AllocError> {
+        let mut text = String::with_capacity(alloc, self.old_len().saturating_add(room))?;
         for _ in 0..self.old_len() {
             text.push('o')?;
         }
-        Ok(())
+        Ok(text)
     }
 
-    /// Writes the text before the name, and then the name by the former code, until a piece exceeds the capacity.
-    fn limited(
-        &self,
-        alloc: Global,
-        content: &str,
-        capacity: usize,
-    ) -> Result<Limited, AllocError> {
-        let mut limited = Limited::new(alloc, capacity)?;
-        for _ in 0..self.old_len() {
-            let _ = limited.write_str("o");
-        }
-        let _ = self.write_before(&mut limited, content);
-        Ok(limited)
+    /// Returns whether a text is the old text and then the first `len` bytes of this one.
+    fn has_appended(&self, text: &str, whole: &str, len: usize) -> bool {
+        let rest = text.trim_start_matches('o');
+        let old_len = text.len().saturating_sub(rest.len());
+        old_len == self.old_len() && rest.len() == len && whole.starts_with(rest)
     }
 
-    /// Writes the name to a tracker. The first four allocations are the program's own, and the fifth is the growth of the text.
+    /// Writes the name to a tracker. The first three allocations are the program's own, and the fourth is the growth of the text.
     fn append(&self, alloc: Global) -> Result<Ending, AllocError> {
         let content = self.content(alloc)?;
-        let whole = self.limited(alloc, &content, usize::MAX)?;
-        let len = whole.as_str().len().saturating_sub(self.old_len());
-        let capacity = self.old_len().saturating_add(self.room(len));
-        let part = self.limited(alloc, &content, capacity)?;
-        let mut text = String::with_capacity(alloc, capacity)?;
-        self.write_old(&mut text)?;
+        let whole = self.expected(alloc, &content)?;
+        let room = self.room(whole.len());
+        let text = self.old_text(alloc, room)?;
         let mut tracker = Tracker::new(alloc, text);
         let written = self.write(&mut tracker, &content);
         let (text, _) = tracker.finish();
         Ok(match written {
-            Ok(()) => Ending::of(text.as_str() == whole.as_str(), "wrong text"),
+            Ok(()) => Ending::of(self.has_appended(&text, &whole, whole.len()), "wrong text"),
             Err(error) => Ending::of(
-                text.as_str() == part.as_str(),
-                "wrong text after a refusal",
-            ).or(Ending::of_printer_error(error, ErrorKind::OutOfMemory)),
+                self.has_appended(&text, &whole, fitting_len(&whole, room)),
+                "wrong text after a failed allocation",
+            )
+            .or(Ending::of_printer_error(error, ErrorKind::OutOfMemory)),
         })
     }
 
