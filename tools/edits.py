@@ -1,10 +1,12 @@
 #!/usr/bin/env python3
 """Checks that every deliberately wrong implementation still applies: crates/*/must-fail/*.edit and crates/*/wrong-bodies/*.edit.
 
-An edit names a file of its crate by a line `file: PATH`, and changes it by pairs of lines `old: TEXT` and `new: TEXT`, in order: each later pair
+An edit of `must-fail/` first names the clause that rejects it: `clause: FUNCTION`, or `clause: FUNCTION, NAME` if the function has several. Then an
+edit names a file of its crate by a line `file: PATH`, and changes it by pairs of lines `old: TEXT` and `new: TEXT`, in order: each later pair
 applies to the result of the earlier ones. Nothing is written: the pairs are applied to a copy of the file in memory. An edit is bad if it names
-no file of its crate or has no pair, if a line `old:` has no line `new:` after it, if an old text does not occur exactly once, or if the result is
-the original. Prints each bad edit and the counts; the status is 1 if an edit is bad or there is none.
+no clause although it is one of the gate's, if it names no file of its crate or has no pair, if a line `old:` has no line `new:` after it, if an
+old text does not occur exactly once, or if the result is the original. Prints each bad edit and the counts; the status is 1 if an edit is bad or
+there is none.
 
 The prover is not asked: tools/wrong-bodies.sh and the gate say whether it rejects the edits.
 """
@@ -72,8 +74,11 @@ def main():
         paths = sorted(ROOT.glob(f"crates/*/{folder}/*.edit"))
         counts[folder] = len(paths)
         for path in paths:
+            lines = path.read_text(encoding="utf-8").split("\n")
             try:
-                apply(path.parent.parent, path.read_text(encoding="utf-8").split("\n"))
+                if folder == "must-fail" and not value(lines[0], "clause"):
+                    raise BadEdit("no clause in the first line")
+                apply(path.parent.parent, lines)
             except BadEdit as reason:
                 bad += 1
                 print(f"edits: {path.relative_to(ROOT)}: {reason}")
