@@ -92,9 +92,12 @@ uint32_t wasmprinter_print_lines(const uint8_t *wasm, size_t wasm_len, const Was
                                  size_t indent_len, uint8_t *out, size_t out_len, WasmprinterLine *lines, size_t lines_len,
                                  size_t *length, size_t *count, uint64_t *detail);
 
+/* The description of a status has at most this length. */
+#define WASMPRINTER_ERROR_TEXT_LEN ((size_t)200)
+
 /* Writes the description of a status with its detail over `out`, in English and ASCII, such as `malformed module at byte 0x1f`. Writes
- * the first bytes, as many as fit, and returns the length of the whole description, which is at most 200. A status that no function
- * returns is described as unknown. Allocates nothing. */
+ * the first bytes, as many as fit, and returns the length of the whole description. A status that no function returns is described as
+ * unknown. Allocates nothing. */
 size_t wasmprinter_error_text(uint32_t status, uint64_t detail, uint8_t *out, size_t out_len);
 
 /* Returns the version of the library: the major number times 1,000,000, plus the minor number times 1,000, plus the patch number.

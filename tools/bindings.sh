@@ -14,23 +14,42 @@ trap 'rm -rf "$work"' EXIT
 sh tools/library.sh "$work" >"$work/log" 2>&1 || { cat "$work/log"; exit 1; }
 
 set -- -O2 -Wall -Wextra -Wpedantic -Werror -Iinclude
-cc -std=c99 "$@" bindings/c/test.c "$work/libwasmprinter.a" -o "$work/test"
-"$work/test" bindings/rows.txt
-cc -std=c99 "$@" bindings/c/example.c "$work/libwasmprinter.a" -o "$work/example"
+cc -std=c99 "$@" bindings/c/test.c "$work/libwasmprinter.a" -o "$work/test_c"
+c++ -std=c++17 "$@" -x c++ bindings/c/test.c -x none "$work/libwasmprinter.a" -o "$work/test_cpp"
+"$work/test_c" bindings/rows.txt
+"$work/test_cpp" bindings/rows.txt
+cc -std=c99 "$@" -c bindings/c/fuzz.c -o "$work/fuzz.o"
+cc -std=c99 "$@" bindings/c/example.c "$work/libwasmprinter.a" -o "$work/example_c"
 c++ -std=c++17 "$@" bindings/cpp/example.cpp -L"$work" -lwasmprinter -Wl,-rpath,"$work" -o "$work/example_cpp"
 
-# Both examples print the same text, and report the same error.
+# case_of STATUS OUTPUT FILE: starts an example with a file of the work folder and its standard output written to OUTPUT. It has to end
+# with the status, write the file `out` to OUTPUT unless that is full, and write the file `err` to standard error.
+case_of() {
+    status=0
+    "$work/$example" "$work/$3" >"$2" 2>"$work/reported" || status=$?
+    if [ "$status" != "$1" ]; then
+        echo "bindings: $example $3 ended with status $status, not $1" >&2
+        exit 1
+    fi
+    if [ "$2" != /dev/full ]; then cmp "$work/out" "$2"; fi
+    cmp "$work/err" "$work/reported"
+}
+
 printf '\000asm\001\000\000\000' >"$work/empty.wasm"
 printf '\000asm\015\000\001\000' >"$work/component.wasm"
-echo '(module)' >"$work/text"
-echo 'example: components are not supported' >"$work/error"
-for example in example example_cpp; do
-    "$work/$example" "$work/empty.wasm" | cmp - "$work/text"
-    status=0
-    "$work/$example" "$work/component.wasm" 2>"$work/told" || status=$?
-    [ "$status" = 1 ] && cmp "$work/told" "$work/error"
+for example in example_c example_cpp; do
+    echo '(module)' >"$work/out"
+    : >"$work/err"
+    case_of 0 "$work/written" empty.wasm
+    echo "example: the text can't be written" >"$work/err"
+    case_of 1 /dev/full empty.wasm
+    : >"$work/out"
+    echo 'example: name one file that can be read' >"$work/err"
+    case_of 1 "$work/written" missing.wasm
+    echo 'example: components are not supported' >"$work/err"
+    case_of 1 "$work/written" component.wasm
 done
-echo 'c, cpp: both examples print as typed'
+echo 'c, c++: both examples print and report as typed'
 
 WASMPRINTER_LIB=$work cargo test --offline --quiet --manifest-path bindings/rust/Cargo.toml --target-dir "$work/rust" >"$work/log" 2>&1 ||
     { cat "$work/log"; exit 1; }

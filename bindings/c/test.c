@@ -1,218 +1,327 @@
-/* test FILE: checks every row of bindings/rows.txt. Prints each row that differs, and the counts; the status is 1 if a row differs. */
-#include "wasmprinter.h"
+/* test FILE: checks every row of bindings/rows.txt. Prints each row that differs, and the counts; the status is 1 if a row differs. For C99
+ * and C++. */
+#include "checked.h"
 
 #include <stdio.h>
 #include <stdlib.h>
-#include <string.h>
 
-enum { MOST_LINES = 64, LINE_ROOM = 512, WASM_ROOM = 1 << 20, TEXT_ROOM = 4096, GUARD = 0xa5 };
+#ifdef __cplusplus
+#define LANGUAGE "c++"
+#else
+#define LANGUAGE "c"
+#endif
 
-/* What a row gives and expects. */
+enum { MOST_LINES = 64, LINE_ROOM = 512, WASM_ROOM = 1 << 20, TEXT_ROOM = 4096 };
+
+/* A row: what is printed, and what is expected. */
 typedef struct Row {
     char title[LINE_ROOM];
-    WasmprinterOptions options;
+    Input input;
     uint8_t indent[LINE_ROOM];
-    size_t indent_len;
-    size_t wasm_len;
     bool has_places;
-    uint32_t status;
-    uint64_t detail;
+    Outcome outcome;
     char error[LINE_ROOM];
-    char text[TEXT_ROOM];
-    size_t length;
+    char text[TEXT_ROOM]; /* what the buffer holds after the call */
+    size_t text_len;
     WasmprinterLine lines[MOST_LINES];
-    size_t count;
 } Row;
+
+/* The names of the errors in the row file. */
+static const struct {
+    const char *name;
+    uint32_t status;
+} ERRORS[] = {
+    {"Malformed", WASMPRINTER_MALFORMED},
+    {"Component", WASMPRINTER_COMPONENT},
+    {"TooManyLocals", WASMPRINTER_TOO_MANY_LOCALS},
+    {"TooManyFunctions", WASMPRINTER_TOO_MANY_FUNCTIONS},
+    {"EmptyTableInit", WASMPRINTER_EMPTY_TABLE_INIT},
+    {"FoldLegacy", WASMPRINTER_FOLD_LEGACY},
+    {"FoldHint", WASMPRINTER_FOLD_HINT},
+    {"DylinkSubsection", WASMPRINTER_DYLINK_SUBSECTION},
+    {"InvalidIndent", WASMPRINTER_INVALID_INDENT},
+};
 
 static uint8_t wasm[WASM_ROOM];
 static unsigned rows;
 static unsigned failed;
 
-/* Stops if the file itself is wrong. */
+/* Stops if the row file itself is wrong. */
 static void expect_file(bool is_right, const char *line) {
     if (!is_right) {
-        fprintf(stderr, "c: can't read the row file at: %s\n", line);
+        fprintf(stderr, LANGUAGE ": can't read the row file at: %s\n", line);
         exit(2);
     }
 }
 
+/* Returns what follows a word and a space at the start of a line, or null if the line starts with another word. */
+static const char *after(const char *word, const char *line) {
+    size_t len = strlen(word);
+    if (strncmp(line, word, len) != 0 || (line[len] != ' ' && line[len] != '\0')) {
+        return NULL;
+    }
+    return line + len + (line[len] == ' ');
+}
+
 /* Appends bytes in hexadecimal to a buffer. */
 static size_t read_bytes(const char *words, uint8_t *bytes, size_t len, size_t room) {
-    char *end;
     for (;;) {
+        char *end;
         unsigned long byte = strtoul(words, &end, 16);
         if (end == words) {
+            expect_file(*words == '\0', words);
             return len;
         }
-        expect_file(len < room && byte < 256, words);
+        expect_file(len < room && byte <= UINT8_MAX, words);
         bytes[len++] = (uint8_t)byte;
         words = end;
     }
 }
 
 static void read_options(const char *words, WasmprinterOptions *options) {
-    options->offsets = strstr(words, "offsets") != NULL;
-    options->skeleton = strstr(words, "skeleton") != NULL;
-    options->name_unnamed = strstr(words, "name_unnamed") != NULL;
-    options->fold = strstr(words, "fold") != NULL;
+    while (*words != '\0') {
+        const char *rest;
+        if ((rest = after("offsets", words)) != NULL) {
+            options->offsets = true;
+        } else if ((rest = after("skeleton", words)) != NULL) {
+            options->skeleton = true;
+        } else if ((rest = after("name_unnamed", words)) != NULL) {
+            options->name_unnamed = true;
+        } else if ((rest = after("fold", words)) != NULL) {
+            options->fold = true;
+        } else {
+            expect_file(false, words);
+        }
+        words = rest;
+    }
+}
+
+/* Adds bytes to the text. */
+static void add_text(Row *row, const char *text, size_t len) {
+    expect_file(len <= TEXT_ROOM - row->text_len, text);
+    memcpy(row->text + row->text_len, text, len);
+    row->text_len += len;
 }
 
 /* Adds a line of the text, with its place. */
-static void read_text(Row *row, const char *line, const char *bar) {
-    size_t len = strlen(bar + 1);
-    expect_file(row->count < MOST_LINES && row->length + len + 1 <= TEXT_ROOM, line);
-    WasmprinterLine *entry = &row->lines[row->count++];
-    entry->start = row->length;
+static void read_text(Row *row, const char *line) {
+    const char *bar = strchr(line, '|');
+    expect_file(bar != NULL && row->outcome.count < MOST_LINES, line);
+    WasmprinterLine *entry = &row->lines[row->outcome.count++];
+    entry->start = row->text_len;
     entry->place = bar == line ? 0 : strtoull(line, NULL, 16);
     entry->has_place = bar != line;
-    memcpy(row->text + row->length, bar + 1, len);
-    row->text[row->length + len] = '\n';
-    row->length += len + 1;
+    add_text(row, bar + 1, strlen(bar + 1));
+    add_text(row, "\n", 1);
+    row->outcome.length = row->text_len;
 }
 
 static void read_error(Row *row, const char *words) {
+    const char *rest = NULL;
+    for (size_t i = 0; i < sizeof ERRORS / sizeof ERRORS[0] && rest == NULL; i++) {
+        rest = after(ERRORS[i].name, words);
+        row->outcome.status = ERRORS[i].status;
+    }
+    expect_file(rest != NULL, words);
     char *end;
-    row->status = (uint32_t)strtoul(words, &end, 10);
-    row->detail = strtoull(end, &end, 10);
+    row->outcome.detail = strtoull(rest, &end, 10);
+    expect_file(end != rest && *end == ' ', words);
     strcpy(row->error, end + 1);
 }
 
-/* Reports a difference. */
-static void expect(const Row *row, bool is_right, const char *what) {
-    if (!is_right) {
-        printf("c: %s: another %s\n", row->title, what);
-        failed++;
+/* Reads a line of a row. */
+static void read_line(Row *row, const char *line) {
+    Input *input = &row->input;
+    const char *words;
+    if ((words = after("set", line)) != NULL) {
+        read_options(words, &input->options);
+    } else if ((words = after("indent", line)) != NULL) {
+        input->indent_len = read_bytes(words, row->indent, 0, sizeof row->indent);
+    } else if ((words = after("wasm", line)) != NULL) {
+        input->wasm_len = read_bytes(words, wasm, input->wasm_len, sizeof wasm);
+    } else if ((words = after("zeros", line)) != NULL) {
+        size_t zeros = strtoul(words, NULL, 10);
+        expect_file(zeros <= sizeof wasm - input->wasm_len, line);
+        memset(wasm + input->wasm_len, 0, zeros);
+        input->wasm_len += zeros;
+    } else if (after("places", line) != NULL) {
+        row->has_places = true;
+    } else if ((words = after("error", line)) != NULL) {
+        read_error(row, words);
+    } else if ((words = after("left", line)) != NULL) {
+        add_text(row, words, strlen(words));
+    } else {
+        read_text(row, line);
     }
 }
 
-/* The first bytes are those of the text, as many as fit, and the others are unchanged. */
-static bool is_over(const uint8_t *out, size_t room, const char *text, size_t length) {
-    size_t fits = length < room ? length : room;
-    for (size_t i = fits; i < room; i++) {
-        if (out[i] != GUARD) {
-            return false;
-        }
+/* Starts a row with the default options. */
+static void start_row(Row *row, const char *title) {
+    memset(row, 0, sizeof *row);
+    strcpy(row->title, title);
+    memcpy(row->indent, WASMPRINTER_INDENT, WASMPRINTER_INDENT_LEN);
+    row->input.wasm = wasm;
+    row->input.indent = row->indent;
+    row->input.indent_len = WASMPRINTER_INDENT_LEN;
+}
+
+/* Reports a difference. Returns whether there is none. */
+static bool expect(const char *title, bool is_right, const char *what) {
+    if (!is_right) {
+        printf(LANGUAGE ": %s: another %s\n", title, what);
+        failed++;
     }
-    return memcmp(out, text, fits) == 0;
+    return is_right;
+}
+
+static bool expect_outcome(const Row *row, Outcome outcome, size_t count) {
+    return expect(row->title, outcome.status == row->outcome.status, "status") &&
+           expect(row->title, outcome.detail == row->outcome.detail, "detail") &&
+           expect(row->title, outcome.length == row->outcome.length, "length") &&
+           expect(row->title, outcome.count == count, "count of lines");
 }
 
 /* Prints into a buffer of every size from 0 to one byte more than the text. */
 static void check_text(const Row *row) {
     static uint8_t out[TEXT_ROOM + 1];
-    size_t length = 1;
-    uint64_t detail = 1;
-    for (size_t room = 0; room <= row->length + 1; room++) {
+    bool is_right = true;
+    for (size_t room = 0; is_right && room <= row->text_len + 1; room++) {
         memset(out, GUARD, sizeof out);
-        uint32_t status = wasmprinter_print(wasm, row->wasm_len, &row->options, row->indent, row->indent_len, out, room, &length, &detail);
-        if (status != row->status || detail != row->detail || length != row->length || !is_over(out, room, row->text, row->length)) {
-            expect(row, false, "text or status");
-            return;
-        }
+        is_right = expect_outcome(row, print_text(&row->input, out, room), 0) &&
+                   expect(row->title, is_over(out, sizeof out, room, row->text, row->text_len), "text");
     }
 }
 
-/* Prints with a table that has room for one line less, for all lines, and for one more. */
+/* Compares the first entries of the table. */
+static bool expect_lines(const Row *row, const WasmprinterLine *lines, size_t count) {
+    bool is_right = true;
+    for (size_t i = 0; is_right && i < count; i++) {
+        const WasmprinterLine *typed = &row->lines[i];
+        bool is_place = lines[i].place == typed->place && lines[i].has_place == typed->has_place;
+        is_right = expect(row->title, lines[i].start == typed->start, "start of a line") &&
+                   expect(row->title, is_place || !row->has_places, "place");
+    }
+    return is_right;
+}
+
+/* Prints with a table of every size from 0 to one line more than the text has. */
 static void check_lines(const Row *row) {
-    uint8_t none = 0;
+    static uint8_t out[TEXT_ROOM];
     WasmprinterLine lines[MOST_LINES + 1];
-    size_t length = 1;
-    size_t count = 1;
-    uint64_t detail = 1;
-    for (size_t room = row->count == 0 ? 0 : row->count - 1; room <= row->count + 1; room++) {
+    size_t count = row->outcome.count;
+    bool is_right = true;
+    for (size_t room = 0; is_right && room <= count + 1; room++) {
+        memset(out, GUARD, sizeof out);
         memset(lines, GUARD, sizeof lines);
-        uint32_t status = wasmprinter_print_lines(wasm, row->wasm_len, &row->options, row->indent, row->indent_len, &none, 0, lines, room,
-                                                  &length, &count, &detail);
-        expect(row, status == row->status && detail == row->detail && length == row->length && count == row->count, "count of lines");
-        for (size_t i = 0; i < room && i < row->count; i++) {
-            const WasmprinterLine *typed = &row->lines[i];
-            expect(row, lines[i].start == typed->start, "start of a line");
-            expect(row, !row->has_places || (lines[i].place == typed->place && lines[i].has_place == typed->has_place), "place");
-        }
-        if (room == row->count + 1 && row->status == WASMPRINTER_OK) {
-            WasmprinterLine guarded;
-            memset(&guarded, GUARD, sizeof guarded);
-            expect(row, memcmp(&lines[row->count], &guarded, sizeof guarded) == 0, "entry after the last line");
-        }
+        Outcome outcome = print_lines(&row->input, out, sizeof out, lines, room);
+        size_t fits = room < count ? room : count;
+        /* after an error the entries of the table are not specified */
+        size_t written = row->outcome.status == WASMPRINTER_OK ? fits : room;
+        is_right = expect_outcome(row, outcome, count) && expect_lines(row, lines, fits) &&
+                   expect(row->title, is_over(out, sizeof out, sizeof out, row->text, row->text_len), "text of the lines") &&
+                   expect(row->title, is_unchanged(lines, written * sizeof *lines, sizeof lines), "entry after the last line");
     }
 }
 
-static void check_error_text(const Row *row) {
-    uint8_t text[200];
-    size_t length = wasmprinter_error_text(row->status, row->detail, text, sizeof text);
-    expect(row, length == strlen(row->error) && memcmp(text, row->error, length) == 0, "description");
-    memset(text, GUARD, sizeof text);
-    expect(row, wasmprinter_error_text(row->status, row->detail, text, 3) == length && is_over(text, sizeof text, row->error, 3), "cut description");
+/* Describes a status into a buffer of every size. */
+static void check_error_text(const char *title, uint32_t status, uint64_t detail, const char *text) {
+    uint8_t out[WASMPRINTER_ERROR_TEXT_LEN];
+    bool is_right = true;
+    for (size_t room = 0; is_right && room <= sizeof out; room++) {
+        memset(out, GUARD, sizeof out);
+        is_right = expect(title, wasmprinter_error_text(status, detail, out, room) == strlen(text), "length of the description") &&
+                   expect(title, is_over(out, sizeof out, room, text, strlen(text)), "description");
+    }
 }
 
 static void check(const Row *row) {
     rows++;
     check_text(row);
     check_lines(row);
-    if (row->status != WASMPRINTER_OK) {
-        check_error_text(row);
+    if (row->outcome.status != WASMPRINTER_OK) {
+        check_error_text(row->title, row->outcome.status, row->outcome.detail, row->error);
     }
 }
 
-/* Null pointers, and statuses that no row has. */
-static void check_the_rest(void) {
-    Row row = {.title = "calls without buffers"};
-    size_t length = 0;
-    expect(&row, wasmprinter_print_nullable(NULL, 0, NULL, NULL, 0, NULL, 0, NULL, NULL) == WASMPRINTER_MALFORMED, "status");
-    expect(&row, wasmprinter_print_nullable((const uint8_t *)"\0asm\1\0\0", 8, NULL, NULL, 0, NULL, 0, &length, NULL) == WASMPRINTER_OK, "status");
-    expect(&row, length == 9, "length");
-    expect(&row, wasmprinter_print_lines_nullable((const uint8_t *)"\0asm\1\0\0", 8, NULL, NULL, 0, NULL, 0, NULL, 0, NULL, &length, NULL) == WASMPRINTER_OK, "status");
-    expect(&row, length == 1, "count of lines");
-    expect(&row, wasmprinter_error_text_nullable(WASMPRINTER_OK, 0, NULL, 0) == strlen("success"), "description");
-    expect(&row, wasmprinter_error_text_nullable(WASMPRINTER_UNREADABLE, 0, NULL, 0) == strlen("the file can't be read"), "description");
-    expect(&row, wasmprinter_error_text_nullable(WASMPRINTER_TOO_LONG, 0, NULL, 0) == strlen("the text is too long"), "description");
-    expect(&row, wasmprinter_error_text_nullable(WASMPRINTER_MEMORY, 0, NULL, 0) == strlen("out of memory"), "description");
-    expect(&row, wasmprinter_error_text_nullable(13, 0, NULL, 0) == strlen("unknown status"), "description");
-    expect(&row, wasmprinter_version() == WASMPRINTER_VERSION, "version");
+/* Reads and checks all rows of a file. */
+static void check_file(FILE *file) {
+    static Row row;
+    char line[LINE_ROOM];
+    bool is_open = false;
+    while (fgets(line, sizeof line, file) != NULL) {
+        char *end = strchr(line, '\n');
+        expect_file(end != NULL, line);
+        *end = '\0';
+        const char *title = after("row", line);
+        if (title != NULL) {
+            if (is_open) {
+                check(&row);
+            }
+            start_row(&row, title);
+            is_open = true;
+        } else if (line[0] != '\0' && line[0] != '#') {
+            expect_file(is_open, line);
+            read_line(&row, line);
+        }
+    }
+    expect_file(is_open, "its end");
+    check(&row);
+}
+
+/* Checks calls with null pointers. */
+static void check_null(void) {
+    const char *title = "null pointers";
+    const uint8_t *module = (const uint8_t *)"\0asm\1\0\0";
+    const size_t module_len = 8; /* with the zero byte at the end of the string */
+    size_t length = GUARD;
+    size_t count = GUARD;
+    uint32_t status = wasmprinter_print_nullable(NULL, 0, NULL, NULL, 0, NULL, 0, NULL, NULL);
+    expect(title, status == WASMPRINTER_MALFORMED, "status of no bytes");
+    status = wasmprinter_print_nullable(module, module_len, NULL, NULL, 0, NULL, 0, &length, NULL);
+    expect(title, status == WASMPRINTER_OK && length == strlen("(module)\n"), "length");
+    status = wasmprinter_print_lines_nullable(module, module_len, NULL, NULL, 0, NULL, 0, NULL, 0, NULL, &count, NULL);
+    expect(title, status == WASMPRINTER_OK && count == 1, "count of lines");
+    expect(title, wasmprinter_error_text_nullable(WASMPRINTER_OK, 0, NULL, 0) == strlen("success"), "length of a description");
+}
+
+/* Checks an indent with a zero byte, which the row file can't hold. */
+static void check_zero_byte(void) {
+    static const char module[] = "\0asm\1\0\0\0\1\4\1\x60\0"; /* with the zero byte at the end of the string */
+    static const char indent[] = {'\0', '\t'};
+    static const char text[] = "(module\n\0\t(type (;0;) (func))\n)\n";
+    static Row row;
+    start_row(&row, "an indent with a zero byte");
+    memcpy(wasm, module, sizeof module);
+    row.input.wasm_len = sizeof module;
+    memcpy(row.indent, indent, sizeof indent);
+    row.input.indent_len = sizeof indent;
+    add_text(&row, text, sizeof text - 1);
+    row.outcome.length = row.text_len;
+    check_text(&row);
+}
+
+/* Checks the descriptions of statuses that no row has. */
+static void check_other_statuses(void) {
+    const char *title = "statuses that no row has";
+    check_error_text(title, WASMPRINTER_OK, 0, "success");
+    check_error_text(title, WASMPRINTER_UNREADABLE, 0, "the file can't be read");
+    check_error_text(title, WASMPRINTER_TOO_LONG, 0, "the text is too long");
+    check_error_text(title, WASMPRINTER_MEMORY, 0, "out of memory");
+    check_error_text(title, WASMPRINTER_INVALID_INDENT + 1, 0, "unknown status");
+    check_error_text(title, UINT32_MAX, 0, "unknown status");
+    check_error_text(title, WASMPRINTER_MALFORMED, UINT64_MAX, "malformed module at byte 0xffffffffffffffff");
+    check_error_text(title, WASMPRINTER_TOO_MANY_FUNCTIONS, UINT64_MAX, "module has 18446744073709551615 functions, more than 1000000");
 }
 
 int main(int argc, char **argv) {
     FILE *file = argc == 2 ? fopen(argv[1], "r") : NULL;
     expect_file(file != NULL, "its start");
-    static Row row;
-    static const Row empty = {.indent = "  ", .indent_len = 2};
-    char line[LINE_ROOM];
-    bool is_open = false;
-    while (fgets(line, sizeof line, file) != NULL) {
-        line[strcspn(line, "\n")] = '\0';
-        char *bar = strchr(line, '|');
-        if (strncmp(line, "row ", 4) == 0) {
-            if (is_open) {
-                check(&row);
-            }
-            row = empty;
-            is_open = true;
-            strcpy(row.title, line + 4);
-        } else if (line[0] == '\0' || line[0] == '#') {
-            continue;
-        } else if (strncmp(line, "set ", 4) == 0) {
-            read_options(line + 4, &row.options);
-        } else if (strcmp(line, "indent") == 0 || strncmp(line, "indent ", 7) == 0) {
-            row.indent_len = read_bytes(line + 6, row.indent, 0, sizeof row.indent);
-        } else if (strncmp(line, "wasm ", 5) == 0) {
-            row.wasm_len = read_bytes(line + 5, wasm, row.wasm_len, sizeof wasm);
-        } else if (strncmp(line, "zeros ", 6) == 0) {
-            size_t zeros = strtoul(line + 6, NULL, 10);
-            expect_file(zeros <= sizeof wasm - row.wasm_len, line);
-            memset(wasm + row.wasm_len, 0, zeros);
-            row.wasm_len += zeros;
-        } else if (strcmp(line, "places") == 0) {
-            row.has_places = true;
-        } else if (strncmp(line, "error ", 6) == 0) {
-            read_error(&row, line + 6);
-        } else {
-            expect_file(bar != NULL, line);
-            read_text(&row, line, bar);
-        }
-    }
-    expect_file(is_open, "its end");
-    check(&row);
+    check_file(file);
     fclose(file);
-    check_the_rest();
-    printf("c: %u rows, %u differences\n", rows, failed);
+    check_null();
+    check_zero_byte();
+    check_other_statuses();
+    expect("the library", wasmprinter_version() == WASMPRINTER_VERSION, "version");
+    printf(LANGUAGE ": %u rows, %u differences\n", rows, failed);
     return failed == 0 ? 0 : 1;
 }

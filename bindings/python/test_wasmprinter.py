@@ -1,16 +1,19 @@
 """Checks every row of bindings/rows.txt."""
 
 import pathlib
+import pickle
 import threading
 import unittest
 
 import wasmprinter
 
 ROWS = pathlib.Path(__file__).resolve().parent.parent / "rows.txt"
+EMPTY = b"\0asm\1\0\0\0"
+ONE_TYPE = EMPTY + b"\1\4\1\x60\0\0"
 
 
 class Row:
-    """What a row gives and expects."""
+    """A row: what is printed, and what is expected."""
 
     def __init__(self, title):
         self.title = title
@@ -34,9 +37,9 @@ class Row:
         elif key == "places":
             self.has_places = True
         elif key == "error":
-            status, detail, text = words.split(" ", 2)
-            self.error = int(status), int(detail), text
-        else:
+            name, detail, text = words.split(" ", 2)
+            self.error = name, int(detail), text
+        elif key != "left":
             place, text = line.split("|", 1)
             self.lines.append((int(place, 16) if place else None, text + "\n"))
 
@@ -49,19 +52,6 @@ def rows():
         elif line and not line.startswith("#"):
             found[-1].read(line)
     return found
-
-
-# the class of each status, typed by hand
-CLASSES = {
-    1: wasmprinter.Malformed,
-    2: wasmprinter.Component,
-    3: wasmprinter.TooManyLocals,
-    4: wasmprinter.TooManyFunctions,
-    5: wasmprinter.EmptyTableInit,
-    6: wasmprinter.FoldLegacy,
-    7: wasmprinter.FoldHint,
-    8: wasmprinter.DylinkSubsection,
-}
 
 
 class Rows(unittest.TestCase):
@@ -83,11 +73,11 @@ class Rows(unittest.TestCase):
             if row.has_places:
                 self.assertEqual([line.place for line in lines], [place for place, _ in row.lines])
         else:
-            status, detail, text = row.error
+            name, detail, text = row.error
             for function in (wasmprinter.print_bytes, wasmprinter.print_lines):
-                with self.assertRaises(CLASSES[status]) as raised:
+                with self.assertRaises(wasmprinter.Error) as raised:
                     function(row.wasm, **row.options)
-                self.assertIs(type(raised.exception), CLASSES[status])
+                self.assertIs(type(raised.exception), getattr(wasmprinter, name))
                 self.assertEqual(raised.exception.detail, detail)
                 self.assertEqual(str(raised.exception), text)
 
@@ -98,20 +88,34 @@ class Others(unittest.TestCase):
         self.assertEqual(str(wasmprinter.OutOfMemory()), "out of memory")
         self.assertTrue(issubclass(wasmprinter.OutOfMemory, MemoryError))
 
+    def test_pickled_errors(self):
+        for error in (wasmprinter.Malformed(8), wasmprinter.OutOfMemory()):
+            copy = pickle.loads(pickle.dumps(error))
+            self.assertIs(type(copy), type(error))
+            self.assertEqual((copy.detail, str(copy)), (error.detail, str(error)))
+
     def test_empty_input(self):
         with self.assertRaises(wasmprinter.Malformed):
             wasmprinter.print_bytes(b"")
 
     def test_other_bytes(self):
-        self.assertEqual(wasmprinter.print_bytes(bytearray(b"\0asm\1\0\0\0")), "(module)\n")
-        self.assertEqual(wasmprinter.print_bytes(memoryview(b"\0asm\1\0\0\0")), "(module)\n")
+        self.assertEqual(wasmprinter.print_bytes(bytearray(EMPTY)), "(module)\n")
+        self.assertEqual(wasmprinter.print_bytes(memoryview(EMPTY)), "(module)\n")
+
+    def test_no_bytes(self):
+        for data in (8, "(module)", None):
+            with self.assertRaises(TypeError):
+                wasmprinter.print_bytes(data)
+
+    def test_indent_with_a_zero_byte(self):
+        self.assertEqual(wasmprinter.print_bytes(ONE_TYPE, indent="\0é"), "(module\n\0é(type (;0;) (func))\n)\n")
 
     def test_version(self):
         self.assertEqual(wasmprinter.version(), (0, 263, 0))
 
     def test_threads(self):
         texts = []
-        threads = [threading.Thread(target=lambda: texts.append(wasmprinter.print_bytes(b"\0asm\1\0\0\0"))) for _ in range(8)]
+        threads = [threading.Thread(target=lambda: texts.append(wasmprinter.print_bytes(EMPTY))) for _ in range(8)]
         for thread in threads:
             thread.start()
         for thread in threads:

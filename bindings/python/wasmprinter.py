@@ -11,88 +11,84 @@ from __future__ import annotations
 
 import ctypes
 import os
-from typing import List, NamedTuple, Optional, Tuple, Type
+from typing import Any, ClassVar, Dict, List, NamedTuple, Optional, Tuple, Type, Union
 
 __all__ = [
-    "print_bytes", "print_lines", "version", "Line", "Error", "Malformed", "Component", "TooManyLocals", "TooManyFunctions",
+    "print_bytes", "print_lines", "version", "BytesLike", "Line", "Error", "Malformed", "Component", "TooManyLocals", "TooManyFunctions",
     "EmptyTableInit", "FoldLegacy", "FoldHint", "DylinkSubsection", "TooLong", "OutOfMemory",
 ]
 
+BytesLike = Union[bytes, bytearray, memoryview]
+
+# WASMPRINTER_OK and WASMPRINTER_ERROR_TEXT_LEN in wasmprinter.h
+_SUCCESS = 0
+_ERROR_TEXT_LEN = 200
+
+# how the parts of the version are counted
+_MAJOR, _MINOR = 1_000_000, 1_000
+
 
 class Error(Exception):
-    """Why a module was not printed. `detail` is the place, the count or the id of the error, or 0."""
+    """Why a module was not printed. `status` is the number of the error in wasmprinter.h, and `detail` its place, count or id, or 0."""
 
-    status = 0
+    status: ClassVar[int] = _SUCCESS
+    _by_status: ClassVar[Dict[int, Type[Error]]] = {}
+
+    def __init_subclass__(cls, *, status: Optional[int] = None, **others: Any) -> None:
+        """Enters the class in the table of errors, under its status."""
+        super().__init_subclass__(**others)
+        if status is not None:
+            cls.status = status
+            Error._by_status[status] = cls
 
     def __init__(self, detail: int = 0) -> None:
-        super().__init__(_error_text(self.status, detail))
+        super().__init__(detail)
         self.detail = detail
 
+    def __str__(self) -> str:
+        out = ctypes.create_string_buffer(_ERROR_TEXT_LEN)
+        length = _error_text(self.status, self.detail, out, len(out))
+        return out.raw[:length].decode("ascii")
 
-class Malformed(Error):
+
+class Malformed(Error, status=1):
     """The bytes are not in the binary format. `detail` is the byte offset of the first unexpected byte, number or entry."""
 
-    status = 1
 
-
-class Component(Error):
+class Component(Error, status=2):
     """The bytes are marked as a component."""
 
-    status = 2
 
-
-class TooManyLocals(Error):
+class TooManyLocals(Error, status=3):
     """A function has more than 50,000 locals. `detail` is the byte offset of its body."""
 
-    status = 3
 
-
-class TooManyFunctions(Error):
+class TooManyFunctions(Error, status=4):
     """The module defines more than 1,000,000 functions. `detail` is their number."""
 
-    status = 4
 
-
-class EmptyTableInit(Error):
+class EmptyTableInit(Error, status=5):
     """The initialiser of a table has no operators. `detail` is the byte offset of the table."""
 
-    status = 5
+
+class FoldLegacy(Error, status=6):
+    """Operators are folded, and one is a legacy exception operator. `detail` is its byte offset."""
 
 
-class FoldLegacy(Error):
-    """Operators are folded, and one is of the legacy exception handling. `detail` is its byte offset."""
-
-    status = 6
-
-
-class FoldHint(Error):
+class FoldHint(Error, status=7):
     """Operators are folded, and folded text has no room for a branch hint. `detail` is its byte offset."""
 
-    status = 7
 
-
-class DylinkSubsection(Error):
+class DylinkSubsection(Error, status=8):
     """A `dylink.0` section has an unknown subsection. `detail` is its id."""
 
-    status = 8
 
-
-class TooLong(Error):
+class TooLong(Error, status=10):
     """The text has more bytes than an address can count."""
 
-    status = 10
 
-
-class OutOfMemory(Error, MemoryError):
+class OutOfMemory(Error, MemoryError, status=11):
     """An allocation failed."""
-
-    status = 11
-
-
-_ERRORS: Tuple[Type[Error], ...] = (
-    Malformed, Component, TooManyLocals, TooManyFunctions, EmptyTableInit, FoldLegacy, FoldHint, DylinkSubsection, TooLong, OutOfMemory,
-)
-_ERROR_OF = {error.status: error for error in _ERRORS}
 
 
 class Line(NamedTuple):
@@ -112,40 +108,57 @@ class _Line(ctypes.Structure):
 
 _library = ctypes.CDLL(os.environ.get("WASMPRINTER_SO", "libwasmprinter.so"))
 
-_INPUT = [ctypes.c_char_p, ctypes.c_size_t, ctypes.POINTER(_Options), ctypes.c_char_p, ctypes.c_size_t]
-_SIZE = ctypes.POINTER(ctypes.c_size_t)
-_DETAIL = ctypes.POINTER(ctypes.c_uint64)
 
-_print = _library.wasmprinter_print
-_print.argtypes = _INPUT + [ctypes.c_void_p, ctypes.c_size_t, _SIZE, _DETAIL]
-_print.restype = ctypes.c_uint32
-
-_lines = _library.wasmprinter_print_lines
-_lines.argtypes = _INPUT + [ctypes.c_void_p, ctypes.c_size_t, ctypes.c_void_p, ctypes.c_size_t, _SIZE, _SIZE, _DETAIL]
-_lines.restype = ctypes.c_uint32
-
-_text = _library.wasmprinter_error_text
-_text.argtypes = [ctypes.c_uint32, ctypes.c_uint64, ctypes.c_void_p, ctypes.c_size_t]
-_text.restype = ctypes.c_size_t
-
-_version = _library.wasmprinter_version
-_version.argtypes = []
-_version.restype = ctypes.c_uint32
+def _function(name: str, result: Any, *arguments: Any) -> Any:
+    """Returns a function of the library with its types."""
+    function = getattr(_library, name)
+    function.restype, function.argtypes = result, arguments
+    return function
 
 
-def _error_text(status: int, detail: int) -> str:
-    out = ctypes.create_string_buffer(200)
-    length = _text(status, detail, out, len(out))
-    return out.raw[:length].decode("ascii")
+_print = _function(
+    "wasmprinter_print_lines", ctypes.c_uint32,
+    ctypes.c_char_p, ctypes.c_size_t,
+    ctypes.POINTER(_Options),
+    ctypes.c_char_p, ctypes.c_size_t,
+    ctypes.POINTER(ctypes.c_char), ctypes.c_size_t,
+    ctypes.POINTER(_Line), ctypes.c_size_t,
+    ctypes.POINTER(ctypes.c_size_t), ctypes.POINTER(ctypes.c_size_t), ctypes.POINTER(ctypes.c_uint64),
+)
+_error_text = _function(
+    "wasmprinter_error_text", ctypes.c_size_t,
+    ctypes.c_uint32, ctypes.c_uint64, ctypes.POINTER(ctypes.c_char), ctypes.c_size_t,
+)
+_version = _function("wasmprinter_version", ctypes.c_uint32)
 
 
 def _check(status: int, detail: int) -> None:
-    if status != 0:
-        raise _ERROR_OF[status](detail)
+    """Raises the error with a status, unless the status is that of success."""
+    if status in Error._by_status:
+        raise Error._by_status[status](detail)
+    if status != _SUCCESS:
+        raise RuntimeError(f"the library returned the unknown status {status}")
+
+
+def _print_whole(data: BytesLike, options: _Options, indent: str, with_lines: bool) -> Tuple[memoryview, List[_Line]]:
+    """Returns the text in UTF-8, and the table of its lines if it is needed. Raises a subclass of Error."""
+    wasm = data if isinstance(data, bytes) else memoryview(data).tobytes()
+    level = indent.encode("utf-8")
+    length, count, detail = ctypes.c_size_t(), ctypes.c_size_t(), ctypes.c_uint64()
+    out, table = ctypes.create_string_buffer(0), (_Line * 0)()
+    # the first round measures, the second one prints
+    while True:
+        status = _print(wasm, len(wasm), options, level, len(level), out, len(out), table, len(table), length, count, detail)
+        _check(status, detail.value)
+        lines = count.value if with_lines else 0
+        if length.value <= len(out) and lines <= len(table):
+            return memoryview(out)[:length.value], table[:lines]
+        out, table = ctypes.create_string_buffer(length.value), (_Line * lines)()
 
 
 def print_bytes(
-    data: bytes, *, offsets: bool = False, skeleton: bool = False, name_unnamed: bool = False, fold: bool = False, indent: str = "  "
+    data: BytesLike, *,
+    offsets: bool = False, skeleton: bool = False, name_unnamed: bool = False, fold: bool = False, indent: str = "  ",
 ) -> str:
     """Returns the text of a module.
 
@@ -155,46 +168,21 @@ def print_bytes(
 
     Raises a subclass of Error if the module can't be printed.
     """
-    wasm = bytes(data)
-    spaces = indent.encode("utf-8")
-    options = _Options(offsets, skeleton, name_unnamed, fold)
-    length, detail = ctypes.c_size_t(), ctypes.c_uint64()
-    room = 0
-    while True:
-        out = ctypes.create_string_buffer(max(room, 1))
-        status = _print(wasm, len(wasm), options, spaces, len(spaces), out, room, length, detail)
-        _check(status, detail.value)
-        if length.value <= room:
-            return ctypes.string_at(out, length.value).decode("utf-8")
-        room = length.value
+    text, _ = _print_whole(data, _Options(offsets, skeleton, name_unnamed, fold), indent, with_lines=False)
+    return str(text, "utf-8")
 
 
 def print_lines(
-    data: bytes, *, offsets: bool = False, skeleton: bool = False, name_unnamed: bool = False, fold: bool = False, indent: str = "  "
+    data: BytesLike, *,
+    offsets: bool = False, skeleton: bool = False, name_unnamed: bool = False, fold: bool = False, indent: str = "  ",
 ) -> List[Line]:
-    """Returns the lines of the text of a module, each with its byte offset in the module. The options and errors are those of print_bytes."""
-    wasm = bytes(data)
-    spaces = indent.encode("utf-8")
-    options = _Options(offsets, skeleton, name_unnamed, fold)
-    length, count, detail = ctypes.c_size_t(), ctypes.c_size_t(), ctypes.c_uint64()
-    room, most = 0, 0
-    while True:
-        out = ctypes.create_string_buffer(max(room, 1))
-        table = (_Line * max(most, 1))()
-        status = _lines(wasm, len(wasm), options, spaces, len(spaces), out, room, table, most, length, count, detail)
-        _check(status, detail.value)
-        if length.value <= room and count.value <= most:
-            break
-        room, most = length.value, count.value
-    text = ctypes.string_at(out, length.value)
-    ends = [line.start for line in table[1:count.value]] + [length.value]
-    return [
-        Line(line.place if line.has_place else None, text[line.start:end].decode("utf-8"))
-        for line, end in zip(table[:count.value], ends)
-    ]
+    """Returns the lines of the text of a module, each with its byte offset in the module. Options and errors are those of print_bytes."""
+    text, table = _print_whole(data, _Options(offsets, skeleton, name_unnamed, fold), indent, with_lines=True)
+    ends = [line.start for line in table[1:]] + [len(text)]
+    return [Line(line.place if line.has_place else None, str(text[line.start:end], "utf-8")) for line, end in zip(table, ends)]
 
 
 def version() -> Tuple[int, int, int]:
     """Returns the version of the library: the major, the minor and the patch number."""
     number = _version()
-    return number // 1_000_000, number // 1_000 % 1_000, number % 1_000
+    return number // _MAJOR, number % _MAJOR // _MINOR, number % _MINOR

@@ -1,4 +1,12 @@
-//! The C functions, as `include/wasmprinter.h` declares them.
+//! The declarations of `include/wasmprinter.h` that this crate uses.
+//!
+//! `wasmprinter_print` is not among them: `wasmprinter_print_lines` does the same with an empty table.
+
+/// The status of a module that was printed.
+pub const OK: u32 = 0;
+
+/// The description of a status has at most this length.
+pub const ERROR_TEXT_LEN: usize = 200;
 
 #[repr(C)]
 #[derive(Clone, Copy, Debug, Default)]
@@ -18,18 +26,6 @@ pub struct Line {
 }
 
 extern "C" {
-    pub fn wasmprinter_print(
-        wasm: *const u8,
-        wasm_len: usize,
-        options: *const Options,
-        indent: *const u8,
-        indent_len: usize,
-        out: *mut u8,
-        out_len: usize,
-        length: *mut usize,
-        detail: *mut u64,
-    ) -> u32;
-
     pub fn wasmprinter_print_lines(
         wasm: *const u8,
         wasm_len: usize,

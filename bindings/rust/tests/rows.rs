@@ -4,16 +4,28 @@ use wasmprinter::{print_bytes, version, Config, Error};
 
 const ROWS: &str = include_str!("../../rows.txt");
 
-/// What a row gives and expects.
+/// Buffers are filled with this byte before a call.
+const GUARD: u8 = 0xa5;
+
+/// An error, as a row gives it: its name, its description, and the text in the buffer after it.
+#[derive(Default)]
+struct Refusal {
+    name: String,
+    text: String,
+    left: String,
+}
+
+/// A row: what is printed, and what is expected.
 #[derive(Default)]
 struct Row {
     title: String,
-    options: Vec<String>,
-    indent: Option<Vec<u8>>,
+    config: Config,
+    /// The indent is not UTF-8, so it is not a string.
+    is_unprintable: bool,
     wasm: Vec<u8>,
     has_places: bool,
     lines: Vec<(Option<u64>, String)>,
-    error: Option<(u32, u64, String)>,
+    refusal: Option<Refusal>,
 }
 
 fn bytes_of(words: &str) -> impl Iterator<Item = u8> + '_ {
@@ -26,23 +38,26 @@ impl Row {
     fn read(&mut self, line: &str) {
         let (key, words) = line.split_once(' ').unwrap_or((line, ""));
         match key {
-            "set" => self.options = words.split(' ').map(str::to_owned).collect(),
-            "indent" => self.indent = Some(bytes_of(words).collect()),
+            "set" => words.split(' ').for_each(|word| self.set(word)),
+            "indent" => match String::from_utf8(bytes_of(words).collect()) {
+                Ok(indent) => drop(self.config.indent_text(indent)),
+                Err(_) => self.is_unprintable = true,
+            },
             "wasm" => self.wasm.extend(bytes_of(words)),
-            "zeros" => self.wasm.resize(
-                self.wasm.len() + words.parse::<usize>().expect("a number"),
-                0,
-            ),
+            "zeros" => {
+                let zeros: usize = words.parse().expect("a number");
+                self.wasm.resize(self.wasm.len() + zeros, 0);
+            }
             "places" => self.has_places = true,
             "error" => {
-                let mut parts = words.splitn(3, ' ');
-                let mut next = || parts.next().expect("a status, a detail and a text");
-                self.error = Some((
-                    next().parse().expect("a status"),
-                    next().parse().expect("a detail"),
-                    next().to_owned(),
-                ));
+                let parts: Vec<&str> = words.splitn(3, ' ').collect();
+                self.refusal = Some(Refusal {
+                    name: parts[0].to_owned(),
+                    text: parts[2].to_owned(),
+                    left: String::new(),
+                });
             }
+            "left" => self.refusal.as_mut().expect("an error").left = words.to_owned(),
             _ => {
                 let (place, text) = line.split_once('|').expect("a line of the text");
                 let place =
@@ -52,106 +67,72 @@ impl Row {
         }
     }
 
-    /// The configuration, or `None` if the indent is no string of Rust.
-    fn config(&self) -> Option<Config> {
-        let has = |word: &str| self.options.iter().any(|option| option == word);
-        let mut config = Config::new();
-        config
-            .print_offsets(has("offsets"))
-            .print_skeleton(has("skeleton"))
-            .name_unnamed(has("name_unnamed"))
-            .fold_instructions(has("fold"));
-        if let Some(indent) = &self.indent {
-            config.indent_text(String::from_utf8(indent.clone()).ok()?);
-        }
-        Some(config)
-    }
-
-    fn check_text(&self, config: &Config) {
-        let typed: String = self.lines.iter().map(|line| line.1.as_str()).collect();
-        assert_eq!(
-            config.print_to_string(&self.wasm).as_deref(),
-            Ok(typed.as_str()),
-            "{}",
-            self.title
-        );
-        for room in 0..typed.len() + 2 {
-            let mut out = vec![0xa5; room];
-            assert_eq!(
-                config.print_over(&self.wasm, &mut out),
-                Ok(typed.len()),
-                "{}",
-                self.title
-            );
-            let fits = room.min(typed.len());
-            assert_eq!(&out[..fits], &typed.as_bytes()[..fits], "{}", self.title);
-            assert!(
-                out[fits..].iter().all(|byte| *byte == 0xa5),
-                "{}",
-                self.title
-            );
-        }
-    }
-
-    fn check_lines(&self, config: &Config) {
-        let mut storage = "before\n".to_owned();
-        let lines: Vec<(Option<u64>, String)> = config
-            .offsets_and_lines(&self.wasm, &mut storage)
-            .expect("lines")
-            .map(|(place, text)| (place, text.to_owned()))
-            .collect();
-        assert_eq!(lines.len(), self.lines.len(), "{}", self.title);
-        for (line, typed) in lines.iter().zip(&self.lines) {
-            assert_eq!(line.1, typed.1, "{}", self.title);
-            assert!(
-                !self.has_places || line.0 == typed.0,
-                "{}: {line:?}",
-                self.title
-            );
-        }
-        assert!(storage.starts_with("before\n(module"));
-    }
-
-    fn check_error(&self, config: &Config, status: u32, detail: u64, text: &str) {
-        let error = config.print_to_string(&self.wasm).expect_err(&self.title);
-        assert_eq!(error, expected(status, detail), "{}", self.title);
-        assert_eq!(error.to_string(), text, "{}", self.title);
-        let mut storage = "before\n".to_owned();
-        assert_eq!(
-            config.offsets_and_lines(&self.wasm, &mut storage).err(),
-            Some(error),
-            "{}",
-            self.title
-        );
-        assert_eq!(storage, "before\n");
+    fn set(&mut self, option: &str) {
+        match option {
+            "offsets" => self.config.print_offsets(true),
+            "skeleton" => self.config.print_skeleton(true),
+            "name_unnamed" => self.config.name_unnamed(true),
+            "fold" => self.config.fold_instructions(true),
+            _ => panic!("no option: {option}"),
+        };
     }
 
     fn check(&self) {
-        let Some(config) = self.config() else { return };
-        match &self.error {
+        match &self.refusal {
+            _ if self.is_unprintable => (),
             None => {
-                self.check_text(&config);
-                self.check_lines(&config);
+                self.check_text();
+                self.check_lines();
             }
-            Some((status, detail, text)) => self.check_error(&config, *status, *detail, text),
+            Some(refusal) => self.check_refusal(refusal),
         }
     }
-}
 
-/// The error with a number, typed by hand.
-fn expected(status: u32, detail: u64) -> Error {
-    match status {
-        1 => Error::Malformed { place: detail },
-        2 => Error::Component,
-        3 => Error::TooManyLocals { place: detail },
-        4 => Error::TooManyFunctions {
-            count: detail as u32,
-        },
-        5 => Error::EmptyTableInit { place: detail },
-        6 => Error::FoldLegacy { place: detail },
-        7 => Error::FoldHint { place: detail },
-        8 => Error::DylinkSubsection { id: detail as u8 },
-        _ => panic!("no error of Rust has the status {status}"),
+    fn check_text(&self) {
+        let typed: String = self.lines.iter().map(|line| line.1.as_str()).collect();
+        let printed = self.config.print_to_string(&self.wasm);
+        assert_eq!(printed.as_deref(), Ok(typed.as_str()), "{}", self.title);
+        for room in 0..typed.len() + 2 {
+            let printed = self.check_over(room, &typed);
+            assert_eq!(printed, Ok(typed.len()), "{}", self.title);
+        }
+    }
+
+    /// Prints over a buffer of this size. It has to hold the first bytes of the text, as many as fit. Its other bytes have to be unchanged.
+    fn check_over(&self, room: usize, typed: &str) -> wasmprinter::Result<usize> {
+        let mut out = vec![GUARD; room];
+        let printed = self.config.print_over(&self.wasm, &mut out);
+        let fits = room.min(typed.len());
+        assert_eq!(&out[..fits], &typed.as_bytes()[..fits], "{}", self.title);
+        assert_eq!(out[fits..], vec![GUARD; room - fits], "{}", self.title);
+        printed
+    }
+
+    fn check_lines(&self) {
+        let mut storage = "before\n".to_owned();
+        let lines: Vec<(Option<u64>, String)> = self
+            .config
+            .offsets_and_lines(&self.wasm, &mut storage)
+            .expect("lines")
+            .map(|(place, text)| (self.has_places.then_some(place).flatten(), text.to_owned()))
+            .collect();
+        assert_eq!(lines, self.lines, "{}", self.title);
+        assert!(storage.starts_with("before\n(module"), "{}", self.title);
+    }
+
+    fn check_refusal(&self, refusal: &Refusal) {
+        let error = self.config.print_to_string(&self.wasm).unwrap_err();
+        let debug = format!("{error:?}");
+        assert_eq!(debug.split(' ').next(), Some(refusal.name.as_str()));
+        assert_eq!(error.to_string(), refusal.text);
+        let mut storage = "before\n".to_owned();
+        let lines = self.config.offsets_and_lines(&self.wasm, &mut storage);
+        assert_eq!(lines.err(), Some(error), "{}", self.title);
+        assert_eq!(storage, "before\n", "{}", self.title);
+        for room in 0..refusal.left.len() + 2 {
+            let printed = self.check_over(room, &refusal.left);
+            assert_eq!(printed, Err(error), "{}", self.title);
+        }
     }
 }
 
@@ -183,6 +164,26 @@ fn describes_errors_that_no_row_has() {
 #[test]
 fn prints_empty_input() {
     assert!(matches!(print_bytes([]), Err(Error::Malformed { .. })));
+}
+
+#[test]
+fn prints_an_indent_with_a_zero_byte() {
+    let wasm = b"\0asm\x01\0\0\0\x01\x04\x01\x60\0\0";
+    let text = Config::new().indent_text("\0é").print_to_string(wasm);
+    assert_eq!(text.as_deref(), Ok("(module\n\0é(type (;0;) (func))\n)\n"));
+}
+
+/// The lines outlive the bytes of the module.
+#[test]
+fn keeps_lines_without_the_module() {
+    let mut storage = String::new();
+    let wasm = b"\0asm\x01\0\0\0".to_vec();
+    let mut lines = Config::new()
+        .offsets_and_lines(&wasm, &mut storage)
+        .expect("lines");
+    drop(wasm);
+    assert_eq!(lines.next(), Some((Some(0), "(module)\n")));
+    assert_eq!(lines.next(), None);
 }
 
 #[test]
