@@ -35,11 +35,21 @@ install_compilers() {
         "libc++-$version-dev-wasm32" wasi-libc libstd-rust-dev-wasm32
 }
 
+# The first mirror in the machine's own apt sources, which have two formats: `deb` lines, and fields `URIs:`.
+mirror() {
+    for file in /etc/apt/sources.list /etc/apt/sources.list.d/*.sources /etc/apt/sources.list.d/*.list; do
+        [ ! -f "$file" ] || sed -n 's/^deb  *\(\[[^]]*\]  *\)\{0,1\}\([^ ]*\).*/\2/p; s/^URIs:[[:space:]]*\([^[:space:]]*\).*/\1/p' "$file"
+    done | head -n 1
+}
+
 fetch_newer() {
     mkdir -p "$newer/lists/partial" "$newer/cache/archives/partial" "$newer/packages"
     : >"$newer/status"
-    # the mirror that the machine's own sources name first
-    mirror=$(sed -n 's/^URIs: *//p' /etc/apt/sources.list.d/*.sources | head -n 1)
+    mirror=$(mirror)
+    if [ -z "$mirror" ]; then
+        echo "real: no mirror in /etc/apt/sources.list or /etc/apt/sources.list.d" >&2
+        exit 1
+    fi
     printf 'Types: deb\nURIs: %s\nSuites: sid\nComponents: main\nSigned-By: /usr/share/keyrings/debian-archive-keyring.gpg\n' "$mirror" \
         >"$newer/newer.sources"
     from_newer update
