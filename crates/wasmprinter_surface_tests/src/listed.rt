@@ -48,13 +48,18 @@ const LISTINGS: [Listing; 3] = [
     },
 ];
 
+/// Returns a size as a LEB128 number of one byte. All sizes here are below 128.
+fn size_byte(size: usize) -> u8 {
+    if size < 128 { size as u8 } else { 127 }
+}
+
 impl Listing {
     /// Returns the operator with a list of this length, in a body without locals.
     fn body(&self, alloc: Global, len: usize) -> Result<Vec<u8>, AllocError> {
         let mut body = Vec::new(alloc);
         body.push(0)?;
         body.extend_from_slice(self.before)?;
-        body.push(len as u8)?;
+        body.push(size_byte(len))?;
         for number in 0..len {
             body.extend_from_slice(self.items[number % 2])?;
         }
@@ -68,12 +73,8 @@ impl Listing {
         let body = self.body(alloc, len)?;
         let mut wasm = Vec::new(alloc);
         wasm.extend_from_slice(b"\0asm\x01\0\0\0\x01\x04\x01\x60\0\0\x03\x02\x01\0")?;
-        wasm.extend_from_slice(&[
-            0x0a,
-            (body.len() as u8).wrapping_add(2),
-            1,
-            body.len() as u8,
-        ])?;
+        let size = size_byte(body.len());
+        wasm.extend_from_slice(&[0x0a, size.wrapping_add(2), 1, size])?;
         wasm.extend_from_slice(&body)?;
         Ok(wasm)
     }
