@@ -1,12 +1,15 @@
 #!/bin/sh
 # Tests `main`: starts the built program with the words of each case below, and compares its standard output, its standard error and its
-# status with the texts typed here. `rt ci` itself starts it without words only, and the crate's tests call `run` and `start`. The program is
-# crates/printwasm/out/printwasm, as `rt ci` and `rt run` leave it. Exits with a status other than 0 if a case differs.
+# status with the texts typed here. It also prints files that can't be read, and files that can be read once. `rt ci` itself starts the program
+# without words only, and the crate's tests call `run` and `start`. The program is crates/printwasm/out/printwasm, as `rt ci` and `rt run`
+# leave it. Exits with a status other than 0 if a case differs.
 set -eu
 cd "$(dirname "$0")/.."
-program=$PWD/crates/printwasm/out/printwasm
+tools=$PWD/tools
 work=$(mktemp -d)
 trap 'rm -rf "$work"' EXIT
+cp crates/printwasm/out/printwasm "$work/printwasm"
+program=$work/printwasm
 cd "$work"
 cases=0
 failed=0
@@ -18,19 +21,35 @@ colored() {
         s/{L}/{R}$escape[31m/g; s/{C}/{R}$escape[36m/g; s/{R}/$escape[0m/g"
 }
 
-# case_of STATUS WORD..: starts the program with the words. It has to end with the status, write the file `out` to standard output, and the
-# file `err` to standard error.
-case_of() {
-    wanted=$1
+# started STATUS COMMAND..: runs the command. It has to end with the status, write the file `out` to standard output, and the file `err` to
+# standard error.
+started() {
+    expected=$1
     shift
     cases=$((cases + 1))
     status=0
-    timeout 60 "$program" "$@" >written 2>told || status=$?
-    if [ "$status" != "$wanted" ] || ! cmp -s out written || ! cmp -s err told; then
-        echo "program: printwasm $* ended with status $status, not $wanted, or wrote another text:"
+    timeout 60 "$@" >written 2>reported || status=$?
+    if [ "$status" != "$expected" ] || ! cmp -s out written || ! cmp -s err reported; then
+        echo "program: $* ended with status $status, not $expected, or wrote another text:"
         diff out written || true
-        diff err told || true
+        diff err reported || true
         failed=$((failed + 1))
+    fi
+}
+
+# case_of STATUS WORD..: starts the program with the words, in the same way.
+case_of() {
+    expected=$1
+    shift
+    started "$expected" "$program" "$@"
+}
+
+# as_user STATUS FILE: starts the program on a file as a user who is not root.
+as_user() {
+    if [ "$(id -u)" = 0 ]; then
+        started "$1" setpriv --reuid=65534 --regid=65534 --clear-groups "$program" "$2"
+    else
+        started "$1" "$program" "$2"
     fi
 }
 
@@ -48,6 +67,13 @@ case_of 2 --offsets --skeleton --name-unnamed --fold --colors same.wasm
 echo "error: the file can't be read" >err
 case_of 1 --offsets --skeleton --name-unnamed --fold --color missing.wasm
 
+# a file without permissions, and one that fails after all of its bytes were read
+chmod 755 "$work" printwasm
+cp same.wasm locked.wasm
+chmod 0 locked.wasm
+as_user 1 locked.wasm
+started 1 python3 -B "$tools/failing_file.py" "$program" same.wasm
+
 echo "error: a word is not UTF-8" >err
 case_of 1 "$(printf '\377')"
 case_of 1 same.wasm "$(printf '\377')"
@@ -63,6 +89,7 @@ cat >out <<'END'
 )
 END
 case_of 0 same.wasm
+as_user 0 same.wasm
 
 # a pipe is read once: a second read would wait for a second writer
 mkfifo pipe
@@ -138,14 +165,9 @@ case_of 0 --offsets --skeleton --name-unnamed --fold --color same.wasm
 case_of 0 same.wasm --color --fold --name-unnamed --skeleton --offsets
 
 # standard output takes nothing
+: >out
 echo "error: the printer failed" >err
-cases=$((cases + 1))
-status=0
-"$program" same.wasm >/dev/full 2>told || status=$?
-if [ "$status" != 1 ] || ! cmp -s err told; then
-    echo "program: a write to a full device ended with status $status, or another text was reported"
-    failed=$((failed + 1))
-fi
+started 1 sh -c '"$0" same.wasm >/dev/full' "$program"
 
 echo "program: $((cases - failed)) of $cases cases as typed"
 [ "$failed" = 0 ]
