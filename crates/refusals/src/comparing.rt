@@ -12,8 +12,8 @@ pub struct Comparing<'a> {
     rest: &'a str,
     /// Whether other text came.
     differs: bool,
-    /// Whether the expected text has marks for the calls that write no text.
-    has_marks: bool,
+    /// Whether the expected text has the calls that write no text.
+    has_calls: bool,
 }
 
 impl<'a> Comparing<'a> {
@@ -21,23 +21,33 @@ impl<'a> Comparing<'a> {
         Comparing {
             rest: text,
             differs: false,
-            has_marks: false,
+            has_calls: false,
         }
     }
 
-    /// Returns a printer whose expected text has marks: `{@N}` for a line that starts at byte N, `{@}` for a line without a place, and one
-    /// letter for each style.
-    pub fn with_marks(text: &'a str) -> Comparing<'a> {
+    /// Returns a printer whose expected text has each call, in the notation of the recorder of `wasmprinter_recorder`: a line that starts at
+    /// byte N is `[N]`, one without a place `[]`, a style is a letter in braces, and a question is `{? NAME PLACE BYTES}`.
+    pub fn with_calls(text: &'a str) -> Comparing<'a> {
         Comparing {
             rest: text,
             differs: false,
-            has_marks: true,
+            has_calls: true,
+        }
+    }
+
+    /// Compares a piece of text in which characters of the notation are escaped.
+    fn compare_escaped(&mut self, s: &str) {
+        for c in s.chars() {
+            if matches!(c, '{' | '}' | '[' | ']' | '\\') {
+                self.compare("\\");
+            }
+            self.compare(c.encode_utf8(&mut [0; 4]));
         }
     }
 
     /// Compares the mark of a call.
     fn mark(&mut self, mark: &str) -> io::Result<()> {
-        if self.has_marks {
+        if self.has_calls {
             self.compare(mark);
         }
         Ok(())
@@ -85,7 +95,11 @@ impl<'a> Print for Comparing<'a> {
     ghost colors = { λ _. false };
 
     fn write_str(&mut self, s: &str) -> io::Result<()> {
-        self.compare(s);
+        if self.has_calls {
+            self.compare_escaped(s);
+        } else {
+            self.compare(s);
+        }
         Ok(())
     }
 
@@ -95,21 +109,23 @@ impl<'a> Print for Comparing<'a> {
     }
 
     fn start_line(&mut self, binary_offset: Option<u64>) {
-        if self.has_marks {
-            self.compare("{@");
-            if let Some(place) = binary_offset {
-                let _ = write!(self, "{place}");
-            }
-            self.compare("}");
+        if self.has_calls {
+            let _ = match binary_offset {
+                Some(place) => write!(self, "[{place:#x}]"),
+                None => write!(self, "[]"),
+            };
         }
     }
 
     fn print_custom_section(
         &mut self,
-        _name: &str,
-        _binary_offset: u64,
-        _bytes: &[u8],
+        name: &str,
+        binary_offset: u64,
+        bytes: &[u8],
     ) -> io::Result<bool> {
+        if self.has_calls {
+            let _ = write!(self, "{{? {name:?} {binary_offset:#x} {bytes:?}}}");
+        }
         Ok(false)
     }
 

@@ -507,26 +507,25 @@ pub const FOLDED_OPERANDS_COLORED: &str = "(\x1b[0m\x1b[1m\x1b[38;5;11mmodule\x1
 )
 ";
 
-/// The calls: `{@N}` starts a line at byte N, `{K}`, `{N}`, `{T}`, `{L}` and `{C}` start a keyword, a name, a type, a literal and a comment, and
-/// `{R}` resets the style.
-pub const FOLDED_OPERANDS_CALLS: &str = "{@0}({K}module{R}
-{@11}  ({K}type {R}{N}(;0;){R} ({K}func{R} ({K}param{R} {T}i32{R}) ({K}result{R} {T}i32{R})))
-{@19}  ({K}import {R}{L}\"\"{R} {L}\"\"{R} ({K}func {R}{N}(;0;){R} \
+/// The calls, in the notation of the recorder of `wasmprinter_recorder`.
+pub const FOLDED_OPERANDS_CALLS: &str = "[0x0]({K}module{R}
+[0xb]  ({K}type {R}{N}(;0;){R} ({K}func{R} ({K}param{R} {T}i32{R}) ({K}result{R} {T}i32{R})))
+[0x13]  ({K}import {R}{L}\"\"{R} {L}\"\"{R} ({K}func {R}{N}(;0;){R} \
 ({K}type {R}{N}0{R}) ({K}param{R} {T}i32{R}) ({K}result{R} {T}i32{R})))
-{@30}  ({K}global {R}{N}(;0;){R} {T}i32{R} (i32.const 7))
-{@39}  ({K}func {R}{N}(;1;){R} ({K}type {R}{N}0{R}) \
+[0x1e]  ({K}global {R}{N}(;0;){R} {T}i32{R} (i32.const 7))
+[0x27]  ({K}func {R}{N}(;1;){R} ({K}type {R}{N}0{R}) \
 ({K}param{R} {T}i32{R}) ({K}result{R} {T}i32{R})
-{@53}    (call 0
-{@42}      (if (result i32) ;; label = @1
-{@40}        (local.get 0)
-{@42}        (then
-{@44}          (i32.const 1))
-{@46}        (else
-{@51}          (i32.add
-{@47}            (i32.const 2)
-{@49}            (i32.const 3)))))
-{@55}  )
-{@56})
+[0x35]    (call 0
+[0x2a]      (if (result i32) ;; label = @1
+[0x28]        (local.get 0)
+[0x2a]        (then
+[0x2c]          (i32.const 1))
+[0x2e]        (else
+[0x33]          (i32.add
+[0x2f]            (i32.const 2)
+[0x31]            (i32.const 3)))))
+[0x37]  )
+[0x38])
 ";
 
 pub const LINKED: [u8; 39] = [

@@ -9,6 +9,14 @@ use crate::modules::{
     NAMES_ONCE_TEXT, NAMES_REPLACED, NAMES_REPLACED_TEXT, NAMES_TEXT, OPERANDS, TYPES, TYPES_TEXT,
     UNORDERED_NAMES, UNORDERED_NAMES_TEXT,
 };
+use wasmprinter_rows::calls::{
+    CUSTOMS_CALLS, CUT_CALLS, GLOBAL_FOLDED, HINTED_FOLDED, IDENTITY_FOLDED, MEMORY_CALLS,
+    PRODUCERS_CALLS, UNKNOWN_CALLS,
+};
+use wasmprinter_rows::{
+    CUSTOMS_AROUND_A_MEMORY, DYLINK_CUT, DYLINK_MEMORY, DYLINK_UNKNOWN, GLOBAL_BLOCK, HINTED_IF,
+    IDENTITY, RAW_PRODUCERS,
+};
 
 /// How a module is printed.
 #[derive(Clone, Copy)]
@@ -39,7 +47,7 @@ pub enum Way {
     FoldedColors,
     /// With its operators folded, by a printer that allocates nothing.
     Folded,
-    /// The same, and each call is compared.
+    /// The same, and each call is compared. A section that is refused ends the calls.
     FoldedCalls,
     /// In lines, after which no call is made.
     Setup,
@@ -59,7 +67,7 @@ pub struct Shape {
 }
 
 /// What is printed. The last is the empty module.
-pub const SHAPES: [Shape; 36] = [
+pub const SHAPES: [Shape; 44] = [
     Shape {
         name: "types",
         way: Way::Plain,
@@ -276,6 +284,62 @@ pub const SHAPES: [Shape; 36] = [
         wasm: &OPERANDS,
         text: FOLDED_OPERANDS_CALLS,
         functions: 1,
+    },
+    Shape {
+        name: "folded calls of identity",
+        way: Way::FoldedCalls,
+        wasm: IDENTITY,
+        text: IDENTITY_FOLDED,
+        functions: 1,
+    },
+    Shape {
+        name: "folded calls of a global",
+        way: Way::FoldedCalls,
+        wasm: GLOBAL_BLOCK,
+        text: GLOBAL_FOLDED,
+        functions: 0,
+    },
+    Shape {
+        name: "folded calls of a hint",
+        way: Way::FoldedCalls,
+        wasm: HINTED_IF,
+        text: HINTED_FOLDED,
+        functions: 1,
+    },
+    Shape {
+        name: "folded calls of custom sections",
+        way: Way::FoldedCalls,
+        wasm: CUSTOMS_AROUND_A_MEMORY,
+        text: CUSTOMS_CALLS,
+        functions: 0,
+    },
+    Shape {
+        name: "folded calls of producers",
+        way: Way::FoldedCalls,
+        wasm: RAW_PRODUCERS,
+        text: PRODUCERS_CALLS,
+        functions: 0,
+    },
+    Shape {
+        name: "folded calls of a linked memory",
+        way: Way::FoldedCalls,
+        wasm: DYLINK_MEMORY,
+        text: MEMORY_CALLS,
+        functions: 0,
+    },
+    Shape {
+        name: "folded calls of a cut section",
+        way: Way::FoldedCalls,
+        wasm: DYLINK_CUT,
+        text: CUT_CALLS,
+        functions: 0,
+    },
+    Shape {
+        name: "folded calls of an unknown subsection",
+        way: Way::FoldedCalls,
+        wasm: DYLINK_UNKNOWN,
+        text: UNKNOWN_CALLS,
+        functions: 0,
     },
     Shape {
         name: "dynamic linking",

@@ -20,6 +20,9 @@ const OLD: &str = "old";
 /// The file that `print_file` reads.
 const FILE: &str = "everything.wasm";
 
+/// The id of the subsection for which the `dylink.0` section of `DYLINK_UNKNOWN` is refused. All calls before were made.
+const UNKNOWN_ID: u8 = 9;
+
 /// Returns whether a text is expected.
 fn compared(text: &str, shape: &Shape) -> Ending {
     Ending::of(text == shape.text, "wrong text")
@@ -50,7 +53,9 @@ fn by_comparing(
     mut printer: Comparing<'_>,
 ) -> Ending {
     match print_to(config, alloc, shape.wasm, &mut printer) {
-        Ok(()) => Ending::of(printer.is_whole(), "wrong calls"),
+        Ok(()) | Err(Error::DylinkSubsection { id: UNKNOWN_ID }) => {
+            Ending::of(printer.is_whole(), "wrong calls")
+        }
         Err(error) => Ending::of(printer.is_prefix(), "wrong calls").or(Ending::of_error(
             error,
         ).after(printer.compared_len(shape.text))),
@@ -249,7 +254,7 @@ pub fn ending_of(rt: &HostRuntime, shape: &Shape) -> Ending {
         Way::FoldedString => by_folded_string(alloc, shape),
         Way::Folded => by_config(alloc, &folding(), shape),
         Way::FoldedCalls => {
-            by_comparing(alloc, &folding(), shape, Comparing::with_marks(shape.text))
+            by_comparing(alloc, &folding(), shape, Comparing::with_calls(shape.text))
         }
         Way::Setup => ending_of_calls(alloc, shape, false),
         Way::WithoutMemory => ending_of_calls(alloc, shape, true),

@@ -1,10 +1,11 @@
 //! Printers that claim custom sections: nothing of a claimed section is printed, and everything else is printed as without the claim.
 
-use crate::examples::{HINTED_FLAT, HINTED_FOLDED};
+use crate::examples::HINTED_FLAT;
 use crate::printing::{LAYOUTS, Layout, print_to};
 use std::alloc::Global;
 use std::test::Fail;
 use wasmprinter_recorder::Recorder;
+use wasmprinter_rows::calls::HINTED_FOLDED;
 use wasmprinter_rows::{
     CUSTOMS_AROUND_A_MEMORY, DYLINK_CUT, DYLINK_MEMORY, DYLINK_UNKNOWN, HINTED_IF, RAW_PRODUCERS,
 };

@@ -6,6 +6,7 @@
 mod basics;
 #[cfg(test)]
 mod blocks;
+pub mod calls;
 #[cfg(test)]
 mod colors;
 #[cfg(test)]
