@@ -428,8 +428,8 @@ fn is_refused_at_each_cut(alloc: Global, shape: Shape, bytes: &[u8]) -> Result<b
     Ok(true)
 }
 
-/// Returns what reading an expression has to give, if an operator of this role is its last but for two `end`s: the operator is `start` to
-/// `end` bytes after the first byte.
+/// Returns the expected outcome of reading an expression in which only two `end`s follow an operator of this role. The operator occupies the
+/// bytes from `start` to `end`, counted from the first byte.
 fn wanted_by(role: Role, start: usize, end: usize) -> Outcome {
     match role {
         Role::Plain => Outcome::Ended(place_after(end)),
