@@ -1,5 +1,5 @@
--- Where the things lie that lines begin with: those of the code section lie in an interval of their own, and rise there. The standard has
--- neither lines nor places.
+-- The places with which lines begin: those of the code section are in an interval of their own, and increase
+-- there. The standard has neither lines nor places.
 use Rattle.std.specs.Prelude.{ℕ, ◌+◌, ◌<◌, ◌≤◌, ◌⊎◌, List, [], ◌∷◌, ◌++◌, Bool, true, false, map, Option, Some, None}
 use Rattle.std.specs.List.{AllByRecursion, flat_map}
 use Rattle.wasmprinter_spec.specs.Grammar.{Placed}
@@ -9,31 +9,32 @@ use Rattle.wasmprinter_spec.specs.Customs.{CustomRole, Listed, Linked, custom_ro
 use Rattle.wasmprinter_spec.specs.Layout.Functions.{locals_place}
 use Rattle.wasmprinter_spec.specs.Lines.{places, hint_places}
 
--- the places rise, from the first number on and below the last one
+-- The places increase, from `low` on and below `high`.
 abbrev pub Rises : ℕ → List ℕ → ℕ → Type 0
 Rises low [] high = low ≤ high
 Rises low (p ∷ ps) high = (low ≤ p) × Rises (p + 1) ps high
 
+-- p is outside the interval from `low` on and below `high`.
 abbrev pub IsOutside : ℕ → ℕ → ℕ → Type 0
 IsOutside low high p = (p < low) ⊎ (high ≤ p)
 
--- ---- bodies
+-- ---- Bodies
 
 abbrev pub place_if_any : Option ℕ → List ℕ
 place_if_any None = []
 place_if_any (Some place) = place ∷ []
 
--- the place of the line of locals, if there are any
+-- The place of the line of locals, if there are any.
 abbrev pub locals_places : List (Placed LocalEntry) → List ℕ
 locals_places es = place_if_any (locals_place es)
 
--- the places of a body: its first byte, its locals, its operators, its last byte
+-- The places of a body: its first byte, its locals, its operators, its last byte.
 abbrev pub body_places : Placed Body → List ℕ
 body_places b = b.place ∷ (locals_places b.value.locals ++ (places b.value.operators ++ (b.value.end ∷ [])))
 
--- ---- all else
+-- ---- All other places
 
--- all types of a written group have one place
+-- All types of a written group have the same place.
 abbrev pub member_places : Bool → ℕ → List SubType → List ℕ
 member_places true place ts = map (λ t. place + 2) ts
 member_places false place ts = []
@@ -45,18 +46,18 @@ abbrev pub start_places : Option (Placed ℕ) → List ℕ
 start_places None = []
 start_places (Some start) = start.place ∷ []
 
--- values of `producers`, subsections of `dylink.0`
+-- The values of `producers`, the subsections of `dylink.0`.
 abbrev pub role_places : CustomRole → List ℕ
 role_places (Listed fields) = flat_map (λ f. places f.values) fields
 role_places (Linked subsections) = places subsections
 role_places _ = []
 
--- a custom section, its data, and the lines within it
+-- A custom section, its data, and the lines within it.
 abbrev pub custom_places : CustomEntry → List ℕ
 custom_places c = c.section.place ∷ (c.section.value.bytes.place ∷ role_places (custom_role_of c.section.value))
 
--- The bodies lie one after the other in an interval, each with its places rising; whatever else begins a line lies outside of it, the
--- module's first byte and the end of its bytes too.
+-- The bodies are in an interval, one after the other, and the places of each increase. All other places that begin
+-- lines are outside the interval, as are the module's first byte and the end of its bytes.
 pub record IsApart (m : PlacedModule) : Type 0 where
   pub low : ℕ
   pub high : ℕ

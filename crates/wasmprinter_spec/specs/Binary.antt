@@ -1,4 +1,4 @@
--- How bytes spell a module (section 5.5 of the standard, "Modules"): a preamble, and sections up to the end.
+-- How bytes encode a module (section 5.5 of the standard, "Modules"): a preamble, and sections up to the end.
 use Rattle.std.specs.Prelude.{◌≡◌, ℕ, ◌<◌, Bool, true, ◌&&◌, ◌==◌, length, List, [], ◌∷◌, ◌++◌, bytes_eq, Option, Some, None, if◌then◌else◌}
 use Rattle.std.specs.List.{AllByRecursion}
 use Rattle.wasmprinter_spec.specs.Grammar.{Grammar, Remainder, ◌>>=◌, try_map, Placed}
@@ -24,17 +24,18 @@ pub mod Start
 pub mod Code
 pub mod Customs
 
--- the magic and the version
+-- The magic.
 abbrev pub magic : List ℕ
 magic = 0x00 ∷ 0x61 ∷ 0x73 ∷ 0x6d ∷ []
 
+-- The magic and the version.
 abbrev pub preamble_bytes : List ℕ
 preamble_bytes = magic ++ (0x01 ∷ 0x00 ∷ 0x00 ∷ 0x00 ∷ [])
 
 abbrev pub preamble : Grammar (List ℕ)
 preamble = try_map (λ bytes. if bytes_eq bytes preamble_bytes then Some bytes else None) (take_bytes 8)
 
--- what the sections hold of each kind
+-- The content of the section of each kind.
 abbrev pub types_in : List Section → List (Placed TypeGroup)
 types_in ss = content_in TypeSection [] ss
 
@@ -77,12 +78,13 @@ datas_in ss = content_in DataSection [] ss
 abbrev pub customs_in : List Section → List CustomEntry
 customs_in ss = customs_behind None ss
 
--- the type index of each function with its body, where there are as many of the one as of the other
+-- The type index and the body of each function, or None if their numbers differ.
 abbrev pub function_pairs : List ℕ → List (Placed Body) → Option (List PlacedFunction)
 function_pairs [] [] = Some []
 function_pairs (i ∷ is) (b ∷ bs) = function_pairs is bs >>= λ fs. Some (record { type_index = i; body = b } ∷ fs)
 function_pairs _ _ = None
 
+-- The module of these sections, with these functions. `size` is the place where the sections end.
 abbrev pub module_from : ℕ → List Section → List PlacedFunction → PlacedModule
 module_from size ss fs = record {
   types = types_in ss;
@@ -100,29 +102,31 @@ module_from size ss fs = record {
   size = size;
 }
 
--- a data count, where it stands, is the number of data segments
+-- A data count, if there is one, is the number of data segments.
 abbrev pub counts_data : Option ℕ → ℕ → Bool
 counts_data None n = true
 counts_data (Some count) n = count == n
 
--- the module of the sections, which end at this place
+-- The module with these sections, which end at the place `size`. None if the sections are not in order, if a data
+-- count is not the number of data segments, or if the numbers of function entries and bodies differ.
 abbrev pub module_of_sections : ℕ → List Section → Option PlacedModule
 module_of_sections size ss =
     if are_above 0 ss && counts_data (data_count_in ss) (length (datas_in ss))
     then (function_pairs (type_indices_in ss) (bodies_in ss) >>= λ fs. Some (module_from size ss fs)) else None
 
+-- A module: the preamble, and sections up to the end of the bytes that `module_of_sections` accepts.
 abbrev pub binary : Remainder PlacedModule
 binary = try_map_by_end (λ size x. module_of_sections size x.1) (seq_to_end preamble (until_end section))
 
--- numbers that are bytes
+-- Every number is a byte.
 abbrev pub AreBytes : List ℕ → Type 0
 AreBytes bytes = AllByRecursion (λ b. b < 256) bytes
 
--- the bytes spell the module with these places
+-- The bytes encode the module m, with its places.
 pub record Spells (bytes : List ℕ) (m : PlacedModule) : Type 0 where
   pub are_bytes : AreBytes bytes
   pub spelled : binary.spells 0 bytes m
 
--- the bytes are marked as a component: the magic, and 01 00 at the places 6 and 7
+-- The bytes are marked as a component: the magic, and 01 00 at the places 6 and 7.
 abbrev pub IsComponent : List ℕ → Type 0
 IsComponent bytes = (a b : ℕ) × (rest : List ℕ) × (bytes ≡ magic ++ (a ∷ b ∷ 0x01 ∷ 0x00 ∷ rest))

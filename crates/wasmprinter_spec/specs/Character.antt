@@ -1,22 +1,22 @@
--- What a byte of a text is to its reader (sections 6.2 and 6.3 of the standard). A text is UTF-8; bytes from 128 on stand only in
--- strings and comments.
+-- The class of each byte of a text (sections 6.2 and 6.3 of the standard). A text is UTF-8; bytes of at least 128
+-- occur only in strings and comments.
 use Rattle.std.specs.Prelude.{ℕ, Bool, cond, ◌==◌, ◌||◌, nat_lt, nat_le}
 
 pub data Class : Type 0 where
   Space : Class
   Tab : Class
-  Feed : Class  -- line feed and carriage return, of which each ends a line
+  Feed : Class  -- line feed and carriage return; each ends a line
   Left : Class
   Right : Class
   Semicolon : Class
   Quote : Class
-  Backslash : Class  -- an identifier character, and the beginning of an escape in a string
-  Dollar : Class  -- an identifier character, and the beginning of an identifier
-  At : Class  -- an identifier character, and the beginning of an annotation behind a parenthesis
+  Backslash : Class  -- an identifier character, and the start of an escape in a string
+  Dollar : Class  -- an identifier character, and the start of an identifier
+  At : Class  -- an identifier character, and the start of an annotation after a parenthesis
   Plain : Class  -- any other identifier character
   Reserved : Class  -- , [ ] { }
-  Control : Class  -- stands only in comments
-  Foreign : Class  -- of a character beyond ASCII
+  Control : Class  -- occurs only in comments
+  Foreign : Class  -- a byte of a character beyond ASCII
 
 abbrev pub is_feed : ℕ → Bool
 is_feed b = (b == 10) || (b == 13)
@@ -27,7 +27,7 @@ is_reserved b = (b == 44) || (b == 91) || (b == 93) || (b == 123) || (b == 125)
 abbrev pub is_control : ℕ → Bool
 is_control b = nat_lt b 32 || (b == 127)
 
--- the class of each byte, by the first row that fits
+-- The class of a byte, by the first row that matches.
 unfoldable pub class : ℕ → Class
 class b =
     cond (b == 32) Space (cond (b == 9) Tab (cond (is_feed b) Feed

@@ -1,4 +1,5 @@
--- What a test has decided, from the value that it chose. They are facts of logic, and nothing of the standard.
+-- Lemmas that conclude the result of a test from the value that it selected. They are facts of logic, not of the
+-- standard.
 use Rattle.std.specs.Prelude.{◌≡◌, ◌⊎◌, Bool, true, false, Option, Some, None, refl}
 use Rattle.std.proofs.Common.{cond, inl, inr}
 

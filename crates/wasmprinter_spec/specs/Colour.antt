@@ -1,23 +1,23 @@
--- The colour sequences of a terminal (Select Graphic Rendition of ECMA-48), and a text without them.
+-- The ANSI escape sequences for colors (Select Graphic Rendition of ECMA-48), and a text without them.
 use Rattle.std.specs.Prelude.{ℕ, zero, suc, ◌+◌, List, [], ◌∷◌, ◌++◌, cond, nat_eq, codes, decimal, length, map}
 use Rattle.std.specs.List.{starts_with}
 
--- red, green, yellow, magenta and cyan
+-- The numbers of red, green, yellow, magenta and cyan.
 abbrev pub colours : List ℕ
 colours = 1 ∷ 2 ∷ 3 ∷ 5 ∷ 6 ∷ []
 
--- ESC and [
+-- The bytes ESC and `[`.
 abbrev pub introducer : List ℕ
 introducer = 27 ∷ 91 ∷ []
 
--- back to plain; bold; a colour; an intense colour
+-- The sequences: reset; bold; each color; each intense color.
 abbrev pub sequences : List (List ℕ)
 sequences =
     (introducer ++ codes "0m") ∷ (introducer ++ codes "1m")
     ∷ (map (λ c. introducer ++ (codes "3" ++ (decimal c ++ codes "m"))) colours
     ++ map (λ c. introducer ++ (codes "38;5;" ++ (decimal (8 + c) ++ codes "m"))) colours)
 
--- the length of the sequence with which a text begins, 0 where it begins with none
+-- The length of the sequence with which a text begins, or 0 if it begins with no sequence.
 abbrev pub sequence_length_in : List (List ℕ) → List ℕ → ℕ
 sequence_length_in [] text = 0
 sequence_length_in (s ∷ ss) text = cond (starts_with nat_eq text s) (length s) (sequence_length_in ss text)
@@ -29,12 +29,12 @@ abbrev pub uncolour_step : ℕ → ℕ → (ℕ → List ℕ) → List ℕ
 uncolour_step zero b rest = b ∷ rest 0
 uncolour_step (suc k) b rest = rest k
 
--- The text with the next n bytes left out, and then each sequence, from left to right.
+-- The text without its next n bytes and then without each sequence, from left to right.
 abbrev pub uncolour_after : ℕ → List ℕ → List ℕ
 uncolour_after n [] = []
 uncolour_after (suc n) (b ∷ bs) = uncolour_after n bs
 uncolour_after zero (b ∷ bs) = uncolour_step (sequence_length (b ∷ bs)) b (λ k. uncolour_after k bs)
 
--- a text with all colour sequences deleted, from left to right
+-- The text with all ANSI escape sequences deleted, from left to right.
 abbrev pub uncolour : List ℕ → List ℕ
 uncolour text = uncolour_after 0 text

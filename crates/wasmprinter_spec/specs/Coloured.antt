@@ -1,19 +1,20 @@
--- How the styles of a layout look on a terminal, and the text of calls with the sequences of their styles. The standard has no such thing.
+-- How the styles of a layout look on a terminal, and the text of calls with the ANSI escape sequences of their
+-- styles. The standard does not define colors.
 use Rattle.std.specs.Prelude.{ℕ, List, [], ◌∷◌, ◌++◌, true, false, Option, Some, None}
 use Rattle.std.specs.List.{concat}
 use Rattle.wasmprinter_spec.specs.Call.{Call, Text, Newline, Line, Start, Claim, Style, Literal, Name, Keyword, TypeName, Comment, Reset}
 use Rattle.wasmprinter_spec.specs.Colour.{uncolour}
 use Rattle.wasmprinter_spec.specs.Looks.{Look, sequences_of}
 
--- text in a colour
+-- Text in a color.
 abbrev pub colour_look : ℕ → Look
 colour_look c = record { colour = Some c; bold = false; intense = false }
 
--- bold text in the intense shade of a colour
+-- Bold text in the intense shade of a color.
 abbrev pub strong_look : ℕ → Look
 strong_look c = record { colour = Some c; bold = true; intense = true }
 
--- literals are red, names magenta, keywords strong in yellow, types strong in green, comments cyan
+-- Literals are red, names magenta, keywords bold in intense yellow, types bold in intense green, comments cyan.
 abbrev pub look_of : Style → Option Look
 look_of Literal = Some (colour_look 1)
 look_of Name = Some (colour_look 5)
@@ -22,7 +23,7 @@ look_of TypeName = Some (strong_look 2)
 look_of Comment = Some (colour_look 6)
 look_of Reset = None
 
--- the bytes that one call hands over: those of a text, a line feed, and the sequences of a style
+-- The bytes of one call: those of a text, a line feed, and the sequences of a style.
 abbrev pub coloured_bytes : Call → List ℕ
 coloured_bytes (Text bytes) = bytes
 coloured_bytes Newline = 10 ∷ []
@@ -30,12 +31,12 @@ coloured_bytes (Line place) = []
 coloured_bytes (Start style) = concat (sequences_of (look_of style))
 coloured_bytes (Claim name place bytes claimed) = []
 
--- the bytes of a list of calls
+-- The bytes of a list of calls.
 abbrev pub coloured_text : List Call → List ℕ
 coloured_text [] = []
 coloured_text (c ∷ cs) = coloured_bytes c ++ coloured_text cs
 
--- a call, without the sequences of colours in its text
+-- A call without the ANSI escape sequences in its text.
 abbrev pub bare_call : Call → Call
 bare_call (Text bytes) = Text (uncolour bytes)
 bare_call c = c

@@ -1,5 +1,5 @@
--- The custom sections that are known (of the standard's appendix, of Code Metadata and of the tool conventions), and which of a
--- module's are printed as they stand.
+-- The custom sections that are known (from the standard's appendix, Code Metadata and the tool conventions), and
+-- which custom sections of a module are printed as raw bytes.
 use Rattle.std.specs.Prelude.{ℕ, List, [], ◌∷◌, ◌++◌, Bool, true, false, codes, bytes_eq, Option, Some, None, if◌then◌else◌}
 use Rattle.wasmprinter_spec.specs.Grammar.{input}
 use Rattle.wasmprinter_spec.specs.Kinds.{Kind}
@@ -11,6 +11,7 @@ pub mod Producers
 pub mod Dylink
 pub mod Hints
 
+-- The names of the known custom sections.
 abbrev pub name_section : List ℕ
 name_section = codes "name"
 
@@ -23,14 +24,14 @@ producers_section = codes "producers"
 abbrev pub dylink_section : List ℕ
 dylink_section = codes "dylink.0"
 
--- what a custom section is to the text
+-- The role of a custom section in the text.
 pub data CustomRole : Type 0 where
-  Silent : CustomRole  -- its names stand in the text, or its hints
+  Silent : CustomRole  -- its identifiers or hints occur in the text
   Listed : List Field → CustomRole
   Linked : List Subsection → CustomRole
-  Refused : ℕ → CustomRole  -- for a subsection that isn't known, by its id
+  Refused : ℕ → CustomRole  -- for a subsection with this unknown id
   Raw : CustomRole
-  Faulted : CustomRole  -- raw, behind a line that tells of its fault
+  Faulted : CustomRole  -- raw, after a line that reports its error
 
 abbrev pub producers_role : Option (List Field) → CustomRole
 producers_role None = Faulted
@@ -41,6 +42,7 @@ dylink_role (Whole subsections) = Linked subsections
 dylink_role (Unknown id) = Refused id
 dylink_role Faulty = Faulted
 
+-- The role of a custom section, by its name and, for `producers` and `dylink.0`, by its data.
 abbrev pub custom_role_of : Custom → CustomRole
 custom_role_of c =
     if bytes_eq c.name name_section then Silent else
@@ -48,7 +50,7 @@ custom_role_of c =
     (if bytes_eq c.name producers_section then producers_role (p.producers.parse (input c.bytes.place c.bytes.value)) else
     (if bytes_eq c.name dylink_section then dylink_role (judgement_of (input c.bytes.place c.bytes.value)) else Raw)))
 
--- a custom section that a text has to say again: what it stands behind, its name and its bytes
+-- A custom section that a text must repeat: the kind of the section before it (`behind`), its name and its bytes.
 pub record RawCustom : Type 0 where
   pub behind : Option Kind
   pub name : List ℕ
@@ -57,7 +59,7 @@ pub record RawCustom : Type 0 where
 abbrev pub raw_custom : CustomEntry → RawCustom
 raw_custom c = record { behind = c.behind; name = c.section.value.name; bytes = c.section.value.bytes.value }
 
--- A refused section is not among them: a text ends in front of it.
+-- The section is printed as raw bytes. A refused section is not raw: a text ends before it.
 abbrev pub is_raw : CustomRole → Bool
 is_raw Silent = false
 is_raw (Listed fields) = false
@@ -66,6 +68,7 @@ is_raw (Refused id) = false
 is_raw Raw = true
 is_raw Faulted = true
 
+-- The custom sections that are printed as raw bytes, in order.
 abbrev pub raw_customs : List CustomEntry → List RawCustom
 raw_customs [] = []
 raw_customs (c ∷ cs) = (if is_raw (custom_role_of c.section.value) then raw_custom c ∷ [] else []) ++ raw_customs cs

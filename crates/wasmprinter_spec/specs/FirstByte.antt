@@ -1,5 +1,5 @@
--- Grammars that the first byte decides: it is taken, or only looked at, and chooses what is spelled. The standard has no word for
--- them.
+-- Grammars that depend on the first byte, which is consumed or only inspected: it selects the grammar of the
+-- value. The standard has no name for them.
 use Rattle.std.specs.Prelude.{◌≡◌, ℕ, List, [], ◌∷◌, ◌++◌, ◌+◌, ◌<◌, ◌==◌, length, nat_lt, Option, Some, None, if◌then◌else◌, refl}
 use Rattle.std.proofs.Common.{sym, ap, subst, ◌∙◌, arith, ltb}
 use Rattle.std.proofs.lemmas.Bool.{ltb-true, lt-ltb}
@@ -7,21 +7,21 @@ use Rattle.std.proofs.lemmas.List.{length-append}
 use Rattle.wasmprinter_spec.specs.Grammar.{Input, input, Spans, Grammar, ◌>>=◌, bind_some, some_is, byte, seq, try_map, map_value}
 use Rattle.wasmprinter_spec.specs.Choices.{tested}
 
--- this byte and no other
+-- The byte c and no other.
 abbrev pub only : ℕ → Grammar ℕ
 only c = try_map (λ b. if b == c then Some b else None) byte
 
--- a byte is taken, and says what stands behind it
+-- A byte b, which is consumed, and then a value of `h b`.
 abbrev pub behind_first_byte : {A : Type 0} → (ℕ → Grammar A) → Grammar A
 behind_first_byte h = map_value (λ x. x.1) (seq byte h)
 
--- the first byte says what stands there, itself among it
+-- A value of `h b`, where b is the first of the bytes that encode the value.
 module _ {A : Type 0} (h : ℕ → Grammar A) where
   abbrev pub Peeked : ℕ → List ℕ → A → Type 0
   Peeked p [] a = ⊥
   Peeked p (b ∷ bs) a = (h b).spells p (b ∷ bs) a
 
-  -- what was read, if that took a byte of the n that there were
+  -- The result of reading, if it consumed at least one of the n bytes.
   abbrev pub shorter : ℕ → A × Input → Option (A × Input)
   shorter n x = if nat_lt (length x.1.bytes) n then Some x else None
 

@@ -1,9 +1,9 @@
--- From tokens to nested groups, and annotations cut out of them (section 6.2 of the standard, "Annotations").
+-- From tokens to nested groups, with annotations cut out of them (section 6.2 of the standard, "Annotations").
 use Rattle.std.specs.Prelude.{List, [], ◌∷◌, ◌++◌, ℕ, Option, Some, None, bytes_eq, codes, cond}
 use Rattle.wasmprinter_spec.specs.Token as token
 use Rattle.wasmprinter_spec.specs.Token.{Token, tokens}
 
--- A row of items: each constructor is the first item, and its last field the items behind it.
+-- A row of items: each constructor is the first item, and its last field holds the items after it.
 pub data Forest : Type 0 where
   End : Forest
   Word : List ℕ → Forest → Forest
@@ -11,10 +11,10 @@ pub data Forest : Type 0 where
   String : List ℕ → Forest → Forest
   Reserved : Forest → Forest
   Group : Forest → Forest → Forest
-  Note : List ℕ → Forest → Forest → Forest  -- an annotation: its name, and what it holds
+  Note : List ℕ → Forest → Forest → Forest  -- an annotation: its name and its content
 
--- The rows that are open, the innermost first, built from the right: a parenthesis that closes opens a row to its left. There is no
--- row where parentheses don't match.
+-- The open rows, the innermost first. They are built from the right: a closing parenthesis opens a row to its
+-- left. If parentheses do not match, there is no row.
 abbrev pub open_group : List Forest → List Forest
 open_group [] = []
 open_group (f ∷ []) = []
@@ -52,11 +52,11 @@ the_one [] = None
 the_one (f ∷ []) = Some f
 the_one (f ∷ g ∷ rest) = None
 
--- the nested groups of a text
+-- The nested groups of a text, or None if it has a bad token or parentheses do not match.
 abbrev pub forest : List ℕ → Option Forest
 forest text = the_one (grow (tokens text))
 
--- without annotations
+-- The items without annotations.
 abbrev pub without_annotations : Forest → Forest
 without_annotations End = End
 without_annotations (Word s f) = Word s (without_annotations f)
@@ -66,7 +66,7 @@ without_annotations (Reserved f) = Reserved (without_annotations f)
 without_annotations (Group g f) = Group (without_annotations g) (without_annotations f)
 without_annotations (Note id g f) = without_annotations f
 
--- what each annotation `custom` holds that stands directly in this row
+-- The content of each annotation `custom` that occurs directly in this row.
 abbrev pub row_customs : Forest → List Forest
 row_customs End = []
 row_customs (Word s f) = row_customs f
@@ -76,8 +76,8 @@ row_customs (Reserved f) = row_customs f
 row_customs (Group g f) = row_customs f
 row_customs (Note id g f) = cond (bytes_eq id (codes "custom")) (g ∷ row_customs f) (row_customs f)
 
--- the custom sections of a text: the annotations `custom` among the fields of its module, and none that stands in another group or
--- annotation
+-- The custom sections of a text: the content of each annotation `custom` among the fields of its module, but not
+-- in another group or annotation.
 abbrev pub customs : Forest → List Forest
 customs End = []
 customs (Word s f) = customs f
@@ -87,7 +87,7 @@ customs (Reserved f) = customs f
 customs (Group g f) = row_customs g ++ customs f
 customs (Note id g f) = customs f
 
--- the items of a row, and then these
+-- The items of a row, and then those of another.
 abbrev pub onto : Forest → Forest → Forest
 onto End f = f
 onto (Word s g) f = Word s (onto g f)
@@ -97,7 +97,7 @@ onto (Reserved g) f = Reserved (onto g f)
 onto (Group h g) f = Group h (onto g f)
 onto (Note id h g) f = Note id h (onto g f)
 
--- the tokens of a row
+-- The tokens of a row.
 abbrev pub flat : Forest → List Token
 flat End = []
 flat (Word s f) = token.word s ∷ flat f

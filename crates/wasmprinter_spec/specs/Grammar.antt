@@ -1,11 +1,13 @@
--- Grammars over bytes. A grammar says twice which bytes spell a value: as a relation, `spells`, which is what the standard
--- writes ("Conventions" of its section 5.1), and as a reading from the front of the bytes, `parse`. `sound` and `complete`
--- prove that both say the same. So a grammar that is composed of these pieces gives each text of bytes at most one value.
+-- Grammars over bytes. A grammar states twice which bytes encode a value: `spells` is a relation in the style of
+-- the standard (section 5.1, "Conventions"), and `parse` reads a value from the front of the bytes. `sound` and
+-- `complete` prove that the two agree. So by a grammar that is built from these combinators, each byte string
+-- encodes at most one value.
 use Rattle.std.specs.Prelude.{◌≡◌, ℕ, List, [], ◌∷◌, ◌++◌, ◌+◌, length, Bool, true, false, Option, Some, None, refl}
 use Rattle.std.proofs.Common.{sym, ap, subst, ◌∙◌, arith, append_assoc}
 use Rattle.std.proofs.lemmas.List.{length-append}
 
--- where reading stands: the place of the next byte, from the module's start, and the bytes from there on
+-- The input that is still unread: the offset of the next byte from the start of the module, and the bytes from
+-- there on.
 pub record Input : Type 0 where
   pub place : ℕ
   pub bytes : List ℕ
@@ -13,21 +15,22 @@ pub record Input : Type 0 where
 abbrev pub input : ℕ → List ℕ → Input
 input p bytes = record { place = p; bytes = bytes }
 
--- Between `at` and x.1 stand bytes that spell x.0. `spells p text a`: the bytes `text`, of which the first lies at the
--- place p, spell a.
+-- The bytes from `at` up to the input x.1 encode the value x.0. `spells p text a` says that the bytes `text`,
+-- which start at offset p, encode a.
 pub record Spans {A : Type 0} (spells : ℕ → List ℕ → A → Type 0) (at : Input) (x : A × Input) : Type 0 where
   pub text : List ℕ
   pub parts : at.bytes ≡ text ++ x.1.bytes
   pub ends : x.1.place ≡ at.place + length text
   pub spelled : spells at.place text x.0
 
+-- A grammar of values that a prefix of the input encodes. `parse` returns the value and the input after it.
 pub record Grammar (A : Type 0) : Type 1 where
   pub spells : ℕ → List ℕ → A → Type 0
   pub parse : Input → Option (A × Input)
   pub sound : (at : Input) (x : A × Input) → parse at ≡ Some x → Spans spells at x
   pub complete : (at : Input) (x : A × Input) → Spans spells at x → parse at ≡ Some x
 
--- a grammar of what takes all bytes that there are
+-- A grammar of values that all bytes of the input encode, up to the last one.
 pub record Remainder (A : Type 0) : Type 1 where
   pub spells : ℕ → List ℕ → A → Type 0
   pub parse : Input → Option A
@@ -46,7 +49,7 @@ bind_some None f y e = absurd cc
 pub some_is : {A : Type 0} (x y : A) → ◌≡◌ {A = Option A} (Some x) (Some y) → x ≡ y
 some_is x y e = cc
 
--- ---- a byte
+-- ---- A byte
 
 abbrev pub Byte : ℕ → List ℕ → ℕ → Type 0
 Byte p text b = text ≡ b ∷ []
@@ -76,7 +79,7 @@ byte_complete at x s =
 abbrev pub byte : Grammar ℕ
 byte = record { spells = Byte; parse = byte_at; sound = byte_sound; complete = byte_complete }
 
--- ---- a value and then another, whose grammar may depend on the first: a kind and what it announces, a count and the items
+-- ---- A value and then another, whose grammar may depend on the first: a kind and its content, a count and the items
 
 module _ {A B : Type 0} (g : Grammar A) (h : A → Grammar B) where
   abbrev pub Seq : ℕ → List ℕ → A × B → Type 0
@@ -121,7 +124,7 @@ module _ {A B : Type 0} (g : Grammar A) (h : A → Grammar B) where
   abbrev pub seq : Grammar (A × B)
   seq = record { spells = Seq; parse = seq_at; sound = seq_sound; complete = seq_complete }
 
--- ---- the values of another grammar under a function that may refuse
+-- ---- The values of another grammar under a partial function
 
 module _ {A B : Type 0} (f : A → Option B) (g : Grammar A) where
   abbrev pub Mapped : ℕ → List ℕ → B → Type 0
@@ -148,11 +151,11 @@ module _ {A B : Type 0} (f : A → Option B) (g : Grammar A) where
   abbrev pub try_map : Grammar B
   try_map = record { spells = Mapped; parse = try_map_at; sound = try_map_sound; complete = try_map_complete }
 
--- the values under a function
+-- The values of a grammar under a total function.
 abbrev pub map_value : {A B : Type 0} → (A → B) → Grammar A → Grammar B
 map_value f g = try_map (λ a. Some (f a)) g
 
--- ---- a value that is spelled by no bytes
+-- ---- A value that the empty byte string encodes
 
 module _ {A : Type 0} (a : A) where
   abbrev pub Nothing : ℕ → List ℕ → A → Type 0
@@ -176,7 +179,7 @@ module _ {A : Type 0} (a : A) where
   abbrev pub succeed : Grammar A
   succeed = record { spells = Nothing; parse = nothing_at; sound = nothing_sound; complete = nothing_complete }
 
--- ---- no value at all
+-- ---- The grammar without values
 
 module _ {A : Type 0} where
   pub never_sound : (at : Input) (x : A × Input) → None ≡ Some x → Spans {A = A} (λ p text a. ⊥) at x
@@ -188,12 +191,12 @@ module _ {A : Type 0} where
 abbrev pub fail : {A : Type 0} → Grammar A
 fail {A} = record { spells = λ p text a. ⊥; parse = λ at. None; sound = never_sound; complete = never_complete }
 
--- one grammar or another, by a test
+-- The first grammar if the test is true, the second otherwise.
 abbrev pub choose : {A : Type 0} → Bool → Grammar A → Grammar A → Grammar A
 choose true g h = g
 choose false g h = h
 
--- ---- a value with the place of its first byte
+-- ---- A value with the place of its first byte
 
 pub record Placed (A : Type 0) : Type 0 where
   pub place : ℕ
@@ -225,7 +228,7 @@ module _ {A : Type 0} (g : Grammar A) where
   value_with_place =
       record { spells = IsPlaced; parse = value_with_place_at; sound = value_with_place_sound; complete = value_with_place_complete }
 
--- ---- another relation that says the same: the standard's words in front, a reading behind
+-- ---- An equivalent relation: the relation S, in the standard's words, with the `parse` of the grammar g
 
 module _ {A : Type 0} (g : Grammar A) (S : ℕ → List ℕ → A → Type 0)
     (says : (p : ℕ) (text : List ℕ) (a : A) → g.spells p text a → S p text a)

@@ -1,5 +1,6 @@
--- Indices in the text format: a number means itself, an identifier the place of its declaration (sections 6.3, "Identifiers" and
--- "Contexts", and 6.6, "Indices", of the standard). An index space is given by the identifiers of its declarations, in order.
+-- Indices in the text format: a number means itself, an identifier the position of its declaration (sections 6.3,
+-- "Identifiers" and "Contexts", and 6.6, "Indices", of the standard). An index space is given by the identifiers
+-- of its declarations, in order.
 use Rattle.std.specs.Prelude.{ℕ, ◌+◌, List, [], ◌∷◌, Bool, true, false, cond, not, ◌&&◌, bytes_eq, Option, Some, None, if◌then◌else◌, option_map}
 use Rattle.wasmprinter_spec.specs.Row.{Space, Types, Func, Table, Memory, Tag, Global, Elem, Data, Local, Label}
 use Rattle.wasmprinter_spec.specs.Grammar.{◌>>=◌}
@@ -7,7 +8,7 @@ use Rattle.wasmprinter_spec.specs.Types.{FuncType}
 use Rattle.wasmprinter_spec.specs.Numeral.{natural, number_below}
 use Rattle.wasmprinter_spec.specs.Forest.{Forest, End, Word, Name}
 
--- the identifiers of declarations, of which some have none
+-- The identifiers of declarations, in order. A declaration may have no identifier.
 abbrev pub Identifiers : Type 0
 Identifiers = List (Option (List ℕ))
 
@@ -19,35 +20,35 @@ abbrev pub is_declared : List ℕ → Identifiers → Bool
 is_declared id [] = false
 is_declared id (d ∷ ds) = cond (declares id d) true (is_declared id ds)
 
--- no identifier is declared twice
+-- No identifier is declared twice.
 abbrev pub are_distinct : Identifiers → Bool
 are_distinct [] = true
 are_distinct (None ∷ ds) = are_distinct ds
 are_distinct (Some id ∷ ds) = not (is_declared id ds) && are_distinct ds
 
--- The index space of these declarations: none where an identifier is declared twice, also where nothing uses it. The standard calls an
--- identifier context well-formed if it contains no duplicate identifiers in one space.
+-- The index space of these declarations. There is none if an identifier is declared twice, even if nothing uses
+-- it. The standard calls an identifier context well-formed if it contains no duplicate identifiers in one space.
 abbrev pub index_space : Identifiers → Option Identifiers
 index_space ids = if are_distinct ids then Some ids else None
 
--- the place of the declaration of an identifier
+-- The position of the declaration of an identifier.
 abbrev pub resolve : List ℕ → Identifiers → Option ℕ
 resolve id [] = None
 resolve id (d ∷ ds) = if declares id d then Some 0 else option_map (λ n. n + 1) (resolve id ds)
 
--- one item that is an index
+-- A single item that is an index.
 abbrev pub index : Identifiers → Forest → Option ℕ
 index ids (Word w End) = natural w >>= number_below 32
 index ids (Name s End) = resolve s ids
 index ids _ = None
 
--- one item that is an index, and what stands behind it
+-- A first item that is an index, and the items after it.
 abbrev pub leading_index : Identifiers → Forest → Option (ℕ × Forest)
 leading_index ids (Word w f) = index ids (Word w End) >>= λ i. Some (i, f)
 leading_index ids (Name s f) = index ids (Name s End) >>= λ i. Some (i, f)
 leading_index ids _ = None
 
--- the index spaces of a module, and of a function's parameters with its locals
+-- The index spaces of a module, and that of a function's parameters with its locals.
 pub record Spaces : Type 0 where
   pub types : Identifiers
   pub functions : Identifiers
@@ -59,7 +60,7 @@ pub record Spaces : Type 0 where
   pub datas : Identifiers
   pub locals : Identifiers
 
--- (Labels are found by another rule, with the operators.)
+-- The index space of each kind. (Labels are resolved by another rule, with the operators.)
 abbrev pub space_in : Spaces → Space → Identifiers
 space_in s Types = s.types
 space_in s Func = s.functions
@@ -72,8 +73,8 @@ space_in s Data = s.datas
 space_in s Local = s.locals
 space_in s Label = []
 
--- what functions and operators are read with: the index spaces, the signature of each function type, and the fields of each structure type,
--- which are an index space of their own
+-- The context in which functions and operators are read: the index spaces, the signature of each function type,
+-- and the fields of each structure type, which are an index space of their own.
 pub record Context : Type 0 where
   pub spaces : Spaces
   pub signature : ℕ → Option FuncType

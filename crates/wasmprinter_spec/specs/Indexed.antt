@@ -1,5 +1,6 @@
--- Every used index is declared: it is below the number of what its index space holds (section 2.5 of the standard, "Indices"). Every valid
--- module is so.
+-- Every used index is declared: it is below the number of items in its index space (section 2.5 of the standard,
+-- "Indices"). The types of functions, tags, blocks with a type index and indirect calls are function types, and a
+-- field is one of a structure type. This holds for every valid module.
 use Rattle.std.specs.Prelude.{◌≡◌, ℕ, ◌+◌, ◌<◌, List, length, Option, Some, None}
 use Rattle.std.specs.List.{AllByRecursion}
 use Rattle.wasmprinter_spec.specs.Types.{FuncType, HeapType, Index, RefType, ValType, Ref, StorageType, Val, FieldType, CompositeType, FuncComposite, ArrayComposite, StructComposite, SubType, ExternKind, FuncKind, TableKind, MemoryKind, GlobalKind, TagKind, ExternType, FuncExtern, TableExtern, MemoryExtern, GlobalExtern, TagExtern, all_types, signature_at, fields_at}
@@ -12,7 +13,7 @@ use Rattle.wasmprinter_spec.specs.Placed as placed
 use Rattle.wasmprinter_spec.specs.Placed.{Export, Import, ElementMode, Passive, Declared, Active, Items, Functions, Expressions, Element, DataMode, PassiveData, ActiveData}
 use Rattle.wasmprinter_spec.specs.Module.{Function, Module, imported_types, func_import, table_import, memory_import, global_import, tag_import}
 
--- ---- types: each type index in them is below the number of types
+-- ---- Types: each type index in them is below the number of types
 
 module _ (types : ℕ) where
   abbrev pub IsDeclaredHeap : HeapType → Type 0
@@ -62,9 +63,10 @@ module _ (types : ℕ) where
     pub supertypes : AllByRecursion (λ i. i < types) t.supertypes
     pub composite : IsDeclaredComposite t.composite
 
--- ---- operators
+-- ---- Operators
 
--- how many items each index space holds, and of the types the signature of each function type and the fields of each structure type
+-- The number of items in each index space, the signature of each function type, and the fields of each structure
+-- type.
 pub record Counts : Type 0 where
   pub types : ℕ
   pub functions : ℕ
@@ -78,7 +80,8 @@ pub record Counts : Type 0 where
   pub signature : ℕ → Option FuncType
   pub fields : ℕ → Option (List FieldType)
 
--- An index into a space. A label may be any number: it is the text of a branch that leads nowhere.
+-- n is an index into the space. A label may be any number, since the text can write a branch to a label that does
+-- not exist.
 abbrev pub IsIndex : Counts → Space → ℕ → Type 0
 IsIndex c Types n = n < c.types
 IsIndex c Func n = n < c.functions
@@ -106,12 +109,12 @@ IsCatch c (OneRef t l) = t < c.tags
 IsCatch c (All l) = Unit {0}
 IsCatch c (AllRef l) = Unit {0}
 
--- a field of a structure type
+-- n is the index of a field of the structure type, and there is such a type.
 abbrev pub IsFieldOf : Option (List FieldType) → ℕ → Type 0
 IsFieldOf None n = ⊥
 IsFieldOf (Some fs) n = n < length fs
 
--- A line for each shape, with the immediates that fit it. No other immediates are an operator's.
+-- The immediates have the shape, and each of their indices is declared. A line for each shape.
 abbrev pub AreDeclared : Counts → Shape → Immediates → Type 0
 AreDeclared c NoneShape NoImmediates = Unit {0}
 AreDeclared c FenceShape NoImmediates = Unit {0}
@@ -141,7 +144,7 @@ AreDeclared c VectorShape (Bytes bs) = Unit {0}
 AreDeclared c LanesShape (Bytes bs) = Unit {0}
 AreDeclared c _ _ = ⊥
 
--- an opcode that isn't listed has no immediates
+-- The immediates are declared, by the row of the opcode. An opcode that is not listed has no immediates.
 abbrev pub AreDeclaredBy : Counts → Option Row → Immediates → Type 0
 AreDeclaredBy c None i = ⊥
 AreDeclaredBy c (Some r) i = AreDeclared c r.shape i
@@ -149,7 +152,7 @@ AreDeclaredBy c (Some r) i = AreDeclared c r.shape i
 abbrev pub IsIndexedOperator : Counts → Operator → Type 0
 IsIndexedOperator c o = AreDeclaredBy c (by_opcode o.opcode) o.immediates
 
--- ---- functions
+-- ---- Functions
 
 abbrev pub parameter_count : Option FuncType → ℕ
 parameter_count None = 0
@@ -158,7 +161,7 @@ parameter_count (Some t) = length t.params
 abbrev pub type_count : Module → ℕ
 type_count m = length (all_types m.types)
 
--- outside functions there are no locals
+-- The counts outside functions, where there are no locals.
 abbrev pub counts_of : Module → Counts
 counts_of m = record {
   types = type_count m;
@@ -174,11 +177,11 @@ counts_of m = record {
   fields = fields_at (all_types m.types);
 }
 
--- the parameters of a function are the first of its locals
+-- The counts in a function. Its parameters are the first of its locals.
 abbrev pub counts_in : Module → Function → Counts
 counts_in m f = record (counts_of m) { locals = parameter_count (signature_at (all_types m.types) f.type_index) + length f.locals }
 
--- the type with this index is a function type
+-- The type with index i is a function type.
 abbrev pub NamesFunction : Module → ℕ → Type 0
 NamesFunction m i = (t : FuncType) × (signature_at (all_types m.types) i ≡ Some t)
 
@@ -187,7 +190,7 @@ pub record IsIndexedFunction (m : Module) (f : Function) : Type 0 where
   pub locals : AllByRecursion (IsDeclaredVal (type_count m)) f.locals
   pub operators : AllByRecursion (IsIndexedOperator (counts_in m f)) f.operators
 
--- the space of what is exported
+-- The index space of an export of the kind.
 abbrev pub space_of : ExternKind → Space
 space_of FuncKind = Func
 space_of TableKind = Table
@@ -202,7 +205,7 @@ abbrev pub IsStart : Module → Option ℕ → Type 0
 IsStart m None = Unit {0}
 IsStart m (Some i) = IsIndex (counts_of m) Func i
 
--- ---- the other parts of a module
+-- ---- The other parts of a module
 
 abbrev pub IsIndexedExpression : Module → List Operator → Type 0
 IsIndexedExpression m os = AllByRecursion (IsIndexedOperator (counts_of m)) os
@@ -249,6 +252,7 @@ IsIndexedDataMode m (ActiveData memory os) = IsIndex (counts_of m) Memory memory
 abbrev pub IsIndexedData : Module → placed.Data Operator → Type 0
 IsIndexedData m d = IsIndexedDataMode m d.mode
 
+-- Every used index of the module is declared, and each operator is listed and has immediates of its shape.
 pub record IsIndexed (m : Module) : Type 0 where
   pub imports : AllByRecursion (IsIndexedImport m) m.imports
   pub tables : AllByRecursion (IsIndexedTable m) m.tables

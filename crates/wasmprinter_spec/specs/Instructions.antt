@@ -1,4 +1,4 @@
--- How bytes spell operators and expressions (section 5.4 of the standard). Expressions nest blocks in one another.
+-- How bytes encode operators and expressions (section 5.4 of the standard). An expression contains nested blocks.
 use Rattle.std.specs.Prelude.{◌≡◌, ◌⊎◌, ℕ, ◌+◌, ◌-◌, ◌*◌, nat_lt, ◌<◌, List, [], length, ◌∷◌, ◌++◌, map, Bool, true, false, cond, ◌||◌, ◌&&◌, ◌==◌, Option, Some, None, refl}
 use Rattle.std.proofs.Common.{sym, ap, ◌∙◌, subst, arith, append-nil, inl, inr, eqb}
 use Rattle.std.proofs.lemmas.Bool.{and_parts, eqb-true}
@@ -18,18 +18,18 @@ use Rattle.wasmprinter_spec.specs.Stepped.{Move, On, Stop, Never, by_move, stops
 use Rattle.wasmprinter_spec.specs.Nesting.{Nests, Sequence, Open, advance, at_start}
 use Rattle.wasmprinter_spec.specs.NestingSteps.{stops_at_end, nested_to_end}
 
--- behind these bytes stands a number
+-- The byte is a prefix: a number follows it.
 abbrev pub is_prefix : ℕ → Bool
 is_prefix b = (b == 0xfb) || ((b == 0xfc) || ((b == 0xfd) || (b == 0xfe)))
 
 abbrev pub numbered_opcode : ℕ → Grammar Opcode
 numbered_opcode b = choose (is_prefix b) (map_value (opcode b) u32) (succeed (opcode 0 b))
 
--- a byte, or a prefix and a number
+-- An opcode: a byte, or a prefix and a number.
 abbrev pub opcode_grammar : Grammar Opcode
 opcode_grammar = map_value (λ x. x.1) (seq byte numbered_opcode)
 
--- 40, a value type, or a type index
+-- A block type, by its first byte: the byte 40, a value type, or a type index.
 abbrev pub block_type_by : ℕ → Grammar BlockType
 block_type_by b =
     choose (b == 0x40) (map_value (λ x. Empty) byte) (choose (begins_val_type b) (map_value Value val_type) (map_value OfType signed_index))
@@ -37,11 +37,11 @@ block_type_by b =
 abbrev pub block_type : Grammar BlockType
 block_type = by_first_byte block_type_by
 
--- a tag and a label
+-- A tag and a label.
 abbrev pub tag_and_label : (ℕ → ℕ → Catch) → Grammar Catch
 tag_and_label c = map_value (λ x. c x.0 x.1) (seq u32 (λ _. u32))
 
--- behind the byte 00, 01, 02 or 03
+-- A catch clause after its first byte, which is 00, 01, 02 or 03.
 abbrev pub catch_by : ℕ → Grammar Catch
 catch_by k =
     choose (k == 0) (tag_and_label One)
@@ -53,8 +53,9 @@ catch = behind_first_byte catch_by
 abbrev pub u64 : Grammar ℕ
 u64 = unsigned 64
 
--- A memory operand (section 5.4, "Memory Instructions"): below 64 the exponent of the alignment, of an operand of memory 0; else 64 more,
--- and the memory's index; and an offset.
+-- A memory operand (section 5.4, "Memory Instructions") after its first number n. Below 64, n is the exponent of
+-- the alignment and the memory is 0. Below 128, the exponent is n - 64 and the index of the memory follows. The
+-- offset comes last.
 abbrev pub mem_arg_by : ℕ → Grammar MemArg
 mem_arg_by n =
     choose (nat_lt n 64) (map_value (mem_arg_of n 0) u64)
@@ -63,29 +64,30 @@ mem_arg_by n =
 abbrev pub mem_arg : Grammar MemArg
 mem_arg = map_value (λ x. x.1) (seq u32 mem_arg_by)
 
--- two indices, or an index and a number
+-- Two indices, or an index and a number.
 abbrev pub indices : Grammar Immediates
 indices = map_value (λ x. Indices x.0 x.1) (seq u32 (λ _. u32))
 
--- whether the two reference types of a cast may be null
+-- Whether the two reference types of a cast are nullable.
 abbrev pub cast_nulls : ℕ → Option (Bool × Bool)
 cast_nulls b = lookup ((0x00, (false, false)) ∷ (0x01, (true, false)) ∷ (0x02, (false, true)) ∷ (0x03, (true, true)) ∷ []) b
 
--- these, a label, and two heap types
+-- The immediates of a cast: the byte of `cast_nulls`, a label, and two heap types.
 abbrev pub cast : Grammar Immediates
 cast =
     map_value (λ ((from_null, to_null), (label, (from, to))). Cast label (ref_type from_null from) (ref_type to_null to))
     (seq (try_map cast_nulls byte) (λ _. seq u32 (λ _. seq heap_type (λ _. heap_type))))
 
--- the number whose bytes these are, the lowest first
+-- The number that the bytes represent, the lowest byte first.
 abbrev pub little_endian : List ℕ → ℕ
 little_endian [] = 0
 little_endian (b ∷ bs) = b + 256 * little_endian bs
 
--- the bits of a float of so many bytes
+-- The bits of a float of n bytes.
 abbrev pub float_bits : ℕ → Grammar ℕ
 float_bits n = map_value little_endian (take_bytes n)
 
+-- The immediates of each shape, a line for each.
 abbrev pub immediates : Shape → Grammar Immediates
 immediates NoneShape = succeed NoImmediates
 immediates FenceShape = map_value (λ _. NoImmediates) (only 0x00)
@@ -118,17 +120,17 @@ abbrev pub immediates_of_row : Option Row → Grammar Immediates
 immediates_of_row None = fail
 immediates_of_row (Some r) = immediates r.shape
 
--- an opcode that the table lists, and its immediates
+-- An opcode that the table lists, and its immediates.
 abbrev pub operator : Grammar Operator
 operator = map_value (λ x. record { opcode = x.0; immediates = x.1 }) (seq opcode_grammar (λ o. immediates_of_row (by_opcode o)))
 
--- ---- expressions
+-- ---- Expressions
 
--- the byte of the `end` that closes an expression
+-- The byte of the `end` that closes an expression.
 abbrev pub end_byte : ℕ
 end_byte = 0x0b
 
--- operators, and the place of the `end` that closes them
+-- Operators, and the place of the `end` that closes them.
 pub record Closed (A : Type 0) : Type 0 where
   pub items : List A
   pub end : ℕ
@@ -139,15 +141,16 @@ role_at o = role_of o.value.opcode
 abbrev pub roles : List (Placed Operator) → List Role
 roles ops = map role_at ops
 
--- operators one after the other, well nested, and the byte 0B behind them
+-- The bytes encode well-nested operators, one after the other, and then the `end`, which is the byte 0B at the
+-- place x.end.
 abbrev pub IsExpression : ℕ → List ℕ → Closed (Placed Operator) → Type 0
 IsExpression p text x =
     (t : List ℕ) × (text ≡ t ++ end_byte ∷ []) × AreItems (value_with_place operator) p t x.items × Nests Sequence (roles x.items)
     × (x.end ≡ p + length t)
 
--- ---- reading keeps which blocks are open
+-- ---- Reading keeps the open blocks
 
--- an operator takes a byte
+-- An operator is encoded by at least one byte.
 pub operator_takes : (p : ℕ) (text : List ℕ) (o : Placed Operator) → (value_with_place operator).spells p text o → 0 < length text
 operator_takes p text o s =
     let (_, (_, _, (front, back, joined, code, _))) = s in
@@ -178,13 +181,13 @@ stops-roles (o ∷ ops) last s =
     same_move (advance_by s o) (λ t. stops advance_by t ops last) (λ t. stops advance t (roles ops) (role_at last)) false false
     (λ t. stops-roles ops last t)
 
--- ---- no operator but 0B is an `end`
+-- ---- The only operator with the role `Ends` is 0B
 
 abbrev is_end : Role → Bool
 is_end Ends = true
 is_end _ = false
 
--- a row that is an `end` is that of the byte
+-- If the row has the role `Ends`, its opcode is the byte 0B.
 abbrev fits_end : Row → Bool
 fits_end r = cond (is_end r.role) ((r.prefix == 0) && (r.number == end_byte)) true
 
@@ -225,7 +228,7 @@ end_in o (r ∷ rs) f e =
 end_opcode : (o : Opcode) → role_of o ≡ Ends → o ≡ opcode 0 end_byte
 end_opcode o e = end_in o table table_fits e
 
--- the bytes of that opcode
+-- If a byte b and the bytes t encode the opcode 0B, then t is empty and b is 0B.
 code_text : (c : Bool) (b p : ℕ) (t : List ℕ) (o : Opcode) → is_prefix b ≡ c →
     (choose c (map_value (opcode b) u32) (succeed (opcode 0 b))).spells p t o → o ≡ opcode 0 end_byte → (t ≡ []) × (b ≡ end_byte)
 code_text true b p t o c s e =
@@ -239,7 +242,7 @@ no_immediates : (p : ℕ) (t : List ℕ) (i : Immediates) → (immediates_of_row
 unfolding table
 no_immediates p t i s = s
 
--- the operator `end`
+-- The operator `end`.
 abbrev pub end_operator : Operator
 end_operator = record { opcode = opcode 0 end_byte; immediates = NoImmediates }
 
@@ -271,7 +274,7 @@ end_role : role_of (opcode 0 end_byte) ≡ Ends
 unfolding table
 end_role = refl
 
--- ---- both say the same
+-- ---- `closed_grammar` and `IsExpression` say the same
 
 pub says : (p : ℕ) (text : List ℕ) (x : Closed (Placed Operator)) → closed_grammar.spells p text x → IsExpression p text x
 says p text x s =
@@ -293,10 +296,10 @@ said p text x s =
       (t, end_byte ∷ [], joined, items, (refl, end_spelled (p + length t)), stops-roles x.items last at_start ∙ end),
     )
 
--- operators, each with its place, and the byte 0B of the last `end`, whose place is kept
+-- An expression: operators, each with its place, and the byte 0B of the last `end`, with its place.
 abbrev pub expression : Grammar (Closed (Placed Operator))
 expression = with_spelling closed_grammar IsExpression says said
 
--- an expression without the place of its `end`
+-- An expression without the place of its `end`.
 abbrev pub constant : Grammar (List (Placed Operator))
 constant = map_value (λ x. x.items) expression

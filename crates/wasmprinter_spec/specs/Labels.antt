@@ -1,9 +1,11 @@
--- The labels that a layout sees: which name a label has, and which name an operator may use for it. The standard says what an identifier of
--- a label means (section 6.5, "Labels"); which label is printed by one is this printer's own.
+-- Labels in a layout: which name a label has, and which name an operator may use for it. The standard defines the
+-- meaning of a label's identifier (section 6.5, "Labels"); which labels are printed by their identifiers is this
+-- printer's own.
 use Rattle.std.specs.Prelude.{◌≡◌, ℕ, zero, suc, ◌<◌, ◌^◌, List, [], ◌∷◌, Bool, true, false, ◌||◌, bytes_eq, Option, Some, None}
 use Rattle.wasmprinter_spec.specs.Row.{Role, Opens, OpensIf, OpensTry, Delegates, Ends}
 
--- a label's identifier: the name that it was given, none where its identifier is invented, and what stands behind the dollar sign
+-- A label's identifier: the name that it was given, or None if its identifier is synthesized, and the characters
+-- after the dollar sign.
 pub record Named : Type 0 where
   pub given : Option (List ℕ)
   pub content : List ℕ
@@ -11,7 +13,7 @@ pub record Named : Type 0 where
 abbrev pub Label : Type 0
 Label = Option Named
 
--- the identifier of the block that is opened as number so and so, by so many blocks around it
+-- `naming i d` is the identifier of the block that is opened as number i, with d blocks around it.
 abbrev pub LabelNaming : Type 0
 LabelNaming = ℕ → ℕ → Label
 
@@ -19,7 +21,7 @@ abbrev pub same_name : Option (List ℕ) → Option (List ℕ) → Bool
 same_name (Some s) (Some t) = bytes_eq s t
 same_name _ _ = false
 
--- whether a label has the name that this one was given
+-- The label has the name that n was given.
 abbrev pub hides : Named → Label → Bool
 hides n None = false
 hides n (Some m) = same_name m.given n.given
@@ -28,13 +30,14 @@ abbrev pub is_hidden : Named → List Label → Bool
 is_hidden n [] = false
 is_hidden n (x ∷ xs) = hides n x || is_hidden n xs
 
--- Blocks of one content, one of which may stand in the other, were given one name.
+-- If two labels have the same content and one may be nested in the other, they were given the same name.
 abbrev pub AreLabelsApart : LabelNaming → Type 0
 AreLabelsApart naming =
     (i j d e : ℕ) (outer inner : Named) → d < e → e < 2 ^ 64 → naming i d ≡ Some outer → naming j e ≡ Some inner →
     inner.content ≡ outer.content → same_name inner.given outer.given ≡ true
 
--- what a label means: the label of a block around it, with the labels further in, or the body's own, or nothing
+-- The meaning of a label index: the label of an enclosing block, with the labels nested further in; the body's own
+-- label; or nothing.
 pub data Target : Type 0 where
   Around : Label → List Label → Target
   Own : Target
@@ -51,7 +54,8 @@ target (suc l) [] = Nothing
 target zero (x ∷ xs) = Around x []
 target (suc l) (x ∷ xs) = behind x (target l xs)
 
--- what is known of the labels that are open behind an operator, of the innermost first; x is of the one that it opens
+-- The data of the open labels after an operator, the innermost first. x is that of the label that the operator
+-- opens.
 abbrev pub labels_after : {A : Type 0} → Role → A → List A → List A
 labels_after Opens x xs = x ∷ xs
 labels_after OpensIf x xs = x ∷ xs
@@ -60,19 +64,20 @@ labels_after Delegates x (y ∷ xs) = xs
 labels_after Ends x (y ∷ xs) = xs
 labels_after _ x xs = xs
 
--- how many blocks were opened
+-- The number of blocks that were opened, after one more operator.
 abbrev pub count_after : Role → ℕ → ℕ
 count_after Opens n = suc n
 count_after OpensIf n = suc n
 count_after OpensTry n = suc n
 count_after _ n = n
 
--- the labels that an operator's immediates may mean: for `delegate` those outside its block
+-- The labels that an operator's immediates may mean: for `delegate` those outside its block.
 abbrev pub labels_outside : Role → List Label → List Label
 labels_outside Delegates (x ∷ xs) = xs
 labels_outside _ xs = xs
 
--- those further in than all these, whose names can't be used
+-- The labels nested inside all of those. They shadow outer labels with the same names, which are then printed by
+-- their numbers.
 abbrev pub labels_inside : Role → List Label → List Label
 labels_inside Delegates (x ∷ xs) = x ∷ []
 labels_inside _ xs = []

@@ -1,4 +1,5 @@
--- The laws of these definitions. Functions of the crates above have them as their contracts. The standard states none of them.
+-- The laws of these definitions. They are the contracts of functions of the crates above this one. The standard
+-- states none of them.
 use Rattle.std.specs.Prelude.{◌≡◌, ℕ, ◌<◌, ◌^◌, List, [], ◌∷◌, ◌++◌, map, false, Some, None, ◌↔◌, chars, IsUtf8}
 use Rattle.std.specs.List.{AllByRecursion}
 use Rattle.wasmprinter_spec.specs.Binary.{AreBytes, Spells}
@@ -25,41 +26,42 @@ use Rattle.wasmprinter_spec.specs.HintsOfModule.{OperatorHint, module_hints}
 use Rattle.wasmprinter_spec.specs.Text.Hints.{text_hints}
 use Rattle.wasmprinter_spec.specs.Read.{read}
 
--- Given bytes spell at most one module with its places.
+-- Given bytes encode at most one module with its places.
 abbrev pub SpellsOne : Type 0
 SpellsOne = (bytes : List ℕ) (m n : PlacedModule) → Spells bytes m → Spells bytes n → m ≡ n
 
--- Lists of calls that differ only in how text is cut have one text.
+-- Lists of calls that differ only in how text is split have the same text.
 abbrev pub AlikeHaveOneText : Type 0
 AlikeHaveOneText = (k l : List Call) → atoms k ≡ atoms l → text_of k ≡ text_of l
 
--- Text in quotes reads as that text.
+-- A quoted string reads as that string.
 abbrev pub QuotedTextReads : Type 0
 QuotedTextReads = (s : List ℕ) → IsUtf8 s → tokens (quoted_text (chars s)) ≡ string s ∷ []
 
--- Bytes in quotes read as those bytes.
+-- Quoted bytes read as those bytes.
 abbrev pub QuotedBytesRead : Type 0
 QuotedBytesRead = (bytes : List ℕ) → AreBytes bytes → tokens (quoted_bytes bytes) ≡ string bytes ∷ []
 
--- What is written of a float is one word, and that word reads as the same bits.
+-- The text of the calls for a float is one word, and that word reads as the same bits.
 pub record FloatReads (w : Width) (bits : ℕ) : Type 0 where
   pub tokens : tokens (text_of (float_calls w bits)) ≡ word (float_text w bits) ∷ []
   pub reads : float w (float_text w bits) ≡ Some bits
 
--- Each of the 2 ^ 32 and of the 2 ^ 64 bit patterns reads back, the sign of zero and the payload of NaN with it.
+-- Each of the 2 ^ 32 and of the 2 ^ 64 bit patterns reads back, with the sign of zero and the payload of NaN.
 abbrev pub FloatTextReads : Type 0
 FloatTextReads = ((bits : ℕ) → bits < 2 ^ 32 → FloatReads single bits) × ((bits : ℕ) → bits < 2 ^ 64 → FloatReads double bits)
 
--- A number reads as the bits of the finite float that is equal to it, and as no bits where there is none.
+-- A number reads as the bits of the finite float that is equal to it, and as no bits if there is no such float.
 abbrev pub FloatsAreExact : Type 0
 FloatsAreExact = (w : Width) (s : Scaled) (bits : ℕ) → IsWidth w → (bits_with_value w (Some s) ≡ Some bits) ↔ IsValue w bits s
 
--- The reader's test takes operators exactly where they are well nested.
+-- The reader's test of nesting accepts operators exactly if they are well nested.
 abbrev pub TakesNested : Type 0
 TakesNested = (os : List Operator) → (if_nested os ≡ Some os) ↔ Nests Sequence (map (λ o. role_of o.opcode) os)
 
--- The reading law: printed text reads back as the module that the bytes spell. (No initialiser of a table is empty: the text of such a
--- table is that of one without; where operators are folded, all can be; and no `dylink.0` section is refused.)
+-- The reading law: printed text reads back as the module that the bytes encode. (No table has an empty
+-- initialiser: its text would equal that of a table without one. If operators are folded, all of them can be
+-- folded. No `dylink.0` section is refused.)
 abbrev pub ReadsBack : Type 0
 ReadsBack =
     (bytes : List ℕ) (m : PlacedModule) (o : Options) (answers : Answers) →
@@ -68,7 +70,7 @@ ReadsBack =
     IsFoldable o m → refusal o answers m ≡ None →
     read (text_of (layout o answers m)) ≡ Some (module_of m)
 
--- Places at the beginnings of lines, and an indent of blanks and tabs, change blanks and comments alone.
+-- Places at the beginning of lines, and an indent of spaces and tabs, change only white space and comments.
 abbrev pub TokensStay : Type 0
 TokensStay =
     (bytes : List ℕ) (m : PlacedModule) (o p : Options) (answers : Answers) →
@@ -76,27 +78,30 @@ TokensStay =
     IsBlank o.indent → IsBlank p.indent →
     tokens (text_of (layout o answers m)) ≡ tokens (text_of (layout p answers m))
 
--- Printed text is plain, but for sequences of colours in it.
+-- Printed text without ANSI escape sequences is plain.
 abbrev pub PrintsPlainText : Type 0
 PrintsPlainText =
     (bytes : List ℕ) (m : PlacedModule) (o : Options) (answers : Answers) →
     Spells bytes m → o.paints ≡ false → IsBlank o.indent → IsPlainText (text_of (layout o answers m))
 
--- Colours in the text of folded operators are sequences, and nothing else: what stays when they are deleted is the text without them.
+-- Colors in the text of folded operators are ANSI escape sequences, and add nothing else: after they are deleted,
+-- the text without them remains.
 abbrev pub PaintsAddColours : Type 0
 PaintsAddColours =
     (bytes : List ℕ) (m : PlacedModule) (o : Options) (answers : Answers) →
     Spells bytes m → IsBlank o.indent →
     uncolour (text_of (layout o answers m)) ≡ text_of (layout (record o { paints = false }) answers m)
 
--- They stand within the texts of calls: each call, its sequences deleted, is that of the layout without them.
+-- The ANSI escape sequences of folded operators are within the texts of calls: each call without its sequences is
+-- that of the layout without them.
 abbrev pub ColoursStandInTexts : Type 0
 ColoursStandInTexts =
     (bytes : List ℕ) (m : PlacedModule) (o : Options) (answers : Answers) →
     Spells bytes m → IsBlank o.indent →
     map bare_call (layout o answers m) ≡ layout (record o { paints = false }) answers m
 
--- So are those of every style, which a printer in colours writes: what stays when all are deleted is the text without any.
+-- A printer in colors also writes the ANSI escape sequences of every style: after all sequences are deleted, the
+-- text without them remains.
 abbrev pub ColouredTextKeeps : Type 0
 ColouredTextKeeps =
     (bytes : List ℕ) (m : PlacedModule) (o : Options) (answers : Answers) →
@@ -107,15 +112,16 @@ ColouredTextKeeps =
 abbrev pub PlainTextIsUtf8 : Type 0
 PlainTextIsUtf8 = (text : List ℕ) → IsPlainText text → IsUtf8 text
 
--- Plain text has no colour sequence: deleting them leaves it as it is.
+-- Plain text has no ANSI escape sequences: deleting them leaves it as it is.
 abbrev pub PlainTextHasNoColour : Type 0
 PlainTextHasNoColour = (text : List ℕ) → IsPlainText text → uncolour text ≡ text
 
--- A plain text behind a plain text is plain.
+-- Two plain texts joined are plain.
 abbrev pub PlainTextsJoin : Type 0
 PlainTextsJoin = (a b : List ℕ) → IsPlainText a → IsPlainText b → IsPlainText (a ++ b)
 
--- The hints of a module whose hint section is well formed are those of its printed text: each once, directly before its operator.
+-- The hints of a module whose hint section is well formed are those of its printed text: each once, directly
+-- before its operator.
 abbrev pub HintsStay : Type 0
 HintsStay =
     (bytes : List ℕ) (m : PlacedModule) (o : Options) (answers : Answers) (hs : List OperatorHint) →

@@ -1,5 +1,5 @@
--- The layout of a module: the pieces that are printed, in order. Sections 6.4 to 6.6 of the standard say how the text of each construct
--- is composed; where lines break and where places stand is this printer's own.
+-- The layout of a module: the pieces that are printed, in order. Sections 6.4 to 6.6 of the standard define how
+-- the text of each construct is composed; where lines break and which places are printed is this printer's own.
 use Rattle.std.specs.Prelude.{ℕ, ◌+◌, List, [], ◌∷◌, ◌++◌, codes, flat_map, length, Option, Some, None}
 use Rattle.wasmprinter_spec.specs.Types.{ExternType, all_types}
 use Rattle.wasmprinter_spec.specs.Kinds.{Kind, CustomSection, TypeSection, ImportSection, FunctionSection, TableSection, MemorySection, TagSection, GlobalSection, ExportSection, StartSection, ElementSection, DataCountSection, CodeSection, DataSection}
@@ -48,28 +48,28 @@ pub mod Elements
 pub mod DataSegments
 pub mod Customs
 
--- ---- the fields of a section
+-- ---- The fields of a section
 
--- how many items of a kind are imported, where this takes the type of such an import
+-- The number of imported items of a kind. `of_kind` gives the type of an import of the kind.
 abbrev count_of_imported : {A : Type 0} → (ExternType → Option A) → PlacedModule → ℕ
 count_of_imported of_kind m = length (imported_types of_kind (without_places m.imports))
 
--- The scope before the functions, where operators are folded in this way, or flat. Expressions in front of the functions mean the labels
--- and locals of the first function that is defined, those behind them of the one that would be next. (In a valid module no such expression
--- has any.)
+-- The scope before the functions, with operators folded in this way, or flat. In expressions before the functions,
+-- labels and locals are those of the first defined function; in expressions after them, those of the function that
+-- would be next. (In a valid module, these expressions have no labels or locals.)
 abbrev pub scope_before : Option Folding → Names → PlacedModule → Scope
 scope_before folding names m = scope_of (all_types (groups_of m.types)) names (count_of_imported func_import m) folding
 
--- where they are folded as the options say
+-- The scope before the functions, with operators folded as the options say.
 abbrev pub early_scope : Options → Names → PlacedModule → Scope
 early_scope o names m = scope_before (folding_of o m) names m
 
--- the scope behind the functions, from any scope of the module
+-- The scope after the functions, from any scope of the module.
 abbrev pub scope_behind : PlacedModule → Scope → Scope
 scope_behind m s = scope_of_function s (count_of_imported func_import m + length m.functions)
 
--- The pieces of the section of a kind, where `s` is the scope before the functions. Functions are printed at the place of their code. Data
--- segments have the scope after the functions.
+-- The pieces of the section of a kind, where `s` is the scope before the functions. Functions are printed at the
+-- position of the code section. Data segments have the scope after the functions.
 abbrev pub section_pieces : Options → Scope → PlacedModule → Kind → List Piece
 section_pieces o s m TypeSection = type_section_pieces s.names 0 m.types
 section_pieces o s m ImportSection = imports_pieces s no_numbers m.imports
@@ -86,64 +86,66 @@ section_pieces o s m CodeSection = functions_pieces o s (hints_of m.customs) (co
 section_pieces o s m DataSection = numbered_pieces (data_pieces o.skeleton (scope_behind m s)) 0 m.datas
 section_pieces o s m CustomSection = []
 
--- ---- the parts of a module
+-- ---- The parts of a module
 
--- the kinds of sections behind which custom sections can stand, in the order of the sections
+-- The kinds of sections after which custom sections can be placed, in the order of the sections.
 abbrev pub section_order : List Kind
 section_order =
     TypeSection ∷ ImportSection ∷ FunctionSection ∷ TableSection ∷ MemorySection ∷ TagSection ∷ GlobalSection ∷ ExportSection
     ∷ StartSection ∷ ElementSection ∷ CodeSection ∷ DataSection ∷ []
 
--- the fields of the section of a kind, and the custom sections behind it
+-- The fields of the section of a kind, and the custom sections after it.
 abbrev pub section_parts : Options → Scope → PlacedModule → Answers → Kind → List Part
 section_parts o s m answers kind = Shown (section_pieces o s m kind) ∷ parts_at o.skeleton answers (Some kind) 0 m.customs
 
--- The fields in the order of their sections, and the custom sections at their places among them. Operators are folded in this way, or flat.
+-- The fields in the order of their sections, with the custom sections at their places among them. Operators are
+-- folded in this way, or flat.
 unfoldable pub parts_by : Option Folding → Options → Answers → Names → PlacedModule → List Part
 parts_by folding o answers names m =
     parts_at o.skeleton answers None 0 m.customs ++ flat_map (section_parts o (scope_before folding names m) m answers) section_order
 
--- as the options say
+-- The fields and the custom sections, with operators folded as the options say.
 unfoldable pub module_parts : Options → Answers → Names → PlacedModule → List Part
 unfolding parts_by
 module_parts o answers names m = parts_by (folding_of o m) o answers names m
 
--- ---- the module
+-- ---- The module
 
--- whole, or up to the refusal of a custom section
+-- The pieces of a module: all of them, or those up to the refusal of a custom section.
 abbrev pub module_pieces_of : Options → Names → ℕ → List Piece → Option ℕ → List Piece
 module_pieces_of o names size ps None =
     Begin 0 ∷ (group_at o.offsets size 0 (codes "module") (leading_mark_pieces names.module_name ++ ps) ++ (Feed ∷ []))
 module_pieces_of o names size ps (Some id) =
     Begin 0 ∷ (Open (codes "module") ∷ (leading_mark_pieces names.module_name ++ ps))
 
--- a module with these identifiers
+-- A module with these identifiers.
 unfoldable pub module_pieces_with : Options → Answers → Names → PlacedModule → List Piece
 module_pieces_with o answers names m =
     let laid : Laid = laid_parts (module_parts o answers names m) in
     module_pieces_of o names m.size laid.pieces laid.refused
 
--- a module with the identifiers that its name sections give
+-- A module with the identifiers that its name sections give.
 unfoldable pub module_pieces : Options → Answers → PlacedModule → List Piece
 module_pieces o answers m = module_pieces_with o answers (module_names o.invents m) m
 
--- the calls on the printer
+-- The layout of a module as calls on the printer.
 unfoldable pub layout : Options → Answers → PlacedModule → List Call
 layout o answers m = all_calls o (module_pieces o answers m)
 
--- the id of the first subsection that isn't known of an unclaimed `dylink.0` section, behind whose claim the layout ends
+-- The id of the first unknown subsection of an unclaimed `dylink.0` section. The layout ends after the claim of
+-- that section.
 abbrev pub refusal : Options → Answers → PlacedModule → Option ℕ
 refusal o answers m = (laid_parts (module_parts o answers (module_names o.invents m) m)).refused
 
--- ---- operators folded in any way
+-- ---- Operators folded in any way
 
--- a module with these identifiers, whose operators are folded in this way, or flat
+-- A module with these identifiers, with operators folded in this way, or flat.
 unfoldable pub pieces_by : Option Folding → Options → Answers → Names → PlacedModule → List Piece
 pieces_by folding o answers names m =
     let laid : Laid = laid_parts (parts_by folding o answers names m) in
     module_pieces_of o names m.size laid.pieces laid.refused
 
--- The calls for a module whose operators are folded in this way: with colours in their text or not, and by any arities. What the options
--- say of folding and of colours is nothing to them.
+-- The calls for a module whose operators are folded in this way: with ANSI escape sequences in their text or
+-- without, and by any arities. The options about folding and colors have no effect on them.
 unfoldable pub layout_folded : Folding → Options → Answers → PlacedModule → List Call
 layout_folded f o answers m = all_calls o (pieces_by (Some f) o answers (module_names o.invents m) m)

@@ -1,13 +1,14 @@
--- Whole numbers in LEB128 (section 5.2 of the standard, "Integers"): seven bits in each byte, the lowest first; a byte from 128 on has
--- more behind it. A number of N bits takes at most as many bytes as N bits fill; within them a longer spelling than is needed
--- is one too, and the bits of the last byte that the number has no room for are zero, or of a signed number repeat its sign.
+-- Integers in LEB128 (section 5.2 of the standard, "Integers"): seven bits in each byte, the lowest first. A byte
+-- of at least 128 is followed by another. An integer of N bits takes at most ceil(N/7) bytes. Within them, longer
+-- encodings than needed are encodings too. The unused bits of the last byte are zero, or those of a signed integer
+-- repeat its sign.
 use Rattle.std.specs.Prelude.{◌≡◌, ℕ, ℤ, pos, negsuc, ◌+ℤ◌, ◌*ℤ◌, List, [], ◌∷◌, ◌++◌, ◌+◌, ◌*◌, ◌-◌, ◌^◌, ◌<◌, ◌≤◌, ◌⊎◌, length, Option, Some, None, nat_lt, if◌then◌else◌, refl}
 use Rattle.std.proofs.Common.{sym, ap, subst, ◌∙◌, arith, cond, inl, inr, ltb}
 use Rattle.std.proofs.lemmas.Bool.{ltb-true, ltb-false, lt-ltb, le-ltb}
 use Rattle.wasmprinter_spec.specs.Grammar.{Input, input, Spans, Grammar, ◌>>=◌, bind_some, some_is}
 use Rattle.wasmprinter_spec.specs.Choices.{tested, chosen}
 
--- an unsigned number of so many bits
+-- The bytes encode the unsigned integer n of the given number of bits (the standard's `uN`).
 abbrev pub IsUnsigned : ℕ → List ℕ → ℕ → Type 0
 IsUnsigned bits [] n = ⊥
 IsUnsigned bits (b ∷ bs) n =
@@ -71,12 +72,14 @@ unsigned_complete bits at x s =
     rw s.parts
     (unsigned_complete_of s.text bits at.place x.0 x.1.bytes s.spelled ∙ ap (λ (q : ℕ). Some (x.0, input q x.1.bytes)) (sym s.ends))
 
+-- Unsigned integers of the given number of bits.
 abbrev pub unsigned : ℕ → Grammar ℕ
 unsigned bits = record { spells = Unsigned bits; parse = unsigned_at bits; sound = unsigned_sound bits; complete = unsigned_complete bits }
 
--- ---- signed
+-- ---- Signed integers
 
--- a signed number of so many bits; a last byte b from 64 on stands for b - 128
+-- The bytes encode the signed integer n of the given number of bits (the standard's `sN`). A last byte b of at
+-- least 64 means b - 128.
 abbrev pub IsSigned : ℕ → List ℕ → ℤ → Type 0
 IsSigned bits [] n = ⊥
 IsSigned bits (b ∷ bs) n =
@@ -160,5 +163,6 @@ signed_complete bits at x s =
     rw s.parts
     (signed_complete_of s.text bits at.place x.0 x.1.bytes s.spelled ∙ ap (λ (q : ℕ). Some (x.0, input q x.1.bytes)) (sym s.ends))
 
+-- Signed integers of the given number of bits.
 abbrev pub signed : ℕ → Grammar ℤ
 signed bits = record { spells = Signed bits; parse = signed_at bits; sound = signed_sound bits; complete = signed_complete bits }

@@ -1,7 +1,7 @@
--- Bytes that are read as far as they stand: the entries in front of the first fault, and where reading stands behind them, or none where it
--- met a fault. `gives` says which entries, as a relation; `read` computes them; `sound` and `complete` prove that both say the same. So
--- from each place on there is exactly one list of entries. (By section 5.5 of the standard, "Custom Section", no fault in the data of a
--- custom section invalidates the module.)
+-- Readings up to the first error: the entries before it, and the input after them, or None if there was an error.
+-- `gives` states as a relation which entries these are, `read` computes them, and `sound` and `complete` prove
+-- that the two agree. So each place gives exactly one list of entries. (By section 5.5 of the standard, "Custom
+-- Section", an error in the data of a custom section does not invalidate the module.)
 use Rattle.std.specs.Prelude.{◌≡◌, ◌≢◌, ◌==◌, if◌then◌else◌, ◌⊎◌, ℕ, zero, suc, List, [], ◌∷◌, ◌++◌, ◌<◌, length, Bool, true, false, Option, Some, None, MatchOption, refl}
 use Rattle.std.proofs.Common.{ap, inl, inr}
 use Rattle.std.proofs.lemmas.Bool.{eqb-true, eqb-false, eq-eqb, ne_eqb}
@@ -10,13 +10,15 @@ use Rattle.wasmprinter_spec.specs.Grammar.{Input, input, Spans, Grammar}
 use Rattle.wasmprinter_spec.specs.Repeated.{some_or}
 use Rattle.wasmprinter_spec.specs.Sized.{take_bytes}
 
+-- A reading of entries. `gives at xs end` says that the input `at` has the entries xs, and `end` is the input
+-- after them.
 pub record Lenient (E : Type 0) : Type 1 where
   pub gives : Input → List E → Option Input → Type 0
   pub read : Input → List E × Option Input
   pub sound : (at : Input) → gives at (read at).0 (read at).1
   pub complete : (at : Input) (xs : List E) (end : Option Input) → gives at xs end → read at ≡ (xs, end)
 
--- nothing of the kind is spelled there
+-- No prefix of the input encodes a value of g.
 abbrev pub Lacks : {A : Type 0} → Grammar A → Input → Type 0
 Lacks g at = (x : _ × Input) → Spans g.spells at x → ⊥
 
@@ -27,7 +29,7 @@ pub none_of : {A : Type 0} (g : Grammar A) (at : Input) (r : Option (A × Input)
 none_of g at None e l = refl
 none_of g at (Some x) e l = absurd (l x (g.sound at x e))
 
--- ---- entries without a byte
+-- ---- Entries without a byte
 
 module _ {E : Type 0} (entries : List E) where
   abbrev pub Gives : Input → List E → Option Input → Type 0
@@ -40,7 +42,7 @@ module _ {E : Type 0} (entries : List E) where
   abbrev pub give : Lenient E
   give = record { gives = Gives; read = λ at. (entries, Some at); sound = λ at. (refl, refl); complete = give_complete }
 
--- ---- a value and then entries, which may depend on it; a fault where no value is spelled
+-- ---- A value, and then entries, which may depend on it; an error if no value is encoded
 
 module _ {A E : Type 0} (g : Grammar A) (h : A → Lenient E) where
   abbrev pub Follows : Input → List E → Option Input → Type 0
@@ -70,16 +72,16 @@ module _ {A E : Type 0} (g : Grammar A) (h : A → Lenient E) where
   abbrev pub follow : Lenient E
   follow = record { gives = Follows; read = follow_at; sound = follow_sound; complete = follow_complete }
 
--- the entries of one value
+-- The entries of one value.
 abbrev pub one : {A E : Type 0} → (A → List E) → Grammar A → Lenient E
 one entries g = follow g (λ a. give (entries a))
 
--- entries of one form or another, by a test
+-- The first reading if the test is true, the second otherwise.
 abbrev pub by_test : {E : Type 0} → Bool → Lenient E → Lenient E → Lenient E
 by_test true l m = l
 by_test false l m = m
 
--- ---- n times entries; reading ends at the first fault among them
+-- ---- n times the entries; reading ends at the first error among them
 
 module _ {E : Type 0} (l : Lenient E) where
   abbrev pub Repeats : ℕ → Input → List E → Option Input → Type 0
@@ -88,7 +90,7 @@ module _ {E : Type 0} (l : Lenient E) where
       ((ys zs : List E) × (mid : Input) × l.gives at ys (Some mid) × Repeats n mid zs end × (xs ≡ ys ++ zs))
       ⊎ (l.gives at xs None × (end ≡ None))
 
-  -- entries in front of others
+  -- Entries before others.
   abbrev pub prepend : List E → List E × Option Input → List E × Option Input
   prepend ys r = (ys ++ r.0, r.1)
 
@@ -120,7 +122,7 @@ module _ {E : Type 0} (l : Lenient E) where
   abbrev pub repeat : ℕ → Lenient E
   repeat n = record { gives = Repeats n; read = repeat_at n; sound = repeat_sound n; complete = repeat_complete n }
 
--- ---- entries, or none where no byte is left
+-- ---- Entries, or no entries if no byte is left
 
 module _ {E : Type 0} (l : Lenient E) where
   abbrev pub EndsOr : Input → List E → Option Input → Type 0
@@ -144,9 +146,9 @@ module _ {E : Type 0} (l : Lenient E) where
   abbrev pub unless_ended : Lenient E
   unless_ended = record { gives = EndsOr; read = unless_ended_at; sound = ends_sound; complete = ends_complete }
 
--- ---- entries within the next n bytes; what is left over of these is skipped
+-- ---- Entries within the next n bytes; bytes that are left over are skipped
 
--- reading goes on behind the bytes if it met no fault in them
+-- Reading continues after the bytes if they had no error.
 abbrev pub behind_part : Option Input → Input → Option Input
 behind_part None after = None
 behind_part (Some _) after = Some after
@@ -184,10 +186,10 @@ module _ {E : Type 0} (l : Lenient E) (n : ℕ) where
   abbrev pub within : Lenient E
   within = record { gives = StandsWithin; read = within_at; sound = within_sound; complete = within_complete }
 
--- ---- entries up to the end of the bytes, in groups that each take a byte at least
+-- ---- Entries up to the end of the bytes, in groups, each of which starts at a remaining byte
 
 module _ {E : Type 0} (l : Lenient E) where
-  -- the groups: behind a fault there is none
+  -- The groups. After an error there are no more groups.
   abbrev pub Groups : Input → List (List E) → Type 0
   Groups at [] = at.bytes ≡ []
   Groups at (xs ∷ groups) =

@@ -1,4 +1,5 @@
--- The definitions that the printer is proved against, and their laws. Each file says which section of the standard it restates.
+-- The definitions that the printer is proved against, and their laws. Each file that restates the standard names
+-- its section.
 pub mod Grammar
 pub mod Choices
 pub mod FirstByte

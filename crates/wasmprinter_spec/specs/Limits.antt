@@ -1,6 +1,6 @@
--- The limits of this printer (the standard leaves them to implementations, in its appendix "Implementation Limitations"): at most 50,000
--- locals in a function, parameters not counted, and at most 1,000,000 functions. Nor is a table with an initialiser that is empty: its text
--- would be that of a table without one.
+-- The limits of this printer (the standard leaves them to implementations, in its appendix "Implementation
+-- Limitations"): at most 50,000 locals in a function, not counting parameters, and at most 1,000,000 functions. No
+-- table may have an empty initialiser: its text would equal that of a table without one.
 use Rattle.std.specs.Prelude.{ℕ, ◌+◌, ◌≤◌, List, [], ◌∷◌, Option, Some, None, length}
 use Rattle.std.specs.List.{AllByRecursion}
 use Rattle.wasmprinter_spec.specs.Grammar.{Placed}
@@ -20,11 +20,13 @@ local_count (e ∷ es) = e.value.count + local_count es
 abbrev pub HasFewLocals : PlacedFunction → Type 0
 HasFewLocals f = local_count f.body.value.locals ≤ most_locals
 
+-- The initialiser is not empty, if there is one.
 abbrev pub HasNoEmptyInit : Option (List (Placed Operator)) → Type 0
 HasNoEmptyInit None = Unit {0}
 HasNoEmptyInit (Some []) = ⊥
 HasNoEmptyInit (Some (o ∷ os)) = Unit {0}
 
+-- The module is within the limits.
 pub record IsWithinLimits (m : PlacedModule) : Type 0 where
   pub tables : AllByRecursion (λ t. HasNoEmptyInit t.value.init) m.tables
   pub locals : AllByRecursion HasFewLocals m.functions

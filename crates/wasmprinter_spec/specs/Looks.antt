@@ -1,8 +1,8 @@
--- How text looks on a terminal, and the sequences that make it look so (Select Graphic Rendition of ECMA-48).
+-- How text looks on a terminal, and the ANSI escape sequences for this (Select Graphic Rendition of ECMA-48).
 use Rattle.std.specs.Prelude.{ℕ, ◌+◌, Bool, true, false, List, [], ◌∷◌, ◌++◌, Option, Some, None, codes, decimal}
 use Rattle.wasmprinter_spec.specs.Colour.{introducer}
 
--- the number of the colour, if there is one; whether text is bold; whether the colour is the intense one
+-- A look: the number of the color, if there is one; whether text is bold; whether the color is intense.
 pub record Look : Type 0 where
   pub colour : Option ℕ
   pub bold : Bool
@@ -11,14 +11,15 @@ pub record Look : Type 0 where
 abbrev pub bare_look : Look
 bare_look = record { colour = None; bold = false; intense = false }
 
--- back to text without colours
+-- The sequence that resets to text without colors.
 abbrev pub reset_sequence : List ℕ
 reset_sequence = introducer ++ codes "0m"
 
 abbrev pub bold_sequence : List ℕ
 bold_sequence = introducer ++ codes "1m"
 
--- a colour: one of the first eight, or the intense one among the palette's 256, which stands eight further on
+-- The sequence of a color: one of the first eight or, if it is intense, the color that is eight further in the
+-- palette of 256 colors.
 abbrev pub foreground : ℕ → Bool → List ℕ
 foreground c false = introducer ++ (codes "3" ++ (decimal c ++ codes "m"))
 foreground c true = introducer ++ (codes "38;5;" ++ (decimal (8 + c) ++ codes "m"))
@@ -31,7 +32,7 @@ abbrev pub colour_sequences : Option ℕ → Bool → List (List ℕ)
 colour_sequences (Some c) intense = foreground c intense ∷ []
 colour_sequences None intense = []
 
--- The sequences of a look, in order: back to text without colours, then bold, then the colour. Without a look the first alone.
+-- The sequences of a look, in order: reset, then bold, then the color. Without a look: reset alone.
 abbrev pub sequences_of : Option Look → List (List ℕ)
 sequences_of None = reset_sequence ∷ []
 sequences_of (Some look) = reset_sequence ∷ (bold_sequences look.bold ++ colour_sequences look.colour look.intense)

@@ -1,5 +1,5 @@
--- A module: what its text has to say again (section 2.5 of the standard). The places, how numbers were spelled and how locals
--- were grouped are not in it.
+-- A module: everything that its text must repeat (section 2.5 of the standard). Places, how numbers were encoded
+-- and how locals were grouped are not part of it.
 use Rattle.std.specs.Prelude.{ℕ, List, [], ◌∷◌, ◌++◌, map, replicate, Option, Some, None, option_map}
 use Rattle.wasmprinter_spec.specs.Grammar.{Placed}
 use Rattle.wasmprinter_spec.specs.Types.{ValType, SubType, TableType, MemoryType, GlobalType, ExternType, FuncExtern, TableExtern, MemoryExtern, GlobalExtern, TagExtern}
@@ -7,14 +7,15 @@ use Rattle.wasmprinter_spec.specs.Operator.{Operator}
 use Rattle.wasmprinter_spec.specs.Customs.{RawCustom, raw_customs}
 use Rattle.wasmprinter_spec.specs.Placed.{TypeGroup, LocalEntry, Export, Import, Table, table_of, Global, global_of, ElementMode, Passive, Declared, Active, Items, Functions, Expressions, Element, element_of, ElementEntry, DataMode, PassiveData, ActiveData, Data, data_of, PlacedFunction, PlacedModule}
 
--- a defined function: the types of all its locals, parameters not among them, and its operators without the last `end`
+-- A defined function: its type's index, the types of all its locals, not counting parameters, and its operators
+-- without the last `end`.
 pub record Function : Type 0 where
   pub type_index : ℕ
   pub locals : List ValType
   pub operators : List Operator
 
--- Custom sections are those that are printed as they stand. The types stand in their groups. A type by itself is a group of one. Tags are
--- given by the indices of their types.
+-- A module. Its custom sections are those that are printed as raw bytes. Types are in their groups; a type by
+-- itself is a group of one. A tag is given by the index of its type.
 pub record Module : Type 0 where
   pub types : List (List SubType)
   pub imports : List Import
@@ -32,11 +33,11 @@ pub record Module : Type 0 where
 abbrev pub without_places : {A : Type 0} → List (Placed A) → List A
 without_places xs = map (λ x. x.value) xs
 
--- the types of each group
+-- The types of each group.
 abbrev pub groups_of : List (Placed TypeGroup) → List (List SubType)
 groups_of gs = map (λ g. g.value.types) gs
 
--- each local by itself
+-- The type of each single local.
 abbrev pub locals_of : List (Placed LocalEntry) → List ValType
 locals_of [] = []
 locals_of (e ∷ es) = replicate e.value.count e.value.type ++ locals_of es
@@ -73,10 +74,11 @@ data_mode_without_places (ActiveData memory offset) = ActiveData memory (without
 abbrev pub data_without_places : Data (Placed Operator) → Data Operator
 data_without_places d = data_of (data_mode_without_places d.mode) d.bytes
 
--- each without its place, and its operators without theirs
+-- `f` of each value, without its place.
 abbrev pub each_value : {A B : Type 0} → (A → B) → List (Placed A) → List B
 each_value f xs = map (λ x. f x.value) xs
 
+-- The module without its places and everything else that a text does not repeat.
 abbrev pub module_of : PlacedModule → Module
 module_of m = record {
   types = groups_of m.types;
@@ -93,7 +95,7 @@ module_of m = record {
   customs = raw_customs m.customs;
 }
 
--- ---- what is imported of each kind: in each index space imports come first (section 2.5.1 of the standard, "Indices")
+-- ---- The imports of each kind: in each index space, imports come first (section 2.5.1 of the standard, "Indices")
 
 abbrev pub with_first_if_any : {A : Type 0} → Option A → List A → List A
 with_first_if_any None xs = xs
@@ -123,5 +125,6 @@ abbrev pub tag_import : ExternType → Option ℕ
 tag_import (TagExtern i) = Some i
 tag_import _ = None
 
+-- The types of the imports of a kind, in order.
 abbrev pub imported_types : {A : Type 0} → (ExternType → Option A) → List Import → List A
 imported_types f is = values_some (λ i. f i.type) is

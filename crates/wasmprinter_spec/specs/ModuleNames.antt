@@ -6,19 +6,19 @@ use Rattle.wasmprinter_spec.specs.Customs.{name_section}
 use Rattle.wasmprinter_spec.specs.Names.{Names, names_of}
 use Rattle.wasmprinter_spec.specs.Names.Section.{Entry, subsections}
 
--- The entries that data of a name section give: those of the only list that `GivesNames`.
+-- The entries that the data of a name section gives: the only list with `GivesNames`.
 abbrev pub entries_given : Placed (List ℕ) → List Entry
 entries_given d = ((subsections (length d.value)).read (input d.place d.value)).0
 
--- those of a custom section, which are none unless it is a name section
+-- The entries of a custom section, empty unless it is a name section.
 abbrev pub custom_entries : Custom → List Entry
 custom_entries c = if bytes_eq c.name name_section then entries_given c.bytes else []
 
--- the entries of all name sections, in order
+-- The entries of all name sections, in order.
 abbrev pub name_entries : List CustomEntry → List Entry
 name_entries [] = []
 name_entries (c ∷ cs) = custom_entries c.section.value ++ name_entries cs
 
--- with identifiers made up for what has no name, or without
+-- The identifiers of a module. For items without a name they are synthesized or absent.
 abbrev pub module_names : Bool → PlacedModule → Names
 module_names invents m = names_of invents (name_entries m.customs)

@@ -1,5 +1,6 @@
--- The identifiers that the text of a module has (section 6.3 of the standard, "Identifiers"): for the module itself, for the items of its
--- index spaces, for the fields of each type, and for the locals and labels of each function.
+-- The identifiers that the text of a module has (section 6.3 of the standard, "Identifiers"): for the module
+-- itself, for the items of its index spaces, for the fields of each type, and for the locals and labels of each
+-- function.
 use Rattle.std.specs.Prelude.{◌≡◌, ℕ, zero, suc, ◌+◌, ◌<◌, ◌^◌, List, [], ◌∷◌, Bool, true, false, Option, Some, None, option_map, IsUtf8, length}
 use Rattle.wasmprinter_spec.specs.Grammar.{◌>>=◌}
 use Rattle.wasmprinter_spec.specs.Row.{Space, Types, Func, Table, Memory, Tag, Global, Elem, Data, Local, Label}
@@ -12,22 +13,23 @@ use Rattle.wasmprinter_spec.specs.Names.Content.{group_of, index_content, name_o
 pub mod Section
 pub mod Content
 
--- The labels of a function go by another rule than all else: two may have one name, and the inner one hides the outer.
+-- The identifiers of a module. Labels follow another rule than all others: two labels of a function may have the
+-- same name, and the inner one shadows the outer.
 pub record Names : Type 0 where
   pub module_name : Option Named
   pub items : Space → ℕ → Option Named
-  -- of the type with the index
+  -- By the index of the type and of the field.
   pub fields : ℕ → ℕ → Option Named
-  -- of the function with the index; parameters come first
+  -- By the index of the function and of the local. Parameters come first.
   pub locals : ℕ → ℕ → Option Named
   pub labels : ℕ → labels.LabelNaming
 
--- the identifiers that the operators of a function may use
+-- The identifiers that the operators of function f may use.
 abbrev pub in_function : Names → ℕ → Space → ℕ → Option Named
 in_function n f Local i = n.locals f i
 in_function n f space i = n.items space i
 
--- nothing has an identifier
+-- Nothing has an identifier.
 abbrev pub no_names : Names
 no_names = record {
   module_name = None;
@@ -37,23 +39,24 @@ no_names = record {
   labels = λ f. no_label_names;
 }
 
--- ---- the identifiers by names
+-- ---- The identifiers by names
 
--- where identifiers are made up, an item without a name has the sign #, the word for its kind and its index
+-- The name of an item. If identifiers are synthesized, an item without a name has the sign #, the word for its
+-- kind and its index.
 abbrev pub or_invented : Bool → List ℕ → ℕ → Option Named → Option Named
 or_invented invents group index (Some n) = Some n
 or_invented true group index None = Some (record { given = None; content = index_content group index })
 or_invented false group index None = None
 
--- what names each item: the id of the subsection, the function or type, and the index
+-- The name of each item, by the id of the subsection, the function or type, and the index.
 abbrev pub Naming : Type 0
 Naming = ℕ → ℕ → ℕ → Option Named
 
--- the identifier of an item, by the names of all
+-- The identifier of an item, given the names of all items.
 abbrev pub name_in : Bool → Naming → Naming
 name_in invents named s outer index = or_invented invents (group_of s) index (named s outer index)
 
--- the subsection that names the items of a space of the module
+-- The subsection that names the items of a space of the module.
 abbrev pub subsection_of : Space → Option ℕ
 subsection_of Types = Some type_subsection
 subsection_of Func = Some function_subsection
@@ -66,7 +69,8 @@ subsection_of Data = Some data_subsection
 subsection_of Local = None
 subsection_of Label = None
 
--- With identifiers made up for what has no name, the module aside, or without.
+-- The identifiers by these names. For items without a name they are synthesized or absent; the module's identifier
+-- is never synthesized.
 abbrev pub names_by : Bool → Naming → Names
 names_by invents named = record {
   module_name = named module_subsection 0 0;
@@ -76,28 +80,29 @@ names_by invents named = record {
   labels = λ f. label_naming invents (λ i. named label_subsection f i >>= λ n. n.given);
 }
 
--- the identifiers by all entries of a module
+-- The identifiers by all entries of a module.
 abbrev pub names_of : Bool → List Entry → Names
 names_of invents entries = names_by invents (name_of entries)
 
--- ---- the identifiers of declarations
+-- ---- The identifiers of declarations
 
--- those of the items k, k + 1 .. , so many
+-- The identifiers of n items from item k on.
 abbrev pub identifiers_at : (ℕ → Option Named) → ℕ → ℕ → Identifiers
 identifiers_at named k zero = []
 identifiers_at named k (suc n) = option_map (λ n. n.content) (named k) ∷ identifiers_at named (k + 1) n
 
--- those of the first items, so many
+-- The identifiers of the first `count` items.
 abbrev pub identifiers : (ℕ → Option Named) → ℕ → Identifiers
 identifiers named count = identifiers_at named 0 count
 
--- ---- laws
+-- ---- Laws
 
--- no two indices have one identifier
+-- No two indices below 2^64 have the same identifier.
 abbrev pub AreDistinct : (ℕ → Option Named) → Type 0
 AreDistinct named = (i j : ℕ) (a b : Named) → i < 2 ^ 64 → j < 2 ^ 64 → named i ≡ Some a → named j ≡ Some b → a.content ≡ b.content → i ≡ j
 
--- An identifier means one item of its space; labels of one identifier, one of which may stand in the other, were given one name.
+-- An identifier means only one item of its space. If two labels have the same identifier and one may be nested in
+-- the other, they were given the same name.
 pub record AreApart (n : Names) : Type 0 where
   pub items : (space : Space) → AreDistinct (n.items space)
   pub fields : (t : ℕ) → AreDistinct (n.fields t)
@@ -108,13 +113,13 @@ abbrev pub IsGiven : Option (List ℕ) → Type 0
 IsGiven None = Unit {0}
 IsGiven (Some s) = IsUtf8 s
 
--- names and identifiers are UTF-8, and an identifier is not empty
+-- The name and the identifier are UTF-8, and the identifier is not empty.
 pub record IsNamed (n : Named) : Type 0 where
   pub given : IsGiven n.given
   pub content : IsUtf8 n.content
   pub some : 0 < length n.content
 
--- whatever is named so
+-- An item has no identifier, or one with `IsNamed`.
 abbrev pub IsNamedIfAny : Option Named → Type 0
 IsNamedIfAny None = Unit {0}
 IsNamedIfAny (Some n) = IsNamed n

@@ -1,15 +1,16 @@
--- How operators nest (section 5.4 of the standard, "Control Instructions", and the older `try`): over the roles of the
--- operators in their flat order.
+-- How operators nest (section 5.4 of the standard, "Control Instructions", and legacy exception handling): a
+-- relation over the roles of the operators in their flat order.
 use Rattle.std.specs.Prelude.{List, [], ◌∷◌, ◌++◌}
 use Rattle.wasmprinter_spec.specs.Row.{Role, Plain, Opens, OpensIf, Turns, OpensTry, Catches, CatchesAll, Delegates, Ends}
 use Rattle.wasmprinter_spec.specs.Stepped.{Move, On, Stop, Never}
 
--- operators, or the catches of a `try`
+-- A part of a block: a sequence of operators, or the handlers of a `try`.
 pub data FramePart : Type 0 where
   Sequence : FramePart
   Handlers : FramePart
 
--- well nested: block .. end, if .. end, if .. else .. end, try .. (catch ..)* (catch_all ..)? end, try .. delegate
+-- The roles are well nested: block .. end, if .. end, if .. else .. end, try .. (catch ..)* (catch_all ..)? end,
+-- try .. delegate.
 pub data Nests : FramePart → List Role → Type 0 where
   none : Nests Sequence []
   plain : {rest : List Role} → Nests Sequence rest → Nests Sequence (Plain ∷ rest)
@@ -24,16 +25,16 @@ pub data Nests : FramePart → List Role → Type 0 where
   caught : {body handlers : List Role} → Nests Sequence body → Nests Handlers handlers → Nests Handlers (Catches ∷ (body ++ handlers))
   caught_all : {body : List Role} → Nests Sequence body → Nests Handlers (CatchesAll ∷ body)
 
--- ---- how reading finds the last `end`: it keeps which blocks are open
+-- ---- How reading finds the last `end`: it keeps the open blocks
 
--- an open block, by what may close it or go on with it
+-- An open block, by the operators that may close it or continue it.
 pub data Frame : Type 0 where
   InBlock : Frame
   InIf : Frame
   InTry : Frame
   InCatch : Frame
 
--- what an operator does to the innermost block
+-- The effect of an operator on the innermost open block.
 pub data Turn : Type 0 where
   Stay : Turn
   Enter : Frame → Turn
@@ -41,6 +42,7 @@ pub data Turn : Type 0 where
   Leave : Turn
   Refuse : Turn
 
+-- The effect of an operator with this role on the innermost open block.
 abbrev pub turn : Role → Frame → Turn
 turn Plain f = Stay
 turn Opens f = Enter InBlock
@@ -58,7 +60,7 @@ turn CatchesAll _ = Refuse
 turn Delegates InTry = Leave
 turn Delegates _ = Refuse
 
--- the blocks that are open, those around the innermost from the inside on
+-- The open blocks: the innermost one, and those around it from the inside out.
 pub record Open : Type 0 where
   pub innermost : Frame
   pub outer : List Frame
@@ -66,7 +68,7 @@ pub record Open : Type 0 where
 abbrev pub open_frames : Frame → List Frame → Open
 open_frames f fs = record { innermost = f; outer = fs }
 
--- the expression itself alone is open
+-- Only the expression itself is open.
 abbrev pub at_start : Open
 at_start = open_frames InBlock []
 
@@ -81,5 +83,7 @@ move_by_turn (Become f) s = On (open_frames f s.outer)
 move_by_turn Leave s = move_outwards s.outer
 move_by_turn Refuse s = Never
 
+-- The open blocks after an operator with this role; `Stop` if it closes the expression, `Never` if it may not
+-- occur here.
 abbrev pub advance : Open → Role → Move Open
 advance s r = move_by_turn (turn r s.innermost) s

@@ -1,5 +1,5 @@
--- Steps over open blocks go through what is well nested, with an `end` behind it, and through nothing else. The standard nests operators by
--- its grammar (section 5.4, "Control Instructions"), and has no such steps.
+-- Steps over open blocks accept exactly the roles that are well nested, with an `end` after them. The standard
+-- nests operators by its grammar (section 5.4, "Control Instructions"), and has no such steps.
 use Rattle.std.specs.Prelude.{◌≡◌, ◌⊎◌, List, [], ◌∷◌, ◌++◌, Bool, true, false, refl}
 use Rattle.std.proofs.Common.{sym, ap, subst, ◌∙◌, append_assoc, append-nil, inl, inr}
 use Rattle.std.proofs.lemmas.List.{same_from_push}
@@ -7,7 +7,7 @@ use Rattle.wasmprinter_spec.specs.Row.{Role, Plain, Opens, OpensIf, Turns, Opens
 use Rattle.wasmprinter_spec.specs.Stepped.{Move, On, Stop, Never, by_move, stops}
 use Rattle.wasmprinter_spec.specs.Nesting.{FramePart, Sequence, Handlers, Nests, none, plain, block, one_armed, two_armed, tried, delegated, no_handler, caught, caught_all, Frame, InBlock, InIf, InTry, InCatch, Open, open_frames, at_start, move_outwards, advance}
 
--- ---- what is well nested leaves the blocks as they are
+-- ---- Well-nested roles leave the open blocks as they are
 
 abbrev runs : Frame → List Frame → List Role → Role → Bool
 runs f fs xs last = stops advance (open_frames f fs) xs last
@@ -18,7 +18,8 @@ Handles InIf = ⊥
 Handles InTry = Unit {0}
 Handles InCatch = Unit {0}
 
--- behind operators the blocks are the same; behind the catches and the `end` of a `try` it is left
+-- After a sequence of operators, the same blocks are open. After the handlers and the `end` of a `try`, the `try`
+-- is closed.
 abbrev Goes : FramePart → List Role → Type 0
 Goes Sequence xs = (f : Frame) (fs : List Frame) (more : List Role) (last : Role) → runs f fs (xs ++ more) last ≡ runs f fs more last
 Goes Handlers xs =
@@ -76,32 +77,32 @@ goes (caught_all {body} b) = λ f k fs more last.
     catches_all f k fs (body ++ Ends ∷ more) last
     ∙ goes b InBlock fs (Ends ∷ more) last
 
--- what is well nested, and an `end`, goes through
+-- Well-nested roles and then an `end` are accepted.
 pub stops_at_end : (xs : List Role) → Nests Sequence xs → stops advance at_start xs Ends ≡ true
 stops_at_end xs n = ap (λ (ys : List Role). stops advance at_start ys Ends) (sym (append-nil xs)) ∙ goes n InBlock [] [] Ends
 
--- ---- what goes through closes all blocks
+-- ---- Accepted roles close all blocks
 
--- the catches and the `end` of a `try`
+-- xs are the handlers and the `end` of a `try`, and then `rest`.
 record Caught (xs rest : List Role) : Type 0 where
   handlers : List Role
   nested : Nests Handlers handlers
   is : xs ≡ handlers ++ Ends ∷ rest
 
--- an `else` and the `end` of an `if`
+-- xs are an `else` and the `end` of an `if`, and then `rest`.
 record Otherwise (xs rest : List Role) : Type 0 where
   no : List Role
   nested : Nests Sequence no
   is : xs ≡ Turns ∷ (no ++ Ends ∷ rest)
 
--- what stands behind the operators of an open block, up to and with what closes it
+-- xs are the roles after the operators of an open block, up to those that close it, and then `rest`.
 abbrev Tail : Frame → List Role → List Role → Type 0
 Tail InBlock xs rest = xs ≡ Ends ∷ rest
 Tail InIf xs rest = (xs ≡ Ends ∷ rest) ⊎ Otherwise xs rest
 Tail InTry xs rest = Caught xs rest ⊎ (xs ≡ Delegates ∷ rest)
 Tail InCatch xs rest = Caught xs rest
 
--- xs closes the open block, up to rest
+-- xs close the open block and continue with `rest`.
 record Closing (f : Frame) (xs rest : List Role) : Type 0 where
   body : List Role
   tail : List Role
@@ -109,12 +110,12 @@ record Closing (f : Frame) (xs rest : List Role) : Type 0 where
   is : xs ≡ body ++ tail
   ends : Tail f tail rest
 
--- xs closes all open blocks, and nothing stands behind
+-- xs close all open blocks, and nothing follows.
 abbrev Closes : List Frame → List Role → Type 0
 Closes [] xs = xs ≡ []
 Closes (f ∷ fs) xs = (rest : List Role) × Closing f xs rest × Closes fs rest
 
--- something well nested in front of what closes a block
+-- Well-nested roles may come before roles that close a block.
 grown : (front : List Role) → ((ys : List Role) → Nests Sequence ys → Nests Sequence (front ++ ys)) →
     (f : Frame) (xs rest : List Role) → Closing f xs rest → Closing f (front ++ xs) rest
 grown front wraps f xs rest c = record {
@@ -125,7 +126,7 @@ grown front wraps f xs rest c = record {
   ends = c.ends;
 }
 
--- x and what stands up to mid are one whole block
+-- x and the roles up to `mid` are one complete block.
 record Group (x : Role) (xs mid : List Role) : Type 0 where
   text : List Role
   is : x ∷ xs ≡ text ++ mid
@@ -161,7 +162,7 @@ try_tail xs mid body tail b e (inl c) =
 try_tail xs mid body tail b e (inr c) =
     group_of OpensTry xs mid body (Delegates ∷ []) (e ∙ ap (λ (ys : List Role). body ++ ys) c) (λ ys n. delegated b n)
 
--- a block is entered: what closes it is part of what closes the one around it
+-- If x opens a block, the roles that close it are a part of those that close the block around it.
 entered : (x : Role) (f g : Frame) (fs : List Frame) (xs : List Role) → ((mid : List Role) → Closing g xs mid → Group x xs mid) →
     Closes (g ∷ f ∷ fs) xs → Closes (f ∷ fs) (x ∷ xs)
 entered x f g fs xs group d =
@@ -169,7 +170,7 @@ entered x f g fs xs group d =
     let w = group mid inner in
     (rest, subst (λ (zs : List Role). Closing f zs rest) (sym w.is) (grown w.text w.wraps f mid rest outer), all_closed)
 
--- nothing stands in front of x
+-- The roles that close a block may follow its start directly.
 bare : (f : Frame) (xs rest : List Role) → Tail f xs rest → Closing f xs rest
 bare f xs rest t = record { body = []; tail = xs; nested = none; is = refl; ends = t }
 
@@ -203,7 +204,7 @@ end_tail InIf xs = inl refl
 end_tail InTry xs = inl (record { handlers = []; nested = no_handler; is = refl })
 end_tail InCatch xs = record { handlers = []; nested = no_handler; is = refl }
 
--- what stands behind closes the blocks that are open then
+-- The roles xs close the blocks that are open after this move.
 abbrev After : Move Open → List Role → Type 0
 After (On s) xs = Closes (s.innermost ∷ s.outer) xs
 After Stop xs = xs ≡ []
@@ -259,7 +260,7 @@ closes : (xs : List Role) (last : Role) (s : Open) → stops advance s xs last �
 closes [] last s e = one last s.innermost s.outer [] (after_last (advance s last) e)
 closes (x ∷ xs) last s e = one x s.innermost s.outer (xs ++ last ∷ []) (after_item (advance s x) xs last e (λ t k. closes xs last t k))
 
--- what goes through is well nested, and the last is an `end`
+-- Accepted roles are well nested, and the last one is an `end`.
 pub nested_to_end : (xs : List Role) (last : Role) → stops advance at_start xs last ≡ true → Nests Sequence xs × (last ≡ Ends)
 nested_to_end xs last e =
     let (_, c, none_left) = closes xs last at_start e in

@@ -1,5 +1,5 @@
--- Whole numbers in the text format (section 6.3 of the standard, "Integers"): decimal or hexadecimal, with or without a sign, and with an
--- underscore between digits where one is wanted.
+-- Integers in the text format (section 6.3 of the standard, "Integers"): decimal or hexadecimal, with or without a
+-- sign. Underscores may separate digits.
 use Rattle.std.specs.Prelude.{ℕ, zero, suc, ℤ, pos, neg_ℤ, ◌-ℤ◌, ◌-◌, ◌^◌, Bool, true, false, ◌&&◌, ◌||◌, ◌==◌, nat_lt, nat_le, List, [], ◌∷◌, Option, Some, None, if◌then◌else◌, cond}
 use Rattle.std.specs.Char.{digit_value}
 use Rattle.std.specs.Str.Parse.{digits_value}
@@ -15,13 +15,13 @@ abbrev pub begins_with_digit : ℕ → List ℕ → Bool
 begins_with_digit base [] = false
 begins_with_digit base (b ∷ bs) = is_digit base b
 
--- digits and underscores, with a digit behind each underscore
+-- Digits and underscores, with a digit after each underscore.
 abbrev pub follows_digit : ℕ → List ℕ → Bool
 follows_digit base [] = true
 follows_digit base (b ∷ bs) =
     (is_digit base b && follows_digit base bs) || (is_underscore b && begins_with_digit base bs && follows_digit base bs)
 
--- a digit, and then digits and underscores between digits
+-- A digit, and then digits and underscores between digits.
 abbrev pub is_numeral : ℕ → List ℕ → Bool
 is_numeral base [] = false
 is_numeral base (b ∷ bs) = is_digit base b && follows_digit base bs
@@ -30,21 +30,21 @@ abbrev pub without_underscores : List ℕ → List ℕ
 without_underscores [] = []
 without_underscores (b ∷ bs) = cond (is_underscore b) (without_underscores bs) (b ∷ without_underscores bs)
 
--- the number that digits of a base write
+-- The number that digits of the base represent.
 unfoldable pub numeral : ℕ → List ℕ → Option ℕ
 numeral base bs = if is_numeral base bs then Some (digits_value base (without_underscores bs)) else None
 
--- a number without a sign: digits, or 0x and hexadecimal digits
+-- A number without a sign: decimal digits, or 0x and hexadecimal digits.
 unfoldable pub natural : List ℕ → Option ℕ
 natural [] = None
 natural (b ∷ []) = numeral 10 (b ∷ [])
 natural (b ∷ c ∷ bs) = if (b == 48) && (c == 120) then numeral 16 bs else numeral 10 (b ∷ c ∷ bs)
 
--- a number below 2 ^ bits
+-- The number, if it is below 2 ^ bits.
 abbrev pub number_below : ℕ → ℕ → Option ℕ
 number_below bits n = if nat_lt n (2 ^ bits) then Some n else None
 
--- whole numbers without a sign, of so many bits
+-- Unsigned integers of 8, 32 and 64 bits (the standard's `uN`).
 abbrev pub u8 : List ℕ → Option ℕ
 u8 w = natural w >>= number_below 8
 
@@ -54,16 +54,16 @@ u32 w = natural w >>= number_below 32
 abbrev pub u64 : List ℕ → Option ℕ
 u64 w = natural w >>= number_below 64
 
--- the exponent below n of a power of two
+-- The exponent of the number, if it is a power of two with an exponent below n.
 abbrev pub exponent_below : ℕ → ℕ → Option ℕ
 exponent_below zero power = None
 exponent_below (suc n) power = if 2 ^ n == power then Some n else exponent_below n power
 
--- a power of two of 64 bits, by its exponent
+-- The exponent of a power of two below 2 ^ 64.
 abbrev pub exponent_of : List ℕ → Option ℕ
 exponent_of w = u64 w >>= exponent_below 64
 
--- a number of so many bits as a signed one: the upper half stands for the negative numbers
+-- An unsigned integer of the given number of bits as a signed one: the upper half represents the negative numbers.
 abbrev pub as_signed : ℕ → ℕ → ℤ
 as_signed bits n = if nat_lt n (2 ^ (bits - 1)) then pos n else (pos n -ℤ pos (2 ^ bits))
 
@@ -80,7 +80,8 @@ abbrev pub with_number : (ℕ → Option ℤ) → Option ℕ → Option ℤ
 with_number f None = None
 with_number f (Some n) = f n
 
--- a constant of so many bits: with a sign, or without one below 2 ^ bits
+-- An integer constant of the given number of bits: with a sign, or without one and below 2 ^ bits (the standard's
+-- `iN`).
 unfoldable pub integer : ℕ → List ℕ → Option ℤ
 integer bits [] = None
 integer bits (b ∷ bs) =

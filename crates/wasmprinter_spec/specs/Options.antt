@@ -1,37 +1,39 @@
--- The options of a layout, and the answers to claims. The standard has no such thing.
+-- The options of a layout, and the answers to claims. The standard defines neither.
 use Rattle.std.specs.Prelude.{◌≡◌, ℕ, List, Bool, false, codes, ◌⊎◌}
 use Rattle.std.specs.List.{AllByRecursion}
 
+-- The options of a layout.
 pub record Options : Type 0 where
-  -- each line begins with the place of what stands on it
+  -- Each line begins with its place, in a comment.
   pub offsets : Bool
-  -- bodies, the items of element segments, and the bytes of data segments and custom sections are left out
+  -- Bodies, the items of element segments, and the bytes of data segments and custom sections are left out.
   pub skeleton : Bool
-  -- items without a name have identifiers made up for them
+  -- Identifiers are synthesized for items without a name.
   pub invents : Bool
-  -- each operator stands in parentheses with its operands
+  -- Operators are folded: each is in parentheses with its operands.
   pub folds : Bool
-  -- What stands first in these parentheses carries the sequences of colours. This isn't chosen: it is so where a
-  -- printer can write colours as text.
+  -- The text after the opening parenthesis of a folded operator has ANSI escape sequences. The user does not
+  -- choose this: it holds if the printer can write colors as text.
   pub paints : Bool
-  -- the text that stands once for each level of nesting, up to `most_indents` of `Piece`
+  -- The text that is written once for each level of nesting, up to `most_indents` of `Piece`.
   pub indent : List ℕ
 
+-- The default options: an indent of two spaces, and all else off.
 abbrev pub defaults : Options
 defaults = record { offsets = false; skeleton = false; invents = false; folds = false; paints = false; indent = codes "  " }
 
--- with the sequences of colours in the text of folded operators, or without
+-- The options with or without ANSI escape sequences in the text of folded operators.
 abbrev pub in_colours : Options → Bool → Options
 in_colours o paints = record o { paints = paints }
 
--- the answer to the claim of each custom section, by the number of the section among the custom sections
+-- The answer to the claim of each custom section, by the number of the section among the custom sections.
 abbrev pub Answers : Type 0
 Answers = ℕ → Bool
 
--- no custom section is claimed
+-- No custom section is claimed.
 abbrev pub AreUnclaimed : Answers → Type 0
 AreUnclaimed answers = (n : ℕ) → answers n ≡ false
 
--- an indent that holds only blanks and tabs
+-- The indent consists of spaces and tabs.
 abbrev pub IsBlank : List ℕ → Type 0
 IsBlank indent = AllByRecursion (λ b. (b ≡ 32) ⊎ (b ≡ 9)) indent

@@ -1,5 +1,6 @@
--- Pieces: the smallest parts of a layout that read by themselves. Each has its calls on the printer and its tokens. (Of a folded operator
--- one piece holds the whole text up to its operands, and one its hint: what these read as is said of the pieces that they stand for.)
+-- Pieces: the smallest parts of a layout that read by themselves. Each has its calls on the printer and its
+-- tokens. (The text of a folded operator up to its operands is one piece, and its hint another. How these read is
+-- stated for the pieces that they replace.)
 use Rattle.std.specs.Prelude.{ℕ, ℤ, zero, suc, ◌-◌, min, List, [], ◌∷◌, ◌++◌, Bool, true, false, codes, decimal, Option, Some, None, replicate, length, flat_map, encode_utf8_all, map}
 use Rattle.std.specs.Fmt.{signed_decimal, digits}
 use Rattle.wasmprinter_spec.specs.Call.{Call, Text, Newline, Line, Start, Claim, Style, Literal, Name, Keyword, TypeName, Comment, Reset, text_of}
@@ -10,56 +11,58 @@ use Rattle.wasmprinter_spec.specs.Quoted.{char_text, quoted_text, quoted_bytes, 
 use Rattle.wasmprinter_spec.specs.Token as token
 use Rattle.wasmprinter_spec.specs.Token.{Token}
 
+-- A piece of a layout.
 pub data Piece : Type 0 where
   Begin : ℕ → Piece  -- the first line begins, at this place
   Feed : Piece  -- the last line ends
-  Break : Option ℕ → ℕ → Piece  -- a new line: its place if it has one, and how deep it is nested
-  Gap : Piece  -- a blank
+  Break : Option ℕ → ℕ → Piece  -- a new line: its place, if it has one, and its nesting depth
+  Gap : Piece  -- a space
   Open : List ℕ → Piece  -- a parenthesis and a keyword
-  OpenGap : List ℕ → Piece  -- the same and a blank
+  OpenGap : List ℕ → Piece  -- the same, and a space
   OpenPlain : List ℕ → Piece  -- a parenthesis and a keyword without a style
-  OpenBare : Piece  -- a parenthesis and no keyword
-  OpenTypeGap : List ℕ → Piece  -- a parenthesis, the word of a type and a blank
+  OpenBare : Piece  -- a parenthesis without a keyword
+  OpenTypeGap : List ℕ → Piece  -- a parenthesis, the word of a type and a space
   OpenNote : List ℕ → Piece  -- a parenthesis, the sign @ and the name of an annotation
-  OpenNoteGap : List ℕ → Piece  -- the same and a blank
+  OpenNoteGap : List ℕ → Piece  -- the same, and a space
   OpenRun : List ℕ → Piece  -- in an annotation: a parenthesis and any run of identifier characters
   Shut : Piece
   Word : List ℕ → Piece
   TypeWord : List ℕ → Piece  -- the word of a type
-  TypeWordGap : List ℕ → Piece  -- the same and a blank
-  GapTypeWord : List ℕ → Piece  -- a blank and the word of a type
+  TypeWordGap : List ℕ → Piece  -- the same, and a space
+  GapTypeWord : List ℕ → Piece  -- a space and the word of a type
   Number : ℕ → Piece  -- an index
-  Constant : ℤ → Piece  -- a blank and a number with its sign
-  Literals : List ℕ → List (List ℕ) → Piece  -- words with blanks between them
-  GapLiterals : List (List ℕ) → Piece  -- words, a blank before each
-  Float : Width → ℕ → Piece  -- a floating point number, by its bits
-  NumberRemark : ℕ → Piece  -- (;i;), the number of a declaration
-  BeginName : Piece  -- from here on text has the style of names
-  EndStyle : Piece  -- from here on text has no style
-  Quoted : List ℕ → Piece  -- a text in quotes, by its characters
-  QuotedBytes : List ℕ → Piece  -- bytes in quotes
-  Identifier : List ℕ → Piece  -- by the characters behind the dollar sign
-  NameNote : List ℕ → Piece  -- the annotation with a name, by its characters
-  Remark : Bool → List ℕ → Piece  -- a blank and a comment, with a style or without
-  Ending : List ℕ → Piece  -- a comment up to the end of the line
+  Constant : ℤ → Piece  -- a space and a number with its sign
+  Literals : List ℕ → List (List ℕ) → Piece  -- words with spaces between them
+  GapLiterals : List (List ℕ) → Piece  -- words, a space before each
+  Float : Width → ℕ → Piece  -- a floating-point number, by its bits
+  NumberRemark : ℕ → Piece  -- (;i;), the index of a declaration
+  BeginName : Piece  -- text after this has the style of names
+  EndStyle : Piece  -- text after this has no style
+  Quoted : List ℕ → Piece  -- a quoted string, by its characters
+  QuotedBytes : List ℕ → Piece  -- quoted bytes
+  Identifier : List ℕ → Piece  -- an identifier, by the characters after the dollar sign
+  NameNote : List ℕ → Piece  -- the annotation `(@name "..")`, by the characters of the name
+  Remark : Bool → List ℕ → Piece  -- a space and a block comment, with a style or without
+  Ending : List ℕ → Piece  -- a line comment
   PlainEnding : List ℕ → Piece  -- the same without a style
   HintNote : Bool → Piece  -- the annotation of a branch hint
-  Claimed : List ℕ → ℕ → List ℕ → Bool → Piece  -- the question whether the printer takes a custom section itself, and the answer
+  Claimed : List ℕ → ℕ → List ℕ → Bool → Piece  -- the claim of a custom section, with the answer
 
--- the greatest number of levels of which each is indented
+-- The greatest number of levels by which a line is indented.
 abbrev pub most_indents : ℕ
 most_indents = 50
 
--- so many times
+-- The text, n times.
 unfoldable pub repetition_of : ℕ → List ℕ → List ℕ
 repetition_of zero text = []
 repetition_of (suc n) text = text ++ repetition_of n text
 
--- text filled with blanks to a width
+-- The text, filled with spaces to a width.
 unfoldable pub left_in : ℕ → List ℕ → List ℕ
 left_in width text = text ++ replicate (width - length text) 32
 
--- the comment with a place in hexadecimal, filled to six digits, or as many blanks
+-- The comment with a place in hexadecimal, filled with spaces to six digits; the same number of spaces if there is
+-- no place.
 unfoldable pub place_text : Option ℕ → List ℕ
 place_text (Some p) = codes "(;@" ++ (left_in 6 (digits 16 false p) ++ codes ";)")
 place_text None = replicate 11 32
@@ -72,7 +75,7 @@ place_calls true None = Text (place_text None) ∷ []
 abbrev pub calls_in_style : Style → List ℕ → List Call
 calls_in_style style s = Start style ∷ (Text s ∷ (Start Reset ∷ []))
 
--- words, with a blank before each
+-- Words, with a space before each.
 abbrev pub behind_blanks : List (List ℕ) → List ℕ
 behind_blanks [] = []
 behind_blanks (w ∷ ws) = 32 ∷ (w ++ behind_blanks ws)
@@ -84,6 +87,7 @@ abbrev pub flag_byte : Bool → ℕ
 flag_byte true = 1
 flag_byte false = 0
 
+-- The calls of a piece on the printer.
 abbrev pub calls : Options → Piece → List Call
 calls o (Begin place) = Line (Some place) ∷ []
 calls o Feed = Newline ∷ []
@@ -124,6 +128,7 @@ calls o (HintNote taken) =
     calls_in_style Comment (codes "(@metadata.code.branch_hint " ++ (quoted_bytes (flag_byte taken ∷ []) ++ codes ")"))
 calls o (Claimed name place bytes answer) = Claim name place bytes answer ∷ []
 
+-- The tokens of a piece.
 abbrev pub piece_tokens : Piece → List Token
 piece_tokens (Open w) = token.left ∷ (token.word w ∷ [])
 piece_tokens (OpenGap w) = token.left ∷ (token.word w ∷ [])

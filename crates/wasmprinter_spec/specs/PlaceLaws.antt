@@ -1,4 +1,5 @@
--- The laws of lines and of the places that they begin with. Functions of the crate `wasmprinter_places` have them as their contracts.
+-- The laws of lines and of the places with which they begin. They are the contracts of functions of the crate
+-- `wasmprinter_places`.
 use Rattle.std.specs.Prelude.{◌≡◌, ℕ, List, false, Some, None, slice_get}
 use Rattle.wasmprinter_spec.specs.Binary.{Spells}
 use Rattle.wasmprinter_spec.specs.Grammar.{Placed}
@@ -10,7 +11,7 @@ use Rattle.wasmprinter_spec.specs.Layout.{layout, refusal}
 use Rattle.wasmprinter_spec.specs.Apart.{IsApart}
 use Rattle.wasmprinter_spec.specs.Lines.{TextLine, lines_of, joined_lines, line_places, hint_places, IsOnlyLine, HasFunctionLines, operator_at, place_of}
 
--- Lists of calls that differ only in how text is cut have the same lines.
+-- Lists of calls that differ only in how text is split have the same lines.
 abbrev pub AlikeHaveSameLines : Type 0
 AlikeHaveSameLines = (k l : List Call) → atoms k ≡ atoms l → lines_of k ≡ lines_of l
 
@@ -19,12 +20,12 @@ abbrev pub LinesJoin : Type 0
 LinesJoin =
     (o : Options) (answers : Answers) (m : PlacedModule) → joined_lines (lines_of (layout o answers m)) ≡ text_of (layout o answers m)
 
--- The bodies of a module that bytes spell lie apart from all else that begins a line.
+-- The bodies of a module that bytes encode are apart from everything else that begins a line.
 abbrev pub BodiesLieApart : Type 0
 BodiesLieApart = (bytes : List ℕ) (m : PlacedModule) → Spells bytes m → IsApart m
 
--- Where bodies are printed flat and no `dylink.0` section is refused, each function has its lines, and each of
--- its operators one of its own.
+-- If bodies are printed flat and no `dylink.0` section is refused, each function has its lines, and each of its
+-- operators has a line of its own.
 abbrev pub FunctionsHaveLines : Type 0
 FunctionsHaveLines =
     (bytes : List ℕ) (m : PlacedModule) (o : Options) (answers : Answers) →
@@ -32,14 +33,15 @@ FunctionsHaveLines =
     (i : ℕ) (f : PlacedFunction) → slice_get m.functions i ≡ Some f →
     HasFunctionLines (hint_places m) (line_places (lines_of (layout o answers m))) f
 
--- What is found for an operator, in any lines: there is such an operator, the place is its, and the line begins with that place.
+-- If a line is found for an operator, in any lines, then there is such an operator, the place is its place, and
+-- the line begins with that place.
 abbrev pub FindsPlace : Type 0
 FindsPlace =
     (m : PlacedModule) (lines : List TextLine) (i j number place : ℕ) → place_of m lines i j ≡ Some (number, place) →
     (o : Placed Operator) × (operator_at m i j ≡ Some o) × (place ≡ o.place) × (slice_get (line_places lines) number ≡ Some (Some place))
 
--- In the lines of a module where bodies are printed flat and no `dylink.0` section is refused, each operator's line is found, the only one
--- with its place, and for no operator none.
+-- If bodies are printed flat and no `dylink.0` section is refused, the line of each operator is found in the lines
+-- of the module, and it is the only line with its place. If there is no such operator, no line is found.
 abbrev pub FindsLine : Type 0
 FindsLine =
     (bytes : List ℕ) (m : PlacedModule) (o : Options) (answers : Answers) →

@@ -1,12 +1,13 @@
--- A module as its bytes lay it out: what the sections hold, with the places that the text can show. All places are counted from the
--- module's first byte. (Section 2.5 of the standard, "Modules", which has no places.)
+-- A module as its bytes encode it: the contents of the sections, with the places that the text can show. All
+-- places are byte offsets from the start of the module. (Section 2.5 of the standard, "Modules", which has no
+-- places.)
 use Rattle.std.specs.Prelude.{ℕ, List, Bool, Option}
 use Rattle.wasmprinter_spec.specs.Grammar.{Placed}
 use Rattle.wasmprinter_spec.specs.Types.{ValType, SubType, RefType, TableType, MemoryType, GlobalType, ExternKind, ExternType}
 use Rattle.wasmprinter_spec.specs.Operator.{Operator}
 use Rattle.wasmprinter_spec.specs.Kinds.{Kind}
 
--- A group of types: written as one, or a single type that stands by itself.
+-- A group of types: one that is written as a group (`rec`), or a single type by itself.
 pub record TypeGroup : Type 0 where
   pub written : Bool
   pub types : List SubType
@@ -14,29 +15,29 @@ pub record TypeGroup : Type 0 where
 abbrev pub type_group : Bool → List SubType → TypeGroup
 type_group written ts = record { written = written; types = ts }
 
--- so many locals of one type
+-- `count` locals of one type.
 pub record LocalEntry : Type 0 where
   pub count : ℕ
   pub type : ValType
 
--- what a code entry holds behind its size: `end` is the place of the last byte, the operator `end`
+-- The content of a code entry after its size. `end` is the place of the last byte, the operator `end`.
 pub record Body : Type 0 where
   pub locals : List (Placed LocalEntry)
   pub operators : List (Placed Operator)
   pub end : ℕ
 
--- a defined function: its type's index, and its body with the place of the body's first byte
+-- A defined function: its type's index, and its body with the place of the body's first byte.
 pub record PlacedFunction : Type 0 where
   pub type_index : ℕ
   pub body : Placed Body
 
--- what the module gives out under a name
+-- An export: its name, and the kind and the index of the exported item.
 pub record Export : Type 0 where
   pub name : List ℕ
   pub kind : ExternKind
   pub index : ℕ
 
--- an import: the module that it comes from, its name there, and what it is
+-- An import: the name of the module that it comes from, its name in that module, and its type.
 pub record Import : Type 0 where
   pub source : List ℕ
   pub name : List ℕ
@@ -45,7 +46,7 @@ pub record Import : Type 0 where
 abbrev pub import_of : List ℕ → List ℕ → ExternType → Import
 import_of m n t = record { source = m; name = n; type = t }
 
--- a custom section: its name, and the bytes behind it with the place of the first
+-- A custom section: its name, and the bytes after the name with the place of the first.
 pub record Custom : Type 0 where
   pub name : List ℕ
   pub bytes : Placed (List ℕ)
@@ -53,7 +54,8 @@ pub record Custom : Type 0 where
 abbrev pub custom_of : List ℕ → Placed (List ℕ) → Custom
 custom_of n bytes = record { name = n; bytes = bytes }
 
--- a custom section with the place of its first byte behind its size, and the kind of the last section in front of it that holds something
+-- A custom section with the place of its first byte after its size, and the kind of the last section before it
+-- that is not empty (`is_place` in `Sections`).
 pub record CustomEntry : Type 0 where
   pub behind : Option Kind
   pub section : Placed Custom
@@ -61,9 +63,9 @@ pub record CustomEntry : Type 0 where
 abbrev pub custom_entry : Option Kind → Placed Custom → CustomEntry
 custom_entry k c = record { behind = k; section = c }
 
--- ---- what holds expressions: lists of operators, with or without their places
+-- ---- Fields with expressions, which are lists of operators, with or without their places
 
--- a table, perhaps with an initialiser, which may be empty
+-- A table, with or without an initialiser, which may be empty.
 pub record Table (O : Type 0) : Type 0 where
   pub type : TableType
   pub init : Option (List O)
@@ -71,6 +73,7 @@ pub record Table (O : Type 0) : Type 0 where
 abbrev pub table_of : {O : Type 0} → TableType → Option (List O) → Table O
 table_of t init = record { type = t; init = init }
 
+-- A global, with its initialiser.
 pub record Global (O : Type 0) : Type 0 where
   pub type : GlobalType
   pub init : List O
@@ -78,16 +81,18 @@ pub record Global (O : Type 0) : Type 0 where
 abbrev pub global_of : {O : Type 0} → GlobalType → List O → Global O
 global_of t init = record { type = t; init = init }
 
--- an element segment: what becomes of it (the table and the offset, where it is active), and its items
+-- The mode of an element segment: passive, declarative, or active with the table and the offset.
 pub data ElementMode (O : Type 0) : Type 0 where
   Passive : ElementMode O
   Declared : ElementMode O
   Active : ℕ → List O → ElementMode O
 
+-- The items of an element segment: function indices, or expressions of a reference type.
 pub data Items (O : Type 0) : Type 0 where
   Functions : List ℕ → Items O
   Expressions : RefType → List (List O) → Items O
 
+-- An element segment: its mode and its items.
 pub record Element (O : Type 0) : Type 0 where
   pub mode : ElementMode O
   pub items : Items O
@@ -95,7 +100,7 @@ pub record Element (O : Type 0) : Type 0 where
 abbrev pub element_of : {O : Type 0} → ElementMode O → Items O → Element O
 element_of mode items = record { mode = mode; items = items }
 
--- an element segment as the bytes lay it out, which may name its table or leave it out
+-- An element segment as the bytes encode it. The bytes may name its table or leave it out.
 pub record ElementEntry : Type 0 where
   pub names_table : Bool
   pub element : Element (Placed Operator)
@@ -103,11 +108,12 @@ pub record ElementEntry : Type 0 where
 abbrev pub entry_of : Bool → Element (Placed Operator) → ElementEntry
 entry_of names e = record { names_table = names; element = e }
 
--- a data segment, passive or with its memory and offset
+-- The mode of a data segment: passive, or active with the memory and the offset.
 pub data DataMode (O : Type 0) : Type 0 where
   PassiveData : DataMode O
   ActiveData : ℕ → List O → DataMode O
 
+-- A data segment: its mode and its bytes.
 pub record Data (O : Type 0) : Type 0 where
   pub mode : DataMode O
   pub bytes : List ℕ
@@ -115,8 +121,8 @@ pub record Data (O : Type 0) : Type 0 where
 abbrev pub data_of : {O : Type 0} → DataMode O → List ℕ → Data O
 data_of mode bytes = record { mode = mode; bytes = bytes }
 
--- Tags by the indices of their types; the start function; custom sections in their order;
--- `size` is the number of the module's bytes.
+-- A module with its places. A tag is given by the index of its type. `start` is the start function, `customs` are
+-- the custom sections in their order, and `size` is the number of bytes of the module.
 pub record PlacedModule : Type 0 where
   pub types : List (Placed TypeGroup)
   pub imports : List (Placed Import)

@@ -1,6 +1,7 @@
--- Reading a text (section 6 of the standard): the module that it writes, or none. Identifiers may be used before they are declared, so the
--- fields are sorted by kind and their identifiers gathered before a field is read. Of the abbreviations of section 6.6 the reader has
--- folded operators, and groups of several parameters, results, locals and fields.
+-- Reading a text (section 6 of the standard): the module that it represents, or None. Identifiers may be used
+-- before they are declared, so the fields are sorted by kind and their identifiers collected before any field is
+-- read. Of the abbreviations of section 6.6, the reader has folded operators, and groups of several parameters,
+-- results, locals and fields.
 use Rattle.std.specs.Prelude.{ℕ, List, [], ◌∷◌, ◌++◌, Bool, true, false, codes, bytes_eq, Option, Some, None, if◌then◌else◌, map, option_map}
 use Rattle.std.specs.List.{filter}
 use Rattle.std.specs.Str.{is_utf8}
@@ -24,9 +25,9 @@ use Rattle.wasmprinter_spec.specs.Text.Start.{read_start}
 use Rattle.wasmprinter_spec.specs.Text.Customs.{read_custom}
 use Rattle.wasmprinter_spec.specs.Customs.{RawCustom}
 
--- ---- fields
+-- ---- Fields
 
--- What the fields hold behind their words, sorted by kind, each kind in order. Types stand in their groups.
+-- The content of the fields after their words, sorted by kind, each kind in order. Types are in their groups.
 pub record Fields : Type 0 where
   pub types : List (List Forest)
   pub imports : List ImportField
@@ -55,17 +56,17 @@ no_fields = record {
   datas = [];
 }
 
--- there is at most one start function
+-- There is at most one start function.
 abbrev pub with_start : Forest → Fields → Option Forest → Option Fields
 with_start f m None = Some (record m { start = Some f })
 with_start f m (Some g) = None
 
--- imports stand before all that is defined in the index spaces which they share
+-- Imports come before all definitions in the index spaces that they share.
 abbrev pub fields_without_imports : Fields → List ImportField → Option Fields
 fields_without_imports m [] = Some m
 fields_without_imports m (i ∷ is) = None
 
--- A field before others, by its word: none where it can't stand before them.
+-- A field before others, by its word; None if it may not come before them.
 abbrev pub with_field : List ℕ → Forest → Fields → Option Fields
 with_field w f m =
     if bytes_eq w (codes "type") then Some (record m { types = (f ∷ []) ∷ m.types }) else
@@ -81,14 +82,15 @@ with_field w f m =
     (if bytes_eq w (codes "elem") then Some (record m { elements = f ∷ m.elements }) else
     (if bytes_eq w (codes "data") then Some (record m { datas = f ∷ m.datas }) else None)))))))))))
 
+-- The fields of a module, sorted by kind.
 abbrev pub fields : Forest → Option Fields
 fields End = Some no_fields
 fields (Group (Word w f) g) = fields g >>= with_field w f
 fields _ = None
 
--- ---- identifiers
+-- ---- Identifiers
 
--- the identifiers of declarations
+-- The identifiers of declarations.
 abbrev pub identifiers_of : List Forest → Identifiers
 identifiers_of fs = map (λ f. (identifier_in_front f).0) fs
 
@@ -100,15 +102,15 @@ same_kind GlobalKind GlobalKind = true
 same_kind TagKind TagKind = true
 same_kind _ _ = false
 
--- the identifiers of imports of a kind
+-- The identifiers of the imports of a kind.
 abbrev pub imported_ids : ExternKind → List ImportField → Identifiers
 imported_ids kind is = identifiers_of (map (λ i. i.item) (filter (λ i. same_kind kind i.kind) is))
 
--- an index space counts imports first
+-- An index space, in which imports come first.
 abbrev pub space_behind : ExternKind → List ImportField → List Forest → Option Identifiers
 space_behind kind is fs = index_space (imported_ids kind is ++ identifiers_of fs)
 
--- the index spaces outside functions
+-- The index spaces outside functions.
 abbrev pub spaces_of : Fields → Option Spaces
 spaces_of m = do
   types ← index_space (identifiers_of (concat m.types))
@@ -131,12 +133,13 @@ spaces_of m = do
     locals = [];
   })
 
--- ---- the module
+-- ---- The module
 
--- from the types, with the identifiers of their fields
+-- The context of a module, by its types with the identifiers of their fields.
 abbrev pub context : Spaces → List (List (Declared SubType)) → Context
 context s types = record { spaces = s; signature = signature_at (all_types (group_types types)); fields = field_space types }
 
+-- The module with these fields, without custom sections.
 abbrev pub module_of_fields : Fields → Option Module
 module_of_fields m = do
   spaces ← spaces_of m
@@ -166,7 +169,7 @@ module_of_fields m = do
     customs = [];
   })
 
--- what a group `module` holds behind its identifier
+-- The content of a group `module` after its identifier.
 abbrev pub module_fields : Forest → Option Forest
 module_fields (Group (Word w f) End) = if bytes_eq w (codes "module") then Some (identifier_in_front f).1 else None
 module_fields _ = None
@@ -174,13 +177,13 @@ module_fields _ = None
 abbrev pub read_forest : Forest → Option Module
 read_forest f = module_fields f >>= fields >>= module_of_fields
 
--- the custom sections of a text, each without the annotations in it
+-- The custom sections of a text, each without the annotations in it.
 abbrev pub read_customs : Forest → Option (List RawCustom)
 read_customs f = each (λ c. read_custom (without_annotations c)) (customs f)
 
 abbrev pub read_groups : Forest → Option Module
 read_groups f = read_forest (without_annotations f) >>= λ m. read_customs f >>= λ cs. Some (record m { customs = cs })
 
--- the module that a text writes
+-- The module that a text represents, or None if there is no such module.
 abbrev pub read : List ℕ → Option Module
 read text = if is_utf8 text then forest text >>= read_groups else None

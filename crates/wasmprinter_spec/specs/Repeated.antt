@@ -1,5 +1,5 @@
--- Grammars of items that stand one after the other: so many of them, a counted list (section 5.1 of the standard, "Lists"),
--- and as many as there are up to the end of the bytes.
+-- Grammars of consecutive items: n items, a list with a count (section 5.1 of the standard, "Lists"), and items up
+-- to the end of the bytes.
 use Rattle.std.specs.Prelude.{◌≡◌, ℕ, zero, suc, List, [], ◌∷◌, ◌++◌, ◌+◌, ◌<◌, ◌≤◌, length, Option, Some, None, nat_lt, ◌==◌, if◌then◌else◌, refl}
 use Rattle.std.proofs.Common.{sym, ap, subst, ◌∙◌, arith, append_assoc, cond, eqb, ltb, inl, inr}
 use Rattle.std.proofs.lemmas.Bool.{eqb-true, eq-eqb, ne_eqb, ltb-true, lt-ltb}
@@ -7,7 +7,7 @@ use Rattle.std.proofs.lemmas.List.{length-append, nil_from_length}
 use Rattle.wasmprinter_spec.specs.Grammar.{Input, input, Spans, Grammar, Remainder, ◌>>=◌, bind_some, some_is, seq, map_value}
 use Rattle.wasmprinter_spec.specs.Choices.{chosen, tested}
 
--- f of the value, d where there is none
+-- `f` of the value, or `d` if there is none.
 abbrev pub some_or : {A B : Type 0} → Option A → B → (A → B) → B
 some_or None d f = d
 some_or (Some x) d f = f x
@@ -15,13 +15,13 @@ some_or (Some x) d f = f x
 -- ---- n items
 
 module _ {A : Type 0} (parse : Input → Option (A × Input)) where
-  -- n items
+  -- Reads n items.
   abbrev pub items_at : ℕ → Input → Option (List A × Input)
   items_at zero at = Some ([], at)
   items_at (suc n) at = parse at >>= λ a. items_at n a.1 >>= λ b. Some (a.0 ∷ b.0, b.1)
 
 module _ {A : Type 0} (g : Grammar A) where
-  -- the items one after the other
+  -- The bytes encode the items, one after the other.
   abbrev pub AreItems : ℕ → List ℕ → List A → Type 0
   AreItems p text [] = text ≡ []
   AreItems p text (x ∷ xs) = (t u : List ℕ) × (text ≡ t ++ u) × g.spells p t x × AreItems (p + length t) u xs
@@ -76,19 +76,19 @@ module _ {A : Type 0} (g : Grammar A) where
   abbrev pub times : ℕ → Grammar (List A)
   times n = record { spells = Times n; parse = items_at g.parse n; sound = times_sound n; complete = times_complete n }
 
--- a count, and so many items
+-- A count n, and then n items.
 abbrev pub vec_of : {A : Type 0} → Grammar ℕ → Grammar A → Grammar (List A)
 vec_of count g = map_value (λ x. x.1) (seq count (λ n. times g n))
 
--- ---- items up to the end of the bytes
+-- ---- Items up to the end of the bytes
 
 module _ {A : Type 0} (g : Grammar A) where
-  -- items, each of at least one byte
+  -- The bytes encode the items, one after the other, each by at least one byte.
   abbrev pub Entries : ℕ → List ℕ → List A → Type 0
   Entries p text [] = text ≡ []
   Entries p text (x ∷ xs) = (t u : List ℕ) × (text ≡ t ++ u) × (0 < length t) × g.spells p t x × Entries (p + length t) u xs
 
-  -- no more than n items, since each takes a byte
+  -- Reads at most n items up to the end. Each item consumes a byte, so there are no more items than bytes.
   abbrev pub entries_at : ℕ → Input → Option (List A)
   entries_at zero at = if length at.bytes == 0 then Some [] else None
   entries_at (suc n) at =

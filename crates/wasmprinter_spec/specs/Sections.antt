@@ -1,5 +1,6 @@
--- Sections (section 5.5 of the standard, "Sections"): each has a kind, and holds what is spelled by all the bytes of its size. What is said
--- of each kind stands here, one line for each; how the content of a kind is spelled stands in a file of its own, in `Binary`.
+-- Sections (section 5.5 of the standard, "Sections"): each has a kind and a content, which all the bytes of its
+-- size encode. The definitions over the kinds are in this file, one line for each kind. How the content of a kind
+-- is encoded is in a file of its own, in `Binary`.
 use Rattle.std.specs.Prelude.{ℕ, List, [], ◌∷◌, Bool, true, false, ◌&&◌, nat_lt, if◌then◌else◌, Option, Some, None}
 use Rattle.wasmprinter_spec.specs.Grammar.{Grammar, Remainder, byte, seq, map_value, try_map, Placed}
 use Rattle.wasmprinter_spec.specs.Repeated.{some_or}
@@ -24,7 +25,7 @@ use Rattle.wasmprinter_spec.specs.Binary.DataSegments.{data_count_section, data_
 use Rattle.wasmprinter_spec.specs.Binary.Code.{code_section}
 use Rattle.wasmprinter_spec.specs.Binary.Customs.{custom_section}
 
--- the kind of the sections with the id
+-- The kind of the sections with the id, or None if no kind has it.
 abbrev pub kind_of : ℕ → Option Kind
 kind_of id =
     lookup (
@@ -33,8 +34,8 @@ kind_of id =
     ∷ (7, ExportSection) ∷ (8, StartSection) ∷ (9, ElementSection) ∷ (10, CodeSection) ∷ (11, DataSection)
     ∷ (12, DataCountSection) ∷ (13, TagSection) ∷ []) id
 
--- Where each kind stands in the order type, import, function, table, memory, tag, global, export, start, element, data count, code, data.
--- Sections of a kind that has no place there may stand anywhere.
+-- The position of each kind in the order type, import, function, table, memory, tag, global, export, start,
+-- element, data count, code, data. Sections of a kind without a position may occur anywhere.
 abbrev pub rank : Kind → Option ℕ
 rank CustomSection = None
 rank TypeSection = Some 1
@@ -51,7 +52,7 @@ rank DataCountSection = Some 11
 rank CodeSection = Some 12
 rank DataSection = Some 13
 
--- what a section of the kind holds
+-- The type of the content of a section of the kind.
 abbrev pub Content : Kind → Type 0
 Content CustomSection = Placed Custom
 Content TypeSection = List (Placed TypeGroup)
@@ -68,7 +69,7 @@ Content DataCountSection = Option ℕ
 Content CodeSection = List (Placed Body)
 Content DataSection = List (Placed (Data (Placed Operator)))
 
--- how it is spelled, by all the bytes of the section
+-- How all the bytes of a section of the kind encode its content.
 abbrev pub content : (kind : Kind) → Remainder (Content kind)
 content CustomSection = custom_section
 content TypeSection = type_section
@@ -85,13 +86,14 @@ content DataCountSection = data_count_section
 content CodeSection = code_section
 content DataSection = data_section
 
+-- A section: a kind and its content.
 pub data Section : Type 0 where
   holds : (kind : Kind) → Content kind → Section
 
 abbrev pub section_kind : Section → Kind
 section_kind (holds kind x) = kind
 
--- what the section holds, if it is of this kind
+-- The content of the section if it is of this kind, otherwise None.
 abbrev pub content_of : (kind : Kind) → Section → Option (Content kind)
 content_of CustomSection (holds CustomSection x) = Some x
 content_of TypeSection (holds TypeSection x) = Some x
@@ -109,42 +111,44 @@ content_of CodeSection (holds CodeSection x) = Some x
 content_of DataSection (holds DataSection x) = Some x
 content_of _ _ = None
 
--- an id, which is that of a kind
+-- An id, which must be that of a kind.
 abbrev pub section_id : Grammar Kind
 section_id = try_map kind_of byte
 
--- a kind, a size, and content of exactly so many bytes
+-- A section: an id, a size, and content that exactly that many bytes encode.
 abbrev pub section : Grammar Section
 section = map_value (λ x. x.1) (seq section_id (λ k. map_value (λ x. holds k x.1) (seq u32 (λ size. exactly (content k) size))))
 
--- ---- sections one after the other
+-- ---- Sections in order
 
--- a section with this rank may stand behind those of which the last has the rank `low`
+-- A section of rank r may follow sections whose last rank is `low`.
 abbrev pub follows : ℕ → Option ℕ → Bool
 follows low r = some_or r true (λ n. nat_lt low n)
 
--- the rank of the last section that has one
+-- The last rank after a section of rank r, if it was `low` before.
 abbrev pub rank_behind : ℕ → Option ℕ → ℕ
 rank_behind low r = some_or r low (λ n. n)
 
--- The sections stand in order, and each kind that has a rank comes at most once: their ranks are above this one and rise.
+-- The sections are in order, and each kind that has a rank occurs at most once: the ranks are above `low` and
+-- increase.
 abbrev pub are_above : ℕ → List Section → Bool
 are_above low [] = true
 are_above low (s ∷ ss) = follows low (rank (section_kind s)) && are_above (rank_behind low (rank (section_kind s))) ss
 
--- What the section of the kind holds, and where there is none, this. (Each kind that has a rank comes at most once.)
+-- The content of the section of this kind, or `none` if there is no such section. (Each kind that has a rank
+-- occurs at most once.)
 abbrev pub content_in : (kind : Kind) → Content kind → List Section → Content kind
 content_in kind none [] = none
 content_in kind none (s ∷ ss) = content_in kind (some_or (content_of kind s) none (λ x. x)) ss
 
--- ---- custom sections among the others
+-- ---- Custom sections among the others
 
 abbrev pub is_filled : {A : Type 0} → List A → Bool
 is_filled [] = false
 is_filled (x ∷ xs) = true
 
--- Whether there is something behind which a custom section can stand: a list with items, or a start function. (A data
--- count is nothing of the module.)
+-- A custom section can be placed after this section: its content is a list that is not empty, or a start function.
+-- (A data count is not a part of the module.)
 abbrev pub is_place : (kind : Kind) → Content kind → Bool
 is_place CustomSection x = false
 is_place TypeSection xs = is_filled xs
@@ -161,7 +165,7 @@ is_place DataCountSection x = false
 is_place CodeSection xs = is_filled xs
 is_place DataSection xs = is_filled xs
 
--- the kind of the last section that is a place, if this is that of those in front
+-- The kind of the last section with `is_place` after one more section, if it was `last` before.
 abbrev pub place_behind : Option Kind → Section → Option Kind
 place_behind last (holds kind x) = if is_place kind x then Some kind else last
 
@@ -169,7 +173,7 @@ abbrev pub with_custom : Option Kind → Option (Placed Custom) → List CustomE
 with_custom last None cs = cs
 with_custom last (Some c) cs = custom_entry last c ∷ cs
 
--- the custom sections, in order, each with what it stands behind
+-- The custom sections in order, each with the kind of the last section before it with `is_place`.
 abbrev pub customs_behind : Option Kind → List Section → List CustomEntry
 customs_behind last [] = []
 customs_behind last (s ∷ ss) = with_custom last (content_of CustomSection s) (customs_behind (place_behind last s) ss)

@@ -1,9 +1,9 @@
--- Which immediates are of a shape (section 5.4 of the standard, "Instructions": what stands behind each opcode).
+-- Which immediates have a shape (section 5.4 of the standard, "Instructions": the immediates after each opcode).
 use Rattle.std.specs.Prelude.{Bool, true, false, Option, Some, None}
 use Rattle.wasmprinter_spec.specs.Operator.{Immediates, NoImmediates, Block, TryTable, Index, Indices, BranchTable, Types, Heap, Cast, Memory, MemoryLane, Lane, I32, I64, F32, F64, Bytes}
 use Rattle.wasmprinter_spec.specs.Row.{Row, Shape, NoneShape, FenceShape, BlockShape, TryTableShape, IndexShape, DefaultIndexShape, PairShape, FieldShape, CountShape, CallShape, SegmentShape, CopyShape, BranchTableShape, SelectShape, HeapShape, RefShape, CastShape, MemoryShape, MemoryLaneShape, LaneShape, I32Shape, I64Shape, F32Shape, F64Shape, VectorShape, LanesShape}
 
--- a line for each shape
+-- The immediates have the shape. A line for each shape.
 abbrev pub has_shape : Shape → Immediates → Bool
 has_shape NoneShape NoImmediates = true
 has_shape FenceShape NoImmediates = true
@@ -33,7 +33,7 @@ has_shape VectorShape (Bytes bs) = true
 has_shape LanesShape (Bytes bs) = true
 has_shape _ _ = false
 
--- the shape is that of a row, if there is one
+-- There is a row, and the immediates have its shape.
 abbrev pub has_row_shape : Option Row → Immediates → Bool
 has_row_shape None i = false
 has_row_shape (Some r) i = has_shape r.shape i

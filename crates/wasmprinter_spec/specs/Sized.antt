@@ -1,5 +1,6 @@
--- Grammars of bytes whose number is given: n bytes, a value that takes exactly n bytes, a value with nothing behind it, a
--- beginning with a rest, and all that is left (section 5.5 of the standard: "Sections" have a size, "Modules" a preamble).
+-- Grammars with a given number of bytes: n bytes, a value in exactly n bytes, a value that all bytes encode, a
+-- value and a remainder, and all remaining bytes (section 5.5 of the standard: "Sections" have a size, "Modules" a
+-- preamble).
 use Rattle.std.specs.Prelude.{◌≡◌, ℕ, List, [], ◌∷◌, ◌++◌, ◌+◌, ◌≤◌, length, take, drop, false, Option, Some, None, nat_lt, if◌then◌else◌, refl}
 use Rattle.std.proofs.Common.{sym, ap, subst, ◌∙◌, arith, ltb}
 use Rattle.std.proofs.lemmas.Bool.{ltb-false, le-ltb}
@@ -7,7 +8,7 @@ use Rattle.std.proofs.lemmas.List.{length-append, length-take-le, take-append-dr
 use Rattle.wasmprinter_spec.specs.Grammar.{Input, input, Spans, Grammar, Remainder, ◌>>=◌, bind_some, some_is, Placed}
 use Rattle.wasmprinter_spec.specs.Choices.{untested}
 
--- n bytes
+-- n bytes, which encode themselves.
 module _ (n : ℕ) where
   abbrev pub Front : ℕ → List ℕ → List ℕ → Type 0
   Front p text bytes = (length text ≡ n) × (bytes ≡ text)
@@ -40,7 +41,7 @@ module _ (n : ℕ) where
   abbrev pub take_bytes : Grammar (List ℕ)
   take_bytes = record { spells = Front; parse = front_at; sound = front_sound; complete = front_complete }
 
--- a value that takes exactly n bytes
+-- A value that exactly n bytes encode.
 module _ {A : Type 0} (w : Remainder A) where
   module _ (n : ℕ) where
     abbrev pub Exactly : ℕ → List ℕ → A → Type 0
@@ -68,12 +69,12 @@ module _ {A : Type 0} (w : Remainder A) where
     abbrev pub exactly : Grammar A
     exactly = record { spells = Exactly; parse = exactly_at; sound = exactly_sound; complete = exactly_complete }
 
--- the value, if nothing stands behind it
+-- The value, if no byte remains after it.
 abbrev pub value_at_end : {A : Type 0} → List ℕ → A → Option A
 value_at_end [] a = Some a
 value_at_end (b ∷ bs) a = None
 
--- a value and nothing behind it
+-- A value of g that all bytes encode: no byte remains after it.
 module _ {A : Type 0} (g : Grammar A) where
   abbrev pub alone_at : Input → Option A
   alone_at at = g.parse at >>= λ x. value_at_end x.1.bytes x.0
@@ -100,7 +101,7 @@ module _ {A : Type 0} (g : Grammar A) where
   abbrev pub alone : Remainder A
   alone = record { spells = g.spells; parse = alone_at; sound = alone_sound; complete = alone_complete }
 
--- a value, and then one that takes all other bytes
+-- A value, and then another, which all other bytes encode.
 module _ {A B : Type 0} (g : Grammar A) (w : Remainder B) where
   abbrev pub Headed : ℕ → List ℕ → A × B → Type 0
   Headed p text x = (t u : List ℕ) × (text ≡ t ++ u) × g.spells p t x.0 × w.spells (p + length t) u x.1
@@ -128,7 +129,7 @@ module _ {A B : Type 0} (g : Grammar A) (w : Remainder B) where
   abbrev pub seq_to_end : Remainder (A × B)
   seq_to_end = record { spells = Headed; parse = seq_to_end_at; sound = seq_to_end_sound; complete = seq_to_end_complete }
 
--- all bytes that are left, with the place of the first
+-- All remaining bytes, with the place of the first.
 abbrev pub AllLeft : ℕ → List ℕ → Placed (List ℕ) → Type 0
 AllLeft p text x = (x.place ≡ p) × (x.value ≡ text)
 
@@ -147,7 +148,7 @@ abbrev pub remaining_bytes : Remainder (Placed (List ℕ))
 remaining_bytes =
     record { spells = AllLeft; parse = remaining_bytes_at; sound = remaining_bytes_sound; complete = remaining_bytes_complete }
 
--- a value that takes all bytes, with the place of the first
+-- A value that all bytes encode, with the place of the first.
 module _ {A : Type 0} (w : Remainder A) where
   abbrev pub PlacedWhole : ℕ → List ℕ → Placed A → Type 0
   PlacedWhole p text x = (x.place ≡ p) × w.spells p text x.value
@@ -168,7 +169,7 @@ module _ {A : Type 0} (w : Remainder A) where
   whole_with_place =
       record { spells = PlacedWhole; parse = whole_with_place_at; sound = whole_with_place_sound; complete = whole_with_place_complete }
 
--- the values of a whole under a function, which may refuse and is told where the bytes end
+-- The values of w under a partial function, which also takes the place where the bytes end.
 module _ {A B : Type 0} (f : ℕ → A → Option B) (w : Remainder A) where
   abbrev pub Concluded : ℕ → List ℕ → B → Type 0
   Concluded p text b = (a : A) × (f (p + length text) a ≡ Some b) × w.spells p text a

@@ -1,13 +1,13 @@
--- Items up to the one at which a state stops, as operators up to the `end` that closes all blocks. Which item is the last hangs on those
--- before it; the state is no part of what is read. The standard has no such grammar: it nests the operators of a block within the block
--- (section 5.4, "Control Instructions").
+-- Items up to the one at which a state stops, such as operators up to the `end` that closes all blocks. Which item
+-- is the last depends on those before it; the state is not part of the value. The standard has no such grammar: it
+-- nests the operators of a block within the block (section 5.4, "Control Instructions").
 use Rattle.std.specs.Prelude.{◌≡◌, ℕ, zero, suc, List, [], ◌∷◌, ◌++◌, ◌+◌, ◌<◌, length, Bool, true, false, Option, Some, None, refl}
 use Rattle.std.proofs.Common.{sym, ap, subst, ◌∙◌, arith, append_assoc}
 use Rattle.std.proofs.lemmas.List.{length-append}
 use Rattle.wasmprinter_spec.specs.Grammar.{Input, input, Spans, Grammar, ◌>>=◌, bind_some, some_is}
 use Rattle.wasmprinter_spec.specs.Repeated.{AreItems}
 
--- what an item does to a state: it goes on, or stops, or can't stand there
+-- The effect of an item on a state: the next state, the end of the items, or a refusal of the item.
 pub data Move (S : Type 0) : Type 0 where
   On : S → Move S
   Stop : Move S
@@ -18,7 +18,7 @@ by_move (On s) f x y = f s
 by_move Stop f x y = x
 by_move Never f x y = y
 
--- the items, and the one that stops
+-- The last item, at which the state stops, and the items before it.
 pub record Ended (A : Type 0) : Type 0 where
   pub items : List A
   pub last : A
@@ -26,23 +26,23 @@ pub record Ended (A : Type 0) : Type 0 where
 abbrev pub list_with_last : {A : Type 0} → List A → A → Ended A
 list_with_last xs x = record { items = xs; last = x }
 
--- every item goes on, and the last one stops
+-- Each of the items leads to a next state, and the last item stops.
 abbrev pub stops : {A S : Type 0} → (S → A → Move S) → S → List A → A → Bool
 stops step s [] last = by_move (step s last) (λ t. false) true false
 stops step s (x ∷ xs) last = by_move (step s x) (λ t. stops step t xs last) false false
 
--- one more item in front of what was read
+-- The result of reading with one more item before the others.
 abbrev pub in_front : {A : Type 0} → A → Option (Ended A × Input) → Option (Ended A × Input)
 in_front a r = r >>= λ x. Some (list_with_last (a ∷ x.0.items) x.0.last, x.1)
 
 module _ {A S : Type 0} (g : Grammar A) (step : S → A → Move S)
     (takes : (p : ℕ) (text : List ℕ) (a : A) → g.spells p text a → 0 < length text) where
-  -- the items one after the other, then the last
+  -- The bytes encode the items, one after the other, and then the last item, at which the state stops.
   abbrev pub Stepped : S → ℕ → List ℕ → Ended A → Type 0
   Stepped s p text x =
       (t u : List ℕ) × (text ≡ t ++ u) × AreItems g p t x.items × g.spells (p + length t) u x.last × (stops step s x.items x.last ≡ true)
 
-  -- no more than n items with the last, since each takes a byte
+  -- Reads at most n items, the last one included. Each item consumes a byte, so there are no more items than bytes.
   abbrev pub items_by_steps_of : ℕ → S → Input → Option (Ended A × Input)
   items_by_steps_of zero s at = None
   items_by_steps_of (suc n) s at =

@@ -1,5 +1,6 @@
--- The operators (sections 5.4 and 6.5 of the standard): a row for each opcode. Grammar, layout and reader take opcodes, words and
--- immediates from these rows. The program has tables of its own: its words, shapes, arities and roles are proved equal to these.
+-- The operators (sections 5.4 and 6.5 of the standard): a row for each opcode. The grammar, the layout and the
+-- reader take opcodes, words and immediates from these rows. The program has its own tables: their words, shapes,
+-- arities and roles are proved equal to these.
 use Rattle.std.specs.Prelude.{ℕ, List, [], ◌∷◌, ◌++◌, Bool, ◌&&◌, ◌==◌, cond, bytes_eq, Option, Some, None}
 use Rattle.std.specs.List.{filter}
 use Rattle.wasmprinter_spec.specs.Operator.{Opcode}
@@ -24,14 +25,14 @@ pub mod Vectors
 pub mod VectorNumbers
 pub mod Atomics
 
--- the rows of all parts, one part behind the other
+-- The rows of all parts, one part after the other.
 unfoldable pub table : List Row
 unfolding control_rows variable_rows memory_rows number_rows reference_rows bulk_rows vector_rows vector_number_rows atomic_rows
 table =
     control_rows ++ (variable_rows ++ (memory_rows ++ (number_rows ++ (reference_rows
     ++ (bulk_rows ++ (vector_rows ++ (vector_number_rows ++ atomic_rows)))))))
 
--- the first row that passes a test
+-- The first row that passes the test, or None.
 abbrev pub first : (Row → Bool) → List Row → Option Row
 first p [] = None
 first p (r ∷ rs) = cond (p r) (Some r) (first p rs)
@@ -42,12 +43,12 @@ has_word w r = bytes_eq r.word w
 abbrev pub has_opcode : Opcode → Row → Bool
 has_opcode o r = (r.prefix == o.prefix) && (r.number == o.number)
 
--- All rows of a word, in the order of the table: none where the word is no operator's. Some operators share a word, and what stands behind
--- it tells them apart.
+-- All rows with the word w, in the order of the table. The list is empty if no operator has this word. Operators
+-- that share a word are distinguished by their immediates.
 abbrev pub rows_of : List ℕ → List Row
 rows_of w = filter (has_word w) table
 
--- the row of an opcode, if it is listed
+-- The row of an opcode, or None if the opcode is not listed.
 abbrev pub by_opcode : Opcode → Option Row
 by_opcode o = first (has_opcode o) table
 
@@ -55,7 +56,7 @@ abbrev pub word_of_row : Option Row → List ℕ
 word_of_row None = []
 word_of_row (Some r) = r.word
 
--- the word of an opcode, empty where it is not listed
+-- The word of an opcode, empty if the opcode is not listed.
 abbrev pub word_of : Opcode → List ℕ
 word_of o = word_of_row (by_opcode o)
 
@@ -63,7 +64,7 @@ abbrev pub role_of_row : Option Row → Role
 role_of_row None = Plain
 role_of_row (Some r) = r.role
 
--- how an opcode stands to the blocks around it
+-- The role of an opcode in the nesting of blocks, `Plain` if the opcode is not listed.
 abbrev pub role_of : Opcode → Role
 role_of o = role_of_row (by_opcode o)
 
@@ -71,7 +72,7 @@ abbrev pub shape_of_row : Option Row → Option Shape
 shape_of_row None = None
 shape_of_row (Some r) = Some r.shape
 
--- the shape of the immediates of an opcode, if it is listed
+-- The shape of the immediates of an opcode, or None if the opcode is not listed.
 abbrev pub shape_of : Opcode → Option Shape
 shape_of o = shape_of_row (by_opcode o)
 
@@ -79,6 +80,6 @@ abbrev pub arity_of_row : Option Row → Option Arity
 arity_of_row None = None
 arity_of_row (Some r) = Some r.arity
 
--- the arity of an opcode, if it is listed
+-- The arity of an opcode, or None if the opcode is not listed.
 abbrev pub arity_of : Opcode → Option Arity
 arity_of o = arity_of_row (by_opcode o)

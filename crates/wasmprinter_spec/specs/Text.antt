@@ -1,4 +1,4 @@
--- How text writes the parts of a module (sections 6.3 to 6.6 of the standard).
+-- How the text format represents the parts of a module (sections 6.3 to 6.6 of the standard).
 pub mod Items
 pub mod Types
 pub mod TypeUses

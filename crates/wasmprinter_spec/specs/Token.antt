@@ -1,6 +1,6 @@
--- From the bytes of a text to its tokens (sections 6.2 and 6.3 of the standard). `lex` goes over
--- the bytes once; its mode says what stands open. Two tokens that touch are one reserved token in the standard: here `reserved`
--- stands between them. A reserved token may stand in an annotation alone, and what is `bad` nowhere.
+-- From the bytes of a text to its tokens (sections 6.2 and 6.3 of the standard). `lex` goes over the bytes once;
+-- its mode says what is open. In the standard, two tokens that touch are one reserved token: here a `reserved`
+-- token is inserted between them. A reserved token may occur only in an annotation, and `bad` nowhere.
 use Rattle.std.specs.Prelude.{ℕ, zero, suc, ◌+◌, ◌*◌, ◌==◌, Bool, true, false, ◌||◌, nat_lt, List, [], ◌∷◌, ◌++◌, Option, Some, None, encode_utf8, if◌then◌else◌}
 use Rattle.std.specs.Char.{digit_value}
 use Rattle.std.specs.Str.{is_utf8}
@@ -8,33 +8,35 @@ use Rattle.std.proofs.Math.Utf8.{scalar}
 use Rattle.wasmprinter_spec.specs.Character.{Class, Space, Tab, Feed, Left, Right, Semicolon, Quote, Backslash, Dollar, At, Plain, Reserved, Control, Foreign, class}
 use Rattle.wasmprinter_spec.specs.Numeral.{numeral}
 
+-- A token of a text.
 pub data Token : Type 0 where
   left : Token
-  left_note : List ℕ → Token  -- the beginning of an annotation: `(@`, and its name
+  left_note : List ℕ → Token  -- the start of an annotation: `(@`, and its name
   right : Token
-  word : List ℕ → Token  -- a keyword or a number, or any run of identifier characters that is neither
-  name : List ℕ → Token  -- an identifier, by its content: $a and $"a" are one
+  word : List ℕ → Token  -- a keyword, a number, or any other run of identifier characters
+  name : List ℕ → Token  -- an identifier, by its content: $a and $"a" are equal
   string : List ℕ → Token
   reserved : Token
   bad : Token
 
--- what a run of identifier characters or a quoted text makes
+-- The kind of token that a run of identifier characters or a quoted string becomes.
 pub data RunKind : Type 0 where
   AsWord : RunKind
   AsName : RunKind
   AsNote : RunKind
   AsString : RunKind
 
+-- The state between two bytes of a text: which token or comment is open.
 pub data Mode : Type 0 where
-  Clear : Mode  -- a token may begin
-  Tight : Mode  -- behind a quoted text, which a token must not touch
+  Clear : Mode  -- a token may begin here
+  Tight : Mode  -- after a quoted string, which a token must not touch
   InRun : RunKind → List ℕ → Mode
   AfterDollar : Mode
   AfterLeft : Mode
   AfterLeftAt : Mode
   AfterSemicolon : Mode
-  InLine : Mode  -- in a comment to the end of the line
-  InBlock : ℕ → Mode  -- in a comment, and how many comments are open around it
+  InLine : Mode  -- in a line comment
+  InBlock : ℕ → Mode  -- in a block comment, inside this number of others
   InBlockLeft : ℕ → Mode
   InBlockSemicolon : ℕ → Mode
   InQuoted : RunKind → List ℕ → Mode
@@ -46,14 +48,14 @@ pub data Mode : Type 0 where
 abbrev pub Next : Type 0
 Next = Mode → List Token
 
--- a run of identifier characters
+-- The token of a run of identifier characters.
 abbrev pub run_token : RunKind → List ℕ → Token
 run_token AsWord s = word s
 run_token AsName s = name s
 run_token AsNote s = left_note s
 run_token AsString s = bad
 
--- what identifiers and the names of annotations hold in quotes: some UTF-8
+-- The quoted content of an identifier or of an annotation's name: UTF-8, not empty.
 abbrev pub is_name : List ℕ → Bool
 is_name [] = false
 is_name (b ∷ bs) = is_utf8 (b ∷ bs)
@@ -64,7 +66,7 @@ quoted_tokens AsName s ts = (if is_name s then name s else reserved) ∷ ts
 quoted_tokens AsNote s ts = if is_name s then left_note s ∷ ts else left ∷ (reserved ∷ ts)
 quoted_tokens AsString s ts = string s ∷ ts
 
--- ---- between tokens
+-- ---- Between tokens
 
 abbrev pub clear : Class → ℕ → Next → List Token
 clear Space b k = k Clear
@@ -82,7 +84,7 @@ clear Reserved b k = reserved ∷ k Tight
 clear Control b k = bad ∷ k Clear
 clear Foreign b k = bad ∷ k Clear
 
--- a token may end before it
+-- A token may end before a byte of this class.
 abbrev pub delimits : Class → Bool
 delimits Space = true
 delimits Tab = true
@@ -92,7 +94,7 @@ delimits Right = true
 delimits Semicolon = true
 delimits _ = false
 
--- directly behind another token
+-- A byte directly after another token; `reserved` comes first unless the byte delimits the token.
 abbrev pub touch : Bool → Class → ℕ → Next → List Token
 touch true c b k = clear c b k
 touch false c b k = reserved ∷ clear c b k
@@ -104,7 +106,7 @@ in_run p s At b k = k (InRun p (s ++ (b ∷ [])))
 in_run p s Plain b k = k (InRun p (s ++ (b ∷ [])))
 in_run p s c b k = run_token p s ∷ touch (delimits c) c b k
 
--- behind a dollar sign, which stands alone where no identifier follows
+-- After a dollar sign, which is a reserved token if no identifier follows.
 abbrev pub after_dollar : Class → ℕ → Next → List Token
 after_dollar Quote b k = k (InQuoted AsName [])
 after_dollar Backslash b k = k (InRun AsName (b ∷ []))
@@ -118,7 +120,7 @@ after_left Semicolon b k = k (InBlock 0)
 after_left At b k = k AfterLeftAt
 after_left c b k = left ∷ clear c b k
 
--- behind `(@`, which is a parenthesis and a sign that stands alone where no name follows
+-- After `(@`, which is a parenthesis and a reserved token if no name follows.
 abbrev pub after_left_at : Class → ℕ → Next → List Token
 after_left_at Quote b k = k (InQuoted AsNote [])
 after_left_at Backslash b k = k (InRun AsNote (b ∷ []))
@@ -127,7 +129,7 @@ after_left_at At b k = k (InRun AsNote (b ∷ []))
 after_left_at Plain b k = k (InRun AsNote (b ∷ []))
 after_left_at c b k = left ∷ (reserved ∷ clear c b k)
 
--- ---- comments
+-- ---- Comments
 
 abbrev pub after_semicolon : Class → ℕ → Next → List Token
 after_semicolon Semicolon b k = k InLine
@@ -157,7 +159,7 @@ in_block_semicolon n Semicolon k = k (InBlockSemicolon n)
 in_block_semicolon n Left k = k (InBlockLeft n)
 in_block_semicolon n _ k = k (InBlock n)
 
--- ---- quoted texts
+-- ---- Quoted strings
 
 abbrev pub in_quoted : RunKind → List ℕ → Class → ℕ → Next → List Token
 in_quoted p s Quote b k = quoted_tokens p s (k Tight)
@@ -168,12 +170,12 @@ in_quoted p s Tab b k = bad ∷ k Clear
 in_quoted p s _ b k = k (InQuoted p (s ++ (b ∷ [])))
 
 pub data Escape : Type 0 where
-  Char : ℕ → Escape  -- a letter or a sign that stands for a character
+  Char : ℕ → Escape  -- a letter or a sign that represents a character
   Digit : ℕ → Escape  -- a hexadecimal digit
   Braced : Escape  -- a number in braces follows
   Wrong : Escape
 
--- what stands behind a backslash
+-- The meaning of the byte after a backslash.
 unfoldable pub escape : ℕ → Escape
 escape b =
     if b == 117 then Braced else
@@ -187,7 +189,7 @@ in_escape p s (Digit h) k = k (InHex p s h)
 in_escape p s Braced k = k (BeforeBrace p s)
 in_escape p s Wrong k = bad ∷ k Clear
 
--- the second hexadecimal digit of a byte
+-- The second hexadecimal digit of a byte.
 abbrev pub in_hex : RunKind → List ℕ → ℕ → Bool → ℕ → Next → List Token
 in_hex p s h true b k = k (InQuoted p (s ++ ((h * 16 + digit_value b) ∷ [])))
 in_hex p s h false b k = bad ∷ k Clear
@@ -208,7 +210,7 @@ abbrev pub in_brace : RunKind → List ℕ → List ℕ → Bool → ℕ → Nex
 in_brace p s d true b k = end_brace p s (numeral 16 d) k
 in_brace p s d false b k = k (InBrace p s (d ++ (b ∷ [])))
 
--- ---- all modes
+-- ---- All modes
 
 abbrev pub step : Mode → ℕ → Next → List Token
 step Clear b k = clear (class b) b k
@@ -228,7 +230,7 @@ step (InHex p s h) b k = in_hex p s h (nat_lt (digit_value b) 16) b k
 step (BeforeBrace p s) b k = before_brace p s (b == 123) k
 step (InBrace p s d) b k = in_brace p s d (b == 125) b k
 
--- what stands open at the end of the text
+-- The last tokens of a text, by the mode at its end.
 abbrev pub finish : Mode → List Token
 finish Clear = []
 finish Tight = []
@@ -240,9 +242,11 @@ finish AfterSemicolon = reserved ∷ []
 finish InLine = []
 finish _ = bad ∷ []
 
+-- The tokens of the bytes, which begin in this mode.
 unfoldable pub lex : Mode → List ℕ → List Token
 lex m [] = finish m
 lex m (b ∷ bs) = step m b (λ next. lex next bs)
 
+-- The tokens of a text.
 abbrev pub tokens : List ℕ → List Token
 tokens text = lex Clear text

@@ -1,7 +1,7 @@
 -- Types (section 2.3 of the standard): value types, composite types, and subtypes in their groups.
 use Rattle.std.specs.Prelude.{ℕ, List, [], ◌∷◌, ◌++◌, Bool, true, Option, Some, None, slice_get}
 
--- the abstract heap types, and a type by its index
+-- A heap type: an abstract one, or a type by its index.
 pub data HeapType : Type 0 where
   Exn : HeapType
   Array : HeapType
@@ -11,12 +11,13 @@ pub data HeapType : Type 0 where
   Any : HeapType
   Extern : HeapType
   Func : HeapType
-  NoAny : HeapType  -- the text writes it `none`
+  NoAny : HeapType  -- `none` in the text format
   NoExtern : HeapType
   NoFunc : HeapType
   NoExn : HeapType
   Index : ℕ → HeapType
 
+-- A reference type: whether it is nullable, and its heap type.
 pub record RefType : Type 0 where
   pub nullable : Bool
   pub heap : HeapType
@@ -24,6 +25,7 @@ pub record RefType : Type 0 where
 abbrev pub ref_type : Bool → HeapType → RefType
 ref_type null h = record { nullable = null; heap = h }
 
+-- A value type: a number type, the vector type, or a reference type.
 pub data ValType : Type 0 where
   I32 : ValType
   I64 : ValType
@@ -32,12 +34,13 @@ pub data ValType : Type 0 where
   V128 : ValType
   Ref : RefType → ValType
 
--- what a field of a structure or an array holds: a value, or an integer that is packed
+-- A storage type, of a field of a structure or an array: a value type or a packed integer type.
 pub data StorageType : Type 0 where
   Val : ValType → StorageType
   I8 : StorageType
   I16 : StorageType
 
+-- A field type: a storage type, and whether the field is mutable.
 pub record FieldType : Type 0 where
   pub storage : StorageType
   pub mutable : Bool
@@ -45,15 +48,18 @@ pub record FieldType : Type 0 where
 abbrev pub field_type : Bool → StorageType → FieldType
 field_type mut s = record { storage = s; mutable = mut }
 
+-- A function type: the types of its parameters and of its results.
 pub record FuncType : Type 0 where
   pub params : List ValType
   pub results : List ValType
 
+-- A composite type: a function type, an array type or a structure type.
 pub data CompositeType : Type 0 where
   FuncComposite : FuncType → CompositeType
   ArrayComposite : FieldType → CompositeType
   StructComposite : List FieldType → CompositeType
 
+-- A subtype: whether it is final, the indices of its supertypes, and a composite type.
 pub record SubType : Type 0 where
   pub final : Bool
   pub supertypes : List ℕ
@@ -62,13 +68,13 @@ pub record SubType : Type 0 where
 abbrev pub sub_type : Bool → List ℕ → CompositeType → SubType
 sub_type final supers c = record { final = final; supertypes = supers; composite = c }
 
--- a composite type by itself is final and has no supertype
+-- A composite type by itself is final and has no supertypes.
 abbrev pub final_type : CompositeType → SubType
 final_type c = sub_type true [] c
 
--- ---- what is not in the type section
+-- ---- Types outside the type section
 
--- the least size, and the greatest if there is one
+-- Limits: the minimum size, and the maximum size if there is one.
 pub record Limits : Type 0 where
   pub min : ℕ
   pub max : Option ℕ
@@ -76,8 +82,8 @@ pub record Limits : Type 0 where
 abbrev pub limits_of : ℕ → Option ℕ → Limits
 limits_of min max = record { min = min; max = max }
 
--- A memory: whether its addresses have 64 bits, whether threads may share it, its size in pages, and the exponent of the size of a page.
--- (No exponent is another thing than 16, which means the same size.)
+-- A memory type: whether addresses have 64 bits, whether threads may share the memory, its size in pages, and the
+-- exponent of the page size. (No exponent and the exponent 16 are different values with the same page size.)
 pub record MemoryType : Type 0 where
   pub wide : Bool
   pub shared : Bool
@@ -87,7 +93,7 @@ pub record MemoryType : Type 0 where
 abbrev pub memory_type_of : Bool → Bool → Limits → Option ℕ → MemoryType
 memory_type_of wide shared l page = record { wide = wide; shared = shared; limits = l; page = page }
 
--- a table: whether its indices have 64 bits, its size, and what it holds
+-- A table type: whether indices have 64 bits, the size, and the type of the elements.
 pub record TableType : Type 0 where
   pub wide : Bool
   pub limits : Limits
@@ -96,6 +102,7 @@ pub record TableType : Type 0 where
 abbrev pub table_type_of : Bool → Limits → RefType → TableType
 table_type_of wide l t = record { wide = wide; limits = l; element = t }
 
+-- A global type: whether the global is mutable, and its value type.
 pub record GlobalType : Type 0 where
   pub mutable : Bool
   pub type : ValType
@@ -103,7 +110,7 @@ pub record GlobalType : Type 0 where
 abbrev pub global_type_of : Bool → ValType → GlobalType
 global_type_of mut t = record { mutable = mut; type = t }
 
--- what can be imported and exported (section 2.3.16 of the standard, "External Types")
+-- A kind of items that can be imported and exported (section 2.3.16 of the standard, "External Types").
 pub data ExternKind : Type 0 where
   FuncKind : ExternKind
   TableKind : ExternKind
@@ -111,7 +118,7 @@ pub data ExternKind : Type 0 where
   GlobalKind : ExternKind
   TagKind : ExternKind
 
--- what is imported, functions and tags by the index of their type
+-- The type of an import. A function or a tag has the index of its type.
 pub data ExternType : Type 0 where
   FuncExtern : ℕ → ExternType
   TableExtern : TableType → ExternType
@@ -119,13 +126,13 @@ pub data ExternType : Type 0 where
   GlobalExtern : GlobalType → ExternType
   TagExtern : ℕ → ExternType
 
--- ---- types by their indices
+-- ---- Types by their indices
 
 abbrev pub concat : {A : Type 0} → List (List A) → List A
 concat [] = []
 concat (xs ∷ xss) = xs ++ concat xss
 
--- the types of all groups: their places are the type indices
+-- The types of all groups. The position of a type in this list is its type index.
 abbrev pub all_types : List (List SubType) → List SubType
 all_types groups = concat groups
 
@@ -137,7 +144,7 @@ abbrev pub signature_of : Option SubType → Option FuncType
 signature_of None = None
 signature_of (Some t) = func_type_of t.composite
 
--- the function type with an index: none where there is no such type, or it is of another kind
+-- The function type with index i; None if there is no such type, or if it is not a function type.
 abbrev pub signature_at : List SubType → ℕ → Option FuncType
 signature_at types i = signature_of (slice_get types i)
 
@@ -149,6 +156,6 @@ abbrev pub structure_of : Option SubType → Option (List FieldType)
 structure_of None = None
 structure_of (Some t) = fields_of t.composite
 
--- the fields of the structure type with an index: none where there is no such type, or it is of another kind
+-- The fields of the structure type with index i; None if there is no such type, or if it is not a structure type.
 abbrev pub fields_at : List SubType → ℕ → Option (List FieldType)
 fields_at types i = structure_of (slice_get types i)

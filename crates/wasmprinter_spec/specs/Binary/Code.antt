@@ -1,4 +1,4 @@
--- The code section (section 5.5 of the standard, "Code Section"): a list of bodies of functions, each behind its size.
+-- The code section (section 5.5 of the standard, "Code Section"): a list of function bodies, each after its size.
 use Rattle.std.specs.Prelude.{List}
 use Rattle.wasmprinter_spec.specs.Grammar.{Grammar, Remainder, seq, map_value, Placed, value_with_place}
 use Rattle.wasmprinter_spec.specs.Sized.{exactly, alone}
@@ -14,11 +14,11 @@ local_entry = map_value (λ x. record { count = x.0; type = x.1 }) (seq u32 (λ 
 abbrev pub body_from : List (Placed LocalEntry) → Closed (Placed Operator) → Body
 body_from locals code = record { locals = locals; operators = code.items; end = code.end }
 
--- locals and an expression
+-- A function body: locals and an expression.
 abbrev pub body : Grammar Body
 body = map_value (λ x. body_from x.0 x.1) (seq (vec (value_with_place local_entry)) (λ _. expression))
 
--- a size, and a body of exactly so many bytes
+-- A size, and a body of exactly that many bytes.
 abbrev pub code_entry : Grammar (Placed Body)
 code_entry = map_value (λ x. x.1) (seq u32 (λ size. exactly (alone (value_with_place body)) size))
 

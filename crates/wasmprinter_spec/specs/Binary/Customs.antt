@@ -1,4 +1,5 @@
--- Custom sections (section 5.5 of the standard, "Custom Section"): a name, and bytes that the standard gives no meaning.
+-- Custom sections (section 5.5 of the standard, "Custom Section"): a name, and bytes to which the standard gives
+-- no meaning.
 use Rattle.std.specs.Prelude.{Some}
 use Rattle.wasmprinter_spec.specs.Grammar.{Remainder, Placed}
 use Rattle.wasmprinter_spec.specs.Sized.{seq_to_end, remaining_bytes, try_map_by_end, whole_with_place}

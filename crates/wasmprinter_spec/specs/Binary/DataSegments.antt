@@ -8,11 +8,12 @@ use Rattle.wasmprinter_spec.specs.Operator.{Operator}
 use Rattle.wasmprinter_spec.specs.Placed.{DataMode, PassiveData, ActiveData, Data, data_of}
 use Rattle.wasmprinter_spec.specs.Instructions.{constant}
 
--- a length and so many bytes
+-- A length n, and then n bytes.
 abbrev pub byte_vec : Grammar (List ℕ)
 byte_vec = map_value (λ x. x.1) (seq u32 (λ n. take_bytes n))
 
--- behind the flags: 0 active in memory 0, 1 passive, 2 active in a memory that is named
+-- The mode of a data segment after the flags: 0 is active in memory 0, 1 is passive, 2 is active in a memory whose
+-- index follows.
 abbrev pub data_mode : ℕ → Grammar (DataMode (Placed Operator))
 data_mode flags =
     choose (flags == 0) (map_value (ActiveData 0) constant)

@@ -10,19 +10,19 @@ use Rattle.wasmprinter_spec.specs.Placed.{ElementMode, Passive, Declared, Active
 use Rattle.wasmprinter_spec.specs.Instructions.{constant}
 use Rattle.wasmprinter_spec.specs.Binary.ValTypes.{reference_type}
 
--- table 0, which the bytes don't write, and an offset
+-- Active in table 0, which the bytes omit; an offset.
 abbrev pub active : Grammar (ElementMode (Placed Operator))
 active = map_value (λ offset. Active 0 offset) constant
 
--- a table and an offset
+-- Active: a table and an offset.
 abbrev pub active_in : Grammar (ElementMode (Placed Operator))
 active_in = map_value (λ (table, offset). Active table offset) (seq u32 (λ _. constant))
 
--- indices of functions
+-- Function indices.
 abbrev pub function_items : Grammar (Items (Placed Operator))
 function_items = map_value Functions (vec u32)
 
--- behind the byte 00, the kind of functions
+-- Function indices after the byte 00, the element kind of functions.
 abbrev pub items_of_kind : Grammar (Items (Placed Operator))
 items_of_kind = map_value (λ x. x.1) (seq (only 0x00) (λ _. function_items))
 
@@ -35,8 +35,8 @@ items_of_type = map_value (λ x. x.1) (seq reference_type expression_items)
 abbrev pub segment : Bool → Grammar (ElementMode (Placed Operator)) → Grammar (Items (Placed Operator)) → Grammar ElementEntry
 segment names modes contents = map_value (λ (mode, items). entry_of names (element_of mode items)) (seq modes (λ _. contents))
 
--- Behind the flags: bit 0 says that the segment is not active, bit 1 that it is declared or that it names its table, bit 2
--- that its items are expressions.
+-- An element segment after the flags: bit 0 says that the segment is not active, bit 1 that it is declarative or
+-- that it names its table, bit 2 that its items are expressions.
 abbrev pub element_behind : ℕ → Grammar ElementEntry
 element_behind flags =
     choose (flags == 0) (segment false active function_items)

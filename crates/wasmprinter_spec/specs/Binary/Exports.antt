@@ -13,7 +13,7 @@ extern_kind_of b = lookup ((0x00, FuncKind) ∷ (0x01, TableKind) ∷ (0x02, Mem
 abbrev pub extern_kind : Grammar ExternKind
 extern_kind = try_map extern_kind_of byte
 
--- a name, a kind, an index
+-- An export: a name, a kind and an index.
 abbrev pub export : Grammar Export
 export =
     map_value (λ (name, (kind, index)). record { name = name; kind = kind; index = index }) (seq name (λ _. seq extern_kind (λ _. u32)))

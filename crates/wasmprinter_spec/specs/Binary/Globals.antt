@@ -1,5 +1,5 @@
--- How bytes spell the types of globals (section 5.3 of the standard, "Global Types"), and the global section (section 5.5, "Global
--- Section"): a list of globals with their initialisers.
+-- How bytes encode global types (section 5.3 of the standard, "Global Types"), and the global section (section
+-- 5.5, "Global Section"): a list of globals with their initialisers.
 use Rattle.std.specs.Prelude.{List}
 use Rattle.wasmprinter_spec.specs.Grammar.{Grammar, Remainder, seq, map_value, Placed, value_with_place}
 use Rattle.wasmprinter_spec.specs.Sized.{alone}

@@ -1,4 +1,5 @@
--- The import section (section 5.5 of the standard, "Import Section"): a list of imports, each two names and what is imported.
+-- The import section (section 5.5 of the standard, "Import Section"): a list of imports, each with two names and
+-- an external type.
 use Rattle.std.specs.Prelude.{ℕ, List, ◌==◌}
 use Rattle.wasmprinter_spec.specs.Grammar.{Grammar, Remainder, seq, map_value, fail, choose, Placed, value_with_place}
 use Rattle.wasmprinter_spec.specs.FirstByte.{behind_first_byte}
@@ -11,7 +12,7 @@ use Rattle.wasmprinter_spec.specs.Binary.Tables.{table_type}
 use Rattle.wasmprinter_spec.specs.Binary.Globals.{global_type}
 use Rattle.wasmprinter_spec.specs.Binary.Tags.{tag}
 
--- behind the byte of the kind (section 5.3, "External Types")
+-- An external type after the byte of its kind (section 5.3, "External Types").
 abbrev pub extern_type_behind : ℕ → Grammar ExternType
 extern_type_behind kind =
     choose (kind == 0) (map_value FuncExtern u32)

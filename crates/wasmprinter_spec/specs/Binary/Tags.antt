@@ -1,4 +1,5 @@
--- The tag section (section 5.5 of the standard, "Tag Section"): a list of tags, each a byte 00 and the index of its type.
+-- The tag section (section 5.5 of the standard, "Tag Section"): a list of tags, each a byte 00 and the index of
+-- its type.
 use Rattle.std.specs.Prelude.{ℕ, List}
 use Rattle.wasmprinter_spec.specs.Grammar.{Grammar, Remainder, seq, map_value, Placed, value_with_place}
 use Rattle.wasmprinter_spec.specs.FirstByte.{only}

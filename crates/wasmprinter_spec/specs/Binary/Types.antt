@@ -1,5 +1,5 @@
--- How bytes spell composite types, subtypes and their groups (section 5.3 of the standard), and the type section (section 5.5,
--- "Type Section"): a list of groups.
+-- How bytes encode composite types, subtypes and their groups (section 5.3 of the standard), and the type section
+-- (section 5.5, "Type Section"): a list of groups.
 use Rattle.std.specs.Prelude.{ℕ, List, [], ◌∷◌, Bool, true, false, ◌==◌, is_some, Option}
 use Rattle.wasmprinter_spec.specs.Grammar.{Grammar, Remainder, byte, seq, try_map, map_value, fail, choose, Placed, value_with_place}
 use Rattle.wasmprinter_spec.specs.FirstByte.{behind_first_byte}
@@ -12,25 +12,25 @@ use Rattle.wasmprinter_spec.specs.Placed.{TypeGroup, type_group}
 abbrev pub packed_type_of : ℕ → Option StorageType
 packed_type_of b = lookup ((0x78, I8) ∷ (0x77, I16) ∷ []) b
 
--- behind its first byte: a packed type, or a value type
+-- A storage type after its first byte: a packed type, or a value type.
 abbrev pub storage_type_behind : ℕ → Grammar StorageType
 storage_type_behind b = choose (is_some (packed_type_of b)) (value_if_any (packed_type_of b)) (map_value Val (val_type_behind b))
 
 abbrev pub storage_type : Grammar StorageType
 storage_type = behind_first_byte storage_type_behind
 
--- whether a field can be changed
+-- Whether a field or a global is mutable.
 abbrev pub mutability : Grammar Bool
 mutability = try_map (λ b. lookup ((0x00, false) ∷ (0x01, true) ∷ []) b) byte
 
 abbrev pub field : Grammar FieldType
 field = map_value (λ x. field_type x.1 x.0) (seq storage_type (λ _. mutability))
 
--- the parameters, the results
+-- A function type: the parameters, and then the results.
 abbrev pub signature : Grammar FuncType
 signature = map_value (λ x. record { params = x.0; results = x.1 }) (seq (vec val_type) (λ _. vec val_type))
 
--- behind its first byte: 5E and a field, 5F and fields, 60 and a signature
+-- A composite type after its first byte: 5E and a field, 5F and fields, or 60 and a function type.
 abbrev pub composite_behind : ℕ → Grammar CompositeType
 composite_behind b =
     choose (b == 0x5e) (map_value ArrayComposite field)
@@ -40,11 +40,12 @@ composite_behind b =
 abbrev pub composite : Grammar CompositeType
 composite = behind_first_byte composite_behind
 
--- supertypes, and a composite type
+-- Supertypes, and a composite type.
 abbrev pub sub_type_parts : Bool → Grammar SubType
 sub_type_parts final = map_value (λ x. sub_type final x.0 x.1) (seq (vec u32) (λ _. composite))
 
--- behind its first byte: 50 where it is not final, 4F where it is, or a composite type, which is final and has no supertypes
+-- A subtype after its first byte: 50 if it is not final, 4F if it is; or a composite type, which is final and has
+-- no supertypes.
 abbrev pub sub_type_behind : ℕ → Grammar SubType
 sub_type_behind b =
     choose (b == 0x50) (sub_type_parts false)
@@ -54,7 +55,7 @@ sub_type_behind b =
 abbrev pub subtype : Grammar SubType
 subtype = behind_first_byte sub_type_behind
 
--- behind its first byte: 4E and types, or a type by itself
+-- A group after its first byte: 4E and a list of types, or a single type by itself.
 abbrev pub group_behind : ℕ → Grammar TypeGroup
 group_behind b =
     choose (b == 0x4e) (map_value (type_group true) (vec subtype))

@@ -1,11 +1,11 @@
--- How bytes spell heap types, reference types and value types (section 5.3 of the standard).
+-- How bytes encode heap types, reference types and value types (section 5.3 of the standard).
 use Rattle.std.specs.Prelude.{ℕ, ℤ, pos, negsuc, List, [], ◌∷◌, Bool, true, false, ◌||◌, ◌==◌, is_some, cond, Option, Some, None}
 use Rattle.wasmprinter_spec.specs.Grammar.{Grammar, byte, try_map, map_value, succeed, fail, choose}
 use Rattle.wasmprinter_spec.specs.FirstByte.{behind_first_byte, by_first_byte}
 use Rattle.wasmprinter_spec.specs.Leb.{signed}
 use Rattle.wasmprinter_spec.specs.Types.{HeapType, Exn, Array, Struct, I31, Eq, Any, Extern, Func, NoAny, NoExtern, NoFunc, NoExn, Index, RefType, ref_type, ValType, I32, I64, F32, F64, V128, Ref}
 
--- what this byte stands for
+-- The value that the rows give for this byte, or None if no row has it.
 abbrev pub lookup : {A : Type 0} → List (ℕ × A) → ℕ → Option A
 lookup [] b = None
 lookup (row ∷ rows) b = cond (b == row.0) (Some row.1) (lookup rows b)
@@ -23,23 +23,25 @@ abbrev pub non_negative : ℤ → Option ℕ
 non_negative (pos n) = Some n
 non_negative (negsuc n) = None
 
--- A type index where bytes of types may stand too: those are negative as signed numbers.
+-- A type index, encoded as a signed integer of 33 bits that is not negative. As signed integers, the bytes of
+-- types are negative, so that the two are distinct.
 abbrev pub signed_index : Grammar ℕ
 signed_index = try_map non_negative (signed 33)
 
--- the value, if there is one, and no byte
+-- The value, encoded by the empty byte string. If there is no value, no bytes encode anything.
 abbrev pub value_if_any : {A : Type 0} → Option A → Grammar A
 value_if_any None = fail
 value_if_any (Some a) = succeed a
 
--- the byte of an abstract heap type, or a type index
+-- A heap type, by its first byte: the byte of an abstract heap type, or a type index.
 abbrev pub heap_type_by : ℕ → Grammar HeapType
 heap_type_by b = choose (is_some (abstract_heap_of b)) (try_map abstract_heap_of byte) (map_value Index signed_index)
 
 abbrev pub heap_type : Grammar HeapType
 heap_type = by_first_byte heap_type_by
 
--- behind its first byte: 64 and a heap type, 63 and a heap type that may be null, or an abstract heap type that may be null
+-- A reference type after its first byte: 64 and a heap type; 63 and a heap type, nullable; or an abstract heap
+-- type, nullable.
 abbrev pub ref_type_behind : ℕ → Grammar RefType
 ref_type_behind b =
     choose (b == 0x64) (map_value (ref_type false) heap_type)
@@ -49,13 +51,13 @@ ref_type_behind b =
 abbrev pub reference_type : Grammar RefType
 reference_type = behind_first_byte ref_type_behind
 
--- behind its first byte: a number or vector type, or a reference type
+-- A value type after its first byte: a number type, the vector type, or a reference type.
 abbrev pub val_type_behind : ℕ → Grammar ValType
 val_type_behind b = choose (is_some (number_type_of b)) (value_if_any (number_type_of b)) (map_value Ref (ref_type_behind b))
 
 abbrev pub val_type : Grammar ValType
 val_type = behind_first_byte val_type_behind
 
--- a value type begins with this byte
+-- A value type begins with this byte.
 abbrev pub begins_val_type : ℕ → Bool
 begins_val_type b = is_some (number_type_of b) || ((b == 0x64) || ((b == 0x63) || is_some (abstract_heap_of b)))

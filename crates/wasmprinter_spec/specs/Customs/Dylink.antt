@@ -1,11 +1,12 @@
--- The section `dylink.0` (tool conventions, "Dynamic Linking"): subsections, each an id, a size and so many bytes.
+-- The section `dylink.0` (tool conventions, "Dynamic Linking"): subsections, each an id, a size and that many
+-- bytes.
 use Rattle.std.specs.Prelude.{ℕ, List, [], ◌∷◌, Bool, ◌||◌, ◌==◌, length, Option, Some, None}
 use Rattle.wasmprinter_spec.specs.Grammar.{Input, Grammar, Placed, value_with_place, byte, seq, map_value, choose}
 use Rattle.wasmprinter_spec.specs.Sized.{take_bytes, alone, exactly}
 use Rattle.wasmprinter_spec.specs.Name.{u32, vec, name}
 use Rattle.wasmprinter_spec.specs.Lenient.{Lenient, one, repeat, unless_ended}
 
--- what a module wants of memory and of the table: sizes, and alignments as powers of two
+-- The memory and the table space that a module needs: sizes, and alignments as powers of two.
 pub record MemInfo : Type 0 where
   pub memory_size : ℕ
   pub memory_alignment : ℕ
@@ -27,7 +28,7 @@ pub data SubsectionContent : Type 0 where
   Exports : List ExportInfo → SubsectionContent
   Imports : List ImportInfo → SubsectionContent
   Paths : List (List ℕ) → SubsectionContent
-  Other : ℕ → SubsectionContent  -- of an id that isn't known
+  Other : ℕ → SubsectionContent  -- with an unknown id
 
 abbrev pub Subsection : Type 0
 Subsection = Placed SubsectionContent
@@ -49,7 +50,7 @@ abbrev pub import_info : Grammar ImportInfo
 import_info =
     map_value (λ (source, (name, flags)). record { source = source; name = name; flags = flags }) (seq name (λ _. seq name (λ _. u32)))
 
--- by the id; nothing else is known
+-- The content of a subsection with a known id.
 abbrev pub content_by_id : ℕ → Grammar SubsectionContent
 content_by_id id =
     choose (id == 1) (map_value Sizes mem_info)
@@ -61,22 +62,22 @@ content_by_id id =
 abbrev pub is_known : ℕ → Bool
 is_known id = (id == 1) || (id == 2) || (id == 3) || (id == 4) || (id == 5)
 
--- so many bytes: those of a known id hold just what it says, all others anything
+-- The content of `size` bytes: with a known id exactly the content of that id, with any other id any bytes.
 abbrev pub content : ℕ → ℕ → Grammar SubsectionContent
 content id size = choose (is_known id) (exactly (alone (content_by_id id)) size) (map_value (λ _. Other id) (take_bytes size))
 
 abbrev pub subsection : Grammar Subsection
 subsection = value_with_place (map_value (λ (_, (_, found)). found) (seq byte (λ id. seq u32 (λ size. content id size))))
 
--- a subsection, unless the bytes are at their end
+-- A subsection, unless no byte is left.
 abbrev pub one_subsection : Lenient Subsection
 one_subsection = unless_ended (one (λ s. s ∷ []) subsection)
 
--- subsections up to the end of the bytes, or to the first fault
+-- Subsections up to the end of the bytes, or to the first error; at most n.
 abbrev pub subsections : ℕ → Lenient Subsection
 subsections n = repeat one_subsection n
 
--- what the section is: the first subsection that isn't known, or the first fault, decides
+-- The result of reading the section. The first subsection with an unknown id, or the first error, decides.
 pub data Judged : Type 0 where
   Whole : List Subsection → Judged
   Unknown : ℕ → Judged

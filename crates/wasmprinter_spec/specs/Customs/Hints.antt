@@ -1,5 +1,5 @@
--- Branch hints (Code Metadata, a document beside the standard; branch hinting proposal): for functions, which
--- operators are likely to branch.
+-- Branch hints (Code Metadata, a document that accompanies the standard; branch hinting proposal): for functions,
+-- which operators are likely to branch.
 use Rattle.std.specs.Prelude.{ℕ, List, [], ◌∷◌, Bool, true, false, ◌==◌, nat_le, codes, bytes_eq, length, Option, Some, None, if◌then◌else◌}
 use Rattle.wasmprinter_spec.specs.Grammar.{Grammar, Remainder, input, Placed, value_with_place, byte, seq, map_value, try_map}
 use Rattle.wasmprinter_spec.specs.Sized.{alone}
@@ -7,12 +7,12 @@ use Rattle.wasmprinter_spec.specs.FirstByte.{only}
 use Rattle.wasmprinter_spec.specs.Name.{u32, vec}
 use Rattle.wasmprinter_spec.specs.Placed.{Custom, CustomEntry}
 
--- how far behind the body's first byte the operator stands, and whether it is likely to branch
+-- The offset of the operator from the first byte of the body, in bytes, and whether it is likely to branch.
 pub record Hint : Type 0 where
   pub offset : ℕ
   pub taken : Bool
 
--- the hints of a function
+-- The hints of a function.
 pub record FunctionHints : Type 0 where
   pub function : ℕ
   pub hints : List (Placed Hint)
@@ -20,12 +20,12 @@ pub record FunctionHints : Type 0 where
 abbrev pub flag : ℕ → Option Bool
 flag b = if b == 0 then Some false else (if b == 1 then Some true else None)
 
--- an offset, the byte 01, and a flag
+-- An offset, the byte 01, and a flag.
 abbrev pub hint : Grammar Hint
 hint =
     map_value (λ (offset, (_, taken)). record { offset = offset; taken = taken }) (seq u32 (λ _. seq (only 1) (λ _. try_map flag byte)))
 
--- more functions, or more hints in one, are taken for a fault
+-- The greatest number of functions, and that of hints in a function. More of either is an error.
 abbrev pub most_hinted_functions : ℕ
 most_hinted_functions = 1000000
 
@@ -42,17 +42,17 @@ function_hints =
 abbrev pub hint_section : Remainder (List FunctionHints)
 hint_section = alone (try_map (at_most most_hinted_functions) (vec function_hints))
 
--- ---- the hints of a module
+-- ---- The hints of a module
 
 abbrev pub or_none : {A : Type 0} → Option (List A) → List A
 or_none None = []
 or_none (Some xs) = xs
 
--- what the data gives: nothing where it has a fault
+-- The hints that the data gives, empty if the data has an error.
 abbrev pub hints_given : Placed (List ℕ) → List FunctionHints
 hints_given d = or_none (hint_section.parse (input d.place d.value))
 
--- the last section of this name counts
+-- The last section with this name, which is the one that counts.
 abbrev pub last_named : List ℕ → Option Custom → List CustomEntry → Option Custom
 last_named n last [] = last
 last_named n last (c ∷ cs) = last_named n (if bytes_eq c.section.value.name n then Some c.section.value else last) cs
@@ -61,12 +61,13 @@ abbrev pub hints_by : Option Custom → List FunctionHints
 hints_by None = []
 hints_by (Some c) = hints_given c.bytes
 
+-- The hints of a module: those of its last hint section.
 abbrev pub hints_of : List CustomEntry → List FunctionHints
 hints_of cs = hints_by (last_named (codes "metadata.code.branch_hint") None cs)
 
--- ---- which function and which operator takes which: each in order, so that one that none takes blocks those behind it
+-- ---- Functions and operators take hints in order: one that is not taken blocks the hints after it
 
--- the hints of the function with this number, if its entry is the next
+-- The hints of the function with index i, if its entry is the next.
 abbrev pub next_hints : ℕ → List FunctionHints → List (Placed Hint)
 next_hints i [] = []
 next_hints i (e ∷ es) = if e.function == i then e.hints else []
@@ -75,7 +76,7 @@ abbrev pub hints_behind : ℕ → List FunctionHints → List FunctionHints
 hints_behind i [] = []
 hints_behind i (e ∷ es) = if e.function == i then es else e ∷ es
 
--- the hint of the operator so far behind the body's first byte, if it is the next
+-- The hint of the operator at this offset from the body's first byte, if it is the next.
 abbrev pub next_hint : ℕ → List (Placed Hint) → Option (Placed Hint)
 next_hint offset [] = None
 next_hint offset (h ∷ hs) = if h.value.offset == offset then Some h else None

@@ -1,4 +1,5 @@
--- The section `producers` (tool conventions, "Producers Section"): fields, each with the names and versions of its values.
+-- The section `producers` (tool conventions, "Producers Section"): fields, each with the names and versions of its
+-- values.
 use Rattle.std.specs.Prelude.{ℕ, List, [], ◌∷◌, Bool, true, ◌&&◌}
 use Rattle.wasmprinter_spec.specs.Grammar.{Grammar, Remainder, Placed, value_with_place, seq, map_value}
 use Rattle.wasmprinter_spec.specs.Sized.{alone}
@@ -19,11 +20,11 @@ value = map_value (λ x. record { name = x.0; version = x.1 }) (seq name (λ _. 
 abbrev pub field : Grammar Field
 field = map_value (λ x. record { name = x.0; values = x.1 }) (seq name (λ _. vec (value_with_place value)))
 
--- all bytes
+-- The fields, which all bytes of the section encode.
 abbrev pub producers : Remainder (List Field)
 producers = alone (vec field)
 
--- each field has a name of identifier characters, one at least: then it can head a group
+-- The name of each field consists of identifier characters, at least one, so that it can begin a group.
 abbrev pub are_runs : List Field → Bool
 are_runs [] = true
 are_runs (f ∷ fs) = is_run f.name && are_runs fs

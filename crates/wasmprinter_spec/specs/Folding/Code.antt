@@ -1,5 +1,5 @@
--- Well-nested operators as a tree of blocks (section 5.4 of the standard, "Control Instructions"), without the
--- older `try`, which isn't folded.
+-- Well-nested operators as a tree of blocks (section 5.4 of the standard, "Control Instructions"), without legacy
+-- exception handling, which is not folded.
 use Rattle.std.specs.Prelude.{◌≡◌, ℕ, List, [], ◌∷◌, ◌++◌, map, Bool, true, false, Option, Some, None}
 use Rattle.std.specs.List.{AllByRecursion}
 use Rattle.wasmprinter_spec.specs.Grammar.{Placed, ◌>>=◌}
@@ -11,8 +11,9 @@ use Rattle.wasmprinter_spec.specs.Nesting.{Nests, Sequence}
 use Rattle.wasmprinter_spec.specs.Customs.Hints.{Hint}
 use Rattle.wasmprinter_spec.specs.Piece.{Piece}
 
--- an operator of a list: with its place, its word and immediates as they are printed, its hint if it has one, how many operands it takes,
--- and how many results it gives, where it opens a block those of the block
+-- An operator of a list, with its place, its word and immediates as they are printed, its hint if it has one, the
+-- number of operands that it takes, and the number of results that it gives. An operator that opens a block has
+-- the results of the block.
 pub record Item : Type 0 where
   pub operator : Placed Operator
   pub pieces : List Piece
@@ -20,8 +21,8 @@ pub record Item : Type 0 where
   pub takes : ℕ
   pub gives : ℕ
 
--- Operators whose blocks are closed. Each constructor is the first operator, and its last part is what stands behind it; between them what
--- the block holds, the `else` if there is one with what it holds, and the `end`.
+-- Operators whose blocks are closed. Each constructor is the first operator, and its last field is the code after
+-- it. Between them are the content of the block, the `else` and its content if there is one, and the `end`.
 pub data NestedCode : Type 0 where
   Done : NestedCode
   Plain : Item → NestedCode → NestedCode
@@ -29,7 +30,7 @@ pub data NestedCode : Type 0 where
   If : Item → NestedCode → Item → NestedCode → NestedCode
   IfElse : Item → NestedCode → Item → NestedCode → Item → NestedCode → NestedCode
 
--- the operators in order
+-- The operators in order.
 abbrev pub flat : NestedCode → List Item
 flat Done = []
 flat (Plain x rest) = x ∷ flat rest
@@ -37,11 +38,11 @@ flat (Block x body end rest) = x ∷ (flat body ++ end ∷ flat rest)
 flat (If x body end rest) = x ∷ (flat body ++ end ∷ flat rest)
 flat (IfElse x body turn other end rest) = x ∷ (flat body ++ turn ∷ (flat other ++ end ∷ flat rest))
 
--- how an operator stands to the blocks around it
+-- The role of an operator in the nesting of blocks.
 abbrev pub role : Item → Role
 role x = role_of x.operator.value.opcode
 
--- the operators of the older `try`
+-- The roles of legacy exception handling.
 abbrev pub is_try : Role → Bool
 is_try OpensTry = true
 is_try Catches = true
@@ -49,28 +50,29 @@ is_try CatchesAll = true
 is_try Delegates = true
 is_try _ = false
 
--- none of these is one of them
+-- No role is one of legacy exception handling.
 abbrev pub AreWithoutTry : List Role → Type 0
 AreWithoutTry rs = AllByRecursion (λ r. is_try r ≡ false) rs
 
--- ---- from the list to the tree, from right to left
+-- ---- From the list to the tree, from right to left
 
--- What stands behind a place in a list: no `end` that closes a block around the place; or the code up to such an `end`, the
--- `end`, and what stands behind it; or the code up to the `else` of such a block, the `else`, the code up to the `end`, the
--- `end`, and what stands behind it.
+-- The code after a position in a list. Outside: no `end` in it closes a block around the position. InBlock: the
+-- code up to such an `end`, the `end`, and the code after it. InIf: the code up to the `else` of such a block, the
+-- `else`, the code up to the `end`, the `end`, and the code after it.
 pub data Behind : Type 0 where
   Outside : NestedCode → Behind
   InBlock : NestedCode → Item → Behind → Behind
   InIf : NestedCode → Item → NestedCode → Item → Behind → Behind
 
--- with another code up to the first `else` or `end`
+-- f applied to the code up to the first `else` or `end`.
 abbrev pub with_code : (NestedCode → NestedCode) → Behind → Behind
 with_code f (Outside code) = Outside (f code)
 with_code f (InBlock code end behind) = InBlock (f code) end behind
 with_code f (InIf code turn other end behind) = InIf (f code) turn other end behind
 
--- One operator in front. An `end` closes a block that is still to come, an `else` stands in such a block, and what opens a block takes what
--- is there up to the `end`. The operators of the older `try` have no tree.
+-- One more operator before the code. An `end` closes a block whose start is still to come, an `else` is in such a
+-- block, and an operator that opens a block takes the code up to the `end`. Operators of legacy exception handling
+-- have no tree.
 abbrev pub in_front : Role → Item → Behind → Option Behind
 in_front row.Plain x behind = Some (with_code (Plain x) behind)
 in_front Ends x behind = Some (InBlock Done x behind)
@@ -80,21 +82,22 @@ in_front OpensIf x (InBlock code end behind) = Some (with_code (If x code end) b
 in_front OpensIf x (InIf code turn other end behind) = Some (with_code (IfElse x code turn other end) behind)
 in_front _ x behind = None
 
--- what stands in a list, behind the place in front of it
+-- The code of a list, after the position before its first operator.
 abbrev pub behind_of : List Item → Option Behind
 behind_of [] = Some (Outside Done)
 behind_of (x ∷ xs) = behind_of xs >>= in_front (role x) x
 
--- every `end` has found its block
+-- The code, if the block of every `end` was found.
 abbrev pub whole : Behind → Option NestedCode
 whole (Outside code) = Some code
 whole _ = None
 
--- the tree of a list of operators: none where they aren't well nested, or are those of the older `try`
+-- The tree of a list of operators. None if they are not well nested or if there is legacy exception handling among
+-- them.
 abbrev pub nested_code_of : List Item → Option NestedCode
 nested_code_of xs = behind_of xs >>= whole
 
--- each operator stands where its role has it
+-- Each operator has the role that its position in the tree needs.
 abbrev pub IsFit : NestedCode → Type 0
 IsFit Done = Unit {0}
 IsFit (Plain x rest) = (role x ≡ row.Plain) × IsFit rest
@@ -103,22 +106,23 @@ IsFit (If x body end rest) = (role x ≡ OpensIf) × IsFit body × (role end ≡
 IsFit (IfElse x body turn other end rest) =
     (role x ≡ OpensIf) × IsFit body × (role turn ≡ Turns) × IsFit other × (role end ≡ Ends) × IsFit rest
 
--- ---- laws
+-- ---- Laws
 
--- The tree of a list says the list, and each operator stands in it where its role has it.
+-- The tree of a list represents that list, and each operator has the role that its position needs.
 abbrev pub CodeRule : Type 0
 CodeRule = (xs : List Item) (code : NestedCode) → nested_code_of xs ≡ Some code → (flat code ≡ xs) × IsFit code
 
--- There is no other such tree.
+-- A tree in which each operator has the role that its position needs is the tree of the list that it represents.
+-- So a list has at most one such tree.
 abbrev pub UniqueCodeRule : Type 0
 UniqueCodeRule = (code : NestedCode) → IsFit code → nested_code_of (flat code) ≡ Some code
 
--- Operators that are well nested have a tree, where none of them is of the older `try`.
+-- Operators that are well nested and without legacy exception handling have a tree.
 abbrev pub NestedCodeRule : Type 0
 NestedCodeRule =
     (xs : List Item) → Nests Sequence (map role xs) → AreWithoutTry (map role xs) → (code : NestedCode) × (nested_code_of xs ≡ Some code)
 
--- What has a tree is well nested, and none of its operators is of the older `try`.
+-- Operators that have a tree are well nested and without legacy exception handling.
 abbrev pub NestingCodeRule : Type 0
 NestingCodeRule =
     (xs : List Item) (code : NestedCode) → nested_code_of xs ≡ Some code → Nests Sequence (map role xs) × AreWithoutTry (map role xs)

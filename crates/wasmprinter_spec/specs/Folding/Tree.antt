@@ -1,17 +1,19 @@
--- Nodes: what code folds into. A node is a pair of parentheses with an operator and its operands, with a block and what it holds, or with a
--- case of an `if`. Which operators take which nodes as operands is this printer's own rule.
+-- Nodes, into which code folds. A node is a pair of parentheses with an operator and its operands, with a block
+-- and its content, or with a case of an `if`. Which operators take which nodes as operands is this printer's own
+-- rule.
 use Rattle.std.specs.Prelude.{◌≡◌, ◌≢◌, ◌<◌, ℕ, zero, suc, ◌+◌, nat_lt, ◌==◌, Bool, true, false, if◌then◌else◌}
 use Rattle.wasmprinter_spec.specs.Folding.Arities.{greatest, saturating_sum}
 use Rattle.wasmprinter_spec.specs.Folding.Code.{Item, NestedCode, Done, Plain, Block, If, IfElse}
 
--- What stands first in a node: an operator, for a block the one that opens it; or the word `then` of this `if`; or this `else`.
+-- The head of a node: an operator, which for a block is the one that opens it; the word `then` of this `if`; or
+-- this `else`.
 pub data Head : Type 0 where
   Of : Item → Head
   ThenCase : Item → Head
   ElseCase : Item → Head
 
--- Nodes in a row, with heads of some kind. The last one stands behind the others, with its head, how many results it counts
--- for, and the nodes that it holds.
+-- Nodes in a row, with heads of type H. The last node comes after the others, with its head, the number of results
+-- that it counts for, and the nodes inside it.
 pub data NodesOf (H : Type 0) : Type 0 where
   Nil : NodesOf H
   Snoc : NodesOf H → H → ℕ → NodesOf H → NodesOf H
@@ -19,49 +21,49 @@ pub data NodesOf (H : Type 0) : Type 0 where
 abbrev pub Nodes : Type 0
 Nodes = NodesOf Head
 
--- whether there is no node
+-- There is no node.
 abbrev pub is_nil : {H : Type 0} → NodesOf H → Bool
 is_nil Nil = true
 is_nil (Snoc before head results held) = false
 
--- one row, and then another
+-- One row, and then another.
 abbrev pub row_of_both : {H : Type 0} → NodesOf H → NodesOf H → NodesOf H
 row_of_both a Nil = a
 row_of_both a (Snoc before head results held) = Snoc (row_of_both a before) head results held
 
--- all nodes but the last
+-- All nodes except the last.
 abbrev pub front : {H : Type 0} → NodesOf H → NodesOf H
 front Nil = Nil
 front (Snoc before head results held) = before
 
--- the last node, alone
+-- The last node alone.
 abbrev pub last : {H : Type 0} → NodesOf H → NodesOf H
 last Nil = Nil
 last (Snoc before head results held) = Snoc Nil head results held
 
--- how many nodes there are, at every depth
+-- The number of nodes, at every depth.
 abbrev pub count : {H : Type 0} → NodesOf H → ℕ
 count Nil = 0
 count (Snoc before head results held) = suc (count before + count held)
 
--- ---- operands
+-- ---- Operands
 
--- how the search for operands ends
+-- The result of the search for operands.
 pub data OperandsOf (H : Type 0) : Type 0 where
-  Fit : NodesOf H → NodesOf H → OperandsOf H  -- the nodes in front of them, and the operands
-  Passed : OperandsOf H  -- a sum passed what is wanted first
-  Short : OperandsOf H  -- no run has what is wanted
+  Fit : NodesOf H → NodesOf H → OperandsOf H  -- the nodes before the operands, and the operands
+  Passed : OperandsOf H  -- a sum exceeded the needed number first
+  Short : OperandsOf H  -- no run has the needed number
 
 abbrev pub Operands : Type 0
 Operands = OperandsOf Head
 
--- one more operand at the end
+-- One more operand at the end.
 abbrev pub with_last : {H : Type 0} → H → ℕ → NodesOf H → OperandsOf H → OperandsOf H
 with_last head results held (Fit before run) = Fit before (Snoc run head results held)
 with_last head results held Passed = Passed
 with_last head results held Short = Short
 
--- the shortest run of last nodes that gives, with `sum` results more, so many as are wanted
+-- The shortest run of last nodes whose results, with `sum` more, are exactly the number that is needed.
 abbrev pub operands_from : {H : Type 0} → ℕ → ℕ → NodesOf H → OperandsOf H
 operands_from wanted sum Nil = Short
 operands_from wanted sum (Snoc before head results held) =
@@ -69,54 +71,55 @@ operands_from wanted sum (Snoc before head results held) =
     if next == wanted then Fit before (Snoc Nil head results held) else
     (if nat_lt wanted next then Passed else with_last head results held (operands_from wanted next before))
 
--- what takes nothing has no operands, not even nodes without results
+-- The operands of an operator. One that takes nothing has no operands, not even nodes without results.
 abbrev pub operand_search : {H : Type 0} → ℕ → NodesOf H → OperandsOf H
 operand_search zero f = Short
 operand_search (suc n) f = operands_from (suc n) 0 f
 
--- An operator behind a row of nodes, with those that it takes. Where a sum passed, results that were given together would have to be
--- parted: the operator takes no node, and counts for so many results that hardly any other takes it.
+-- An operator after a row of nodes, with the nodes that it takes. If a sum exceeded the number, results that were
+-- given together would have to be divided: the operator takes no node, and counts for `greatest` results, so that
+-- hardly any other operator takes it.
 abbrev pub with_operands : {H : Type 0} → NodesOf H → H → ℕ → OperandsOf H → NodesOf H
 with_operands f head gives (Fit before run) = Snoc before head gives run
 with_operands f head gives Passed = Snoc f head greatest Nil
 with_operands f head gives Short = Snoc f head gives Nil
 
--- an operator behind a row of nodes
+-- An operator after a row of nodes.
 abbrev pub with_operator : Nodes → Item → Nodes
 with_operator f x = with_operands f (Of x) x.gives (operand_search x.takes f)
 
--- ---- the rule for operands, without the search
+-- ---- The rule for operands, without the search
 
--- the results of nodes in a row
+-- The number of results of nodes in a row.
 abbrev pub results_of : {H : Type 0} → NodesOf H → ℕ
 results_of Nil = 0
 results_of (Snoc before head results held) = results_of before + results
 
--- `sum` and the results of each shorter run of last nodes stay below what is wanted
+-- `sum` and the results of each shorter run of last nodes are less than the number that is needed.
 abbrev pub IsFirst : {H : Type 0} → ℕ → ℕ → NodesOf H → Type 0
 IsFirst {H} wanted sum run =
     (before last : NodesOf H) → run ≡ row_of_both before last → before ≢ Nil → saturating_sum sum (results_of last) < wanted
 
--- where `sum` results are there already
+-- The result of the search is right, where `sum` results were found before.
 abbrev pub IsAnswer : {H : Type 0} → ℕ → ℕ → NodesOf H → OperandsOf H → Type 0
--- the shortest run of last nodes whose results are what is wanted
+-- The shortest run of last nodes whose results are exactly the number that is needed.
 IsAnswer wanted sum f (Fit before run) =
     (f ≡ row_of_both before run) × (saturating_sum sum (results_of run) ≡ wanted) × IsFirst wanted sum run
--- a run passes what is wanted, and no shorter one reaches it
+-- The results of a run exceed the number, and no shorter run reaches it.
 IsAnswer {H} wanted sum f Passed =
     (before : NodesOf H) × (run : NodesOf H) × (f ≡ row_of_both before run) × (wanted < saturating_sum sum (results_of run))
     × IsFirst wanted sum run
--- no run reaches what is wanted
+-- No run reaches the number.
 IsAnswer {H} wanted sum f Short = (before run : NodesOf H) → f ≡ row_of_both before run → saturating_sum sum (results_of run) < wanted
 
--- the search ends as the rule says
+-- The search ends as the rule says.
 abbrev pub OperandRule : Type 0
 OperandRule = (wanted : ℕ) (f : Nodes) → 0 < wanted → IsAnswer wanted 0 f (operand_search wanted f)
 
--- ---- code
+-- ---- Code
 
--- The nodes of code behind a row of nodes. A block gives its results alone. An `if` holds the last node before it, if
--- there is one, and then its cases.
+-- The nodes of code after a row of nodes. A block gives its own results only. An `if` takes the last node before
+-- it, if there is one, and then has its cases.
 abbrev pub tree_behind : Nodes → NestedCode → Nodes
 tree_behind f Done = f
 tree_behind f (Plain x rest) = tree_behind (with_operator f x) rest
@@ -127,6 +130,6 @@ tree_behind f (IfElse x body turn other end rest) =
     (Snoc (front f) (Of x) x.gives (Snoc (Snoc (last f) (ThenCase x) 0 (tree_behind Nil body)) (ElseCase turn) 0 (tree_behind Nil other)))
     rest
 
--- the nodes of code
+-- The nodes of code.
 abbrev pub tree : NestedCode → Nodes
 tree code = tree_behind Nil code

@@ -1,5 +1,6 @@
--- The layout of custom sections: raw ones as annotations `(@custom ..)` (custom annotations, appendix of the standard), `producers` and
--- `dylink.0` in lines of their own (tool conventions). Before each the printer is asked whether it takes the section itself.
+-- The layout of custom sections: raw ones as annotations `(@custom ..)` (custom annotations, appendix of the
+-- standard), `producers` and `dylink.0` in lines of their own (tool conventions). Before each, the printer is
+-- asked whether it claims the section.
 use Rattle.std.specs.Prelude.{ℕ, ◌+◌, ◌-◌, ◌/◌, ◌%◌, ◌==◌, ◌&&◌, List, [], ◌∷◌, ◌++◌, Bool, true, false, codes, chars, decimal, cond, Option, Some, None, if◌then◌else◌}
 use Rattle.std.specs.Fmt.{digits}
 use Rattle.wasmprinter_spec.specs.Grammar.{Placed}
@@ -13,7 +14,7 @@ use Rattle.wasmprinter_spec.specs.Piece.{Piece, Break, Gap, Open, OpenGap, OpenP
 use Rattle.wasmprinter_spec.specs.Layout.Groups.{close, has_break}
 use Rattle.wasmprinter_spec.specs.Layout.DataSegments.{shown_bytes}
 
--- ---- raw sections
+-- ---- Raw sections
 
 abbrev pub place_word : Kind → List ℕ
 place_word TypeSection = codes "type"
@@ -33,7 +34,7 @@ place_word _ = []
 abbrev pub two_words : List ℕ → List ℕ → List Piece
 two_words v w = OpenPlain v ∷ (Gap ∷ (Word w ∷ (Shut ∷ [])))
 
--- among the other sections
+-- The place among the other sections.
 unfoldable pub place_pieces : Option Kind → List Piece
 place_pieces None = two_words (codes "before") (codes "first")
 place_pieces (Some kind) = two_words (codes "after") (place_word kind)
@@ -45,19 +46,19 @@ raw_pieces skeleton c =
     ∷ (OpenNoteGap (codes "custom") ∷ (Quoted (chars s.name) ∷ (Gap ∷ (place_pieces c.behind
     ++ (Gap ∷ (shown_bytes skeleton s.bytes.value ++ (Shut ∷ [])))))))
 
--- the line that tells of a fault, and the section as it stands
+-- The line that reports the error, and the section as raw bytes.
 unfoldable pub faulted_pieces : Bool → CustomEntry → List Piece
 faulted_pieces skeleton c =
     Break (Some c.section.value.bytes.place) 1
     ∷ (PlainEnding (codes "failed to parse custom section `" ++ (c.section.value.name ++ codes "`")) ∷ raw_pieces skeleton c)
 
--- ---- lines of an annotation
+-- ---- Lines of an annotation
 
--- an annotation whose lines are nested as those of a group
+-- An annotation whose lines are nested like those of a group.
 abbrev pub note : List ℕ → List Piece → List Piece
 note w ps = OpenNote w ∷ (ps ++ close None 1 (has_break ps))
 
--- a text behind a blank
+-- A space and a quoted string.
 abbrev pub gap_quoted : List ℕ → List Piece
 gap_quoted s = Gap ∷ (Quoted (chars s) ∷ [])
 
@@ -78,18 +79,18 @@ fields_pieces (f ∷ fs) = values_pieces f.name f.values ++ fields_pieces fs
 
 -- ---- `dylink.0`
 
--- the words of flags, by their bits
+-- The words of flags, by their bits.
 abbrev pub flag_words : List (ℕ × List ℕ)
 flag_words =
     (0x1, codes "binding-weak") ∷ (0x2, codes "binding-local") ∷ (0x4, codes "visibility-hidden")
     ∷ (0x10, codes "undefined") ∷ (0x20, codes "exported") ∷ (0x40, codes "explicit-name")
     ∷ (0x80, codes "no-strip") ∷ (0x100, codes "tls") ∷ (0x200, codes "absolute") ∷ []
 
--- the bit is set
+-- The bit is set.
 abbrev pub has_flag : ℕ → ℕ → Bool
 has_flag flags bit = ((flags / bit) % 2) == 1
 
--- the words of the flags that are set, and then all other bits in hexadecimal, if there are any
+-- The words of the flags that are set, and then all other bits in hexadecimal, if any are set.
 unfoldable pub flags_by : List (ℕ × List ℕ) → ℕ → List Piece
 flags_by [] rest = cond (rest == 0) [] (Gap ∷ (Word (codes "0x" ++ digits 16 false rest) ∷ []))
 flags_by (row ∷ rows) rest =
@@ -98,7 +99,7 @@ flags_by (row ∷ rows) rest =
 unfoldable pub flags_pieces : ℕ → List Piece
 flags_pieces flags = flags_by flag_words flags
 
--- two numbers in a group behind a blank, unless both are 0
+-- A space and two numbers in a group, unless both are 0.
 unfoldable pub sizes_group : List ℕ → ℕ → ℕ → List Piece
 sizes_group w a b =
     cond ((a == 0) && (b == 0)) [] (Gap ∷ (OpenPlain w ∷ (Gap ∷ (Word (decimal a) ∷ (Gap ∷ (Word (decimal b) ∷ (Shut ∷ [])))))))
@@ -125,7 +126,7 @@ import_infos_pieces place (i ∷ is) =
     ∷ (OpenGap (codes "import-info") ∷ (Quoted (chars i.source) ∷ (Gap ∷ (Quoted (chars i.name)
     ∷ (flags_pieces i.flags ++ (Shut ∷ import_infos_pieces place is))))))
 
--- all lines of a subsection have the place of its id
+-- The lines of a subsection. All of them have the place of its id.
 abbrev pub content_pieces : ℕ → SubsectionContent → List Piece
 content_pieces place (Sizes m) = sizes_pieces place m
 content_pieces place (Needed ns) = names_pieces (codes "needed") place ns
@@ -138,9 +139,9 @@ unfoldable pub subsections_pieces : List Subsection → List Piece
 subsections_pieces [] = []
 subsections_pieces (s ∷ ss) = content_pieces s.place s.value ++ subsections_pieces ss
 
--- ---- each section
+-- ---- Each section
 
--- pieces, and perhaps the refusal of the section behind them
+-- Pieces; or pieces, and the id for which the section after them is refused.
 pub data Part : Type 0 where
   Shown : List Piece → Part
   Stops : List Piece → ℕ → Part
@@ -154,7 +155,7 @@ role_part skeleton claim c (Refused id) = Stops (claim ∷ []) id
 role_part skeleton claim c Raw = Shown (claim ∷ raw_pieces skeleton c)
 role_part skeleton claim c Faulted = Shown (claim ∷ faulted_pieces skeleton c)
 
--- with the answer to its claim: nothing of a claimed section is printed or judged
+-- A custom section, with the answer to its claim. A claimed section is neither printed nor checked.
 abbrev pub custom_part : Bool → Bool → CustomEntry → Part
 custom_part skeleton answer c =
     let s : Custom = c.section.value in
@@ -166,15 +167,17 @@ same_place None None = true
 same_place (Some j) (Some k) = same_kind j k
 same_place _ _ = false
 
--- the sections at one place among the others, with the answers by their numbers among all, from n on
+-- The custom sections at one place among the other sections. Answers are by the number of a section among all
+-- custom sections; the first of these sections has the number n.
 abbrev pub parts_at : Bool → Answers → Option Kind → ℕ → List CustomEntry → List Part
 parts_at skeleton answers place n [] = []
 parts_at skeleton answers place n (c ∷ cs) =
     if same_place c.behind place then custom_part skeleton (answers n) c ∷ parts_at skeleton answers place (n + 1) cs
     else parts_at skeleton answers place (n + 1) cs
 
--- ---- up to a refusal
+-- ---- Up to a refusal
 
+-- The pieces up to the first refusal, and the id for which the section is refused.
 pub record Laid : Type 0 where
   pub pieces : List Piece
   pub refused : Option ℕ

@@ -1,4 +1,5 @@
--- The layout of data segments (section 6.6 of the standard, "Data Segments"). In a skeleton three points stand for the bytes.
+-- The layout of data segments (section 6.6 of the standard, "Data Segments"). A skeleton has `...` in place of the
+-- bytes.
 use Rattle.std.specs.Prelude.{ℕ, List, [], ◌∷◌, ◌++◌, codes, Bool, true, false, Some, ◌==◌, cond}
 use Rattle.wasmprinter_spec.specs.Grammar.{Placed}
 use Rattle.wasmprinter_spec.specs.Row as row
@@ -9,7 +10,7 @@ use Rattle.wasmprinter_spec.specs.Layout.Groups.{line_group_gap, group_gap}
 use Rattle.wasmprinter_spec.specs.Layout.Declarations.{Scope, item_declaration, item_index}
 use Rattle.wasmprinter_spec.specs.Layout.Expressions.{constant_group}
 
--- memory 0 is left out
+-- The memory, which is omitted if it is 0.
 abbrev pub named_memory : Scope → ℕ → List Piece
 named_memory s n = cond (n == 0) [] (line_group_gap (codes "memory") (item_index s row.Memory n) ++ (Gap ∷ []))
 
@@ -21,7 +22,7 @@ abbrev pub shown_bytes : Bool → List ℕ → List Piece
 shown_bytes true bs = Word (codes "...") ∷ []
 shown_bytes false bs = QuotedBytes bs ∷ []
 
--- what stands in the group of a data segment
+-- The content of the group of a data segment.
 abbrev pub data_parts : Bool → Scope → ℕ → Data (Placed Operator) → List Piece
 data_parts skeleton s i d = item_declaration s row.Data i ++ (Gap ∷ (data_mode_pieces s d.mode ++ shown_bytes skeleton d.bytes))
 

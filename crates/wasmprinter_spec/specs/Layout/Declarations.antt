@@ -1,4 +1,4 @@
--- What the fields of a module are laid out by. The standard has no such thing.
+-- The context in which the fields of a module are laid out. The standard does not define it.
 use Rattle.std.specs.Prelude.{ℕ, List, Bool, Option, Some, None, cond}
 use Rattle.wasmprinter_spec.specs.Types.{SubType, signature_at}
 use Rattle.wasmprinter_spec.specs.Row.{Space}
@@ -10,18 +10,18 @@ use Rattle.wasmprinter_spec.specs.Piece.{Piece}
 use Rattle.wasmprinter_spec.specs.Layout.Identifiers.{declaration_pieces, index_pieces}
 use Rattle.wasmprinter_spec.specs.Layout.Types.{type_use_pieces}
 
--- what operators are folded by: whether their text carries the sequences of colours, and the arities of their opcodes and what they
--- name in the module, in a function that has so many results
+-- How operators are folded: whether their text has ANSI escape sequences, and the arities of their opcodes and of
+-- the items that they name in the module, in a function with the given number of results.
 pub record Folding : Type 0 where
   pub paints : Bool
   pub signatures : Option ℕ → Signatures
 
--- where it is asked for
+-- How operators are folded, if the options ask for folding.
 abbrev pub folding_of : Options → PlacedModule → Option Folding
 folding_of o m = cond o.folds (Some (record { paints = o.paints; signatures = signatures_within m })) None
 
--- the module's types and identifiers, the function whose locals and labels an expression means, and what operators
--- are folded by, where they are
+-- The module's types and identifiers, the function to which the locals and labels of an expression belong, and how
+-- operators are folded, if they are.
 pub record Scope : Type 0 where
   pub types : List SubType
   pub names : Names
@@ -31,18 +31,18 @@ pub record Scope : Type 0 where
 abbrev pub scope_of : List SubType → Names → ℕ → Option Folding → Scope
 scope_of ts names f folding = record { types = ts; names = names; function = f; folding = folding }
 
--- the same types and identifiers, for the locals and labels of a function
+-- The scope with the locals and labels of function f.
 abbrev pub scope_of_function : Scope → ℕ → Scope
 scope_of_function s f = record s { function = f }
 
--- an item where it is declared
+-- The declaration of an item.
 abbrev pub item_declaration : Scope → Space → ℕ → List Piece
 item_declaration s space i = declaration_pieces (s.names.items space i) i
 
--- an index of an item
+-- The index of an item.
 abbrev pub item_index : Scope → Space → ℕ → List Piece
 item_index s space i = index_pieces (s.names.items space i) i
 
--- a type use, with the parameters of a function or of none
+-- A type use, with the parameters of function f, or of no function.
 abbrev pub type_use : Scope → Option ℕ → ℕ → List Piece
 type_use s f i = type_use_pieces s.names f i (signature_at s.types i)

@@ -1,4 +1,5 @@
--- The layout of element segments (section 6.6 of the standard, "Element Segments"). In a skeleton three points stand for the items.
+-- The layout of element segments (section 6.6 of the standard, "Element Segments"). A skeleton has `...` in place
+-- of the items.
 use Rattle.std.specs.Prelude.{ℕ, List, [], ◌∷◌, ◌++◌, codes, Bool, true, false, Some}
 use Rattle.wasmprinter_spec.specs.Grammar.{Placed}
 use Rattle.wasmprinter_spec.specs.Row as row
@@ -10,7 +11,7 @@ use Rattle.wasmprinter_spec.specs.Layout.ValTypes.{ref_pieces}
 use Rattle.wasmprinter_spec.specs.Layout.Declarations.{Scope, item_declaration, item_index}
 use Rattle.wasmprinter_spec.specs.Layout.Expressions.{constant_group}
 
--- the table stands there where the bytes name it
+-- The table, if the bytes name it.
 abbrev pub named_table : Scope → Bool → ℕ → List Piece
 named_table s true t = Gap ∷ line_group_gap (codes "table") (item_index s row.Table t)
 named_table s false t = []
@@ -36,7 +37,7 @@ abbrev pub shown_items : Bool → Scope → Items (Placed Operator) → List Pie
 shown_items true s items = Word (codes "...") ∷ []
 shown_items false s items = items_pieces s items
 
--- what stands in the group of an element segment
+-- The content of the group of an element segment.
 abbrev pub element_parts : Bool → Scope → ℕ → ElementEntry → List Piece
 element_parts skeleton s i e =
     item_declaration s row.Elem i ++ (mode_pieces s e.names_table e.element.mode ++ (Gap ∷ shown_items skeleton s e.element.items))

@@ -1,4 +1,4 @@
--- The layout of exports (section 6.6 of the standard, "Exports"). A tag goes by its number, which has no style.
+-- The layout of exports (section 6.6 of the standard, "Exports"). A tag is printed by its index, without a style.
 use Rattle.std.specs.Prelude.{ℕ, List, [], ◌∷◌, codes, chars, decimal, Some}
 use Rattle.wasmprinter_spec.specs.Grammar.{Placed}
 use Rattle.wasmprinter_spec.specs.Types.{ExternKind, FuncKind, TableKind, MemoryKind, GlobalKind, TagKind}
@@ -19,7 +19,7 @@ unfoldable pub extern_index_pieces : Scope → ExternKind → ℕ → List Piece
 extern_index_pieces s TagKind n = Word (decimal n) ∷ []
 extern_index_pieces s kind n = item_index s (space_of kind) n
 
--- the name of an export, and what it gives out
+-- The name of an export, and the exported item.
 abbrev pub export_parts : Scope → Export → List Piece
 export_parts s e = Quoted (chars e.name) ∷ (Gap ∷ line_group_gap (kind_word e.kind) (extern_index_pieces s e.kind e.index))
 

@@ -1,5 +1,6 @@
--- Operators, as they are printed when they are folded: each with its operands in parentheses, over lines or in one line. (Section 6.5 of
--- the standard, "Folded Instructions"; which operators fold, and the lines, are this printer's own.)
+-- Operators as they are printed when they are folded: each in parentheses with its operands, over several lines or
+-- in one. (Section 6.5 of the standard, "Folded Instructions"; which operators are folded, and the lines, are this
+-- printer's own.)
 use Rattle.std.specs.Prelude.{◌≡◌, ℕ, ◌+◌, ◌-◌, ◌==◌, ◌&&◌, ◌||◌, List, [], ◌∷◌, ◌++◌, Bool, true, false, cond, codes, length, Option, Some, None, option_map}
 use Rattle.std.specs.Option.{is_none}
 use Rattle.wasmprinter_spec.specs.Grammar.{Placed}
@@ -21,9 +22,10 @@ use Rattle.wasmprinter_spec.specs.Folding.Arities.{Signatures, OperandCounts, co
 use Rattle.wasmprinter_spec.specs.Folding.Code.{Item, nested_code_of, AreWithoutTry}
 use Rattle.wasmprinter_spec.specs.Folding.Tree.{Head, Of, ThenCase, ElseCase, Nodes, Nil, Snoc, is_nil, tree}
 
--- ---- the operators of a list, each with what is printed of it
+-- ---- The operators of a list, each with its pieces
 
--- an operator, with its own label if it opens a block, and where these labels are open, which take so many values
+-- An operator, with its own label if it opens a block. The labels `xs` are open, and `ls` are the numbers of
+-- values that branches to them take.
 abbrev pub item : Setting → Signatures → Option (Placed Hint) → labels.Label → List labels.Label → List (Option ℕ) → Placed Operator → Item
 item s signatures hint own xs ls o =
     let role : Role = role_of o.value.opcode in
@@ -38,7 +40,8 @@ item s signatures hint own xs ls o =
       gives = counts.gives;
     }
 
--- n blocks were opened before, these labels are open, which take so many values, and these hints wait for their operators
+-- A list of operators. n blocks were opened before it, the labels `xs` are open, `ls` are the numbers of values
+-- that branches to them take, and the hints `hs` are not yet printed.
 unfoldable pub items : Setting → Signatures → List (Placed Hint) → ℕ → List labels.Label → List (Option ℕ) → List (Placed Operator) →
     List Item
 items s signatures hs n xs ls [] = []
@@ -50,53 +53,54 @@ items s signatures hs n xs ls (o ∷ os) =
     ∷ items s signatures (hint_behind offset hs) (count_after role n) (labels_after role own xs)
     (labels_after role (label_of_block signatures o.value) ls) os
 
--- ---- nodes
+-- ---- Nodes
 
--- the place of a node: that of the operator that stands first in it, for `then` that of the `if`
+-- The place of a node: that of the operator at its head; for `then`, that of the `if`.
 abbrev pub head_place : Head → ℕ
 head_place (Of x) = x.operator.place
 head_place (ThenCase x) = x.operator.place
 head_place (ElseCase x) = x.operator.place
 
--- the calls for what stands behind the parenthesis of a node
+-- The calls for the text after the parenthesis of a node.
 abbrev pub head_calls : Options → Head → List Call
 head_calls o (Of x) = all_calls o x.pieces
 head_calls o (ThenCase x) = Text (codes "then") ∷ []
 head_calls o (ElseCase x) = Text (codes "else") ∷ []
 
--- their text, with the sequences of their styles or without styles
+-- The text of these calls, with the ANSI escape sequences of their styles or without.
 abbrev pub painted_text : Bool → List Call → List ℕ
 painted_text true cs = coloured_text cs
 painted_text false cs = text_of cs
 
--- what stands behind the parenthesis of a node, without styles
+-- The text after the parenthesis of a node, without styles.
 abbrev pub head_text : Options → Head → List ℕ
 head_text o h = text_of (head_calls o h)
 
--- the hint of a node is that of its own operator
+-- The hint of a node is that of its own operator.
 abbrev pub head_hint : Head → Option (Placed Hint)
 head_hint (Of x) = x.hint
 head_hint (ThenCase x) = None
 head_hint (ElseCase x) = None
 
--- whether two semicolons follow one another in a text
+-- The text has two adjacent semicolons.
 abbrev pub has_line_comment : List ℕ → Bool
 has_line_comment [] = false
 has_line_comment (a ∷ []) = false
 has_line_comment (a ∷ b ∷ cs) = ((a == 59) && (b == 59)) || has_line_comment (b ∷ cs)
 
--- The parenthesis that closes a node must not stand in a comment that goes up to the end of the line: where nothing
--- else stands between, a new line.
+-- The closing parenthesis of a node must not be inside a line comment: if nothing else comes between, a new line
+-- begins.
 abbrev pub comment_end : Bool → List ℕ → ℕ → ℕ → List Piece
 comment_end true s place nesting = cond (has_line_comment s) (Break (Some place) nesting ∷ []) []
 comment_end false s place nesting = []
 
--- a hint stands in front of the node of its operator as a node would, and in its place
+-- The hint before the node of its operator. It begins as a node would, with the place of the node.
 abbrev pub node_hint : Options → Form → Bool → ℕ → ℕ → Option (Placed Hint) → List Piece
 node_hint o form first place nesting None = []
 node_hint o form first place nesting (Some h) = before_word form first place nesting ++ Word (text o (HintNote h.value.taken)) ∷ []
 
--- Nodes in a row, nested so deep, as the first of their line or behind something. What a node holds is nested one level deeper.
+-- Nodes in a row, at this nesting depth. `first` says that they are the first on their line. The nodes inside a
+-- node are one level deeper.
 unfoldable pub node_pieces : Options → Bool → Form → Bool → ℕ → Nodes → List Piece
 node_pieces o paints form first nesting Nil = []
 node_pieces o paints form first nesting (Snoc before head results held) =
@@ -108,30 +112,31 @@ node_pieces o paints form first nesting (Snoc before head results held) =
     ++ OpenPlain (painted_text paints (head_calls o head))
     ∷ (comment_end (is_nil held) (head_text o head) place nesting ++ node_pieces o paints form false (nesting + 1) held ++ (Shut ∷ []))
 
--- a list of operators, with no label open: none where it holds operators of the older `try`, which aren't folded
+-- A list of operators, with no label open. None if the operators are not well nested or if there is legacy
+-- exception handling among them, which is not folded.
 unfoldable pub folded_pieces : Options → Bool → Setting → Signatures → List (Placed Hint) → List (Placed Operator) → Option (List Piece)
 folded_pieces o paints s signatures hs os =
     option_map (λ code. node_pieces o paints s.form true s.nesting (tree code)) (nested_code_of (items s signatures hs 0 [] [] os))
 
--- nothing where there is no tree: the module is refused then
+-- The pieces, or nothing if there is no tree: then the module is refused.
 abbrev pub if_folded : Option (List Piece) → List Piece
 if_folded None = []
 if_folded (Some ps) = ps
 
--- A list of operators within a module, where so many results are those of the function around. (The words and immediates of an operator
--- stand in one line, which is the same by all options.)
+-- A list of operators in a module, in a function with `own` results. (The words and immediates of an operator are
+-- in one line, which is the same for all options.)
 abbrev pub folded_list : Folding → Option ℕ → Setting → List (Placed Hint) → List (Placed Operator) → List Piece
 folded_list f own s hs os = if_folded (folded_pieces defaults f.paints s (f.signatures own) hs os)
 
--- ---- laws
+-- ---- Laws
 
--- A list is folded where it is well nested and holds no operator of the older `try`.
+-- A list is folded if it is well nested and has no operator of legacy exception handling.
 abbrev pub FoldedRule : Setting → Signatures → Type 0
 FoldedRule s signatures =
     (o : Options) (paints : Bool) (hs : List (Placed Hint)) (os : List (Placed Operator))
     → Nests Sequence (roles os) → AreWithoutTry (roles os) → (ps : List Piece) × (folded_pieces o paints s signatures hs os ≡ Some ps)
 
--- No other list is.
+-- A list that is folded is well nested and has no operator of legacy exception handling.
 abbrev pub FoldingRule : Setting → Signatures → Type 0
 FoldingRule s signatures =
     (o : Options) (paints : Bool) (hs : List (Placed Hint)) (os : List (Placed Operator)) (ps : List Piece)

@@ -17,49 +17,50 @@ use Rattle.wasmprinter_spec.specs.Layout.Declarations.{Scope, scope_of_function,
 use Rattle.wasmprinter_spec.specs.Layout.Operators.{OverLines, Setting, operators_pieces}
 use Rattle.wasmprinter_spec.specs.Layout.Folded.{folded_list}
 
--- the place of the first entry that declares a local, if one does
+-- The place of the first entry that declares a local, if there is one.
 abbrev pub locals_place : List (Placed LocalEntry) → Option ℕ
 locals_place [] = None
 locals_place (e ∷ es) = cond (e.value.count == 0) (locals_place es) (Some e.place)
 
--- all locals on one line, in their groups
+-- All locals on one line, in their groups.
 unfoldable pub local_line : Names → Option ℕ → List Variables → List Piece
 local_line names place [] = []
 local_line names place (g ∷ gs) = Break place 2 ∷ (variables_pieces names (codes "local") g ++ groups_pieces names (codes "local") gs)
 
--- the locals of the function f, numbered behind so many parameters
+-- The locals of function f. Their indices start after its `count` parameters.
 unfoldable pub local_pieces : Names → ℕ → ℕ → List (Placed LocalEntry) → List Piece
 local_pieces names f count es = local_line names (locals_place es) (variable_groups (names.locals f) count (locals_of es))
 
--- a function or a tag: its declaration, and the type that it has
+-- The header of a function or a tag: its declaration, and its type.
 unfoldable pub header_pieces : Scope → Space → Option ℕ → ℕ → ℕ → List Piece
 header_pieces s space f i type_index = item_declaration s space i ++ (Gap ∷ type_use s f type_index)
 
--- the setting of a body that begins at this place
+-- The setting of a body that begins at this place.
 abbrev pub over_lines : Scope → ℕ → Setting
 over_lines s place =
     record { form = OverLines; signature = signature_at s.types; nesting = 2; names = s.names; function = s.function; body = place }
 
--- how many results a function of the type has, if it is a function type
+-- The number of results of a function of the type, if it is a function type.
 abbrev pub result_count : Scope → ℕ → Option ℕ
 result_count s type_index = option_map (λ t. length t.results) (signature_at s.types type_index)
 
--- flat, each operator on a line; or folded, each node on a line, where the function around has so many results
+-- The operators of a body: flat, each operator on a line; or folded, each node on a line, in a function with `own`
+-- results.
 unfoldable pub body_by : Option Folding → Option ℕ → Setting → List (Placed Hint) → List (Placed Operator) → List Piece
 body_by None own s hs os = operators_pieces s hs true 0 [] os
 body_by (Some f) own s hs os = folded_list f own s hs os
 
--- the operators of a function of the type, with these hints
+-- The operators of a function of the type, with these hints.
 unfoldable pub body_pieces : Scope → ℕ → List (Placed Hint) → Placed Body → List Piece
 body_pieces s type_index hs b = body_by s.folding (result_count s type_index) (over_lines s b.place) hs b.value.operators
 
--- what a function holds behind its type
+-- The content of a function after its type.
 unfoldable pub inner_pieces : Scope → List (Placed Hint) → PlacedFunction → List Piece
 inner_pieces s hs f =
     local_pieces s.names s.function (parameter_count (signature_at s.types f.type_index)) f.body.value.locals
     ++ body_pieces s f.type_index hs f.body
 
--- a function, whole or without its locals and operators
+-- A function, without its locals and operators in a skeleton.
 unfoldable pub function_group : Bool → Bool → Scope → List (Placed Hint) → PlacedFunction → List Piece
 function_group true offsets s hs f =
     line_group_gap (codes "func") (header_pieces s Func (Some s.function) s.function f.type_index ++ (Gap ∷ (Word (codes "...") ∷ [])))
@@ -67,11 +68,11 @@ function_group false offsets s hs f =
     group_gap_at offsets f.body.value.end 1 (codes "func")
     (header_pieces s Func (Some s.function) s.function f.type_index ++ inner_pieces s hs f)
 
--- function i, with these hints
+-- Function i, with these hints.
 unfoldable pub function_pieces : Options → Scope → ℕ → List (Placed Hint) → PlacedFunction → List Piece
 function_pieces o s i hs f = Break (Some f.body.place) 1 ∷ function_group o.skeleton o.offsets (scope_of_function s i) hs f
 
--- functions from i on, each with its hints: those of the next entry, where it is that function's
+-- Functions from index i on, each with its hints: those of the next entry, if it is the entry of that function.
 unfoldable pub functions_pieces : Options → Scope → List FunctionHints → ℕ → List PlacedFunction → List Piece
 functions_pieces o s es i [] = []
 functions_pieces o s es i (f ∷ fs) = function_pieces o s i (next_hints i es) f ++ functions_pieces o s (hints_behind i es) (i + 1) fs

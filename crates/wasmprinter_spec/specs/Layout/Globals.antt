@@ -19,11 +19,11 @@ mutable_pieces names false t = val_pieces names t
 unfoldable pub global_type_pieces : Names → GlobalType → List Piece
 global_type_pieces names t = mutable_pieces names t.mutable t.type
 
--- a declaration and a global's type
+-- A declaration and a global type.
 abbrev pub declared_global : Scope → ℕ → GlobalType → List Piece
 declared_global s i g = item_declaration s row.Global i ++ (Gap ∷ global_type_pieces s.names g)
 
--- what stands in the group of a global
+-- The content of the group of a global.
 abbrev pub global_parts : Scope → ℕ → Global (Placed Operator) → List Piece
 global_parts s i g = item_declaration s row.Global i ++ (Gap ∷ (global_type_pieces s.names g.type ++ (Gap ∷ constant_pieces s 2 g.init)))
 

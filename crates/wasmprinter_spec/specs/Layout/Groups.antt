@@ -1,4 +1,5 @@
--- The layout of groups: a parenthesis and a keyword, what they hold, and a parenthesis. Where lines break is this printer's own.
+-- The layout of groups: a parenthesis and a keyword, the content, and a parenthesis. Where lines break is this
+-- printer's own.
 use Rattle.std.specs.Prelude.{ℕ, ◌+◌, List, [], ◌∷◌, ◌++◌, Option, Some, None, Bool, true, false, ◌||◌, cond}
 use Rattle.wasmprinter_spec.specs.Piece.{Piece, Break, Open, OpenGap, Shut}
 
@@ -10,34 +11,34 @@ abbrev pub has_break : List Piece → Bool
 has_break [] = false
 has_break (p ∷ ps) = cond (breaks p) true (has_break ps)
 
--- the closing parenthesis, on a line of its own or not; `nesting` is how deep the group itself stands
+-- The closing parenthesis, on a line of its own or not. `nesting` is the nesting depth of the group itself.
 abbrev pub close : Option ℕ → ℕ → Bool → List Piece
 close place nesting true = Break place nesting ∷ (Shut ∷ [])
 close place nesting false = Shut ∷ []
 
--- a group that closes on a line of its own where the line has changed
+-- A group, which closes on a line of its own if a line begins in it.
 unfoldable pub group : ℕ → List ℕ → List Piece → List Piece
 group nesting w ps = Open w ∷ (ps ++ close None nesting (has_break ps))
 
--- the same with a blank behind the keyword
+-- A group with a space after its keyword.
 unfoldable pub group_gap : ℕ → List ℕ → List Piece → List Piece
 group_gap nesting w ps = OpenGap w ∷ (ps ++ close None nesting (has_break ps))
 
--- groups that close at a place: on a line of their own where the line has changed or lines begin with their places
+-- A group that closes at a place: on a line of its own if a line begins in it or if lines begin with their places.
 unfoldable pub group_at : Bool → ℕ → ℕ → List ℕ → List Piece → List Piece
 group_at offsets place nesting w ps = Open w ∷ (ps ++ close (Some place) nesting (offsets || has_break ps))
 
 unfoldable pub group_gap_at : Bool → ℕ → ℕ → List ℕ → List Piece → List Piece
 group_gap_at offsets place nesting w ps = OpenGap w ∷ (ps ++ close (Some place) nesting (offsets || has_break ps))
 
--- groups within one line
+-- A group within one line.
 unfoldable pub line_group : List ℕ → List Piece → List Piece
 line_group w ps = Open w ∷ (ps ++ (Shut ∷ []))
 
 unfoldable pub line_group_gap : List ℕ → List Piece → List Piece
 line_group_gap w ps = OpenGap w ∷ (ps ++ (Shut ∷ []))
 
--- each with its number, from i on
+-- The pieces of each element with its number. The first has the number i.
 unfoldable pub numbered_pieces : {A : Type 0} → (ℕ → A → List Piece) → ℕ → List A → List Piece
 numbered_pieces f i [] = []
 numbered_pieces f i (x ∷ xs) = f i x ++ numbered_pieces f (i + 1) xs

@@ -1,4 +1,4 @@
--- The layout of imports (section 6.6 of the standard, "Imports"). Each has its number in its own index space.
+-- The layout of imports (section 6.6 of the standard, "Imports"). Each has the index in its own index space.
 use Rattle.std.specs.Prelude.{ℕ, ◌+◌, List, [], ◌∷◌, ◌++◌, codes, chars, Some, None}
 use Rattle.wasmprinter_spec.specs.Grammar.{Placed}
 use Rattle.wasmprinter_spec.specs.Types.{ExternType, FuncExtern, TableExtern, MemoryExtern, GlobalExtern, TagExtern}
@@ -12,7 +12,7 @@ use Rattle.wasmprinter_spec.specs.Layout.Tables.{declared_table}
 use Rattle.wasmprinter_spec.specs.Layout.Memories.{declared_memory}
 use Rattle.wasmprinter_spec.specs.Layout.Globals.{declared_global}
 
--- how many of each kind stand in front
+-- The number of earlier imports of each kind.
 pub record Numbers : Type 0 where
   pub functions : ℕ
   pub tables : ℕ
@@ -37,7 +37,8 @@ numbers_behind (MemoryExtern t) n = record n { memories = n.memories + 1 }
 numbers_behind (GlobalExtern t) n = record n { globals = n.globals + 1 }
 numbers_behind (TagExtern i) n = record n { tags = n.tags + 1 }
 
--- What is imported, with its number. Parameters of functions have identifiers, those of tags have none.
+-- The declaration and type of an import with index n. Parameters of functions have identifiers, those of tags do
+-- not.
 abbrev pub extern_parts : Scope → ℕ → ExternType → List Piece
 extern_parts s n (FuncExtern i) = header_pieces s Func (Some n) n i
 extern_parts s n (TableExtern t) = declared_table s n t
@@ -52,7 +53,7 @@ extern_pieces s n (MemoryExtern t) = line_group_gap (codes "memory") (extern_par
 extern_pieces s n (GlobalExtern t) = line_group_gap (codes "global") (extern_parts s n (GlobalExtern t))
 extern_pieces s n (TagExtern i) = line_group_gap (codes "tag") (extern_parts s n (TagExtern i))
 
--- two names, and what is imported
+-- Two names, and the import's type.
 abbrev pub import_parts : Scope → ℕ → Import → List Piece
 import_parts s n i = Quoted (chars i.source) ∷ (Gap ∷ (Quoted (chars i.name) ∷ (Gap ∷ extern_pieces s n i.type)))
 

@@ -3,7 +3,7 @@ use Rattle.std.specs.Prelude.{ℕ, List, [], ◌∷◌, codes, decimal, Bool, tr
 use Rattle.wasmprinter_spec.specs.Types.{Limits}
 use Rattle.wasmprinter_spec.specs.Piece.{Piece, TypeWordGap, Literals}
 
--- addresses of 64 bits
+-- The address type, if addresses have 64 bits.
 abbrev pub wide_pieces : Bool → List Piece
 wide_pieces true = TypeWordGap (codes "i64") ∷ []
 wide_pieces false = []
@@ -12,6 +12,6 @@ abbrev pub max_words : Option ℕ → List (List ℕ)
 max_words None = []
 max_words (Some n) = decimal n ∷ []
 
--- the least and the greatest size in one literal
+-- The minimum and the maximum size in one literal.
 unfoldable pub limits_pieces : Limits → List Piece
 limits_pieces l = Literals (decimal l.min) (max_words l.max) ∷ []

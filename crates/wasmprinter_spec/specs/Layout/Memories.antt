@@ -1,4 +1,4 @@
--- The layout of memories (sections 6.4 and 6.6 of the standard, "Memory Types" and "Memories", with sizes of pages).
+-- The layout of memories (sections 6.4 and 6.6 of the standard, "Memory Types" and "Memories", with page sizes).
 use Rattle.std.specs.Prelude.{ℕ, ◌^◌, List, [], ◌∷◌, ◌++◌, codes, Bool, true, false, Option, Some, None}
 use Rattle.std.specs.Fmt.{digits}
 use Rattle.wasmprinter_spec.specs.Grammar.{Placed}
@@ -13,7 +13,7 @@ abbrev pub shared_pieces : Bool → List Piece
 shared_pieces true = GapTypeWord (codes "shared") ∷ []
 shared_pieces false = []
 
--- the size of a page in bytes, in hexadecimal, by its exponent
+-- The size of a page in bytes, in hexadecimal, from its exponent.
 abbrev pub page_parts : ℕ → List Piece
 page_parts e = Word (codes "0x" ++ digits 16 false (2 ^ e)) ∷ []
 
@@ -24,7 +24,7 @@ page_pieces (Some e) = Gap ∷ line_group_gap (codes "pagesize") (page_parts e)
 unfoldable pub memory_type_pieces : MemoryType → List Piece
 memory_type_pieces m = wide_pieces m.wide ++ (limits_pieces m.limits ++ (shared_pieces m.shared ++ page_pieces m.page))
 
--- a declaration and a memory's type
+-- A declaration and a memory type.
 abbrev pub declared_memory : Scope → ℕ → MemoryType → List Piece
 declared_memory s i m = item_declaration s Memory i ++ (Gap ∷ memory_type_pieces m)
 

@@ -1,6 +1,7 @@
--- Operators, as they are printed: over lines, as in a body, or in one line, as in a field. Indices go by identifiers where there are any.
--- Labels go by theirs where these mean the block that is meant, else by their numbers, and without an identifier with a comment that names
--- the block. (Section 6.5 of the standard, "Instructions"; the lines and comments are this printer's own.)
+-- Operators as they are printed: over several lines, as in a body, or in one line, as in a field. An index is
+-- printed by the identifier of its item, if it has one. A label is printed by its identifier if this means the
+-- intended block, otherwise by its number. A label without an identifier has a comment that names the block.
+-- (Section 6.5 of the standard, "Instructions"; the lines and comments are this printer's own.)
 use Rattle.std.specs.Prelude.{ℕ, suc, ◌+◌, ◌-◌, ◌/◌, ◌%◌, ◌^◌, ◌==◌, ◌&&◌, reverse, List, [], ◌∷◌, ◌++◌, Bool, true, false, ◌||◌, cond, codes, decimal, length, Option, Some, None}
 use Rattle.std.specs.Fmt.{digit_glyph}
 use Rattle.wasmprinter_spec.specs.Grammar.{Placed}
@@ -20,39 +21,40 @@ use Rattle.wasmprinter_spec.specs.Layout.Identifiers.{mark_pieces, leading_mark_
 use Rattle.wasmprinter_spec.specs.Layout.ValTypes.{type_index_pieces, heap_pieces, ref_pieces, val_pieces, type_list}
 use Rattle.wasmprinter_spec.specs.Layout.Types.{type_use_pieces}
 
--- how operators stand: each on a line of its own, nested so deep, or all in one line
+-- The form of a list of operators: each on a line of its own, or all in one line.
 pub data Form : Type 0 where
   OverLines : Form
   InLine : Form
 
--- what every operator of a list is laid out by: the form, the signature of each type that is a function type, how deep the list is nested,
--- and the module's identifiers with the function whose locals and labels are meant, and where the body begins
+-- The context of every operator of a list: the form, the signature of each function type, the nesting depth of the
+-- list, the module's identifiers, the function to which locals and labels belong, and the place where the body
+-- begins.
 pub record Setting : Type 0 where
   pub form : Form
   pub signature : ℕ → Option FuncType
   pub nesting : ℕ
   pub names : Names
   pub function : ℕ
-  -- the place of a body's first byte, from which hints are counted
+  -- The place of a body's first byte, to which the offsets of hints are relative.
   pub body : ℕ
 
--- an index, by its identifier if it has one
+-- An index, by its identifier if it has one.
 abbrev pub named_index : Setting → Space → ℕ → List Piece
 named_index s space n = index_pieces (in_function s.names s.function space n) n
 
--- ---- labels
+-- ---- Labels
 
--- a label's identifier, by the name that it was given or without one
+-- A label's identifier, which comes from a given name or is synthesized.
 abbrev pub label_name_pieces : Option (List ℕ) → ℕ → Named → List Piece
 label_name_pieces (Some s) l n = mark_pieces n
 label_name_pieces None l n = index_pieces (Some n) l
 
--- the identifier, unless it is hidden
+-- The identifier of label l, or its number if the identifier is shadowed.
 abbrev pub named_pieces : ℕ → Named → Bool → List Piece
 named_pieces l n true = Number l ∷ []
 named_pieces l n false = label_name_pieces n.given l n
 
--- with so many blocks around it
+-- The label l, where d blocks are open.
 abbrev pub target_pieces : List labels.Label → ℕ → ℕ → Target → List Piece
 target_pieces inner d l (Around (Some n) further) = named_pieces l n (is_hidden n further || is_hidden n inner)
 target_pieces inner d l (Around None further) = Number l ∷ (Remark true (64 ∷ decimal (d - l)) ∷ [])
@@ -66,9 +68,9 @@ unfoldable pub labels_pieces : List labels.Label → List labels.Label → List 
 labels_pieces inner xs [] l = label_pieces inner xs l
 labels_pieces inner xs (m ∷ ms) l = label_pieces inner xs m ++ labels_pieces inner xs ms l
 
--- ---- blocks
+-- ---- Blocks
 
--- the comment of a label without an identifier; blocks are counted from 1
+-- The comment of a block whose label has no identifier. Blocks are counted from 1.
 unfoldable pub ending_pieces : Form → labels.Label → ℕ → List Piece
 ending_pieces form (Some n) d = []
 ending_pieces OverLines None d = Gap ∷ (Ending (codes "label = @" ++ decimal d) ∷ [])
@@ -89,33 +91,33 @@ unfoldable pub catches_pieces : Setting → List labels.Label → List labels.La
 catches_pieces s inner xs [] = []
 catches_pieces s inner xs (c ∷ cs) = Gap ∷ (catch_pieces s inner xs c ++ catches_pieces s inner xs cs)
 
--- ---- operators
+-- ---- Operators
 
--- an index: a label, or one of another space
+-- An index: a label, or an index into another space.
 unfoldable pub operand_pieces : Setting → List labels.Label → List labels.Label → Space → ℕ → List Piece
 operand_pieces s inner xs Label n = label_pieces inner xs n
 operand_pieces s inner xs space n = Gap ∷ named_index s space n
 
--- an index that is left out where it is 0
+-- An index that is omitted if it is 0.
 unfoldable pub default_index_pieces : Setting → Space → ℕ → List Piece
 default_index_pieces s space n = cond (n == 0) [] (Gap ∷ named_index s space n)
 
--- an index of each of two spaces
+-- An index into each of two spaces.
 unfoldable pub two_index_pieces : Setting → Space → Space → ℕ → ℕ → List Piece
 two_index_pieces s first second m n = Gap ∷ (named_index s first m ++ (Gap ∷ named_index s second n))
 
--- a structure type, and one of its fields
+-- A structure type, and one of its fields.
 unfoldable pub type_and_field_pieces : Setting → ℕ → ℕ → List Piece
 type_and_field_pieces s t n = Gap ∷ (named_index s row.Types t ++ (Gap ∷ index_pieces (s.names.fields t n) n))
 
--- the types that `select` names: one stands otherwise than several
+-- The types that `select` names. A single type is laid out differently from several.
 unfoldable pub select_pieces : Names → List ValType → List Piece
 select_pieces names (t ∷ []) = Gap ∷ line_group_gap (codes "result") (val_pieces names t)
 select_pieces names ts = Gap ∷ line_group (codes "result") (type_list names ts)
 
--- ---- memory operands
+-- ---- Memory operands
 
--- an offset of 0 and the natural alignment are left out
+-- An offset of 0 and the natural alignment are omitted.
 unfoldable pub offset_pieces : ℕ → List Piece
 offset_pieces n = cond (n == 0) [] (Gap ∷ (Word (codes "offset=" ++ decimal n) ∷ []))
 
@@ -125,9 +127,9 @@ align_pieces natural exponent = cond (exponent == natural) [] (Gap ∷ (Word (co
 unfoldable pub mem_arg_pieces : Setting → ℕ → MemArg → List Piece
 mem_arg_pieces s natural m = default_index_pieces s row.Memory m.memory ++ (offset_pieces m.offset ++ align_pieces natural m.exponent)
 
--- ---- vectors
+-- ---- Vectors
 
--- a number without a sign, in decimal
+-- An unsigned number in decimal.
 unfoldable pub lane_pieces : ℕ → List Piece
 lane_pieces k = Gap ∷ (Word (decimal k) ∷ [])
 
@@ -135,16 +137,16 @@ unfoldable pub lanes_pieces : List ℕ → List Piece
 lanes_pieces [] = []
 lanes_pieces (k ∷ ks) = lane_pieces k ++ lanes_pieces ks
 
--- two hexadecimal digits of each byte
+-- Two hexadecimal digits of each byte.
 abbrev pub hex_digits : List ℕ → List ℕ
 hex_digits [] = []
 hex_digits (b ∷ bs) = digit_glyph false (b / 16) ∷ (digit_glyph false (b % 16) ∷ hex_digits bs)
 
--- a number of 32 bits in hexadecimal, from its bytes, the lowest first
+-- A number of 32 bits in hexadecimal, from its bytes, the lowest first.
 abbrev pub hex_word : List ℕ → List ℕ
 hex_word bs = codes "0x" ++ hex_digits (reverse bs)
 
--- four bytes each
+-- A number for each four bytes.
 unfoldable pub hex_words : List ℕ → List (List ℕ)
 hex_words (a ∷ b ∷ c ∷ d ∷ bs) = hex_word (a ∷ (b ∷ (c ∷ (d ∷ [])))) ∷ hex_words bs
 hex_words _ = []
@@ -152,9 +154,9 @@ hex_words _ = []
 unfoldable pub vector_pieces : List ℕ → List Piece
 vector_pieces bs = GapTypeWord (codes "i32x4") ∷ (GapLiterals (hex_words bs) ∷ [])
 
--- ---- immediates
+-- ---- Immediates
 
--- A line for each shape, with the immediates that fit it.
+-- The immediates of each shape, a line for each. Immediates that do not have the shape are not printed.
 unfoldable pub immediate_pieces : Setting → List labels.Label → List labels.Label → labels.Label → Shape → Immediates → List Piece
 immediate_pieces s inner xs own BlockShape (Block t) =
     leading_mark_pieces own ++ (block_pieces s t ++ ending_pieces s.form own (suc (length xs)))
@@ -187,12 +189,13 @@ immediate_pieces s inner xs own VectorShape (Bytes bs) = vector_pieces bs
 immediate_pieces s inner xs own LanesShape (Bytes bs) = lanes_pieces bs
 immediate_pieces s inner xs own _ _ = []
 
--- an opcode that isn't listed has no immediates
+-- The immediates of an opcode. An opcode that is not listed has no immediates.
 abbrev pub pieces_by : Setting → List labels.Label → List labels.Label → labels.Label → Option Shape → Immediates → List Piece
 pieces_by s inner xs own None i = []
 pieces_by s inner xs own (Some shape) i = immediate_pieces s inner xs own shape i
 
--- how deep an operator stands in so many blocks: what ends a block or a part of it stands further out
+-- The nesting depth of an operator in d blocks. An operator that ends a block or a part of it is one level further
+-- out.
 abbrev pub level : Role → ℕ → ℕ
 level Turns d = d - 1
 level Catches d = d - 1
@@ -201,7 +204,7 @@ level Delegates d = d - 1
 level Ends d = d - 1
 level _ d = d
 
--- what stands before an operator's word: in a line nothing before the first
+-- A line break or a space before an operator's word. In one line, nothing comes before the first.
 abbrev pub before_word : Form → Bool → ℕ → ℕ → List Piece
 before_word OverLines first place nesting = Break (Some place) nesting ∷ []
 before_word InLine true place nesting = []
@@ -214,12 +217,13 @@ operator_pieces s first own xs o =
     ++ (Word (word_of o.value.opcode)
     ∷ pieces_by s (labels_inside role xs) (labels_outside role xs) own (shape_of o.value.opcode) o.value.immediates)
 
--- a hint on a line of its own, as deep as the operators of the block
+-- A hint on a line of its own, at the nesting depth of the operators of the block.
 abbrev pub hint_pieces : ℕ → Option (Placed Hint) → List Piece
 hint_pieces nesting None = []
 hint_pieces nesting (Some h) = Break (Some h.place) nesting ∷ (HintNote h.value.taken ∷ [])
 
--- n blocks were opened before, these labels are open, and these hints wait for their operators
+-- A list of operators. n blocks were opened before it, the labels `xs` are open, and the hints `hs` are not yet
+-- printed.
 unfoldable pub operators_pieces : Setting → List (Placed Hint) → Bool → ℕ → List labels.Label → List (Placed Operator) → List Piece
 operators_pieces s hs first n xs [] = []
 operators_pieces s hs first n xs (o ∷ os) =
@@ -230,6 +234,6 @@ operators_pieces s hs first n xs (o ∷ os) =
     ++ (operator_pieces s first own xs o
     ++ operators_pieces s (hint_behind offset hs) false (count_after role n) (labels_after role own xs) os)
 
--- a list of operators, with no label open and without hints
+-- A list of operators, with no label open and without hints.
 unfoldable pub expression_pieces : Setting → List (Placed Operator) → List Piece
 expression_pieces s os = operators_pieces s [] true 0 [] os

@@ -6,7 +6,7 @@ use Rattle.wasmprinter_spec.specs.Piece.{Piece, Break}
 use Rattle.wasmprinter_spec.specs.Layout.Groups.{line_group_gap}
 use Rattle.wasmprinter_spec.specs.Layout.Declarations.{Scope, item_index}
 
--- where the module has one
+-- The start function, if the module has one.
 unfoldable pub start_pieces : Scope → Option (Placed ℕ) → List Piece
 start_pieces s None = []
 start_pieces s (Some start) = Break (Some start.place) 1 ∷ line_group_gap (codes "start") (item_index s Func start.value)

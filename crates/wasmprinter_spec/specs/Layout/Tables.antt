@@ -20,11 +20,11 @@ unfoldable pub init_pieces : Scope → Option (List (Placed Operator)) → List 
 init_pieces s None = []
 init_pieces s (Some os) = Gap ∷ constant_pieces s 2 os
 
--- a declaration and a table's type
+-- A declaration and a table type.
 abbrev pub declared_table : Scope → ℕ → TableType → List Piece
 declared_table s i t = item_declaration s row.Table i ++ (Gap ∷ table_type_pieces s.names t)
 
--- what stands in the group of a table
+-- The content of the group of a table.
 abbrev pub table_parts : Scope → ℕ → Table (Placed Operator) → List Piece
 table_parts s i t = item_declaration s row.Table i ++ (Gap ∷ (table_type_pieces s.names t.type ++ init_pieces s t.init))
 

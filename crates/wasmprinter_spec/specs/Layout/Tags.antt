@@ -7,6 +7,6 @@ use Rattle.wasmprinter_spec.specs.Layout.Groups.{line_group_gap}
 use Rattle.wasmprinter_spec.specs.Layout.Declarations.{Scope}
 use Rattle.wasmprinter_spec.specs.Layout.Functions.{header_pieces}
 
--- a tag has a type as a function has, but no names for its parameters
+-- A tag. It has a type as a function has, but no identifiers for its parameters.
 unfoldable pub tag_pieces : Scope → ℕ → Placed ℕ → List Piece
 tag_pieces s i tag = Break (Some tag.place) 1 ∷ line_group_gap (codes "tag") (header_pieces s Tag None i tag.value)

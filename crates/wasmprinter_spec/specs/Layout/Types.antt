@@ -1,4 +1,4 @@
--- The layout of types (section 6.4 of the standard). But for groups of types, each stands on one line.
+-- The layout of types (section 6.4 of the standard). Each type is on one line; only groups of types have several.
 use Rattle.std.specs.Prelude.{ℕ, ◌+◌, List, [], ◌∷◌, ◌++◌, codes, Option, Some, None, length, Bool, true, false}
 use Rattle.wasmprinter_spec.specs.Grammar.{Placed}
 use Rattle.wasmprinter_spec.specs.Types.{ValType, StorageType, Val, I8, I16, FieldType, FuncType, CompositeType, FuncComposite, ArrayComposite, StructComposite, SubType}
@@ -12,32 +12,33 @@ use Rattle.wasmprinter_spec.specs.Layout.Identifiers.{identifier_gap_pieces, dec
 use Rattle.wasmprinter_spec.specs.Layout.ValTypes.{type_index_pieces, val_pieces, type_list}
 use Rattle.wasmprinter_spec.specs.Layout.Variables.{variable_groups, groups_pieces}
 
--- the identifiers of a signature's parameters: those of a function, or none where the signature is of no function
+-- The identifiers of a signature's parameters: those of function f, or no identifiers if the signature belongs to
+-- no function.
 abbrev pub parameters_of : Names → Option ℕ → ℕ → Option Named
 parameters_of names None i = None
 parameters_of names (Some f) i = names.locals f i
 
 module _ (names : Names) where
-  -- ` (w t1 t2 ..)`, and nothing where there are none
+  -- ` (w t1 t2 ..)`, and nothing if there are no types.
   unfoldable pub list_group : List ℕ → List ValType → List Piece
   list_group w [] = []
   list_group w (t ∷ ts) = Gap ∷ line_group w (type_list names (t ∷ ts))
 
-  -- the signature of a function, or of no function
+  -- The signature of function f, or of no function.
   unfoldable pub signature_pieces : Option ℕ → FuncType → List Piece
   signature_pieces f t =
       groups_pieces names (codes "param") (variable_groups (parameters_of names f) 0 t.params) ++ list_group (codes "result") t.results
 
-  -- the signature of a type, nothing where it is no function type
+  -- The signature of a type, nothing if it is not a function type.
   abbrev pub signature_if_any : Option ℕ → Option FuncType → List Piece
   signature_if_any f None = []
   signature_if_any f (Some t) = signature_pieces f t
 
-  -- a type use: the index of a type, and its signature where it is a function type
+  -- A type use: the index of a type, and its signature if it is a function type.
   unfoldable pub type_use_pieces : Option ℕ → ℕ → Option FuncType → List Piece
   type_use_pieces f i t = line_group_gap (codes "type") (type_index_pieces names i) ++ signature_if_any f t
 
-  -- ---- composite types
+  -- ---- Composite types
 
   unfoldable pub storage_pieces : StorageType → List Piece
   storage_pieces (Val t) = val_pieces names t
@@ -48,27 +49,27 @@ module _ (names : Names) where
   field_pieces_by true s = OpenPlain (codes "mut") ∷ (Gap ∷ (storage_pieces s ++ (Shut ∷ [])))
   field_pieces_by false s = storage_pieces s
 
-  -- with a blank before it, and its identifier if it has one
+  -- A space, the identifier of the field if it has one, and the field.
   unfoldable pub field_pieces : Option Named → FieldType → List Piece
   field_pieces n f = Gap ∷ (identifier_gap_pieces n ++ field_pieces_by f.mutable f.storage)
 
   unfoldable pub struct_field_pieces : Option Named → FieldType → List Piece
   struct_field_pieces n f = Gap ∷ (OpenPlain (codes "field") ∷ (field_pieces n f ++ (Shut ∷ [])))
 
-  -- the type with this index
+  -- The composite type of the type with index i.
   unfoldable pub composite_pieces : ℕ → CompositeType → List Piece
   composite_pieces i (FuncComposite t) = line_group (codes "func") (signature_pieces None t)
   composite_pieces i (ArrayComposite f) = line_group (codes "array") (field_pieces None f)
   composite_pieces i (StructComposite fs) =
       line_group (codes "struct") (numbered_pieces (λ k f. struct_field_pieces (names.fields i k) f) 0 fs)
 
-  -- ---- subtypes
+  -- ---- Subtypes
 
   abbrev pub final_pieces : Bool → List Piece
   final_pieces true = Word (codes "final") ∷ (Gap ∷ [])
   final_pieces false = []
 
-  -- a blank behind each
+  -- Supertypes, with a space after each.
   unfoldable pub supertype_pieces : List ℕ → List Piece
   supertype_pieces [] = []
   supertype_pieces (i ∷ is) = type_index_pieces names i ++ (Gap ∷ supertype_pieces is)
@@ -76,7 +77,7 @@ module _ (names : Names) where
   unfoldable pub sub_group : ℕ → Bool → List ℕ → CompositeType → List Piece
   sub_group i final supers c = line_group (codes "sub") (Gap ∷ (final_pieces final ++ (supertype_pieces supers ++ composite_pieces i c)))
 
-  -- a final type without supertypes is its composite type by itself
+  -- A subtype. A final type without supertypes is printed as its composite type by itself.
   abbrev pub sub_pieces_by : ℕ → Bool → List ℕ → CompositeType → List Piece
   sub_pieces_by i true [] c = composite_pieces i c
   sub_pieces_by i final supers c = sub_group i final supers c
@@ -84,13 +85,14 @@ module _ (names : Names) where
   unfoldable pub sub_pieces : ℕ → SubType → List Piece
   sub_pieces i t = sub_pieces_by i t.final t.supertypes t.composite
 
-  -- a type with its number
+  -- A type with its index.
   unfoldable pub type_pieces : ℕ → SubType → List Piece
   type_pieces i t = line_group_gap (codes "type") (declaration_pieces (names.items Types i) i ++ (Gap ∷ sub_pieces i t))
 
-  -- ---- groups of types
+  -- ---- Groups of types
 
-  -- each type of a written group stands on a line, and all these lines have the place behind the group's first two bytes
+  -- A type of a written group, on a line of its own. The place of all these lines is that after the group's first
+  -- two bytes.
   unfoldable pub member_pieces : ℕ → ℕ → SubType → List Piece
   member_pieces place i t = Break (Some (place + 2)) 2 ∷ type_pieces i t
 
@@ -98,11 +100,11 @@ module _ (names : Names) where
   group_pieces_by true place i ts = group 1 (codes "rec") (numbered_pieces (member_pieces place) i ts)
   group_pieces_by false place i ts = numbered_pieces type_pieces i ts
 
-  -- a group, whose first type has this number
+  -- A group. Its first type has the index i.
   unfoldable pub type_group_pieces : ℕ → Placed TypeGroup → List Piece
   type_group_pieces i g = Break (Some g.place) 1 ∷ group_pieces_by g.value.written g.place i g.value.types
 
-  -- groups: their types are numbered over all of them
+  -- Groups. Type indices count the types of all of them.
   unfoldable pub type_section_pieces : ℕ → List (Placed TypeGroup) → List Piece
   type_section_pieces i [] = []
   type_section_pieces i (g ∷ gs) = type_group_pieces i g ++ type_section_pieces (i + length g.value.types) gs

@@ -7,7 +7,7 @@ use Rattle.wasmprinter_spec.specs.Piece.{Piece, Gap, Word, TypeWord}
 use Rattle.wasmprinter_spec.specs.Layout.Groups.{line_group, line_group_gap}
 use Rattle.wasmprinter_spec.specs.Layout.Identifiers.{index_pieces}
 
--- the word of an abstract heap type, empty of an index
+-- The word of an abstract heap type, empty for an index.
 abbrev pub heap_word : HeapType → List ℕ
 heap_word Exn = codes "exn"
 heap_word Array = codes "array"
@@ -23,7 +23,7 @@ heap_word NoFunc = codes "nofunc"
 heap_word NoExn = codes "noexn"
 heap_word (Index n) = []
 
--- the word of a reference to an abstract heap type that may be null, empty of an index
+-- The word of a nullable reference to an abstract heap type, empty for an index.
 abbrev pub ref_word : HeapType → List ℕ
 ref_word Exn = codes "exnref"
 ref_word Array = codes "arrayref"
@@ -40,7 +40,7 @@ ref_word NoExn = codes "nullexnref"
 ref_word (Index n) = []
 
 module _ (names : Names) where
-  -- an index of a type, by its identifier if it has one
+  -- A type index, by its identifier if it has one.
   unfoldable pub type_index_pieces : ℕ → List Piece
   type_index_pieces n = index_pieces (names.items Types n) n
 
@@ -48,7 +48,7 @@ module _ (names : Names) where
   heap_pieces (Index n) = type_index_pieces n
   heap_pieces h = TypeWord (heap_word h) ∷ []
 
-  -- a reference that may be null
+  -- A nullable reference type.
   unfoldable pub null_ref_pieces : HeapType → List Piece
   null_ref_pieces (Index n) = line_group (codes "ref") (Gap ∷ (Word (codes "null") ∷ (Gap ∷ heap_pieces (Index n))))
   null_ref_pieces h = TypeWord (ref_word h) ∷ []
@@ -68,7 +68,7 @@ module _ (names : Names) where
   val_pieces V128 = TypeWord (codes "v128") ∷ []
   val_pieces (Ref r) = ref_pieces r
 
-  -- a blank before each
+  -- Types, with a space before each.
   unfoldable pub type_list : List ValType → List Piece
   type_list [] = []
   type_list (t ∷ ts) = Gap ∷ (val_pieces t ++ type_list ts)

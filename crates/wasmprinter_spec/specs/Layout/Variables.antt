@@ -1,5 +1,5 @@
--- The layout of parameters and locals (section 6.6 of the standard, "Functions" and "Type Uses"). One with an identifier stands in a group
--- of its own, and neighbours without share one.
+-- The layout of parameters and locals (section 6.6 of the standard, "Functions" and "Type Uses"). A variable with
+-- an identifier is in a group of its own; adjacent ones without identifiers share a group.
 use Rattle.std.specs.Prelude.{ℕ, ◌+◌, List, [], ◌∷◌, ◌++◌, Option, Some, None}
 use Rattle.wasmprinter_spec.specs.Types.{ValType}
 use Rattle.wasmprinter_spec.specs.Labels.{Named}
@@ -9,18 +9,18 @@ use Rattle.wasmprinter_spec.specs.Layout.Groups.{line_group}
 use Rattle.wasmprinter_spec.specs.Layout.Identifiers.{mark_gap_pieces}
 use Rattle.wasmprinter_spec.specs.Layout.ValTypes.{val_pieces, type_list}
 
--- a group of variables
+-- A group of variables: one with an identifier, or several without.
 pub data Variables : Type 0 where
   Alone : Named → ValType → Variables
   Together : List ValType → Variables
 
--- a variable before these groups
+-- A variable before these groups.
 abbrev pub with_variable : Option Named → ValType → List Variables → List Variables
 with_variable (Some n) t gs = Alone n t ∷ gs
 with_variable None t (Together ts ∷ gs) = Together (t ∷ ts) ∷ gs
 with_variable None t gs = Together (t ∷ []) ∷ gs
 
--- variables k, k + 1 .. in their groups
+-- The variables with the indices k, k + 1 .. in their groups.
 abbrev pub variable_groups : (ℕ → Option Named) → ℕ → List ValType → List Variables
 variable_groups named k [] = []
 variable_groups named k (t ∷ ts) = with_variable (named k) t (variable_groups named (k + 1) ts)
@@ -30,7 +30,7 @@ module _ (names : Names) where
   variables_pieces w (Alone n t) = line_group w (Gap ∷ (mark_gap_pieces (Some n) ++ val_pieces names t))
   variables_pieces w (Together ts) = line_group w (type_list names ts)
 
-  -- groups, a blank before each
+  -- Groups, with a space before each.
   unfoldable pub groups_pieces : List ℕ → List Variables → List Piece
   groups_pieces w [] = []
   groups_pieces w (g ∷ gs) = Gap ∷ (variables_pieces w g ++ groups_pieces w gs)

@@ -1,11 +1,11 @@
--- The names of items by the entries of name sections, and what stands behind the dollar sign for each: the content of the name. The
--- standard leaves identifiers open: these are this printer's own.
+-- The names of items by the entries of name sections, and the characters after the dollar sign for each, which are
+-- the content of the name. The standard leaves identifiers open: these are this printer's own.
 use Rattle.std.specs.Prelude.{ℕ, List, [], ◌∷◌, ◌++◌, Bool, false, ◌||◌, ◌&&◌, ◌==◌, bytes_eq, not, Option, Some, None, if◌then◌else◌, codes, decimal, filter}
 use Rattle.wasmprinter_spec.specs.Labels.{Named}
 use Rattle.wasmprinter_spec.specs.LabelNames.{is_clean}
 use Rattle.wasmprinter_spec.specs.Names.Section.{Entry, module_subsection, function_subsection, local_subsection, label_subsection, type_subsection, table_subsection, memory_subsection, global_subsection, elem_subsection, data_subsection, field_subsection}
 
--- the word for the items that a subsection names
+-- The word for the items that a subsection names.
 abbrev pub group_of : ℕ → List ℕ
 group_of s =
     if s == module_subsection then codes "module"
@@ -21,25 +21,25 @@ group_of s =
     else if s == field_subsection then codes "field"
     else codes "tag"
 
--- the sign #, the word and the index
+-- The sign #, the word and the index.
 abbrev pub index_content : List ℕ → ℕ → List ℕ
 index_content group index = 35 ∷ (group ++ decimal index)
 
--- the same, a blank and the name
+-- The sign #, the word, the index, a space and the name.
 abbrev pub marked_content : List ℕ → ℕ → List ℕ → List ℕ
 marked_content group index name = 35 ∷ (group ++ (decimal index ++ (32 ∷ name)))
 
--- the names of modules and labels never count as given
+-- The subsection's names count as given. Those of modules and labels never do.
 abbrev pub is_counted : ℕ → Bool
 is_counted s = not (s == module_subsection || s == label_subsection)
 
--- the name is among these
+-- The name is in the list.
 abbrev pub is_among : List ℕ → List (List ℕ) → Bool
 is_among name [] = false
 is_among name (n ∷ names) = bytes_eq n name || is_among name names
 
--- The content of an entry, where these names were given before in its space: the name, unless it is empty,
--- begins with # or was given before.
+-- The content of an entry, if the names `given` were given before in its space. It is the name, unless the name is
+-- empty, begins with # or was given before; then it is `marked_content`.
 abbrev pub content : ℕ → List (List ℕ) → Entry → List ℕ
 content s given e =
     if not (is_clean e.name) || (is_counted s && is_among e.name given) then marked_content (group_of s) e.index e.name
@@ -48,21 +48,21 @@ content s given e =
 abbrev pub entry_name : ℕ → List (List ℕ) → Entry → Named
 entry_name s given e = record { given = Some e.name; content = content s given e }
 
--- Of the entries of one space the last one for an index names it. `given` are the names in front of these entries, `before` is what those
--- in front of them name the index.
+-- The name of the index by the entries of one space: the last entry for the index names it. `given` are the names
+-- of earlier entries, `before` is the name that these gave the index.
 abbrev pub last_name : ℕ → List (List ℕ) → Option Named → List Entry → ℕ → Option Named
 last_name s given before [] index = before
 last_name s given before (e ∷ entries) index =
     last_name s (e.name ∷ given) (if e.index == index then Some (entry_name s given e) else before) entries index
 
--- the entry is one of this subsection and, for locals, labels and fields, of this function or type
+-- The entry is in this subsection and, for locals, labels and fields, belongs to this function or type.
 abbrev pub is_in : ℕ → ℕ → Entry → Bool
 is_in s outer e = e.subsection == s && e.outer == outer
 
--- the entries of one space, in order
+-- The entries of one space, in order.
 abbrev pub entries_in : ℕ → ℕ → List Entry → List Entry
 entries_in s outer entries = filter (is_in s outer) entries
 
--- the name of an item, by all entries of a module
+-- The name of an item, by all entries of a module.
 abbrev pub name_of : List Entry → ℕ → ℕ → ℕ → Option Named
 name_of entries s outer index = last_name s [] None (entries_in s outer entries) index

@@ -1,11 +1,11 @@
--- The data of a name section (appendix "Name Section" of the standard, and the extended name section proposal): subsections with names for
--- indices. What stands in front of the first fault counts.
+-- The data of a name section (appendix "Name Section" of the standard, and the extended name section proposal):
+-- subsections with names for indices. The entries before the first error count.
 use Rattle.std.specs.Prelude.{◌≡◌, ℕ, List, [], ◌∷◌, ◌++◌, Bool, ◌||◌, ◌==◌, nat_lt}
 use Rattle.wasmprinter_spec.specs.Grammar.{Input, Grammar, byte, seq}
 use Rattle.wasmprinter_spec.specs.Name.{u32, name}
 use Rattle.wasmprinter_spec.specs.Lenient.{Lenient, give, follow, one, repeat, within, by_test, unless_ended, Groups}
 
--- ---- the ids of subsections
+-- ---- The ids of subsections
 
 abbrev pub module_subsection : ℕ
 module_subsection = 0
@@ -40,25 +40,25 @@ data_subsection = 9
 abbrev pub field_subsection : ℕ
 field_subsection = 10
 
--- the last one that is known
+-- The last known id.
 abbrev pub tag_subsection : ℕ
 tag_subsection = 11
 
--- locals and labels are numbered within a function, fields within a type
+-- Locals and labels are indexed within a function, fields within a type.
 abbrev pub is_indirect : ℕ → Bool
 is_indirect s = s == local_subsection || s == label_subsection || s == field_subsection
 
--- ---- entries
+-- ---- Entries
 
--- A name that the subsection of an id gives for an index. `outer` is the function of a local or a label and the type
--- of a field, and 0 for all else.
+-- A name that a subsection gives for an index. `outer` is the function of a local or a label, the type of a field,
+-- and otherwise 0.
 pub record Entry : Type 0 where
   pub subsection : ℕ
   pub outer : ℕ
   pub index : ℕ
   pub name : List ℕ
 
--- an index with its name
+-- An index and its name.
 abbrev pub association : Grammar (ℕ × List ℕ)
 association = seq u32 (λ _. name)
 
@@ -68,37 +68,37 @@ entry_of s outer x = record { subsection = s; outer = outer; index = x.0; name =
 abbrev pub entry : ℕ → ℕ → Lenient Entry
 entry s outer = one (λ x. entry_of s outer x ∷ []) association
 
--- a name map: a count, and so many indices with their names
+-- A name map: a count n, and then n indices with their names.
 abbrev pub name_map : ℕ → ℕ → Lenient Entry
 name_map s outer = follow u32 (λ n. repeat (entry s outer) n)
 
--- the name map of one function or type
+-- A function or type, and its name map.
 abbrev pub inner_map : ℕ → Lenient Entry
 inner_map s = follow u32 (λ outer. name_map s outer)
 
--- an indirect name map: a count, and so many indices with their name maps
+-- An indirect name map: a count n, and then n indices with their name maps.
 abbrev pub indirect_map : ℕ → Lenient Entry
 indirect_map s = follow u32 (λ n. repeat (inner_map s) n)
 
--- the name of the module
+-- The name of the module.
 abbrev pub module_name : Lenient Entry
 module_name = one (λ x. entry_of module_subsection 0 (0, x) ∷ []) name
 
--- ---- subsections
+-- ---- Subsections
 
--- what a subsection of a known id holds
+-- The content of a subsection with a known id.
 abbrev pub entries_by_id : ℕ → Lenient Entry
 entries_by_id s = by_test (s == module_subsection) module_name (by_test (is_indirect s) (indirect_map s) (name_map s 0))
 
--- the bytes of all others are skipped
+-- The content of a subsection. The bytes of one with an unknown id are skipped.
 abbrev pub content : ℕ → Lenient Entry
 content s = by_test (nat_lt tag_subsection s) (give []) (entries_by_id s)
 
--- an id, a size, and so many bytes
+-- An id, a size, and that many bytes.
 abbrev pub subsection : Lenient Entry
 subsection = follow byte (λ s. follow u32 (λ size. within (content s) size))
 
--- as many subsections as there are, but at most n
+-- All subsections, but at most n.
 abbrev pub subsections : ℕ → Lenient Entry
 subsections n = repeat (unless_ended subsection) n
 
@@ -106,6 +106,6 @@ abbrev pub all_of : List (List Entry) → List Entry
 all_of [] = []
 all_of (xs ∷ groups) = xs ++ all_of groups
 
--- the data of a name section gives these entries
+-- The data of a name section gives these entries.
 abbrev pub GivesNames : Input → List Entry → Type 0
 GivesNames at entries = (groups : List (List Entry)) × Groups subsection at groups × (entries ≡ all_of groups)

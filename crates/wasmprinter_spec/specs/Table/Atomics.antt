@@ -1,4 +1,5 @@
--- Atomic operators, behind the prefix FE (threads proposal, "Binary format"). The exponents are those of the natural alignment.
+-- Atomic operators, after the prefix FE (threads proposal, "Binary format"). The exponents are those of the
+-- natural alignment.
 use Prim.Native.String.{String}
 use Rattle.std.specs.Prelude.{ℕ, List, [], ◌∷◌}
 use Rattle.wasmprinter_spec.specs.Row.{Row, FenceShape, MemoryShape, Arity, Fixed}

@@ -1,5 +1,5 @@
--- Operators on whole regions of memories and tables, and on segments, behind the prefix FC (section 5.4 of the standard, "Memory
--- Instructions", "Table Instructions").
+-- Operators on regions of memories and tables, and on segments, after the prefix FC (section 5.4 of the standard,
+-- "Memory Instructions", "Table Instructions").
 use Prim.Native.String.{String}
 use Rattle.std.specs.Prelude.{ℕ, List, [], ◌∷◌}
 use Rattle.wasmprinter_spec.specs.Row.{Row, Table, Memory, Elem, Data, Shape, IndexShape, DefaultIndexShape, SegmentShape, CopyShape, Arity, Fixed}

@@ -1,5 +1,5 @@
--- Control operators (section 5.4 of the standard, "Control Instructions"; `try`, `catch`, `rethrow`, `delegate` and `catch_all` are those
--- of the legacy exception handling proposal).
+-- Control operators (section 5.4 of the standard, "Control Instructions"; `try`, `catch`, `rethrow`, `delegate`
+-- and `catch_all` are those of the legacy exception handling proposal).
 use Rattle.std.specs.Prelude.{List, [], ◌∷◌}
 use Rattle.wasmprinter_spec.specs.Row.{Row, Types, Func, Tag, Label, NoneShape, BlockShape, TryTableShape, IndexShape, CallShape, BranchTableShape, CastShape, Fixed, OfCall, OfReturnCall, OfIndirectCall, OfReturnIndirectCall, OfThrow, OfReturn, OfBranch, OfBranchIf, OfBranchTable, OfBranchOnNull, OfBranchOnNonNull, OfBranchOnCast, OfBlock, Opens, OpensIf, OpensTry, Turns, Catches, CatchesAll, Delegates, Ends}
 use Rattle.wasmprinter_spec.specs.Table.Rows.{control, prefixed_row, plain}

@@ -1,15 +1,15 @@
--- Operators on memories behind one byte (section 5.4 of the standard, "Memory Instructions"). The exponents are
--- those of the natural alignment.
+-- Operators on memories, with opcodes of one byte (section 5.4 of the standard, "Memory Instructions"). The
+-- exponents are those of the natural alignment.
 use Prim.Native.String.{String}
 use Rattle.std.specs.Prelude.{ℕ, List, [], ◌∷◌}
 use Rattle.wasmprinter_spec.specs.Row.{Row, Memory, DefaultIndexShape, MemoryShape, Fixed}
 use Rattle.wasmprinter_spec.specs.Table.Rows.{plain}
 
--- takes an address, gives what stands there
+-- Takes an address, gives the value at that address.
 abbrev load : ℕ → String → ℕ → Row
 load n w natural = plain n w (MemoryShape natural) (Fixed 1 1)
 
--- takes an address and a value
+-- Takes an address and a value.
 abbrev store : ℕ → String → ℕ → Row
 store n w natural = plain n w (MemoryShape natural) (Fixed 2 0)
 

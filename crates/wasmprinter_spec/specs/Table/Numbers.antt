@@ -1,5 +1,5 @@
--- Operators on numbers (section 5.4 of the standard, "Numeric Instructions"; behind the prefix FC also those of
--- the wide arithmetic proposal).
+-- Operators on numbers (section 5.4 of the standard, "Numeric Instructions"; after the prefix FC also those of the
+-- wide arithmetic proposal).
 use Prim.Native.String.{String}
 use Rattle.std.specs.Prelude.{ℕ, List, [], ◌∷◌, ◌++◌}
 use Rattle.wasmprinter_spec.specs.Row.{Row, Shape, NoneShape, I32Shape, I64Shape, F32Shape, F64Shape, Fixed}
@@ -17,11 +17,11 @@ binary n w = plain n w NoneShape (Fixed 2 1)
 abbrev saturating : ℕ → String → Row
 saturating n w = prefixed_row 0xfc n w NoneShape (Fixed 1 1)
 
--- takes so many operands of 64 bits, gives two
+-- Takes this number of 64-bit operands, gives two results.
 abbrev wide : ℕ → String → ℕ → Row
 wide n w operands = prefixed_row 0xfc n w NoneShape (Fixed operands 2)
 
--- constants and comparisons
+-- Constants and comparisons.
 unfoldable pub comparison_rows : List Row
 comparison_rows =
     constant 0x41 "i32.const" I32Shape ∷
@@ -64,7 +64,7 @@ comparison_rows =
     binary 0x66 "f64.ge" ∷
     []
 
--- operators of one type
+-- Operators on operands of one type.
 unfoldable pub arithmetic_rows : List Row
 arithmetic_rows =
     unary 0x67 "i32.clz" ∷
@@ -133,7 +133,7 @@ arithmetic_rows =
     binary 0xa6 "f64.copysign" ∷
     []
 
--- operators from one type to another, of one width to another, and of two halves of a number
+-- Operators from one type to another, from one width to another, and on numbers in two halves.
 unfoldable pub conversion_rows : List Row
 conversion_rows =
     unary 0xa7 "i32.wrap_i64" ∷

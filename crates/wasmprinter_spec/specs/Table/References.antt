@@ -1,4 +1,5 @@
--- Operators on references, structures and arrays (section 5.4 of the standard, "Reference Instructions", "Aggregate Instructions").
+-- Operators on references, structures and arrays (section 5.4 of the standard, "Reference Instructions",
+-- "Aggregate Instructions").
 use Prim.Native.String.{String}
 use Rattle.std.specs.Prelude.{ℕ, List, [], ◌∷◌, true, false}
 use Rattle.wasmprinter_spec.specs.Row.{Row, Types, Func, Elem, Data, Shape, NoneShape, IndexShape, PairShape, FieldShape, CountShape, HeapShape, RefShape, Arity, Fixed, OfStruct, OfCount}

@@ -1,5 +1,5 @@
--- Operators on operands, variables and elements of tables (section 5.4 of the standard, "Parametric Instructions", "Variable Instructions",
--- "Table Instructions").
+-- Operators on operands, variables and table elements (section 5.4 of the standard, "Parametric Instructions",
+-- "Variable Instructions", "Table Instructions").
 use Rattle.std.specs.Prelude.{List, [], ◌∷◌}
 use Rattle.wasmprinter_spec.specs.Row.{Row, Local, Global, Table, NoneShape, IndexShape, SelectShape, Fixed}
 use Rattle.wasmprinter_spec.specs.Table.Rows.{plain}

@@ -1,4 +1,4 @@
--- Operators on vectors of numbers, behind the prefix FD (section 5.4 of the standard, "Vector Instructions").
+-- Operators on vectors of numbers, after the prefix FD (section 5.4 of the standard, "Vector Instructions").
 use Prim.Native.String.{String}
 use Rattle.std.specs.Prelude.{ℕ, List, [], ◌∷◌, ◌++◌}
 use Rattle.wasmprinter_spec.specs.Row.{Row, NoneShape, Fixed}
@@ -157,7 +157,7 @@ exact_rows =
     unary 255 "f64x2.convert_low_i32x4_u" ∷
     []
 
--- operators whose results may differ from machine to machine
+-- Operators whose results may differ from machine to machine.
 unfoldable pub relaxed_rows : List Row
 relaxed_rows =
     binary 256 "i8x16.relaxed_swizzle" ∷

@@ -1,5 +1,5 @@
--- Operators on vectors, behind the prefix FD (section 5.4 of the standard, "Vector Instructions"): memories, lanes, comparisons and bits.
--- The exponents are those of the natural alignment.
+-- Operators on vectors, after the prefix FD (section 5.4 of the standard, "Vector Instructions"): memories, lanes,
+-- comparisons and bits. The exponents are those of the natural alignment.
 use Prim.Native.String.{String}
 use Rattle.std.specs.Prelude.{ℕ, List, [], ◌∷◌}
 use Rattle.wasmprinter_spec.specs.Row.{Row, Shape, NoneShape, MemoryShape, MemoryLaneShape, LaneShape, VectorShape, LanesShape, Arity, Fixed}
@@ -17,11 +17,11 @@ binary n w = vector n w NoneShape (Fixed 2 1)
 abbrev ternary : ℕ → String → Row
 ternary n w = vector n w NoneShape (Fixed 3 1)
 
--- takes an address
+-- Takes an address.
 abbrev load : ℕ → String → ℕ → Row
 load n w natural = vector n w (MemoryShape natural) (Fixed 1 1)
 
--- these three take an address and a vector
+-- These three take an address and a vector.
 abbrev store : ℕ → String → ℕ → Row
 store n w natural = vector n w (MemoryShape natural) (Fixed 2 0)
 
@@ -31,11 +31,11 @@ load_lane n w natural = vector n w (MemoryLaneShape natural) (Fixed 2 1)
 abbrev store_lane : ℕ → String → ℕ → Row
 store_lane n w natural = vector n w (MemoryLaneShape natural) (Fixed 2 0)
 
--- takes a vector
+-- Takes a vector.
 abbrev extract : ℕ → String → Row
 extract n w = vector n w LaneShape (Fixed 1 1)
 
--- takes a vector and a number
+-- Takes a vector and a number.
 abbrev replace : ℕ → String → Row
 replace n w = vector n w LaneShape (Fixed 2 1)
 

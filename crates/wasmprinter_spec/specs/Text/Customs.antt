@@ -1,5 +1,6 @@
--- Custom sections in the text format (custom annotations, appendix of the standard): `(@custom "name" (before first) "bytes")`, or
--- `(after ..)` one of the other sections. An annotation without a place, or with another one, is an abbreviation that is not read.
+-- Custom sections in the text format (custom annotations, appendix of the standard): `(@custom "name" (before
+-- first) "bytes")`, or `(after ..)` one of the other sections. An annotation without a place, or with another one,
+-- is an abbreviation that is not read.
 use Rattle.std.specs.Prelude.{ℕ, List, [], ◌∷◌, codes, bytes_eq, Option, Some, None, if◌then◌else◌, option_map}
 use Rattle.std.specs.Str.{is_utf8}
 use Rattle.wasmprinter_spec.specs.Grammar.{◌>>=◌}
@@ -22,7 +23,7 @@ first_word w = if bytes_eq w (codes "first") then Some None else None
 abbrev pub kind_word : List ℕ → Option (Option Kind)
 kind_word w = option_map Some (section_of_word w)
 
--- where the section stands among the others
+-- The place of the section among the others.
 abbrev pub custom_place : Forest → Option (Option Kind)
 custom_place (Word w f) =
     if bytes_eq w (codes "before") then one_word first_word f else (if bytes_eq w (codes "after") then one_word kind_word f else None)

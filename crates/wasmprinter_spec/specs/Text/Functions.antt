@@ -10,10 +10,10 @@ use Rattle.wasmprinter_spec.specs.Text.Types.{variables, signature}
 use Rattle.wasmprinter_spec.specs.Text.TypeUses.{parameters}
 use Rattle.wasmprinter_spec.specs.Text.Operators.{read_operators}
 
--- ---- functions
+-- ---- Functions
 
 module _ (c : Context) where
-  -- A function of the type i: its signature, its locals and its operators. Parameters and locals are one space.
+  -- A function of type i: its signature, its locals and its operators. Parameters and locals are one index space.
   abbrev pub function_parts : ℕ → Forest → Option Function
   function_parts i f = do
     sig ← signature c.spaces.types f
@@ -28,6 +28,6 @@ module _ (c : Context) where
   function_of_type (Group (Word w t) f) = if bytes_eq w (codes "type") then index c.spaces.types t >>= (λ i. function_parts i f) else None
   function_of_type _ = None
 
-  -- a function with its identifier
+  -- A function, which may have an identifier before it.
   abbrev pub read_function : Forest → Option Function
   read_function f = function_of_type (identifier_in_front f).1

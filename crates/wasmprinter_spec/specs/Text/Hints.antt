@@ -1,6 +1,7 @@
--- The branch hints of a text (Code Metadata, a document beside the standard): each belongs to the operator or group directly behind it.
--- A text in which a hint annotation stands elsewhere has no list of hints. Nor has one in which another annotation stands between a
--- parenthesis and the keyword of a field, of a part of a function's header or of a folded operator.
+-- The branch hints of a text (Code Metadata, a document that accompanies the standard): each belongs to the
+-- operator or group directly after it. A text has no list of hints if a hint annotation occurs elsewhere, or if
+-- another annotation occurs between a parenthesis and the keyword of a field, of a part of a function's header or
+-- of a folded operator.
 use Rattle.std.specs.Prelude.{ℕ, suc, ◌+◌, ◌==◌, List, [], ◌∷◌, ◌++◌, length, Bool, true, false, ◌&&◌, codes, bytes_eq, Option, Some, None, if◌then◌else◌, map}
 use Rattle.std.specs.List.{list_any}
 use Rattle.wasmprinter_spec.specs.Grammar.{◌>>=◌}
@@ -10,7 +11,8 @@ use Rattle.wasmprinter_spec.specs.Customs.Hints.{flag}
 use Rattle.wasmprinter_spec.specs.HintsOfModule.{OperatorHint, operator_hint}
 use Rattle.wasmprinter_spec.specs.Text.Items.{each}
 
--- what stands in front of the operators of a function: its identifier, its type, parameters, results and locals, and annotations
+-- Before the operators of a function come its identifier, its type, parameters, results and locals, and
+-- annotations.
 abbrev pub header_words : List (List ℕ)
 header_words = codes "type" ∷ codes "param" ∷ codes "result" ∷ codes "local" ∷ []
 
@@ -20,12 +22,12 @@ body_of (Note id g f) = if is_hint id then Note id g f else body_of f
 body_of (Group (Word w g) f) = if list_any (λ v. bytes_eq v w) header_words then body_of f else Group (Word w g) f
 body_of f = f
 
--- one byte, which is a flag
+-- A string of one byte, which is a flag.
 abbrev pub hint_flag : Forest → Option Bool
 hint_flag (String (b ∷ []) End) = flag b
 hint_flag _ = None
 
--- the hints in front of each operator, of which the first has this number
+-- The hints before each operator. The first of the operators has the number n.
 abbrev pub chunk_hints : ℕ → ℕ → List Chunk → Option (List OperatorHint)
 chunk_hints function n [] = Some []
 chunk_hints function n (k ∷ ks) = do
@@ -36,18 +38,18 @@ chunk_hints function n (k ∷ ks) = do
 abbrev pub function_hints_in : ℕ → Forest → Option (List OperatorHint)
 function_hints_in function f = chunks_of_forest (body_of f) >>= chunk_hints function 0
 
--- the fields of a module: imports of functions, of which each has a number too, and functions
+-- The import is that of a function. (Imported functions have indices too.)
 abbrev pub imports_function : Forest → Bool
 imports_function (String m (String n (Group (Word w f) End))) = bytes_eq w (codes "func")
 imports_function _ = false
 
--- whether there are annotations alone
+-- There are only annotations.
 abbrev pub is_empty : Forest → Bool
 is_empty End = true
 is_empty (Note id f g) = is_empty g
 is_empty _ = false
 
--- behind so many functions
+-- The hints of the fields of a module, after the first i functions.
 abbrev pub field_hints : ℕ → Forest → Option (List OperatorHint)
 field_hints i End = Some []
 field_hints i (Group (Word w f) g) =
@@ -62,9 +64,10 @@ forest_hints (Group (Word w f) g) = if bytes_eq w (codes "module") && is_empty g
 forest_hints (Note id f g) = forest_hints g
 forest_hints _ = None
 
--- ---- hints that belong to no operator
+-- ---- Hints that belong to no operator
 
--- How many hint annotations stand among items and in their groups. What stands inside an annotation is part of that annotation.
+-- The number of hint annotations among items and in their groups. The content of an annotation is part of that
+-- annotation.
 abbrev pub hint_count : Forest → ℕ
 hint_count End = 0
 hint_count (Word s f) = hint_count f
@@ -74,13 +77,13 @@ hint_count (Reserved f) = hint_count f
 hint_count (Group g f) = hint_count g + hint_count f
 hint_count (Note id g f) = if is_hint id then suc (hint_count f) else hint_count f
 
--- hints of items, if each of their hint annotations gives one
+-- The hints of items, if each hint annotation among them gives one.
 abbrev pub if_all : Forest → List OperatorHint → Option (List OperatorHint)
 if_all f hs = if length hs == hint_count f then Some hs else None
 
--- ---- texts
+-- ---- Texts
 
--- the hints of a text, in order
+-- The hints of a text, in order, or None if it has no list of hints.
 abbrev pub text_hints : List ℕ → Option (List OperatorHint)
 text_hints text = do
   f ← forest text

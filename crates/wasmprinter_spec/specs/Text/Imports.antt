@@ -13,7 +13,7 @@ use Rattle.wasmprinter_spec.specs.Text.Tables.{table_type}
 use Rattle.wasmprinter_spec.specs.Text.Globals.{global_type}
 use Rattle.wasmprinter_spec.specs.Text.Exports.{kind_of_word}
 
--- an import by its kind: the two names, and what its inner group holds behind the word
+-- An import by its kind: the two names, and the content of its inner group after the word.
 pub record ImportField : Type 0 where
   pub kind : ExternKind
   pub source : List ℕ
@@ -28,7 +28,7 @@ import_field (String m (String n (Group (Word w f) End))) =
     if is_utf8 m && is_utf8 n then option_map (field_of m n f) (kind_of_word w) else None
 import_field _ = None
 
--- what is imported, without its identifier
+-- The type of an import, read after its identifier.
 abbrev pub extern_type : Context → ExternKind → Forest → Option ExternType
 extern_type c FuncKind f = option_map FuncExtern (type_index c f)
 extern_type c TableKind f = option_map TableExtern (table_type c f >>= value_at_end)

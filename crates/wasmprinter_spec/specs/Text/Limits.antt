@@ -5,7 +5,7 @@ use Rattle.wasmprinter_spec.specs.Numeral.{u64}
 use Rattle.wasmprinter_spec.specs.Forest.{Forest, Word}
 use Rattle.wasmprinter_spec.specs.Types.{Limits, limits_of}
 
--- the type of addresses, 32 bits where none stands, and what stands behind it
+-- Whether the address type is `i64` (it is `i32` if it is absent), and the items after it.
 abbrev pub address_type : Forest → Bool × Forest
 address_type (Word w f) =
     if bytes_eq w (codes "i64") then (true, f) else (if bytes_eq w (codes "i32") then (false, f) else (false, Word w f))
@@ -15,7 +15,7 @@ abbrev pub with_max : ℕ → Option ℕ → Forest → Forest → Limits × For
 with_max min (Some max) f rest = (limits_of min (Some max), rest)
 with_max min None f rest = (limits_of min None, f)
 
--- the greatest size, if a number stands there
+-- Limits with this minimum size, a maximum size if a number follows, and the items after it.
 abbrev pub max_behind : ℕ → Forest → Limits × Forest
 max_behind min (Word w f) = with_max min (u64 w) (Word w f) f
 max_behind min f = (limits_of min None, f)

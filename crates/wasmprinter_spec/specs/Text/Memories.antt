@@ -1,5 +1,5 @@
--- Memories in the text format (section 6.4 of the standard, "Memory Types"; section 6.6, "Memories"; with sizes of pages). A memory
--- with its data or with its export inside is an abbreviation that is not read.
+-- Memories in the text format (section 6.4 of the standard, "Memory Types"; section 6.6, "Memories"; with page
+-- sizes). A memory with inline data or an inline export is an abbreviation that is not read.
 use Rattle.std.specs.Prelude.{ℕ, Bool, true, false, codes, bytes_eq, Option, Some, None, if◌then◌else◌}
 use Rattle.wasmprinter_spec.specs.Grammar.{◌>>=◌}
 use Rattle.wasmprinter_spec.specs.Forest.{Forest, End, Word, Group}
@@ -12,7 +12,7 @@ abbrev pub shared_in_front : Forest → Bool × Forest
 shared_in_front (Word w f) = if bytes_eq w (codes "shared") then (true, f) else (false, Word w f)
 shared_in_front f = (false, f)
 
--- the size of a page, which is a power of two, or nothing
+-- The size of a page, which must be a power of two, by its exponent; it may be absent.
 abbrev pub page : Forest → Option (Option ℕ)
 page End = Some None
 page (Group (Word w f) End) = if bytes_eq w (codes "pagesize") then one_word exponent_of f >>= (λ e. Some (Some e)) else None
@@ -23,6 +23,6 @@ memory_type f =
     let wide : Bool × Forest = address_type f in
     limits wide.1 >>= λ l. page (shared_in_front l.1).1 >>= λ e. Some (memory_type_of wide.0 (shared_in_front l.1).0 l.0 e)
 
--- a memory with its identifier
+-- A memory, which may have an identifier before it.
 abbrev pub read_memory : Forest → Option MemoryType
 read_memory f = memory_type (identifier_in_front f).1

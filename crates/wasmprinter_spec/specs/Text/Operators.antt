@@ -1,6 +1,7 @@
--- Operators in the text format (section 6.5 of the standard): the immediates of each are read by the shape that the table gives its word.
--- Of several operators with one word it is the first whose shape reads what stands behind the word. Labels go by one scan over the flat
--- list, with the labels that are open, the innermost first: an identifier means the innermost label that has it.
+-- Operators in the text format (section 6.5 of the standard). The immediates of each are read by the shape that
+-- the table gives its word. Of several operators with one word, it is the first whose shape reads the items after
+-- the word. Labels are resolved in one pass over the flat list, with the open labels, the innermost first: an
+-- identifier means the innermost label that has it.
 use Rattle.std.specs.Prelude.{ℕ, zero, suc, ℤ, pos, negsuc, ◌-◌, ◌*◌, ◌/◌, ◌%◌, ◌^◌, ◌==◌, ◌||◌, is_some, length, List, [], ◌∷◌, Bool, true, false, cond, codes, bytes_eq, Option, Some, None, option_map, if◌then◌else◌, map}
 use Rattle.wasmprinter_spec.specs.Grammar.{◌>>=◌}
 use Rattle.wasmprinter_spec.specs.Numeral.{u8, u32, u64, exponent_of, integer}
@@ -18,14 +19,14 @@ use Rattle.wasmprinter_spec.specs.Text.Items.{or_else, lookup, one_word, all_ite
 use Rattle.wasmprinter_spec.specs.Text.Types.{Signature, signature, heap_type, reference_type, ref_named, ref_group, val_types}
 use Rattle.wasmprinter_spec.specs.Text.TypeUses.{agrees, same_flag}
 
--- ---- labels
+-- ---- Labels
 
--- how far out the innermost label with this identifier stands
+-- The index of the innermost label with this identifier.
 abbrev pub depth : List ℕ → Identifiers → Option ℕ
 depth s [] = None
 depth s (i ∷ is) = cond (declares s i) (Some 0) (option_map suc (depth s is))
 
--- labels, one behind another
+-- Labels, one after the other.
 abbrev pub labels : Identifiers → Forest → Option (List ℕ)
 labels ids End = Some []
 labels ids (Word w f) = u32 w >>= λ l. labels ids f >>= λ ls. Some (l ∷ ls)
@@ -40,28 +41,28 @@ last_apart [] = None
 last_apart (l ∷ []) = Some ([], l)
 last_apart (l ∷ m ∷ ls) = option_map (λ x. (l ∷ x.0, x.1)) (last_apart (m ∷ ls))
 
--- the identifier in front of a block's type
+-- The identifier before a block's type.
 abbrev pub id_of : Forest → Option (List ℕ)
 id_of f = (identifier_in_front f).0
 
 abbrev pub behind_id : Forest → Forest
 behind_id f = (identifier_in_front f).1
 
--- ---- block types
+-- ---- Block types
 
--- no parameter of a block has an identifier
+-- No parameter of a block has an identifier.
 abbrev pub are_unnamed : Identifiers → Bool
 are_unnamed [] = true
 are_unnamed (None ∷ is) = are_unnamed is
 are_unnamed (Some i ∷ is) = false
 
--- a signature beside the index of a function type
+-- The block type with index i, if it is a function type and the signature after the index agrees with it.
 abbrev pub type_with : ℕ → Option FuncType → Signature × Forest → Option (BlockType × Forest)
 type_with i None x = None
 type_with i (Some t) x = if agrees x.0 t then (if are_unnamed (ids_of x.0.params) then Some (OfType i, x.1) else None) else None
 
--- A block type, and what stands behind it: one result, or a type use, or nothing. (A block type without an index but with parameters, or
--- with more results than one, is an abbreviation that is not read.)
+-- A block type, and the items after it: one result, a type use, or nothing. (A block type without an index but
+-- with parameters, or with more than one result, is an abbreviation that is not read.)
 abbrev pub block_type : Context → Forest → Option (BlockType × Forest)
 block_type c (Group (Word v g) f) =
     if bytes_eq v (codes "result") then val_types c.spaces.types g >>= the_only >>= (λ t. Some (Value t, f)) else
@@ -73,9 +74,9 @@ abbrev pub block_alone : BlockType × Forest → Option Immediates
 block_alone (t, End) = Some (Block t)
 block_alone (t, _) = None
 
--- ---- catch clauses
+-- ---- Catch clauses
 
--- the first of several items, alone
+-- The first of several items, alone.
 abbrev pub first_alone : Forest → Forest
 first_alone (Word w f) = Word w End
 first_alone (Name s f) = Name s End
@@ -102,23 +103,23 @@ clauses c ids End = Some []
 clauses c ids (Group (Word w g) f) = clause c ids w g >>= λ x. clauses c ids f >>= λ xs. Some (x ∷ xs)
 clauses c ids _ = None
 
--- ---- immediates
+-- ---- Immediates
 
 abbrev pub no_immediates : Forest → Option Immediates
 no_immediates End = Some NoImmediates
 no_immediates _ = None
 
--- an index into a space; labels are found among those that are open
+-- An index into a space. A label is resolved among the open labels.
 abbrev pub index : Context → Identifiers → Space → Forest → Option ℕ
 index c ids Label f = label ids f
 index c ids space f = index_in (space_in c.spaces space) f
 
--- an index that is 0 where none stands
+-- An index, 0 if it is absent.
 abbrev pub default_index : Context → Space → Forest → Option ℕ
 default_index c space End = Some 0
 default_index c space f = index_in (space_in c.spaces space) f
 
--- an index of each of two spaces
+-- An index into each of two spaces.
 abbrev pub two_indices : Context → Space → Space → Forest → Option (ℕ × ℕ)
 two_indices c first second f = do
   m ← leading_index (space_in c.spaces first) f
@@ -128,62 +129,62 @@ two_indices c first second f = do
 abbrev pub pair : ℕ × ℕ → Immediates
 pair x = Indices x.0 x.1
 
--- the other way round
+-- The two indices in reverse order.
 abbrev pub reversed_indices : ℕ × ℕ → Immediates
 reversed_indices x = Indices x.1 x.0
 
--- a structure type and a field of it
+-- A structure type and one of its fields.
 abbrev pub type_and_field : Context → Forest → Option Immediates
 type_and_field c f = leading_index c.spaces.types f >>= λ t. index_in (c.fields t.0) t.1 >>= λ n. Some (Indices t.0 n)
 
--- a type and a number
+-- A type and a number.
 abbrev pub type_and_count : Context → Forest → Option Immediates
 type_and_count c f = leading_index c.spaces.types f >>= λ t. one_word u32 t.1 >>= λ n. Some (Indices t.0 n)
 
--- two indices, both 0 where none stands
+-- Two indices, both 0 if they are absent.
 abbrev pub two_indices_or_zeros : Context → Space → Forest → Option (ℕ × ℕ)
 two_indices_or_zeros c space End = Some (0, 0)
 two_indices_or_zeros c space f = two_indices c space space f
 
--- a segment; before it may stand an index of the table or memory
+-- A segment. The index of the table or memory may come before it; it is 0 if it is absent.
 abbrev pub with_segment : Context → Space → Space → Forest → Option Immediates
 with_segment c segments space f =
     or_else (option_map (λ m. Indices m 0) (index_in (space_in c.spaces segments) f))
     (option_map reversed_indices (two_indices c space segments f))
 
--- a type use, and nothing behind it
+-- A type use, with no item after it.
 abbrev pub call_immediates : ℕ → BlockType × Forest → Option Immediates
 call_immediates table (OfType t, End) = Some (Indices t table)
 call_immediates table _ = None
 
--- a table, 0 where none stands, and a type use
+-- A table, 0 if it is absent, and a type use.
 abbrev pub call_parts : Context → Forest → Option Immediates
 call_parts c (Group g f) = block_type c (Group g f) >>= call_immediates 0
 call_parts c f = leading_index c.spaces.tables f >>= λ t. block_type c t.1 >>= call_immediates t.0
 
--- groups of results, at least one
+-- Groups of results, at least one.
 abbrev pub select_types : Context → Forest → Option Immediates
 select_types c End = None
 select_types c f = groups (val_types c.spaces.types) (codes "result") f >>= value_at_end >>= λ ts. Some (Types ts)
 
--- a reference type that may be null or not
+-- The heap type of a reference type that is nullable or not, as `null` says.
 abbrev pub heap_with : Bool → RefType → Option Immediates
 heap_with null r = if same_flag r.nullable null then Some (Heap r.heap) else None
 
--- ---- casts
+-- ---- Casts
 
 abbrev pub two_types : ℕ → List RefType → Option Immediates
 two_types l (r ∷ t ∷ []) = Some (Cast l r t)
 two_types l _ = None
 
--- a label and two reference types
+-- A label and two reference types.
 abbrev pub cast_parts : Context → Identifiers → Forest → Option Immediates
 cast_parts c ids f =
     label ids (first_alone f) >>= λ l. all_items ref_named (ref_group c.spaces.types) (behind_first f) >>= λ rs. two_types l rs
 
--- ---- memory operands (section 6.5 of the standard, "Memory Instructions")
+-- ---- Memory operands (section 6.5 of the standard, "Memory Instructions")
 
--- what stands behind these characters
+-- The characters after this prefix.
 abbrev pub behind_prefix : List ℕ → List ℕ → Option (List ℕ)
 behind_prefix [] w = Some w
 behind_prefix (p ∷ ps) [] = None
@@ -195,13 +196,13 @@ offset_word w = behind_prefix (codes "offset=") w
 abbrev pub align_word : List ℕ → Option (List ℕ)
 align_word w = behind_prefix (codes "align=") w
 
--- the alignment, the natural one where none stands
+-- The exponent of the alignment, the natural one if it is absent.
 abbrev pub alignment : ℕ → Forest → Option ℕ
 alignment natural End = Some natural
 alignment natural (Word w End) = align_word w >>= exponent_of
 alignment natural _ = None
 
--- an offset, 0 where none stands, and an alignment
+-- An offset, 0 if it is absent, and an alignment.
 abbrev pub offset_by : ℕ → ℕ → Option (List ℕ) → Forest → Forest → Option MemArg
 offset_by natural memory (Some digits) f rest = u64 digits >>= λ offset. alignment natural rest >>= λ e. Some (mem_arg_of e memory offset)
 offset_by natural memory None f rest = alignment natural f >>= λ e. Some (mem_arg_of e memory 0)
@@ -210,11 +211,11 @@ abbrev pub with_memory : ℕ → ℕ → Forest → Option MemArg
 with_memory natural memory (Word w f) = offset_by natural memory (offset_word w) (Word w f) f
 with_memory natural memory f = offset_by natural memory None f f
 
--- the word is not an index
+-- The word is an offset or an alignment, not an index.
 abbrev pub is_option : List ℕ → Bool
 is_option w = is_some (offset_word w) || is_some (align_word w)
 
--- an index of a memory, 0 where none stands, an offset and an alignment
+-- The index of a memory, 0 if it is absent, an offset and an alignment.
 abbrev pub mem_arg : Context → ℕ → Forest → Option MemArg
 mem_arg c natural (Word w f) =
     if is_option w then with_memory natural 0 (Word w f)
@@ -222,41 +223,41 @@ mem_arg c natural (Word w f) =
 mem_arg c natural (Name s f) = index_in c.spaces.memories (Name s End) >>= λ m. with_memory natural m f
 mem_arg c natural f = with_memory natural 0 f
 
--- the last item is a word: the items before it, and it
+-- The items before the last one, and the last one, which must be a word.
 abbrev pub but_last : Forest → Option (Forest × List ℕ)
 but_last (Word w End) = Some (End, w)
 but_last (Word w f) = option_map (λ x. (Word w x.0, x.1)) (but_last f)
 but_last (Name s f) = option_map (λ x. (Name s x.0, x.1)) (but_last f)
 but_last _ = None
 
--- a memory operand, and a lane behind it
+-- A memory operand, and a lane after it.
 abbrev pub mem_arg_and_lane : Context → ℕ → Forest → Option Immediates
 mem_arg_and_lane c natural f = but_last f >>= λ x. mem_arg c natural x.0 >>= λ m. u8 x.1 >>= λ k. Some (MemoryLane m k)
 
--- ---- vectors
+-- ---- Vectors
 
--- so many bytes of a number, the lowest first
+-- The first `count` bytes of a number, the lowest first.
 abbrev pub bytes_of : ℕ → ℕ → List ℕ
 bytes_of zero n = []
 bytes_of (suc count) n = n % 256 ∷ bytes_of count (n / 256)
 
--- a whole number of so many bits as one without a sign
+-- A signed integer of the given number of bits as an unsigned one.
 abbrev pub as_unsigned : ℕ → ℤ → ℕ
 as_unsigned bits (pos n) = n
 as_unsigned bits (negsuc n) = 2 ^ bits - suc n
 
--- lanes of so many bytes
+-- A lane of the given number of bytes.
 abbrev pub vector_lane : ℕ → List ℕ → Option (List ℕ)
 vector_lane size w = option_map (λ z. bytes_of size (as_unsigned (8 * size) z)) (integer (8 * size) w)
 
--- no lane is a group
+-- No lane is a group.
 abbrev pub no_group : {A : Type 0} → Forest → Option A
 no_group f = None
 
 abbrev pub sixteen : List ℕ → Option Immediates
 sixteen bs = if length bs == 16 then Some (Bytes bs) else None
 
--- how many bytes a lane has of the shapes of whole numbers (vectors of floating point numbers are not read)
+-- The number of bytes of a lane, for the integer shapes. (Vectors of floating-point numbers are not read.)
 unfoldable pub lane_size : List ℕ → Option ℕ
 lane_size w = lookup ((codes "i8x16", 1) ∷ (codes "i16x8", 2) ∷ (codes "i32x4", 4) ∷ (codes "i64x2", 8) ∷ []) w
 
@@ -267,7 +268,7 @@ vector _ = None
 abbrev pub lanes : Forest → Option Immediates
 lanes f = all_items u8 no_group f >>= sixteen
 
--- ---- immediates by their shape
+-- ---- Immediates by their shape
 
 abbrev pub immediates : Context → Identifiers → Shape → Forest → Option Immediates
 immediates c ids NoneShape f = no_immediates f
@@ -297,12 +298,13 @@ immediates c ids F64Shape f = option_map F64 (one_word (float double) f)
 immediates c ids VectorShape f = vector f
 immediates c ids LanesShape f = lanes f
 
--- the labels that an operator's immediates see: `delegate` those outside its block; a block that is opened doesn't see its own
+-- The labels in scope for an operator's immediates: for `delegate`, those outside its block. A block's own label
+-- is not in scope for the operator that opens the block.
 abbrev pub labels_in_sight : Role → Identifiers → Identifiers
 labels_in_sight Delegates (i ∷ is) = is
 labels_in_sight _ is = is
 
--- the labels that are open behind an operator
+-- The open labels after an operator.
 abbrev pub open_behind : Role → Option (List ℕ) → Identifiers → Identifiers
 open_behind Opens i is = i ∷ is
 open_behind OpensIf i is = i ∷ is
@@ -311,7 +313,7 @@ open_behind Delegates i (j ∷ is) = is
 open_behind Ends i (j ∷ is) = is
 open_behind _ i is = is
 
--- the first of these rows that reads the arguments, and what it reads
+-- The first of these rows that reads the arguments, and the immediates that it reads.
 abbrev pub first_reading : Context → Identifiers → List Row → Forest → Option (Row × Immediates)
 first_reading c ids [] f = None
 first_reading c ids (r ∷ rs) f =
@@ -320,22 +322,22 @@ first_reading c ids (r ∷ rs) f =
 abbrev pub operator_of : Row × Immediates → Operator
 operator_of x = record { opcode = opcode x.0.prefix x.0.number; immediates = x.1 }
 
--- ---- operators
+-- ---- Operators
 
--- operators in their flat order, with these labels open
+-- The operators in their flat order, with these labels open.
 abbrev pub operators : Context → Identifiers → List Chunk → Option (List Operator)
 operators c ids [] = Some []
 operators c ids (k ∷ ks) =
     first_reading c ids k.rows k.arguments >>= λ x. operators c (open_behind x.0.role (id_of k.arguments) ids) ks
     >>= λ os. Some (operator_of x ∷ os)
 
--- they stand well nested: with an `end` behind them all blocks are closed
+-- The operators are well nested: an `end` after them closes the last open block.
 abbrev pub are_nested : List Operator → Bool
 are_nested os = stops advance at_start (map (λ o. role_of o.opcode) os) Ends
 
 abbrev pub if_nested : List Operator → Option (List Operator)
 if_nested os = if are_nested os then Some os else None
 
--- the operators of a body or of an expression
+-- The operators of a body or of an expression.
 abbrev pub read_operators : Context → List Chunk → Option (List Operator)
 read_operators c ks = operators c [] ks >>= if_nested

@@ -3,7 +3,7 @@ use Rattle.std.specs.Prelude.{ℕ, Option, Some, None, option_map}
 use Rattle.wasmprinter_spec.specs.Forest.{Forest}
 use Rattle.wasmprinter_spec.specs.IndexSpaces.{Spaces, index}
 
--- the index that the field holds, where there is such a field
+-- The index in the field `start`, if there is such a field.
 abbrev pub read_start : Spaces → Option Forest → Option (Option ℕ)
 read_start s None = Some None
 read_start s (Some f) = option_map Some (index s.functions f)

@@ -1,5 +1,5 @@
--- Tables in the text format (section 6.4 of the standard, "Table Types"; section 6.6, "Tables"). A table with its elements or with its
--- export inside is an abbreviation that is not read.
+-- Tables in the text format (section 6.4 of the standard, "Table Types"; section 6.6, "Tables"). A table with
+-- inline elements or an inline export is an abbreviation that is not read.
 use Rattle.std.specs.Prelude.{Bool, List, Option, Some, None, option_map}
 use Rattle.wasmprinter_spec.specs.Grammar.{◌>>=◌}
 use Rattle.wasmprinter_spec.specs.Forest.{Forest, End}
@@ -13,7 +13,7 @@ use Rattle.wasmprinter_spec.specs.Text.Limits.{address_type, limits}
 use Rattle.wasmprinter_spec.specs.Text.Expressions.{expression}
 
 module _ (c : Context) where
-  -- the type of a table, and what stands behind it
+  -- A table type, and the items after it.
   abbrev pub table_type : Forest → Option (TableType × Forest)
   table_type f =
       let wide : Bool × Forest = address_type f in
@@ -23,6 +23,6 @@ module _ (c : Context) where
   init End = Some None
   init f = option_map Some (expression c f)
 
-  -- a table with its identifier
+  -- A table, which may have an identifier before it.
   abbrev pub read_table : Forest → Option (Table Operator)
   read_table f = table_type (identifier_in_front f).1 >>= λ t. init t.1 >>= λ i. Some (table_of t.0 i)

@@ -1,4 +1,5 @@
--- Type uses where no body follows (section 6.6 of the standard, "Type Uses"): of tags, and of functions and tags that are imported.
+-- Type uses where no body follows (section 6.6 of the standard, "Type Uses"): of tags, and of functions and tags
+-- that are imported.
 use Rattle.std.specs.Prelude.{ℕ, codes, bytes_eq, Option, Some, None, if◌then◌else◌}
 use Rattle.wasmprinter_spec.specs.Grammar.{◌>>=◌}
 use Rattle.wasmprinter_spec.specs.Forest.{Forest, Word, Group}
@@ -8,11 +9,11 @@ use Rattle.wasmprinter_spec.specs.Text.Types.{Signature, signature}
 use Rattle.wasmprinter_spec.specs.Text.TypeUses.{parameters}
 
 module _ (c : Context) where
-  -- the signature agrees with the type i, and its parameters have identifiers of their own
+  -- The index i, if the signature agrees with the type i and no two of its parameters have the same identifier.
   abbrev pub index_with : ℕ → Signature → Option ℕ
   index_with i s = parameters s (c.signature i) >>= index_space >>= λ _. Some i
 
-  -- the index of a type, and perhaps its signature
+  -- The index of a type, with or without a signature after it.
   abbrev pub type_index : Forest → Option ℕ
   type_index (Group (Word w t) f) =
       if bytes_eq w (codes "type")

@@ -1,11 +1,12 @@
--- Type uses in the text format (section 6.4 of the standard, "Type Uses"): a signature beside the index of a type.
+-- Type uses in the text format (section 6.4 of the standard, "Type Uses"): the index of a type, and a signature
+-- after it.
 use Rattle.std.specs.Prelude.{ℕ, List, [], ◌∷◌, ◌+◌, Bool, true, false, ◌&&◌, ◌==◌, cond, Option, Some, None, if◌then◌else◌, replicate, length}
 use Rattle.wasmprinter_spec.specs.Types.{HeapType, Exn, Array, Struct, I31, Eq, Any, Extern, Func, NoAny, NoExtern, NoFunc, NoExn, Index, ValType, I32, I64, F32, F64, V128, Ref, FuncType}
 use Rattle.wasmprinter_spec.specs.IndexSpaces.{Identifiers}
 use Rattle.wasmprinter_spec.specs.Text.Items.{ids_of}
 use Rattle.wasmprinter_spec.specs.Text.Types.{Signature, type_of}
 
--- each heap type has a number of its own
+-- A number for each heap type, different from all others.
 abbrev pub heap_number : HeapType → ℕ
 heap_number Exn = 0
 heap_number Array = 1
@@ -49,13 +50,13 @@ same_func_type s t = same_types s.params t.params && same_types s.results t.resu
 abbrev pub no_type : FuncType
 no_type = record { params = []; results = [] }
 
--- a signature beside the index of a type says the same as the type, or is absent
+-- A signature after the index of a type is that of the type, or it is absent.
 abbrev pub agrees : Signature → FuncType → Bool
 agrees s t = cond (same_func_type (type_of s) t) true (same_func_type (type_of s) no_type)
 
--- The identifiers of a function's parameters. The type that a function uses is a function type. A signature beside its index
--- is that type's, or it is absent, and then the parameters have no identifiers, whatever the type says (sections 6.4 and 6.6
--- of the standard, "Type Uses").
+-- The identifiers of a function's parameters. The type that a function uses must be a function type. A signature
+-- after the type's index is that of the type, or it is absent; then the parameters have no identifiers, whatever
+-- the type says (sections 6.4 and 6.6 of the standard, "Type Uses").
 abbrev pub parameters : Signature → Option FuncType → Option Identifiers
 parameters s None = None
 parameters s (Some t) =

@@ -6,7 +6,7 @@ use Rattle.wasmprinter_spec.specs.Types.{HeapType, Exn, Array, Struct, I31, Eq, 
 use Rattle.wasmprinter_spec.specs.IndexSpaces.{Identifiers, index_space, index}
 use Rattle.wasmprinter_spec.specs.Text.Items.{or_else, lookup, each, one_word, one_item, all_items, identifier_in_front, value_at_end, groups, Declaration, declarations, ids_of, types_of}
 
--- ---- value types
+-- ---- Value types
 
 unfoldable pub heap_of_word : List ℕ → Option HeapType
 heap_of_word w =
@@ -15,7 +15,7 @@ heap_of_word w =
     ∷ (codes "eq", Eq) ∷ (codes "any", Any) ∷ (codes "extern", Extern) ∷ (codes "func", Func)
     ∷ (codes "none", NoAny) ∷ (codes "noextern", NoExtern) ∷ (codes "nofunc", NoFunc) ∷ (codes "noexn", NoExn) ∷ []) w
 
--- abbreviations of references that may be null
+-- Abbreviations of nullable reference types.
 unfoldable pub ref_of_word : List ℕ → Option HeapType
 ref_of_word w =
     lookup (
@@ -29,7 +29,7 @@ number_of_word w = lookup ((codes "i32", I32) ∷ (codes "i64", I64) ∷ (codes 
 unfoldable pub packed_of_word : List ℕ → Option StorageType
 packed_of_word w = lookup ((codes "i8", I8) ∷ (codes "i16", I16) ∷ []) w
 
--- the types that one word stands for
+-- The types that a single word represents.
 abbrev pub ref_named : List ℕ → Option RefType
 ref_named w = option_map (ref_type true) (ref_of_word w)
 
@@ -50,7 +50,7 @@ module _ (ids : Identifiers) where
   null_heap (Word w f) = if bytes_eq w (codes "null") then heap_type f else None
   null_heap _ = None
 
-  -- what stands behind `ref`: a heap type, or `null` and a heap type
+  -- The items after `ref`: a heap type, or `null` and a heap type.
   abbrev pub ref_parts : Forest → Option RefType
   ref_parts f = or_else (option_map (ref_type false) (heap_type f)) (option_map (ref_type true) (null_heap f))
 
@@ -70,7 +70,7 @@ module _ (ids : Identifiers) where
   abbrev pub val_types : Forest → Option (List ValType)
   val_types f = all_items val_named val_group f
 
-  -- ---- composite types
+  -- ---- Composite types
 
   abbrev pub storage_group : Forest → Option StorageType
   storage_group g = option_map Val (val_group g)
@@ -78,7 +78,7 @@ module _ (ids : Identifiers) where
   abbrev pub storage_type : Forest → Option StorageType
   storage_type f = one_item storage_named storage_group f
 
-  -- a storage type in parentheses, or one that can be changed
+  -- A storage type in parentheses, or a mutable field.
   abbrev pub field_group : Forest → Option FieldType
   field_group (Word w f) =
       if bytes_eq w (codes "mut")
@@ -94,7 +94,7 @@ module _ (ids : Identifiers) where
   abbrev pub variables : Forest → Option (List (Declaration ValType))
   variables f = declarations val_types f
 
--- parameters may have identifiers
+-- A signature. Its parameters may have identifiers.
 pub record Signature : Type 0 where
   pub params : List (Declaration ValType)
   pub results : List ValType
@@ -102,7 +102,7 @@ pub record Signature : Type 0 where
 abbrev pub type_of : Signature → FuncType
 type_of s = record { params = types_of s.params; results = s.results }
 
--- What declares a type: the type, and the identifiers of its fields if it is a structure.
+-- A declared type, and the identifiers of its fields if it is a structure.
 pub record Declared (A : Type 0) : Type 0 where
   pub type : A
   pub fields : Identifiers
@@ -110,7 +110,7 @@ pub record Declared (A : Type 0) : Type 0 where
 abbrev pub with_fields : {A : Type 0} → Identifiers → A → Declared A
 with_fields ids t = record { type = t; fields = ids }
 
--- The identifiers of a structure's fields are one space.
+-- The structure type with these fields. Their identifiers are one index space.
 abbrev pub struct_of : List (Declaration FieldType) → Option (Declared CompositeType)
 struct_of ds = option_map (λ ids. with_fields ids (StructComposite (types_of ds))) (index_space (ids_of ds))
 
@@ -128,9 +128,9 @@ module _ (ids : Identifiers) where
       (if bytes_eq w (codes "struct") then groups (declarations (fields ids)) (codes "field") f >>= value_at_end >>= struct_of else None))
   composite _ = None
 
-  -- ---- subtypes
+  -- ---- Subtypes
 
-  -- supertypes, and then a composite type
+  -- Supertypes, and then a composite type.
   abbrev pub supertypes : Forest → Option (List ℕ × Declared CompositeType)
   supertypes (Group g End) = composite g >>= λ c. Some ([], c)
   supertypes (Word w f) = index ids (Word w End) >>= λ i. supertypes f >>= λ x. Some (i ∷ x.0, x.1)
@@ -144,11 +144,11 @@ module _ (ids : Identifiers) where
   abbrev pub sub_from : Bool → List ℕ × Declared CompositeType → Declared SubType
   sub_from final x = with_fields x.1.fields (sub_type final x.0 x.1.type)
 
-  -- what stands behind `sub`: supertypes and a composite type, or `final` and these
+  -- The items after `sub`: supertypes and a composite type, or `final` and these.
   abbrev pub sub_parts : Forest → Option (Declared SubType)
   sub_parts f = or_else (option_map (sub_from false) (supertypes f)) (option_map (sub_from true) (final_supertypes f))
 
-  -- a composite type by itself is final and has no supertype
+  -- A subtype. A composite type by itself is final and has no supertypes.
   abbrev pub subtype : Forest → Option (Declared SubType)
   subtype (Word w f) =
       if bytes_eq w (codes "sub") then sub_parts f else option_map (λ c. with_fields c.fields (final_type c.type)) (composite (Word w f))
@@ -158,20 +158,20 @@ module _ (ids : Identifiers) where
   one_group (Group g End) = subtype g
   one_group _ = None
 
-  -- a type with its identifier
+  -- A type, which may have an identifier before it.
   abbrev pub read_type : Forest → Option (Declared SubType)
   read_type f = one_group (identifier_in_front f).1
 
   abbrev pub read_group : List Forest → Option (List (Declared SubType))
   read_group fs = each read_type fs
 
--- what the fields `type` of a group `rec` hold
+-- The contents of the fields `type` of a group `rec`.
 abbrev pub group_members : Forest → Option (List Forest)
 group_members End = Some []
 group_members (Group (Word w f) g) = if bytes_eq w (codes "type") then option_map (λ fs. f ∷ fs) (group_members g) else None
 group_members _ = None
 
--- the types of groups
+-- The types of groups.
 abbrev pub group_types : List (List (Declared SubType)) → List (List SubType)
 group_types gs = map (λ g. map (λ d. d.type) g) gs
 
@@ -179,6 +179,6 @@ abbrev pub declared_fields : Option (Declared SubType) → Identifiers
 declared_fields None = []
 declared_fields (Some d) = d.fields
 
--- the identifiers of the fields of the type with an index
+-- The identifiers of the fields of the type with index i.
 abbrev pub field_space : List (List (Declared SubType)) → ℕ → Identifiers
 field_space gs i = declared_fields (slice_get (concat gs) i)
