@@ -1,5 +1,5 @@
-//! Laws of folding: which operators become which nodes, and that nothing is lost by it. Each law is the contract of a function with an
-//! empty body. No code of the printer is in them: they relate the definitions.
+//! Laws of folding: which operators become which nodes, and that folding loses no operator. Each law is the
+//! contract of a function with an empty body. The laws relate definitions and mention no code of the printer.
 #![tactic(auto)]
 
 ghost use Rattle.wasmprinter_spec.specs.Folding.Arities.{Signatures};
@@ -9,29 +9,33 @@ ghost use Rattle.wasmprinter_spec.specs.Folding.Unfolding.{UnfoldingRule};
 ghost use Rattle.wasmprinter_spec.specs.Layout.Folded.{FoldedRule, FoldingRule};
 ghost use Rattle.wasmprinter_spec.specs.Layout.Operators.{Setting};
 
-/// An operator that wants results takes the shortest run of nodes in front of it that gives so many, and none where no run does.
+/// An operator that takes operands takes the shortest run of last nodes whose results are exactly as many as it
+/// needs. It takes none if the sum of results first passes that number or no run has it.
 pub fn operands_are_the_shortest_run()
     ensures { OperandRule }
 {}
 
-/// The tree of a list of operators says that list, each where its role has it, and there is no other.
+/// The tree of a list of operators represents that list, with each operator in the position that its role
+/// requires. No other tree does.
 pub fn trees_say_their_lists()
     ensures says { CodeRule }
     ensures unique { UniqueCodeRule }
 {}
 
-/// Operators have a tree exactly where they are well nested and none is of the older `try`.
+/// Operators have a tree exactly if they are well nested and none belongs to legacy exception handling.
 pub fn nested_operators_have_trees()
     ensures nested { NestedCodeRule }
     ensures only { NestingCodeRule }
 {}
 
-/// What operators fold into unfolds to them, of each `end` only that it is one, however many operands each is said to take.
+/// The nodes of operators unfold to these operators in order, for any operand counts. Of an `end`, the nodes
+/// record only that it is one.
 pub fn folding_loses_nothing()
     ensures { UnfoldingRule }
 {}
 
-/// There is a folded layout exactly for operators that are well nested and of which none is of the older `try`.
+/// A list of operators has a folded layout exactly if it is well nested and no operator belongs to legacy
+/// exception handling.
 pub fn nested_operators_are_folded()
     ensures folded { (s : Setting) (signatures : Signatures) → FoldedRule s signatures }
     ensures only { (s : Setting) (signatures : Signatures) → FoldingRule s signatures }

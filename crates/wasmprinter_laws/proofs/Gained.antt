@@ -1,4 +1,5 @@
--- What a module that is printed leaves of a printer of text alone; and, printed in colours and without, of two writers.
+-- Printing a module to a text-only printer appends the module's text. Printing one module with colors and without
+-- gives two texts that differ only in ANSI escape sequences.
 use Rattle.std.specs.Prelude.{◌≡◌, ℕ, List, Option, true, false, Ok}
 use Rattle.std.proofs.Common.{ap, ◌∙◌, sym}
 use Rattle.std.specs.Io.KnownBytes.{Appends}
@@ -23,11 +24,11 @@ use Rattle.wasmprinter_print.specs.TextOnly.{Writes, Grows, text_only}
 use Rattle.wasmprinter_print.proofs.TextRuns.{takes_none, text_is_gained}
 use Rattle.wasmprinter.proofs.Texts.{IsPlainly, unclaimed_printed, plainly_printed, module_text}
 
--- bytes spell at most one module
+-- Bytes encode at most one module with its places.
 spells_one : (bytes : List ℕ) (m n : PlacedModule) → Spells bytes m → Spells bytes n → m ≡ n
 spells_one bytes m n s t = some_is m n (sym (binary.complete (input 0 bytes) m s.spelled) ∙ binary.complete (input 0 bytes) n t.spelled)
 
--- a printer in colours takes no custom section
+-- A printer with colors claims no custom section.
 leaves_sections : {T : Type 0} (takes : Writing T) (paints : Painting T) (s : T) (c : Call) (t : T) → WritesInColour takes paints s c (Ok tt) t → IsUnclaimed c
 leaves_sections takes paints s (Text bytes) t h = tt
 leaves_sections takes paints s Newline t h = tt
@@ -65,7 +66,7 @@ module _ {P S U Q R : Type 0} (writer : P → S) (inner : S → U) (told : U →
             ∙ sym (alike_texts u.calls (layout (in_colours o false) no_claims u.placed) other.alike);
       }
 
--- ---- printers of text alone
+-- ---- Text-only printers
 
 pub gains_text : {P : Type 0} (view : P → List ℕ) (writes : Writes P) → Grows view writes → (o : Options) (bytes : List ℕ) (old new : P) →
     Printed (text_only writes) false o bytes old new → GainsText o bytes (view old) (view new)

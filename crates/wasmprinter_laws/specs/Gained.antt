@@ -1,12 +1,13 @@
--- What printers and writers gained where a module was printed.
+-- The bytes that printers and writers gain when a module is printed.
 use Rattle.std.specs.Prelude.{◌≡◌, ℕ, List, ◌++◌, Option}
 use Rattle.std.specs.Io.KnownBytes.{Appends}
 use Rattle.wasmprinter_spec.specs.Colour.{uncolour}
 use Rattle.wasmprinter_spec.specs.Options.{Options}
 use Rattle.wasmprinter.specs.Printed.{HasTextBy}
 
--- One module was printed to two writers, in colours and without. By what they told before and told behind it, the first gained a text in
--- colours, the second what stays of this text when the colour sequences are deleted.
+-- One module was printed to two writers, with colors and without. By the contents that the writers report before
+-- and after, the first gained a text with ANSI escape sequences. The second gained the text that remains when
+-- these sequences are deleted.
 pub record GainAlike (coloured_old coloured_new plain_old plain_new : Option (List ℕ)) : Type 0 where
   pub coloured : List ℕ
   pub plain : List ℕ
@@ -14,7 +15,7 @@ pub record GainAlike (coloured_old coloured_new plain_old plain_new : Option (Li
   pub second : Appends plain_old plain_new plain
   pub same : uncolour coloured ≡ plain
 
--- what is seen of a printer grew by the text of the module
+-- The text of the module was appended to the view of a printer.
 pub record GainsText (o : Options) (bytes old new : List ℕ) : Type 0 where
   pub text : List ℕ
   pub gained : new ≡ old ++ text

@@ -1,2 +1,2 @@
--- What the laws of this crate say.
+-- Definitions that the laws of this crate cite.
 pub mod Gained

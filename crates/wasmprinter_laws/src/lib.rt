@@ -1,4 +1,5 @@
-//! Laws that follow from what the library promises. Each law is the contract of a function with an empty body.
+//! Laws that follow from several promises of the library together. Each law is the contract of a function with an
+//! empty body.
 #![tactic(auto)]
 
 ghost use Rattle.std.specs.Prelude.{ℕ, List};
@@ -11,9 +12,9 @@ use std::io::Write;
 use wasmprinter::print::{Ansi, NoColor};
 use wasmprinter::{Print, PrintTermcolor, PrintText};
 
-/// One module is printed with the same options to two writers. What the first gains through [`Ansi`], without its ANSI escape sequences,
-/// equals what the second gains through [`NoColor`]. Both writers specify the bytes that they hold, and the indent consists of spaces and
-/// tabs. Operators are folded or not.
+/// If a module is printed with the same options through [`Ansi`] and through [`NoColor`], deleting the ANSI escape
+/// sequences from what the first writer gains gives what the second writer gains. Both writers specify the bytes
+/// that they hold, and the indent consists of spaces and tabs. Operators may be folded or flat.
 pub fn colors_add_sequences_alone<V: Write, W: Write>()
     ensures { (o : _) (bytes : List ℕ) → IsBlank o.indent → (s t : _) (x y : _)
         → Printed ⟦<PrintTermcolor<Ansi<V>> as Print>⟧.meaning (⟦<PrintTermcolor<Ansi<V>> as Print>⟧.colors s) o bytes s t
@@ -21,7 +22,8 @@ pub fn colors_add_sequences_alone<V: Write, W: Write>()
         → GainAlike (V.contents s.0.inner) (V.contents t.0.inner) (W.contents x.0.inner) (W.contents y.0.inner) }
 {}
 
-/// If each write that succeeds appends its bytes to a view of a `PrintText`, then printing a module appends the module's text to it.
+/// If each write that succeeds appends its bytes to a view of a `PrintText`, then printing a module appends the
+/// module's text to it.
 pub fn text_printers_gain_the_text<T: PrintText>()
     ensures { (view : T → List ℕ) → Grows view T.writes → (o : _) (bytes : List ℕ) (s t : T)
         → Printed ⟦<T as Print>⟧.meaning (⟦<T as Print>⟧.colors s) o bytes s t

@@ -1,4 +1,5 @@
--- The calls of a float lex to one word, its text: a remark behind it is a comment. All their bytes are printed ones.
+-- The text of a float's calls lexes to one word: the comment after infinity and NaN is skipped. All bytes of the
+-- calls are plain.
 use Rattle.std.proofs.Common.{◌≡◌, ℕ, ◌<◌, ◌*◌, ◌/◌, ◌%◌, ◌^◌, ◌-◌, Bool, true, false, cond, eqb, ltb, List, [], ◌∷◌, ◌++◌, refl, sym, ap, ◌∙◌, append_assoc, append-nil, codes}
 use Rattle.wasmprinter_spec.specs.Character.{class}
 use Rattle.wasmprinter_spec.specs.Call.{Text, text_of}
@@ -9,7 +10,7 @@ use Rattle.wasmprinter_lexical.proofs.Runs.{is_word, delimited, word_lexes}
 use Rattle.wasmprinter_lexical.proofs.Floats.{is_word-float_text}
 use Rattle.wasmprinter_lexical.proofs.Printed.{all_printed, all_printed-append, printed_word}
 
--- a blank and the remark are nothing
+-- The space and the comment after infinity and NaN lex to no token.
 remark_lexes : (negative : Bool) (fraction : ℕ) (rest : List ℕ) → lex Clear (32 ∷ (remark negative fraction ++ rest)) ≡ lex Clear rest
 unfolding lex class
 remark_lexes negative fraction rest = by (eqb fraction 0) negative
@@ -47,7 +48,7 @@ unsigned_lexes w front negative exponent fraction rest h d = by (eqb exponent (g
     by true h = special_lexes w front negative fraction rest h
     by false h = finite_lexes w front exponent fraction rest h d
 
--- the text of a float's calls is one word
+-- The text of a float's calls lexes to one word, which is the float's text.
 pub float_lexes : (w : Width) → IsWidth w → (bits : ℕ) (rest : List ℕ) → bits < 2 * sign_bit w → delimited rest ≡ true →
     lex Clear (text_of (float_calls w bits) ++ rest) ≡ word (float_text w bits) ∷ lex Clear rest
 unfolding float_calls float_text
@@ -60,7 +61,7 @@ float_lexes w is bits rest h d = by (ltb bits (sign_bit w)) (is_word-float_text 
     by true k = unsigned_lexes w [] false (bits / 2 ^ w.fraction) (bits % 2 ^ w.fraction) rest k d
     by false k = unsigned_lexes w (45 ∷ []) true ((bits - sign_bit w) / 2 ^ w.fraction) ((bits - sign_bit w) % 2 ^ w.fraction) rest k d
 
--- ---- printed bytes
+-- ---- plain bytes
 
 printed_remark : (negative : Bool) (fraction : ℕ) → all_printed (32 ∷ remark negative fraction) ≡ true
 printed_remark negative fraction = by (eqb fraction 0) negative

@@ -1,4 +1,5 @@
--- Floats are read by their values: the bits that a number reads as are those of the finite number that is equal to it, if there is one.
+-- Floats are read by their values: a number reads as the bits of the finite float that is equal to it, if there is
+-- one.
 use Rattle.std.proofs.Common.{◌≡◌, ℕ, zero, suc, ◌+◌, ◌*◌, ◌/◌, ◌%◌, ◌^◌, ◌-◌, ◌<◌, ◌≤◌, Bool, true, false, cond, eqb, ltb, Option, Some, None, refl, sym, ap, ◌∙◌, arith, lit<, pow_pos, pow-suc, mod-lt, div-add-mod', mul_assoc, mul-le-mul_right, ltb-false, ltb-true, eqb-true, ne_eqb}
 use Rattle.std.proofs.Math.Nat.{pow-le-pow_right, div-eq_of_lt, mod-eq_of_lt}
 use Rattle.std.proofs.lemmas.Bool.{eqb-false}
@@ -92,7 +93,7 @@ bits_of_is w is n bits e = by (ltb n (2 ^ w.fraction)) refl e
         rw (← same) (equal_small w is n (ltb-true n (2 ^ w.fraction) p))
     by false p h = equal_found w n bits (halved_is w.fraction (greatest_exponent w - 1) 1 n bits (ltb-false n (2 ^ w.fraction) p) h)
 
--- each finite number has its bits
+-- The value of each finite float gives back its bits.
 bits_of-units_of : (w : Width) → (bits : ℕ) → bits < magnitude w (greatest_exponent w) 0 → bits_of w (units_of w bits) ≡ Some bits
 unfolding units_of
 bits_of-units_of w bits h = by (eqb (bits / 2 ^ w.fraction) 0) refl
@@ -125,7 +126,7 @@ units_is u s n e = by (eqb ((s.significand * 2 ^ (s.up + u)) % 2 ^ s.down) 0) re
         sym whole ∙ ap (λ t. s.significand * 2 ^ (s.up + u) / 2 ^ s.down * 2 ^ s.down + t) none ∙ omega arith ∙ ap (λ t. t * 2 ^ s.down) same
     by false p h = absurd (cc)
 
--- a number reads as just those bits whose value it is
+-- If a number reads as some bits, it is the value of these bits.
 pub with_value_is : (w : Width) → IsWidth w → (s : Scaled) (bits : ℕ) → bits_with_value w (Some s) ≡ Some bits → IsValue w bits s
 with_value_is w is s bits e = by (units (least_exponent w) s) refl e
   where

@@ -18,7 +18,7 @@ use Rattle.wasmprinter_spec.proofs.Runs.{all_run-append, all_run-digits}
 use Rattle.wasmprinter_lexical.proofs.Runs.{is_word}
 use Rattle.wasmprinter_lexical.proofs.Numbers.{run_hexadecimal, is_numeral_digits, without_underscores_digits, numeral-decimal, numeral-digits}
 
--- ---- the digits behind a point
+-- ---- the digits after a point
 
 record HasDigits (count n before : ℕ) (ds : List ℕ) : Type 0 where
   digits : AllDigits 16 ds
@@ -55,7 +55,7 @@ behind (suc count) n before h =
           value = value ∙ rw top (omega arith);
         }
 
--- ---- cutting a text
+-- ---- splitting a text
 
 abbrev Lacks : (ℕ → Bool) → List ℕ → Type 0
 Lacks p [] = Unit {0}
@@ -65,7 +65,7 @@ cut_found : (p : ℕ → Bool) (ds : List ℕ) (b : ℕ) (bs : List ℕ) → Lac
 cut_found p [] b bs h e = rw e
 cut_found p (d ∷ ds) b bs h e = rw (h.0, cut_found p ds b bs h.1 e)
 
--- no byte from g on is a digit
+-- A hexadecimal digit differs from every byte whose digit value is 16 or more.
 not_digit : (c k : ℕ) → digit_value c < 16 → 16 ≤ digit_value k → eqb c k ≡ false
 not_digit c k h beyond = false_from_ne_true (eqb c k) (λ e. let same : digit_value k < 16 = rw (eqb-true c k e) at h in absurd (omega arith))
 
@@ -87,7 +87,7 @@ with_digits_behind-digits n [] h = refl
 with_digits_behind-digits n (d ∷ ds) h =
     rw (is_numeral_digits 16 (d ∷ ds) (omega arith, h), without_underscores_digits 16 (d ∷ ds) (lit≤ tt) h)
 
--- what 0x1 stands before
+-- The number that these digits write after `0x1`, with this exponent
 abbrev one_and : List ℕ → ℕ → ℕ → Scaled
 one_and ds rises falls = record { significand = digits_value_after 16 1 ds; up = rises; down = falls + 4 * length ds }
 
@@ -146,7 +146,7 @@ raised n i j = mul_assoc n (2 ^ i) (2 ^ j) ∙ ap (λ t. n * t) (sym (pow-add 2 
 raised_alike : (n i j : ℕ) → i ≡ j → n * 2 ^ i ≡ n * 2 ^ j
 raised_alike n i j e = ap (λ k. n * 2 ^ k) e
 
--- v has 4 * r bits less than n, which was shifted up by s
+-- If `v` is `n` shifted up by `s` bits, without 4 * r low bits, then the value of `n` gives the value of `v`.
 balanced : (v n units s f r len x falls : ℕ) → v * 2 ^ (4 * r) ≡ n * 2 ^ s → 4 * len + 4 * r ≡ f + s → n * 2 ^ x ≡ units * 2 ^ (falls + f) → v * 2 ^ x ≡ units * 2 ^ (falls + 4 * len)
 balanced v n units s f r len x falls short all even =
     eq_of_mul-eq-mul_right (2 ^ (4 * r)) (pow_pos (4 * r)) (v * 2 ^ x) (units * 2 ^ (falls + 4 * len))
@@ -184,7 +184,7 @@ bits_of-normal w x n some high low top =
 
 -- ---- widths
 
--- the fraction of a number from 1 on and below 2, by its digits
+-- The digits of the fraction of a number that is at least 1 and below 2
 record HasFraction (w : Width) (fraction : ℕ) (ds : List ℕ) : Type 0 where
   digits : AllDigits 16 ds
   rest : ℕ
@@ -217,14 +217,14 @@ doublings_le (suc most) limit n = by (ltb n limit) (doublings_le most limit (2 *
 
 -- ---- finite numbers
 
--- What is written is unsigned, and reads as these bits.
+-- The text has no sign, is a word, and reads as these bits.
 record Reads (w : Width) (t : List ℕ) (n : ℕ) : Type 0 where
   unsigned : unsigned_float w t ≡ Some n
   plain : float w t ≡ Some n
   word : is_word t ≡ true
   run : all_run t ≡ true
 
--- hexadecimal digits
+-- If the digits after `0x` read as a number with these bits, so does the whole text.
 after_x : (w : Width) (rest : List ℕ) (s : Scaled) (n : ℕ) → hexfloat rest ≡ Some s → bits_with_units w (units (least_exponent w) s) ≡ Some n → all_run rest ≡ true → Reads w (48 ∷ (120 ∷ rest)) n
 unfolding unsigned_float float class
 after_x w rest s n e f run = record { unsigned = rw (e, f); plain = rw (e, f); word = run; run = run }
@@ -296,7 +296,7 @@ finite-reads w is x fraction high h = by (eqb x 0) (eqb fraction 0) refl refl
         rw (eqb-true x 0 e) (subnormal-reads w is fraction (omega arith) h)
     by false c e f = let some : x ≡ 0 → ⊥ = eqb-false x 0 e in normal-reads w is x fraction (omega arith) high h
 
--- ---- infinity and what is no number
+-- ---- infinity and NaN
 
 infinity-reads : (w : Width) → Reads w (codes "inf") (magnitude w (greatest_exponent w) 0)
 unfolding unsigned_float float class
@@ -345,7 +345,7 @@ magnitude-reads w is n h =
     subst (Reads w (unsigned_text w (n / 2 ^ w.fraction) (n % 2 ^ w.fraction))) whole
     (unsigned-reads w is (n / 2 ^ w.fraction) (n % 2 ^ w.fraction) (shr_below n w.exponent w.fraction h) (mod-lt n (pow_pos w.fraction)))
 
--- the text of the bits of a float reads as these bits
+-- The text of the bits of a float reads as these bits.
 pub float_text-reads : (w : Width) → IsWidth w → (bits : ℕ) → bits < 2 * sign_bit w → float w (float_text w bits) ≡ Some bits
 unfolding float_text float
 float_text-reads w is bits h = by (ltb bits (sign_bit w)) refl

@@ -1,4 +1,4 @@
--- The tokens of a row of items grow into it.
+-- The tokens of a sequence of items grow into that sequence.
 use Rattle.std.proofs.Common.{◌≡◌, List, [], ◌∷◌, ◌++◌, refl, sym, ap, ◌∙◌, append_assoc, append-nil, Some, bytes_eq, codes, cond, Bool, true, false}
 use Rattle.wasmprinter_spec.specs.Token as token
 use Rattle.wasmprinter_spec.specs.Token.{Token}
@@ -41,7 +41,7 @@ grow-flat (Note id a f) ts g rows h =
     ∙ ap (place (token.left_note id)) (grow-flat a (token.right ∷ (flat f ++ ts)) End (onto f g ∷ rows) (ap (place token.right) (grow-flat f ts g rows h)))
     ∙ ap (λ t. Note id t (onto f g) ∷ rows) (onto-End a)
 
--- the whole
+-- The tokens of a sequence of items grow into exactly that sequence.
 pub one-flat : (f : Forest) → the_one (grow (flat f)) ≡ Some f
 one-flat f =
     ap (λ t. the_one (grow t)) (sym (append-nil (flat f)))

@@ -1,4 +1,4 @@
--- Identifiers and the annotation with a name read back.
+-- Identifiers, and the annotation with a given name, read back.
 use Rattle.std.proofs.Common.{◌≡◌, ℕ, Bool, true, false, cond, List, [], ◌∷◌, ◌++◌, refl, sym, ap, ap₂, ◌∙◌, true≢false, append_assoc, flat_map, encode_utf8_all, codes}
 use Rattle.std.proofs.lemmas.Bool.{and_parts}
 use Rattle.std.proofs.lemmas.Str.{encode_ascii}
@@ -11,7 +11,7 @@ use Rattle.wasmprinter_lexical.proofs.Printed.{is_printed, all_printed, all_prin
 use Rattle.wasmprinter_lexical.proofs.Plain.{plain_byte, is_low}
 use Rattle.wasmprinter_lexical.proofs.Quotes.{chars_lex}
 
--- ---- printed bytes are characters of one byte
+-- ---- plain bytes are characters of one byte
 
 encode-printed : (cs : List ℕ) → all_printed cs ≡ true → encode_utf8_all cs ≡ cs
 encode-printed [] h = refl

@@ -1,4 +1,4 @@
--- Annotations that count for nothing. `Noted f g`: f is g with an annotation `name` behind some of its identifiers.
+-- Annotations without a meaning. `Noted f g`: `f` is `g` with an annotation `name` after some of its identifiers.
 use Rattle.std.proofs.Common.{◌≡◌, cond, List, ◌∷◌, ◌++◌, ℕ, Bool, true, false, bytes_eq, codes, map, refl, sym, ap, ap₂, ◌∙◌}
 use Rattle.std.proofs.lemmas.List.{map-append}
 use Rattle.wasmprinter_spec.specs.Forest.{Forest, End, Word, Name, String, Reserved, Group, Note, onto, without_annotations, row_customs, customs}
@@ -32,7 +32,7 @@ noted-onto (a_reserved n) m = a_reserved (noted-onto n m)
 noted-onto (a_group k n) m = a_group k (noted-onto n m)
 noted-onto (a_note k n) m = a_note k (noted-onto n m)
 
--- without annotations they are one
+-- Without annotations, both are equal.
 pub noted-without_annotations : {f g : Forest} → Noted f g → without_annotations f ≡ without_annotations g
 noted-without_annotations no_items = refl
 noted-without_annotations (a_word {s} n) = ap (Word s) (noted-without_annotations n)
@@ -45,7 +45,7 @@ noted-without_annotations (a_note k n) = noted-without_annotations n
 
 -- ---- custom sections
 
--- what the custom sections among the items of a row hold, and those among the items of its groups
+-- The contents of the custom sections among the items of a sequence, and of those among the items of its groups
 abbrev pub raw_row : Forest → List Forest
 raw_row f = map without_annotations (row_customs f)
 
@@ -66,7 +66,7 @@ noted-raw_row (a_note {id} {h} {i} {f} {g} k n) = by (bytes_eq id (codes "custom
     by true e = ap₂ (λ x y. x ∷ y) (noted-without_annotations k) e
     by false e = e
 
--- the same custom sections
+-- Both have the same custom sections among the items of their groups.
 pub noted-raw_groups : {f g : Forest} → Noted f g → raw_groups f ≡ raw_groups g
 noted-raw_groups no_items = refl
 noted-raw_groups (a_word n) = noted-raw_groups n

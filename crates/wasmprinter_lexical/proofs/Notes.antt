@@ -1,4 +1,4 @@
--- The beginnings of annotations, and of groups in them: behind a parenthesis stands any run of identifier characters.
+-- The starts of annotations, and of groups within them: any identifier characters may follow the parenthesis.
 use Rattle.std.proofs.Common.{◌≡◌, ℕ, Bool, true, false, List, [], ◌∷◌, ◌++◌, refl, sym, ap, ◌∙◌, append-nil, true≢false, codes, lit<}
 use Rattle.std.proofs.lemmas.Bool.{and_parts}
 use Rattle.wasmprinter_spec.specs.Character.{Class, Space, Tab, Feed, Left, Right, Semicolon, Backslash, Dollar, At, Plain, class}
@@ -33,7 +33,7 @@ pub note_lexes : (w rest : List ℕ) → is_run w ≡ true → delimited rest �
 unfolding lex class
 note_lexes w rest h d = run_note w rest h d
 
--- the annotation of a hint
+-- The text of a hint lexes to the tokens of its annotation.
 pub hint_lexes : (taken : Bool) (rest : List ℕ) →
     lex Clear (codes "(@metadata.code.branch_hint " ++ (quoted_bytes (flag_byte taken ∷ []) ++ (codes ")" ++ rest)))
     ≡ left_note (codes "metadata.code.branch_hint") ∷ (string (flag_byte taken ∷ []) ∷ (right ∷ lex Clear rest))
@@ -41,9 +41,9 @@ unfolding lex class
 hint_lexes true rest = ap (λ t. left_note (codes "metadata.code.branch_hint") ∷ t) (quoted_bytes_lex (1 ∷ []) (41 ∷ rest) (lit< tt, tt) refl)
 hint_lexes false rest = ap (λ t. left_note (codes "metadata.code.branch_hint") ∷ t) (quoted_bytes_lex (0 ∷ []) (41 ∷ rest) (lit< tt, tt) refl)
 
--- ---- the beginning of a group in an annotation
+-- ---- the start of a group within an annotation
 
--- the items in front of those in a group, or the name of an annotation
+-- The items before those of a group, or the name of an annotation
 pub data Beginning : Type 0 where
   InGroup : Forest → Beginning
   InNote : List ℕ → Beginning
@@ -108,7 +108,7 @@ run_opens (b ∷ bs) rest h d =
     by At r (c ∷ cs) a = run_note (c ∷ cs) rest a d
     by _ r w a = absurd (true≢false (sym r))
 
--- the tokens of the beginning alone
+-- A parenthesis and identifier characters by themselves lex to the tokens of the start.
 pub run_tokens : (w : List ℕ) → is_run w ≡ true → token.tokens (40 ∷ w) ≡ beginning_tokens (beginning w)
 unfolding lex class
 run_tokens w h =

@@ -1,4 +1,4 @@
--- Numbers as text: what their bytes are, and that they read back.
+-- Numbers as text: the classes of their bytes, and that they read back.
 use Rattle.std.proofs.Common.{◌≡◌, ⊎_elim, ℕ, suc, ◌<◌, ◌≤◌, ◌^◌, ◌-◌, Bool, true, false, ◌&&◌, ◌||◌, not, ltb, eqb, List, [], ◌∷◌, ◌++◌, Some, refl, sym, ap, ◌∙◌, arith, true≢false, codes, decimal, ℤ, pos, negsuc, lit<, lit≤}
 use Rattle.std.proofs.lemmas.Bool.{and_from, cases_lt, lt-ltb, le-ltb, le-leb, agree_below, agree_below_at, false_from_ne_true, eqb-true}
 use Rattle.std.proofs.lemmas.Fmt.{decimal_is_IsNumeral, digits_is_IsNumeral}
@@ -14,7 +14,7 @@ use Rattle.wasmprinter_spec.proofs.Classes.{digit_class}
 use Rattle.wasmprinter_spec.proofs.Runs.{all_run-digits}
 use Rattle.wasmprinter_lexical.proofs.Runs.{is_quiet, is_plain_class, all_quiet, is_word}
 
--- ---- a digit
+-- ---- single digits
 
 digit_is_plain : (c : ℕ) → digit_value c < 10 → is_plain_class (class c) ≡ true
 digit_is_plain c h = ap is_plain_class (digit_class c h)
@@ -38,7 +38,7 @@ is_word_digits [] h = absurd (omega (arith, h.0))
 is_word_digits (c ∷ cs) (some, (first, others)) =
     and_from (is_plain_class (class c)) (all_run cs) (digit_is_plain c first) (all_run-digits cs others)
 
--- a digit is no underscore
+-- A digit is not an underscore.
 not_underscore : (base c : ℕ) → base ≤ 36 → digit_value c < base → is_underscore c ≡ false
 not_underscore base c small h =
     false_from_ne_true (eqb c 95) (λ e. let k : digit_value 95 < base = rw (eqb-true c 95 e) at h in absurd (omega arith))
@@ -63,14 +63,14 @@ pub numeral_from : (base n : ℕ) (ds : List ℕ) → base ≤ 36 → IsNumeral 
 unfolding numeral
 numeral_from base n ds small h e = rw (is_numeral_digits base ds h, without_underscores_digits base ds small h.1, e)
 
--- ---- decimals
+-- ---- decimal numbers
 
 pub numeral-decimal : (n : ℕ) → n < 2 ^ 64 → numeral 10 (decimal n) ≡ Some n
 numeral-decimal n h =
     let facts : IsNumeral 10 (decimal n) × (digits_value 10 (decimal n) ≡ n) = decimal_is_IsNumeral n h in
     numeral_from 10 n (decimal n) (lit≤ tt) facts.0 facts.1
 
--- an x is no digit
+-- An x is not a decimal digit.
 not_x : (c : ℕ) → digit_value c < 10 → eqb c 120 ≡ false
 not_x c h =
     let within : (48 ≤ c) × (c ≤ 57) = digit_at (c ∷ []) 0 (h, tt) (lit< tt) in
@@ -99,7 +99,7 @@ all_quiet-decimal n h =
     let ((some, are_digits), value) = decimal_is_IsNumeral n h in
     all_quiet_digits (decimal n) are_digits
 
--- ---- with a sign
+-- ---- signed numbers
 
 is_word_minus : (ds : List ℕ) → AllDigits 10 ds → is_word (45 ∷ ds) ≡ true
 unfolding class
@@ -121,7 +121,7 @@ unfolding integer
 integer_plain bits n [] h e = absurd (omega (arith, h.0))
 integer_plain bits n (c ∷ cs) (some, (first, others)) e = rw (not_at c 45 first (lit< tt), not_at c 43 first (lit< tt), e)
 
--- a signed number of bits + 1 bits, positive
+-- The decimal text of a number below 2 ^ (bits - 1) reads as that signed number of `bits` bits.
 pub integer-positive : (bits n : ℕ) → n < 2 ^ (bits - 1) → 2 ^ (bits - 1) ≤ 2 ^ bits → n < 2 ^ 64 → integer bits (decimal n) ≡ Some (pos n)
 integer-positive bits n h le small =
     let whole : n < 2 ^ bits = omega arith in
@@ -177,7 +177,7 @@ pub run_hexadecimal : (ds : List ℕ) → AllDigits 16 ds → all_run ds ≡ tru
 run_hexadecimal [] h = refl
 run_hexadecimal (c ∷ cs) h = and_from (runs (class c)) (all_run cs) (digit_runs c h.0) (run_hexadecimal cs h.1)
 
--- a number in hexadecimal
+-- The hexadecimal text of a number reads as that number.
 pub natural-hexadecimal : (n : ℕ) → n < 16 ^ 64 → natural (codes "0x" ++ digits 16 false n) ≡ Some n
 unfolding natural
 natural-hexadecimal n h = numeral-digits n h

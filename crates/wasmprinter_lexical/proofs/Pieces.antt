@@ -1,4 +1,4 @@
--- One piece, and pieces behind one another: their text lexes to their tokens, and all its bytes are printed ones.
+-- Single pieces and sequences of pieces: their text lexes to their tokens, and all its bytes are plain.
 use Rattle.std.proofs.Common.{◌≡◌, ℕ, zero, suc, ◌<◌, ◌-◌, ◌*◌, ◌^◌, Bool, true, false, ◌&&◌, min, List, [], ◌∷◌, ◌++◌, Option, Some, None, refl, sym, ap, ◌∙◌, append_assoc, append-nil, true≢false, codes, decimal, replicate, length, flat_map, encode_utf8_all, ◌⊎◌, inl, inr}
 use Rattle.std.proofs.lemmas.Bool.{and_parts, and_from}
 use Rattle.std.specs.Fmt.{signed_decimal, digits}
@@ -21,17 +21,17 @@ use Rattle.wasmprinter_lexical.proofs.Printed.{hex_digits_are_good, is_remark, r
 use Rattle.wasmprinter_lexical.proofs.Identifiers.{identifier_lexes, name_note_lexes}
 use Rattle.wasmprinter_lexical.proofs.Notes.{note_lexes, run_lexes, hint_lexes}
 
--- ---- which piece may stand behind which
+-- ---- which piece may follow which
 
--- what a piece leaves: anything may follow, or only what a token may end before, or only what may stand behind a bare parenthesis, or only
--- the end of the line
+-- What may follow a piece: anything, only a text before which a token may end, only a text that may follow a
+-- parenthesis without a keyword, or only the end of the line
 pub data Edge : Type 0 where
   Free : Edge
   Bound : Edge
-  Opened : Edge  -- no comment to the end of the line, and no beginning of an annotation
+  Opened : Edge  -- no line comment and no start of an annotation
   Ended : Edge  -- only the end of the line
 
--- begins with what a token may end before
+-- Whether a token may end before the piece
 abbrev pub begins : Piece → Bool
 begins (Begin place) = false
 begins (Word w) = false
@@ -46,7 +46,7 @@ begins (QuotedBytes bs) = false
 begins (Identifier cs) = false
 begins _ = true
 
--- begins with what may stand behind a bare parenthesis
+-- Whether the piece may follow a parenthesis without a keyword
 abbrev pub starts : Piece → Bool
 starts (Begin place) = false
 starts (GapLiterals ws) = false
@@ -58,7 +58,7 @@ starts (PlainEnding s) = false
 starts (Claimed name place bytes answer) = false
 starts _ = true
 
--- begins with the end of a line
+-- Whether the piece begins with the end of a line
 abbrev pub feeds : Piece → Bool
 feeds Feed = true
 feeds (Break place nesting) = true
@@ -97,7 +97,7 @@ abbrev pub pieces_follow : Edge → List Piece → Bool
 pieces_follow e [] = true
 pieces_follow e (p ∷ ps) = may_follow e p && pieces_follow (leaves p) ps
 
--- what a piece holds is what its kind holds
+-- The contents of a piece are as its kind requires.
 abbrev pub IsPiece : Piece → Type 0
 IsPiece (Open w) = is_word w ≡ true
 IsPiece (OpenGap w) = is_word w ≡ true
@@ -135,9 +135,9 @@ follows Bound rest = delimited rest
 follows Opened rest = begins_item rest
 follows Ended rest = ends_line rest
 
--- ---- a new line
+-- ---- new lines
 
--- blanks and tabs
+-- Spaces and tabs pass the test `is_blank_class`.
 is_blank_byte : (b : ℕ) → (b ≡ 32) ⊎ (b ≡ 9) → is_blank_class (class b) ≡ true
 unfolding class
 is_blank_byte b (inl e) = ap (λ c. is_blank_class (class c)) e
@@ -179,7 +179,7 @@ unfolding left_in
 all_quiet-left_in n p =
     all_quiet-append (digits 16 false p) (replicate (n - length (digits 16 false p)) 32) (hex_digits_are_good p).1 (all_quiet-blanks (n - length (digits 16 false p)))
 
--- the place at the beginning of a line is a comment or blanks
+-- The place at the start of a line is a comment or spaces, and lexes to no token.
 place_lexes : (place : Option ℕ) (rest : List ℕ) → lex Clear (place_text place ++ rest) ≡ lex Clear rest
 unfolding place_text class
 place_lexes (Some p) rest =
@@ -201,7 +201,7 @@ indent_lexes offsets place indent rest h =
     ∙ ap (λ t. lex Clear (t ++ rest)) (append-nil indent)
     ∙ blanks_lex indent rest h
 
--- ---- words with blanks before them
+-- ---- words with spaces before them
 
 behind_blanks_delimited : (ws : List (List ℕ)) (rest : List ℕ) → delimited rest ≡ true → delimited (behind_blanks ws ++ rest) ≡ true
 unfolding class
@@ -226,7 +226,7 @@ words_lex w ws rest h d =
     ∙ word_lexes w (behind_blanks ws ++ rest) parts.0 (behind_blanks_delimited ws rest d)
     ∙ ap (λ t. word w ∷ t) (behind_blanks_lex ws rest parts.1 d)
 
--- ---- one piece
+-- ---- single pieces
 
 module _ (o : Options) (blank : all_blank o.indent ≡ true) where
   piece_lexes : (p : Piece) (rest : List ℕ) → IsPiece p → follows (leaves p) rest ≡ true → lex Clear (text o p ++ rest) ≡ piece_tokens p ++ lex Clear rest
@@ -389,7 +389,7 @@ feeds_ends_line o Feed rest h = refl
 feeds_ends_line o (Break place nesting) rest h = refl
 feeds_ends_line o _ rest h = absurd (true≢false (sym h))
 
--- ---- pieces behind one another
+-- ---- sequences of pieces
 
 abbrev pub all_text : Options → List Piece → List ℕ
 all_text o [] = []

@@ -1,4 +1,4 @@
--- Plain text is UTF-8, holds no colour sequence, and may be joined.
+-- Plain text is UTF-8 and contains no ANSI escape sequence. Two plain texts joined are plain.
 use Rattle.std.proofs.Common.{◌≡◌, inl, inr, ℕ, zero, suc, ◌<◌, Bool, true, false, ◌&&◌, ◌||◌, cond, leb, eqb, nat_eq, List, [], ◌∷◌, ◌++◌, length, slice_index, refl, sym, ap, ◌∙◌, true≢false, arith}
 use Rattle.std.specs.Prelude.{IsUtf8}
 use Rattle.std.specs.Fmt.{digits}
@@ -46,7 +46,7 @@ ascii_at (b ∷ bs) h (suc i) = ascii_at bs h.1 i
 pub plain_is_utf8 : (text : List ℕ) → IsPlainText text → IsUtf8 text
 plain_is_utf8 text h = IsUtf8-from_ascii text (ascii_at text h)
 
--- ---- no colour sequence
+-- ---- no ANSI escape sequence
 
 begins_with_escape : List ℕ → Bool
 begins_with_escape [] = false
@@ -80,7 +80,7 @@ not_escape b (inl e) = ne_eqb b 27 (λ f. omega arith)
 not_escape b (inr (inl e)) = ne_eqb b 27 (λ f. omega arith)
 not_escape b (inr (inr h)) = ne_eqb b 27 (λ f. omega arith)
 
--- a byte of plain text stays
+-- Deleting ANSI escape sequences keeps every byte of plain text.
 pub uncolour-byte : (b : ℕ) (bs : List ℕ) → IsPlainByte b → uncolour (b ∷ bs) ≡ b ∷ uncolour bs
 uncolour-byte b bs h =
     ap (λ n. uncolour_step n b (λ k. uncolour_after k bs)) (no_sequence sequences b bs sequences_escape (not_escape b h))

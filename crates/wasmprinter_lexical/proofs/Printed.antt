@@ -1,4 +1,5 @@
--- Plain bytes by a test, which is computed for the bytes of each class: a line feed, a tab, or from the blank to the tilde.
+-- A test for plain bytes (a line feed, a tab, or a byte from the space to the tilde), which is computed for the
+-- bytes of each class.
 use Rattle.std.proofs.Common.{◌≡◌, ℕ, zero, suc, ◌<◌, ◌/◌, ◌%◌, Bool, true, false, ◌&&◌, ◌||◌, not, cond, leb, ltb, eqb, List, [], ◌∷◌, ◌++◌, refl, sym, ap, ◌∙◌, arith, true≢false, decimal, codes}
 use Rattle.std.proofs.lemmas.Bool.{and_parts, and_from, agree_below, agree_below_at, ltb-true, ltb-false}
 use Rattle.std.specs.Fmt.{digits, digits_onto, digit_glyph}
@@ -23,7 +24,8 @@ all_printed-append (c ∷ cs) b h k =
 
 -- ---- bytes of a class
 
--- a test of classes that no foreign byte passes, and below 128 only printed ones
+-- If a test of classes fails for `Foreign`, and holds below 128 only for classes of plain bytes, then every byte
+-- whose class passes the test is plain.
 module _ (good : Class → Bool) (none : good Foreign ≡ false) (low : agree_below (λ b. not (good (class b)) || is_printed b) (λ b. true) 128 ≡ true) where
   printed_by_class : (b : ℕ) → good (class b) ≡ true → is_printed b ≡ true
   printed_by_class b h = by (ltb b 128) refl
@@ -60,7 +62,7 @@ all_printed-blank (b ∷ bs) h =
     let parts : (is_blank_class (class b) ≡ true) × (all_blank bs ≡ true) = and_parts (is_blank_class (class b)) (all_blank bs) h in
     and_from (is_printed b) (all_printed bs) (printed_by_class is_blank_class refl blank_low b parts.0) (all_printed-blank bs parts.1)
 
--- ---- hexadecimal digits of any number
+-- ---- hexadecimal digits
 
 good_glyph : ℕ → Bool
 good_glyph d = is_printed (digit_glyph false d) && is_quiet (class (digit_glyph false d))
@@ -69,12 +71,12 @@ glyphs_low : agree_below good_glyph (λ d. true) 16 ≡ true
 unfolding good_glyph class
 glyphs_low = refl
 
--- the glyph of a digit is printed, and neither begins nor ends a comment
+-- The character of a hexadecimal digit is plain, and neither opens nor closes a comment.
 pub glyph_is_good : (d : ℕ) → d < 16 → (is_printed (digit_glyph false d) ≡ true) × (is_quiet (class (digit_glyph false d)) ≡ true)
 unfolding good_glyph
 glyph_is_good d h = and_parts _ _ (agree_below_at good_glyph (λ x. true) 16 d glyphs_low h)
 
--- printed, and neither begins nor ends a comment
+-- All bytes are plain, and none opens or closes a comment.
 abbrev good : List ℕ → Type 0
 good bs = (all_printed bs ≡ true) × (all_quiet bs ≡ true)
 
@@ -96,7 +98,7 @@ pub hex_digits_are_good : (n : ℕ) → (all_printed (digits 16 false n) ≡ tru
 unfolding digits
 hex_digits_are_good n = good_digits 64 n [] (refl, refl)
 
--- they stand in a word
+-- Hexadecimal digits are identifier characters.
 run_glyphs_low : agree_below (λ d. runs (class (digit_glyph false d))) (λ d. true) 16 ≡ true
 unfolding class
 run_glyphs_low = refl
@@ -114,12 +116,12 @@ run_digits (suc k) n bs g =
     by a b true x y = x
     by a b false x y = y
 
--- a number in hexadecimal, however great
+-- The hexadecimal text of any number is a word.
 pub is_word-hex : (n : ℕ) → is_word (codes "0x" ++ digits 16 false n) ≡ true
 unfolding digits class
 is_word-hex n = run_digits 64 n [] refl
 
--- ---- decimal digits of any number
+-- ---- decimal digits
 
 remark_glyph : ℕ → Bool
 remark_glyph d = is_printed (digit_glyph false d) && (is_quiet (class (digit_glyph false d)) && is_inline (class (digit_glyph false d)))
@@ -128,7 +130,7 @@ remark_glyphs_low : agree_below remark_glyph (λ d. true) 10 ≡ true
 unfolding remark_glyph class
 remark_glyphs_low = refl
 
--- stands in a comment: printed, neither begins nor ends a comment, and ends no line
+-- The byte may occur in a comment: it is plain, neither opens nor closes a comment, and does not end the line.
 abbrev pub stands_in_remark : ℕ → Bool
 stands_in_remark b = is_printed b && (is_quiet (class b) && is_inline (class b))
 
@@ -167,7 +169,7 @@ remark_digits (suc k) n bs g =
     by a b true x y = x
     by a b false x y = y
 
--- a number stands in a comment, however great
+-- The decimal text of any number may occur in a comment.
 pub is_remark-decimal : (n : ℕ) → is_remark (decimal n) ≡ true
 unfolding digits
 is_remark-decimal n = remark_digits 64 n [] refl

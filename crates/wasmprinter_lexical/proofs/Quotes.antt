@@ -1,4 +1,4 @@
--- Text and bytes in quotes read back.
+-- Quoted strings and quoted bytes read back.
 use Rattle.std.proofs.Common.{◌≡◌, ℕ, ◌<◌, ◌≤◌, ◌^◌, ◌/◌, ◌%◌, ◌*◌, ◌+◌, Bool, true, false, ◌&&◌, ◌||◌, not, cond, leb, ltb, eqb, List, [], ◌∷◌, ◌++◌, refl, sym, ap, ◌∙◌, arith, true≢false, append_assoc, append-nil, flat_map, encode_utf8, encode_utf8_all, lt_trans, lit<}
 use Rattle.std.proofs.lemmas.Bool.{and_parts, agree_below, agree_below_at, leb-true, lt-ltb, eqb-true}
 use Rattle.std.proofs.lemmas.Str.{encode_ascii}
@@ -12,7 +12,7 @@ use Rattle.wasmprinter_spec.specs.Quoted.{char_text, byte_text, is_plain, quoted
 use Rattle.wasmprinter_lexical.proofs.Runs.{tight_clears, delimited}
 use Rattle.wasmprinter_lexical.proofs.Numbers.{no_brace, no_brace-digits, numeral-digits}
 
--- stands for itself in quotes
+-- Whether a byte of this class needs no escape in a string
 stands : Class → Bool
 stands Quote = false
 stands Backslash = false
@@ -51,7 +51,7 @@ plain_stands c h =
     let e : (not (is_plain c) || stands (class c)) ≡ true = agree_below_at plain_stands_at (λ x. true) 127 c plain_stands_below (plain_is_low c h) in
     rw h at e
 
--- a plain byte, by itself
+-- A byte that is not escaped lexes as itself.
 plain_lexes : (p : RunKind) (s : List ℕ) (c : ℕ) (rest : List ℕ) → is_plain c ≡ true → lex (InQuoted p s) (c ∷ rest) ≡ lex (InQuoted p (s ++ (c ∷ []))) rest
 unfolding lex
 plain_lexes p s c rest h = in_quoted_stands p s (class c) c (λ next. lex next rest) (plain_stands c h)
@@ -71,7 +71,7 @@ brace_goes_on p s d (b ∷ bs) rest h =
     not_end true b bs rest g k = absurd (true≢false (sym g))
     not_end false b bs rest g k = refl
 
--- a character by its number
+-- A character that is escaped by its number lexes as the bytes of its UTF-8.
 escaped : (p : RunKind) (s : List ℕ) (c : ℕ) (rest : List ℕ) → scalar c ≡ true → lex (InQuoted p s) (92 ∷ (117 ∷ (123 ∷ (digits 16 false c ++ (125 ∷ rest))))) ≡ lex (InQuoted p (s ++ encode_utf8 c)) rest
 unfolding lex class escape
 escaped p s c rest h =
@@ -101,7 +101,7 @@ chars_lex p s (c ∷ cs) rest h =
     ∙ chars_lex p (s ++ encode_utf8 c) cs rest parts.1
     ∙ ap (λ t. lex (InQuoted p t) rest) (append_assoc s (encode_utf8 c) (encode_utf8_all cs))
 
--- a text in quotes, before a delimiter
+-- A quoted string before a delimiter lexes to that string.
 pub text_lexes : (cs rest : List ℕ) → scalars cs ≡ true → delimited rest ≡ true → lex Clear (quoted_text cs ++ rest) ≡ string (encode_utf8_all cs) ∷ lex Clear rest
 unfolding lex class quoted_text
 text_lexes cs rest h d =
@@ -111,7 +111,7 @@ text_lexes cs rest h d =
 
 -- ---- bytes
 
--- the value of a digit behind a backslash, 16 where none stands there
+-- The value of a digit after a backslash, or 16 if there is no digit
 digit_of : Escape → ℕ
 digit_of (Digit h) = h
 digit_of _ = 16
@@ -128,7 +128,7 @@ glyphs_below : agree_below glyph_at (λ d. true) 16 ≡ true
 unfolding glyph_at digit_of escape
 glyphs_below = refl
 
--- the glyph of a number below 16 has its value, and is a digit behind a backslash too
+-- The character of a number below 16 has that number as its value, and is a digit after a backslash too.
 record IsGlyph (d : ℕ) : Type 0 where
   value : digit_value (digit_glyph false d) ≡ d
   digit : escape (digit_glyph false d) ≡ Digit d
@@ -143,7 +143,7 @@ glyph d h =
       digit = is_digit_of (escape (digit_glyph false d)) d h (eqb-true _ d parts.1);
     }
 
--- a byte by its two digits
+-- A byte that is escaped by its two digits lexes as that byte.
 hex_lexes : (p : RunKind) (s : List ℕ) (high low : ℕ) (rest : List ℕ) → high < 16 → low < 16 →
     lex (InQuoted p s) (92 ∷ (digit_glyph false high ∷ (digit_glyph false low ∷ rest))) ≡ lex (InQuoted p (s ++ ((high * 16 + low) ∷ []))) rest
 unfolding lex class
@@ -173,7 +173,7 @@ bytes_lex p s (b ∷ bs) rest h =
     ∙ bytes_lex p (s ++ (b ∷ [])) bs rest h.1
     ∙ ap (λ t. lex (InQuoted p t) rest) (append_assoc s (b ∷ []) bs)
 
--- bytes in quotes, before a delimiter
+-- Quoted bytes before a delimiter lex to the string of these bytes.
 pub quoted_bytes_lex : (bs rest : List ℕ) → AllByRecursion (λ b. b < 256) bs → delimited rest ≡ true → lex Clear (quoted_bytes bs ++ rest) ≡ string bs ∷ lex Clear rest
 unfolding lex class quoted_bytes
 quoted_bytes_lex bs rest h d =

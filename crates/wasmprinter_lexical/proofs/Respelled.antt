@@ -1,4 +1,5 @@
--- Pieces in place of others: their text is the same by all options, and so are the tokens of the text of each.
+-- Replacing pieces by other pieces: both have the same text under all options, and the tokens of the texts of the
+-- pieces are the same.
 use Rattle.std.proofs.Common.{◌≡◌, List, [], ◌∷◌, ◌++◌, refl, sym, ap, ap₂, subst, ◌∙◌, append_assoc, append-nil}
 use Rattle.wasmprinter_spec.specs.Character.{class}
 use Rattle.wasmprinter_spec.specs.Options.{Options}
@@ -7,7 +8,8 @@ use Rattle.wasmprinter_spec.specs.Piece.{Piece, Word, OpenPlain, text, piece_tok
 use Rattle.wasmprinter_lexical.proofs.Runs.{word_lexes, open_lexes}
 use Rattle.wasmprinter_lexical.proofs.Pieces.{IsPiece, ArePieces, all_text}
 
--- the tokens of a piece; of a word, and of a parenthesis with one, those of the text, though it be more than a word
+-- The tokens of a piece. For a word, or a parenthesis with a word, these are the tokens of its text, which may be
+-- more than one word.
 abbrev pub lexed : Piece → List Token
 lexed (Word w) = tokens w
 lexed (OpenPlain w) = tokens (40 ∷ w)
@@ -25,7 +27,7 @@ pub all_text-append : (o : Options) (ps qs : List Piece) → all_text o (ps ++ q
 all_text-append o [] qs = refl
 all_text-append o (p ∷ ps) qs = ap (λ t. text o p ++ t) (all_text-append o ps qs) ∙ sym (append_assoc (text o p) (all_text o ps) (all_text o qs))
 
--- of a piece these are its tokens
+-- If the contents of a piece are as its kind requires, these are the tokens of the piece.
 piece_lexed : (p : Piece) → IsPiece p → lexed p ≡ piece_tokens p
 unfolding lex class
 piece_lexed (Word w) h = ap tokens (sym (append-nil w)) ∙ word_lexes w [] h refl
@@ -36,7 +38,7 @@ pub pieces_lexed : (ps : List Piece) → ArePieces ps → all_lexed ps ≡ all_t
 pieces_lexed [] h = refl
 pieces_lexed (p ∷ ps) h = ap₂ (λ a b. a ++ b) (piece_lexed p h.0) (pieces_lexed ps h.1)
 
--- the first are printed as the second are
+-- The pieces `ps` have the same text as the pieces `rs`, and the same tokens.
 pub record Respelled (ps rs : List Piece) : Type 0 where
   pub text : (o : Options) → all_text o ps ≡ all_text o rs
   pub tokens : all_lexed ps ≡ all_lexed rs

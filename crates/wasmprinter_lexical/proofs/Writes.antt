@@ -1,6 +1,7 @@
--- What pieces read as. `WritesNoted a ps b f k`: behind the edge a the pieces ps may stand, or others that are printed as they are, they
--- leave the edge b, and their tokens are those of the items k, with annotations behind identifiers that count for nothing; f is k without
--- its annotations. `Writes a ps b f`: k has none. One rule for each piece and each kind of group; `search writing` finds whole derivations.
+-- The items that pieces read as. `WritesNoted a ps b f k`: the pieces `ps`, or others with the same text, may
+-- follow the edge `a` and leave the edge `b`. Their tokens are those of the items `k`, with annotations without a
+-- meaning after identifiers; `f` is `k` without its annotations. `Writes a ps b f`: `k` has no annotations. There
+-- is one rule for each piece and each kind of group; `search writing` finds whole derivations.
 use Rattle.std.proofs.Common.{◌≡◌, ℕ, ℤ, ◌<◌, ◌*◌, ◌^◌, Bool, true, false, ◌||◌, List, [], ◌∷◌, ◌++◌, Option, Some, None, refl, sym, ap, ap₂, ◌∙◌, append_assoc, append-nil, decimal, codes, subst, encode_utf8_all}
 use Rattle.std.proofs.lemmas.Bool.{and_parts, and_from, or_right}
 use Rattle.std.specs.Fmt.{signed_decimal}
@@ -35,21 +36,21 @@ pub record WritesNoted (a : Edge) (ps : List Piece) (b : Edge) (f k : Forest) : 
   pub noted : Noted whole k
   pub without : without_annotations k ≡ f
 
--- pieces without an annotation that counts
+-- The items of the pieces have no annotations with a meaning.
 abbrev pub Writes : Edge → List Piece → Edge → Forest → Type 0
 Writes a ps b f = WritesNoted a ps b f f
 
--- ---- what follows from it
+-- ---- consequences
 
--- The text of pieces that may stand so reads as their tokens.
--- The tokens of a text are those of the texts of its pieces.
+-- The tokens of the texts of the pieces are those of the pieces with the same text.
 pub writes_lexed : {a b : Edge} {ps : List Piece} {f k : Forest} (w : WritesNoted a ps b f k) → all_lexed ps ≡ all_tokens w.printed
 writes_lexed w = w.spelled.tokens ∙ pieces_lexed w.printed w.are
 
--- the text of pieces is that of those that are printed
+-- The text of the pieces is that of the pieces with the same text.
 pub writes_text : {a b : Edge} {f k : Forest} (o : Options) (ps : List Piece) (w : WritesNoted a ps b f k) → text_of (all_calls o ps) ≡ text_of (all_calls o w.printed)
 writes_text o ps w = text_of-all_calls o ps ∙ w.spelled.text o ∙ sym (text_of-all_calls o w.printed)
 
+-- If each piece may follow the one before it, the text of pieces lexes to their tokens.
 pub pieces_tokens : (o : Options) → IsBlank o.indent → (ps : List Piece) → pieces_follow Free ps ≡ true → ArePieces ps → tokens (text_of (all_calls o ps)) ≡ all_tokens ps
 pieces_tokens o blank ps j a = ap tokens (text_of-all_calls o ps) ∙ pieces_lex o blank Free ps j a
 
@@ -59,7 +60,7 @@ writes_joined {a = a} w = subst (λ t. pieces_follow a t ≡ true) (append-nil w
 pub writes_tokens : {b : Edge} {f k : Forest} (o : Options) → IsBlank o.indent → (ps : List Piece) (w : WritesNoted Free ps b f k) → tokens (text_of (all_calls o ps)) ≡ all_tokens w.printed
 writes_tokens o blank ps w = ap tokens (writes_text o ps w) ∙ pieces_tokens o blank w.printed (writes_joined w) w.are
 
--- pieces in place of others
+-- Pieces may be replaced by pieces with the same text and tokens.
 pub respelled_write : {a b : Edge} {ps qs : List Piece} {f k : Forest} → Respelled qs ps → WritesNoted a ps b f k → WritesNoted a qs b f k
 respelled_write s w = record {
   printed = w.printed;
@@ -72,12 +73,12 @@ respelled_write s w = record {
   without = w.without;
 }
 
--- The text of pieces grows into what they write.
+-- The text of pieces grows into the items that they write.
 pub writes_forest : {b : Edge} {f k : Forest} (o : Options) → IsBlank o.indent → (ps : List Piece) (w : WritesNoted Free ps b f k) → forest (text_of (all_calls o ps)) ≡ Some w.whole
 writes_forest o blank ps w =
     ap (λ t. the_one (grow t)) (writes_tokens o blank ps w ∙ w.tokens) ∙ one-flat w.whole
 
--- ---- two parts
+-- ---- joined pieces
 
 pub all_tokens-append : (ps qs : List Piece) → all_tokens (ps ++ qs) ≡ all_tokens ps ++ all_tokens qs
 all_tokens-append [] qs = refl
@@ -87,7 +88,7 @@ pub ArePieces-append : (ps qs : List Piece) → ArePieces ps → ArePieces qs �
 ArePieces-append [] qs a b = b
 ArePieces-append (p ∷ ps) qs a b = (a.0, ArePieces-append ps qs a.1 b)
 
--- one and another, where the second may stand behind a word
+-- If the edge that pieces leave is one that other pieces may follow, both together write the items of both.
 pub both_write : {a b c : Edge} {ps qs : List Piece} {f g k h : Forest} → WritesNoted a ps b f k → WritesNoted b qs c g h → WritesNoted a (ps ++ qs) c (onto f g) (onto k h)
 both_write {a = a} {k = k} {h = h} v w = record {
   printed = v.printed ++ w.printed;
@@ -100,13 +101,13 @@ both_write {a = a} {k = k} {h = h} v w = record {
   noted = noted-onto v.noted w.noted;
 }
 
--- ---- the rules for pieces. Each holds at every edge at which it can, so that a search has nothing to choose.
+-- ---- the rules for pieces (each holds for every edge for which it can, so a search never has a choice)
 
 loosen : (b : Edge) (qs : List Piece) → pieces_follow b qs ≡ true → pieces_follow Free qs ≡ true
 loosen b [] h = refl
 loosen b (q ∷ qs) h = (and_parts (may_follow b q) (pieces_follow (leaves q) qs) h).1
 
--- a token, and behind it something on the line
+-- Whether any token may follow on the same line, possibly after a delimiter
 abbrev pub is_open : Edge → Bool
 is_open Opened = false
 is_open Ended = false
@@ -128,7 +129,7 @@ feeds_all Opened (Break place nesting) f = refl
 feeds_all Opened _ f = absurd cc
 feeds_all Ended p f = f
 
--- pieces that may stand between other edges too
+-- Pieces may also be used between other edges, if they may follow and leave these.
 rejoined : {a b c d : Edge} {ps : List Piece} {f k : Forest} (w : WritesNoted a ps b f k) →
     ((qs : List Piece) → pieces_follow d qs ≡ true → pieces_follow c (w.printed ++ qs) ≡ true) → WritesNoted c ps d f k
 rejoined w joins = record {
@@ -142,23 +143,23 @@ rejoined w joins = record {
   noted = w.noted;
 }
 
--- Pieces that may stand behind a word may stand behind anything. (In no set of rules: a search would go round it.)
+-- Pieces that may follow a word may follow anything. (In no set of rules, or a search would not terminate.)
 pub loosened : {b : Edge} {ps : List Piece} {f k : Forest} → WritesNoted Bound ps b f k → WritesNoted Free ps b f k
 loosened w = rejoined w (λ qs h. loosen Bound (w.printed ++ qs) (w.joins qs h))
 
--- the piece may stand behind this edge, before what may stand behind it
+-- The piece may follow this edge, before any pieces that may follow it.
 abbrev MayStand : Edge → Piece → Type 0
 MayStand a p = (ps : List Piece) → pieces_follow (leaves p) ps ≡ true → pieces_follow a (p ∷ ps) ≡ true
 
--- a piece that may stand behind a word may stand where the line goes on
+-- A piece that may follow a word may follow every edge at which the line goes on.
 joins_anywhere : (a : Edge) (p : Piece) → is_open a ≡ true → begins p ≡ true → MayStand a p
 joins_anywhere a p o b ps j = and_from (may_follow a p) (pieces_follow (leaves p) ps) (begins_all a p o b) j
 
--- the end of a line may stand anywhere
+-- The end of a line may follow every edge.
 joins_line : (a : Edge) (p : Piece) → feeds p ≡ true → MayStand a p
 joins_line a p f ps j = and_from (may_follow a p) (pieces_follow (leaves p) ps) (feeds_all a p f) j
 
--- what may stand where the line must end may stand anywhere
+-- Pieces that may follow an edge at which the line must end may follow every edge.
 pub ended_joins : (a : Edge) (ps : List Piece) → pieces_follow Ended ps ≡ true → pieces_follow a ps ≡ true
 ended_joins a [] j = refl
 ended_joins a (p ∷ ps) j =
@@ -171,8 +172,8 @@ nothing_writes = record { printed = []; spelled = same_spelled; joins = λ qs h.
 pub free_writes : {b : Edge} → WritesNoted Free [] b End End
 free_writes {b = b} = record { printed = []; spelled = same_spelled; joins = λ qs h. loosen b qs h; are = tt; whole = End; tokens = refl; without = refl; noted = no_items }
 
--- A piece that may stand behind this edge. Of the items behind it, it makes the items `around` them, which are those that `kept` says where
--- annotations are cut.
+-- The rule for a piece that may follow this edge. It turns the items after it into the items `around` them; `kept`
+-- gives these without annotations.
 piece_writes : {a b : Edge} {ps : List Piece} {f k : Forest} (p : Piece) (around kept : Forest → Forest) → IsPiece p → MayStand a p →
     ((g : Forest) → piece_tokens p ++ flat g ≡ flat (around g)) → ((g h : Forest) → Noted g h → Noted (around g) (around h)) →
     ((g : Forest) → without_annotations (around g) ≡ kept (without_annotations g)) →
@@ -188,17 +189,17 @@ piece_writes {k = k} p around kept is stands shows notes cuts w = record {
   without = cuts k ∙ ap kept w.without;
 }
 
--- a piece that is no item
+-- The rule for a piece that is no item
 silent_writes : {a b : Edge} {ps : List Piece} {f k : Forest} (p : Piece) → IsPiece p → MayStand a p → piece_tokens p ≡ [] →
     WritesNoted (leaves p) ps b f k → WritesNoted a (p ∷ ps) b f k
 silent_writes p is stands none w = piece_writes p (λ g. g) (λ g. g) is stands (λ g. ap (λ t. t ++ flat g) none) (λ g h n. n) (λ g. refl) w
 
--- a piece that is a word
+-- The rule for a piece that is one word
 one_word_writes : {a b : Edge} {ps : List Piece} {f k : Forest} (p : Piece) (v : List ℕ) → IsPiece p → MayStand a p → piece_tokens p ≡ word v ∷ [] →
     WritesNoted (leaves p) ps b f k → WritesNoted a (p ∷ ps) b (Word v f) (Word v k)
 one_word_writes p v is stands one w = piece_writes p (Word v) (Word v) is stands (λ g. ap (λ t. t ++ flat g) one) (λ g h n. a_word n) (λ g. refl) w
 
--- a piece that is a string
+-- The rule for a piece that is one string
 one_string_writes : {a b : Edge} {ps : List Piece} {f k : Forest} (p : Piece) (s : List ℕ) → IsPiece p → MayStand a p → piece_tokens p ≡ string s ∷ [] →
     WritesNoted (leaves p) ps b f k → WritesNoted a (p ∷ ps) b (String s f) (String s k)
 one_string_writes p s is stands one w = piece_writes p (String s) (String s) is stands (λ g. ap (λ t. t ++ flat g) one) (λ g h n. a_string n) (λ g. refl) w
@@ -218,7 +219,7 @@ gap_writes {a = a} e w = silent_writes Gap tt (joins_anywhere a Gap e refl) refl
 pub number_remark_writes : {a b : Edge} {n : ℕ} {ps : List Piece} {f k : Forest} → is_open a ≡ true → n < 2 ^ 64 → WritesNoted Free ps b f k → WritesNoted a (NumberRemark n ∷ ps) b f k
 number_remark_writes {a = a} {n = n} e h w = silent_writes (NumberRemark n) h (joins_anywhere a (NumberRemark n) e refl) refl w
 
--- no text, and no item
+-- The start of the style of names has no text and is no item.
 pub begin_name_writes : {b : Edge} {ps : List Piece} {f k : Forest} → WritesNoted Free ps b f k → WritesNoted Free (BeginName ∷ ps) b f k
 begin_name_writes w = silent_writes BeginName tt (λ qs j. j) refl w
 
@@ -245,7 +246,7 @@ pub gap_type_word_writes : {a b : Edge} {v : List ℕ} {ps : List Piece} {f k : 
     WritesNoted a (GapTypeWord v ∷ ps) b (Word v f) (Word v k)
 gap_type_word_writes {a = a} {v = v} e h w = one_word_writes (GapTypeWord v) v h (joins_anywhere a (GapTypeWord v) e refl) refl w
 
--- words before other items
+-- Words, followed by other items
 abbrev pub words_before : List (List ℕ) → Forest → Forest
 words_before [] f = f
 words_before (v ∷ vs) f = Word v (words_before vs f)
@@ -262,7 +263,7 @@ noted-words : {f k : Forest} (vs : List (List ℕ)) → Noted f k → Noted (wor
 noted-words [] n = n
 noted-words (v ∷ vs) n = a_word (noted-words vs n)
 
--- a piece that is these words
+-- The rule for a piece that consists of these words
 words_writes : {a b : Edge} {ps : List Piece} {f k : Forest} (p : Piece) (vs : List (List ℕ)) → IsPiece p → MayStand a p → piece_tokens p ≡ word_tokens vs →
     WritesNoted (leaves p) ps b f k → WritesNoted a (p ∷ ps) b (words_before vs f) (words_before vs k)
 words_writes p vs is stands they w =
@@ -293,7 +294,7 @@ pub identifier_writes : {b : Edge} {cs : List ℕ} {ps : List Piece} {f k : Fore
 identifier_writes {cs = cs} h n w =
     piece_writes (Identifier cs) (Name (encode_utf8_all cs)) (Name (encode_utf8_all cs)) (h, n) (λ qs j. j) (λ g. refl) (λ g h m. a_name m) (λ g. refl) w
 
--- an identifier, and the name that was given
+-- The rule for an identifier with the annotation of the given name
 pub noted_identifier_writes : {b : Edge} {cs ds : List ℕ} {ps : List Piece} {f k : Forest} → scalars cs ≡ true → is_name (encode_utf8_all cs) ≡ true → scalars ds ≡ true →
     WritesNoted Free ps b f k →
     WritesNoted Free (Identifier cs ∷ (Gap ∷ (NameNote ds ∷ ps))) b (Name (encode_utf8_all cs) f) (Name (encode_utf8_all cs) k)
@@ -318,19 +319,19 @@ pub plain_ending_writes : {a b : Edge} {s : List ℕ} {ps : List Piece} {f k : F
     WritesNoted a (PlainEnding s ∷ ps) b f k
 plain_ending_writes {a = a} {s = s} e h w = silent_writes (PlainEnding s) h (joins_anywhere a (PlainEnding s) e refl) refl w
 
--- ---- where a line must end. No rules for a search, which would go round them.
+-- ---- where a line must end (in no set of rules, or a search would not terminate)
 
--- what may stand where the line must end may stand behind anything
+-- Pieces that may follow an edge at which the line must end may follow every edge.
 pub behind_anything : {b : Edge} {ps : List Piece} {f k : Forest} (a : Edge) → WritesNoted Ended ps b f k → WritesNoted a ps b f k
 behind_anything a w = rejoined w (λ qs h. ended_joins a (w.printed ++ qs) (w.joins qs h))
 
--- behind any pieces a line may end
+-- The line may end after any pieces.
 pub before_line : {a : Edge} {ps : List Piece} {f k : Forest} (b : Edge) → WritesNoted a ps b f k → WritesNoted a ps Ended f k
 before_line b w = rejoined w (λ qs h. w.joins qs (ended_joins b qs h))
 
--- ---- behind a bare parenthesis
+-- ---- after a parenthesis without a keyword
 
--- a word may stand there
+-- A word may follow a parenthesis without a keyword.
 pub opened_word_writes : {b : Edge} {v : List ℕ} {ps : List Piece} {f k : Forest} → is_word v ≡ true → WritesNoted Bound ps b f k → WritesNoted Opened (piece.Word v ∷ ps) b (Word v f) (Word v k)
 opened_word_writes {v = v} h w = one_word_writes (piece.Word v) v h (λ qs j. j) refl w
 
@@ -340,7 +341,7 @@ pub close_tokens : (place : Option ℕ) (nesting : ℕ) (t : Bool) → all_token
 close_tokens place nesting true = refl
 close_tokens place nesting false = refl
 
--- behind the end of a line a group closes on a line of its own
+-- If the line must end, a group closes on a line of its own.
 abbrev pub may_close : Edge → Bool → Bool
 may_close Ended t = t
 may_close _ t = true
@@ -359,8 +360,8 @@ close_are : (place : Option ℕ) (nesting : ℕ) (t : Bool) → ArePieces (close
 close_are place nesting true = (tt, (tt, tt))
 close_are place nesting false = (tt, tt)
 
--- The beginning of a group or an annotation, which leaves this edge. Around items it makes these items of them, and
--- those where annotations are cut.
+-- The start of a group or an annotation, which leaves this edge. It turns the items within into the items `around`
+-- them; `kept` gives these without annotations.
 record IsOpening (p : Piece) (a : Edge) (around kept : Forest → Forest) : Type 0 where
   delimits : begins p ≡ true
   leaves_it : leaves p ≡ a
@@ -393,7 +394,7 @@ opening_note v h = record { delimits = refl; leaves_it = refl; is = (h, tt); ope
 opening_note_gap : (v : List ℕ) → is_run v ≡ true → IsOpening (OpenNoteGap v) Free (λ f. Note v f End) (λ f. End)
 opening_note_gap v h = record { delimits = refl; leaves_it = refl; is = (h, tt); opens = λ f. refl; notes = λ n. a_note n no_items; cuts = λ k. refl }
 
--- what a run behind a parenthesis makes of items
+-- The items that result if a parenthesis and identifier characters come before these items
 abbrev opened_items : Beginning → Forest → Forest
 opened_items (InGroup f) g = Group (onto f g) End
 opened_items (InNote id) g = Note id g End
@@ -425,7 +426,7 @@ opening_run v h = record {
   cuts = opened_cut (beginning v);
 }
 
--- an opening, what stands behind it, and the end
+-- The rule for a start, the pieces within, and the closing parenthesis
 closed_writes : {b e c : Edge} {f k : Forest} {around kept : Forest → Forest} (p : Piece) (place : Option ℕ) (nesting : ℕ) (t : Bool) (ps : List Piece) (a : Edge) →
     is_open a ≡ true → may_close c t ≡ true → IsOpening p e around kept → WritesNoted e ps c f k →
     WritesNoted a (p ∷ (ps ++ close place nesting t)) b (kept f) (around k)
@@ -456,7 +457,7 @@ pub group_gap_writes : {a b : Edge} (nesting : ℕ) (v : List ℕ) (ps : List Pi
 unfolding group_gap
 group_gap_writes {a = a} nesting v ps o h w = closed_writes (OpenGap v) None nesting (has_break ps) ps a o refl (opening_gap v h) w
 
--- a group without a keyword
+-- The rule for a group without a keyword
 pub bare_group_writes : {a b : Edge} (nesting : ℕ) (t : Bool) (ps : List Piece) {f k : Forest} → is_open a ≡ true → WritesNoted Opened ps Bound f k → WritesNoted a (OpenBare ∷ (ps ++ close None nesting t)) b (Group f End) (Group k End)
 bare_group_writes {a = a} nesting t ps o w = closed_writes OpenBare None nesting t ps a o refl opening_bare w
 
@@ -468,7 +469,7 @@ pub group_gap_at_writes : {a b : Edge} (offsets : Bool) (place nesting : ℕ) (v
 unfolding group_gap_at
 group_gap_at_writes {a = a} offsets place nesting v ps o h w = closed_writes (OpenGap v) (Some place) nesting (offsets || has_break ps) ps a o refl (opening_gap v h) w
 
--- a group that ends where the line must end, and that has changed the line
+-- The rule for a group over several lines that ends where the line must end
 pub ended_group_gap_at_writes : {a b : Edge} (offsets : Bool) (place nesting : ℕ) (v : List ℕ) (ps : List Piece) {f k : Forest} → is_open a ≡ true → is_word v ≡ true → has_break ps ≡ true → WritesNoted Free ps Ended f k →
     WritesNoted a (group_gap_at offsets place nesting v ps) b (Group (Word v f) End) (Group (Word v k) End)
 unfolding group_gap_at
@@ -482,7 +483,7 @@ pub line_group_gap_writes : {a b : Edge} (v : List ℕ) (ps : List Piece) {f k :
 unfolding line_group_gap
 line_group_gap_writes {a = a} v ps o h w = closed_writes (OpenGap v) None 0 false ps a o refl (opening_gap v h) w
 
--- ---- the same before others, in forms that a search can apply
+-- ---- the same before other pieces, in forms that a search can apply
 
 pub group_then : {a c : Edge} (nesting : ℕ) (v : List ℕ) (ps qs : List Piece) {f g k h : Forest} → is_open a ≡ true → is_word v ≡ true → WritesNoted Bound ps Bound f k → WritesNoted Bound qs c g h → WritesNoted a (group nesting v ps ++ qs) c (Group (Word v f) g) (Group (Word v k) h)
 group_then nesting v ps qs o h v' w = both_write (group_writes nesting v ps o h v') w
@@ -496,14 +497,15 @@ line_group_then v ps qs o h v' w = both_write (line_group_writes v ps o h v') w
 pub line_group_gap_then : {a c : Edge} (v : List ℕ) (ps qs : List Piece) {f g k h : Forest} → is_open a ≡ true → is_word v ≡ true → WritesNoted Free ps Bound f k → WritesNoted Bound qs c g h → WritesNoted a (line_group_gap v ps ++ qs) c (Group (Word v f) g) (Group (Word v k) h)
 line_group_gap_then v ps qs o h v' w = both_write (line_group_gap_writes v ps o h v') w
 
--- a group without a style, whose pieces stand in the list itself
+-- The rule for a group without a style, whose pieces are in the list itself
 pub plain_group_then : {a c : Edge} {v : List ℕ} {ps qs : List Piece} {f g k h : Forest} → is_open a ≡ true → is_word v ≡ true → WritesNoted Bound ps Bound f k → WritesNoted Bound qs c g h →
     WritesNoted a (OpenPlain v ∷ (ps ++ (Shut ∷ qs))) c (Group (Word v f) g) (Group (Word v k) h)
 plain_group_then {a = a} {c = c} {v = v} {ps = ps} {qs = qs} {f = f} {g = g} {k = k} {h = l} o h v' w =
     subst (λ t. WritesNoted a (OpenPlain v ∷ t) c (Group (Word v f) g) (Group (Word v k) l)) (append_assoc ps (Shut ∷ []) qs)
     (both_write (closed_writes (OpenPlain v) None 0 false ps a o refl (opening_plain v h) v') w)
 
--- a group with the style of a type, and one without a keyword, whose pieces stand in the list itself
+-- The rules for a group with the style of a type, and for one without a keyword, whose pieces are in the list
+-- itself
 pub type_group_then : {a c : Edge} {v : List ℕ} {ps qs : List Piece} {f g k h : Forest} → is_open a ≡ true → is_word v ≡ true → WritesNoted Free ps Bound f k → WritesNoted Bound qs c g h →
     WritesNoted a (OpenTypeGap v ∷ (ps ++ (Shut ∷ qs))) c (Group (Word v f) g) (Group (Word v k) h)
 type_group_then {a = a} {c = c} {v = v} {ps = ps} {qs = qs} {f = f} {g = g} {k = k} {h = l} o h v' w =
@@ -518,7 +520,7 @@ bare_group_then {a = a} {c = c} {ps = ps} {qs = qs} {f = f} {g = g} {k = k} {h =
 
 -- ---- annotations
 
--- the items do not matter
+-- The pieces write some items.
 pub record IsWritten (a : Edge) (ps : List Piece) (b : Edge) : Type 0 where
   pub items : Forest
   pub noted : Forest
@@ -527,29 +529,29 @@ pub record IsWritten (a : Edge) (ps : List Piece) (b : Edge) : Type 0 where
 pub written : {a b : Edge} {ps : List Piece} {f k : Forest} → WritesNoted a ps b f k → IsWritten a ps b
 written w = record { items = _; noted = _; writes = w }
 
--- an annotation whose lines are nested as those of a group
+-- The rule for an annotation whose lines are nested like those of a group
 pub note_writes : {a b : Edge} {f k : Forest} (nesting : ℕ) (v : List ℕ) (ps : List Piece) → is_open a ≡ true → is_run v ≡ true → WritesNoted Bound ps Bound f k →
     WritesNoted a (OpenNote v ∷ (ps ++ close None nesting (has_break ps))) b End (Note v k End)
 note_writes {a = a} nesting v ps o h w = closed_writes (OpenNote v) None nesting (has_break ps) ps a o refl (opening_note v h) w
 
--- an annotation in one line
+-- The rule for an annotation in one line
 pub note_gap_writes : {a b : Edge} {f k : Forest} (v : List ℕ) (ps : List Piece) → is_open a ≡ true → is_run v ≡ true → WritesNoted Free ps Bound f k →
     WritesNoted a (OpenNoteGap v ∷ (ps ++ (Shut ∷ []))) b End (Note v k End)
 note_gap_writes {a = a} v ps o h w = closed_writes (OpenNoteGap v) None 0 false ps a o refl (opening_note_gap v h) w
 
--- a group in an annotation, behind any run of identifier characters
+-- The rule for a group within an annotation, which starts with any identifier characters
 pub run_group_writes : {a b : Edge} (v : List ℕ) (ps : List Piece) → is_open a ≡ true → is_run v ≡ true → IsWritten Bound ps Bound →
     IsWritten a (OpenRun v ∷ (ps ++ (Shut ∷ []))) b
 run_group_writes {a = a} v ps o h w = written (closed_writes (OpenRun v) None 0 false ps a o refl (opening_run v h) w.writes)
 
--- the annotation of a hint
+-- The rule for the annotation of a hint
 pub hint_note_writes : {a b : Edge} {taken : Bool} {ps : List Piece} {f k : Forest} → is_open a ≡ true → WritesNoted Free ps b f k →
     WritesNoted a (HintNote taken ∷ ps) b f (Note (codes "metadata.code.branch_hint") (String (flag_byte taken ∷ []) End) k)
 hint_note_writes {a = a} {taken = taken} e w =
     piece_writes (HintNote taken) (Note (codes "metadata.code.branch_hint") (String (flag_byte taken ∷ []) End)) (λ g. g) tt (joins_anywhere a (HintNote taken) e refl)
     (λ g. refl) (λ g h n. a_note (a_string no_items) n) (λ g. refl) w
 
--- no text
+-- The rule for a claim, which has no text
 pub claimed_writes : {a b : Edge} {s : List ℕ} {place : ℕ} {bytes : List ℕ} {answer : Bool} {ps : List Piece} {f k : Forest} → is_open a ≡ true →
     WritesNoted Bound ps b f k → WritesNoted a (Claimed s place bytes answer ∷ ps) b f k
 claimed_writes {a = a} {s = s} {place = place} {bytes = bytes} {answer = answer} e w =

@@ -1,1 +1,1 @@
--- This crate's laws are of the definitions alone: its contracts cite those of wasmprinter_spec.
+-- The laws of this crate are about the definitions alone: its contracts cite those of wasmprinter_spec.

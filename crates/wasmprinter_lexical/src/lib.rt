@@ -1,32 +1,33 @@
-//! Laws over the definitions of text: what is printed in quotes and of floats reads back, and how text is cut into pieces changes
-//! nothing.
-//! Each law is the contract of a function with an empty body. The proofs below them say what the text of any list of pieces
-//! lexes to; the crate `wasmprinter_reading` stands on them.
+//! Laws over the definitions of text: quoted strings and the text of floats read back, and lists of calls that are
+//! alike have one text. Each law is the contract of a function with an empty body. The proofs below them show what
+//! the text of any list of pieces lexes to; the crate `wasmprinter_reading` cites them.
 #![tactic(auto)]
 
 ghost use Rattle.wasmprinter_spec.specs.Laws.{AlikeHaveOneText, QuotedTextReads, QuotedBytesRead, FloatTextReads, FloatsAreExact};
 
-/// Two lists of calls that differ only in how text is cut into pieces have one text.
+/// Two lists of calls that differ only in how text is split into pieces have the same text.
 pub fn alike_calls_have_one_text()
     ensures { AlikeHaveOneText }
 {}
 
-/// The quoted text of any string is one token, that string (section 6.3 of the standard, "Strings").
+/// The quoted text of any string is one token: that string (section 6.3 of the standard, "Strings").
 pub fn quoted_text_reads()
     ensures { QuotedTextReads }
 {}
 
-/// The quoted text of any bytes is one token, the string of these bytes.
+/// The quoted text of any bytes is one token: the string of these bytes.
 pub fn quoted_bytes_read()
     ensures { QuotedBytesRead }
 {}
 
-/// The text of each bit pattern of a float is one word, and reads as these bits (section 6.3 of the standard, "Floating-Point").
+/// The text of each bit pattern of a float is one word that reads as these bits (section 6.3 of the standard,
+/// "Floating-Point").
 pub fn float_text_reads()
     ensures { FloatTextReads }
 {}
 
-/// A number in hexadecimal reads as the finite float that is equal to it, and as none where there is none.
+/// A hexadecimal number reads as the bits of the finite float that is equal to it. If no finite float is, it does
+/// not read.
 pub fn floats_are_exact()
     ensures { FloatsAreExact }
 {}

@@ -1,4 +1,4 @@
-//! Texts with the sequences that colour them on a terminal. The sequences are typed by hand.
+//! Texts with ANSI escape sequences for colors. The sequences are typed by hand.
 
 use crate::large::{COUNT, large};
 use std::alloc::{AllocError, Global};
@@ -6,7 +6,7 @@ use std::test::Fail;
 use wasmprinter::{Config, Error};
 use wasmprinter_samples::{IDENTITY, PREAMBLE};
 
-/// `IDENTITY` in colours.
+/// The text of `IDENTITY` with colors.
 const IDENTITY_COLORED: &str = "(\x1b[0m\x1b[1m\x1b[38;5;11mmodule\x1b[0m
   (\x1b[0m\x1b[1m\x1b[38;5;11mtype \x1b[0m\x1b[0m\x1b[35m(;0;)\x1b[0m (\x1b[0m\x1b[1m\x1b[38;5;11mfunc\x1b[0m \
 (\x1b[0m\x1b[1m\x1b[38;5;11mparam\x1b[0m \x1b[0m\x1b[1m\x1b[38;5;10mi32\x1b[0m) \
@@ -21,7 +21,7 @@ const IDENTITY_COLORED: &str = "(\x1b[0m\x1b[1m\x1b[38;5;11mmodule\x1b[0m
 )
 ";
 
-/// `IDENTITY` in colours with places, which are comments.
+/// The text of `IDENTITY` with colors and with places, which are comments.
 const PLACES_COLORED: &str = "(\x1b[0m\x1b[1m\x1b[38;5;11mmodule\x1b[0m
 \x1b[0m\x1b[36m(;@b     ;)\x1b[0m  (\x1b[0m\x1b[1m\x1b[38;5;11mtype \x1b[0m\x1b[0m\x1b[35m(;0;)\x1b[0m \
 (\x1b[0m\x1b[1m\x1b[38;5;11mfunc\x1b[0m \
@@ -75,7 +75,7 @@ fn refuses_in_colors_what_it_refuses_without(rt: HostRuntime) -> Result<(), Fail
     Ok(())
 }
 
-/// The text of the large module in colours.
+/// Returns the text of the large module with colors.
 fn large_colored(alloc: Global) -> Result<String, AllocError> {
     let mut text = String::from_str(
         alloc,

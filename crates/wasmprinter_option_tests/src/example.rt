@@ -8,7 +8,7 @@ use wasmprinter::wasm::decode;
 use wasmprinter::{Config, Error, PrintTermcolor, PrintText, place_of, print_bytes};
 use wasmprinter_samples::{IDENTITY, IDENTITY_TEXT, expect_text};
 
-/// The text of a module, or what is wrong with its bytes.
+/// Returns the text of a module, or a message if the bytes are malformed.
 fn text_or_fault(alloc: Global, wasm: &[u8]) -> Result<String, Error> {
     match print_bytes(alloc, wasm) {
         Err(Error::Malformed { place }) => Ok(format!(in alloc; "no module: see byte {place}\n")?),
@@ -16,7 +16,7 @@ fn text_or_fault(alloc: Global, wasm: &[u8]) -> Result<String, Error> {
     }
 }
 
-/// The text of a module without its bodies, in the colours of a terminal.
+/// Returns the text of a module without its bodies, with ANSI escape sequences for colors.
 fn outline_of(alloc: Global, wasm: &[u8]) -> Result<Vec<u8>, Error> {
     let mut config = Config::new();
     config.print_skeleton(true);
@@ -25,7 +25,8 @@ fn outline_of(alloc: Global, wasm: &[u8]) -> Result<Vec<u8>, Error> {
     Ok(printer.0.into_inner())
 }
 
-/// The number of the line on which an operator stands, from 0, and the operator's place in the module.
+/// Returns the number of the line of an operator, counted from 0, and the operator's byte offset from the start of
+/// the module.
 fn line_of_operator(
     alloc: Global,
     wasm: &[u8],
@@ -50,7 +51,7 @@ impl PrintText for Length {
     }
 }
 
-/// How many bytes the text of a module has.
+/// Returns the number of bytes in the text of a module.
 fn text_length(alloc: Global, wasm: &[u8]) -> Result<usize, Error> {
     let mut length = Length(0);
     Config::new().print(alloc, wasm, &mut length)?;

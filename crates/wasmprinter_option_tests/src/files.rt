@@ -1,4 +1,4 @@
-//! Modules in files that the tests write. What is expected is typed by hand.
+//! Modules in files that the tests write. Expected values are typed by hand.
 
 use std::fs;
 use std::path::Path;

@@ -2,29 +2,30 @@
 
 use std::alloc::{AllocError, Global};
 
-/// How many functions the module has.
+/// The number of functions in the module.
 pub const COUNT: u32 = 3000;
 
-/// That number as the binary format spells it.
+/// The encoding of `COUNT` in LEB128.
 const COUNT_SPELLED: [u8; 2] = [0xb8, 0x17];
 
-/// The place of the first body, after the byte of its size. Each body is three bytes after the one before it.
+/// The byte offset of the first body, after the byte of its size. Each body starts three bytes after the previous
+/// one.
 pub const FIRST_BODY: u64 = 3025;
 
-/// The length of the module.
+/// The length of the module in bytes.
 pub const LEN: u64 = 12024;
 
-/// A module of 12,024 bytes with 3,000 functions without locals and operators.
+/// Returns a module of 12,024 bytes with 3,000 functions without locals and operators.
 pub fn large(alloc: Global) -> Result<Vec<u8>, AllocError> {
     let mut wasm = Vec::from_slice(alloc, &wasmprinter_samples::PREAMBLE)?;
     wasm.extend_from_slice(&[0x01, 0x04, 0x01, 0x60, 0x00, 0x00])?;
-    // a function section of 3,002 bytes: the count, and type 0 for each
+    // A function section of 3,002 bytes: the count, and type 0 for each function.
     wasm.extend_from_slice(&[0x03, 0xba, 0x17])?;
     wasm.extend_from_slice(&COUNT_SPELLED)?;
     for _ in 0..COUNT {
         wasm.push(0x00)?;
     }
-    // a code section of 9,002 bytes: the count, and a body of two bytes for each
+    // A code section of 9,002 bytes: the count, and for each function a body of two bytes.
     wasm.extend_from_slice(&[0x0a, 0xaa, 0x46])?;
     wasm.extend_from_slice(&COUNT_SPELLED)?;
     for _ in 0..COUNT {

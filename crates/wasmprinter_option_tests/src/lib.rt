@@ -1,5 +1,5 @@
-//! Tests of what is printed by each option, of files, in colours and in lines, through the paths of the crate `wasmprinter` alone; and the
-//! examples of the documents. What is expected is typed by hand.
+//! Tests of each option, of files, of colors and of lines, and the examples of the documents. They use only paths
+//! of the crate `wasmprinter`. Expected values are typed by hand.
 #![tactic(auto)]
 
 #[cfg(test)]

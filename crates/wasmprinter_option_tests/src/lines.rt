@@ -1,4 +1,4 @@
-//! The lines of a text, each with its place. What is expected is typed by hand.
+//! The lines of a text, each with its place. Expected values are typed by hand.
 
 use crate::large::{COUNT, FIRST_BODY, LEN, large};
 use std::alloc::{AllocError, Global};
@@ -6,7 +6,7 @@ use std::test::Fail;
 use wasmprinter::{Config, Error, LineStart, OffsetsAndLines};
 use wasmprinter_samples::{IDENTITY, MINUS_ONE, PREAMBLE, expect_text};
 
-/// A line: the place of what stands on it, and its text with the line feed.
+/// A line: the place of the item that it begins with, and its text with the line feed.
 type Line = (Option<u64>, &'static str);
 
 /// The lines of `IDENTITY`.
@@ -26,7 +26,7 @@ const IDENTITY_LINES: [Line; 7] = [
     (Some(0x23), ")\n"),
 ];
 
-/// Its lines without its body.
+/// The lines of `IDENTITY` in a skeleton.
 const OUTLINE: [Line; 5] = [
     (Some(0x0), "(module\n"),
     (
@@ -41,7 +41,7 @@ const OUTLINE: [Line; 5] = [
     (Some(0x23), ")\n"),
 ];
 
-/// The same with places in front.
+/// The lines of `IDENTITY` in a skeleton with places.
 const PLACED: [Line; 5] = [
     (Some(0x0), "(module\n"),
     (
@@ -69,13 +69,13 @@ const MINUS_ONE_LINES: [Line; 9] = [
     (Some(0x21), ")\n"),
 ];
 
-/// A group of one type.
+/// A module with a recursive group of one type.
 const GROUP: [u8; 16] = [
     0x00, 0x61, 0x73, 0x6d, 0x01, 0x00, 0x00, 0x00, // preamble
     0x01, 0x06, 0x01, 0x4e, 0x01, 0x60, 0x00, 0x00, // types
 ];
 
-/// Its lines: the group's end stands for nothing.
+/// The lines of `GROUP`. The line that closes the group has no place.
 const GROUP_LINES: [Line; 5] = [
     (Some(0x0), "(module\n"),
     (Some(0xb), "  (rec\n"),
@@ -84,7 +84,7 @@ const GROUP_LINES: [Line; 5] = [
     (Some(0x10), ")\n"),
 ];
 
-/// A `dylink.0` section with subsection 9, which isn't known, behind a type.
+/// A type, followed by a `dylink.0` section with subsection 9, which is unknown.
 const UNKNOWN: [u8; 27] = [
     0x00, 0x61, 0x73, 0x6d, 0x01, 0x00, 0x00, 0x00, // preamble
     0x01, 0x04, 0x01, 0x60, 0x00, 0x00, // types
@@ -92,7 +92,7 @@ const UNKNOWN: [u8; 27] = [
     0x09, 0x00, // the subsection
 ];
 
-/// Whether these are the lines.
+/// Reports whether the lines are the expected ones.
 fn are_lines(found: OffsetsAndLines<'_>, expected: &[Line]) -> bool {
     found.eq(expected.iter().copied())
 }
@@ -140,7 +140,7 @@ fn appends_to_the_text_that_stands_there(rt: HostRuntime) -> Result<(), Fail> {
     Ok(())
 }
 
-/// Why the lines of a module are refused, if they are.
+/// Returns the error with which the lines of a module are refused, if they are.
 fn refusal(alloc: Global, wasm: &[u8], storage: &mut String) -> Option<Error> {
     match Config::new().offsets_and_lines(alloc, wasm, storage) {
         Ok(_) => None,
@@ -160,7 +160,7 @@ fn keeps_the_text_behind_a_refusal(rt: HostRuntime) -> Result<(), Fail> {
     Ok(())
 }
 
-/// A custom section, and a `dylink.0` section in which a subsection that is not known follows one that is.
+/// A custom section, and a `dylink.0` section in which an unknown subsection follows a known one.
 const UNKNOWN_AFTER_CUSTOM: [u8; 33] = [
     0x00, 0x61, 0x73, 0x6d, 0x01, 0x00, 0x00, 0x00, // preamble
     0x00, 0x03, 0x01, 0x61, 0x78, // a custom section
@@ -181,7 +181,7 @@ fn keeps_custom_sections_before_a_refusal(rt: HostRuntime) -> Result<(), Fail> {
     Ok(())
 }
 
-/// Line by line, over and over behind the last.
+/// Reports whether the iterator returns the one line of the empty module, and then `None` each time.
 fn walks_to_the_end(alloc: Global) -> Result<bool, Error> {
     let mut storage = String::new(alloc);
     let mut lines = Config::new().offsets_and_lines(alloc, &PREAMBLE, &mut storage)?;
@@ -208,7 +208,7 @@ fn body_place(number: u32) -> u64 {
     FIRST_BODY.saturating_add(u64::from(number).saturating_mul(3))
 }
 
-/// Whether the lines that follow are those of the functions of the large module.
+/// Reports whether the next lines are those of the functions of the large module.
 fn are_functions(alloc: Global, lines: &mut OffsetsAndLines<'_>) -> Result<bool, AllocError> {
     for number in 0..COUNT {
         let line = format!(in alloc; "  (func (;{number};) (type 0))\n")?;
@@ -219,7 +219,7 @@ fn are_functions(alloc: Global, lines: &mut OffsetsAndLines<'_>) -> Result<bool,
     Ok(true)
 }
 
-/// Whether the lines that follow are these.
+/// Reports whether the next lines are the expected ones.
 fn go_on_with(lines: &mut OffsetsAndLines<'_>, expected: &[Line]) -> bool {
     for line in expected {
         if lines.next() != Some(*line) {
@@ -249,7 +249,7 @@ const GROUP_STARTS: [(Option<u64>, usize); 5] = [
     (Some(0x10), 47),
 ];
 
-/// Whether these are the starts of lines.
+/// Reports whether the line starts are the expected ones.
 fn are_starts(found: &[LineStart], expected: &[(Option<u64>, usize)]) -> bool {
     found.len() == expected.len()
         && found.iter().zip(expected).all(|(start, (place, at))| start.place == *place

@@ -1,4 +1,5 @@
-//! Options by their setters: texts with places, without bodies, and with several options chained; and options that are taken back.
+//! Options and their setters: texts with places, without bodies, and with several options at once; and options
+//! that are reset.
 
 use std::test::Fail;
 use wasmprinter::Config;
@@ -7,7 +8,7 @@ use wasmprinter_samples::{
     PREAMBLE, expect_text,
 };
 
-/// `IDENTITY` with places.
+/// The text of `IDENTITY` with places.
 const IDENTITY_PLACES: &str = r#"(module
 (;@b     ;)  (type (;0;) (func (param i32) (result i32)))
 (;@17    ;)  (export "f" (func 0))
@@ -17,7 +18,7 @@ const IDENTITY_PLACES: &str = r#"(module
 (;@23    ;))
 "#;
 
-/// `IDENTITY` with places and without its body.
+/// The text of `IDENTITY` with places and without its body.
 const IDENTITY_OUTLINE: &str = r#"(module
 (;@b     ;)  (type (;0;) (func (param i32) (result i32)))
 (;@17    ;)  (export "f" (func 0))
@@ -25,7 +26,7 @@ const IDENTITY_OUTLINE: &str = r#"(module
 (;@23    ;))
 "#;
 
-/// `IDENTITY` with places, without its body, and with identifiers made up.
+/// The text of `IDENTITY` with places, without its body, and with synthesized identifiers.
 const IDENTITY_OUTLINE_INVENTED: &str = r#"(module
 (;@b     ;)  (type $#type0 (;0;) (func (param i32) (result i32)))
 (;@17    ;)  (export "f" (func $#func0))
@@ -33,7 +34,8 @@ const IDENTITY_OUTLINE_INVENTED: &str = r#"(module
 (;@23    ;))
 "#;
 
-/// `EVERYTHING` with places: the second function's locals begin a line, and the first function, which has no operators, ends in one.
+/// The text of `EVERYTHING` with places. The locals of the second function begin a line. The first function has no
+/// operators, and its last line contains only its closing parenthesis.
 const EVERYTHING_PLACES: &str = r#"(module
 (;@b     ;)  (type (;0;) (func))
 (;@e     ;)  (type (;1;) (func (param i32) (result i64)))
@@ -54,7 +56,7 @@ const EVERYTHING_PLACES: &str = r#"(module
 (;@46    ;))
 "#;
 
-/// `EVERY_SPACE` with places, and without bodies, items of element segments and bytes of data segments.
+/// The text of `EVERY_SPACE` with places, without bodies, items of element segments and bytes of data segments.
 const EVERY_SPACE_OUTLINE: &str = r#"(module $all
 (;@b     ;)  (type $sig (;0;) (func (param i32) (result i32)))
 (;@10    ;)  (type (;1;) (struct (field i32) (field $x (mut i64))))
@@ -84,7 +86,8 @@ const EVERY_SPACE_OUTLINE: &str = r#"(module $all
 (;@164   ;))
 "#;
 
-/// `EVERY_SPACE` by all options at once: with places, without bodies, with identifiers made up, and indented by tabs.
+/// The text of `EVERY_SPACE` with all options: with places, without bodies, with synthesized identifiers, and
+/// indented by tabs.
 const EVERY_OPTION: &str = "(module $all
 (;@b     ;)\t(type $sig (;0;) (func (param i32) (result i32)))
 (;@10    ;)\t(type $#type1 (;1;) (struct (field $#field0 i32) (field $x (mut i64))))
@@ -224,7 +227,7 @@ fn leaves_room_where_a_line_has_no_place(rt: HostRuntime) -> Result<(), Fail> {
     Ok(())
 }
 
-/// Indents, and `IDENTITY` with each.
+/// Indents, and the text of `IDENTITY` with each.
 const INDENTED: [(&str, &str); 3] = [
     (
         "\t",

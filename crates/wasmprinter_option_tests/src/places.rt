@@ -1,4 +1,4 @@
-//! Operators and their lines. What is expected is typed by hand.
+//! Operators and their lines. Expected values are typed by hand.
 
 use std::alloc::Global;
 use std::test::Fail;
@@ -6,7 +6,7 @@ use wasmprinter::wasm::decode;
 use wasmprinter::{Config, Error, place_of};
 use wasmprinter_samples::{IDENTITY, MINUS_ONE};
 
-/// A function with a branch hint at its `if`.
+/// A function with a branch hint for its `if`.
 const HINTED: [u8; 68] = [
     0x00, 0x61, 0x73, 0x6d, 0x01, 0x00, 0x00, 0x00, // preamble
     0x01, 0x05, 0x01, 0x60, 0x01, 0x7f, 0x00, // types
@@ -18,10 +18,11 @@ const HINTED: [u8; 68] = [
     0x00, 0x02, 0x01, 0x61, // a custom section
 ];
 
-/// An operator, and what is found for it: the number of its line and its place.
+/// A function and an operator by their numbers, and what is found for the operator: the number of its line, and
+/// its place.
 type Case = (u32, u32, Option<(usize, u64)>);
 
-/// Whether these are found in all lines of a module.
+/// Reports whether the expected lines and places are found in all lines of a module.
 fn are_found(alloc: Global, config: &Config, wasm: &[u8], cases: &[Case]) -> Result<bool, Error> {
     let module = decode(alloc, wasm)?;
     let mut storage = String::new(alloc);

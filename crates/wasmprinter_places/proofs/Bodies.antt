@@ -1,4 +1,4 @@
--- Where the places of bodies lie: they rise.
+-- The places in bodies increase.
 use Rattle.std.proofs.Common.{ℕ, ◌+◌, ◌≤◌, ◌==◌, List, [], ◌∷◌, ◌++◌, length, Bool, true, false, cond, Option, Some, refl, arith}
 use Rattle.std.specs.List.{flat_map}
 use Rattle.wasmprinter_spec.specs.Grammar.{Placed, value_with_place}
@@ -13,17 +13,18 @@ use Rattle.wasmprinter_spec.specs.Apart.{Rises, place_if_any, locals_places, bod
 use Rattle.wasmprinter_places.proofs.Order.{Order, rising, rises_from, rises_ends}
 use Rattle.wasmprinter_places.proofs.Lies.{Lies, Lies-any, Lies-u32, Lies-seq, Lies-behind, Lies-less, Lies-map_value, Lies-value_with_place, LiesIn-alone, Lies-exactly, Lies-vec, Lies-expression}
 
--- An operator takes a byte.
+-- The encoding of an operator has at least one byte.
 Lies-operator : {o : Order} → Lies o 1 operator (λ x. [])
 Lies-operator {o} = record {
   lie = λ p text x s. o.none (p + 1) (p + length text) (omega (arith, operator_takes p text (record { place = p; value = x }) (refl, s)));
 }
 
--- An entry of locals.
+-- The encoding of an entry of locals has at least one byte.
 Lies-local_entry : {o : Order} → Lies o 1 local_entry (λ e. [])
 Lies-local_entry = Lies-map_value (λ e. []) (Lies-seq Lies-u32 (λ n. Lies-any val_type))
 
--- Of rising places of entries, only that of the first entry that declares a local.
+-- If the places of entries increase, so do those that remain if only the first entry that declares a local keeps
+-- its place.
 locals_step : (b : Bool) (p place q : ℕ) (rest : Option ℕ) → p ≤ place → place + 1 ≤ q → Rises p (place_if_any rest) q →
     Rises p (place_if_any (cond b rest (Some place))) q
 locals_step true p place q rest le ends own = own
@@ -35,7 +36,7 @@ locals_rise (e ∷ es) p q h =
     locals_step (e.value.count == 0) p e.place q (locals_place es) h.0 (rises_ends (e.place + 1) q (places es) h.1)
     (rises_from p (e.place + 1) q (locals_places es) (omega (arith, h.0)) (locals_rise es (e.place + 1) q h.1))
 
--- The locals' line.
+-- The place of the line of locals is within the encoding of the locals.
 Lies-locals : Lies rising 1 (vec (value_with_place local_entry)) locals_places
 Lies-locals = record {
   lie = λ p text es s.
@@ -43,7 +44,7 @@ Lies-locals = record {
       locals_rise es (p + 1) (p + length text) (all.lie p text es s);
 }
 
--- The places behind a body's first byte.
+-- The places after the first byte of a body
 abbrev inner_places : Body → List ℕ
 inner_places b = locals_places b.locals ++ (places b.operators ++ (b.end ∷ []))
 

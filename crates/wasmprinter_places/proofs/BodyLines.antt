@@ -1,4 +1,5 @@
--- The lines of one function: they follow the places of its body, and what is kept of them where those of hints are left out.
+-- The lines of one function: they follow the places of its body. Also the lines that remain without those of
+-- hints.
 use Rattle.std.proofs.Common.{◌≡◌, ℕ, zero, suc, ◌+◌, ◌-◌, ◌<◌, ◌≤◌, ◌==◌, ◌||◌, List, [], ◌∷◌, ◌++◌, Bool, true, false, cond, Option, Some, None, map, refl, ap, ap₂, ◌∙◌, codes, append_assoc, arith}
 use Rattle.std.specs.Prelude.{replicate}
 use Rattle.std.specs.List.{AllByRecursion, flat_map}
@@ -35,7 +36,7 @@ use Rattle.wasmprinter_places.proofs.HintLines.{OfHints, of_next_hint, of_hint_b
 abbrev pub some_all : List ℕ → List (Option ℕ)
 some_all ps = map (λ p. Some p) ps
 
--- the line of a closing parenthesis, if it stands on one of its own
+-- The line of a closing parenthesis, if it has a line of its own
 abbrev pub closing_lines : ℕ → Bool → List (Option ℕ)
 closing_lines place true = Some place ∷ []
 closing_lines place false = []
@@ -44,13 +45,13 @@ pub close_begins : (place nesting : ℕ) (b : Bool) → flat_map starts (close (
 close_begins place nesting true = refl
 close_begins place nesting false = refl
 
--- the lines of a function with these hints
+-- The lines of a function with these hints
 abbrev pub own_lines : Bool → List (Placed Hint) → PlacedFunction → List (Option ℕ)
 own_lines b hs f =
     Some f.body.place
     ∷ (some_all (locals_places f.body.value.locals) ++ (operator_lines f.body.place hs f.body.value.operators ++ closing_lines f.body.value.end b))
 
--- those that are kept where the lines of hints are left out
+-- The lines of a function without those of hints
 abbrev pub kept_lines : Bool → PlacedFunction → List (Option ℕ)
 kept_lines b f =
     Some f.body.place
@@ -90,12 +91,12 @@ module _ (names : Names) where
 
 -- ---- the lines of a function
 
--- A function has its lines, the last one or not.
+-- The lines are those of the function, with the line of its closing parenthesis or without.
 pub record BeginsOwn (hs : List (Placed Hint)) (f : PlacedFunction) (lines : List (Option ℕ)) : Type 0 where
   pub closes : Bool
   pub are : lines ≡ own_lines closes hs f
 
--- Operators that aren't folded have a line each.
+-- If operators are not folded, each has a line.
 body_begins : (folding : Option Folding) → folding ≡ None → (own : Option ℕ) (s : Setting) → s.form ≡ OverLines → (hs : List (Placed Hint)) (os : List (Placed Operator)) →
     flat_map starts (body_by folding own s hs os) ≡ operator_lines s.body hs os
 unfolding body_by
@@ -136,7 +137,7 @@ pub function_begins : (o : Options) (s : Scope) → s.folding ≡ None → (i : 
 unfolding function_pieces
 function_begins o s flat i hs f whole = group_begins o.skeleton o.offsets (scope_of_function s i) flat hs f whole
 
--- ---- they follow the places of its body
+-- ---- the lines follow the places of the body
 
 module _ (low high : ℕ) where
   some_follow : (ps : List ℕ) → Follows low high ps (some_all ps)
@@ -169,9 +170,10 @@ module _ (low high : ℕ) where
       (follows_both low high locals (places operators ++ (end ∷ [])) (some_all locals) (lines ++ closing_lines end b) (some_follow locals)
       (follows_both low high (places operators) (end ∷ []) lines (closing_lines end b) (operators_follow f.body.place hs operators all) (closing_follows end b)))
 
--- ---- what is kept of them
+-- ---- the lines without those of hints
 
--- Places that rise lie within their bounds.
+-- Increasing places are within their bounds. So a property of all numbers between the bounds holds for each of
+-- them.
 pub all_rising : (P : ℕ → Type 0) (p q : ℕ) (xs : List ℕ) → ((x : ℕ) → p ≤ x → x < q → P x) → Rises p xs q → AllByRecursion P xs
 all_rising P p q [] have h = tt
 all_rising P p q (x ∷ xs) have h =

@@ -1,4 +1,4 @@
--- The code section lies in an interval of its own: what other sections show lies outside of it.
+-- The places of the code section are in an interval, and those of all other sections are outside of it.
 use Rattle.std.proofs.Common.{◌≡◌, ℕ, ◌+◌, ◌<◌, ◌≤◌, inl, inr, List, [], ◌∷◌, ◌++◌, length, Bool, true, false, ◌&&◌, Option, Some, None, sym, ap, ◌∙◌, subst, arith}
 use Rattle.std.specs.Prelude.{bytes_eq, codes, if◌then◌else◌}
 use Rattle.std.specs.List.{AllByRecursion, flat_map}
@@ -20,19 +20,20 @@ use Rattle.wasmprinter_spec.proofs.Each.{all_both, all_parts}
 use Rattle.wasmprinter_places.proofs.Order.{Inside}
 use Rattle.wasmprinter_places.proofs.Sections.{given_places, other_places, Lies-other_section, Lies-code_section}
 
--- Places within bounds, of which each one has the property.
+-- If all numbers between the bounds have a property, so have all places within these bounds.
 all_inside : (P : ℕ → Type 0) (low high : ℕ) (xs : List ℕ) → ((x : ℕ) → low ≤ x → x ≤ high → P x) → Inside low xs high → AllByRecursion P xs
 all_inside P low high [] have h = tt
 all_inside P low high (x ∷ xs) have (above, below, others) = (have x above below, all_inside P low high xs have others)
 
 -- ---- the interval
 
--- Sections of which what they show lies outside of an interval, if they are no code sections.
+-- The places of all sections other than code sections are outside of the interval.
 abbrev AreOutside : ℕ → ℕ → List Section → Type 0
 AreOutside low high ss = AllByRecursion (λ s. AllByRecursion (IsOutside low high) (other_places s)) ss
 
--- The interval of the last code section among sections that begin at the place p. Where there is none, it is the one that counted in front
--- of them. What lies in front of them, and outside of that one, lies outside of it.
+-- The interval of the last code section among sections that start at place `p`. If there is none, it is the
+-- interval from before these sections. Places up to `p` that are outside of the earlier interval are outside of
+-- this one.
 record CodeLies (older old p : ℕ) (text : List ℕ) (before : List (Placed Body)) (ss : List Section) : Type 0 where
   low : ℕ
   high : ℕ
@@ -104,7 +105,7 @@ module _ (P : ℕ → Type 0) where
         | inr own ↦ rw (ap (content_of CustomSection) own.1) (subst (λ (x : Section). AllByRecursion P (other_places x)) own.1 all.0, customs_each (place_behind last s) ss all.1)
       ]
 
-  -- the places that a custom section shows have the property
+  -- The places of a custom section have the property.
   record GivenHave (c : Custom) (place : ℕ) : Type 0 where
     section : P place
     content : P c.bytes.place
@@ -138,7 +139,7 @@ module _ (P : ℕ → Type 0) where
 
 -- ---- the module
 
--- The functions have the bodies of the code section.
+-- The bodies of the functions are those of the code section.
 bodies_paired : (is : List ℕ) (bs : List (Placed Body)) (fs : List PlacedFunction) → function_pairs is bs ≡ Some fs → flat_map body_places bs ≡ flat_map (λ f. body_places f.body) fs
 bodies_paired [] [] fs e = ap (λ (gs : List PlacedFunction). flat_map (λ f. body_places f.body) gs) (some_is [] fs e)
 bodies_paired (i ∷ is) (b ∷ bs) fs e =

@@ -1,4 +1,4 @@
--- Where the places lie that are read from the data of a custom section: within it.
+-- The places that are read from the data of a custom section are within that data.
 use Rattle.std.proofs.Common.{◌≡◌, ℕ, suc, zero, ◌+◌, ◌≤◌, List, [], ◌∷◌, ◌++◌, length, Bool, true, false, Option, Some, None, refl, sym, ap, subst, inl, inr, arith}
 use Rattle.std.specs.Prelude.{nat_le, bytes_eq, if◌then◌else◌}
 use Rattle.std.specs.List.{flat_map}
@@ -20,7 +20,7 @@ use Rattle.wasmprinter_spec.specs.Apart.{role_places}
 use Rattle.wasmprinter_places.proofs.Order.{inside, Inside, inside_both, inside_wider}
 use Rattle.wasmprinter_places.proofs.Lies.{Lies, Lies-any, Lies-behind, Lies-less, Lies-mapped, Lies-map_value, Lies-vec}
 
--- In this order a place may be that of the end, so it says nothing of the value that has it.
+-- The place of any value is within its encoding, because the order `inside` also allows the place of the end.
 pub Lies-here : {A : Type 0} (g : Grammar A) → Lies inside 0 (value_with_place g) (λ x. x.place ∷ [])
 Lies-here g = record { lie = λ p text x s. (omega (arith, s.0), omega (arith, s.0), omega arith) }
 
@@ -37,7 +37,7 @@ Lies-fields = Lies-less 1 0 (omega arith) (Lies-vec Lies-field)
 
 -- ---- `dylink.0`
 
--- subsections that were read, and where reading stands behind them
+-- The subsections that were read, and the position at which reading goes on, are within the bounds.
 record Reads (a e : ℕ) (xs : List Subsection) (mid : Input) : Type 0 where
   lie : Inside a (places xs) e
   low : a ≤ mid.place
@@ -105,11 +105,11 @@ hints_inside_of p text (Some es) e =
     inside_wider p (p + 0) (p + length text) (p + length text) (places_of_hints es) (omega arith) (omega arith)
     (subst (λ (xs : List FunctionHints). Inside (p + 0) (places_of_hints xs) (p + length text)) same (all.lie p text listed spelled))
 
--- The hints that data gives lie within it.
+-- The places of the hints that data gives are within the data.
 pub hints_inside : (d : Placed (List ℕ)) → Inside d.place (places_of_hints (hints_given d)) (d.place + length d.value)
 hints_inside d = hints_inside_of d.place d.value (h.hint_section.parse (input d.place d.value)) refl
 
--- ---- by the role
+-- ---- by the role of the section
 
 module _ (a e : ℕ) (le : a ≤ e) where
   abbrev LiesAs : CustomRole → Type 0
@@ -128,7 +128,7 @@ module _ (a e : ℕ) (le : a ≤ e) where
   dylink_lie ss None (Some behind) h = h
   dylink_lie ss None None h = le
 
--- What is read for the lines of a custom section lies within its data.
+-- The places that are read for the lines of a custom section are within its data.
 pub role_inside : (c : Custom) → Inside c.bytes.place (role_places (custom_role_of c)) (c.bytes.place + length c.bytes.value)
 role_inside c =
     let a : ℕ = c.bytes.place in

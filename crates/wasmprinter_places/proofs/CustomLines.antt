@@ -1,4 +1,4 @@
--- The lines of custom sections begin elsewhere than the bodies.
+-- The places of the lines of custom sections are outside of the interval of the bodies.
 use Rattle.std.proofs.Common.{ℕ, ◌+◌, ◌-◌, ◌==◌, ◌&&◌, List, [], ◌∷◌, Bool, true, false, Option, Some, None, refl, codes}
 use Rattle.std.specs.Prelude.{if◌then◌else◌}
 use Rattle.std.specs.List.{AllByRecursion, flat_map}
@@ -19,7 +19,7 @@ use Rattle.wasmprinter_spec.proofs.Each.{all_parts}
 use Rattle.wasmprinter_spec.proofs.OneLine.{starts, IsOneLine, nothing_stays, both_stay, then_stay, alone_stays, cond_stays}
 use Rattle.wasmprinter_places.proofs.FieldLines.{elsewhere_both, pieces_elsewhere, stay_elsewhere, close_elsewhere, bytes_stay}
 
--- ---- what stays on a line
+-- ---- pieces that begin no line
 
 pub place_stays : (k : Option Kind) → IsOneLine (place_pieces k)
 unfolding place_pieces
@@ -47,7 +47,7 @@ sizes_group_stays w a b =
 
 -- ---- parts
 
--- the lines of a part
+-- The lines of a part
 abbrev pub part_starts : Part → List (Option ℕ)
 part_starts (Shown ps) = flat_map starts ps
 part_starts (Stops ps id) = flat_map starts ps
@@ -120,7 +120,7 @@ module _ (low high : ℕ) where
   subsections_elsewhere (s ∷ ss) h =
       pieces_elsewhere low high (content_pieces s.place s.value) (subsections_pieces ss) (content_elsewhere s.place s.value h.0) (subsections_elsewhere ss h.1)
 
-  -- ---- each section
+  -- ---- single sections
 
   role_elsewhere : (skeleton : Bool) (name : List ℕ) (place : ℕ) (bytes : List ℕ) (answer : Bool) (c : CustomEntry) (r : CustomRole) → IsOutside low high c.section.place → IsOutside low high c.section.value.bytes.place →
       AllByRecursion (IsOutside low high) (role_places r) → AreElsewhere low high (part_starts (role_part skeleton (Claimed name place bytes answer) c r))

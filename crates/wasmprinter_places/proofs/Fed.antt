@@ -1,4 +1,4 @@
--- In the calls of a module each line but the first begins directly behind a line feed.
+-- In the calls of a module, each line except the first begins directly after a line feed.
 use Rattle.std.proofs.Common.{◌≡◌, ℕ, List, [], ◌∷◌, ◌++◌, Bool, true, false, Option, Some, None, refl, sym, subst, codes, true≢false}
 use Rattle.std.specs.List.{flat_map}
 use Rattle.wasmprinter_spec.specs.Kinds.{Kind, CustomSection, TypeSection, ImportSection, FunctionSection, TableSection, MemorySection, TagSection, GlobalSection, ExportSection, StartSection, ElementSection, DataCountSection, CodeSection, DataSection}
@@ -32,28 +32,29 @@ use Rattle.wasmprinter_places.proofs.NoBeginCustoms.{HaveNoBegin, parts_none, cu
 
 -- ---- calls
 
--- Each line of these calls begins directly behind a line feed. The flag says whether one stands in front of the first call.
+-- Each line of these calls begins directly after a line feed. The flag says whether the call before the first one
+-- is a line feed.
 abbrev pub Fed : Bool → List Call → Type 0
 Fed fed [] = Unit {0}
 Fed fed (Newline ∷ cs) = Fed true cs
 Fed fed (Line place ∷ cs) = (fed ≡ true) × Fed false cs
 Fed fed (_ ∷ cs) = Fed false cs
 
--- calls that begin no line
+-- Calls that begin no line satisfy `Fed`.
 unlined_fed : (cs : List Call) → flat_map begun cs ≡ [] → (fed : Bool) → Fed fed cs
 unlined_fed [] e fed = tt
 unlined_fed (Line place ∷ cs) e fed = absurd cc
 unlined_fed (Newline ∷ cs) e fed = unlined_fed cs e true
 unlined_fed (c ∷ cs) e fed = unlined_fed cs e false
 
--- calls, and others that may stand behind anything
+-- If calls satisfy `Fed`, and other calls satisfy it after any call, both joined satisfy it.
 both_fed : (fed : Bool) (k l : List Call) → Fed fed k → ((behind : Bool) → Fed behind l) → Fed fed (k ++ l)
 both_fed fed [] l h others = others fed
 both_fed fed (Newline ∷ k) l h others = both_fed true k l h others
 both_fed fed (Line place ∷ k) l h others = (h.0, both_fed false k l h.1 others)
 both_fed fed (c ∷ k) l h others = both_fed false k l h others
 
--- The call in front of a line is a line feed.
+-- In calls that satisfy `Fed`, the call before a line is a line feed.
 pub behind_feed : (fed : Bool) (before after : List Call) (c : Call) (place : Option ℕ) → Fed fed (before ++ (c ∷ (Line place ∷ after))) → c ≡ Newline
 behind_feed fed [] after Newline place h = refl
 behind_feed fed [] after (Text s) place h = absurd (true≢false (sym h.0))
@@ -66,7 +67,7 @@ behind_feed fed (d ∷ before) after c place h = behind_feed false before after 
 
 -- ---- pieces
 
--- A break's line begins behind its own line feed.
+-- The calls of every piece that does not begin the first line satisfy `Fed`: a break contains its own line feed.
 piece_fed : (o : Options) (p : Piece) → IsNoBegin p → (fed : Bool) → Fed fed (calls o p)
 piece_fed o (Begin place) h fed = absurd h
 piece_fed o (Break place nesting) h fed =
@@ -110,7 +111,7 @@ module _ (o : Options) (answers : Answers) (m : PlacedModule) where
       parts_none (parts_at o.skeleton answers None 0 m.customs) (flat_map (section_parts o s m answers) section_order)
       (customs_none o.skeleton answers None 0 m.customs) (sections_none s section_order)
 
-  -- what stands behind the first line's beginning, whole or up to a refusal
+  -- After the first piece of a module, no piece begins the first line, whether the module is complete or refused.
   whole_none : (names : Names) {ps : List Piece} → HasNoBegin ps →
       HasNoBegin (group_at o.offsets m.size 0 (codes "module") (leading_mark_pieces names.module_name ++ ps) ++ (Feed ∷ []))
   whole_none names h = both_none (group_at_none o.offsets m.size 0 (codes "module") (both_none (line_none (leading_mark_stays names.module_name)) h)) (alone_none tt)
@@ -118,7 +119,7 @@ module _ (o : Options) (answers : Answers) (m : PlacedModule) where
   refused_none : (names : Names) {ps : List Piece} → HasNoBegin ps → HasNoBegin (Open (codes "module") ∷ (leading_mark_pieces names.module_name ++ ps))
   refused_none names h = then_none tt (both_none (line_none (leading_mark_stays names.module_name)) h)
 
-  -- Only the first call begins a line behind no line feed.
+  -- Only the first call of a module begins a line that does not follow a line feed.
   module_fed : (names : Names) (ps : List Piece) (r : Option ℕ) → HasNoBegin ps → Fed true (all_calls o (module_pieces_of o names m.size ps r))
   module_fed names ps None h = (refl, pieces_fed o _ (whole_none names h) false)
   module_fed names ps (Some id) h = (refl, pieces_fed o _ (refused_none names h) false)

@@ -1,4 +1,4 @@
--- The lines that fields begin: one each, but for written groups of types.
+-- The lines that fields begin: each field begins one line, except written groups of types.
 use Rattle.std.proofs.Common.{◌≡◌, ℕ, ◌+◌, ◌==◌, List, [], ◌∷◌, ◌++◌, Bool, true, false, Option, Some, None, map, refl, ap, ap₂, subst, sym, ◌∙◌, codes, length}
 use Rattle.std.specs.List.{AllByRecursion, flat_map}
 use Rattle.std.proofs.lemmas.List.Concat.{flat_map-append}
@@ -34,16 +34,16 @@ use Rattle.wasmprinter_spec.proofs.Each.{all_parts}
 use Rattle.wasmprinter_spec.proofs.OneLine.{starts, IsOneLine, nothing_stays, both_stay, then_stay, alone_stays, cond_stays, close_stays, line_group_gap_stays, group_gap_stays, declaration_stays, index_stays, ref_stays, val_stays, type_use_stays, type_stays}
 use Rattle.wasmprinter_places.proofs.OperatorLines.{expression_stays}
 
--- ---- lines that begin elsewhere
+-- ---- lines with places elsewhere
 
--- a field begins its line alone
+-- If its pieces begin no other line, a field begins one line.
 pub field_begins : (place nesting : ℕ) {ps : List Piece} → IsOneLine ps → flat_map starts (Break (Some place) nesting ∷ ps) ≡ Some place ∷ []
 field_begins place nesting h = ap (λ (ls : List (Option ℕ)). Some place ∷ ls) h.begins
 
 abbrev pub placed_lines : {A : Type 0} → List (Placed A) → List (Option ℕ)
 placed_lines xs = map (λ x. Some x.place) xs
 
--- Fields of one line each.
+-- If each item begins one line, with its place, the lines of the items are those with their places.
 pub numbered_begin : {A : Type 0} (write : ℕ → Placed A → List Piece) → ((i : ℕ) (x : Placed A) → flat_map starts (write i x) ≡ Some x.place ∷ []) →
     (i : ℕ) (xs : List (Placed A)) → flat_map starts (numbered_pieces write i xs) ≡ placed_lines xs
 unfolding numbered_pieces
@@ -57,7 +57,7 @@ module _ (low high : ℕ) where
   elsewhere_both [] ys h k = k
   elsewhere_both (x ∷ xs) ys h k = (h.0, elsewhere_both xs ys h.1 k)
 
-  -- the lines of pieces and of others behind them
+  -- If the lines of two lists of pieces have places elsewhere, so have those of both joined.
   pub pieces_elsewhere : (ps qs : List Piece) → AreElsewhere low high (flat_map starts ps) → AreElsewhere low high (flat_map starts qs) → AreElsewhere low high (flat_map starts (ps ++ qs))
   pieces_elsewhere ps qs h k =
       subst (AreElsewhere low high) (sym (flat_map-append starts ps qs)) (elsewhere_both (flat_map starts ps) (flat_map starts qs) h k)
@@ -69,7 +69,7 @@ module _ (low high : ℕ) where
   placed_elsewhere [] h = tt
   placed_elsewhere (x ∷ xs) h = (h.0, placed_elsewhere xs h.1)
 
-  -- a closing parenthesis without a place
+  -- A closing parenthesis without a place begins no line with a place of the interval.
   pub close_elsewhere : (nesting : ℕ) (b : Bool) → AreElsewhere low high (flat_map starts (close None nesting b))
   close_elsewhere nesting true = (tt, tt)
   close_elsewhere nesting false = tt
@@ -125,7 +125,7 @@ item_stays s space i = index_stays (s.names.items space i) i
 pub declared_stays : (s : Scope) (space : Space) (i : ℕ) → IsOneLine (item_declaration s space i)
 declared_stays s space i = declaration_stays (s.names.items space i) i
 
--- An expression that isn't folded stays on its line.
+-- An expression that is not folded begins no line.
 constant_by_stays : (f : Option Folding) → f ≡ None → (s : Setting) → s.form ≡ InLine → (os : List (Placed Operator)) → IsOneLine (constant_by f s os)
 unfolding constant_by
 constant_by_stays None flat s line os = expression_stays s line os

@@ -1,4 +1,4 @@
--- What is found for an operator.
+-- The place and the line that are found for an operator.
 use Rattle.std.proofs.Common.{◌≡◌, ℕ, zero, suc, ◌+◌, cond, inl, inr, List, [], ◌∷◌, Bool, true, Option, Some, None, refl, sym, ap, ◌∙◌, subst, arith}
 use Rattle.std.specs.Prelude.{slice_get}
 use Rattle.std.proofs.lemmas.Bool.{eqb-true, eq-eqb, cases_Bool}
@@ -15,7 +15,7 @@ has_place_true : (place : ℕ) (x : Option ℕ) → has_place place x ≡ true �
 has_place_true place None e = absurd cc
 has_place_true place (Some p) e = ap (λ (q : ℕ). Some q) (eqb-true p place e)
 
--- The line found has the place.
+-- The line that is found has the place.
 line_has : (lines : List TextLine) (number place k : ℕ) → line_from number place lines ≡ Some k → (j : ℕ) × (k ≡ number + j) × (slice_get (line_places lines) j ≡ Some (Some place))
 line_has [] number place k e = absurd cc
 line_has (line ∷ lines) number place k e =
@@ -26,7 +26,7 @@ line_has (line ∷ lines) number place k e =
           (suc index, omega (arith, counted), has)
     ]
 
--- A line with the place is found.
+-- If a line has the place, a line is found.
 line_found : (lines : List TextLine) (number place j : ℕ) → slice_get (line_places lines) j ≡ Some (Some place) → (k : ℕ) × (line_from number place lines ≡ Some k)
 line_found [] number place j e = absurd cc
 line_found (line ∷ lines) number place zero e =
@@ -40,7 +40,7 @@ line_found (line ∷ lines) number place (suc j) e =
           (rest.0, ap (λ (b : Bool). cond b (Some number) (line_from (number + 1) place lines)) on ∙ rest.1)
     ]
 
--- Whatever the lines are.
+-- In any lines, the place that is found for an operator is the operator's, and the line that is found has it.
 pub finds_place : FindsPlace
 finds_place m lines i j number place e =
     let (own, is_there, rest) =
@@ -58,7 +58,7 @@ finds_place m lines i j number place e =
           (subst (λ (q : ℕ). slice_get (line_places lines) index ≡ Some (Some q)) is_place has),
     )
 
--- the only line with the place is found
+-- If only one line has the place of an operator, that line is found.
 pub only_found : (m : PlacedModule) (lines : List TextLine) (i j number : ℕ) (a : Placed Operator) → operator_at m i j ≡ Some a → IsOnlyLine (line_places lines) a.place number →
     (n : ℕ) × (place_of m lines i j ≡ Some (n, a.place)) × IsOnlyLine (line_places lines) a.place n
 only_found m lines i j number a e only =

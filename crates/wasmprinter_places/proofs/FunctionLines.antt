@@ -21,11 +21,11 @@ use Rattle.wasmprinter_places.proofs.FieldLines.{placed_lines}
 use Rattle.wasmprinter_places.proofs.BodyLines.{some_all, closing_lines, all_rising, IsKept}
 use Rattle.wasmprinter_places.proofs.ModuleLines.{Stands, module_lines, own_parts, module_begins, module_rises, module_stands}
 
--- A place of the interval is none of those outside.
+-- A place within the interval is not outside of it.
 inside_not : (low high x : ℕ) → low ≤ x → x < high → IsOutside low high x → ⊥
 inside_not low high x above below out = elim out [ inl less ↦ omega (arith, less, above) | inr past ↦ omega (arith, past, below) ]
 
--- As many lines as places.
+-- There is one line for each place.
 lines_counted : (r : Option ℕ) → length (some_all (place_if_any r)) ≡ lines_for r
 lines_counted None = refl
 lines_counted (Some place) = refl

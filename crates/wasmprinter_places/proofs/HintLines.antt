@@ -1,4 +1,4 @@
--- What is so of the places of hints is so of those that functions and operators take.
+-- Properties of the places of hints hold for the hints that functions and operators take.
 use Rattle.std.proofs.Common.{ℕ, ◌==◌, List, [], ◌∷◌, Bool, true, false, Option, Some, None}
 use Rattle.std.specs.Prelude.{if◌then◌else◌}
 use Rattle.std.specs.List.{AllByRecursion}
@@ -9,7 +9,7 @@ use Rattle.wasmprinter_spec.proofs.Each.{all_parts}
 use Rattle.wasmprinter_places.proofs.OperatorLines.{hint_lines}
 
 module _ (Q : Option ℕ → Type 0) where
-  -- of the places of hints
+  -- The places of the hints have the property.
   abbrev pub OfHints : List (Placed Hint) → Type 0
   OfHints hs = AllByRecursion (λ p. Q (Some p)) (places hs)
 

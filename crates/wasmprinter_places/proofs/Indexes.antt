@@ -1,4 +1,5 @@
--- Lists of places in which those of an interval rise: each of these stands once. And where a part of a list stands.
+-- Lists of places in which the places of an interval increase: each of these occurs once. Also the index at which
+-- a part of a list starts.
 use Rattle.std.proofs.Common.{◌≡◌, Bool, true, false, cond, ℕ, zero, suc, ◌+◌, ◌<◌, ◌≤◌, ◌⊎◌, inl, inr, List, [], ◌∷◌, ◌++◌, length, Option, Some, None, refl, sym, ap, ◌∙◌, subst, arith, append_assoc}
 use Rattle.std.specs.Prelude.{slice_get}
 use Rattle.std.specs.List.{AllByRecursion, flat_map}
@@ -7,7 +8,7 @@ use Rattle.wasmprinter_spec.specs.Apart.{Rises, IsOutside}
 use Rattle.wasmprinter_spec.specs.Lines.{is_among, lines_without}
 use Rattle.wasmprinter_places.proofs.Order.{rises_from, rises_ends}
 
--- ---- parts
+-- ---- parts of lists
 
 pub get_left : {A : Type 0} (xs ys : List A) (n : ℕ) (x : A) → slice_get xs n ≡ Some x → slice_get (xs ++ ys) n ≡ Some x
 get_left [] ys n x e = absurd cc
@@ -22,7 +23,7 @@ get_right (y ∷ xs) ys n x e =
     let next : suc (length xs) + n ≡ suc (length xs + n) = omega arith in
     ap (slice_get (y ∷ (xs ++ ys))) next ∙ get_right xs ys n x e
 
--- The part stands in the list, from the index k on.
+-- The part occurs in the list, starting at index `k`.
 abbrev pub StandsAt : {A : Type 0} → ℕ → List A → List A → Type 0
 StandsAt k part xs = (n : ℕ) (x : _) → slice_get part n ≡ Some x → slice_get xs (k + n) ≡ Some x
 
@@ -34,7 +35,7 @@ stands_right k part xs ys h n x e =
     let same : length xs + k + n ≡ length xs + (k + n) = omega arith in
     ap (slice_get (xs ++ ys)) same ∙ get_right xs ys (k + n) x (h n x e)
 
--- ---- those of an interval rise
+-- ---- the places of an interval increase
 
 abbrev pub IsElsewhere : ℕ → ℕ → Option ℕ → Type 0
 IsElsewhere low high None = Unit {0}
@@ -53,7 +54,7 @@ module _ (low high : ℕ) where
   elsewhere_first p [] ys h k = k
   elsewhere_first p (x ∷ xs) ys h k = inl (h.0, elsewhere_first p xs ys h.1 k)
 
-  -- A place of the interval that stands somewhere is not below the bound.
+  -- A place of the interval that occurs in the list is not below the bound.
   at_least : (xs : List (Option ℕ)) (p n x : ℕ) → RisesAmong low high p xs → low ≤ x → x < high → slice_get xs n ≡ Some (Some x) → p ≤ x
   at_least [] p n x h above below e = absurd cc
   at_least (y ∷ xs) p zero x h above below e =
@@ -83,7 +84,7 @@ module _ (low high : ℕ) where
             omega (arith, same, at_least xs (place + 1) n x rises above below f)
       ]
 
-  -- A place of the interval stands once.
+  -- A place of the interval occurs at most once.
   pub once : (xs : List (Option ℕ)) (p n k x : ℕ) → RisesAmong low high p xs → low ≤ x → x < high → slice_get xs n ≡ Some (Some x) → slice_get xs k ≡ Some (Some x) → n ≡ k
   once [] p n k x h above below e f = absurd cc
   once (y ∷ xs) p zero zero x h above below e f = refl
@@ -94,7 +95,7 @@ module _ (low high : ℕ) where
     | inr (place, stands, from, rises) ↦ ap suc (once xs (place + 1) n k x rises above below e f)
   ]
 
-  -- a lower bound
+  -- The lower bound may be lowered.
   among_from : (xs : List (Option ℕ)) (p q : ℕ) → p ≤ q → RisesAmong low high q xs → RisesAmong low high p xs
   among_from [] p q le h = tt
   among_from (x ∷ xs) p q le h = elim h [
@@ -113,12 +114,12 @@ module _ (low high : ℕ) where
     | inr (place, stands, from, rises) ↦ among_from ys p (place + 1) (omega (arith, from)) (rest (place + 1) rises)
   ]
 
-  -- Some lines left out, the others rise still.
+  -- If the places of an interval increase, they also do without the lines with some places.
   pub rises_kept : (ps : List ℕ) (xs : List (Option ℕ)) (p : ℕ) → RisesAmong low high p xs → RisesAmong low high p (lines_without ps xs)
   rises_kept ps [] p h = tt
   rises_kept ps (x ∷ xs) p h = dropped (is_among ps x) x xs (lines_without ps xs) p h (λ q rest. rises_kept ps xs q rest)
 
-  -- ---- lines that follow rising places, and may leave some out
+  -- ---- lines that follow increasing places, some of which may be left out
 
   abbrev pub Follows : List ℕ → List (Option ℕ) → Type 0
   Follows ps ls =
@@ -134,11 +135,11 @@ module _ (low high : ℕ) where
   pub follows_skip : (x : ℕ) → Follows (x ∷ []) []
   follows_skip x p more others h k = k p (rises_from p (x + 1) high more (omega (arith, h.0)) h.1)
 
-  -- lines with places elsewhere may stand between
+  -- Lines with places elsewhere may occur in between.
   pub follows_elsewhere : (ls : List (Option ℕ)) → AreElsewhere ls → Follows [] ls
   follows_elsewhere ls out p more others h k = elsewhere_first p ls others out (k p h)
 
-  -- or behind them
+  -- Lines with places elsewhere may occur after the others.
   pub follows_then : (ps : List ℕ) (ls ms : List (Option ℕ)) → Follows ps ls → AreElsewhere ms → Follows ps (ls ++ ms)
   follows_then ps ls ms first out p more others h k =
       subst (RisesAmong low high p) (sym (append_assoc ls ms others))
@@ -149,7 +150,7 @@ module _ (low high : ℕ) where
       subst (RisesAmong low high p) (sym (append_assoc ls ms others))
       (first p (qs ++ more) (ms ++ others) (subst (λ (xs : List ℕ). Rises p xs high) (append_assoc ps qs more) h) (λ q rest. second q more others rest k))
 
--- ---- parts of rising places
+-- ---- parts of increasing places
 
 pub rises_left : (p q : ℕ) (xs ys : List ℕ) → Rises p (xs ++ ys) q → Rises p xs q
 rises_left p q [] ys h = rises_ends p q ys h
@@ -159,7 +160,7 @@ pub rises_right : (p q : ℕ) (xs ys : List ℕ) → Rises p (xs ++ ys) q → Ri
 rises_right p q [] ys h = h
 rises_right p q (x ∷ xs) ys h = rises_from p (x + 1) q ys (omega (arith, h.0)) (rises_right (x + 1) q xs ys h.1)
 
--- The places of each item rise.
+-- If the places of all items together increase, so do those of each item.
 pub rises_each : {A : Type 0} (shown : A → List ℕ) (xs : List A) (p q i : ℕ) (x : A) → Rises p (flat_map shown xs) q → slice_get xs i ≡ Some x → Rises p (shown x) q
 rises_each shown [] p q i x h e = absurd cc
 rises_each shown (y ∷ xs) p q zero x h e =

@@ -1,11 +1,11 @@
--- Lists of which the lines with some places are left out.
+-- Lists of lines without those that have some places.
 use Rattle.std.proofs.Common.{◌≡◌, ℕ, zero, suc, List, [], ◌∷◌, ◌++◌, Bool, true, false, cond, ◌==◌, Option, Some, refl, sym, ap, ◌∙◌, subst}
 use Rattle.std.specs.Prelude.{slice_get}
 use Rattle.std.specs.List.{AllByRecursion}
 use Rattle.std.proofs.lemmas.Bool.{eq-eqb, ne_eqb, or_left, or_right, or_from}
 use Rattle.wasmprinter_spec.specs.Lines.{is_among, lines_without}
 
--- a line in front is left out, or kept
+-- If a line has one of the places, it is left out; otherwise it is kept.
 pub kept_out : (ps : List ℕ) (x : Option ℕ) (xs : List (Option ℕ)) → is_among ps x ≡ true → lines_without ps (x ∷ xs) ≡ lines_without ps xs
 kept_out ps x xs e = ap (λ (b : Bool). cond b (lines_without ps xs) (x ∷ lines_without ps xs)) e
 
@@ -16,21 +16,21 @@ step : (b : Bool) (x : Option ℕ) (xs ys zs : List (Option ℕ)) → zs ≡ xs 
 step true x xs ys zs e = e
 step false x xs ys zs e = ap (λ (ls : List (Option ℕ)). x ∷ ls) e
 
--- Lines are left out of each part.
+-- Leaving out lines of two joined lists leaves out the lines of each.
 pub lines_without-append : (ps : List ℕ) (xs ys : List (Option ℕ)) → lines_without ps (xs ++ ys) ≡ lines_without ps xs ++ lines_without ps ys
 lines_without-append ps [] ys = refl
 lines_without-append ps (x ∷ xs) ys = step (is_among ps x) x (lines_without ps xs) (lines_without ps ys) (lines_without ps (xs ++ ys)) (lines_without-append ps xs ys)
 
--- none of these places
+-- No line has one of these places.
 abbrev pub AreNone : List ℕ → List (Option ℕ) → Type 0
 AreNone ps xs = AllByRecursion (λ x. is_among ps x ≡ false) xs
 
--- Where no line is left out, all are kept.
+-- If no line has one of the places, all lines are kept.
 pub all_kept : (ps : List ℕ) (xs : List (Option ℕ)) → AreNone ps xs → lines_without ps xs ≡ xs
 all_kept ps [] h = refl
 all_kept ps (x ∷ xs) h = kept_in ps x xs h.0 ∙ ap (λ (ls : List (Option ℕ)). x ∷ ls) (all_kept ps xs h.1)
 
--- A line that is kept is there.
+-- Every line that is kept occurs in the list.
 there_of : (b : Bool) (x : Option ℕ) (xs ys : List (Option ℕ)) (n : ℕ) (y : Option ℕ) → ((k : ℕ) → slice_get ys k ≡ Some y → (j : ℕ) × (slice_get xs j ≡ Some y)) →
     slice_get (cond b ys (x ∷ ys)) n ≡ Some y → (j : ℕ) × (slice_get (x ∷ xs) j ≡ Some y)
 there_of true x xs ys n y rest e = let r = rest n e in (suc r.0, r.1)
@@ -41,19 +41,19 @@ pub there : (ps : List ℕ) (xs : List (Option ℕ)) (n : ℕ) (y : Option ℕ) 
 there ps [] n y e = absurd cc
 there ps (x ∷ xs) n y e = there_of (is_among ps x) x xs (lines_without ps xs) n y (λ k f. there ps xs k y f) e
 
--- ---- which places are among others
+-- ---- which places are among other places
 
 pub all_map : {A : Type 0} (P Q : A → Type 0) → ((x : A) → P x → Q x) → (xs : List A) → AllByRecursion P xs → AllByRecursion Q xs
 all_map P Q f [] h = tt
 all_map P Q f (x ∷ xs) h = (f x h.0, all_map P Q f xs h.1)
 
--- a place of which the others have a property is none of them, if it has not
+-- If the other places have a property that a place does not have, that place is not among them.
 pub none_among : (P : ℕ → Type 0) (x : ℕ) → (P x → ⊥) → (ps : List ℕ) → AllByRecursion P ps → is_among ps (Some x) ≡ false
 none_among P x not [] h = refl
 none_among P x not (p ∷ ps) h =
     or_from (x == p) (is_among ps (Some x)) (ne_eqb x p (λ e. not (subst P (sym e) h.0))) (none_among P x not ps h.1)
 
--- each place is among all
+-- Each place of a list is among the places of that list.
 pub each_among : (ps : List ℕ) → AllByRecursion (λ p. is_among ps (Some p) ≡ true) ps
 each_among [] = tt
 each_among (p ∷ ps) = (

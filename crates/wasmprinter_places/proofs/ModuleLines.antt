@@ -55,9 +55,9 @@ functions_follow low high o s flat whole es all i (f ∷ fs) =
     (own_follow low high own.closes (next_hints i es) f (of_next_hints (IsElsewhere low high) i es all))
     (functions_follow low high o s flat whole (hints_behind i es) (of_hints_behind (IsElsewhere low high) i es all) (i + 1) fs))
 
--- ---- where a function's lines stand, those of hints left out
+-- ---- where the lines of a function occur, without those of hints
 
--- They stand somewhere in the list.
+-- The lines of a function occur in the list, one after the other.
 pub record Stands (f : PlacedFunction) (ls : List (Option ℕ)) : Type 0 where
   pub closes : Bool
   pub at : ℕ
@@ -71,11 +71,11 @@ Stands-right {f} xs {ys} h =
     record { closes = h.closes; at = length xs + h.at; stands = stands_right h.at (kept_lines h.closes f) xs ys h.stands }
 
 module _ (ps : List ℕ) (f : PlacedFunction) where
-  -- the same in a list, the lines of these places left out
+  -- The lines of the function occur in the list without the lines of these places.
   abbrev StandsKept : List (Option ℕ) → Type 0
   StandsKept ls = Stands f (lines_without ps ls)
 
-  -- behind other lines and in front of others
+  -- Lines of a function that occur in a list also occur in it joined with lists before and after it.
   left_stands : (xs ys : List (Option ℕ)) → StandsKept xs → StandsKept (xs ++ ys)
   left_stands xs ys h = subst (Stands f) (sym (lines_without-append ps xs ys)) (Stands-left (lines_without ps ys) h)
 
@@ -111,12 +111,12 @@ module _ (ps : List ℕ) (f : PlacedFunction) where
       (right_stands (flat_map starts own) (flat_map starts rest)
       (function_stands o s flat whole body (hints_behind n es) (of_hints_behind (IsHint ps) n es all) (n + 1) i fs e))
 
--- ---- parts one behind the other
+-- ---- joined parts
 
 parts_joined : (xs ys : List Part) → part_lines (xs ++ ys) ≡ part_lines xs ++ part_lines ys
 parts_joined xs ys = flat_map-append part_starts xs ys
 
--- Where nothing is refused, all parts are laid.
+-- If no section is refused, the layout contains the lines of all parts.
 laid_lines : (parts : List Part) → (laid_parts parts).refused ≡ None → flat_map starts (laid_parts parts).pieces ≡ part_lines parts
 laid_lines [] e = refl
 laid_lines (Shown ps ∷ parts) e =
@@ -125,18 +125,19 @@ laid_lines (Stops ps id ∷ parts) e = absurd cc
 
 -- ---- the module
 
--- nothing is folded where that isn't asked for
+-- If the options do not ask for folding, operators are not folded.
 nothing_folds : (b : Bool) (f : Option Folding) → b ≡ false → cond b f None ≡ None
 nothing_folds true f e = absurd cc
 nothing_folds false f e = refl
 
--- whether the code section is among sections of these kinds
+-- Whether the code section is among sections of these kinds
 abbrev has_code : List Kind → Bool
 has_code [] = false
 has_code (CodeSection ∷ kinds) = true
 has_code (_ ∷ kinds) = has_code kinds
 
--- the lines of a module: its first, those of its parts, its last or none
+-- The lines of a module: the first line, those of its parts, and the line of its closing parenthesis if it has one
+-- of its own
 abbrev pub module_lines : Bool → ℕ → List Part → List (Option ℕ)
 module_lines b size parts = Some 0 ∷ ((part_lines parts ++ closing_lines size b) ++ [])
 
@@ -189,15 +190,15 @@ module _ (o : Options) (answers : Answers) (m : PlacedModule) where
   abbrev functions_before : ℕ
   functions_before = length (imported_types func_import (without_places m.imports))
 
-  -- the lines of a section, and of others behind it
+  -- The lines of sections are those of the first section, its custom sections, and the other sections.
   section_joined : (kind : Kind) (kinds : List Kind) →
       part_lines (sections_of (kind ∷ kinds))
       ≡ (flat_map starts (own_fields kind) ++ part_lines (customs_at (Some kind))) ++ part_lines (sections_of kinds)
   section_joined kind kinds = parts_joined (section_parts o own_scope m answers kind) (sections_of kinds)
 
-  -- ---- those of the code section's interval rise
+  -- ---- the places of the code section's interval increase
 
-  -- the places of that interval that a section shows
+  -- The places of that interval that a section has
   abbrev inner_places : Kind → List ℕ
   inner_places CodeSection = flat_map (λ f. body_places f.body) m.functions
   inner_places _ = []
@@ -206,7 +207,7 @@ module _ (o : Options) (answers : Answers) (m : PlacedModule) where
     flat : own_scope.folding ≡ None
     flat = nothing_folds o.folds _ unfolded
 
-    -- lines that follow these places of the interval
+    -- The lines follow these places of the interval.
     abbrev Follow : List ℕ → List (Option ℕ) → Type 0
     Follow ps ls = Follows a.low a.high ps ls
 
@@ -216,7 +217,7 @@ module _ (o : Options) (answers : Answers) (m : PlacedModule) where
     customs_out : (place : Option Kind) → AreElsewhere a.low a.high (part_lines (customs_at place))
     customs_out place = customs_elsewhere a.low a.high o.skeleton answers place 0 m.customs a.customs
 
-    -- fields of one line each, with places elsewhere
+    -- Fields of one line each, with places elsewhere, follow no place of the interval.
     lines_out : {A : Type 0} (xs : List (Placed A)) {ls : List (Option ℕ)} → ls ≡ placed_lines xs → AreOut (places xs) → Follow [] ls
     lines_out xs {ls} e h =
         follows_elsewhere a.low a.high ls (subst (AreElsewhere a.low a.high) (sym e) (placed_elsewhere a.low a.high xs h))
@@ -226,7 +227,7 @@ module _ (o : Options) (answers : Answers) (m : PlacedModule) where
         (xs : List (Placed A)) → AreOut (places xs) → Follow [] (flat_map starts (numbered_pieces write i xs))
     items_out write one i xs h = lines_out xs (numbered_begin write one i xs) h
 
-    -- Only the functions show places of the interval, in order.
+    -- Only functions have places of the interval, and these in order.
     fields_follow : o.skeleton ≡ false → (kind : Kind) → Follow (inner_places kind) (flat_map starts (own_fields kind))
     fields_follow whole TypeSection = follows_elsewhere a.low a.high _ (types_elsewhere a.low a.high own_names 0 m.types a.types)
     fields_follow whole ImportSection = lines_out m.imports (imports_begin own_scope no_numbers m.imports) a.imports
@@ -272,7 +273,7 @@ module _ (o : Options) (answers : Answers) (m : PlacedModule) where
         (follows_both a.low a.high [] all (part_lines first) (part_lines (sections_of section_order))
         (follows_elsewhere a.low a.high (part_lines first) (customs_out None)) (sections_follow whole section_order))
 
-    -- Those of the code section's interval rise among all lines.
+    -- Among all lines of the module, the places of the code section's interval increase.
     pub module_rises : (b : Bool) → o.skeleton ≡ false → RisesAmong a.low a.high a.low (module_lines b m.size own_parts)
     module_rises b whole =
         let bodies : List ℕ = flat_map (λ f. body_places f.body) m.functions in
@@ -283,7 +284,7 @@ module _ (o : Options) (answers : Answers) (m : PlacedModule) where
         (parts_follow whole) (closing_out m.size b (inr a.last)) in
         inl (inl a.first, follow a.low [] [] rise (λ q h. tt))
 
-  -- ---- a function's lines stand among them
+  -- ---- the lines of a function occur among those of the module
 
   module _ (ps : List ℕ) (f : PlacedFunction) (own : StandsKept ps f (flat_map starts (own_fields CodeSection))) where
     sections_stand : (kinds : List Kind) → has_code kinds ≡ true → StandsKept ps f (part_lines (sections_of kinds))
@@ -305,7 +306,7 @@ module _ (o : Options) (answers : Answers) (m : PlacedModule) where
         subst (StandsKept ps f) (sym (parts_joined first (sections_of section_order)))
         (right_stands ps f (part_lines first) (part_lines (sections_of section_order)) (sections_stand section_order refl))
 
-  -- The kept lines of a function stand among those of the module.
+  -- Without the lines of hints, the lines of a function occur among those of the module.
   pub module_stands : (b : Bool) → o.folds ≡ false → o.skeleton ≡ false → (i : ℕ) (f : PlacedFunction) → slice_get m.functions i ≡ Some f →
       AllByRecursion (IsKept (hint_places m)) (body_places f.body) →
       Stands f (lines_without (hint_places m) (module_lines b m.size own_parts))

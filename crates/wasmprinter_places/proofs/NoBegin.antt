@@ -1,4 +1,4 @@
--- Pieces of which none begins the first line.
+-- Pieces that do not begin the first line.
 use Rattle.std.proofs.Common.{◌≡◌, ℕ, ◌+◌, List, [], ◌∷◌, ◌++◌, Bool, true, false, cond, Option, Some, None, ◌||◌}
 use Rattle.std.specs.List.{AllByRecursion, flat_map}
 use Rattle.wasmprinter_spec.specs.Piece.{Piece, Begin, Break}
@@ -6,12 +6,12 @@ use Rattle.wasmprinter_spec.specs.Layout.Groups.{has_break, close, group, group_
 use Rattle.wasmprinter_spec.proofs.Each.{all_both}
 use Rattle.wasmprinter_spec.proofs.OneLine.{starts, IsOneLine}
 
--- the piece begins another line than the first, or none
+-- The piece does not begin the first line. It may begin another.
 abbrev pub IsNoBegin : Piece → Type 0
 IsNoBegin (Begin place) = ⊥
 IsNoBegin _ = Unit {0}
 
--- none of them begins the first line
+-- None of the pieces begins the first line.
 pub record HasNoBegin (ps : List Piece) : Type 0 where
   pub each : AllByRecursion IsNoBegin ps
 
@@ -21,7 +21,7 @@ nothing_none = record { each = tt }
 pub both_none : {ps qs : List Piece} → HasNoBegin ps → HasNoBegin qs → HasNoBegin (ps ++ qs)
 both_none {ps} {qs} h k = record { each = all_both IsNoBegin ps qs h.each k.each }
 
--- a piece that doesn't begin the first line, and others
+-- If neither a piece nor those after it begin the first line, neither do they together.
 pub then_none : {p : Piece} {ps : List Piece} → IsNoBegin p → HasNoBegin ps → HasNoBegin (p ∷ ps)
 then_none own h = record { each = (own, h.each) }
 
@@ -32,7 +32,7 @@ pub cond_none : {ps qs : List Piece} (b : Bool) → HasNoBegin ps → HasNoBegin
 cond_none true h k = h
 cond_none false h k = k
 
--- Pieces that begin no line at all.
+-- Pieces that begin no line do not begin the first line.
 each_stays : (ps : List Piece) → flat_map starts ps ≡ [] → AllByRecursion IsNoBegin ps
 each_stays [] e = tt
 each_stays (Begin place ∷ ps) e = absurd cc
@@ -42,7 +42,7 @@ each_stays (p ∷ ps) e = (tt, each_stays ps e)
 pub line_none : {ps : List Piece} → IsOneLine ps → HasNoBegin ps
 line_none {ps} h = record { each = each_stays ps h.begins }
 
--- a field begins a line of its own
+-- A field does not begin the first line: its line starts with a break.
 pub field_none : (place : Option ℕ) (nesting : ℕ) {ps : List Piece} → HasNoBegin ps → HasNoBegin (Break place nesting ∷ ps)
 field_none place nesting h = then_none tt h
 

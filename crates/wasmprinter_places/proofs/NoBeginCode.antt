@@ -1,4 +1,4 @@
--- Operators, flat and folded, and the functions that hold them begin no first line.
+-- Operators, flat and folded, and functions do not begin the first line.
 use Rattle.std.proofs.Common.{ℕ, ◌+◌, ◌-◌, List, [], ◌∷◌, Bool, true, false, ◌&&◌, Option, Some, None, refl, codes, length}
 use Rattle.std.specs.Prelude.{option_map}
 use Rattle.std.specs.Option.{is_none}
@@ -46,7 +46,7 @@ module _ (s : Setting) where
       both_none (before_none s.form first o.place (s.nesting + level role (length xs)))
       (then_none tt (line_none (by_shape_stay s (labels_inside role xs) (labels_outside role xs) own (shape_of o.value.opcode) o.value.immediates)))
 
-  -- Flat operators, over lines or in one, with hints or without.
+  -- Flat operators, over several lines or in one, with hints or without, do not begin the first line.
   pub operators_none : (hs : List (Placed Hint)) (first : Bool) (n : ℕ) (xs : List labels.Label) (os : List (Placed Operator)) →
       HasNoBegin (operators_pieces s hs first n xs os)
   unfolding operators_pieces
@@ -107,7 +107,7 @@ inner_none s hs f =
     both_none (locals_none s.names (locals_place es) (variable_groups (s.names.locals s.function) (parameter_count (signature_at s.types f.type_index)) (locals_of es)))
     (body_none s.folding (result_count s f.type_index) (over_lines s f.body.place) hs f.body.value.operators)
 
--- whole, or in a skeleton
+-- A function, whole or in a skeleton, does not begin the first line.
 function_group_none : (skeleton offsets : Bool) (s : Scope) (hs : List (Placed Hint)) (f : PlacedFunction) → HasNoBegin (function_group skeleton offsets s hs f)
 unfolding function_group
 function_group_none true offsets s hs f =

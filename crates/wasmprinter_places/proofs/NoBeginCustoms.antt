@@ -1,4 +1,4 @@
--- Custom sections begin no first line.
+-- Custom sections do not begin the first line.
 use Rattle.std.proofs.Common.{ℕ, ◌+◌, List, [], ◌∷◌, ◌++◌, Bool, true, false, Option, Some, None, refl, codes}
 use Rattle.std.specs.Prelude.{if◌then◌else◌}
 use Rattle.std.specs.List.{AllByRecursion}
@@ -83,7 +83,7 @@ subsections_none (s ∷ ss) = both_none (content_none s.place s.value) (subsecti
 
 -- ---- parts
 
--- the pieces of a part, whole or up to a refusal
+-- The pieces of a part, complete or up to a refusal
 abbrev pub part_pieces : Part → List Piece
 part_pieces (Shown ps) = ps
 part_pieces (Stops ps id) = ps
@@ -118,7 +118,7 @@ customs_none skeleton answers place n (c ∷ cs) =
     if_none (same_place c.behind place) (custom_part skeleton (answers n) c) (parts_at skeleton answers place (n + 1) cs)
     (custom_none skeleton (answers n) c) (customs_none skeleton answers place (n + 1) cs)
 
--- all parts, or those up to a refusal
+-- If no part begins the first line, neither do the pieces of all parts up to a refusal.
 pub laid_none : (parts : List Part) → HaveNoBegin parts → HasNoBegin (laid_parts parts).pieces
 laid_none [] h = nothing_none
 laid_none (Shown ps ∷ parts) h = both_none h.0 (laid_none parts h.1)

@@ -1,4 +1,4 @@
--- The fields of a module begin no first line.
+-- The fields of a module do not begin the first line.
 use Rattle.std.proofs.Common.{ℕ, ◌+◌, List, [], ◌∷◌, Bool, true, false, Option, Some, None, refl, codes, length}
 use Rattle.wasmprinter_spec.specs.Grammar.{Placed}
 use Rattle.wasmprinter_spec.specs.Types.{SubType, MemoryType}

@@ -1,4 +1,5 @@
--- Operators in one line stay on it; over lines each begins one, with a line in front of it where it takes a hint.
+-- Operators in one line begin no line. Over several lines, each operator begins one, with another line before it
+-- if it takes a hint.
 use Rattle.std.proofs.Common.{◌≡◌, ℕ, ◌+◌, ◌-◌, List, [], ◌∷◌, ◌++◌, Bool, true, false, Option, Some, None, refl, sym, ap, ap₂, subst, ◌∙◌, length}
 use Rattle.std.specs.List.{flat_map}
 use Rattle.std.proofs.lemmas.List.Concat.{flat_map-append}
@@ -40,14 +41,14 @@ module _ (s : Setting) (line : s.form ≡ InLine) where
   unfolding expression_pieces
   expression_stays os = operators_stay true 0 [] os
 
--- ---- operators over lines
+-- ---- operators over several lines
 
--- the line of a hint
+-- The line of a hint
 abbrev pub hint_lines : Option (Placed Hint) → List (Option ℕ)
 hint_lines None = []
 hint_lines (Some h) = Some h.place ∷ []
 
--- the lines of operators, of a body that begins at this place, with these hints
+-- The lines of operators with these hints, in a body that starts at this place
 abbrev pub operator_lines : ℕ → List (Placed Hint) → List (Placed Operator) → List (Option ℕ)
 operator_lines body hs [] = []
 operator_lines body hs (o ∷ os) = hint_lines (next_hint (o.place - body) hs) ++ (Some o.place ∷ operator_lines body (hint_behind (o.place - body) hs) os)

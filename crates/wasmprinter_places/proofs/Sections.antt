@@ -1,4 +1,4 @@
--- Where the places of each kind of section lie.
+-- The places in each kind of section are within the section.
 use Rattle.std.proofs.Common.{◌≡◌, ℕ, ◌+◌, ◌≤◌, ◌==◌, List, [], ◌∷◌, ◌++◌, length, Bool, true, false, refl, sym, ap, subst, ◌∙◌, arith, map}
 use Rattle.std.specs.List.{flat_map}
 use Rattle.std.proofs.lemmas.List.{length-append}
@@ -26,7 +26,7 @@ use Rattle.wasmprinter_places.proofs.Lies.{Lies, Lies-any, Lies-byte, Lies-u32, 
 use Rattle.wasmprinter_places.proofs.Bodies.{Lies-code_entry}
 use Rattle.wasmprinter_places.proofs.CustomData.{Lies-here, Lies-list, role_inside, hints_inside}
 
--- ---- groups of types: the place of the types of a written group is two bytes behind that of the group
+-- ---- groups of types: the place of the types of a written group is two bytes after that of the group
 
 all_same : (low q high : ℕ) (ts : List SubType) → low ≤ q → q ≤ high → Inside low (map (λ t. q) ts) high
 all_same low q high [] above below = omega (arith, above, below)
@@ -70,7 +70,7 @@ Lies-group = record { lie = λ p text g s. inside_wider (p + 0) p (p + length te
 
 -- ---- custom sections
 
--- what a custom section shows: its lines' places, and those of the hints that its data would give
+-- The places of a custom section: those of its lines, and those of the hints that its data would give
 abbrev pub given_places : Placed Custom → List ℕ
 given_places c = c.place ∷ (c.value.bytes.place ∷ (role_places (custom_role_of c.value) ++ places_of_hints (hints_given c.value.bytes)))
 
@@ -94,7 +94,7 @@ LiesIn-custom = record {
 
 -- ---- sections
 
--- What a section shows, if it is no code section: places, in its interval.
+-- The places of a section that is no code section
 abbrev pub other_places : Section → List ℕ
 other_places (holds CustomSection c) = given_places c
 other_places (holds TypeSection gs) = flat_map group_places gs
@@ -111,7 +111,7 @@ other_places (holds DataCountSection count) = []
 other_places (holds CodeSection bs) = []
 other_places (holds DataSection ds) = places ds
 
--- what a code section shows
+-- The places of a code section
 abbrev pub code_places : Section → List ℕ
 code_places (holds CodeSection bs) = flat_map body_places bs
 code_places _ = []
@@ -119,7 +119,7 @@ code_places _ = []
 LiesIn-any : {o : Order} {A : Type 0} (w : Remainder A) → LiesIn o 0 w (λ a. [])
 LiesIn-any {o} w = record { lie = λ p text a s. o.none (p + 0) (p + length text) (omega arith) }
 
--- The content of a section of each kind: places that need not rise.
+-- The places of the content of each kind of section are within that content, in any order.
 LiesIn-content : (kind : Kind) → LiesIn inside 0 (content kind) (λ x. other_places (holds kind x))
 LiesIn-content CustomSection = LiesIn-custom
 LiesIn-content TypeSection = LiesIn-alone (Lies-less 1 0 (omega arith) (Lies-vec Lies-group))
@@ -136,7 +136,7 @@ LiesIn-content DataCountSection = LiesIn-any (content DataCountSection)
 LiesIn-content CodeSection = LiesIn-any (content CodeSection)
 LiesIn-content DataSection = LiesIn-alone (Lies-list segment)
 
--- The content of a code section: places that rise.
+-- The places of the content of a code section increase within that content.
 LiesIn-code : (kind : Kind) → LiesIn rising 0 (content kind) (λ x. code_places (holds kind x))
 LiesIn-code CodeSection = LiesIn-alone (Lies-less 1 0 (omega arith) (Lies-vec Lies-code_entry))
 LiesIn-code CustomSection = LiesIn-any (content CustomSection)
@@ -153,7 +153,7 @@ LiesIn-code ElementSection = LiesIn-any (content ElementSection)
 LiesIn-code DataCountSection = LiesIn-any (content DataCountSection)
 LiesIn-code DataSection = LiesIn-any (content DataSection)
 
--- A section: its id takes a byte.
+-- The id of a section is one byte.
 Lies-section_id : {o : Order} → Lies o 1 section_id (λ k. [])
 Lies-section_id = Lies-mapped (λ a b e. refl) Lies-byte
 

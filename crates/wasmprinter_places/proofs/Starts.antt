@@ -1,4 +1,4 @@
--- The places of the lines that a list of pieces begins, and that how text is cut changes no line.
+-- The places of the lines that a list of pieces begins. How text is split changes no line.
 use Rattle.std.proofs.Common.{◌≡◌, ℕ, List, [], ◌∷◌, ◌++◌, Bool, true, false, Option, Some, None, refl, sym, ap, ◌∙◌, append_assoc}
 use Rattle.std.specs.Prelude.{◌/◌, ◌%◌, ◌^◌, ◌-◌, ◌==◌, nat_lt, if◌then◌else◌, codes}
 use Rattle.std.specs.List.{flat_map}
@@ -17,7 +17,7 @@ use Rattle.wasmprinter_spec.proofs.OneLine.{starts}
 use Rattle.wasmprinter_spec.specs.PlaceLaws.{AlikeHaveSameLines, LinesJoin}
 use Rattle.wasmprinter_spec.proofs.Texts.{alike_lines}
 
--- the line that a call begins
+-- The line that a call begins
 abbrev pub begun : Call → List (Option ℕ)
 begun (Line place) = place ∷ []
 begun _ = []
@@ -37,7 +37,8 @@ break_begins : (offsets : Bool) (place : Option ℕ) (indent : List ℕ) → fla
 break_begins offsets place indent =
     ap (λ (ps : List (Option ℕ)). place ∷ ps) (flat_map-append begun (place_calls offsets place) (Text indent ∷ []) ∙ ap (λ (ps : List (Option ℕ)). ps ++ []) (place_begins_none offsets place))
 
--- a float stays on its line
+-- If neither of two lists of calls begins a line, neither does the one that a test chooses. So a float begins no
+-- line.
 if_begins : (b : Bool) (ks ls : List Call) → flat_map begun ks ≡ [] → flat_map begun ls ≡ [] → flat_map begun (if b then ks else ls) ≡ []
 if_begins true ks ls e f = e
 if_begins false ks ls e f = f
@@ -69,7 +70,7 @@ pieces_begin o (p ∷ ps) =
     ∙ ap (λ (qs : List (Option ℕ)). qs ++ flat_map begun (all_calls o ps)) (piece_begins o p)
     ∙ ap (λ (qs : List (Option ℕ)). starts p ++ qs) (pieces_begin o ps)
 
--- The places of the lines of a list of pieces.
+-- The places of the lines of a list of pieces are those of the pieces that begin them.
 pub places_of_pieces : (o : Options) (ps : List Piece) → line_places (lines_of (all_calls o ps)) ≡ flat_map starts ps
 places_of_pieces o ps = places_begun (all_calls o ps) ∙ pieces_begin o ps
 
@@ -81,7 +82,7 @@ text_joined (Line place ∷ cs) = text_joined cs
 text_joined (c ∷ cs) =
     append_assoc (call_text c) (text_before_line cs) (flat_map (λ line. line.1) (lines_of cs)) ∙ ap (λ (t : List ℕ). call_text c ++ t) (text_joined cs)
 
--- whole or refused, a module begins with its first line
+-- A module, complete or refused, begins with its first line.
 first_line : (o : Options) (names : Names) (size : ℕ) (ps : List Piece) (r : Option ℕ) → text_before_line (all_calls o (module_pieces_of o names size ps r)) ≡ []
 first_line o names size ps None = refl
 first_line o names size ps (Some id) = refl

@@ -1,12 +1,12 @@
--- Where the lines of a module begin among its calls.
+-- Line starts in the calls of a layout.
 use Rattle.std.specs.Prelude.{◌≡◌, ℕ, List, ◌∷◌, ◌++◌, Option}
 use Rattle.wasmprinter_spec.specs.Placed.{PlacedModule}
 use Rattle.wasmprinter_spec.specs.Call.{Call, Newline, Line}
 use Rattle.wasmprinter_spec.specs.Options.{Options, Answers}
 use Rattle.wasmprinter_spec.specs.Layout.{layout}
 
--- Every `Line` call except the first call directly follows a `Newline`. So two `Line` calls never follow one another. This holds for all
--- options, answers and modules, and for the calls before a refusal.
+-- Each `Line` call except the first call directly follows a `Newline` call. So no `Line` call directly follows
+-- another. This holds for all options, answers and modules, and for the calls before a refusal.
 abbrev pub LinesBeginBehindFeeds : Type 0
 LinesBeginBehindFeeds =
     (o : Options) (answers : Answers) (m : PlacedModule) (before after : List Call) (c : Call) (place : Option ℕ) →

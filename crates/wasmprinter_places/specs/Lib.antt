@@ -1,2 +1,2 @@
--- What this crate's contracts cite besides the definitions of wasmprinter_spec.
+-- Definitions that the contracts of this crate cite besides those of wasmprinter_spec.
 pub mod Feeds

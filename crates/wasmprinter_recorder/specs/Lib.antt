@@ -1,2 +1,2 @@
--- What the contracts of the recorder cite.
+-- Definitions that the contracts of the recorder cite.
 pub mod Counting

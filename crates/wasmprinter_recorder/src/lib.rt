@@ -1,4 +1,4 @@
-//! A printer for tests, which writes down each call as it is made, and refuses one if it is told to.
+//! A printer for tests that records each call and can be set to fail one call.
 #![tactic(auto)]
 
 ghost use Rattle.std.specs.Prelude.{◌≡◌, false};
@@ -14,34 +14,34 @@ use wasmprinter_print::Print;
 #[cfg(test)]
 use wasmprinter_samples::expect_text;
 
-/// Stands behind a call that was refused.
+/// The mark that is recorded after a call that failed.
 pub const REFUSED: &str = "{!}";
 
-/// The calls so far, in their order:
+/// A printer that records its calls in order, as follows:
 ///
-/// - text as it is, but with a backslash in front of braces, brackets and backslashes, and `\n` for a line feed, so that only calls stand
-///   as what follows;
-/// - a line feed for `newline`;
-/// - `[0x1f]` or `[]` for the beginning of a line;
-/// - `{L}`, `{N}`, `{K}`, `{T}`, `{C}` and `{R}` for styles;
-/// - `{? "name" 0x8 [1, 2]}` for the question whether a custom section is taken;
-/// - `{!}` behind the call that was refused.
+/// - Text is recorded as it is, with a backslash before each brace, bracket and backslash, and `\n` for a line
+///   feed. So the marks below denote calls only.
+/// - A line feed is a call of `newline`.
+/// - `[0x1f]` or `[]` is the start of a line, with its place or without.
+/// - `{L}`, `{N}`, `{K}`, `{T}`, `{C}` and `{R}` are styles.
+/// - `{? "name" 0x8 [1, 2]}` asks whether the printer claims a custom section.
+/// - `{!}` follows the call that failed.
 #[derive(Drop)]
 pub struct Recorder {
     calls: String,
-    /// How many calls that can fail were made.
+    /// The number of calls so far that can fail.
     made: u32,
-    /// Which of them is refused, and how.
+    /// The number of the call that fails, and its error.
     refusal: Option<(u32, ErrorKind)>,
-    /// The name of the custom sections that it takes itself.
+    /// The name of the custom sections that the recorder claims. If it is empty, the recorder claims none.
     taken: &'static str,
-    /// A call could not be written down.
+    /// Whether a call could not be recorded.
     lost: bool,
-    /// How many calls failed.
+    /// The number of failed calls.
     faults: u64,
 }
 
-// Contracts see how many calls failed, and nothing else.
+// Contracts see only the number of failed calls.
 impl Model for Recorder {
     ghost use Rattle.std.specs.Prelude.{ℕ};
 
@@ -64,7 +64,7 @@ impl Recorder {
         }
     }
 
-    /// Refuses the call with the number among those that can fail, the first of which is 1.
+    /// Returns a recorder that fails the call with this number. Only calls that can fail are counted, from 1.
     pub fn with_refusal(alloc: Global, call: u32, kind: ErrorKind) -> Recorder
         ensures { result ≡ 0 }
     {
@@ -73,7 +73,7 @@ impl Recorder {
         recorder
     }
 
-    /// Takes the custom sections with this name itself.
+    /// Returns a recorder that claims the custom sections with this name.
     pub fn with_section_taken(alloc: Global, name: &'static str) -> Recorder
         ensures { result ≡ 0 }
     {
@@ -82,29 +82,29 @@ impl Recorder {
         recorder
     }
 
-    /// What was written down.
+    /// Returns the recorded calls.
     pub fn calls(&self) -> &str {
         self.calls.as_str()
     }
 
-    /// How many calls that can fail were made.
+    /// Returns the number of calls so far that can fail.
     pub fn call_count(&self) -> u32 {
         self.made
     }
 
-    /// Whether each call was written down.
+    /// Reports whether every call was recorded.
     pub fn is_complete(&self) -> bool {
         !self.lost
     }
 
-    /// How many calls failed.
+    /// Returns the number of failed calls.
     pub fn faults(&self) -> u64
         ensures { result ≡ self.now }
     {
         self.faults
     }
 
-    /// The answer to a call that was written down so.
+    /// Counts a call after the attempt to record it, and returns the call's result.
     fn answer(&mut self, written: Result<(), AllocError>) -> io::Result<()>
         ensures { Counts self.old self.new result }
     {

@@ -1,22 +1,22 @@
-//! What a test expects of a text.
+//! Comparison of a text with the text that a test expects.
 
 ghost use Rattle.std.specs.Prelude.{IfOk, IfErr, ◌≡◌, ◌≢◌};
 
 #[cfg(test)]
 use std::test::Fail;
 
-/// Why a text is not the one that a test has typed.
+/// The difference between a text and the text that a test expects.
 #[derive(Debug, PartialEq, Eq, Drop)]
 pub enum Different {
-    /// The first line that isn't the same, from 1.
+    /// The number of the first line that differs, counted from 1.
     Line(usize),
 }
 
-/// Holds that a text is the typed one.
+/// Checks that a text equals the expected one.
 ///
 /// # Errors
 ///
-/// [`Different`] where it is another.
+/// [`Different`] if the texts differ.
 pub fn expect_text(text: &str, typed: &str) -> Result<(), Different>
 where
     ensures same { IfOk result (λ _. text.now ≡ typed.now) }

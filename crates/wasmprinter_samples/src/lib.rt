@@ -1,5 +1,5 @@
-//! Modules that the tests print, with the texts and the calls that they give. All is typed by hand: the bytes from the binary format, the
-//! texts from the text format and the layout.
+//! Modules that tests print, with their expected texts and calls. Everything is typed by hand: bytes by the binary
+//! format, texts by the text format and the layout.
 #![tactic(auto)]
 
 mod expect;
@@ -7,14 +7,14 @@ pub mod sections;
 
 pub use expect::{Different, expect_text};
 
-/// Magic and version, a whole module by themselves.
+/// The magic number and the version, which are a whole module.
 pub const PREAMBLE: [u8; 8] = [0x00, 0x61, 0x73, 0x6d, 0x01, 0x00, 0x00, 0x00];
 
 pub const EMPTY_TEXT: &str = "(module)\n";
 
 pub const EMPTY_CALLS: &str = "[0x0]({K}module{R})\n";
 
-/// A function of one i32 that gives it back, exported as f.
+/// A function that returns its i32 parameter, exported as `f`.
 pub const IDENTITY: [u8; 35] = [
     0x00, 0x61, 0x73, 0x6d, 0x01, 0x00, 0x00, 0x00, // preamble
     0x01, 0x06, 0x01, 0x60, 0x01, 0x7f, 0x01, 0x7f, // types
@@ -41,7 +41,8 @@ pub const IDENTITY_CALLS: &str = r#"[0x0]({K}module{R}
 [0x23])
 "#;
 
-/// The module is called m, its type t, its function by no letter, the parameter x and the block l.
+/// A module with a name section. Its names: `m` for the module, `t` for the type, an empty name for the function,
+/// `x` for the parameter and `l` for the block.
 pub const NAMED: [u8; 78] = [
     0x00, 0x61, 0x73, 0x6d, 0x01, 0x00, 0x00, 0x00, // preamble
     0x01, 0x06, 0x01, 0x60, 0x01, 0x7f, 0x01, 0x7f, // types
@@ -68,7 +69,8 @@ pub const NAMED_CALLS: &str = r##"[0x0]({K}module{R} $m
 [0x4e])
 "##;
 
-/// The calls for `NAMED` without its names, its first 40 bytes, with identifiers made up.
+/// The calls for the first 40 bytes of `NAMED`, which are `NAMED` without its name section, with synthesized
+/// identifiers.
 pub const INVENTED_CALLS: &str = r##"[0x0]({K}module{R}
 [0xb]  ({K}type {R}{N}$#type0 (;0;){R} ({K}func{R} ({K}param{R} {T}i32{R}) ({K}result{R} {T}i32{R})))
 [0x17]  ({K}export {R}{L}"f"{R} ({K}func {R}{N}$#func0{R}))
@@ -81,7 +83,7 @@ pub const INVENTED_CALLS: &str = r##"[0x0]({K}module{R}
 [0x28])
 "##;
 
-/// A function that gives -1 by way of a local of i64.
+/// A function that returns -1 through an i64 local.
 pub const MINUS_ONE: [u8; 33] = [
     0x00, 0x61, 0x73, 0x6d, 0x01, 0x00, 0x00, 0x00, // preamble
     0x01, 0x05, 0x01, 0x60, 0x00, 0x01, 0x7e, // types
@@ -100,7 +102,8 @@ pub const MINUS_ONE_TEXT: &str = r#"(module
 )
 "#;
 
-/// Two types, two exports and two functions: the first without operators, the second with locals and operators.
+/// Two types, two exports and two functions. The first function has no operators; the second has locals and
+/// operators.
 pub const EVERYTHING: [u8; 70] = [
     0x00, 0x61, 0x73, 0x6d, 0x01, 0x00, 0x00, 0x00, // preamble
     0x01, 0x09, 0x02, 0x60, 0x00, 0x00, 0x60, 0x01, 0x7f, 0x01, 0x7e, // types from 0x08
@@ -152,7 +155,7 @@ pub const EVERYTHING_CALLS: &str = r#"[0x0]({K}module{R}
 [0x46])
 "#;
 
-/// Types, memories, a tag, an export of each kind, the start function and a function.
+/// Types, memories, a tag, one export of each kind, the start function and a function.
 pub const KINDS: [u8; 69] = [
     0x00, 0x61, 0x73, 0x6d, 0x01, 0x00, 0x00, 0x00, // preamble
     0x01, 0x09, 0x02, 0x60, 0x00, 0x00, 0x60, 0x02, 0x7f, 0x7c, 0x00, // types from 0x08
@@ -201,7 +204,7 @@ pub const KINDS_CALLS: &str = r#"[0x0]({K}module{R}
 [0x45])
 "#;
 
-/// A function of blocks in each form, with branches and exceptions.
+/// A function with blocks of each form, branches and exceptions.
 pub const CONTROL: [u8; 85] = [
     0x00, 0x61, 0x73, 0x6d, 0x01, 0x00, 0x00, 0x00, // preamble
     0x01, 0x09, 0x02, 0x60, 0x00, 0x00, 0x60, 0x01, 0x7f, 0x01, 0x7e, // types from 0x08
@@ -287,7 +290,8 @@ pub const CONTROL_CALLS: &str = "[0x0]({K}module{R}
 [0x55])
 ";
 
-/// Imports, tables, memories, a tag, a global with a block, an export, the start function, element and data segments.
+/// Imports, tables, memories, a tag, a global with a block in its initialiser, an export, the start function,
+/// element segments and data segments.
 pub const FIELDS: [u8; 105] = [
     0x00, 0x61, 0x73, 0x6d, 0x01, 0x00, 0x00, 0x00, // preamble
     0x01, 0x04, 0x01, 0x60, 0x00, 0x00, // types from 0x08
@@ -347,11 +351,11 @@ pub const FIELDS_CALLS: &str = r#"[0x0]({K}module{R}
 [0x69])
 "#;
 
-/// In each space an item has a name and another has none. The name section stands at the end.
+/// In each index space, one item has a name and another has none. The name section is the last section.
 pub const EVERY_SPACE: [u8; 356] = [
     0x00, 0x61, 0x73, 0x6d, 0x01, 0x00, 0x00, 0x00, // preamble
     0x01, 0x13, 0x04, // types from 0x08
-    0x60, 0x01, 0x7f, 0x01, 0x7f, // of functions that give an i32 for an i32, at 0x0b
+    0x60, 0x01, 0x7f, 0x01, 0x7f, // of functions from i32 to i32, at 0x0b
     0x5f, 0x02, 0x7f, 0x00, 0x7e, 0x01, // a structure, at 0x10
     0x60, 0x01, 0x7f, 0x00, // of a tag with an i32, at 0x16
     0x60, 0x00, 0x00, // of the start function, at 0x1a
@@ -362,7 +366,7 @@ pub const EVERY_SPACE: [u8; 356] = [
     0x0d, 0x05, 0x02, 0x00, 0x03, 0x00, 0x02, // tags from 0x3b, at 0x3e and 0x40
     0x06, 0x0b, 0x02, // globals from 0x42
     0x7f, 0x00, 0x41, 0x03, 0x0b, // at 0x45
-    0x7f, 0x00, 0x23, 0x00, 0x0b, // that begins as the first, at 0x4a
+    0x7f, 0x00, 0x23, 0x00, 0x0b, // initialised with the first one, at 0x4a
     0x07, 0x15, 0x05, // exports from 0x4f
     0x01, 0x66, 0x00, 0x01, // a function, at 0x52
     0x01, 0x61, 0x01, 0x01, // a table, at 0x56
@@ -407,5 +411,5 @@ pub const EVERY_SPACE: [u8; 356] = [
     0x0b, 0x06, 0x01, 0x01, 0x03, 0x65, 0x78, 0x63, // of tags: exc
 ];
 
-/// Where the name section of `EVERY_SPACE` begins.
+/// The byte offset at which the name section of `EVERY_SPACE` starts.
 pub const EVERY_SPACE_NAMES: usize = 0xe9;

@@ -1,53 +1,53 @@
-//! Sections, of which tests put modules together (binary format, section 5.5.2 of the standard).
+//! Sections from which tests assemble modules (section 5.5.2 of the standard).
 
 use std::alloc::{AllocError, Global};
 
-/// The number of custom sections.
+/// The id of custom sections.
 pub const CUSTOM: u8 = 0;
 
-/// The number of the type section.
+/// The id of the type section.
 pub const TYPE: u8 = 1;
 
-/// The number of the import section.
+/// The id of the import section.
 pub const IMPORT: u8 = 2;
 
-/// The number of the function section.
+/// The id of the function section.
 pub const FUNCTION: u8 = 3;
 
-/// The number of the table section.
+/// The id of the table section.
 pub const TABLE: u8 = 4;
 
-/// The number of the memory section.
+/// The id of the memory section.
 pub const MEMORY: u8 = 5;
 
-/// The number of the global section.
+/// The id of the global section.
 pub const GLOBAL: u8 = 6;
 
-/// The number of the start section.
+/// The id of the start section.
 pub const START: u8 = 8;
 
-/// The number of the element section.
+/// The id of the element section.
 pub const ELEMENT: u8 = 9;
 
-/// The number of the code section.
+/// The id of the code section.
 pub const CODE: u8 = 10;
 
-/// The number of the data section.
+/// The id of the data section.
 pub const DATA: u8 = 11;
 
-/// The number of the data count section.
+/// The id of the data count section.
 pub const DATA_COUNT: u8 = 12;
 
-/// The number of the tag section.
+/// The id of the tag section.
 pub const TAG: u8 = 13;
 
-/// Adds a section with this number and content, of which there are fewer than 128 bytes.
+/// Appends a section with this id and content. The content has fewer than 128 bytes.
 pub fn add_section(wasm: &mut Vec<u8>, id: u8, content: &[u8]) -> Result<(), AllocError> {
     wasm.extend_from_slice(&[id, content.len().min(127) as u8])?;
     wasm.extend_from_slice(content)
 }
 
-/// Adds a custom section with this name and these bytes behind it, all in all fewer than 127 bytes.
+/// Appends a custom section with this name and data. Name and data have fewer than 127 bytes together.
 pub fn add_custom(
     alloc: Global,
     wasm: &mut Vec<u8>,

@@ -1,4 +1,4 @@
--- Worked rows of arities: how many operands operators take and how many results they give, and what the operators of a module name.
+-- Worked rows of arities: the operand and result counts of operators, and the items that a module's operators name.
 use Rattle.std.specs.Prelude.{◌≡◌, ℕ, List, [], ◌∷◌, map, length, ◌==◌, cond, true, codes, slice_get, Option, Some, None, option_map, refl}
 use Rattle.wasmprinter_spec.specs.Grammar.{◌>>=◌}
 use Rattle.wasmprinter_spec.specs.Types as types
@@ -12,13 +12,13 @@ use Rattle.wasmprinter_spec.proofs.Samples.{func, bare, empty_placed, made}
 use Rattle.wasmprinter_spec.proofs.BlockSamples.{block, loop, if_op, try_table, nop}
 use Rattle.wasmprinter_spec.proofs.FromBytes.{spelled}
 
--- ---- how many operands are taken, and how many results given
+-- ---- operand and result counts
 
 abbrev signature : List ValType → List ValType → FuncType
 signature ps rs = record { params = ps; results = rs }
 
--- the arities of the table; a function type of two parameters and a result, which function 0 has; a structure of three fields; a tag of
--- three parameters; around is a function of two results
+-- The arities of the table; a function type with two parameters and a result, which is the type of function 0; a
+-- structure with three fields; a tag with three parameters. The enclosing function has two results.
 abbrev known : Signatures
 known = record {
   arities = arity_of;
@@ -29,7 +29,7 @@ known = record {
   own = Some 2;
 }
 
--- in a block of one result, in one without results, in one of a type that isn't there
+-- The open blocks, innermost first: one with a result, one without results, one whose type does not exist
 abbrev open_labels : List (Option ℕ)
 open_labels = Some 1 ∷ Some 0 ∷ None ∷ []
 
@@ -37,7 +37,7 @@ abbrev first_of : List Operator → Option Operator
 first_of [] = None
 first_of (o ∷ os) = Some o
 
--- of the first operator that the bytes spell
+-- The counts of the first operator that the bytes encode
 abbrev counted : List ℕ → Option OperandCounts
 counted bytes = spelled bytes >>= first_of >>= λ o. Some (counts_of known open_labels o)
 
@@ -51,12 +51,13 @@ fixed_counts : all_counted ((0x6a ∷ []) ∷ (0x01 ∷ []) ∷ (0x1c ∷ 0x00 �
 unfolding table
 fixed_counts = refl
 
--- function 0, and one that isn't there
+-- Calls of function 0 and of a function that does not exist
 call_counts : all_counted ((0x10 ∷ 0x00 ∷ []) ∷ (0x10 ∷ 0x01 ∷ []) ∷ (0x12 ∷ 0x00 ∷ []) ∷ []) ≡ all_taking ((2, 1) ∷ (0, 0) ∷ (2, 0) ∷ [])
 unfolding table
 call_counts = refl
 
--- by the function type, which stands before the table; the structure type is none
+-- An indirect call has the counts of its function type, whose index precedes the table's. Type 1 is no function
+-- type.
 indirect_counts : all_counted (
     (0x11 ∷ 0x00 ∷ 0x01 ∷ []) ∷ (0x14 ∷ 0x00 ∷ []) ∷ (0x13 ∷ 0x00 ∷ 0x01 ∷ []) ∷ (0x15 ∷ 0x00 ∷ []) ∷ (0x11 ∷ 0x01 ∷ 0x00 ∷ []) ∷ (0x14 ∷ 0x01 ∷ []) ∷ [])
     ≡ all_taking ((3, 1) ∷ (3, 1) ∷ (3, 0) ∷ (3, 0) ∷ (0, 0) ∷ (0, 0) ∷ [])
@@ -71,7 +72,7 @@ return_counts : all_counted ((0x0f ∷ []) ∷ []) ≡ all_taking ((2, 0) ∷ []
 unfolding table
 return_counts = refl
 
--- to the three blocks, to the body, to nothing
+-- A branch to each of the three blocks, to the body, and to no label
 branch_counts : all_counted ((0x0c ∷ 0x00 ∷ []) ∷ (0x0c ∷ 0x01 ∷ []) ∷ (0x0c ∷ 0x02 ∷ []) ∷ (0x0c ∷ 0x03 ∷ []) ∷ (0x0c ∷ 0x04 ∷ []) ∷ [])
     ≡ all_taking ((1, 0) ∷ (0, 0) ∷ (0, 0) ∷ (2, 0) ∷ (0, 0) ∷ [])
 unfolding table
@@ -82,7 +83,7 @@ branch_if_counts : all_counted ((0x0d ∷ 0x00 ∷ []) ∷ (0x0d ∷ 0x01 ∷ []
 unfolding table
 branch_if_counts = refl
 
--- by the last label
+-- The last label of a branch table decides.
 branch_table_counts : all_counted ((0x0e ∷ 0x01 ∷ 0x00 ∷ 0x03 ∷ []) ∷ (0x0e ∷ 0x01 ∷ 0x03 ∷ 0x00 ∷ []) ∷ (0x0e ∷ 0x01 ∷ 0x03 ∷ 0x02 ∷ []) ∷ []) ≡ all_taking ((3, 0) ∷ (2, 0) ∷ (0, 0) ∷ [])
 unfolding table
 branch_table_counts = refl
@@ -94,7 +95,7 @@ branch_on_counts : all_counted (
 unfolding table
 branch_on_counts = refl
 
--- blocks, whose parameters don't count, and an `end`
+-- Blocks, whose parameters are not counted, and an `end`
 block_counts : all_counted ((0x02 ∷ 0x7f ∷ 0x0b ∷ []) ∷ (0x03 ∷ 0x00 ∷ 0x0b ∷ []) ∷ (0x04 ∷ 0x40 ∷ 0x0b ∷ []) ∷ (0x1f ∷ 0x00 ∷ 0x00 ∷ 0x0b ∷ []) ∷ (0x02 ∷ 0x05 ∷ 0x0b ∷ []) ∷ [])
     ≡ all_taking ((0, 1) ∷ (0, 1) ∷ (0, 0) ∷ (0, 1) ∷ (0, 0) ∷ [])
 unfolding table
@@ -104,7 +105,8 @@ end_counts : counts_of known open_labels (made 0x0b NoImmediates) ≡ takes_and_
 unfolding table
 end_counts = refl
 
--- the structure, and a type that is none; as many as the number says, whatever the type is
+-- The structure type, and a type that is no structure type. An array of a fixed number of elements has that many
+-- operands, whatever its type is.
 aggregate_counts : all_counted ((0xfb ∷ 0x00 ∷ 0x01 ∷ []) ∷ (0xfb ∷ 0x00 ∷ 0x00 ∷ []) ∷ (0xfb ∷ 0x08 ∷ 0x07 ∷ 0x05 ∷ []) ∷ (0xfb ∷ 0x08 ∷ 0x00 ∷ 0xff ∷ 0xff ∷ 0xff ∷ 0xff ∷ 0x0f ∷ []) ∷ [])
     ≡ all_taking ((3, 1) ∷ (0, 0) ∷ (5, 1) ∷ (4294967295, 1) ∷ [])
 unfolding table
@@ -114,23 +116,23 @@ unlisted_counts : counts_of known open_labels (made 0xff NoImmediates) ≡ takes
 unfolding table
 unlisted_counts = refl
 
--- sums stay at the greatest number
+-- Sums saturate at the greatest number.
 greatest_sum : saturating_sum 4294967295 1 ≡ 4294967295
 greatest_sum = refl
 
 greatest_counts : map (λ a. counts known (Some greatest ∷ []) a (Index 0)) (OfBranchIf ∷ OfBranchOnNull ∷ []) ≡ takes_and_gives 4294967295 4294967295 ∷ takes_and_gives 4294967295 4294967295 ∷ []
 greatest_counts = refl
 
--- a branch to a loop takes its parameters, one to another block the results
+-- A branch to a loop takes the loop's parameters. A branch to any other block takes the block's results.
 label_counts : map (label_of_block known) (
     loop (OfType 0) ∷ block (OfType 0) ∷ if_op (OfType 0) ∷ try_table (OfType 0) [] ∷ loop (Value types.I32) ∷ block (Value types.I32)
     ∷ loop Empty ∷ block Empty ∷ block (OfType 1) ∷ loop (OfType 1) ∷ nop ∷ [])
     ≡ Some 2 ∷ Some 1 ∷ Some 1 ∷ Some 1 ∷ Some 0 ∷ Some 1 ∷ Some 0 ∷ Some 0 ∷ None ∷ None ∷ None ∷ []
 label_counts = refl
 
--- ---- what the operators of a module name
+-- ---- the items that the operators of a module name
 
--- an imported function and a defined one, an imported tag and a defined one
+-- A module with an imported function and a defined one, an imported tag and a defined one
 abbrev sample_module : PlacedModule
 sample_module = record empty_placed {
   types =

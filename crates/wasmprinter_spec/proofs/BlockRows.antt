@@ -1,4 +1,4 @@
--- Worked rows of operators that nest: what their bytes spell, how they are printed, and that the texts read back.
+-- Worked rows of nested operators: what their bytes encode, their printed text, and that the text reads back.
 use Rattle.std.specs.Prelude.{◌≡◌, ℕ, pos, List, [], ◌∷◌, ◌++◌, map, true, codes, Some, refl}
 use Rattle.std.specs.Fmt.{digits}
 use Rattle.std.specs.Char.{encode_utf8}
@@ -29,15 +29,15 @@ use Rattle.wasmprinter_spec.proofs.FromBytes.{text_by, printed_by, spelled}
 use Rattle.wasmprinter_spec.proofs.StyledCalls.{plain, in_style}
 use Rattle.wasmprinter_spec.specs.Names.{no_names}
 
--- ---- what bytes spell
+-- ---- what bytes encode
 
 samples_spelled : map (λ ss. map (λ s. spelled s.bytes) ss) all_samples ≡ map (λ ss. map (λ s. Some s.operators) ss) all_samples
 unfolding table
 samples_spelled = refl
 
--- ---- how they are printed
+-- ---- printed texts
 
--- a module with one function, over i32
+-- The text of a module with one function over i32
 abbrev module_lines : List (List ℕ) → List ℕ
 module_lines ls = lines (
     codes "(module"
@@ -64,7 +64,7 @@ samples_printed : map (λ ss. map (λ s. text_by defaults (placed_module s.opera
 unfolding composing repetition_of digits table
 samples_printed = refl
 
--- ---- the way back
+-- ---- reading back
 
 abbrev module_of_code : List Operator → Module
 module_of_code os = record empty { types = map (λ t. t ∷ []) sample_types; functions = record { type_index = 0; locals = []; operators = os } ∷ []; exports = [] }
@@ -73,9 +73,9 @@ samples_read : map (λ ss. map (λ s. read (module_lines s.lines)) ss) all_sampl
 unfolding lex class numeral natural integer groups heap_of_word ref_of_word number_of_word table head is_utf8 chars encode_utf8 kind_of_word
 samples_read = refl
 
--- ---- single operators, over lines and in one line
+-- ---- single operators, over several lines and in one line
 
--- laid out with these types
+-- The layout's setting for a module with these types
 abbrev setting : Form → List SubType → Setting
 setting form ts = record { form = form; signature = signature_at ts; nesting = 0; names = no_names; function = 0; body = 0 }
 
@@ -103,13 +103,13 @@ cases_in_line : shown InLine [] (if_op Empty ∷ else_op ∷ try_op Empty ∷ ca
 unfolding composing digits table
 cases_in_line = refl
 
--- parameters and results of a type
+-- The parameters and results of a type
 whole_signature : shown OverLines (func (types.I32 ∷ types.I64 ∷ []) (types.I64 ∷ []) ∷ []) (block (OfType 0) ∷ end ∷ [])
     ≡ codes "\nblock (type 0) (param i32 i64) (result i64) ;; label = @1\nend"
 unfolding composing repetition_of digits table
 whole_signature = refl
 
--- a type without parameters and results, and one that isn't there
+-- A type without parameters and results, and a type that does not exist
 no_signature : shown OverLines (func [] [] ∷ []) (block (OfType 0) ∷ loop (OfType 5) ∷ end ∷ end ∷ [])
     ≡ codes "\nblock (type 0) ;; label = @1\n  loop (type 5) ;; label = @2\n  end\nend"
 unfolding composing repetition_of digits table
@@ -120,7 +120,7 @@ no_signature = refl
 abbrev calls_in_line : List SubType → List Operator → List Call
 calls_in_line ts os = all_calls defaults (expression_pieces (setting InLine ts) (map placed os))
 
--- the keyword `result` of one result has its blank, that of a signature hasn't
+-- The keyword `result` of a single result includes a space; the keyword `result` of a signature does not.
 block_calls : atoms (calls_in_line sample_types (block (Value types.I32) ∷ block (OfType 1) ∷ [])) ≡ atoms (
     plain (codes "block (") ++ in_style Keyword (codes "result ") ++ in_style TypeName (codes "i32") ++ plain (codes ") ") ++ in_style Comment (codes " (; label = @1 ;)")
     ++ plain (codes " block (") ++ in_style Keyword (codes "type ") ++ in_style Name (codes "1") ++ plain (codes ") (") ++ in_style Keyword (codes "result") ++ plain (codes " ") ++ in_style TypeName (codes "i32")
@@ -128,7 +128,7 @@ block_calls : atoms (calls_in_line sample_types (block (Value types.I32) ∷ blo
 unfolding composing digits table
 block_calls = refl
 
--- references, one by its index and one by its word
+-- References to a type by its index and to heap types by a word
 reference_calls : atoms (calls_in_line [] (block (Value (to_null (types.Index 0))) ∷ loop (Value (to_null types.Func)) ∷ if_op (Value (to types.Any)) ∷ [])) ≡ atoms (
     plain (codes "block (") ++ in_style Keyword (codes "result ") ++ plain (codes "(") ++ in_style Keyword (codes "ref") ++ plain (codes " null ") ++ in_style Name (codes "0")
     ++ plain (codes ")) ") ++ in_style Comment (codes " (; label = @1 ;)")
@@ -138,7 +138,7 @@ reference_calls : atoms (calls_in_line [] (block (Value (to_null (types.Index 0)
 unfolding composing digits table
 reference_calls = refl
 
--- a label of nothing has no style, nor has its comment
+-- A label of no open block has no style, and neither has its comment.
 label_calls : atoms (calls_in_line [] (block Empty ∷ br 0 ∷ br 1 ∷ br 2 ∷ [])) ≡ atoms (
     plain (codes "block ") ++ in_style Comment (codes " (; label = @1 ;)")
     ++ plain (codes " br ") ++ in_style Name (codes "0") ++ in_style Comment (codes " (;@1;)")
@@ -158,7 +158,7 @@ line_calls : atoms (all_calls defaults (expression_pieces (setting OverLines [])
 unfolding composing repetition_of digits table
 line_calls = refl
 
--- ---- a module from its bytes to its text, with places
+-- ---- a module, from its bytes to its text with places
 
 abbrev branching_bytes : List ℕ
 branching_bytes =

@@ -1,5 +1,5 @@
--- Operators that nest, written by hand, which the worked rows share: their bytes without the `end` behind them, what these
--- spell, and their lines in a body.
+-- Nested operators, typed by hand, which the worked rows share: their bytes without the expression's final `end`,
+-- the operators that these encode, and their lines in a body.
 use Rattle.std.specs.Prelude.{ℕ, pos, List, [], ◌∷◌, codes}
 use Rattle.wasmprinter_spec.specs.Types as types
 use Rattle.wasmprinter_spec.specs.Types.{SubType}
@@ -58,7 +58,7 @@ try_table t cs = made 0x1f (TryTable t cs)
 
 -- ---- samples
 
--- the types beside which the samples stand
+-- The types of the module that contains the samples
 abbrev pub sample_types : List SubType
 sample_types = func (types.I32 ∷ []) [] ∷ func [] (types.I32 ∷ []) ∷ []
 
@@ -70,7 +70,7 @@ pub record Sample : Type 0 where
 abbrev sample : List ℕ → List Operator → List (List ℕ) → Sample
 sample bs os ls = record { bytes = bs; operators = os; lines = ls }
 
--- labels: of the block, of the body itself, of nothing
+-- Labels of a block, of the body itself, and of neither
 abbrev branches : List Sample
 branches =
     sample (0x02 ∷ 0x40 ∷ 0x0c ∷ 0x00 ∷ 0x0c ∷ 0x01 ∷ 0x0b ∷ []) (block Empty ∷ br 0 ∷ br 1 ∷ end ∷ [])
@@ -87,7 +87,8 @@ branches =
     (codes "loop ;; label = @1" ∷ codes "  block ;; label = @2" ∷ codes "    br_table 2 1 (;@1;) 3 (; INVALID ;) 0 (;@2;)" ∷ codes "    br_if 1 (;@1;)" ∷ codes "  end" ∷ codes "end" ∷ [])
     ∷ []
 
--- Block types: one result, or a type with its signature. A type may say no more than one result says.
+-- Block types: a single result, or a type with its signature. A type may have the same signature as a single
+-- result.
 abbrev block_types : List Sample
 block_types =
     sample (0x03 ∷ 0x00 ∷ 0x0b ∷ []) (loop (OfType 0) ∷ end ∷ []) (codes "loop (type 0) (param i32) ;; label = @1" ∷ codes "end" ∷ [])
@@ -97,8 +98,8 @@ block_types =
     (codes "block (type 1) (result i32) ;; label = @1" ∷ codes "  i32.const 1" ∷ codes "end" ∷ [])
     ∷ []
 
--- One result of another number type, of the vector type or of a reference type. A reference that may be null
--- has two spellings, and one text.
+-- A single result of another number type, of the vector type or of a reference type. A nullable reference has two
+-- encodings and one text.
 abbrev value_types : List Sample
 value_types =
     sample (0x02 ∷ 0x63 ∷ 0x00 ∷ 0x0b ∷ []) (block (Value (to_null (types.Index 0))) ∷ end ∷ []) (codes "block (result (ref null 0)) ;; label = @1" ∷ codes "end" ∷ [])
@@ -113,7 +114,7 @@ value_types =
     (codes "block (result f32) ;; label = @1" ∷ codes "  block (result f64) ;; label = @2" ∷ codes "    block (result v128) ;; label = @3" ∷ codes "    end" ∷ codes "  end" ∷ codes "end" ∷ [])
     ∷ []
 
--- `else`, `catch`, `catch_all`, `delegate` and `end` stand as far out as what opens their block
+-- `else`, `catch`, `catch_all`, `delegate` and `end` are indented like the operator that opens their block.
 abbrev levels : List Sample
 levels =
     sample (0x04 ∷ 0x40 ∷ 0x0b ∷ []) (if_op Empty ∷ end ∷ []) (codes "if ;; label = @1" ∷ codes "end" ∷ [])
@@ -128,7 +129,7 @@ levels =
     ∷ codes "    catch_all" ∷ codes "      nop" ∷ codes "    end" ∷ codes "  end" ∷ codes "  throw 2" ∷ codes "end" ∷ [])
     ∷ []
 
--- labels outside the block: those of `delegate`, with which the block ends, and those of catch clauses
+-- Labels that are resolved outside the block: that of `delegate`, which ends its block, and those of catch clauses
 abbrev outside : List Sample
 outside =
     sample (0x06 ∷ 0x40 ∷ 0x18 ∷ 0x00 ∷ 0x02 ∷ 0x40 ∷ 0x0c ∷ 0x00 ∷ 0x0b ∷ []) (try_op Empty ∷ delegate 0 ∷ block Empty ∷ br 0 ∷ end ∷ [])

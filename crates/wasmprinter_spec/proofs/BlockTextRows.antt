@@ -1,4 +1,4 @@
--- Worked rows of operators that nest in the text format (section 6.5 of the standard): flat and folded blocks,
+-- Worked rows of nested operators in the text format (section 6.5 of the standard): flat and folded blocks,
 -- labels, block types, catch clauses.
 use Rattle.std.specs.Prelude.{◌≡◌, ℕ, pos, List, [], ◌∷◌, codes, Option, Some, None, refl}
 use Rattle.wasmprinter_spec.specs.Types as types
@@ -17,7 +17,8 @@ use Rattle.wasmprinter_spec.proofs.BlockSamples.{nop, block, loop, if_op, else_o
 use Rattle.wasmprinter_spec.proofs.FromText.{operators_beside}
 use Rattle.wasmprinter_spec.proofs.Numbers.{numbers_from}
 
--- type 0 takes an i32, type 1 gives one and is called t; tag 1 is called e, and local 2 x
+-- Type 0 has an i32 parameter. Type 1 has an i32 result and the identifier t. Tag 1 has the identifier e, and
+-- local 2 has x.
 abbrev around : Context
 around = record {
   spaces = record no_spaces { types = None ∷ Some (codes "t") ∷ []; functions = []; tags = None ∷ Some (codes "e") ∷ []; locals = None ∷ None ∷ Some (codes "x") ∷ [] };
@@ -25,7 +26,7 @@ around = record {
   fields = λ n. [];
 }
 
--- the operators of a text
+-- The operators of a text
 abbrev ops : List ℕ → Option (List Operator)
 ops text = operators_beside around text
 
@@ -36,7 +37,7 @@ folded_if : ops (codes "(if (result i32) (local.get 0) (then i32.const 1) (else 
 unfolding lex class numeral natural integer groups heap_of_word ref_of_word number_of_word table head
 folded_if = refl
 
--- an `else` that holds nothing stands there; one that isn't written doesn't
+-- A written `else` is read even if it is empty; an omitted one is not added.
 folded_cases : ops (codes "(if (then)) (if (then) (else)) (if (local.get $x) (nop) (then nop))")
     ≡ Some (if_op Empty ∷ end ∷ if_op Empty ∷ else_op ∷ end ∷ local_get 2 ∷ nop ∷ if_op Empty ∷ nop ∷ end ∷ [])
 unfolding lex class numeral natural integer groups heap_of_word ref_of_word number_of_word table head
@@ -52,7 +53,7 @@ folded_try_table : ops (codes "(block $a (try_table $a (result i32) (catch $e $a
 unfolding lex class numeral natural integer groups heap_of_word ref_of_word number_of_word table head
 folded_try_table = refl
 
--- flat blocks in folded ones, and folded ones in flat blocks
+-- Flat blocks in folded ones, and folded blocks in flat ones
 mixed : ops (codes "if (block $l nop br $l) else (if (then block end) (else if else end)) end")
     ≡ Some (if_op Empty ∷ block Empty ∷ nop ∷ br 0 ∷ end ∷ else_op ∷ if_op Empty ∷ block Empty ∷ end ∷ else_op ∷ if_op Empty ∷ else_op ∷ end ∷ end ∷ end ∷ [])
 unfolding lex class numeral natural integer groups heap_of_word ref_of_word number_of_word table head
@@ -60,7 +61,8 @@ mixed = refl
 
 -- ---- labels
 
--- the innermost that has the identifier; a number counts from the innermost out, also to the body and beyond
+-- An identifier means the innermost block that has it. A number counts outward from the innermost block, up to the
+-- body and beyond.
 flat_labels : ops (codes "block $a br $a block $a br 1 br $a end br $a end br 0 br 7")
     ≡ Some (block Empty ∷ br 0 ∷ block Empty ∷ br 1 ∷ br 0 ∷ end ∷ br 0 ∷ end ∷ br 0 ∷ br 7 ∷ [])
 unfolding lex class numeral natural integer groups heap_of_word ref_of_word number_of_word table head
@@ -76,33 +78,33 @@ tabled : ops (codes "block $x block $y br_table 0 $x 4 $y end end br_table 3")
 unfolding lex class numeral natural integer groups heap_of_word ref_of_word number_of_word table head
 tabled = refl
 
--- the operands of an `if` stand outside its label
+-- The operands of an `if` are outside its label.
 condition : ops (codes "(block $l (if $l (br_if $l (local.get 0)) (then br $l) (else (br $l))))")
     ≡ Some (block Empty ∷ local_get 0 ∷ br_if 0 ∷ if_op Empty ∷ br 0 ∷ else_op ∷ br 0 ∷ end ∷ end ∷ [])
 unfolding lex class numeral natural integer groups heap_of_word ref_of_word number_of_word table head
 condition = refl
 
--- `delegate` sees the labels outside its block, which ends with it
+-- The label of `delegate` is resolved outside its block, which it ends.
 delegated : ops (codes "try $t delegate 0 block $u br $u br 1 end block $a try $b delegate $a try $a delegate $a br $a end")
     ≡ Some (try_op Empty ∷ delegate 0 ∷ block Empty ∷ br 0 ∷ br 1 ∷ end ∷ block Empty ∷ try_op Empty ∷ delegate 0 ∷ try_op Empty ∷ delegate 0 ∷ br 0 ∷ end ∷ [])
 unfolding lex class numeral natural integer groups heap_of_word ref_of_word number_of_word table head
 delegated = refl
 
--- and clauses those outside theirs
+-- The labels of catch clauses are resolved outside their block.
 clauses : ops (codes "block $a try_table $a (result i32) (catch 7 $a) (catch_ref $e 1) (catch_all 0) (catch_all_ref $a) br $a br 1 end end")
     ≡ Some (block Empty ∷ try_table (Value types.I32) (One 7 0 ∷ OneRef 1 1 ∷ All 0 ∷ AllRef 0 ∷ []) ∷ br 0 ∷ br 1 ∷ end ∷ end ∷ [])
 unfolding lex class numeral natural integer groups heap_of_word ref_of_word number_of_word table head
 clauses = refl
 
--- ---- words of operators and of clauses
+-- ---- words that are both operators and clauses
 
--- as words by themselves they are operators, in groups clauses of the word in front
+-- As plain words they are operators. As heads of groups they are clauses of the word before the groups.
 catches : ops (codes "try catch 0 throw $e catch $e catch_all rethrow 0 end try_table (catch 0 0) (catch_all 1) end")
     ≡ Some (try_op Empty ∷ catch_op 0 ∷ throw 1 ∷ catch_op 1 ∷ catch_all ∷ rethrow 0 ∷ end ∷ try_table Empty (One 0 0 ∷ All 1 ∷ []) ∷ end ∷ [])
 unfolding lex class numeral natural integer groups heap_of_word ref_of_word number_of_word table head
 catches = refl
 
--- a clause of a word in a case of another
+-- A clause of one word inside a case that begins with the same word as an operator
 clause_in_case : ops (codes "try $a catch $e try_table (catch $e $a) end catch_all end")
     ≡ Some (try_op Empty ∷ catch_op 1 ∷ try_table Empty (One 1 0 ∷ []) ∷ end ∷ catch_all ∷ end ∷ [])
 unfolding lex class numeral natural integer groups heap_of_word ref_of_word number_of_word table head
@@ -110,7 +112,8 @@ clause_in_case = refl
 
 -- ---- block types
 
--- a signature beside an index says the same, or is absent; what the type says makes no other block type of it
+-- A signature after a type index equals that type's, or is absent. The block type stays the type index, even if a
+-- single result would have the same signature.
 type_uses : ops (codes "block (type 0) end block $l (type 0) (param i32) end loop (type $t) (result i32) end if (type 1) end (block (type $t)) try (type 0) (param i32) delegate 0 (try_table (type 1) (catch_all 0) (nop))")
     ≡ Some (block (OfType 0) ∷ end ∷ block (OfType 0) ∷ end ∷ loop (OfType 1) ∷ end ∷ if_op (OfType 1) ∷ end ∷ block (OfType 1) ∷ end ∷ try_op (OfType 0) ∷ delegate 0
     ∷ try_table (OfType 1) (All 0 ∷ []) ∷ nop ∷ end ∷ [])
@@ -121,7 +124,8 @@ one_result : ops (codes "block (result i32) end block (result i64) end block $r 
 unfolding lex class numeral natural integer groups heap_of_word ref_of_word number_of_word table head
 one_result = refl
 
--- one reference by its index, its identifier or its word, also where no type has the index; a long form is the short one
+-- A single reference by an index, an identifier or a word, and by an index that no type has. A long form reads as
+-- the short one.
 one_reference : ops (codes "block (result (ref null 0)) end block (result (ref null $t)) end block $l (result (ref $t)) end block (result (ref 7)) end (loop (result funcref)) (loop (result (ref null func))) if (result (ref i31)) else end (try_table (result exnref) (catch_all_ref 0))")
     ≡ Some (block (Value (to_null (types.Index 0))) ∷ end ∷ block (Value (to_null (types.Index 1))) ∷ end ∷ block (Value (to (types.Index 1))) ∷ end ∷ block (Value (to (types.Index 7))) ∷ end
     ∷ loop (Value (to_null types.Func)) ∷ end ∷ loop (Value (to_null types.Func)) ∷ end ∷ if_op (Value (to types.I31)) ∷ else_op ∷ end
@@ -129,13 +133,13 @@ one_reference : ops (codes "block (result (ref null 0)) end block (result (ref n
 unfolding lex class numeral natural integer groups heap_of_word ref_of_word number_of_word table head
 one_reference = refl
 
--- ---- what isn't read
+-- ---- texts that do not read
 
--- which of these texts are operators, counted from 0
+-- The numbers, from 0, of the texts in this list that read as operators
 abbrev numbers_read : List (List ℕ) → List ℕ
 numbers_read ts = numbers_from ops 0 ts
 
--- a text that reads is seen
+-- A text that reads is counted.
 read_among : numbers_read (codes "end" ∷ codes "block end" ∷ codes "(then)" ∷ codes "" ∷ codes "nop" ∷ []) ≡ 1 ∷ 3 ∷ 4 ∷ []
 unfolding lex class numeral natural integer groups heap_of_word ref_of_word number_of_word table head
 read_among = refl
@@ -177,7 +181,7 @@ unread_nesting : numbers_read (
 unfolding lex class numeral natural integer groups heap_of_word ref_of_word number_of_word table head
 unread_nesting = refl
 
--- groups that belong to an `if`, and groups of words that aren't folded
+-- Groups that belong to an `if`, and groups whose words cannot be folded
 unread_groups : numbers_read (
     codes "(then)"
     ∷ codes "(else)"
@@ -216,7 +220,8 @@ unread_groups : numbers_read (
 unfolding lex class numeral natural integer groups heap_of_word ref_of_word number_of_word table head
 unread_groups = refl
 
--- a label that isn't open has no number, also where it is the block's own
+-- An identifier of a label that is not open does not read, even if it is the identifier of the operator's own
+-- block.
 unread_labels : numbers_read (
     codes "br $b"
     ∷ codes "block $a br $b end"
@@ -245,7 +250,7 @@ unread_labels : numbers_read (
 unfolding lex class numeral natural integer groups heap_of_word ref_of_word number_of_word table head
 unread_labels = refl
 
--- the signature of another type beside an index, no such type, parameters with identifiers
+-- The signature of another type after an index, a type that does not exist, and parameters with identifiers
 unread_types : numbers_read (
     codes "block (type 0) (param i64) end"
     ∷ codes "block (type 0) (param i32 i32) end"
@@ -270,7 +275,8 @@ unread_types : numbers_read (
 unfolding lex class numeral natural integer groups heap_of_word ref_of_word number_of_word table head
 unread_types = refl
 
--- a storage type, a heap type by itself, no heap type, an identifier of no type, a type of a block beside the type of another one
+-- A storage type, a heap type without `ref`, a word that is no heap type, an identifier of no type, and a result
+-- after the index of a type with another result
 unread_results : numbers_read (
     codes "block (result i8) end"
     ∷ codes "block (result (mut i32)) end"
@@ -294,8 +300,8 @@ unread_results : numbers_read (
 unfolding lex class numeral natural integer groups heap_of_word ref_of_word number_of_word table head
 unread_results = refl
 
--- What the standard has and the reader hasn't: identifiers again behind `else` and `end`, and block types without an
--- index that aren't one result.
+-- Forms of the standard that the reader does not accept: repeated identifiers after `else` and `end`, and block
+-- types without an index, except a single result
 unread_forms : numbers_read (
     codes "block $a end $a"
     ∷ codes "if $a else $a end"
@@ -307,7 +313,7 @@ unread_forms : numbers_read (
 unfolding lex class numeral natural integer groups heap_of_word ref_of_word number_of_word table head
 unread_forms = refl
 
--- clauses behind the type, each with its tag and its label
+-- Clauses follow the block type, each with its tag and its label.
 unread_clauses : numbers_read (
     codes "try_table (catch 0) end"
     ∷ codes "try_table (catch) end"

@@ -1,5 +1,6 @@
--- Worked rows of blocks over all types (section 2.4 of the standard, "Block types"): block types that name types of groups, types that are
--- no function types, and references; from bytes to text and back, and which of them are declared.
+-- Worked rows of blocks over all types (section 2.4 of the standard, "Block types"): block types that name types
+-- of groups, types that are no function types, and references. The rows go from bytes to text and back, and show
+-- which indices are declared.
 use Rattle.std.specs.Prelude.{◌≡◌, ℕ, ◌+◌, List, [], ◌∷◌, ◌++◌, length, map, replicate, codes, Some, None, refl}
 use Rattle.std.proofs.Common.{arith}
 use Rattle.std.specs.Fmt.{digits}
@@ -24,7 +25,8 @@ use Rattle.wasmprinter_spec.proofs.Samples.{head_bytes, lines, to, to_null, func
 use Rattle.wasmprinter_spec.proofs.BlockSamples.{block, loop, end, try_table}
 use Rattle.wasmprinter_spec.proofs.FromBytes.{decoded, printed}
 
--- a module of the types that the first bytes spell, and of one function of type i, whose operators the last bytes spell
+-- A module with the types that the first bytes encode, and with one function of type i, whose operators the last
+-- bytes encode
 abbrev module_bytes : List ℕ → ℕ → List ℕ → List ℕ
 module_bytes types i code =
     head_bytes
@@ -38,7 +40,7 @@ one_function types i os = record empty { types = types; functions = record { typ
 abbrev structure : SubType
 structure = final_type (StructComposite [])
 
--- ---- the index of a structure as the type of a block: bytes may say so, valid modules and texts don't
+-- ---- the index of a structure type as a block type: bytes may contain it; valid modules and texts do not
 
 abbrev structure_bytes : List ℕ
 structure_bytes = module_bytes (0x02 ∷ 0x5f ∷ 0x00 ∷ 0x60 ∷ 0x00 ∷ 0x00 ∷ []) 1 (0x02 ∷ 0x00 ∷ 0x0b ∷ [])
@@ -46,7 +48,7 @@ structure_bytes = module_bytes (0x02 ∷ 0x5f ∷ 0x00 ∷ 0x60 ∷ 0x00 ∷ 0x0
 abbrev beside_structure : BlockType → Module
 beside_structure t = one_function ((structure ∷ []) ∷ (func [] [] ∷ []) ∷ []) 1 (block t ∷ end ∷ [])
 
--- the text of that module, whose block has its type so written
+-- The text of that module with this text as the type of its block
 abbrev beside_structure_text : List ℕ → List ℕ
 beside_structure_text t = lines (
     codes "(module"
@@ -71,12 +73,12 @@ structure_unread : read (beside_structure_text (codes " (type 0)")) ≡ None
 unfolding lex class numeral natural groups heap_of_word ref_of_word number_of_word table head is_utf8 chars encode_utf8 kind_of_word
 structure_unread = refl
 
--- nor with a signature
+-- It does not read with a signature either.
 structure_with_signature_unread : read (beside_structure_text (codes " (type 0) (param i32)")) ≡ None
 unfolding lex class numeral natural groups heap_of_word ref_of_word number_of_word table head is_utf8 chars encode_utf8 kind_of_word
 structure_with_signature_unread = refl
 
--- the function type beside it can be the block's, and a reference to it the block's result
+-- The module's function type can be the block's type, and a reference to the structure type can be its result.
 function_read : read (beside_structure_text (codes " (type 1)")) ≡ Some (beside_structure (OfType 1))
 unfolding lex class numeral natural groups heap_of_word ref_of_word number_of_word table head is_utf8 chars encode_utf8 kind_of_word
 function_read = refl
@@ -136,7 +138,8 @@ group_read : read group_text ≡ Some over_group
 unfolding lex class numeral natural groups heap_of_word ref_of_word number_of_word table head is_utf8 chars encode_utf8 kind_of_word
 group_read = refl
 
--- in other words: identifiers of a group behind its use, a signature that is absent or in its long form
+-- Another text of the same module: identifiers that a group declares after their use, and a signature that is
+-- absent or in its long form
 group_of_names : read (codes "(module (func (type 2) (block $l (type $f) (loop (type 2) (block (result (ref null $f)))))) (rec (type $s (struct)) (type $f (func (param (ref $s)) (result (ref null $s))))) (type (func)))") ≡ Some over_group
 unfolding lex class numeral natural groups heap_of_word ref_of_word number_of_word table head is_utf8 chars encode_utf8 kind_of_word
 group_of_names = refl
@@ -159,9 +162,9 @@ group_indexed = record {
   datas = tt;
 }
 
--- ---- a signature of references beside the index of a type
+-- ---- a signature with references after a type index
 
--- a function of no parameters with this code, behind a type of references
+-- A function without parameters and with this code, after a type with references
 abbrev with_references : List ℕ → List ℕ
 with_references code = codes "(module (type $f (func (param funcref (ref 0)) (result (ref null $f)))) (type (func)) (func (type 1) " ++ code ++ codes "))"
 
@@ -173,7 +176,7 @@ references_agree : read (with_references (codes "block (type 0) (param funcref (
 unfolding lex class numeral natural groups heap_of_word ref_of_word number_of_word table head is_utf8 chars encode_utf8 kind_of_word
 references_agree = refl
 
--- a reference that can't be null for one that may be, one to another type, one that is missing
+-- A non-nullable reference in place of a nullable one, a reference to another type, and a missing reference
 references_differ : map (λ c. read (with_references c)) (
     codes "block (type 0) (param (ref func) (ref 0)) (result (ref null 0)) end"
     ∷ codes "block (type 0) (param funcref (ref null 0)) (result (ref null 0)) end"
@@ -190,7 +193,7 @@ references_differ : map (λ c. read (with_references c)) (
 unfolding lex class numeral natural groups heap_of_word ref_of_word number_of_word table head is_utf8 chars encode_utf8 kind_of_word
 references_differ = refl
 
--- ---- references to types that aren't declared: texts and bytes have them, valid modules don't
+-- ---- references to types that are not declared: texts and bytes may contain them; valid modules do not
 
 abbrev with_block : BlockType → Module
 with_block t = one_function ((func [] [] ∷ []) ∷ []) 0 (block t ∷ end ∷ [])

@@ -5,7 +5,7 @@ use Rattle.std.proofs.lemmas.Str.Parse.{digit_at}
 use Rattle.std.specs.Char.{digit_value}
 use Rattle.wasmprinter_spec.specs.Character.{Class, Plain, Foreign, class}
 
--- a byte from 128 on is foreign
+-- Every byte from 128 on has the class `Foreign`.
 pub foreign : (b : ℕ) → 128 ≤ b → class b ≡ Foreign
 unfolding class
 foreign b h =
@@ -47,7 +47,7 @@ digits_are_plain : agree_below plain_below (λ c. true) 58 ≡ true
 unfolding plain_below is_plain class
 digits_are_plain = refl
 
--- a digit is an identifier character without a sense of its own
+-- Every digit has the class `Plain`: it is an identifier character that has no meaning of its own.
 pub digit_class : (c : ℕ) → digit_value c < 10 → class c ≡ Plain
 unfolding plain_below
 digit_class c h =

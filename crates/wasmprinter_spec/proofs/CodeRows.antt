@@ -1,5 +1,5 @@
--- Worked rows of code (section 6.5 of the standard, "Folded Instructions"): what is an operator, which of several with one word it is,
--- and the hints in front of it.
+-- Worked rows of code (section 6.5 of the standard, "Folded Instructions"): which words are operators, which of
+-- several operators with one word is meant, and the hints before an operator.
 use Rattle.std.specs.Prelude.{◌≡◌, ℕ, pos, List, [], ◌∷◌, map, codes, Option, Some, None, refl}
 use Rattle.std.specs.Char.{encode_utf8}
 use Rattle.std.specs.Str.{is_utf8, chars}
@@ -17,14 +17,14 @@ use Rattle.wasmprinter_spec.specs.IndexSpaces.{Context}
 use Rattle.wasmprinter_spec.specs.Text.Operators.{first_reading}
 use Rattle.wasmprinter_spec.proofs.Samples.{no_spaces}
 
--- ---- what groups are
+-- ---- kinds of groups
 
 parts : map head (codes "type" ∷ codes "param" ∷ codes "result" ∷ codes "catch" ∷ codes "catch_ref" ∷ codes "catch_all" ∷ codes "catch_all_ref" ∷ codes "local" ∷ codes "1" ∷ [])
     ≡ PartHead ∷ PartHead ∷ PartHead ∷ PartHead ∷ PartHead ∷ PartHead ∷ PartHead ∷ PartHead ∷ PartHead ∷ []
 unfolding table head
 parts = refl
 
--- `else` is an operator's word too, which as the word of a group it is not
+-- `else` is also the word of an operator, but not at the head of a group.
 cases : map head (codes "then" ∷ codes "else" ∷ []) ≡ ThenHead ∷ ElseHead ∷ []
 unfolding table head
 cases = refl
@@ -35,12 +35,12 @@ operator_groups : map head (codes "nop" ∷ codes "if" ∷ codes "try" ∷ [])
 unfolding table head
 operator_groups = refl
 
--- as a word alone `catch` is an operator
+-- The plain word `catch` is an operator.
 catch_word : rows_of (codes "catch") ≡ control 0x07 "catch" (IndexShape Tag) OfBlock Catches ∷ []
 unfolding table
 catch_word = refl
 
--- ---- operators with one word
+-- ---- several operators with one word
 
 abbrev bare : Row
 bare = plain 0x01 "w" NoneShape (Fixed 0 0)
@@ -67,11 +67,11 @@ no_row = refl
 
 -- ---- hints
 
--- the hints in front of each operator of a text
+-- The hints before each operator of a text
 abbrev hints : List ℕ → Option (List (List Forest))
 hints text = forest text >>= chunks_of_forest >>= λ cs. Some (map (λ c. c.hints) cs)
 
--- a hint that holds this byte
+-- A hint that consists of this byte
 abbrev byte : ℕ → Forest
 byte b = String (b ∷ []) End
 
@@ -79,7 +79,7 @@ hint_of_operator : hints (codes "local.get 0 (@metadata.code.branch_hint \"\\01\
 unfolding lex class escape table head is_utf8 chars encode_utf8
 hint_of_operator = refl
 
--- the group's own operator, which stands behind its operands
+-- A hint before a group belongs to the group's own operator, which comes after its operands.
 hint_of_group : hints (codes "(@metadata.code.branch_hint \"\\00\") (drop (i32.const 1)) return") ≡ Some ([] ∷ (byte 0 ∷ []) ∷ [] ∷ [])
 unfolding lex class escape table head is_utf8 chars encode_utf8
 hint_of_group = refl
@@ -88,23 +88,23 @@ hint_in_group : hints (codes "(drop (@metadata.code.branch_hint \"\\01\") (i32.c
 unfolding lex class escape table head is_utf8 chars encode_utf8
 hint_in_group = refl
 
--- the operands of an `if` stand in front of it; a hint in front of what it holds in a case is nothing
+-- The operands of an `if` come before it. A hint before a case belongs to no operator.
 hint_of_if : hints (codes "(@metadata.code.branch_hint \"\\01\") (if (local.get 0) (@metadata.code.branch_hint \"\\00\") (then nop (@metadata.code.branch_hint \"\\00\") br_if 0))")
     ≡ Some ([] ∷ (byte 1 ∷ []) ∷ [] ∷ (byte 0 ∷ []) ∷ [] ∷ [])
 unfolding lex class escape table head is_utf8 chars encode_utf8
 hint_of_if = refl
 
--- a block's hint is that of its first word, not of its `end`
+-- A hint before a folded block belongs to the operator that opens it, not to its `end`.
 hint_of_block : hints (codes "(@metadata.code.branch_hint \"\\01\") (block nop) block (@metadata.code.branch_hint \"\\00\") end") ≡ Some ((byte 1 ∷ []) ∷ [] ∷ [] ∷ [] ∷ (byte 0 ∷ []) ∷ [])
 unfolding lex class escape table head is_utf8 chars encode_utf8
 hint_of_block = refl
 
--- other annotations between are passed over
+-- Other annotations between hints are skipped.
 two_hints : hints (codes "(@metadata.code.branch_hint \"\\00\") (@a) (@metadata.code.branch_hint \"\\01\") drop") ≡ Some ((byte 0 ∷ byte 1 ∷ []) ∷ [])
 unfolding lex class escape table head is_utf8 chars encode_utf8
 two_hints = refl
 
--- in another annotation, in front of an immediate, behind the last operator
+-- A hint in another annotation, before an immediate, and after the last operator
 inner_hint : hints (codes "(@a (@metadata.code.branch_hint \"\\00\")) local.get (@metadata.code.branch_hint \"\\00\") 0 drop (@metadata.code.branch_hint \"\\00\")") ≡ Some ([] ∷ [] ∷ [])
 unfolding lex class escape table head is_utf8 chars encode_utf8
 inner_hint = refl
@@ -113,7 +113,7 @@ other_names : hints (codes "(@metadata.code.hint \"\\00\") drop (@metadata.code.
 unfolding lex class escape table head is_utf8 chars encode_utf8
 other_names = refl
 
--- ---- folded instructions: what stands before their own operator, it, and what stands behind
+-- ---- folded instructions: the part before their own operator, the operator, and the part after it
 
 abbrev of_number : ℕ → Chunk
 of_number n = record { rows = record bare { number = n } ∷ []; arguments = End; hints = [] }

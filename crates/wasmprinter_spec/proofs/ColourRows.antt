@@ -1,4 +1,4 @@
--- Worked rows of texts without colour sequences.
+-- Worked rows of texts whose ANSI escape sequences are deleted.
 use Rattle.std.specs.Prelude.{◌≡◌, [], ◌∷◌, ◌++◌, codes, refl}
 use Rattle.std.specs.Fmt.{digits}
 use Rattle.wasmprinter_spec.specs.Colour.{uncolour}
@@ -8,7 +8,7 @@ no_sequence : uncolour (codes "(module)\n") ≡ codes "(module)\n"
 unfolding digits
 no_sequence = refl
 
--- what a printer in colours writes of the module without fields
+-- The text that a printer with colors writes for the module without fields
 empty_module : uncolour (codes "(" ++ escape (codes "0m") ++ escape (codes "1m") ++ escape (codes "38;5;11m") ++ codes "module" ++ escape (codes "0m") ++ codes ")\n") ≡ codes "(module)\n"
 unfolding digits
 empty_module = refl
@@ -17,7 +17,7 @@ reset_and_bold : uncolour (escape (codes "0m") ++ codes "a" ++ escape (codes "1m
 unfolding digits
 reset_and_bold = refl
 
--- red, green, yellow, magenta, cyan
+-- Red, green, yellow, magenta, cyan
 five_colours : uncolour (escape (codes "31m") ++ codes "r" ++ escape (codes "32m") ++ codes "g" ++ escape (codes "33m") ++ codes "y" ++ escape (codes "35m") ++ codes "m" ++ escape (codes "36m") ++ codes "c") ≡ codes "rgymc"
 unfolding digits
 five_colours = refl
@@ -26,7 +26,7 @@ intense_colours : uncolour (escape (codes "38;5;9m") ++ codes "r" ++ escape (cod
 unfolding digits
 intense_colours = refl
 
--- black, blue, white and their intense ones are not among the colours
+-- Black, blue and white, plain or intense, are not among the deleted colors.
 other_colours_stay : uncolour (escape (codes "30m") ++ escape (codes "34m") ++ escape (codes "37m") ++ escape (codes "38;5;8m") ++ escape (codes "38;5;12m") ++ escape (codes "38;5;15m"))
     ≡ escape (codes "30m") ++ escape (codes "34m") ++ escape (codes "37m") ++ escape (codes "38;5;8m") ++ escape (codes "38;5;12m") ++ escape (codes "38;5;15m")
 unfolding digits
@@ -41,12 +41,12 @@ cut_sequences_stay : uncolour (codes "a" ++ 27 ∷ codes "b" ++ escape (codes "0
 unfolding digits
 cut_sequences_stay = refl
 
--- a sequence directly behind what looks like the beginning of one
+-- A sequence directly after an escape character that starts no sequence
 after_escape : uncolour (27 ∷ escape (codes "0m") ++ codes "a") ≡ 27 ∷ codes "a"
 unfolding digits
 after_escape = refl
 
--- what a deletion brings together is not looked at again
+-- Bytes that a deletion joins are not examined again.
 brought_together : uncolour (escape (codes "3") ++ escape (codes "1m") ++ codes "1m") ≡ escape (codes "31m")
 unfolding digits
 brought_together = refl

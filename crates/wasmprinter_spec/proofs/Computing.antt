@@ -1,4 +1,5 @@
--- Three names that open what worked rows compute with: a proof by `refl` names one of them on its line `unfolding`.
+-- Three names that unfold the definitions with which worked rows compute. A proof by `refl` lists one of them on
+-- its line `unfolding`.
 use Rattle.std.specs.Prelude.{⊤}
 use Rattle.std.specs.Fmt.{digits}
 use Rattle.std.specs.Char.{encode_utf8}
@@ -38,17 +39,17 @@ use Rattle.wasmprinter_spec.specs.Layout.Types.{composite_pieces, field_pieces, 
 use Rattle.wasmprinter_spec.specs.Layout.ValTypes.{heap_pieces, null_ref_pieces, ref_pieces, type_index_pieces, type_list, val_pieces}
 use Rattle.wasmprinter_spec.specs.Layout.Variables.{groups_pieces, variables_pieces}
 
--- how operators are printed
+-- Unfolds how operators are printed.
 unfoldable pub printing : ⊤
 unfolding table digits repetition_of digits_behind doublings unsigned_text float_text unsigned_calls float_calls chars identifier_text char_text byte_text quoted_text quoted_bytes align_pieces block_pieces catch_pieces catches_pieces declaration_pieces default_index_pieces ending_pieces expression_pieces groups_pieces heap_pieces hex_words identifier_gap_pieces immediate_pieces index_pieces label_pieces labels_pieces lane_pieces lanes_pieces leading_mark_pieces line_group line_group_gap list_group mark_gap_pieces mark_pieces mem_arg_pieces null_ref_pieces offset_pieces operand_pieces operator_pieces operators_pieces ref_pieces select_pieces signature_pieces two_index_pieces type_and_field_pieces type_index_pieces type_list type_use_pieces val_pieces variables_pieces vector_pieces
 printing = tt
 
--- how a module is printed
+-- Unfolds how a module is printed.
 unfoldable pub composing : ⊤
 unfolding printing left_in place_text body_by body_pieces composite_pieces constant_by constant_group constant_pieces data_mode_pieces data_pieces element_pieces export_pieces exports_pieces expression_items extern_index_pieces extern_pieces faulted_pieces field_pieces fields_pieces flags_by flags_pieces function_group function_items function_pieces functions_pieces gap_quoted_list global_pieces global_type_pieces group group_at group_gap group_gap_at header_pieces import_infos_pieces import_pieces imports_pieces init_pieces inner_pieces items_pieces kind_word layout layout_folded limits_pieces local_line local_pieces member_pieces memory_pieces memory_type_pieces mode_pieces module_parts module_pieces module_pieces_with names_pieces numbered_pieces pieces_by place_pieces raw_pieces sizes_group sizes_pieces start_pieces storage_pieces struct_field_pieces sub_group sub_pieces subsections_pieces supertype_pieces table_pieces table_type_pieces tag_pieces type_group_pieces type_pieces type_section_pieces values_pieces
 composing = tt
 
--- how a text is read
+-- Unfolds how a text is read.
 unfoldable pub reading : ⊤
 unfolding table class is_utf8 chars encode_utf8 numeral natural integer units_of units bits_by_halving bits_of unsigned_float float escape lex groups head heap_of_word ref_of_word number_of_word packed_of_word kind_of_word lane_size section_of_word
 reading = tt

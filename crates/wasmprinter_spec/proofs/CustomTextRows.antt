@@ -1,5 +1,5 @@
--- Worked rows of custom sections and branch hints: the texts that modules give, the calls that ask for claims, and that the
--- texts read as the same modules.
+-- Worked rows of custom sections and branch hints: the texts of modules, the calls that ask for claims, and that
+-- the texts read back as the same modules.
 use Rattle.std.specs.Prelude.{◌≡◌, ℕ, List, [], ◌∷◌, ◌++◌, length, map, true, false, ◌==◌, codes, Option, Some, None, option_map, refl}
 use Rattle.wasmprinter_spec.specs.Grammar.{◌>>=◌}
 use Rattle.wasmprinter_spec.specs.Call.{Call, Claim, text_of}
@@ -12,14 +12,14 @@ use Rattle.wasmprinter_spec.proofs.Samples.{head_bytes, lines, section, custom, 
 use Rattle.wasmprinter_spec.proofs.Computing.{composing, reading}
 use Rattle.wasmprinter_spec.proofs.FromBytes.{parsed, decoded, unclaimed, skeleton, printed_by, printed}
 
--- the text, where these sections are claimed
+-- The text of a module, with these answers to claims
 abbrev printed_with : Answers → List ℕ → Option (List ℕ)
 printed_with answers bytes = option_map (λ m. text_of (layout defaults answers m)) (parsed bytes)
 
 abbrev refused : List ℕ → Option ℕ
 refused bytes = parsed bytes >>= λ m. refusal defaults unclaimed m
 
--- the claims that are asked for
+-- The calls that ask for claims
 abbrev claims : List Call → List Call
 claims [] = []
 claims (Claim name place bytes answer ∷ cs) = Claim name place bytes answer ∷ claims cs
@@ -30,7 +30,7 @@ memory = section 0x05 (0x01 ∷ 0x00 ∷ 0x01 ∷ [])
 
 -- ---- raw sections
 
--- one before all, an empty section that is no place, and one behind a memory
+-- A custom section before all others, except an empty section, which is no place; and one after a memory section
 abbrev raw : List ℕ
 raw = head_bytes ++ (section 0x01 (0x00 ∷ []) ++ (custom (codes "a") (0x01 ∷ []) ++ (memory ++ custom (codes "b") [])))
 
@@ -51,7 +51,8 @@ raw_reads : read raw_text ≡ decoded raw
 unfolding reading
 raw_reads = refl
 
--- the second one is claimed: nothing of it is printed, and both are asked for with their places
+-- The second custom section is claimed: nothing of it is printed. The printer is asked about both sections, with
+-- their places.
 abbrev second : Answers
 second = λ n. n == 1
 
@@ -63,7 +64,7 @@ claims_asked : option_map (λ m. claims (layout defaults second m)) (parsed raw)
 unfolding composing reading
 claims_asked = refl
 
--- of three in one place the one in the middle is claimed
+-- Three sections at one place, of which the middle one is claimed
 abbrev three : List ℕ
 three = head_bytes ++ (custom (codes "a") [] ++ (custom (codes "dylink.0") (0x09 ∷ 0x00 ∷ []) ++ custom (codes "b") []))
 
@@ -76,7 +77,7 @@ middle_asked : option_map (λ m. claims (layout defaults second m)) (parsed thre
 unfolding composing reading
 middle_asked = refl
 
--- not claimed, it is refused, and nothing is asked for behind it
+-- If the middle section is not claimed, it is refused, and the printer is not asked about the third.
 middle_refused : refused three ≡ Some 9
 unfolding composing reading
 middle_refused = refl
@@ -85,7 +86,7 @@ asked_up_to : option_map (λ m. claims (layout defaults unclaimed m)) (parsed th
 unfolding composing reading
 asked_up_to = refl
 
--- the same section twice
+-- The same section twice
 abbrev twice : List ℕ
 twice = head_bytes ++ (custom (codes "a") (0x01 ∷ []) ++ custom (codes "a") (0x01 ∷ []))
 
@@ -100,12 +101,12 @@ twice_reads : read twice_text ≡ decoded twice
 unfolding reading
 twice_reads = refl
 
--- a name that is no UTF-8 is no name
+-- Bytes that are not UTF-8 are no name.
 odd_name : parsed (head_bytes ++ section 0x00 (0x01 ∷ 0xff ∷ [])) ≡ None
 unfolding reading
 odd_name = refl
 
--- in a skeleton three points stand for the bytes
+-- In a skeleton, `...` replaces the bytes.
 skeleton_prints : printed_by skeleton raw ≡ Some (lines (
     codes "(module"
     ∷ codes "  (@custom \"a\" (before first) ...)"
@@ -135,8 +136,8 @@ rust_reads : read rust_text ≡ decoded rust
 unfolding reading
 rust_reads = refl
 
--- fields that look like other tokens: `$`, `@`, and `@custom`, which is no custom section
--- a field of one value
+-- Fields that look like other tokens: `$`, `@`, and `@custom`, which is no custom section here. Each has one
+-- value.
 abbrev sized : List ℕ → List ℕ
 sized t = length t ∷ t
 
@@ -165,7 +166,7 @@ odd_reads : read odd_text ≡ decoded odd
 unfolding reading
 odd_reads = refl
 
--- a field with a blank is no word, so the section stands as it is
+-- A field name with a space is no word, so the section is printed as raw bytes.
 abbrev blank : List ℕ
 blank = with_producers (0x01 ∷ 0x03 ∷ (codes "a b" ++ (0x01 ∷ 0x01 ∷ (codes "x" ++ (0x01 ∷ codes "1")))))
 
@@ -180,7 +181,7 @@ blank_reads : read blank_text ≡ decoded blank
 unfolding reading
 blank_reads = refl
 
--- one of no bytes has a fault, one without fields hasn't
+-- A section without bytes is malformed. A section with 0 fields is not.
 faulted_producers : printed (with_producers []) ≡ Some (lines (codes "(module" ∷ codes "  ;; failed to parse custom section `producers`" ∷ codes "  (@custom \"producers\" (before first) \"\")" ∷ codes ")" ∷ []))
 unfolding composing reading
 faulted_producers = refl
@@ -205,7 +206,7 @@ exports_print : printed (with_dylink (0x03 ∷ 0x04 ∷ 0x01 ∷ 0x01 ∷ 0x66 �
 unfolding composing reading
 exports_print = refl
 
--- names, an import with a flag that has no word, and nothing to say of sizes
+-- Names, an import with a flag that has no word, and memory and table sizes of 0, which are not printed
 others_print : printed (with_dylink (
     0x02 ∷ 0x05 ∷ 0x02 ∷ 0x01 ∷ 0x61 ∷ 0x01 ∷ 0x62 ∷ 0x04 ∷ 0x07 ∷ 0x01 ∷ 0x01 ∷ 0x6d ∷ 0x01 ∷ 0x66 ∷ 0x88 ∷ 0x08
     ∷ 0x05 ∷ 0x01 ∷ 0x00 ∷ 0x01 ∷ 0x04 ∷ 0x00 ∷ 0x00 ∷ 0x00 ∷ 0x00 ∷ [])) ≡ Some (dylink_text (
@@ -217,7 +218,8 @@ others_print : printed (with_dylink (
 unfolding composing reading
 others_print = refl
 
--- an id that isn't known is refused, behind the claim; where it is claimed, or a fault stands in front, it isn't
+-- A section with an unknown subsection id is refused after the printer was asked for a claim. It is not refused if
+-- it is claimed, or if a malformed subsection comes first.
 unknown_refused : refused (with_dylink (0x09 ∷ 0x00 ∷ [])) ≡ Some 9
 unfolding composing reading
 unknown_refused = refl
@@ -249,7 +251,7 @@ cut_dylink_reads : read cut_dylink_text ≡ decoded cut_dylink
 unfolding reading
 cut_dylink_reads = refl
 
--- bytes that are left over are a fault, in front of an id that isn't known
+-- A subsection with unused bytes is malformed. It comes before the unknown id, so the section is not refused.
 left_over_first : refused (with_dylink (0x05 ∷ 0x02 ∷ 0x00 ∷ 0x00 ∷ 0x09 ∷ 0x00 ∷ [])) ≡ None
 unfolding composing reading
 left_over_first = refl
@@ -277,7 +279,7 @@ taken_reads : read (hinted_text (codes "    (@metadata.code.branch_hint \"\\01\"
 unfolding reading
 taken_reads = refl
 
--- a flag that is none, and a hint for no operator in front of another
+-- A flag that is neither 0 nor 1, and a hint for no operator that comes before a valid hint
 other_flag : printed (hinted (0x01 ∷ 0x00 ∷ 0x01 ∷ 0x03 ∷ 0x01 ∷ 0x02 ∷ [])) ≡ Some (hinted_text [])
 unfolding composing reading
 other_flag = refl
@@ -286,7 +288,7 @@ blocked : printed (hinted (0x01 ∷ 0x00 ∷ 0x02 ∷ 0x09 ∷ 0x01 ∷ 0x01 ∷
 unfolding composing reading
 blocked = refl
 
--- the second hint comes too late, and the second one for the same operator
+-- A hint after one with a greater offset, and a second hint for the same operator, are not printed.
 first_counts : printed (hinted (0x01 ∷ 0x00 ∷ 0x02 ∷ 0x03 ∷ 0x01 ∷ 0x01 ∷ 0x01 ∷ 0x01 ∷ 0x00 ∷ [])) ≡ Some (hinted_text (codes "    (@metadata.code.branch_hint \"\\01\")" ∷ []))
 unfolding composing reading
 first_counts = refl
@@ -295,7 +297,7 @@ one_for_each : printed (hinted (0x01 ∷ 0x00 ∷ 0x02 ∷ 0x03 ∷ 0x01 ∷ 0x0
 unfolding composing reading
 one_for_each = refl
 
--- the hint of the module is that of its text
+-- The hint of the module equals the hint of its text.
 hint_of_module : (parsed (hinted (0x01 ∷ 0x00 ∷ 0x01 ∷ 0x03 ∷ 0x01 ∷ 0x01 ∷ [])) >>= module_hints) ≡ Some (operator_hint 0 1 true ∷ [])
 unfolding composing reading
 hint_of_module = refl
@@ -304,7 +306,7 @@ hint_of_text : text_hints (hinted_text (codes "    (@metadata.code.branch_hint \
 unfolding reading
 hint_of_text = refl
 
--- offsets that don't rise, and one that is no operator's
+-- Offsets that do not increase, and the offset of no operator
 other_hints : (parsed (hinted (0x01 ∷ 0x00 ∷ 0x02 ∷ 0x03 ∷ 0x01 ∷ 0x01 ∷ 0x03 ∷ 0x01 ∷ 0x00 ∷ [])) >>= module_hints) ≡ None
 unfolding composing reading
 other_hints = refl
@@ -313,17 +315,18 @@ hint_of_the_last_end : (parsed (hinted (0x01 ∷ 0x00 ∷ 0x01 ∷ 0x06 ∷ 0x01
 unfolding composing reading
 hint_of_the_last_end = refl
 
--- in a folded text a hint in front of a group is that of the group's operator; imported functions count
+-- In a folded text, a hint before a group belongs to the group's operator. Imported functions are counted.
 hint_of_a_group : text_hints (codes "(module (import \"m\" \"f\" (func $f)) (func $g (@name \"g\") (param $x i32) (@metadata.code.branch_hint \"\\00\") (if (local.get $x) (then))))")
     ≡ Some (operator_hint 1 1 false ∷ [])
 unfolding reading
 hint_of_a_group = refl
 
--- an annotation of a hint
+-- An annotation of a hint
 abbrev stray : List ℕ
 stray = codes "(@metadata.code.branch_hint \"\\01\")"
 
--- two hints in front of an operator, comments and annotations between; annotations around the module and in an import, which counts
+-- Two hints before an operator, with a comment and an annotation between them; and annotations around the module
+-- and in an import, which is counted
 many_hints : map text_hints (
     (codes "(module (func " ++ (stray ++ (codes " (; c ;) (@a) " ++ (stray ++ codes " nop)) "))))
     ∷ (codes "(@a) (module (import \"m\" \"f\" (@a) (func (type 0) (@a)) (@a)) (func " ++ (stray ++ codes " nop)) (@a (@b))"))
@@ -332,7 +335,8 @@ many_hints : map text_hints (
 unfolding reading
 many_hints = refl
 
--- a hint that stands in front of no operator and of no group of one, or behind the parenthesis of its group: there is no list of hints
+-- If a hint is not directly before an operator or the group of one, the text has no list of hints. A hint after
+-- the parenthesis of its group is not before the group.
 stray_hints : map text_hints (
     (codes "(module " ++ (stray ++ codes " (func))"))
     ∷ (codes "(module (global i32 " ++ (stray ++ codes " i32.const 0))"))
@@ -347,7 +351,7 @@ stray_hints : map text_hints (
 unfolding reading
 stray_hints = refl
 
--- inside another annotation it is no hint of the text
+-- A hint inside another annotation is no hint of the text.
 noted_hint : text_hints (codes "(module (@a " ++ (stray ++ codes ") (func))")) ≡ Some []
 unfolding reading
 noted_hint = refl

@@ -1,4 +1,4 @@
--- What holds of each element of two lists.
+-- Properties of every element of two joined lists.
 use Rattle.std.specs.Prelude.{List, [], ◌∷◌, ◌++◌}
 use Rattle.std.specs.List.{AllByRecursion}
 

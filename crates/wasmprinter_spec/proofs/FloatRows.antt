@@ -1,5 +1,5 @@
--- Worked rows of floats (section 6.3 of the standard, "Floating-Point"): the text of bits, that it reads as these bits, what other texts
--- read as, and which don't read.
+-- Worked rows of floats (section 6.3 of the standard, "Floating-Point"): the texts of bit patterns, that these
+-- texts read as the same bits, what other texts read as, and which texts do not read.
 use Rattle.std.specs.Prelude.{◌≡◌, ℕ, ◌*◌, ◌-◌, ◌^◌, List, [], ◌∷◌, map, codes, Some, None, refl}
 use Rattle.std.specs.Fmt.{digits}
 use Rattle.wasmprinter_spec.specs.Numeral.{numeral}
@@ -7,9 +7,9 @@ use Rattle.wasmprinter_spec.specs.Call.{Text, Start, Literal, Comment, Reset, te
 use Rattle.wasmprinter_spec.specs.Float.{single, double, bias, least_exponent, units_of, units, bits_by_halving, bits_of, unsigned_float, float}
 use Rattle.wasmprinter_spec.specs.FloatText.{float_text, unsigned_text, digits_behind, doublings, unsigned_calls, float_calls}
 
--- ---- printed
+-- ---- printed texts
 
--- bits, their word, and the text with what is remarked
+-- A bit pattern, its word, and its text, which includes a comment after infinity and NaN
 record Row : Type 0 where
   bits : ℕ
   word : List ℕ
@@ -65,7 +65,7 @@ texts_of_doubles : map (λ r. text_of (float_calls double r.bits)) doubles ≡ m
 unfolding float_calls unsigned_calls digits_behind doublings digits
 texts_of_doubles = refl
 
--- ---- read
+-- ---- reading back
 
 singles_read : map (λ r. float single r.word) singles ≡ map (λ r. Some r.bits) singles
 unfolding float unsigned_float units bits_by_halving bits_of numeral
@@ -75,9 +75,10 @@ doubles_read : map (λ r. float double r.word) doubles ≡ map (λ r. Some r.bit
 unfolding float unsigned_float units bits_by_halving bits_of numeral
 doubles_read = refl
 
--- ---- written otherwise
+-- ---- other texts
 
--- an exponent without a sign or behind P, none, a point at the end or between, zeros in front, underscores, an e that is a digit
+-- An exponent without a sign, after `P`, and absent; a point as the last character, and between digits; leading
+-- zeros; underscores; an `e` that is a digit
 other_finite : map (float single)
     (codes "0x1.8p1" ∷ codes "0x1.8P+1" ∷ codes "0x10" ∷ codes "0x1." ∷ codes "0x0.8" ∷ codes "0x1_0.8_0p-0_4" ∷ codes "+0x1p+0" ∷ codes "0x0000.00008p+17" ∷ codes "0x1p-149" ∷ codes "0x1e5" ∷ [])
     ≡ Some 0x40400000 ∷ Some 0x40400000 ∷ Some 0x41800000 ∷ Some 0x3f800000 ∷ Some 0x3f000000 ∷ Some 0x3f840000 ∷ Some 0x3f800000 ∷ Some 0x3f800000 ∷ Some 0x00000001 ∷ Some 0x43f28000 ∷ []
@@ -89,7 +90,8 @@ other_special : map (float single) (codes "+inf" ∷ codes "+nan" ∷ codes "nan
 unfolding float unsigned_float units bits_by_halving bits_of numeral
 other_special = refl
 
--- texts of f64 that are none of f32: between two numbers, past the greatest, below the least, a payload of more bits
+-- Texts of f64 that are no texts of f32: a number between two neighbors, above the greatest, below the least, and
+-- a payload of more bits
 wide : map (float double) (codes "0x1.000001p+0" ∷ codes "0x1p128" ∷ codes "0x1p-150" ∷ codes "nan:0x800000" ∷ [])
     ≡ Some 0x3ff0000010000000 ∷ Some 0x47f0000000000000 ∷ Some 0x3690000000000000 ∷ Some 0x7ff0000000800000 ∷ []
 unfolding float unsigned_float units bits_by_halving bits_of numeral
@@ -100,14 +102,14 @@ too_wide : map (float single) (codes "0x1.000001p+0" ∷ codes "0x1p128" ∷ cod
 unfolding float unsigned_float units bits_by_halving bits_of numeral
 too_wide = refl
 
--- ---- texts that don't read
+-- ---- texts that do not read
 
--- no digit, none before the point, none in the exponent
+-- No digit at all, before the point, or in the exponent
 no_digits : map (float single) (codes "0x" ∷ codes "0x.8" ∷ codes "0x1p" ∷ codes "0x1p+" ∷ codes "0x.p1" ∷ []) ≡ None ∷ None ∷ None ∷ None ∷ None ∷ []
 unfolding float unsigned_float units bits_by_halving bits_of numeral
 no_digits = refl
 
--- two points, exponents, signs; a point in the exponent; an exponent in hexadecimal; a great X
+-- Two points, two exponents, two signs; a point in the exponent; an exponent in hexadecimal; an uppercase X
 misplaced : map (float single) (codes "0x1.0.0" ∷ codes "0x1p1p1" ∷ codes "-+0x1" ∷ codes "0x1p1.0" ∷ codes "0x1pa" ∷ codes "0X1" ∷ [])
     ≡ None ∷ None ∷ None ∷ None ∷ None ∷ None ∷ []
 unfolding float unsigned_float units bits_by_halving bits_of numeral
@@ -118,7 +120,7 @@ misplaced_underscores : map (float single) (codes "0x1_.8" ∷ codes "0x1._8" �
 unfolding float unsigned_float units bits_by_halving bits_of numeral
 misplaced_underscores = refl
 
--- a payload of 0 or in decimal, none, and words that only begin so
+-- A payload that is 0, decimal or missing, and words that only resemble `inf` and `nan`
 no_special : map (float single) (codes "nan:0x0" ∷ codes "nan:1" ∷ codes "nan:0x" ∷ codes "nan:" ∷ codes "infinity" ∷ codes "NaN" ∷ codes "Inf" ∷ [])
     ≡ None ∷ None ∷ None ∷ None ∷ None ∷ None ∷ None ∷ []
 unfolding float unsigned_float units bits_by_halving bits_of numeral
@@ -128,21 +130,22 @@ nothing : map (float single) (codes "" ∷ codes "-" ∷ codes "+" ∷ []) ≡ N
 unfolding float unsigned_float units bits_by_halving bits_of numeral
 nothing = refl
 
--- texts of the standard that this reader leaves out: decimal ones
+-- Decimal texts, which the standard has and this reader does not accept
 decimal_texts : map (float single) (codes "1.5" ∷ codes "1e3" ∷ codes "10" ∷ codes "0" ∷ codes "1." ∷ []) ≡ None ∷ None ∷ None ∷ None ∷ None ∷ []
 unfolding float unsigned_float units bits_by_halving bits_of numeral
 decimal_texts = refl
 
 -- ---- values
 
--- the least positive numbers are 2 ^ -149 and 2 ^ -1074
+-- The least positive numbers are 2 ^ -149 and 2 ^ -1074.
 least_exponents : map least_exponent (single ∷ double ∷ []) ≡ 149 ∷ 1074 ∷ []
 least_exponents = refl
 
 biases : map bias (single ∷ double ∷ []) ≡ 127 ∷ 1023 ∷ []
 biases = refl
 
--- the least positive number, the least normal one, one, one and a half and the greatest, in least positive numbers
+-- The least positive number, the least normal number, 1, 1.5 and the greatest number, each as a multiple of the
+-- least positive number
 values_of_singles : map (units_of single) (0x00000001 ∷ 0x00800000 ∷ 0x3f800000 ∷ 0x3fc00000 ∷ 0x7f7fffff ∷ [])
     ≡ 1 ∷ 2 ^ 23 ∷ 2 ^ 149 ∷ 3 * 2 ^ 148 ∷ (2 ^ 24 - 1) * 2 ^ 253 ∷ []
 unfolding units_of

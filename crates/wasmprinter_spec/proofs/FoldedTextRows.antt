@@ -1,5 +1,5 @@
--- Worked rows of whole modules whose operators are folded: the texts that they give, that these texts read as the same modules, and
--- what can't be folded in a module.
+-- Worked rows of whole modules with folded operators: their texts, that these texts read back as the same modules,
+-- and the operators and hints of a module that cannot be folded.
 use Rattle.std.specs.Prelude.{◌≡◌, ℕ, ◌+◌, List, [], ◌∷◌, ◌++◌, length, true, false, codes, Some, option_map, refl}
 use Rattle.std.specs.List.{AllByRecursion}
 use Rattle.wasmprinter_spec.specs.Row.{Fixed}
@@ -21,7 +21,7 @@ use Rattle.wasmprinter_spec.proofs.Sequences.{escape}
 abbrev folded : Options
 folded = record defaults { folds = true }
 
--- the bytes of a module, and its text
+-- The bytes of a module, and its text
 record Sample : Type 0 where
   bytes : List ℕ
   text : List ℕ
@@ -37,17 +37,17 @@ ReadsBack s = read s.text ≡ decoded s.bytes
 
 -- ---- fields
 
--- a constant of 1 and one of 2, and their sum
+-- The sum of the constants 1 and 2
 abbrev sum_bytes : List ℕ
 sum_bytes = 0x41 ∷ 0x01 ∷ 0x41 ∷ 0x02 ∷ 0x6a ∷ 0x0b ∷ []
 
 abbrev fields : List Sample
 fields =
     sample (with_item 0x06 (0x7f ∷ 0x00 ∷ 0x02 ∷ 0x7f ∷ 0x41 ∷ 0x01 ∷ 0x0b ∷ 0x0b ∷ [])) (one_field (codes "(global (;0;) i32 (block (result i32)  (; label = @1 ;) (i32.const 1)))"))
-    -- a single operator is folded here
+    -- Here a single operator is folded.
     ∷ sample (with_item 0x06 (0x7f ∷ 0x01 ∷ 0x41 ∷ 0x00 ∷ 0x0b ∷ [])) (one_field (codes "(global (;0;) (mut i32) (i32.const 0))"))
     ∷ sample (with_item 0x04 (0x40 ∷ 0x00 ∷ 0x70 ∷ 0x00 ∷ 0x01 ∷ 0xd0 ∷ 0x70 ∷ 0x0b ∷ [])) (one_field (codes "(table (;0;) 1 funcref (ref.null func))"))
-    -- but not where it stands alone in a group
+    -- An operator that is alone in a group is not folded.
     ∷ sample (with_item 0x09 (0x00 ∷ 0x41 ∷ 0x00 ∷ 0x0b ∷ 0x01 ∷ 0x00 ∷ [])) (one_field (codes "(elem (;0;) (i32.const 0) func 0)"))
     ∷ sample (with_item 0x09 (0x00 ∷ sum_bytes ++ 0x01 ∷ 0x00 ∷ [])) (one_field (codes "(elem (;0;) (offset (i32.add (i32.const 1) (i32.const 2))) func 0)"))
     ∷ sample (with_item 0x09 (0x00 ∷ 0x0b ∷ 0x00 ∷ [])) (one_field (codes "(elem (;0;) (offset ) func)"))
@@ -63,9 +63,9 @@ fields_read : AllByRecursion ReadsBack fields
 unfolding reading
 fields_read = (refl, (refl, (refl, (refl, (refl, (refl, (refl, (refl, tt))))))))
 
--- ---- fields over lines
+-- ---- fields over several lines
 
--- two globals, of which the first has a name with two semicolons
+-- Two globals, of which the first has a name with two semicolons
 abbrev semicolons : Sample
 semicolons =
     sample (
@@ -91,7 +91,7 @@ semicolons_read = refl
 
 -- ---- functions
 
--- a function of this type with these operators, behind other sections and without locals
+-- A function with this type and these operators and without locals, after these other sections
 abbrev with_function : List ℕ → List ℕ → List ℕ → List ℕ
 with_function type others operators =
     head_bytes
@@ -100,14 +100,14 @@ with_function type others operators =
     ++ (others
     ++ section 0x0a (0x01 ∷ (length operators + 1) ∷ 0x00 ∷ operators))))
 
--- a function of no parameters and no results
+-- A function without parameters and results
 abbrev plain_bytes : List ℕ → List ℕ
 plain_bytes = with_function (0x00 ∷ 0x00 ∷ []) []
 
 abbrev plain_text : List (List ℕ) → List ℕ
 plain_text ls = lines (codes "(module" ∷ codes "  (type (;0;) (func))" ∷ codes "  (func (;0;) (type 0)" ∷ (ls ++ (codes "  )" ∷ (codes ")" ∷ []))))
 
--- a function of two numbers that gives one
+-- A function with two i32 parameters and an i32 result
 abbrev binary_bytes : List ℕ → List ℕ
 binary_bytes = with_function (0x02 ∷ 0x7f ∷ 0x7f ∷ 0x01 ∷ 0x7f ∷ []) []
 
@@ -125,9 +125,9 @@ abbrev functions : List Sample
 functions =
     sample (plain_bytes (0x02 ∷ 0x40 ∷ 0x0b ∷ 0x0b ∷ [])) (plain_text (codes "    (block ;; label = @1" ∷ codes "    )" ∷ []))
     ∷ sample (plain_bytes (0x41 ∷ 0x01 ∷ 0x41 ∷ 0x02 ∷ 0x6a ∷ 0x0b ∷ [])) (plain_text (codes "    (i32.add" ∷ codes "      (i32.const 1)" ∷ codes "      (i32.const 2))" ∷ []))
-    -- a call takes what its function's type takes
+    -- A call takes the parameters of its function's type.
     ∷ sample (binary_bytes (0x20 ∷ 0x00 ∷ 0x20 ∷ 0x01 ∷ 0x10 ∷ 0x00 ∷ 0x0b ∷ [])) (binary_text (codes "    (call 0" ∷ codes "      (local.get 0)" ∷ codes "      (local.get 1))" ∷ []))
-    -- what leaves the function takes its results
+    -- A branch out of the function takes the function's results.
     ∷ sample (binary_bytes (0x41 ∷ 0x05 ∷ 0x0c ∷ 0x00 ∷ 0x0b ∷ [])) (binary_text (codes "    (br 0" ∷ codes "      (i32.const 5))" ∷ []))
     ∷ sample (plain_bytes (0x41 ∷ 0x05 ∷ 0x0c ∷ 0x00 ∷ 0x0b ∷ [])) (plain_text (codes "    (i32.const 5)" ∷ codes "    (br 0)" ∷ []))
     ∷ []
@@ -140,12 +140,12 @@ functions_read : AllByRecursion ReadsBack functions
 unfolding reading
 functions_read = (refl, (refl, (refl, (refl, (refl, tt)))))
 
--- a function without operators closes on its line
+-- A function without operators closes on its first line.
 empty_body : printed_by folded (plain_bytes (0x0b ∷ [])) ≡ Some (lines (codes "(module" ∷ codes "  (type (;0;) (func))" ∷ codes "  (func (;0;) (type 0))" ∷ codes ")" ∷ []))
 unfolding composing reading items node_pieces folded_pieces
 empty_body = refl
 
--- each line begins with the place of its operator
+-- Each line begins with the place of its operator.
 sum_with_places : printed_by (record folded { offsets = true }) (plain_bytes (0x41 ∷ 0x01 ∷ 0x41 ∷ 0x02 ∷ 0x6a ∷ 0x0b ∷ [])) ≡ Some (lines (
     codes "(module"
     ∷ codes "(;@b     ;)  (type (;0;) (func))"
@@ -159,9 +159,9 @@ sum_with_places : printed_by (record folded { offsets = true }) (plain_bytes (0x
 unfolding composing reading items node_pieces folded_pieces
 sum_with_places = refl
 
--- ---- by other arities
+-- ---- other arities
 
--- by what operators name in the module, but each opcode takes one and gives one
+-- Folding with the types that operators name in the module, and with one operand and one result for each opcode
 abbrev chained : PlacedModule → Folding
 chained m = record { paints = false; signatures = λ own. record (signatures_within m own) { arities = λ o. Some (Fixed 1 1) } }
 
@@ -171,7 +171,7 @@ chained_text m = text_of (layout_folded (chained m) defaults unclaimed m)
 abbrev sum_chained : List ℕ
 sum_chained = plain_text (codes "    (i32.add" ∷ codes "      (i32.const 2" ∷ codes "        (i32.const 1)))" ∷ [])
 
--- an operator takes the one before it, whatever the options say of folding
+-- Each operator takes the one before it, even though the options do not ask for folding.
 chained_print : option_map chained_text (parsed (plain_bytes sum_bytes)) ≡ Some sum_chained
 unfolding composing reading items node_pieces folded_pieces
 chained_print = refl
@@ -180,9 +180,9 @@ chained_read : read sum_chained ≡ decoded (plain_bytes sum_bytes)
 unfolding reading
 chained_read = refl
 
--- ---- colours
+-- ---- colors
 
--- a literal is red; nothing outside of the parentheses of operators carries sequences
+-- A literal is red. There are no ANSI escape sequences outside the parentheses of operators.
 painted_global : printed_by (record folded { paints = true }) (with_item 0x06 (0x7f ∷ 0x00 ∷ 0x41 ∷ 0x01 ∷ 0x0b ∷ []))
     ≡ Some (one_field (codes "(global (;0;) i32 (i32.const" ++ (escape (codes "0m") ++ (escape (codes "31m") ++ (codes " 1" ++ (escape (codes "0m") ++ codes "))"))))))
 unfolding composing reading items node_pieces folded_pieces
@@ -194,7 +194,7 @@ abbrev with_hint : ℕ → List ℕ → List ℕ
 with_hint offset operators =
     with_function (0x01 ∷ 0x7f ∷ 0x00 ∷ []) (custom (codes "metadata.code.branch_hint") (0x01 ∷ 0x00 ∷ 0x01 ∷ offset ∷ 0x01 ∷ 0x01 ∷ [])) operators
 
--- the hint of an `if` stands before its node
+-- The hint of an `if` comes before its node.
 hinted_if : printed_by folded (with_hint 3 (0x20 ∷ 0x00 ∷ 0x04 ∷ 0x40 ∷ 0x0b ∷ 0x0b ∷ [])) ≡ Some (lines (
     codes "(module"
     ∷ codes "  (type (;0;) (func (param i32)))"
@@ -209,12 +209,12 @@ hinted_if : printed_by folded (with_hint 3 (0x20 ∷ 0x00 ∷ 0x04 ∷ 0x40 ∷ 
 unfolding composing reading items node_pieces folded_pieces
 hinted_if = refl
 
--- ---- what can't be folded
+-- ---- operators and hints that cannot be folded
 
 abbrev folded_skeleton : Options
 folded_skeleton = record folded { skeleton = true }
 
--- an older `try` and its `catch_all`
+-- A `try` of legacy exception handling and its `catch_all`
 abbrev older_try : List ℕ
 older_try = plain_bytes (0x06 ∷ 0x40 ∷ 0x19 ∷ 0x0b ∷ 0x0b ∷ [])
 
@@ -222,7 +222,7 @@ try_and_catch : option_map (legacy_places folded) (parsed older_try) ≡ Some (0
 unfolding composing reading
 try_and_catch = refl
 
--- in a skeleton bodies aren't printed
+-- A skeleton has no bodies.
 try_in_skeleton : option_map (legacy_places folded_skeleton) (parsed older_try) ≡ Some []
 unfolding composing reading
 try_in_skeleton = refl
@@ -231,12 +231,12 @@ no_try : option_map (legacy_places folded) (parsed (plain_bytes (0x02 ∷ 0x40 �
 unfolding composing reading
 no_try = refl
 
--- an older `try` in the initialiser of a global, also in a skeleton
+-- A `try` of legacy exception handling in the initialiser of a global, which a skeleton contains
 try_in_global : option_map (legacy_places folded_skeleton) (parsed (with_item 0x06 (0x7f ∷ 0x00 ∷ 0x06 ∷ 0x40 ∷ 0x18 ∷ 0x00 ∷ 0x0b ∷ []))) ≡ Some (0xd ∷ 0xf ∷ [])
 unfolding composing reading
 try_in_global = refl
 
--- The hint of a `block`; that of an `if` is none of these.
+-- The hint of a `block` is misplaced; that of an `if` is not.
 hint_of_block : option_map (misplaced_hints folded) (parsed (with_hint 1 (0x02 ∷ 0x40 ∷ 0x0b ∷ 0x0b ∷ []))) ≡ Some (0x32 ∷ [])
 unfolding composing reading
 hint_of_block = refl

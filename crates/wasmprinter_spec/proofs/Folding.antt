@@ -1,4 +1,4 @@
--- Nodes say what the code says that they are made of, and the search for operands ends as the rule says.
+-- Nodes unfold to the operators of their code, and the search for operands ends as the rule says.
 use Rattle.std.proofs.Common.{◌≡◌, ℕ, zero, suc, ◌+◌, ◌<◌, ◌≤◌, List, [], ◌∷◌, ◌++◌, refl, sym, ◌∙◌, ap, arith, append_assoc, Bool, true, false, cond, ltb, eqb, Some}
 use Rattle.std.proofs.lemmas.List.{append-nil}
 use Rattle.std.proofs.lemmas.Bool.{eqb-true, eqb-false, ltb-true, ltb-false, cond_both}
@@ -15,7 +15,7 @@ saturated_assoc : (s q n : ℕ) → saturating_sum (saturating_sum s q) n ≡ sa
 saturated_assoc s q n = omega arith
 
 module _ {H : Type 0} where
-  -- ---- nodes in rows
+  -- ---- sequences of nodes
 
   pub row_of_both-nil : (f : NodesOf H) → row_of_both Nil f ≡ f
   row_of_both-nil Nil = refl
@@ -35,7 +35,7 @@ module _ {H : Type 0} where
   nil_joined a Nil e = sym e
   nil_joined a (Snoc b h r held) e = absurd (cc)
 
-  -- before a run of one node no shorter run has any results
+  -- If a run consists of one node, every shorter run has fewer results than needed.
   one_first : (wanted s : ℕ) (h : H) (q : ℕ) (held : NodesOf H) → s < wanted → s ≤ greatest → IsFirst wanted s (Snoc Nil h q held)
   one_first wanted s h q held lt le before Nil e ne = omega (arith, saturating_sum-zero s le)
   one_first wanted s h q held lt le before (Snoc last g r inner) e ne = absurd (ne (nil_joined before last (ap front e)))
@@ -47,7 +47,8 @@ module _ {H : Type 0} where
       let below : saturating_sum (saturating_sum s q) (results_of last) < wanted = first before last (ap front e) ne in
       omega (arith, same, below, saturated_assoc s q (results_of last))
 
-  -- one node more at the end of a row
+  -- If the search among earlier nodes ends as the rule says, so does the search that starts with one more node
+  -- after them.
   more : (wanted s : ℕ) (b : NodesOf H) (h : H) (q : ℕ) (held : NodesOf H) (o : OperandsOf H)
       → s < wanted → s ≤ greatest → IsAnswer wanted (saturating_sum s q) b o → IsAnswer wanted s (Snoc b h q held) (with_last h q held o)
   more wanted s b h q held (Fit before run) lt le a =
@@ -92,12 +93,12 @@ module _ {H : Type 0} where
       (λ e. more wanted s b h q held (operands_from wanted next b) lt le
       (IsAnswer-operands_from wanted next b (omega (arith, eqb-false next wanted ne, ltb-false wanted next e)) (omega arith))))
 
-  -- an operator that takes operands takes them by the rule
+  -- The search for one or more operands ends as the rule says.
   pub IsAnswer-operand_search : (wanted : ℕ) (f : NodesOf H) → 0 < wanted → IsAnswer wanted 0 f (operand_search wanted f)
   IsAnswer-operand_search zero f lt = absurd (omega arith)
   IsAnswer-operand_search (suc n) f lt = IsAnswer-operands_from (suc n) 0 f lt (omega arith)
 
--- ---- what nodes say
+-- ---- unfolding of nodes
 
 pub unfolding_of-row_of_both : (a b : Nodes) → unfolding_of (row_of_both a b) ≡ unfolding_of a ++ unfolding_of b
 unfolding_of-row_of_both a Nil = sym (append-nil (unfolding_of a))
@@ -106,7 +107,7 @@ unfolding_of-row_of_both a (Snoc b (ThenCase x) r held) = unfolding_of-row_of_bo
 unfolding_of-row_of_both a (Snoc b (ElseCase x) r held) = unfolding_of-row_of_both a b
 
 module _ {H : Type 0} where
-  -- operands that were found are the last nodes
+  -- If operands were found, they are the last nodes.
   abbrev pub AreLast : NodesOf H → OperandsOf H → Type 0
   AreLast f (Fit before run) = f ≡ row_of_both before run
   AreLast f Passed = Unit {0}
@@ -144,7 +145,8 @@ unfolding_of-with_operands f x (Fit before run) p e =
 unfolding_of-with_operands f x Passed p e = rw p refl
 unfolding_of-with_operands f x Short p e = rw p refl
 
--- whatever numbers of operands and results are given
+-- An operator after a sequence of nodes unfolds to that sequence and the operator, whatever its operand and result
+-- counts are.
 pub unfolding_of-with_operator : (f : Nodes) (x : Item) → role x ≡ row.Plain → unfolding_of (with_operator f x) ≡ unfolding_of f ++ Some x ∷ []
 unfolding_of-with_operator f x p = unfolding_of-with_operands f x (operand_search x.takes f) p (AreLast-operand_search x.takes f)
 
@@ -155,7 +157,7 @@ told_of-append : (a b : List Item) → told_of (a ++ b) ≡ told_of a ++ told_of
 told_of-append [] b = refl
 told_of-append (x ∷ a) b = ap (λ (l : List Told). told_by_role (role x) x ∷ l) (told_of-append a b)
 
--- what stands behind a row of nodes
+-- Code after a sequence of nodes unfolds to that sequence and the code.
 pub unfolding_of-tree_behind : (f : Nodes) (code : NestedCode) → IsFit code → unfolding_of (tree_behind f code) ≡ unfolding_of f ++ told_of (flat code)
 unfolding_of-tree_behind f Done h = sym (append-nil (unfolding_of f))
 unfolding_of-tree_behind f (Plain x rest) h =
@@ -184,6 +186,6 @@ unfolding_of-tree_behind f (IfElse x body turn other end rest) h =
       ← unfolding_of-front-last f,
     )
 
--- folding loses nothing
+-- The tree of code unfolds to the operators of the code.
 pub unfolding_of-tree : UnfoldingRule
 unfolding_of-tree code h = unfolding_of-tree_behind Nil code h

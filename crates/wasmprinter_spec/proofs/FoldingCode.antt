@@ -1,4 +1,5 @@
--- The tree of a list says the list, and what is well nested, without the older `try`, has one.
+-- The tree of a list represents the list. Every list that is well nested and without legacy exception handling has
+-- a tree.
 use Rattle.std.proofs.Common.{subst, ◌≡◌, List, [], ◌∷◌, ◌++◌, map, refl, sym, ◌∙◌, ap, append_assoc, true, false, Option, Some}
 use Rattle.std.proofs.lemmas.List.{append-nil, map-append}
 use Rattle.wasmprinter_spec.specs.Grammar.{◌>>=◌, bind_some, some_is}
@@ -7,9 +8,9 @@ use Rattle.wasmprinter_spec.specs.Row.{Role, Opens, OpensIf, OpensTry, Turns, Ca
 use Rattle.wasmprinter_spec.specs.Nesting.{FramePart, Sequence, Handlers, Nests, none, plain, block, one_armed, two_armed, tried, delegated, no_handler, caught, caught_all}
 use Rattle.wasmprinter_spec.specs.Folding.Code.{Item, NestedCode, Done, Plain, Block, If, IfElse, flat, role, Behind, Outside, InBlock, InIf, with_code, in_front, behind_of, whole, nested_code_of, IsFit, AreWithoutTry, CodeRule, UniqueCodeRule, NestedCodeRule, NestingCodeRule}
 
--- ---- a tree, its list, and its tree again
+-- ---- from a tree to its list and back
 
--- code behind code
+-- Code, followed by more code
 abbrev behind : NestedCode → NestedCode → NestedCode
 behind Done d = d
 behind (Plain x rest) d = Plain x (behind rest d)
@@ -34,7 +35,7 @@ with_code-same (Outside c) = refl
 with_code-same (InBlock c end b) = refl
 with_code-same (InIf c turn other end b) = refl
 
--- code in front of a list
+-- If a list continues with `b`, then the operators of some code and this list continue with that code and `b`.
 behind_of-flat : (c : NestedCode) (xs : List Item) (b : Behind) → IsFit c → behind_of xs ≡ Some b → behind_of (flat c ++ xs) ≡ Some (with_code (behind c) b)
 behind_of-flat Done xs b h e = e ∙ ap (λ (b : Behind). Some b) (sym (with_code-same b))
 behind_of-flat (Plain x rest) xs b h e =
@@ -72,14 +73,14 @@ behind_of-flat (IfElse x body turn other end rest) xs b h e =
     rw (append_assoc (flat body) (turn ∷ (flat other ++ end ∷ flat rest)) xs, append_assoc (flat other) (end ∷ flat rest) xs, first, opens)
     (ap (λ (b : Behind). Some b) (with_code-twice (IfElse x body turn other end) (behind rest) b))
 
--- the tree of what a tree says is the tree
+-- The tree of the list of a tree is that tree.
 pub nested_code_of-flat : UniqueCodeRule
 nested_code_of-flat c h =
     let e : behind_of (flat c ++ []) ≡ Some (Outside c) =
     behind_of-flat c [] (Outside Done) h refl ∙ ap (λ (c : NestedCode). Some (Outside c)) (behind-done c) in
     ap (λ (b : Option Behind). b >>= whole) (ap behind_of (sym (append-nil (flat c))) ∙ e)
 
--- the operators that a place has behind it
+-- The operators after a position in a list
 abbrev flat_behind : Behind → List Item
 flat_behind (Outside c) = flat c
 flat_behind (InBlock c end b) = flat c ++ end ∷ flat_behind b
@@ -90,11 +91,11 @@ IsFitBehind (Outside c) = IsFit c
 IsFitBehind (InBlock c end b) = IsFit c × (role end ≡ Ends) × IsFitBehind b
 IsFitBehind (InIf c turn other end b) = IsFit c × (role turn ≡ Turns) × IsFit other × (role end ≡ Ends) × IsFitBehind b
 
--- these are the operators, and each stands where its role has it
+-- The operators after the position are `xs`, and each is where its role allows it.
 abbrev IsTreeOf : List Item → Behind → Type 0
 IsTreeOf xs b = (flat_behind b ≡ xs) × IsFitBehind b
 
--- an operator of this role in front of one place makes another
+-- An operator with this role before the position `b` gives the position `new`.
 abbrev Leads : Role → Item → Behind → Behind → Type 0
 Leads r x b new = role x ≡ r → IsFitBehind b → IsTreeOf (x ∷ flat_behind b) new
 
@@ -104,7 +105,7 @@ plain_in_front x (InBlock c end b) e (fit, ends, fit_behind) = (refl, ((e, fit),
 plain_in_front x (InIf c turn other end b) e (fit, turns, fit_other, ends, fit_behind) =
     (refl, ((e, fit), turns, fit_other, ends, fit_behind))
 
--- a constructor whose last part is the code behind it
+-- Lemma for each constructor of code whose last argument is the code that follows
 module _ (f : NestedCode → NestedCode) (xs : List Item) (flat_f : (d : NestedCode) → flat (f d) ≡ xs ++ flat d) (fit_f : (d : NestedCode) → IsFit d → IsFit (f d)) where
   closed_in_front : (b : Behind) → IsFitBehind b → IsTreeOf (xs ++ flat_behind b) (with_code f b)
   closed_in_front (Outside d) h = (flat_f d, fit_f d h)
@@ -117,7 +118,8 @@ module _ (f : NestedCode → NestedCode) (xs : List Item) (flat_f : (d : NestedC
     (fit_f d fit, turns, fit_other, ends, fit_behind),
   )
 
--- an operator, a part and another behind it, and a second part
+-- A list that consists of an operator, a part, another operator and a second part can be grouped before the second
+-- part.
 in_two : (x : Item) (a b : List Item) (y : Item) → x ∷ (a ++ y ∷ b) ≡ (x ∷ (a ++ y ∷ [])) ++ b
 in_two x a b y = simp (append_assoc)
 
@@ -137,7 +139,7 @@ if_in_front x c end b e h =
     (λ d. in_two x (flat c) (flat d) end) (λ d i. (e, fit, ends, i)) b fit_behind in
     (t.0 ∙ sym (in_two x (flat c) (flat_behind b) end), t.1)
 
--- the same with three parts
+-- The same for three operators and three parts.
 in_three : (x : Item) (a b c : List Item) (y z : Item) → x ∷ (a ++ y ∷ (b ++ z ∷ c)) ≡ (x ∷ (a ++ y ∷ (b ++ z ∷ []))) ++ c
 in_three x a b c y z = simp (append_assoc)
 
@@ -177,7 +179,7 @@ behind_of-tree (x ∷ xs) b e =
     let top : IsTreeOf (x ∷ flat_behind place) b = in_front-tree (role x) x place b refl t.1 result in
     (top.0 ∙ ap (λ (l : List Item). x ∷ l) t.0, top.1)
 
--- the tree of a list is well formed and says the list
+-- The tree of a list is well formed and represents the list.
 pub nested_code_of-tree : CodeRule
 nested_code_of-tree xs c e =
     let (place, is_behind, result) = bind_some (behind_of xs) whole c e in
@@ -188,7 +190,7 @@ nested_code_of-tree xs c e =
     of_whole (InBlock d end b) e h = absurd cc
     of_whole (InIf d turn other end b) e h = absurd cc
 
--- ---- what is well nested has a tree
+-- ---- well-nested operators have a tree
 
 without_try-append : (a b : List Role) → AreWithoutTry a → AreWithoutTry b → AreWithoutTry (a ++ b)
 without_try-append [] b h k = k
@@ -200,7 +202,7 @@ without_try-parts (r ∷ a) b h =
     let parts : AreWithoutTry a × AreWithoutTry b = without_try-parts a b h.1 in
     ((h.0, parts.0), parts.1)
 
--- operators whose roles fall into two parts with a role between
+-- Operators whose roles consist of two parts and a role between them
 record AreParted (xs : List Item) (before : List Role) (between : Role) (behind : List Role) : Type 0 where
   front : List Item
   middle : Item
@@ -231,7 +233,7 @@ parted (x ∷ xs) (r ∷ before) between after e =
     same_cons : (a b : Role) (rs ss : List Role) → a ≡ b → rs ≡ ss → a ∷ rs ≡ b ∷ ss
     same_cons a b rs ss e f = cc
 
--- the tree of operators
+-- A tree that represents these operators
 record HasTree (xs : List Item) : Type 0 where
   code : NestedCode
   is_flat : flat code ≡ xs
@@ -256,7 +258,7 @@ nothing_grows : (xs : List Item) → map role xs ≡ [] → HasTree xs
 nothing_grows [] e = record { code = Done; is_flat = refl; is_fit = tt }
 nothing_grows (x ∷ xs) e = absurd cc
 
--- an operator of the older `try` is ruled out
+-- No operator belongs to legacy exception handling.
 no_try : true ≡ false → ⊥
 no_try e = cc
 
@@ -313,9 +315,9 @@ nested_code_of-nested xs n h =
     let t : HasTree xs = grows n xs refl h in
     (t.code, ap nested_code_of (sym t.is_flat) ∙ nested_code_of-flat t.code t.is_fit)
 
--- ---- what has a tree is well nested
+-- ---- operators that have a tree are well nested
 
--- the roles of a tree nest, and none is of the older `try`
+-- The roles are well nested, and none belongs to legacy exception handling.
 abbrev IsNested : List Role → Type 0
 IsNested rs = Nests Sequence rs × AreWithoutTry rs
 

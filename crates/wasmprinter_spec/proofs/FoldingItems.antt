@@ -1,5 +1,5 @@
--- The operators of a list, each with what is printed of it, are the operators of the list; and a list is folded where it is well nested and
--- holds none of the older `try`.
+-- The operators of the items of a list are the operators of the list. A list can be folded exactly if it is well
+-- nested and contains no operator of legacy exception handling.
 use Rattle.std.proofs.Common.{subst, ◌≡◌, ℕ, ◌+◌, List, [], ◌∷◌, ◌++◌, map, length, refl, sym, ap, Bool, true, Option, Some, None, option_map}
 use Rattle.wasmprinter_spec.specs.Grammar.{Placed}
 use Rattle.wasmprinter_spec.specs.Operator.{Operator}
@@ -28,13 +28,13 @@ module _ (s : Setting) (t : Signatures) where
   roles-items [] hs n xs ls = refl
   roles-items (o ∷ os) hs n xs ls = ap (λ (l : List Role). role_at o ∷ l) (roles-items os _ _ _ _)
 
-  -- an operator that isn't folded is printed alike, behind what stands before its word
+  -- The pieces of a flat operator are those before its word, followed by the pieces of its item.
   pub operator_pieces-item : (hint : Option (Placed Hint)) (first : Bool) (own : labels.Label) (xs : List labels.Label) (ls : List (Option ℕ)) (o : Placed Operator)
       → operator_pieces s first own xs o ≡ before_word s.form first o.place (s.nesting + level (role_at o) (length xs)) ++ (item s t hint own xs ls o).pieces
   unfolding operator_pieces
   operator_pieces-item hint first own xs ls o = refl
 
-  -- what is well nested and without the older `try` is folded
+  -- Every list that is well nested and without legacy exception handling can be folded.
   pub folded_pieces-nested : FoldedRule s t
   unfolding folded_pieces
   folded_pieces-nested o paints hs os n h =
@@ -43,7 +43,7 @@ module _ (s : Setting) (t : Signatures) where
       nested_code_of-nested (items s t hs 0 [] [] os) (subst (λ (rs : List Role). Nests Sequence rs) (sym e) n) (subst AreWithoutTry (sym e) h) in
       (node_pieces o paints s.form true s.nesting (tree c.0), rw (c.1) refl)
 
-  -- nothing else is folded
+  -- No other list can be folded.
   pub folded_pieces-nests : FoldingRule s t
   unfolding folded_pieces
   folded_pieces-nests o paints hs os ps e =

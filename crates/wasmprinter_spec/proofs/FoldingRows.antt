@@ -1,5 +1,5 @@
--- Worked rows of folding: how bodies and constant expressions are printed when they are folded, and that these
--- texts read as the same operators.
+-- Worked rows of folding: the folded texts of bodies and constant expressions, and that these texts read back as
+-- the same operators.
 use Rattle.std.specs.Prelude.{◌≡◌, ℕ, ◌==◌, cond, List, [], ◌∷◌, ◌++◌, map, flat_map, true, false, codes, slice_get, Option, Some, None, option_map, refl}
 use Rattle.wasmprinter_spec.specs.Grammar.{input, Placed}
 use Rattle.wasmprinter_spec.specs.Types as types
@@ -21,7 +21,7 @@ use Rattle.wasmprinter_spec.proofs.Samples.{body_lines}
 use Rattle.wasmprinter_spec.proofs.FromBytes.{spelled}
 use Rattle.wasmprinter_spec.proofs.FromText.{read_back}
 
--- no types; function 0 gives two values
+-- No types are declared. Function 0 has two results.
 abbrev pair_giving : Signatures
 pair_giving = record {
   arities = arity_of;
@@ -32,20 +32,20 @@ pair_giving = record {
   own = Some 0;
 }
 
--- in a function of so many results, or of a type that isn't there
+-- The same in a function with this number of results, or in one whose type does not exist
 abbrev giving : Option ℕ → Signatures
 giving own = record pair_giving { own = own }
 
 abbrev setting : Form → Names → Setting
 setting form names = record { form = form; signature = λ n. None; nesting = 2; names = names; function = 0; body = 0 }
 
--- The text of the operators that the bytes spell, of which the first is at the place 1. Bytes may spell nothing, and what
--- they spell may not be folded.
+-- The text of the operators that the bytes encode, the first at place 1. The outer option is empty if the bytes
+-- encode no expression, the inner one if the operators cannot be folded.
 abbrev folded_by : Options → Setting → Signatures → List (Placed Hint) → List ℕ → Option (Option (List ℕ))
 folded_by o s ts hs bytes =
     option_map (λ x. option_map (λ ps. text_of (all_calls o ps)) (folded_pieces o false s ts hs x.0.items)) (expression.parse (input 1 (bytes ++ 0x0b ∷ [])))
 
--- bytes, and the lines that they give in a body
+-- Bytes, and their lines in a body
 record Sample : Type 0 where
   bytes : List ℕ
   lines : List (List ℕ)
@@ -61,31 +61,32 @@ body names ts bytes = folded_by defaults (setting OverLines names) ts [] bytes
 abbrev operands : List Sample
 operands =
     sample (0x41 ∷ 0x01 ∷ 0x41 ∷ 0x02 ∷ 0x6a ∷ []) (codes "(i32.add" ∷ codes "  (i32.const 1)" ∷ codes "  (i32.const 2))" ∷ [])
-    -- all operands are there but one
+    -- One operand is missing.
     ∷ sample (0x41 ∷ 0x01 ∷ 0x6a ∷ 0x45 ∷ []) (codes "(i32.const 1)" ∷ codes "(i32.eqz" ∷ codes "  (i32.add))" ∷ [])
-    -- two results are taken together or not at all, and what can't be folded isn't taken either
+    -- Two results are taken together or not at all. An operator that could not take its operands is not taken
+    -- either.
     ∷ sample (0x10 ∷ 0x00 ∷ 0x6a ∷ []) (codes "(i32.add" ∷ codes "  (call 0))" ∷ [])
     ∷ sample (0x10 ∷ 0x00 ∷ 0x45 ∷ 0x6a ∷ []) (codes "(call 0)" ∷ codes "(i32.eqz)" ∷ codes "(i32.add)" ∷ [])
     ∷ sample (0x10 ∷ 0x00 ∷ 0x45 ∷ 0x45 ∷ []) (codes "(call 0)" ∷ codes "(i32.eqz)" ∷ codes "(i32.eqz)" ∷ [])
     ∷ sample (0x41 ∷ 0x01 ∷ 0x10 ∷ 0x00 ∷ 0x6a ∷ 0x6a ∷ []) (codes "(i32.add" ∷ codes "  (i32.const 1)" ∷ codes "  (i32.add" ∷ codes "    (call 0)))" ∷ [])
-    -- nodes without results are taken along where an operand stands before them
+    -- Nodes without results are taken with an operand before them.
     ∷ sample (0x41 ∷ 0x00 ∷ 0x01 ∷ 0x1a ∷ []) (codes "(drop" ∷ codes "  (i32.const 0)" ∷ codes "  (nop))" ∷ [])
     ∷ sample (0x01 ∷ 0x41 ∷ 0x00 ∷ 0x1a ∷ 0x01 ∷ []) (codes "(nop)" ∷ codes "(drop" ∷ codes "  (i32.const 0))" ∷ codes "(nop)" ∷ [])
-    -- a chain
+    -- A chain of operators with one operand each
     ∷ sample (0x41 ∷ 0x00 ∷ 0x45 ∷ 0x45 ∷ 0x45 ∷ []) (codes "(i32.eqz" ∷ codes "  (i32.eqz" ∷ codes "    (i32.eqz" ∷ codes "      (i32.const 0))))" ∷ [])
     ∷ sample [] []
     ∷ []
 
 abbrev blocks : List Sample
 blocks =
-    -- the line's comment must not hide the parenthesis
+    -- The comment of a line must not contain the closing parenthesis.
     sample (0x02 ∷ 0x40 ∷ 0x0b ∷ []) (codes "(block ;; label = @1" ∷ codes ")" ∷ [])
     ∷ sample (0x1f ∷ 0x40 ∷ 0x00 ∷ 0x0b ∷ []) (codes "(try_table ;; label = @1" ∷ codes ")" ∷ [])
     ∷ sample (0x02 ∷ 0x40 ∷ 0x02 ∷ 0x40 ∷ 0x0b ∷ 0x0b ∷ []) (codes "(block ;; label = @1" ∷ codes "  (block ;; label = @2" ∷ codes "  ))" ∷ [])
     ∷ sample (0x02 ∷ 0x7f ∷ 0x41 ∷ 0x01 ∷ 0x0b ∷ 0x1a ∷ []) (codes "(drop" ∷ codes "  (block (result i32) ;; label = @1" ∷ codes "    (i32.const 1)))" ∷ [])
-    -- operands don't stand in front of the block
+    -- An operand is never taken from before the enclosing block.
     ∷ sample (0x41 ∷ 0x01 ∷ 0x02 ∷ 0x40 ∷ 0x1a ∷ 0x0b ∷ []) (codes "(i32.const 1)" ∷ codes "(block ;; label = @1" ∷ codes "  (drop))" ∷ [])
-    -- a branch to a block takes its results, one to a loop none of them
+    -- A branch to a block takes the block's results. A branch to a loop takes none of them.
     ∷ sample (0x02 ∷ 0x7f ∷ 0x41 ∷ 0x05 ∷ 0x0c ∷ 0x00 ∷ 0x0b ∷ 0x1a ∷ [])
     (codes "(drop" ∷ codes "  (block (result i32) ;; label = @1" ∷ codes "    (br 0 (;@1;)" ∷ codes "      (i32.const 5))))" ∷ [])
     ∷ sample (0x03 ∷ 0x7f ∷ 0x41 ∷ 0x05 ∷ 0x0c ∷ 0x00 ∷ 0x0b ∷ []) (codes "(loop (result i32) ;; label = @1" ∷ codes "  (i32.const 5)" ∷ codes "  (br 0 (;@1;)))" ∷ [])
@@ -99,11 +100,11 @@ ifs =
     ∷ sample (0x20 ∷ 0x00 ∷ 0x04 ∷ 0x40 ∷ 0x05 ∷ 0x0b ∷ []) (codes "(if ;; label = @1" ∷ codes "  (local.get 0)" ∷ codes "  (then)" ∷ codes "  (else))" ∷ [])
     ∷ sample (0x41 ∷ 0x00 ∷ 0x04 ∷ 0x40 ∷ 0x41 ∷ 0x01 ∷ 0x05 ∷ 0x41 ∷ 0x02 ∷ 0x0b ∷ [])
     (codes "(if ;; label = @1" ∷ codes "  (i32.const 0)" ∷ codes "  (then" ∷ codes "    (i32.const 1))" ∷ codes "  (else" ∷ codes "    (i32.const 2)))" ∷ [])
-    -- the last node alone, whatever it gives, or none
+    -- An `if` takes only the last node, whatever results that has, or none.
     ∷ sample (0x01 ∷ 0x04 ∷ 0x40 ∷ 0x0b ∷ []) (codes "(if ;; label = @1" ∷ codes "  (nop)" ∷ codes "  (then))" ∷ [])
     ∷ sample (0x41 ∷ 0x00 ∷ 0x01 ∷ 0x04 ∷ 0x40 ∷ 0x0b ∷ []) (codes "(i32.const 0)" ∷ codes "(if ;; label = @1" ∷ codes "  (nop)" ∷ codes "  (then))" ∷ [])
     ∷ sample (0x04 ∷ 0x40 ∷ 0x0b ∷ []) (codes "(if ;; label = @1" ∷ codes "  (then))" ∷ [])
-    -- an `if` whose results are taken, as the operand of another
+    -- An `if` with a result, as the operand of another `if`
     ∷ sample (0x41 ∷ 0x00 ∷ 0x04 ∷ 0x7f ∷ 0x41 ∷ 0x01 ∷ 0x05 ∷ 0x41 ∷ 0x02 ∷ 0x0b ∷ 0x04 ∷ 0x40 ∷ 0x0b ∷ [])
     (codes "(if ;; label = @1"
     ∷ codes "  (if (result i32) ;; label = @1"
@@ -127,19 +128,21 @@ samples_read : map (λ ss. map (λ s. read_back (body_lines s.lines)) ss) all_sa
 unfolding reading
 samples_read = refl
 
--- What can't be folded counts for the greatest number of results, which an array of so many takes.
+-- An operator that could not take its operands counts as having the greatest number of results. An array with that
+-- many elements takes it.
 greatest_array : body no_names pair_giving (0x10 ∷ 0x00 ∷ 0x45 ∷ 0xfb ∷ 0x08 ∷ 0x00 ∷ 0xff ∷ 0xff ∷ 0xff ∷ 0xff ∷ 0x0f ∷ [])
     ≡ Some (Some (body_lines (codes "(call 0)" ∷ codes "(array.new_fixed 0 4294967295" ∷ codes "  (i32.eqz))" ∷ [])))
 unfolding printing items node_pieces folded_pieces
 greatest_array = refl
 
--- a branch to a block of a type that isn't there takes nothing, and the block gives nothing
+-- A branch to a block whose type does not exist takes nothing, and the block has no results.
 unknown_block : body no_names pair_giving (0x41 ∷ 0x00 ∷ 0x02 ∷ 0x05 ∷ 0x41 ∷ 0x01 ∷ 0x0d ∷ 0x00 ∷ 0x0b ∷ 0x1a ∷ [])
     ≡ Some (Some (body_lines (codes "(drop" ∷ codes "  (i32.const 0)" ∷ codes "  (block (type 5) ;; label = @1" ∷ codes "    (i32.const 1)" ∷ codes "    (br_if 0 (;@1;))))" ∷ [])))
 unfolding printing items node_pieces folded_pieces
 unknown_block = refl
 
--- to the body's own label and out of the function, with one result, with none, and where the function has no function type
+-- Branches to the body's own label and returns from the function, which has one result, no result, or no function
+-- type
 abbrev leaving : List ℕ
 leaving = 0x41 ∷ 0x05 ∷ 0x0c ∷ 0x00 ∷ 0x41 ∷ 0x06 ∷ 0x0f ∷ 0x41 ∷ 0x07 ∷ 0x0d ∷ 0x00 ∷ []
 
@@ -158,7 +161,7 @@ leaving_without_type : body no_names (giving None) leaving
 unfolding printing items node_pieces folded_pieces
 leaving_without_type = refl
 
--- by other arities: where all take one and give one, where none is listed, and where two results are said to come of a constant
+-- Other arities: one operand and one result for each opcode, no listed opcode, and two results for a constant
 abbrev by_arities : (Opcode → Option Arity) → List ℕ → Option (Option (List ℕ))
 by_arities arities bytes = body no_names (record pair_giving { arities = arities }) bytes
 
@@ -179,7 +182,7 @@ older_try = refl
 
 -- ---- names
 
--- local 0 has this name, and the first block
+-- All items and locals have this name, and so does label 0.
 abbrev naming : List ℕ → Names
 naming s = record no_names {
   locals = λ f i. Some (record { given = Some s; content = s });
@@ -187,12 +190,12 @@ naming s = record no_names {
   labels = λ f. label_naming false (slice_get (s ∷ []));
 }
 
--- a block with an identifier has no comment
+-- A block with an identifier has no comment.
 named_block : body (naming (codes "a")) pair_giving (0x02 ∷ 0x40 ∷ 0x0b ∷ []) ≡ Some (Some (body_lines (codes "(block $a)" ∷ [])))
 unfolding printing reading items node_pieces folded_pieces
 named_block = refl
 
--- blocks are numbered in order, and a label goes with its block
+-- Blocks are numbered in order, and each label belongs to its block.
 abbrev two_labels : Names
 two_labels = record no_names { labels = λ f. label_naming false (slice_get (codes "a" ∷ codes "b" ∷ [])) }
 
@@ -201,7 +204,7 @@ labels_of_blocks : body two_labels pair_giving (0x02 ∷ 0x40 ∷ 0x0b ∷ 0x02 
 unfolding printing reading items node_pieces folded_pieces
 labels_of_blocks = refl
 
--- a predicate stands inside its `if`, but outside the block
+-- The condition of an `if` is inside the group of the `if` but outside its label.
 labels_of_predicate : body no_names pair_giving (0x02 ∷ 0x40 ∷ 0x41 ∷ 0x00 ∷ 0x0d ∷ 0x00 ∷ 0x04 ∷ 0x40 ∷ 0x0c ∷ 0x00 ∷ 0x0c ∷ 0x01 ∷ 0x0b ∷ 0x0b ∷ [])
     ≡ Some (Some (body_lines (
     codes "(block ;; label = @1"
@@ -215,20 +218,20 @@ labels_of_predicate : body no_names pair_giving (0x02 ∷ 0x40 ∷ 0x41 ∷ 0x00
 unfolding printing items node_pieces folded_pieces
 labels_of_predicate = refl
 
--- invented identifiers
+-- Synthesized identifiers
 labels_invented : body (record no_names { labels = λ f. label_naming true (λ n. None) }) pair_giving (0x02 ∷ 0x40 ∷ 0x02 ∷ 0x40 ∷ 0x0c ∷ 0x01 ∷ 0x0c ∷ 0x00 ∷ 0x0b ∷ 0x0b ∷ [])
     ≡ Some (Some (body_lines (codes "(block $#label0" ∷ codes "  (block $#label1" ∷ codes "    (br $#label0)" ∷ codes "    (br $#label1)))" ∷ [])))
 unfolding printing reading items node_pieces folded_pieces
 labels_invented = refl
 
--- two semicolons in a name are taken for a comment
+-- After a name with two adjacent semicolons the line ends, as after a comment.
 semicolons : body (naming (codes "a;;b")) pair_giving (0x20 ∷ 0x00 ∷ 0x20 ∷ 0x00 ∷ 0x1a ∷ [])
     ≡ Some (Some (body_lines (
     codes "(local.get $\"a;;b\"" ∷ codes ")" ∷ codes "(drop" ∷ codes "  (local.get $\"a;;b\"" ∷ codes "  ))" ∷ [])))
 unfolding printing reading items node_pieces folded_pieces
 semicolons = refl
 
--- two that stand apart are not
+-- After a name with two semicolons that are not adjacent it does not.
 apart : body (naming (codes ";a;")) pair_giving (0x20 ∷ 0x00 ∷ []) ≡ Some (Some (body_lines (codes "(local.get $\";a;\")" ∷ [])))
 unfolding printing reading items node_pieces folded_pieces
 apart = refl
@@ -243,14 +246,15 @@ hint_of_if : folded_by defaults (setting OverLines no_names) pair_giving (hint_a
 unfolding printing items node_pieces folded_pieces
 hint_of_if = refl
 
--- the hint of an operand, and then that of the operator
+-- The hints of an operand and of its operator, in the order of the bytes
 hints_of_operands : folded_by defaults (setting OverLines no_names) pair_giving (hint_at 3 ∷ hint_at 5 ∷ []) (0x41 ∷ 0x01 ∷ 0x41 ∷ 0x02 ∷ 0x6a ∷ [])
     ≡ Some (Some (body_lines (
     codes "(@metadata.code.branch_hint \"\\01\")" ∷ codes "(i32.add" ∷ codes "  (i32.const 1)" ∷ codes "  (@metadata.code.branch_hint \"\\01\")" ∷ codes "  (i32.const 2))" ∷ [])))
 unfolding printing items node_pieces folded_pieces
 hints_of_operands = refl
 
--- a hint has the place of its operator, a `then` that of the `if`, an `else` its own, as a parenthesis by itself that of what it closes
+-- A hint has the place of its operator, a `then` that of the `if`, and an `else` its own. A parenthesis on its own
+-- line has the place of the node that it closes.
 abbrev places : List (List ℕ)
 places =
     codes "(;@3     ;)    (@metadata.code.branch_hint \"\\01\")"
@@ -283,13 +287,14 @@ constants : map (constant no_names) (
 unfolding printing items node_pieces folded_pieces
 constants = refl
 
--- the label of the expression itself takes nothing
+-- A branch to the label of the expression itself takes no results.
 constant_branches : map (constant no_names) ((0x41 ∷ 0x00 ∷ 0x0d ∷ 0x00 ∷ []) ∷ (0x41 ∷ 0x00 ∷ 0xd6 ∷ 0x00 ∷ []) ∷ (0x41 ∷ 0x00 ∷ 0x0f ∷ []) ∷ [])
     ≡ Some (Some (codes "(br_if 0 (i32.const 0))")) ∷ Some (Some (codes "(i32.const 0) (br_on_non_null 0)")) ∷ Some (Some (codes "(i32.const 0) (return)")) ∷ []
 unfolding printing items node_pieces folded_pieces
 constant_branches = refl
 
--- also here a line breaks behind two semicolons, so deep as the node would stand over lines
+-- In a constant expression too, a line ends after two semicolons. The next line is indented as the node would be
+-- over several lines.
 constant_semicolons : map (constant (naming (codes "a;;b"))) ((0x23 ∷ 0x00 ∷ []) ∷ (0x23 ∷ 0x00 ∷ 0x45 ∷ []) ∷ [])
     ≡ Some (Some (codes "(global.get $\"a;;b\"\n    )")) ∷ Some (Some (codes "(i32.eqz (global.get $\"a;;b\"\n      ))")) ∷ []
 unfolding printing reading items node_pieces folded_pieces

@@ -1,4 +1,5 @@
--- Worked rows of annotations and groups (section 6.2 of the standard, "Annotations"), and of texts that have no groups at all.
+-- Worked rows of annotations and groups (section 6.2 of the standard, "Annotations"), and of texts that have no
+-- groups.
 use Rattle.std.specs.Prelude.{◌≡◌, ℕ, List, [], ◌∷◌, ◌++◌, codes, Option, Some, None, option_map, refl}
 use Rattle.std.specs.Char.{encode_utf8}
 use Rattle.std.specs.Str.{is_utf8, chars}
@@ -7,7 +8,7 @@ use Rattle.wasmprinter_spec.specs.Numeral.{numeral}
 use Rattle.wasmprinter_spec.specs.Token.{escape, lex}
 use Rattle.wasmprinter_spec.specs.Forest.{Forest, End, Word, Name, String, Reserved, Group, Note, forest, without_annotations, customs}
 
--- what is left where annotations are cut out
+-- The groups of a text without its annotations
 abbrev without_notes : List ℕ → Option Forest
 without_notes text = option_map without_annotations (forest text)
 
@@ -54,7 +55,7 @@ sign_notes : without_notes (codes "(@a) (@aas-3!@$d-@#4) (@@) (@$) (@+) (@0) (@.
 unfolding lex class
 sign_notes = refl
 
--- any tokens may stand in them, also those that mean nothing
+-- Annotations may contain any tokens, even reserved ones.
 reserved_in_note : without_notes (codes "(@a , ; ] [ }} }x{ ({) ,{{};}] ;)") ≡ Some End
 unfolding lex class
 reserved_in_note = refl
@@ -71,19 +72,19 @@ comments_in_note : without_notes (codes "(@a (; ) ;) b ;; )\n c) d") ≡ Some (W
 unfolding lex class
 comments_in_note = refl
 
--- fields of a `producers` section that are called $ and @
+-- Fields of a `producers` section with the names $ and @
 odd_names_in_note : without_notes (codes "(@producers ($ \"x\" \"1\") (@ \"x\" \"1\"))") ≡ Some End
 unfolding lex class
 odd_names_in_note = refl
 
--- ---- no annotations
+-- ---- texts that are no annotations
 
--- a blank behind the sign, or a name without characters
+-- A space after the sign, and an empty name
 unnamed_notes : without_notes (codes "(@ a) (@) (@\"\")") ≡ Some (Group (Reserved (Word (codes "a") End)) (Group (Reserved End) (Group (Reserved End) End)))
 unfolding lex class is_utf8 chars encode_utf8
 unnamed_notes = refl
 
--- a blank in front of the sign
+-- A space before the sign
 parted_note : forest (codes "( @a)") ≡ Some (Group (Word (codes "@a") End) End)
 unfolding lex class
 parted_note = refl
@@ -98,7 +99,7 @@ quoted_custom : customs_of (codes "(module (@\"custom\" \"a\"))") ≡ Some (Stri
 unfolding lex class is_utf8 chars encode_utf8
 quoted_custom = refl
 
--- in another annotation, in another group, beside the module, or of another name
+-- In another annotation, in another group, outside the module, and with another name
 inner_customs : customs_of (codes "(module (@producers (@custom \"a\" \"b\")) (func (type 0) (@custom \"a\")) (@custom2 \"a\") (@ custom \"a\")) (@custom \"a\")") ≡ Some []
 unfolding lex class
 inner_customs = refl
@@ -165,7 +166,7 @@ beyond_in_braces : forest (codes "\"\\u{110000}\"") ≡ None
 unfolding lex class escape numeral
 beyond_in_braces = refl
 
--- also in an annotation
+-- The same inside an annotation
 wrong_in_note : forest (codes "(@a \"\\x\")") ≡ None
 unfolding lex class escape
 wrong_in_note = refl

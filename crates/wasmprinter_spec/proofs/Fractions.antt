@@ -1,5 +1,5 @@
--- The hexadecimal digits of a fraction, and how far one is shifted to a leading 1. The laws of floats and the code that writes them both
--- stand on these lemmas.
+-- The hexadecimal digits of a fraction, and the shift that gives a fraction a leading 1. The laws of floats and
+-- the code that writes floats both use these lemmas.
 use Rattle.std.proofs.Common.{◌≡◌, ℕ, zero, suc, ◌+◌, ◌*◌, ◌^◌, ◌-◌, ◌<◌, ◌≤◌, refl, sym, ap, ◌∙◌, subst, arith, pow_pos, pow-add, pow-suc, mul-lt-mul_of_pos_right, mul-le-mul_right, le-mul_of_pos_right, mul_assoc, lit<, ⊎_elim, Bool, true, false, cond, ltb, ltb-true, ltb-false}
 use Rattle.std.proofs.Math.Nat.{pow-le-pow_right}
 use Rattle.std.proofs.lemmas.Bool.{cases_lt}
@@ -12,7 +12,7 @@ power_16 (suc k) =
     let four : 4 * suc k ≡ 4 * k + 4 = omega arith in
     pow-suc 16 k ∙ ap (λ t. t * 16) (power_16 k) ∙ sym (pow-add 2 (4 * k) 4) ∙ ap (λ t. 2 ^ t) (sym four)
 
--- the whole digits of a fraction hold its bits, and what fills them up
+-- All digits of a fraction hold exactly its bits and the bits that fill up the last digit.
 pub digits_hold : (w : Width) → 16 ^ digit_count w ≡ 2 ^ w.fraction * 2 ^ (4 * digit_count w - w.fraction)
 digits_hold w =
     let room : 4 * digit_count w ≡ w.fraction + (4 * digit_count w - w.fraction) = omega arith in
@@ -22,7 +22,7 @@ pub filled_fraction-below : (w : Width) (fraction : ℕ) → fraction < 2 ^ w.fr
 filled_fraction-below w fraction h =
     subst (λ (t : ℕ). filled_fraction w fraction < t) (sym (digits_hold w)) (mul-lt-mul_of_pos_right h (pow_pos (4 * digit_count w - w.fraction)))
 
--- shifted up by k, n lies from the limit on and below its double
+-- If `n` is shifted up by `k`, it is at least the limit and less than twice the limit.
 pub record IsShift (limit n k : ℕ) : Type 0 where
   pub low : limit ≤ n * 2 ^ k
   pub high : n * 2 ^ k < 2 * limit
@@ -44,7 +44,7 @@ doublings-IsShift (suc most) limit n low high =
         record { low = omega (arith, d.low); high = omega (arith, d.high) }
     by false e more = let not_less : limit ≤ n = ltb-false n limit e in record { low = omega arith; high = omega arith }
 
--- a fraction that is not 0 has a leading 1 within its bits
+-- Every fraction other than 0 that fits its bits is shifted so that its leading 1 is just above these bits.
 pub shift-IsShift : (w : Width) (fraction : ℕ) → 0 < fraction → fraction < 2 ^ w.fraction → IsShift (2 ^ w.fraction) fraction (shift w fraction)
 shift-IsShift w fraction some h =
     let enough : 2 ^ w.fraction ≤ fraction * 2 ^ w.fraction = omega (arith, le-mul_of_pos_right (2 ^ w.fraction) some) in
@@ -54,7 +54,7 @@ pub shifted_fraction-below : (w : Width) (fraction : ℕ) → 0 < fraction → f
 shifted_fraction-below w fraction some h =
     let d : IsShift (2 ^ w.fraction) fraction (shift w fraction) = shift-IsShift w fraction some h in omega (arith, d.low, d.high)
 
--- there is one such shift
+-- There is only one such shift.
 not_further : (limit n k l : ℕ) → 0 < limit → IsShift limit n k → IsShift limit n l → k < l → ⊥
 not_further limit n k l some a b less =
     let apart : n * 2 ^ l ≡ n * 2 ^ (suc k) * 2 ^ (l - suc k) =
@@ -72,7 +72,7 @@ IsShift-unique limit n k l some a b = ⊎_elim
     (cases_lt l k))
     (cases_lt k l)
 
--- the place of the highest bit gives it
+-- The position of the highest bit determines the shift.
 pub shift-highest_bit : (w : Width) (fraction top : ℕ) → 0 < fraction → fraction < 2 ^ w.fraction → 2 ^ top ≤ fraction → fraction < 2 * 2 ^ top →
     top < w.fraction → w.fraction - top ≡ shift w fraction
 shift-highest_bit w fraction top some h low high less =
@@ -84,7 +84,7 @@ shift-highest_bit w fraction top some h low high less =
     let is : IsShift (2 ^ w.fraction) fraction k = record { low = omega arith; high = omega arith } in
     IsShift-unique (2 ^ w.fraction) fraction k (shift w fraction) (pow_pos w.fraction) is (shift-IsShift w fraction some h)
 
--- and lies within the fraction
+-- The highest bit is within the fraction.
 pub highest_bit-within : (bits fraction top : ℕ) → fraction < 2 ^ bits → 2 ^ top ≤ fraction → top < bits
 highest_bit-within bits fraction top h low = ⊎_elim
     (λ (l : top < bits). l)

@@ -8,10 +8,10 @@ use Rattle.wasmprinter_spec.specs.IndexSpaces.{Context}
 use Rattle.wasmprinter_spec.specs.Text.Operators.{read_operators}
 use Rattle.wasmprinter_spec.proofs.Samples.{no_spaces}
 
--- those of a text beside these index spaces and types
+-- The operators of a text, read with these index spaces and types
 abbrev pub operators_beside : Context → List ℕ → Option (List Operator)
 operators_beside c text = forest text >>= λ f. chunks_of_forest (without_annotations f) >>= read_operators c
 
--- those of code that names nothing
+-- The operators of a text that names no item
 abbrev pub read_back : List ℕ → Option (List Operator)
 read_back text = operators_beside (record { spaces = no_spaces; signature = λ n. None; fields = λ n. [] }) text

@@ -1,4 +1,4 @@
--- What stands behind the word of an operator stays on its line.
+-- The pieces after the word of an operator begin no line.
 use Rattle.std.proofs.Common.{ℕ, suc, ◌==◌, ◌&&◌, ◌||◌, List, [], ◌∷◌, Bool, true, false, Option, Some, None, refl, codes, length}
 use Rattle.wasmprinter_spec.specs.Types.{ValType, ref_type}
 use Rattle.wasmprinter_spec.specs.Operator.{BlockType, Empty, Value, OfType, Catch, One, OneRef, All, AllRef, MemArg, Immediates, Block, TryTable, Index, Indices, BranchTable, Types, Heap, Cast, Memory, MemoryLane, Lane, I32, I64, F32, F64, Bytes}

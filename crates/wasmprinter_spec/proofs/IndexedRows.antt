@@ -16,7 +16,7 @@ use Rattle.wasmprinter_spec.proofs.Samples.{func, local_get, local_set, call, dr
 empty_indexed : IsIndexed empty
 empty_indexed = record { types = tt; functions = tt; imports = tt; tables = tt; tags = tt; globals = tt; exports = tt; start = tt; elements = tt; datas = tt }
 
--- a function type in which each type is declared
+-- A function type has declared indices if all its parameters and results do.
 plain_func : {n : ℕ} {ps rs : List ValType} → AllByRecursion (IsDeclaredVal n) ps → AllByRecursion (IsDeclaredVal n) rs → IsDeclaredSub n (func ps rs)
 plain_func params results = record { supertypes = tt; composite = record { params = params; results = results } }
 
@@ -50,7 +50,7 @@ stored_indexed = record {
   datas = tt;
 }
 
--- two types, and a function with one local under a name
+-- A module with two types, and a function with one local that is exported
 abbrev calling : ℕ → List Operator → ℕ → Module
 calling type os exported = record empty {
   types = (func (I32 ∷ []) [] ∷ []) ∷ (func [] [] ∷ []) ∷ [];
@@ -58,7 +58,7 @@ calling type os exported = record empty {
   exports = record { name = codes "f"; kind = FuncKind; index = exported } ∷ [];
 }
 
--- parameters and locals are one space
+-- Parameters and locals share one index space.
 last_indices : IsIndexed (calling 0 (local_get 1 ∷ local_set 1 ∷ call 0 ∷ []) 0)
 unfolding table
 last_indices = record {
@@ -111,9 +111,9 @@ no_such_callee i = omega (arith, i.functions.0.operators.0)
 no_such_function : IsIndexed (calling 0 [] 1) → ⊥
 no_such_function i = omega (arith, i.exports.0)
 
--- ---- immediates of each shape, and others
+-- ---- immediates of each shape, and immediates of another shape
 
--- a function over i32 with a local whose body is one operator
+-- A function with an i32 parameter and a local, whose body is one operator
 abbrev one_operator : Opcode → Immediates → Module
 one_operator o i = calling 0 (record { opcode = o; immediates = i } ∷ []) 0
 
@@ -170,7 +170,7 @@ unlisted_prefix i = i.functions.0.operators.0
 
 -- ---- block types, labels and tags
 
--- the last type, and a branch that leads nowhere
+-- The last type as a block type, and a branch whose label does not exist
 blocks_indexed : IsIndexed (calling 0 (made 0x02 (Block (OfType 1)) ∷ made 0x0c (Index 9) ∷ made 0x0b NoImmediates ∷ made 0x03 (Block (Value I32)) ∷ made 0x0e (BranchTable (4294967295 ∷ []) 7) ∷ made 0x0b NoImmediates ∷ []) 0)
 unfolding table
 blocks_indexed = record {
@@ -209,7 +209,7 @@ no_such_try_table_type : IsIndexed (one_operator (opcode 0 0x1f) (TryTable (OfTy
 unfolding table
 no_such_try_table_type i = let (block, catches) = i.functions.0.operators.0 in block
 
--- no tag is declared
+-- No tag is declared.
 no_such_tag : IsIndexed (one_operator (opcode 0 0x08) (Index 0)) → ⊥
 unfolding table
 no_such_tag i = omega (arith, i.functions.0.operators.0)
@@ -252,7 +252,7 @@ tab_and_blank = (inr refl, (inl refl, tt))
 no_indent : IsBlank []
 no_indent = tt
 
--- ---- each shape has immediates that are declared, where each index space holds something
+-- ---- for each shape, immediates that are declared if each index space holds an item
 
 abbrev immediates_of : Shape → Immediates
 immediates_of NoneShape = NoImmediates

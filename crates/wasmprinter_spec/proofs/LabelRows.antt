@@ -1,4 +1,4 @@
--- Worked rows of labels with identifiers: those of a name section, and invented ones. Each text reads back.
+-- Worked rows of labels with identifiers, both those of a name section and synthesized ones. Each text reads back.
 use Rattle.std.specs.Prelude.{◌≡◌, ℕ, List, [], ◌∷◌, map, ◌==◌, cond, true, false, codes, slice_get, Some, None, refl}
 use Rattle.std.specs.Fmt.{digits}
 use Rattle.std.specs.Char.{encode_utf8}
@@ -28,18 +28,18 @@ abbrev printed : LabelNaming → List Operator → List ℕ
 printed naming os =
     text_of (all_calls defaults (expression_pieces (record { form = OverLines; signature = λ n. None; nesting = 2; names = record no_names { labels = λ f. naming }; function = 0; body = 0 }) (map (λ o. record { place = 0; value = o }) os)))
 
--- the first labels have these names, and all others none
+-- The first labels have these names; the other labels have none.
 abbrev named : List (List ℕ) → LabelNaming
 named ns = label_naming false (slice_get ns)
 
--- label n alone has a name
+-- Only label `n` has a name.
 abbrev one_named : ℕ → List ℕ → LabelNaming
 one_named n s = label_naming false (λ i. cond (i == n) (Some s) None)
 
 abbrev invented : LabelNaming
 invented = label_naming true (λ n. None)
 
--- ---- one name twice
+-- ---- one name for two labels
 
 abbrev both : List Operator
 both = block Empty ∷ block Empty ∷ br 1 ∷ br 0 ∷ end ∷ end ∷ []
@@ -55,7 +55,7 @@ shadowed_reads : read_back both_lines ≡ Some both
 unfolding lex class escape numeral natural table head is_utf8 chars encode_utf8
 shadowed_reads = refl
 
--- behind the inner block the name is the outer block's again
+-- After the inner block, the name means the outer block again.
 abbrev between : List Operator
 between = block Empty ∷ br 0 ∷ block Empty ∷ block Empty ∷ br_table (0 ∷ 1 ∷ 2 ∷ 3 ∷ []) 4 ∷ end ∷ br 1 ∷ end ∷ br 0 ∷ br 1 ∷ end ∷ []
 
@@ -82,7 +82,7 @@ shadowed_for_a_while_reads : read_back between_lines ≡ Some between
 unfolding lex class escape numeral natural table head is_utf8 chars encode_utf8
 shadowed_for_a_while_reads = refl
 
--- ---- labels outside the block
+-- ---- labels that are resolved outside the block
 
 abbrev delegated : List Operator
 delegated = try_op Empty ∷ delegate 0 ∷ block Empty ∷ br 0 ∷ br 1 ∷ end ∷ []
@@ -98,7 +98,8 @@ label_goes_with_delegate_reads : read_back delegated_lines ≡ Some delegated
 unfolding lex class escape numeral natural table head is_utf8 chars encode_utf8
 label_goes_with_delegate_reads = refl
 
--- the label of a `try` hides those of its name from its `delegate`, that of a `try_table` doesn't from its clauses
+-- The label of a `try` hides an outer label of the same name from its `delegate`. The label of a `try_table` does
+-- not hide one from its clauses.
 abbrev hiding : List Operator
 hiding =
     block Empty ∷ try_op Empty ∷ delegate 0 ∷ try_op Empty ∷ delegate 0 ∷ try_table (Value types.I32) (All 0 ∷ AllRef 1 ∷ All 2 ∷ []) ∷ br 0 ∷ br 1 ∷ end ∷ end ∷ []
@@ -125,9 +126,9 @@ hides_from_delegate_reads : read_back hiding_lines ≡ Some hiding
 unfolding lex class escape numeral natural number_of_word table head is_utf8 chars encode_utf8
 hides_from_delegate_reads = refl
 
--- ---- names that are no identifiers
+-- ---- names that cannot be identifiers
 
--- What hides a label is the name that it was given, though the identifiers differ.
+-- A label is hidden by an inner label with the same given name, even if their identifiers differ.
 abbrev empty_lines : List ℕ
 empty_lines = body_lines (
     codes "block $\"#label0 \" (@name \"\")"
@@ -146,7 +147,7 @@ empty_names_read : read_back empty_lines ≡ Some both
 unfolding lex class escape numeral natural table head is_utf8 chars encode_utf8
 empty_names_read = refl
 
--- a sign # in front; characters that no identifier has in its text; names of several bytes
+-- A name that begins with #, names with characters that an identifier must quote, and names of several bytes
 abbrev strange : List Operator
 strange = block Empty ∷ loop Empty ∷ if_op Empty ∷ br 0 ∷ br 1 ∷ br 2 ∷ else_op ∷ end ∷ end ∷ end ∷ []
 
@@ -185,9 +186,9 @@ second_named_reads : read_back mixed_lines ≡ Some both
 unfolding lex class escape numeral natural table head is_utf8 chars encode_utf8
 second_named_reads = refl
 
--- ---- invented identifiers
+-- ---- synthesized identifiers
 
--- by how many blocks stand around; the body itself has none
+-- An identifier contains the number of enclosing blocks. The body itself has no identifier.
 abbrev invented_lines : List ℕ
 invented_lines = body_lines (codes "try $#label0" ∷ codes "delegate 0" ∷ codes "block $#label0" ∷ codes "  br $#label0" ∷ codes "  br 1" ∷ codes "end" ∷ [])
 
@@ -206,7 +207,7 @@ invented_deeper : printed invented both ≡ deep_lines
 unfolding composing repetition_of digits table is_utf8 encode_utf8 chars class identifier_text quoted_text char_text
 invented_deeper = refl
 
--- a name beside invented identifiers
+-- A given name among synthesized identifiers
 abbrev partly_lines : List ℕ
 partly_lines =
     body_lines (codes "block $#label0" ∷ codes "  block $\"#label1 #label0\" (@name \"#label0\")" ∷ codes "    br $#label0" ∷ codes "    br $\"#label1 #label0\" (@name \"#label0\")" ∷ codes "  end" ∷ codes "end" ∷ [])

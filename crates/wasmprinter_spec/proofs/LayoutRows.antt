@@ -1,4 +1,4 @@
--- Worked rows of the layout: the text and the calls that single modules give.
+-- Worked rows of the layout: the texts and the calls of single modules.
 use Rattle.std.specs.Prelude.{◌≡◌, ℕ, List, [], ◌∷◌, ◌++◌, true, codes, replicate, Option, Some, None, refl}
 use Rattle.std.specs.Fmt.{digits}
 use Rattle.std.specs.Str.{chars}
@@ -20,7 +20,7 @@ all_calls o m = layout o unclaimed m
 abbrev with_offsets : Options
 with_offsets = record defaults { offsets = true }
 
--- the places of the calls that begin lines
+-- The places of the `Line` calls
 abbrev line_places : List Call → List (Option ℕ)
 line_places [] = []
 line_places (Line place ∷ cs) = place ∷ line_places cs
@@ -40,7 +40,7 @@ empty_calls : atoms (all_calls defaults empty_placed) ≡ atoms (Line (Some 0) �
 unfolding composing
 empty_calls = refl
 
--- ---- a function under a name
+-- ---- an exported function
 
 identity_plain : text_by defaults identity_placed ≡ identity_text
 unfolding composing repetition_of digits table char_text quoted_text chars
@@ -98,7 +98,7 @@ stored_line_places = refl
 
 -- ---- all calls
 
--- atoms keep each call but how text is cut
+-- `atoms` keeps each call, but not how text is split.
 atoms_of_calls : atoms (Text (codes "ab") ∷ Newline ∷ Text [] ∷ Line None ∷ Start Name ∷ Claim (codes "n") 9 (1 ∷ []) true ∷ Text (codes "c") ∷ [])
     ≡ Text (codes "a") ∷ Text (codes "b") ∷ Newline ∷ Line None ∷ Start Name ∷ Claim (codes "n") 9 (1 ∷ []) true ∷ Text (codes "c") ∷ []
 atoms_of_calls = refl
@@ -141,12 +141,13 @@ stored_all_calls = refl
 
 -- ---- several types, functions, locals and results
 
--- locals of all entries on one line, whose place is that of the first entry that declares one; no signature of a type that isn't there
+-- The locals of all entries are on one line, with the place of the first entry that declares a local. A type that
+-- does not exist has no signature.
 mixed_plain : text_by defaults mixed_placed ≡ mixed_text
 unfolding composing repetition_of digits table char_text quoted_text chars
 mixed_plain = refl
 
--- with offsets the parentheses of functions close on lines of their own
+-- With offsets, the closing parentheses of functions are on lines of their own.
 mixed_line_places : line_places (all_calls with_offsets mixed_placed) ≡
     Some 0 ∷ Some 0xb ∷ Some 0xe ∷ Some 0x1e ∷ Some 0x24
     ∷ Some 0x2b ∷ Some 0x2c
@@ -156,9 +157,9 @@ mixed_line_places : line_places (all_calls with_offsets mixed_placed) ≡
 unfolding composing table
 mixed_line_places = refl
 
--- ---- beginnings of lines
+-- ---- starts of lines
 
--- a place of more than six digits
+-- A place of more than six digits
 long_place : place_text (Some 0xabcdef0) ≡ codes "(;@abcdef0;)"
 unfolding place_text left_in digits
 long_place = refl
@@ -167,7 +168,7 @@ no_place : text with_offsets (Break None 2) ≡ codes "\n               "
 unfolding place_text repetition_of
 no_place = refl
 
--- no more than fifty levels are indented
+-- At most fifty levels are indented.
 deep_line : text defaults (Break (Some 0x10) 60) ≡ 10 ∷ replicate 100 32
 unfolding repetition_of
 deep_line = refl
@@ -176,7 +177,7 @@ other_indent : text (record defaults { indent = codes "\t." }) (Break None 3) �
 unfolding repetition_of
 other_indent = refl
 
--- ---- quotes
+-- ---- quoted strings
 
 plain_characters : quoted_text (codes " !#$%&'()[]{}~aZ09;@") ≡ codes "\" !#$%&'()[]{}~aZ09;@\""
 unfolding quoted_text char_text
@@ -186,7 +187,7 @@ escaped_characters : quoted_text (0x1b ∷ 0xe9 ∷ 0x22 ∷ 0x5c ∷ 0x1f ∷ 0
 unfolding quoted_text char_text digits
 escaped_characters = refl
 
--- bytes are no characters
+-- Bytes beyond ASCII are escaped one by one, not as characters.
 escaped_high_bytes : quoted_bytes (0x20 ∷ 0x5c ∷ 0x7e ∷ 0x7f ∷ 0xc3 ∷ 0xa9 ∷ 0xff ∷ []) ≡ codes "\" \\5c~\\7f\\c3\\a9\\ff\""
 unfolding quoted_bytes byte_text
 escaped_high_bytes = refl

@@ -1,4 +1,5 @@
--- Worked rows of LEB128 (section 5.2 of the standard, "Integers"): what single lists of bytes spell, and which spell no number.
+-- Worked rows of LEB128 (section 5.2 of the standard, "Integers"): what single lists of bytes encode, and which
+-- encode no number.
 use Rattle.std.specs.Prelude.{◌≡◌, ℕ, ℤ, pos, neg_ℤ, List, [], ◌∷◌, ◌++◌, replicate, Option, Some, None, refl}
 use Rattle.wasmprinter_spec.specs.Grammar.{Input, input}
 use Rattle.wasmprinter_spec.specs.Leb.{unsigned, signed}
@@ -14,7 +15,7 @@ signed_in bits bytes = (signed bits).parse (input 0 bytes)
 unsigned_zero : unsigned_in 32 (0x00 ∷ []) ≡ Some (0, input 1 [])
 unsigned_zero = refl
 
--- what stands behind the number is left
+-- The bytes after the number remain.
 unsigned_rest : unsigned_in 32 (0xe5 ∷ 0x8e ∷ 0x26 ∷ 0x80 ∷ []) ≡ Some (624485, input 3 (0x80 ∷ []))
 unsigned_rest = refl
 
@@ -71,7 +72,7 @@ signed_32_beyond = refl
 signed_32_below : signed_in 32 (0xff ∷ 0xff ∷ 0xff ∷ 0xff ∷ 0x77 ∷ []) ≡ None
 signed_32_below = refl
 
--- the bits that there is no room for don't repeat the sign
+-- The unused bits of the last byte do not repeat the sign.
 signed_32_positive_sign : signed_in 32 (0xff ∷ 0xff ∷ 0xff ∷ 0xff ∷ 0x0f ∷ []) ≡ None
 signed_32_positive_sign = refl
 

@@ -1,5 +1,5 @@
--- Worked rows of lines: text before the first line belongs to none, styles and claims leave no trace, and a
--- line ends where the next begins.
+-- Worked rows of lines: text before the first line belongs to no line, styles and claims do not occur in lines,
+-- and a line ends where the next one begins.
 use Rattle.std.specs.Prelude.{◌≡◌, List, [], ◌∷◌, ◌++◌, codes, true, false, Some, None, refl}
 use Rattle.wasmprinter_spec.specs.Call.{Call, Text, Newline, Line, Start, Claim, Keyword, Reset, text_of}
 use Rattle.wasmprinter_spec.specs.Lines.{text_before_line, lines_of, joined_lines}

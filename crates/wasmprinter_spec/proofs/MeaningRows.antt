@@ -1,4 +1,4 @@
--- Worked rows of a count of faults: it rises by one, up to its greatest value, and stays there.
+-- Worked rows of the count of failures: it increases by one, up to its greatest value, and then stays there.
 use Rattle.std.specs.Prelude.{◌≡◌, [], ◌∷◌, map, Some, None, refl}
 use Rattle.wasmprinter_spec.specs.Meaning.{one_more}
 

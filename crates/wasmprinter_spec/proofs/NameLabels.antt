@@ -1,4 +1,4 @@
--- What the entries of name sections name a label is what the text names it.
+-- The name that entries of name sections give a label is the name that the text uses for it.
 use Rattle.std.specs.Prelude.{◌≡◌, ℕ, List, [], ◌∷◌, ◌++◌, Bool, true, false, not, ◌||◌, ◌&&◌, nat_eq, codes, decimal, cond, Option, Some, None, if◌then◌else◌, refl}
 use Rattle.std.proofs.Common.{ap, sym}
 use Rattle.std.proofs.lemmas.Bool.{eqb-true}
@@ -9,12 +9,12 @@ use Rattle.wasmprinter_spec.specs.Names.Section.{Entry, label_subsection}
 use Rattle.wasmprinter_spec.specs.Names.Content.{is_among, content, entry_name, last_name, entries_in, name_of}
 use Rattle.wasmprinter_spec.specs.Names.{names_of}
 
--- the name of a label; one without a name is called by how many blocks stand around it, or not at all
+-- The name of a label. A label without a name gets one by the number of enclosing blocks, or none.
 abbrev pub or_label : Bool → ℕ → ℕ → Option Named → Label
 or_label invents i d None = label_named invents i d None
 or_label invents i d (Some n) = Some n
 
--- the name is one of the label
+-- The label has this name.
 abbrev IsOfLabel : ℕ → Option Named → Type 0
 IsOfLabel i o = (invents : Bool) (d : ℕ) → label_named invents i d (o >>= λ n. n.given) ≡ or_label invents i d o
 

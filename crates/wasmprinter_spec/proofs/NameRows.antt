@@ -1,4 +1,4 @@
--- Worked rows of name sections: what their data gives, and what stands behind the dollar sign.
+-- Worked rows of name sections: the entries of their data, and the identifiers of the text.
 use Rattle.std.specs.Prelude.{◌≡◌, ℕ, List, [], ◌∷◌, ◌++◌, length, true, false, codes, Option, Some, None, refl}
 use Rattle.std.specs.Fmt.{digits}
 use Rattle.std.specs.Char.{encode_utf8}
@@ -10,15 +10,15 @@ use Rattle.wasmprinter_spec.specs.Names.Section.{Entry, subsections, label_subse
 use Rattle.wasmprinter_spec.specs.Names.Content.{name_of}
 use Rattle.wasmprinter_spec.specs.Names.{Names, names_of, identifiers}
 
--- the entries that the data gives, and where reading stands behind them
+-- The entries that the data gives, and the position at which reading stops, if it had no error
 abbrev read : List ℕ → List Entry × Option Input
 read bytes = (subsections (length bytes)).read (input 0 bytes)
 
--- the identifiers of a module with one name section
+-- The identifiers of a module with one name section
 abbrev names : List ℕ → Names
 names bytes = names_of false (read bytes).0
 
--- the same, and made up for all else
+-- The same, with identifiers synthesized for all other items
 abbrev names_for_all : List ℕ → Names
 names_for_all bytes = names_of true (read bytes).0
 
@@ -30,7 +30,7 @@ named given content = Some (record { given = Some given; content = content })
 
 -- ---- names of functions
 
--- 0 `a`, 1 `a`, 2 empty, 3 `#x`, 0 again, now `b`, 4 `a`, and a byte that is left over
+-- Function names: 0 `a`, 1 `a`, 2 empty, 3 `#x`, 0 again, now `b`, 4 `a`; and an unused byte
 abbrev functions : List ℕ
 functions = codes "\u{1}\u{14}\u{6}\0\u{1}a\u{1}\u{1}a\u{2}\0\u{3}\u{2}#x\0\u{1}b\u{4}\u{1}a\u{7}"
 
@@ -51,27 +51,27 @@ functions_all_named : identifiers ((names_for_all functions).items Func) 6 ≡
 unfolding is_utf8 chars encode_utf8 digits
 functions_all_named = refl
 
--- the name that was given stays what it was
+-- The given name is kept beside the identifier.
 given_name_stays : (names functions).items Func 1 ≡ named (codes "a") (codes "#func1 a")
 unfolding is_utf8 chars encode_utf8 digits
 given_name_stays = refl
 
--- names of functions name nothing else
+-- Names of functions do not name items of other spaces.
 tables_unnamed : identifiers ((names functions).items Table) 2 ≡ None ∷ None ∷ []
 unfolding is_utf8 chars encode_utf8
 tables_unnamed = refl
 
--- one index is given one name twice
+-- The same name for one index twice
 given_again : (names (codes "\u{1}\u{7}\u{2}\0\u{1}a\0\u{1}a")).items Func 0 ≡ named (codes "a") (codes "#func0 a")
 unfolding is_utf8 chars encode_utf8 digits
 given_again = refl
 
--- a name that was replaced still counts as given
+-- A name that was replaced still counts as given.
 replaced : identifiers ((names (codes "\u{1}\n\u{3}\0\u{1}a\0\u{1}b\u{1}\u{1}a")).items Func) 2 ≡ Some (codes "b") ∷ Some (codes "#func1 a") ∷ []
 unfolding is_utf8 chars encode_utf8 digits
 replaced = refl
 
--- a name that looks like an identifier made up
+-- A name that looks like a synthesized identifier
 like_made_up : (names_for_all (codes "\u{1}\t\u{1}\u{1}\u{6}#func0")).items Func 1 ≡ named (codes "#func0") (codes "#func1 #func0")
 unfolding is_utf8 chars encode_utf8 digits
 like_made_up = refl
@@ -80,15 +80,15 @@ two_subsections : identifiers ((names (codes "\u{1}\u{4}\u{1}\0\u{1}a\u{1}\u{4}\
 unfolding is_utf8 chars encode_utf8 digits
 two_subsections = refl
 
--- function 0 is `a`; in a second section 0 is `b` and 1 is `a`
+-- Function 0 is `a`. In a second section, 0 is `b` and 1 is `a`.
 two_sections : identifiers ((names_of false ((read (codes "\u{1}\u{4}\u{1}\0\u{1}a")).0 ++ (read (codes "\u{1}\u{7}\u{2}\0\u{1}b\u{1}\u{1}a")).0)).items Func) 2
     ≡ Some (codes "b") ∷ Some (codes "#func1 a") ∷ []
 unfolding is_utf8 chars encode_utf8 digits
 two_sections = refl
 
--- ---- names of all else
+-- ---- names of other items
 
--- locals 0 and 1 of function 1, local 0 of function 4, all of one name
+-- Locals 0 and 1 of function 1 and local 0 of function 4, with the same name
 abbrev locals : List ℕ
 locals = codes "\u{2}\u{e}\u{2}\u{1}\u{2}\0\u{1}x\u{1}\u{1}x\u{4}\u{1}\0\u{1}x"
 
@@ -104,7 +104,7 @@ locals_of_none : (names locals).locals 0 0 ≡ None
 unfolding is_utf8 chars encode_utf8
 locals_of_none = refl
 
--- field 0 of type 0 and of type 3
+-- Field 0 of type 0 and field 0 of type 3
 abbrev fields : List ℕ
 fields = codes "\n\u{b}\u{2}\0\u{1}\0\u{1}f\u{3}\u{1}\0\u{1}f"
 
@@ -116,7 +116,7 @@ fields_of_another : identifiers ((names_for_all fields).fields 3) 2 ≡ Some (co
 unfolding is_utf8 chars encode_utf8 digits
 fields_of_another = refl
 
--- labels 0 and 1 of function 0 have one name, label 2 an empty one
+-- Labels 0 and 1 of function 0 have the same name. Label 2 has an empty name.
 abbrev labels : List ℕ
 labels = codes "\u{3}\u{b}\u{1}\0\u{3}\0\u{1}a\u{1}\u{1}a\u{2}\0"
 
@@ -128,17 +128,17 @@ label_of_no_bytes : (names labels).labels 0 2 5 ≡ named [] (codes "#label2 ")
 unfolding is_utf8 chars encode_utf8 digits
 label_of_no_bytes = refl
 
--- by how many blocks stand around it
+-- A synthesized label contains the number of enclosing blocks.
 label_made_up : (names_for_all labels).labels 0 3 5 ≡ Some (record { given = None; content = codes "#label5" })
 unfolding is_utf8 chars encode_utf8 digits
 label_made_up = refl
 
--- what the entries name a label is what the text names it
+-- The name that the entries give a label is the name that the text uses for it.
 label_by_entries : name_of (read labels).0 label_subsection 0 2 ≡ (names labels).labels 0 2 5
 unfolding is_utf8 chars encode_utf8 digits
 label_by_entries = refl
 
--- the module has one name twice, which doesn't count
+-- The module is given the same name twice, and keeps it.
 module_twice : (names (codes "\0\u{2}\u{1}m\0\u{2}\u{1}m")).module_name ≡ named (codes "m") (codes "m")
 unfolding is_utf8 chars encode_utf8
 module_twice = refl
@@ -147,7 +147,7 @@ module_without_letters : (names (codes "\0\u{1}\0")).module_name ≡ named [] (c
 unfolding is_utf8 chars encode_utf8 digits
 module_without_letters = refl
 
--- an item of each space
+-- An item of each space
 abbrev spaces : List ℕ
 spaces = codes "\u{4}\u{4}\u{1}\0\u{1}t\u{5}\u{4}\u{1}\0\u{1}t\u{6}\u{4}\u{1}\0\u{1}t\u{7}\u{4}\u{1}\0\u{1}t\u{8}\u{4}\u{1}\0\u{1}t\t\u{4}\u{1}\0\u{1}t\u{b}\u{4}\u{1}\0\u{1}t"
 
@@ -158,7 +158,7 @@ spaces_named : identifiers ((names spaces).items Types) 1 ++ identifiers ((names
 unfolding is_utf8 chars encode_utf8
 spaces_named = refl
 
--- identifiers made up where no name is given, for all but the module
+-- Identifiers are synthesized for all items without a name, except the module.
 all_made_up : (names_for_all []).module_name ≡ None
 all_made_up = refl
 
@@ -175,10 +175,10 @@ parts_made_up : identifiers ((names_for_all []).fields 7) 1 ++ identifiers ((nam
 unfolding digits encode_utf8
 parts_made_up = refl
 
--- ---- faults
+-- ---- malformed data
 
--- The module is `m`; a subsection with an unknown id; locals of function 1: 0 `x`, then a name that is cut;
--- functions, which aren't reached.
+-- The module is `m`; a subsection with an unknown id; locals of function 1: 0 is `x`, then a truncated name;
+-- functions, which are not reached
 cut_name : read (codes "\0\u{2}\u{1}m\u{c}\u{1}\u{7}\u{2}\t\u{1}\u{1}\u{2}\0\u{1}x\u{1}\u{5}y\u{1}\u{4}\u{1}\0\u{1}z")
     ≡ (entry 0 0 0 (codes "m") ∷ entry 2 1 0 (codes "x") ∷ [], None)
 unfolding is_utf8 chars encode_utf8
@@ -188,17 +188,17 @@ first_name_cut : read (codes "\u{1}\u{4}\u{1}\0\u{5}a") ≡ ([], None)
 unfolding is_utf8 chars encode_utf8
 first_name_cut = refl
 
--- the count says one more
+-- The count is one too great.
 entry_missing : read (codes "\u{1}\u{4}\u{2}\0\u{1}a") ≡ (entry 1 0 0 (codes "a") ∷ [], None)
 unfolding is_utf8 chars encode_utf8
 entry_missing = refl
 
--- a subsection of no bytes has no count
+-- A subsection without bytes has no count.
 no_count : read (codes "\u{1}\0\u{1}\u{4}\u{1}\0\u{1}a") ≡ ([], None)
 unfolding is_utf8 chars encode_utf8
 no_count = refl
 
--- a subsection that doesn't stand whole counts for nothing
+-- A truncated subsection gives no entries.
 size_too_great : read (codes "\u{1}\u{5}\u{1}\0\u{1}a") ≡ ([], None)
 unfolding is_utf8 chars encode_utf8
 size_too_great = refl
@@ -207,7 +207,7 @@ not_utf8 : read (0x01 ∷ 0x04 ∷ 0x01 ∷ 0x00 ∷ 0x01 ∷ 0xff ∷ []) ≡ (
 unfolding is_utf8 chars encode_utf8
 not_utf8 = refl
 
--- an id is a byte of any value
+-- An id is one byte with any value.
 great_id : read (0x80 ∷ 0x01 ∷ 0x07 ∷ codes "\u{1}\u{4}\u{1}\0\u{1}a") ≡ (entry 1 0 0 (codes "a") ∷ [], Some (input 9 []))
 unfolding is_utf8 chars encode_utf8
 great_id = refl

@@ -1,4 +1,4 @@
--- The entries that a name section's data gives are those that are read.
+-- The entries that the data of a name section gives are those that are read.
 use Rattle.std.proofs.Common.{◌≡◌, ℕ, zero, suc, ◌<◌, ◌≤◌, List, [], ◌∷◌, ◌++◌, length, Option, Some, None, refl, sym, ap, ◌∙◌, subst, arith, inl, inr, eqb}
 use Rattle.std.specs.Prelude.{MatchOption, Bool, true, false}
 use Rattle.std.proofs.lemmas.Bool.{ne_eqb, eqb-true, eqb-false}
@@ -31,7 +31,7 @@ module _ (l : Lenient Entry) where
         let (takes, end, given, behind) = g in
         groups_by xs groups n at takes end given behind (λ mid s h. groups_read groups n mid (omega (arith, shrinks at mid xs s, le)) h)
 
--- ---- a subsection takes a byte at least
+-- ---- a subsection consists of at least one byte
 
 module _ {A : Type 0} (g : Grammar A) where
   fewer : (at : Input) (x : A × Input) → Spans g.spells at x → length x.1.bytes ≤ length at.bytes
@@ -60,13 +60,13 @@ subsection_shrinks at mid xs (inl ((id, behind), spelled, given)) =
     omega (arith, sized_fewer (content id) behind mid xs given, byte_fewer at (id, behind) spelled)
 subsection_shrinks at mid xs (inr (lacking, no_entry, ended)) = absurd cc
 
--- what the data gives is what is read
+-- The entries that the data gives are those that are read.
 pub given_read : (at : Input) (xs : List Entry) → GivesNames at xs → ((subsections (length at.bytes)).read at).0 ≡ xs
 given_read at xs g =
     let (groups, given, joined) = g in
     groups_read subsection subsection_shrinks groups (length at.bytes) at (omega arith) given ∙ sym joined
 
--- ---- some list is given
+-- ---- every data gives a list of entries
 
 module _ (l : Lenient Entry) (shrinks : (at mid : Input) (xs : List Entry) → l.gives at xs (Some mid) → length mid.bytes < length at.bytes) where
   exist_behind : (at : Input) → 0 < length at.bytes → (xs : List Entry) (end : Option Input) → l.gives at xs end
@@ -85,7 +85,7 @@ module _ (l : Lenient Entry) (shrinks : (at mid : Input) (xs : List Entry) → l
   groups_exist zero at le = ([], nil_from_length at.bytes (omega (arith, le)))
   groups_exist (suc n) at le = exist_by at (eqb (length at.bytes) 0) refl (λ mid lt. groups_exist n mid (omega (arith, lt, le)))
 
--- each data gives exactly one list of entries
+-- Every data gives a list of entries, and only one.
 pub gives_some : (at : Input) → GivesNames at ((subsections (length at.bytes)).read at).0
 gives_some at =
     let g = groups_exist subsection subsection_shrinks (length at.bytes) at (omega arith) in

@@ -1,5 +1,5 @@
--- Worked rows of modules with name sections: the texts that they give, with identifiers made up for what has no name and without, and that
--- these texts read as the same modules.
+-- Worked rows of modules with name sections: their texts, with identifiers synthesized for items without a name or
+-- not, and that these texts read back as the same modules.
 use Rattle.std.specs.Prelude.{◌≡◌, ℕ, List, [], ◌∷◌, ◌++◌, true, codes, Some, refl}
 use Rattle.wasmprinter_spec.specs.Options.{Options, defaults}
 use Rattle.wasmprinter_spec.specs.Read.{read}
@@ -10,11 +10,11 @@ use Rattle.wasmprinter_spec.proofs.FromBytes.{decoded, printed_by}
 abbrev inventing : Options
 inventing = record defaults { invents = true }
 
--- a name section with these subsections
+-- A name section with these subsections
 abbrev name_section : List ℕ → List ℕ
 name_section bytes = custom (codes "name") bytes
 
--- ---- a function of one parameter, with an export
+-- ---- an exported function with one parameter
 
 abbrev identity : List ℕ
 identity =
@@ -23,7 +23,7 @@ identity =
     ++ section 0x07 (0x01 ∷ 0x01 ∷ 0x66 ∷ 0x00 ∷ 0x00 ∷ [])
     ++ section 0x0a (0x01 ∷ 0x04 ∷ 0x00 ∷ 0x20 ∷ 0x00 ∷ 0x0b ∷ [])
 
--- the parameter is called x
+-- The parameter has the name x.
 abbrev named_parameter : List ℕ
 named_parameter = head_bytes ++ (identity ++ name_section (0x02 ∷ 0x06 ∷ 0x01 ∷ 0x00 ∷ 0x01 ∷ 0x00 ∷ 0x01 ∷ 0x78 ∷ []))
 
@@ -46,7 +46,7 @@ named_parameter_reads : read named_parameter_text ≡ decoded named_parameter
 unfolding reading
 named_parameter_reads = refl
 
--- a name that is cut names nothing
+-- A truncated name names no item.
 abbrev cut_name : List ℕ
 cut_name = head_bytes ++ (identity ++ name_section (0x01 ∷ 0x04 ∷ 0x01 ∷ 0x00 ∷ 0x05 ∷ 0x61 ∷ []))
 
@@ -54,7 +54,7 @@ cut_name_prints : printed_by defaults cut_name ≡ printed_by defaults (head_byt
 unfolding composing reading
 cut_name_prints = refl
 
--- the name section may stand anywhere, and more than once
+-- A name section may occur anywhere, and more than once.
 abbrev apart : List ℕ
 apart = head_bytes ++ (name_section (0x01 ∷ 0x04 ∷ 0x01 ∷ 0x00 ∷ 0x01 ∷ 0x67 ∷ []) ++ (identity ++ name_section (0x00 ∷ 0x02 ∷ 0x01 ∷ 0x6d ∷ [])))
 
@@ -77,7 +77,7 @@ apart_reads : read apart_text ≡ decoded apart
 unfolding reading
 apart_reads = refl
 
--- identifiers made up for all
+-- Synthesized identifiers for all items
 abbrev made_up_text : List ℕ
 made_up_text = lines (
     codes "(module"
@@ -97,9 +97,10 @@ made_up_reads : read made_up_text ≡ decoded (head_bytes ++ identity)
 unfolding reading
 made_up_reads = refl
 
--- ---- functions whose names are no identifiers of their own
+-- ---- functions whose names cannot be their identifiers
 
--- 0 is called `a` in one subsection and 1 `a` in a second, 2 has an empty name, 3 is called `#x` and 4 `a b`
+-- Function 0 is `a` in one subsection, and 1 is `a` in a second one. Function 2 has an empty name, 3 is `#x` and 4
+-- is `a b`.
 abbrev alike : List ℕ
 alike =
     head_bytes
@@ -132,9 +133,10 @@ alike_reads : read alike_text ≡ decoded alike
 unfolding reading
 alike_reads = refl
 
--- ---- parameters and locals: one with a name stands alone, neighbours without share a group
+-- ---- parameters and locals: each with a name has its own group; adjacent ones without a name share a group
 
--- parameters of i32, i64, i32, the second one called `p`; locals of i32, i32, f32, the last one called `l`, in front of an entry of none
+-- Parameters of i32, i64 and i32, the second with the name `p`; locals of i32, i32 and f32, the last with the name
+-- `l`, and an entry of 0 locals after it
 abbrev variables : List ℕ
 variables =
     head_bytes
@@ -183,8 +185,8 @@ invented_variables_read = refl
 
 -- ---- types and their fields
 
--- type 0, a structure called `point`, has the fields `x` and one without a name; type 1 is an array of references
--- to it, and a subtype of nothing
+-- Type 0 is a structure `point` with a field `x` and a field without a name. Type 1 is an array of references to
+-- it, and a subtype without supertypes.
 abbrev structures : List ℕ
 structures =
     head_bytes
@@ -219,8 +221,8 @@ structures_read = refl
 
 -- ---- all kinds of items
 
--- an imported function called `imp` with a parameter `a`, an imported tag, a table `t`, a memory `m`, a global `g`, an element segment `e`
--- and a data segment `d`, with uses of each, and a start function
+-- An imported function `imp` with a parameter `a`, an imported tag, a table `t`, a memory `m`, a global `g`, an
+-- element segment `e`, a data segment `d`, uses of them, and a start function
 abbrev items : List ℕ
 items =
     head_bytes
@@ -283,7 +285,8 @@ items_read = refl
 
 -- ---- labels of expressions outside functions
 
--- one imported function and one defined: label 0 of the imported one is called a, of the defined one b
+-- One imported function and one defined function. Label 0 of the imported one has the name a, label 0 of the
+-- defined one the name b.
 abbrev label_of_global : List ℕ
 label_of_global =
     head_bytes
@@ -312,7 +315,8 @@ label_of_global_reads : read label_of_global_text ≡ decoded label_of_global
 unfolding reading
 label_of_global_reads = refl
 
--- one function: element segments go by its labels, data segments by those of the function that would be next
+-- One function. Element segments use its labels. Data segments use the labels of the function that would come
+-- next.
 abbrev labels_of_segments : List ℕ
 labels_of_segments =
     head_bytes

@@ -1,5 +1,5 @@
--- Worked rows of expressions with blocks (section 5.4 of the standard, "Control Instructions" and "Expressions"): which bytes
--- spell one, and where it ends.
+-- Worked rows of expressions with blocks (section 5.4 of the standard, "Control Instructions" and "Expressions"):
+-- which bytes encode an expression, and where it ends.
 use Rattle.std.specs.Prelude.{◌≡◌, ℕ, List, [], ◌∷◌, ◌++◌, map, true, false, Option, Some, None, option_map, length, refl}
 use Rattle.std.proofs.Common.{sym, ◌∙◌}
 use Rattle.wasmprinter_spec.specs.Grammar.{Input, input, Placed, some_is, Spans, ◌>>=◌}
@@ -18,17 +18,17 @@ use Rattle.wasmprinter_spec.proofs.Samples.{made}
 abbrev op : ℕ → ℕ → Immediates → Placed Operator
 op p n i = record { place = p; value = made n i }
 
--- a block of no results, and a byte behind the expression
+-- A block without results, and a byte after the expression
 block_read : expression.parse (input 7 (0x02 ∷ 0x40 ∷ 0x01 ∷ 0x0b ∷ 0x0b ∷ 0x0b ∷ []))
     ≡ Some (record { items = op 7 0x02 (Block Empty) ∷ op 9 0x01 NoImmediates ∷ op 10 0x0b NoImmediates ∷ []; end = 11 }, input 12 (0x0b ∷ []))
 unfolding table
 block_read = refl
 
--- how many bytes are left behind an expression, none where there is none
+-- The number of bytes after an expression, if there is an expression
 abbrev left_behind : List ℕ → Option ℕ
 left_behind bytes = option_map (λ x. length x.1.bytes) (expression.parse (input 0 bytes))
 
--- if else end; try catch 0 catch 0 catch_all end; try delegate 0; a loop in a block; nothing
+-- if else end; try catch 0 catch 0 catch_all end; try delegate 0; try end; a loop in a block; an empty expression
 read_whole : map left_behind (
     (0x04 ∷ 0x7f ∷ 0x05 ∷ 0x0b ∷ 0x0b ∷ [])
     ∷ (0x06 ∷ 0x40 ∷ 0x07 ∷ 0x00 ∷ 0x07 ∷ 0x00 ∷ 0x19 ∷ 0x0b ∷ 0x0b ∷ 1 ∷ [])
@@ -40,7 +40,7 @@ read_whole : map left_behind (
 unfolding table
 read_whole = refl
 
--- which of these lists of bytes have an expression at their beginning, counted from 0
+-- The numbers, from 0, of the lists of bytes that begin with an expression
 abbrev numbers_read : List (List ℕ) → List ℕ
 numbers_read bs = numbers_from left_behind 0 bs
 
@@ -48,7 +48,8 @@ read_among : numbers_read ((0x05 ∷ 0x0b ∷ 0x0b ∷ []) ∷ (0x0b ∷ []) ∷
 unfolding table
 read_among = refl
 
--- a block without its end; what stands outside the blocks that it belongs to; no such `else` or `catch` behind the last
+-- A block without its `end`; operators outside the block to which they belong; an `else` or a handler after the
+-- last one that is allowed
 unread_nesting : numbers_read (
     []
     ∷ (0x02 ∷ 0x40 ∷ [])
@@ -77,14 +78,16 @@ unread_nesting : numbers_read (
 unfolding table
 unread_nesting = refl
 
--- An opcode of one byte is no number: 8B 00 isn't 0B, nor is 0B behind a prefix. No operator has the byte 1D.
+-- A one-byte opcode is not a number in LEB128: neither 8B 00 nor 0B after a prefix is the opcode 0B. No operator
+-- has the opcode 1D.
 unread_opcodes : numbers_read ((0x8b ∷ 0x00 ∷ []) ∷ (0xfc ∷ 0x0b ∷ []) ∷ (0x1d ∷ 0x0b ∷ []) ∷ []) ≡ []
 unfolding table
 unread_opcodes = refl
 
--- No such block type: 41 alone and 7A are negative numbers, as is the byte of a composite type or of a packed one, also in two bytes;
--- references to a number type and to nothing, and one that takes an `end` for its index; 2 to the power 32; six bytes. No such kind of a
--- clause. A list of labels or of clauses that its bytes don't fill; a clause without its label.
+-- Block types that do not exist: negative numbers (41 alone, 7A, the bytes of a composite type and of a packed
+-- type, also in two bytes); references to a number type, to the empty type, and with an `end` as their index; 2 to
+-- the power 32; six bytes. An unknown kind of catch clause. Lists of labels or clauses with fewer items than their
+-- count; a clause without its label
 unread_immediates : numbers_read (
     (0x02 ∷ 0x41 ∷ 0x0b ∷ 0x0b ∷ [])
     ∷ (0x02 ∷ 0x7a ∷ 0x0b ∷ 0x0b ∷ [])
@@ -115,7 +118,7 @@ unread_immediates : numbers_read (
 unfolding table
 unread_immediates = refl
 
--- where there is no parse nothing is spelled
+-- Bytes that do not parse encode no expression.
 unspelled : (at : Input) (x : Closed (Placed Operator) × Input) → expression.parse at ≡ None → Spans IsExpression at x → ⊥
 unspelled at x e s = absurd (cc (e, expression.complete at x s))
 
@@ -125,7 +128,7 @@ else_outside_if x = unspelled (input 0 (0x02 ∷ 0x40 ∷ 0x05 ∷ 0x0b ∷ 0x0b
 
 -- ---- block types
 
--- the type of a block in front of its end, where the bytes spell one and no more
+-- The immediates of a block, if the operators are only a block and its `end`
 abbrev type_in : List (Placed Operator) → Option Immediates
 type_in (o ∷ e ∷ []) = Some o.value.immediates
 type_in _ = None
@@ -133,7 +136,8 @@ type_in _ = None
 abbrev type_of_block : List ℕ → Option Immediates
 type_of_block bytes = expression.parse (input 0 (0x02 ∷ bytes ++ 0x0b ∷ 0x0b ∷ [])) >>= λ x. type_in x.0.items
 
--- what 40 and 7F say isn't the index of a type that says the same; an index is a number of 33 bits with a sign
+-- The block types 40 and 7F are not the index of a type with the same signature. An index is a signed number of 33
+-- bits.
 block_types : map type_of_block (
     (0x40 ∷ [])
     ∷ (0x7f ∷ [])
@@ -178,7 +182,7 @@ block_types : map type_of_block (
 unfolding table
 block_types = refl
 
--- the rules, by hand: try nop catch catch_all if else end end
+-- The rules, applied by hand: try nop catch catch_all if else end end
 nests : Nests Sequence (OpensTry ∷ Plain ∷ Catches ∷ CatchesAll ∷ OpensIf ∷ Turns ∷ Ends ∷ Ends ∷ [])
 nests =
     tried {body = Plain ∷ []} {handlers = Catches ∷ CatchesAll ∷ OpensIf ∷ Turns ∷ Ends ∷ []} {rest = []} (plain none)
@@ -205,6 +209,6 @@ turn_not_nested = not_nested (Opens ∷ Turns ∷ Ends ∷ []) refl
 catch_not_nested : Nests Sequence (OpensTry ∷ CatchesAll ∷ Catches ∷ Ends ∷ []) → ⊥
 catch_not_nested = not_nested (OpensTry ∷ CatchesAll ∷ Catches ∷ Ends ∷ []) refl
 
--- given bytes spell at most one expression, and it ends at one place
+-- Given bytes encode at most one expression, and it ends at one place.
 one_expression : (at : Input) (x y : Closed (Placed Operator) × Input) → Spans IsExpression at x → Spans IsExpression at y → x ≡ y
 one_expression at x y s t = some_is x y (sym (expression.complete at x s) ∙ expression.complete at y t)

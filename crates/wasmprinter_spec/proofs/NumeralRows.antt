@@ -1,8 +1,8 @@
--- Worked rows of whole numbers in the text format (section 6.3 of the standard, "Integers").
+-- Worked rows of integers in the text format (section 6.3 of the standard, "Integers").
 use Rattle.std.specs.Prelude.{◌≡◌, pos, neg_ℤ, codes, Some, None, refl}
 use Rattle.wasmprinter_spec.specs.Numeral.{numeral, natural, integer}
 
--- ---- without a sign
+-- ---- unsigned numbers
 
 zeros : natural (codes "000") ≡ Some 0
 unfolding natural numeral
@@ -82,7 +82,7 @@ beyond_with_sign_32 : integer 32 (codes "+2147483648") ≡ None
 unfolding integer natural numeral
 beyond_with_sign_32 = refl
 
--- without a sign the upper half stands for the negative numbers
+-- Without a sign, the upper half of the numbers denotes the negative ones.
 upper_half_32 : integer 32 (codes "2147483648") ≡ Some (neg_ℤ (pos 2147483648))
 unfolding integer natural numeral
 upper_half_32 = refl

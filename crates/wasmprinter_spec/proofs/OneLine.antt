@@ -1,4 +1,4 @@
--- Pieces that stay on their line: identifiers, and all of types.
+-- Pieces that begin no line: identifiers, and all pieces of types.
 use Rattle.std.proofs.Common.{◌≡◌, ℕ, ◌+◌, List, [], ◌∷◌, ◌++◌, Bool, true, false, cond, Option, Some, None, refl, sym, subst, ap₂, ◌∙◌, codes}
 use Rattle.std.specs.Prelude.{bytes_eq}
 use Rattle.std.specs.List.{flat_map}
@@ -17,13 +17,13 @@ use Rattle.wasmprinter_spec.specs.Layout.Variables.{Variables, Alone, Together, 
 use Rattle.wasmprinter_spec.specs.Layout.Operators.{hint_pieces}
 use Rattle.wasmprinter_spec.specs.Layout.Types.{parameters_of, list_group, signature_pieces, signature_if_any, type_use_pieces, storage_pieces, field_pieces_by, field_pieces, struct_field_pieces, composite_pieces, final_pieces, supertype_pieces, sub_group, sub_pieces_by, sub_pieces, type_pieces}
 
--- the line that a piece begins
+-- The lines that a piece begins
 abbrev pub starts : Piece → List (Option ℕ)
 starts (Begin place) = Some place ∷ []
 starts (Break place nesting) = place ∷ []
 starts _ = []
 
--- they begin no line
+-- The pieces begin no line.
 pub record IsOneLine (ps : List Piece) : Type 0 where
   pub begins : flat_map starts ps ≡ []
 
@@ -33,7 +33,7 @@ nothing_stays = record { begins = refl }
 pub both_stay : {ps qs : List Piece} → IsOneLine ps → IsOneLine qs → IsOneLine (ps ++ qs)
 both_stay {ps} {qs} h k = record { begins = flat_map-append starts ps qs ∙ ap₂ (λ (xs ys : List (Option ℕ)). xs ++ ys) h.begins k.begins }
 
--- a piece that begins no line, and others
+-- If a piece and the pieces after it begin no line, neither do they together.
 pub then_stay : {p : Piece} {ps : List Piece} → starts p ≡ [] → IsOneLine ps → IsOneLine (p ∷ ps)
 then_stay e h = record { begins = ap₂ (λ (xs ys : List (Option ℕ)). xs ++ ys) e h.begins }
 
@@ -54,18 +54,18 @@ pub line_group_gap_stays : (w : List ℕ) {ps : List Piece} → IsOneLine ps →
 unfolding line_group_gap
 line_group_gap_stays w h = then_stay refl (both_stay h (alone_stays refl))
 
--- Pieces that begin no line hold no break.
+-- Pieces that begin no line contain no break.
 pub unbroken : (ps : List Piece) → flat_map starts ps ≡ [] → has_break ps ≡ false
 unbroken [] e = refl
 unbroken (Begin place ∷ ps) e = absurd cc
 unbroken (Break place nesting ∷ ps) e = absurd cc
 unbroken (p ∷ ps) e = unbroken ps e
 
--- pieces that stay on their line hold no break
+-- Pieces that are `IsOneLine` contain no break.
 pub stays_unbroken : {ps : List Piece} → IsOneLine ps → has_break ps ≡ false
 stays_unbroken {ps} h = unbroken ps h.begins
 
--- behind such pieces a group closes on their line
+-- After pieces that begin no line, a group closes on their line.
 pub close_stays : (nesting : ℕ) {ps : List Piece} → IsOneLine ps → IsOneLine (close None nesting (has_break ps))
 close_stays nesting {ps} h = subst (λ (b : Bool). IsOneLine (close None nesting b)) (sym (unbroken ps h.begins)) (alone_stays refl)
 
@@ -233,9 +233,9 @@ module _ (names : Names) where
   unfolding type_pieces
   type_stays i t = line_group_gap_stays (codes "type") (both_stay (declaration_stays (names.items Types i) i) (then_stay refl (sub_stays i t)))
 
--- ---- a hint
+-- ---- hints
 
--- a hint stands on a line of its own, so what is behind it decides only where there is none
+-- A hint has a line of its own. So if pieces contain a break, they contain one with or without a hint before them.
 pub hint_breaks : (nesting : ℕ) (h : Option (Placed Hint)) (ps : List Piece) → has_break ps ≡ true → has_break (hint_pieces nesting h ++ ps) ≡ true
 hint_breaks nesting None ps e = e
 hint_breaks nesting (Some h) ps e = refl

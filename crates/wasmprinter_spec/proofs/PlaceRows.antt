@@ -1,4 +1,5 @@
--- Worked rows of lines: the places and texts of a module's lines, those of hints, and where operators are found in them.
+-- Worked rows of lines: the places and texts of a module's lines, the lines of hints, and where operators are
+-- found in the lines.
 use Rattle.std.specs.Prelude.{◌≡◌, ℕ, List, [], ◌∷◌, ◌++◌, codes, Option, Some, None, option_map, refl}
 use Rattle.wasmprinter_spec.specs.Grammar.{◌>>=◌}
 use Rattle.wasmprinter_spec.specs.Placed.{PlacedModule}
@@ -15,7 +16,7 @@ printed_lines m = lines_of (layout defaults unclaimed m)
 abbrev line : ℕ → List ℕ → TextLine
 line place text = (Some place, text ++ (10 ∷ []))
 
--- ---- a function under a name
+-- ---- an exported function
 
 identity_lines : printed_lines identity_placed ≡
     line 0 (codes "(module")
@@ -55,7 +56,7 @@ stored_last = refl
 abbrev decoded_lines : List ℕ → Option (List TextLine)
 decoded_lines bytes = option_map printed_lines (parsed bytes)
 
--- the line of locals has the place of the first entry that declares one
+-- The line of the locals has the place of the first entry that declares a local.
 with_locals : decoded_lines (
     head_bytes
     ++ (section 0x01 (0x01 ∷ 0x60 ∷ 0x00 ∷ 0x00 ∷ [])
@@ -72,7 +73,7 @@ with_locals : decoded_lines (
 unfolding composing reading
 with_locals = refl
 
--- all types of a written group have one place, and its closing parenthesis has none
+-- All types of a written group have the same place. The closing parenthesis of the group has none.
 with_group : decoded_lines (head_bytes ++ section 0x01 (0x01 ∷ 0x4e ∷ 0x02 ∷ 0x60 ∷ 0x00 ∷ 0x00 ∷ 0x60 ∷ 0x00 ∷ 0x00 ∷ [])) ≡ Some (
     line 0 (codes "(module")
     ∷ line 0xb (codes "  (rec")
@@ -84,7 +85,7 @@ with_group : decoded_lines (head_bytes ++ section 0x01 (0x01 ∷ 0x4e ∷ 0x02 �
 unfolding composing reading
 with_group = refl
 
--- data of no bytes has the place at which the bytes end
+-- The place of empty data is the place at which the bytes end.
 with_fault : decoded_lines (head_bytes ++ custom (codes "producers") []) ≡ Some (
     line 0 (codes "(module")
     ∷ line 0x14 (codes "  ;; failed to parse custom section `producers`")
@@ -94,14 +95,14 @@ with_fault : decoded_lines (head_bytes ++ custom (codes "producers") []) ≡ Som
 unfolding composing reading
 with_fault = refl
 
--- a refused section ends the last line
+-- A refused section ends the last line.
 with_refusal : decoded_lines (head_bytes ++ custom (codes "dylink.0") (0x09 ∷ 0x00 ∷ [])) ≡ Some ((Some 0, codes "(module") ∷ [])
 unfolding composing reading
 with_refusal = refl
 
 -- ---- a hint
 
--- an `if`, whose hint stands before the code section
+-- An `if` whose hint is in a section before the code section
 abbrev hinted_if : List ℕ
 hinted_if = hinted (0x01 ∷ 0x00 ∷ 0x01 ∷ 0x03 ∷ 0x01 ∷ 0x01 ∷ [])
 
@@ -123,13 +124,13 @@ hint_is : option_map hint_places (parsed hinted_if) ≡ Some (0x32 ∷ [])
 unfolding composing reading
 hint_is = refl
 
--- the lines that are kept: those of the function follow one another
+-- Without the lines of hints, the lines of the function are adjacent.
 kept_are : option_map (λ m. lines_without (hint_places m) (line_places (printed_lines m))) (parsed hinted_if)
     ≡ Some (Some 0 ∷ Some 0xb ∷ Some 0x39 ∷ Some 0x3a ∷ Some 0x3c ∷ Some 0x3e ∷ Some 0x3f ∷ Some 0x40 ∷ [])
 unfolding composing reading
 kept_are = refl
 
--- the `if` is found among all lines
+-- The `if` is found among all lines.
 found_behind : (parsed hinted_if >>= λ m. place_of m (printed_lines m) 0 1) ≡ Some (5, 0x3c)
 unfolding composing reading
 found_behind = refl

@@ -1,4 +1,4 @@
--- Worked rows of plain text: the bytes at the edges.
+-- Worked rows of plain text: the bytes at the boundaries.
 use Rattle.std.specs.Prelude.{◌∷◌, [], refl}
 use Rattle.std.proofs.Common.{arith, inl, inr}
 use Rattle.wasmprinter_spec.specs.Plain.{IsPlainByte, IsPlainText}

@@ -2,7 +2,7 @@
 use Rattle.std.proofs.Common.{◌≡◌, ℕ, ◌+◌, ◌-◌, ◌*◌, ◌^◌, ◌≤◌, arith, ap, ◌∙◌}
 use Rattle.std.proofs.lemmas.Nat.{pow-add}
 
--- seven bits more are 128 times as many numbers
+-- If `bits` is at least 7, then 2 ^ bits is 128 times 2 ^ (bits - 7).
 pub pow_seven : (bits : ℕ) → 7 ≤ bits → 2 ^ bits ≡ 128 * 2 ^ (bits - 7)
 pow_seven bits le =
     let e : bits ≡ 7 + (bits - 7) = omega arith in

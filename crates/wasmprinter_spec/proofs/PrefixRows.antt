@@ -1,11 +1,11 @@
 -- Worked rows of the table of operators (section 5.4 of the standard): calls, variables, references, aggregates
--- and whole regions by opcode.
+-- and whole ranges, by opcode.
 use Rattle.std.specs.Prelude.{◌≡◌, ℕ, List, [], ◌∷◌, ◌++◌, replicate, true, false, map, codes, Option, Some, option_map, refl}
 use Rattle.wasmprinter_spec.specs.Operator.{Opcode, opcode}
 use Rattle.wasmprinter_spec.specs.Row.{Types, Func, Table, Memory, Global, Local, Label, Elem, Data, Shape, NoneShape, IndexShape, DefaultIndexShape, PairShape, FieldShape, CountShape, CallShape, SegmentShape, CopyShape, SelectShape, HeapShape, RefShape, CastShape, F32Shape, F64Shape, VectorShape, LanesShape, FenceShape, Arity, Fixed, OfReturnCall, OfIndirectCall, OfReturnIndirectCall, OfBranchOnNull, OfBranchOnNonNull, OfBranchOnCast, OfStruct, OfCount}
 use Rattle.wasmprinter_spec.specs.Table.{table, by_opcode, word_of, shape_of}
 
--- the opcodes of these numbers behind a prefix
+-- The opcodes with this prefix and these numbers
 abbrev opcodes : ℕ → List ℕ → List Opcode
 opcodes p ns = map (opcode p) ns
 
@@ -21,7 +21,7 @@ arities os = map (λ o. option_map (λ r. r.arity) (by_opcode o)) os
 abbrev each : {A : Type 0} → List A → List (Option A)
 each xs = map Some xs
 
--- ---- one byte
+-- ---- one-byte opcodes
 
 abbrev calls : List Opcode
 calls = opcodes 0 (0x11 ∷ 0x12 ∷ 0x13 ∷ 0x14 ∷ 0x15 ∷ [])
@@ -127,7 +127,7 @@ cast_words : words casts
 unfolding table
 cast_words = refl
 
--- of two with one word the second takes null
+-- Of two opcodes with one word, the second has a nullable type.
 cast_shapes : shapes casts ≡ each (RefShape false ∷ RefShape true ∷ RefShape false ∷ RefShape true ∷ CastShape ∷ CastShape ∷ replicate 5 NoneShape)
 unfolding table
 cast_shapes = refl
@@ -136,7 +136,7 @@ cast_arities : arities casts ≡ each (replicate 4 (Fixed 1 1) ++ OfBranchOnCast
 unfolding table
 cast_arities = refl
 
--- ---- whole regions
+-- ---- whole ranges of opcodes
 
 abbrev regions : List Opcode
 regions = opcodes 0xfc (8 ∷ 9 ∷ 10 ∷ 11 ∷ 12 ∷ 13 ∷ 14 ∷ 15 ∷ 16 ∷ 17 ∷ [])
@@ -176,7 +176,7 @@ other_arities : arities others ≡ each (Fixed 0 1 ∷ Fixed 2 1 ∷ Fixed 0 0 �
 unfolding table
 other_arities = refl
 
--- ---- what isn't listed
+-- ---- opcodes that are not listed
 
 unlisted : words (
     opcodes 0 (0x16 ∷ 0x17 ∷ 0x1d ∷ 0x1e ∷ 0x27 ∷ 0xc5 ∷ 0xcf ∷ 0xd7 ∷ 0xfa ∷ 0xff ∷ [])

@@ -1,4 +1,4 @@
--- Kinds of sections that are the same.
+-- The test whether two kinds of sections are the same.
 use Rattle.std.specs.Prelude.{◌≡◌, true, refl}
 use Rattle.wasmprinter_spec.specs.Kinds.{Kind, CustomSection, TypeSection, ImportSection, FunctionSection, TableSection, MemorySection, TagSection, GlobalSection, ExportSection, StartSection, ElementSection, DataCountSection, CodeSection, DataSection, same_kind}
 

@@ -1,4 +1,5 @@
--- Modules that the worked rows share, written by hand: their bytes, what the bytes spell with places, their texts, and what these say.
+-- Modules, typed by hand, which the worked rows share: their bytes, the modules with places that the bytes encode,
+-- their texts, and the modules that the texts write.
 use Rattle.std.specs.Prelude.{ℕ, ℤ, pos, negsuc, neg_ℤ, List, [], ◌∷◌, ◌++◌, length, flat_map, true, false, codes, None}
 use Rattle.wasmprinter_spec.specs.Grammar.{Placed}
 use Rattle.wasmprinter_spec.specs.Types as types
@@ -8,51 +9,51 @@ use Rattle.wasmprinter_spec.specs.Placed.{TypeGroup, type_group, PlacedModule}
 use Rattle.wasmprinter_spec.specs.Module.{Module}
 use Rattle.wasmprinter_spec.specs.IndexSpaces.{Spaces}
 
--- the magic and the version
+-- The preamble: the magic number and the version
 abbrev pub head_bytes : List ℕ
 head_bytes = 0x00 ∷ 0x61 ∷ 0x73 ∷ 0x6d ∷ 0x01 ∷ 0x00 ∷ 0x00 ∷ 0x00 ∷ []
 
--- a section of fewer than 128 bytes
+-- A section of fewer than 128 bytes
 abbrev pub section : ℕ → List ℕ → List ℕ
 section id bytes = id ∷ length bytes ∷ bytes
 
--- a custom section of a name of fewer than 128 bytes
+-- A custom section whose name has fewer than 128 bytes
 abbrev pub custom : List ℕ → List ℕ → List ℕ
 custom name bytes = section 0x00 (length name ∷ (name ++ bytes))
 
--- lines, each with its line feed
+-- Lines, each with its line feed
 abbrev pub lines : List (List ℕ) → List ℕ
 lines [] = []
 lines (l ∷ ls) = l ++ codes "\n" ++ lines ls
 
--- lines of a function's body
+-- The lines of a function's body
 abbrev pub body_lines : List (List ℕ) → List ℕ
 body_lines ls = flat_map (λ l. codes "\n    " ++ l) ls
 
 -- ---- types
 
--- references, which can't be null or may be
+-- Non-nullable and nullable references
 abbrev pub to : HeapType → ValType
 to h = Ref (ref_type false h)
 
 abbrev pub to_null : HeapType → ValType
 to_null h = Ref (ref_type true h)
 
--- a function type, by its parameters and results
+-- The function type with these parameters and results
 abbrev pub func : List ValType → List ValType → SubType
 func ps rs = final_type (FuncComposite (record { params = ps; results = rs }))
 
--- the composite type of a function without parameters and results
+-- The composite type of functions without parameters and results
 abbrev pub nothing : CompositeType
 nothing = FuncComposite (record { params = []; results = [] })
 
--- a type that stands by itself, at this place
+-- A type outside written groups, at this place
 abbrev pub bare : ℕ → SubType → Placed TypeGroup
 bare place t = record { place = place; value = type_group false (t ∷ []) }
 
 -- ---- operators
 
--- an operator of one byte, with its immediates
+-- The operator with this one-byte opcode and these immediates
 abbrev pub made : ℕ → Immediates → Operator
 made n i = record { opcode = opcode 0 n; immediates = i }
 
@@ -112,11 +113,11 @@ empty = record {
   customs = [];
 }
 
--- a text of one function with this code, and with a local
+-- The text of a module with one function, which has this code and a local
 abbrev pub procedure_text : List ℕ → List ℕ
 procedure_text code = codes "(module (type (func)) (func (type 0) (local i32) " ++ code ++ codes "))"
 
--- a function of one parameter with an `if`, and these bytes of hints before its code
+-- A function with one parameter and an `if`, and these bytes as a hint section before its code
 abbrev pub hinted : List ℕ → List ℕ
 hinted bytes =
     head_bytes
@@ -125,11 +126,11 @@ hinted bytes =
     ++ (custom (codes "metadata.code.branch_hint") bytes
     ++ section 0x0a (0x01 ∷ 0x07 ∷ 0x00 ∷ 0x20 ∷ 0x00 ∷ 0x04 ∷ 0x40 ∷ 0x0b ∷ 0x0b ∷ []))))
 
--- no index spaces hold anything
+-- All index spaces are empty.
 abbrev pub no_spaces : Spaces
 no_spaces = record { types = []; functions = []; tables = []; memories = []; tags = []; globals = []; elems = []; datas = []; locals = [] }
 
--- ---- a function that gives back its parameter, under the name f
+-- ---- a function that returns its parameter, exported as f
 
 abbrev pub identity_bytes : List ℕ
 identity_bytes =
@@ -184,7 +185,7 @@ identity_text_with_offsets = lines (
     ∷ codes "(;@23    ;))"
     ∷ [])
 
--- ---- a function with a local, in which it puts -1
+-- ---- a function that stores -1 in a local
 
 abbrev pub stored_bytes_to_end : List ℕ
 stored_bytes_to_end =
@@ -246,7 +247,7 @@ stored_text = lines (
     ∷ codes ")"
     ∷ [])
 
--- ---- several types, functions, locals and results, and indices of what isn't there
+-- ---- several types, functions, locals and results, and indices of items that do not exist
 
 abbrev pub mixed_bytes : List ℕ
 mixed_bytes =
@@ -308,7 +309,7 @@ mixed_placed = record empty_placed {
   size = 0x56;
 }
 
--- what it is without places, where its last function uses this type
+-- The module without places, whose last function has this type
 abbrev pub mixed_using : ℕ → Module
 mixed_using type = record empty {
   types = (func [] [] ∷ []) ∷ (func (types.I32 ∷ types.I64 ∷ []) (types.I64 ∷ types.I32 ∷ []) ∷ []) ∷ [];

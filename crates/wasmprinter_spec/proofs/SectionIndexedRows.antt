@@ -1,5 +1,5 @@
--- Worked rows of declared indices in imports, tables, globals, element segments and data segments (section 2.5 of the standard, "Indices"):
--- an index space counts what is imported first, and outside functions there are no locals.
+-- Worked rows of declared indices in imports, tables, globals, element segments and data segments (section 2.5 of
+-- the standard, "Indices"). An index space counts imports first, and there are no locals outside functions.
 use Rattle.std.specs.Prelude.{List, [], ◌∷◌, codes, true, false, None, refl}
 use Rattle.std.proofs.Common.{arith}
 use Rattle.wasmprinter_spec.specs.Types as types
@@ -12,7 +12,7 @@ use Rattle.wasmprinter_spec.specs.Indexed.{IsIndexed}
 use Rattle.wasmprinter_spec.proofs.Samples.{func, to_null, local_get, empty, made}
 use Rattle.wasmprinter_spec.proofs.SectionSamples.{ref_func, filled_table, imports}
 
--- imports of each kind, with a memory and a tag behind them
+-- Imports of each kind, followed by a memory and a tag
 imports_indexed : IsIndexed imports.value
 imports_indexed = record {
   imports = ((_, refl), ((_, refl), (tt, (tt, (tt, ((_, refl), tt))))));
@@ -42,7 +42,7 @@ filled_table_indexed = record {
   start = tt;
 }
 
--- one of each that holds indices, behind an imported function, global and memory
+-- One of each item that contains indices, after an imported function, an imported memory and an imported global
 abbrev global_get : Operator
 global_get = made 0x23 (Index 0)
 
@@ -61,7 +61,7 @@ using element init e d = record empty {
   datas = d ∷ [];
 }
 
--- the type 0; the imported global; functions, a table and a memory
+-- References to type 0; uses of the imported global, of both functions, of table 0 and of memory 0
 abbrev own_ref : RefType
 own_ref = ref_type true (types.Index 0)
 
@@ -86,7 +86,7 @@ using_indexed = record {
   start = tt;
 }
 
--- ---- what is not declared
+-- ---- indices that are not declared
 
 other_type : IsIndexed (using (ref_type false (types.Index 1)) [] own_element own_data) → ⊥
 other_type i = omega (arith, i.tables.0.element)
@@ -95,7 +95,7 @@ other_function : IsIndexed (using own_ref (ref_func 2 ∷ []) own_element own_da
 unfolding table
 other_function i = omega (arith, i.globals.0.init.0)
 
--- there are no locals
+-- There are no locals.
 local_outside : IsIndexed (using own_ref (local_get 0 ∷ []) own_element own_data) → ⊥
 unfolding table
 local_outside i = omega (arith, i.globals.0.init.0)
@@ -113,6 +113,6 @@ other_table i = omega (arith, i.elements.0.mode.0)
 other_memory : IsIndexed (using own_ref [] own_element (data_of (ActiveData 1 []) [])) → ⊥
 other_memory i = let ((memory, offset), _) = i.datas in omega (arith, memory)
 
--- an imported function has a function type that is declared
+-- The type of an imported function must be a function type that is declared.
 no_type : IsIndexed (record empty { imports = import_of [] [] (FuncExtern 0) ∷ [] }) → ⊥
 no_type i = let ((signature, declared), _) = i.imports in absurd cc

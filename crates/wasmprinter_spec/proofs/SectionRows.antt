@@ -1,5 +1,5 @@
--- Worked rows of the sections of imports, tables, memories, globals, element segments, data segments and the data count (section 5.5 of
--- the standard): what single lists of bytes spell, and what of it a module is.
+-- Worked rows of the sections of imports, tables, memories, globals, element segments, data segments and the data
+-- count (section 5.5 of the standard): what single lists of bytes encode, and the modules without places.
 use Rattle.std.specs.Prelude.{◌≡◌, ℕ, List, [], ◌∷◌, ◌++◌, map, Option, Some, None, refl}
 use Rattle.std.specs.List.{AllByRecursion}
 use Rattle.wasmprinter_spec.specs.Placed.{PassiveData, data_of, PlacedModule}
@@ -14,13 +14,14 @@ use Rattle.wasmprinter_spec.proofs.FromBytes.{parsed}
 
 -- ---- the order of sections
 
--- The text has the sections in the order of the bytes: each kind that has a rank but the data count, of which nothing is printed.
+-- The text has the sections in the order of the bytes: each kind that has a rank, except the data count, which is
+-- not printed.
 section_order-rises :
     map rank section_order
     ≡ Some 1 ∷ Some 2 ∷ Some 3 ∷ Some 4 ∷ Some 5 ∷ Some 6 ∷ Some 7 ∷ Some 8 ∷ Some 9 ∷ Some 10 ∷ Some 12 ∷ Some 13 ∷ []
 section_order-rises = refl
 
--- ---- what the bytes of the samples spell
+-- ---- what the bytes of the samples encode
 
 abbrev Parses : Sample → Type 0
 Parses s = parsed s.bytes ≡ Some s.placed
@@ -56,7 +57,7 @@ emptied_table_parses : Parses emptied_table
 unfolding reading
 emptied_table_parses = refl
 
--- a table with an empty initialiser is beyond the limits
+-- A table with an empty initialiser is not within the limits.
 emptied_table_beyond : IsWithinLimits emptied_table.placed → ⊥
 emptied_table_beyond h = h.tables.0
 
@@ -80,14 +81,15 @@ imports_are = refl
 
 -- ---- the data count
 
--- a data count and one data segment, passive
+-- A data count and one passive data segment
 abbrev with_count : List ℕ → List ℕ
 with_count count = head_bytes ++ (0x0c ∷ 0x01 ∷ count) ++ (0x0b ∷ 0x04 ∷ 0x01 ∷ 0x01 ∷ 0x01 ∷ 0x61 ∷ [])
 
 right_count : parsed (with_count (0x01 ∷ [])) ≡ Some (record empty_placed { datas = record { place = 0xe; value = data_of PassiveData (0x61 ∷ []) } ∷ []; size = 17 })
 right_count = refl
 
--- counts that differ; a count without segments, which is right where it is 0; a count behind the segments; two counts
+-- Counts that differ; a count without segments, which is correct if it is 0; a count after the segments; two
+-- counts
 other_counts : map parsed (
     with_count (0x00 ∷ [])
     ∷ with_count (0x02 ∷ [])
@@ -99,12 +101,13 @@ other_counts : map parsed (
     ≡ None ∷ None ∷ None ∷ Some (record empty_placed { size = 11 }) ∷ None ∷ None ∷ []
 other_counts = refl
 
--- ---- bytes that spell nothing
+-- ---- bytes that encode no module
 
 abbrev unspelled : ℕ → List (List ℕ) → List (Option PlacedModule)
 unspelled id items = map (λ i. parsed (with_item id i)) items
 
--- flags of tables other than 0, 1, 4 and 5; a byte other than 0 behind 40; an initialiser without its end; a type that is no reference
+-- Flags of tables other than 0, 1, 4 and 5; a byte other than 0 after 40; an initialiser without its `end`; a type
+-- that is no reference type
 no_tables : unspelled 4 (
     (0x70 ∷ 0x02 ∷ 0x01 ∷ [])
     ∷ (0x70 ∷ 0x03 ∷ 0x01 ∷ 0x02 ∷ [])
@@ -118,7 +121,7 @@ no_tables : unspelled 4 (
 unfolding reading
 no_tables = refl
 
--- a mutability of 2, no mutability, no initialiser, and one that leaves a block open
+-- A mutability of 2, no mutability, no initialiser, and an initialiser with an open block
 no_globals : unspelled 6 (
     (0x7f ∷ 0x02 ∷ 0x41 ∷ 0x00 ∷ 0x0b ∷ [])
     ∷ (0x7f ∷ 0x41 ∷ 0x00 ∷ 0x0b ∷ [])
@@ -128,7 +131,8 @@ no_globals : unspelled 6 (
 unfolding reading
 no_globals = refl
 
--- flags of 8, a kind other than 0, a type in place of a kind, a kind in place of a type, and an item without its end
+-- Flags of 8, a kind other than 0, a type in place of a kind, a kind in place of a type, and an item without its
+-- `end`
 no_elements : unspelled 9 (
     (0x08 ∷ 0x41 ∷ 0x00 ∷ 0x0b ∷ 0x00 ∷ [])
     ∷ (0x01 ∷ 0x01 ∷ 0x00 ∷ [])
@@ -139,7 +143,7 @@ no_elements : unspelled 9 (
 unfolding reading
 no_elements = refl
 
--- flags of 3, more bytes than there are, and fewer
+-- Flags of 3, a length greater than the number of bytes, and one that is less
 no_datas : unspelled 11 (
     (0x03 ∷ 0x00 ∷ [])
     ∷ (0x01 ∷ 0x02 ∷ 0x61 ∷ [])
@@ -148,7 +152,8 @@ no_datas : unspelled 11 (
 unfolding reading
 no_datas = refl
 
--- a kind of 5, a name that is not UTF-8, one name, a tag whose attribute is not 0, and a table with an initialiser
+-- A kind of 5, a name that is not UTF-8, only one name, a tag whose attribute is not 0, and a table with an
+-- initialiser
 no_imports : unspelled 2 (
     (0x01 ∷ 0x6d ∷ 0x01 ∷ 0x66 ∷ 0x05 ∷ 0x00 ∷ [])
     ∷ (0x01 ∷ 0xff ∷ 0x01 ∷ 0x66 ∷ 0x00 ∷ 0x00 ∷ [])
@@ -159,7 +164,8 @@ no_imports : unspelled 2 (
 unfolding reading
 no_imports = refl
 
--- flags of 16, which have no meaning; an exponent of 64; flags of two bytes; a size of pages that is missing, and one without its flag
+-- Flags of 16, which have no meaning; an exponent of 64; flags of two bytes; a missing page size, and a page size
+-- without its flag
 no_memories : unspelled 5 (
     (0x10 ∷ 0x01 ∷ [])
     ∷ (0x08 ∷ 0x01 ∷ 0x40 ∷ [])

@@ -1,5 +1,6 @@
--- Modules of one field, written by hand, which the worked rows share: a table, a global, an element segment, a data segment, a memory, and
--- imports of each kind. Of each its bytes, what these spell with places, the module, and the line of its text.
+-- Modules with one field, typed by hand, which the worked rows share: a table, a global, an element segment, a
+-- data segment, a memory, and imports of each kind. Each sample has its bytes, the module with places that they
+-- encode, the module, and the line of its text.
 use Rattle.std.specs.Prelude.{ℕ, ◌+◌, pos, List, [], ◌∷◌, ◌++◌, Bool, true, false, length, codes, Option, Some, None}
 use Rattle.wasmprinter_spec.specs.Grammar.{Placed}
 use Rattle.wasmprinter_spec.specs.Types as types
@@ -17,11 +18,11 @@ pub record Sample : Type 0 where
   pub value : Module
   pub text : List ℕ
 
--- a module of one section of this id, which holds a list of one item
+-- A module with one section with this id, which contains a list of one item
 abbrev pub with_item : ℕ → List ℕ → List ℕ
 with_item id item = head_bytes ++ id ∷ (length item + 1) ∷ 1 ∷ item
 
--- where the item begins
+-- The place of the item
 abbrev first : ℕ
 first = 0xb
 
@@ -31,7 +32,7 @@ at_first x = record { place = first; value = x } ∷ []
 abbrev size_with : List ℕ → ℕ
 size_with item = first + length item
 
--- the text of a module of one field
+-- The text of a module with one field
 abbrev pub one_field : List ℕ → List ℕ
 one_field line = lines (codes "(module" ∷ (codes "  " ++ line) ∷ codes ")" ∷ [])
 
@@ -71,7 +72,7 @@ filled_table =
     table_sample (0x40 ∷ 0x00 ∷ 0x70 ∷ 0x00 ∷ 0x01 ∷ 0xd0 ∷ 0x70 ∷ 0x0b ∷ []) (table_type_of false (limits_of 1 None) (ref_type true types.Func))
     (Some (at 0x10 ref_null_func ∷ [])) (Some (ref_null_func ∷ [])) (codes "(table (;0;) 1 funcref ref.null func)")
 
--- its initialiser is empty: it is beyond the limits
+-- A table with an empty initialiser, which is not within the limits
 abbrev pub emptied_table : Sample
 emptied_table =
     table_sample (0x40 ∷ 0x00 ∷ 0x70 ∷ 0x01 ∷ 0x00 ∷ 0x01 ∷ 0x0b ∷ []) (table_type_of false (limits_of 0 (Some 1)) (ref_type true types.Func))
@@ -117,7 +118,7 @@ element_sample item names placed_mode placed_items mode items text = record {
 abbrev pub zero_const : Operator
 zero_const = i32_const (pos 0)
 
--- the segments of each of the eight flags
+-- A segment with each of the eight flags
 abbrev pub elements : List Sample
 elements =
     element_sample (0x00 ∷ 0x41 ∷ 0x00 ∷ 0x0b ∷ 0x01 ∷ 0x00 ∷ []) false (Active 0 (at 0xc zero_const ∷ [])) (Functions (0 ∷ []))
@@ -151,7 +152,7 @@ data_sample item placed mode bytes text = record {
   text = one_field text;
 }
 
--- memory 0 is left out, also where the bytes name it
+-- Memory 0 is omitted, even if the bytes name it.
 abbrev pub datas : List Sample
 datas =
     data_sample (0x00 ∷ 0x41 ∷ 0x00 ∷ 0x0b ∷ 0x01 ∷ 0x61 ∷ []) (ActiveData 0 (at 0xc zero_const ∷ [])) (ActiveData 0 (zero_const ∷ [])) (codes "a")
@@ -174,7 +175,7 @@ memory_sample item t text = record {
   text = one_field text;
 }
 
--- each flag alone and with others; pages of 1, 2, 2 ^ 16 and 2 ^ 63 bytes
+-- Each flag alone and with others; pages of 1, 2, 2 ^ 16 and 2 ^ 63 bytes
 abbrev pub memories : List Sample
 memories =
     memory_sample (0x01 ∷ 0x01 ∷ 0x02 ∷ []) (memory_type_of false false (limits_of 1 (Some 2)) None) (codes "(memory (;0;) 1 2)")
@@ -188,7 +189,7 @@ memories =
     ∷ memory_sample (0x0c ∷ 0x00 ∷ 0x3f ∷ []) (memory_type_of true false (limits_of 0 None) (Some 63)) (codes "(memory (;0;) i64 0 (pagesize 0x8000000000000000))")
     ∷ []
 
--- ---- imports of each kind, and what is defined behind them
+-- ---- imports of each kind, followed by definitions
 
 abbrev from_m : List ℕ → types.ExternType → layout.Import
 from_m name t = import_of (codes "m") name t

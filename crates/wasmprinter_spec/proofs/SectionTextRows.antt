@@ -1,5 +1,5 @@
--- Worked rows of imports, tables, memories, globals, element segments and data segments in the text format (sections 6.4 to 6.6 of the standard): the
--- texts that single modules give, and what texts write.
+-- Worked rows of imports, tables, memories, globals, element segments and data segments in the text format
+-- (sections 6.4 to 6.6 of the standard): the texts of single modules, and the modules that texts write.
 use Rattle.std.specs.Prelude.{◌≡◌, [], ◌∷◌, map, true, false, codes, Option, Some, None, refl}
 use Rattle.std.specs.List.{AllByRecursion}
 use Rattle.wasmprinter_spec.specs.Types as types
@@ -15,7 +15,7 @@ use Rattle.wasmprinter_spec.proofs.UnreadRows.{numbers_read}
 use Rattle.wasmprinter_spec.proofs.Computing.{composing, reading}
 use Rattle.wasmprinter_spec.proofs.FromBytes.{skeleton, text_by}
 
--- ---- what the samples give, and what it reads as
+-- ---- the texts of the samples, and the modules that these texts write
 
 abbrev Prints : Sample → Type 0
 Prints s = text_by defaults s.placed ≡ s.text
@@ -71,7 +71,7 @@ imports_read : ReadsBack imports
 unfolding reading
 imports_read = refl
 
--- the text of a table with an empty initialiser is that of a table without one
+-- The text of a table with an empty initialiser reads as a table without one.
 emptied_table_prints : Prints emptied_table
 unfolding composing
 emptied_table_prints = refl
@@ -106,12 +106,12 @@ datas_in_skeletons : map (λ s. text_by skeleton s.placed) datas ≡ map one_fie
 unfolding composing
 datas_in_skeletons = refl
 
--- initialisers stand in skeletons too
+-- Skeletons contain initialisers.
 filled_table_in_skeleton : text_by skeleton filled_table.placed ≡ filled_table.text
 unfolding composing
 filled_table_in_skeleton = refl
 
--- ---- other texts of the same
+-- ---- other texts of the same modules
 
 abbrev elem_module : Element Operator → Option Module
 elem_module e = Some (record empty { elements = e ∷ [] })
@@ -119,7 +119,7 @@ elem_module e = Some (record empty { elements = e ∷ [] })
 abbrev data_module : Data Operator → Option Module
 data_module d = Some (record empty { datas = d ∷ [] })
 
--- offsets and items written out or folded, table 0 left out or named, identifiers
+-- Offsets and items with `offset` and `item` or folded, table 0 omitted or named, and identifiers
 element_texts : map read (
     codes "(module (elem (offset i32.const 0) func 0))"
     ∷ codes "(module (elem $e (table 0) (offset (i32.const 0)) func 0))"
@@ -143,7 +143,8 @@ element_texts : map read (
 unfolding reading
 element_texts = refl
 
--- the same of data, whose bytes stand in any number of strings; a folded offset of several operators
+-- The same for data segments, whose bytes may be split into any number of strings, and a folded offset of several
+-- operators
 data_texts : map read (
     codes "(module (data (offset i32.const 0) \"a\"))"
     ∷ codes "(module (data $d (memory 0x0) (i32.const 0) \"\\61\" \"\"))"
@@ -166,7 +167,7 @@ data_texts : map read (
 unfolding reading
 data_texts = refl
 
--- folded initialisers, addresses of 32 bits that are written out, and a global that is used before it is declared
+-- Folded initialisers, an explicit 32-bit address type, and a global that uses items declared after it
 init_texts : map read (
     codes "(module (table $t i32 1 (ref null func) (ref.null func)))"
     ∷ codes "(module (global (ref $t) (ref.func $f)) (type $t (func)) (func (type 0)) (func $f (type $t)))"
@@ -181,9 +182,9 @@ init_texts : map read (
 unfolding reading
 init_texts = refl
 
--- ---- texts that write nothing. In each list the first text reads.
+-- ---- texts that write no module (in each list, the first text reads)
 
--- an import stands before what is defined of the kinds that are imported, whatever its kind, but not before all fields
+-- Imports come before all definitions of the kinds that can be imported, but other fields may come before them.
 unread_imports : numbers_read (
     codes "(module (type (func)) (import \"m\" \"f\" (func (type 0))) (func (type 0)))"
     ∷ codes "(module (export \"e\" (func 0)) (elem func) (data) (import \"m\" \"f\" (func (type 0))) (type (func)))"
@@ -236,7 +237,7 @@ unread_fields : numbers_read (
 unfolding reading
 unread_fields = refl
 
--- sizes of pages that are no power of two, that have more than 64 bits, or that stand in front of `shared`
+-- Page sizes that are no power of two, that have more than 64 bits, or that precede `shared`
 unread_memories : numbers_read (
     codes "(module (memory 1 (pagesize 0x8000000000000000)))"
     ∷ codes "(module (memory 1 (pagesize 3)))"

@@ -1,10 +1,10 @@
--- The sequences of styles, byte by byte.
+-- The ANSI escape sequences of styles, byte by byte.
 use Rattle.std.specs.Prelude.{◌≡◌, ℕ, List, ◌∷◌, ◌++◌, codes, refl}
 use Rattle.std.specs.Fmt.{digits}
 use Rattle.wasmprinter_spec.specs.Call.{Start, Literal, Name, Keyword, TypeName, Comment, Reset}
 use Rattle.wasmprinter_spec.specs.Coloured.{coloured_bytes}
 
--- ESC, [ and a text
+-- The bytes ESC and [, followed by a text
 abbrev pub escape : List ℕ → List ℕ
 escape s = 27 ∷ 91 ∷ s
 

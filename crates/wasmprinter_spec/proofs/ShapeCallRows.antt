@@ -1,4 +1,4 @@
--- Worked rows of immediates of each shape: the calls that they make, with styles.
+-- Worked rows of immediates of each shape: their calls, with styles.
 use Rattle.std.specs.Prelude.{◌≡◌, ℕ, List, [], ◌∷◌, ◌++◌, true, false, codes, replicate, refl}
 use Rattle.wasmprinter_spec.specs.Grammar.{Placed}
 use Rattle.wasmprinter_spec.specs.Types as types
@@ -24,7 +24,7 @@ index digits = plain (codes " ") ++ in_style Name digits
 abbrev one_result : List ℕ → List Call
 one_result t = plain (codes " (") ++ in_style Keyword (codes "result ") ++ in_style TypeName t ++ plain (codes ")")
 
--- indices are names, also of memories and tables
+-- Indices have the style of names, also those of memories and tables.
 index_calls : called 0 0x11 (Indices 0 1) ++ called 0xfc 12 (Indices 3 1) ++ called 0xfc 10 (Indices 0 2)
     ≡ atoms (
     plain (codes "call_indirect") ++ index (codes "1")
@@ -34,13 +34,13 @@ index_calls : called 0 0x11 (Indices 0 1) ++ called 0xfc 12 (Indices 3 1) ++ cal
 unfolding printing
 index_calls = refl
 
--- a field is an index too, a number of elements is none
+-- A field has the style of an index; a number of elements does not.
 field_calls : called 0xfb 2 (Indices 1 2) ++ called 0xfb 8 (Indices 1 2)
     ≡ atoms (plain (codes "struct.get") ++ index (codes "1") ++ index (codes "2") ++ plain (codes "array.new_fixed") ++ index (codes "1") ++ plain (codes " 2"))
 unfolding printing
 field_calls = refl
 
--- offsets, alignments and lanes have no style
+-- Offsets, alignments and lanes have no style.
 operand_calls : called 0 0x28 (Memory (mem_arg_of 1 1 4)) ++ called 0xfd 84 (MemoryLane (mem_arg_of 0 2 1) 3) ++ called 0xfd 21 (Lane 15)
     ≡ atoms (
     plain (codes "i32.load") ++ index (codes "1") ++ plain (codes " offset=4 align=2")
@@ -49,7 +49,7 @@ operand_calls : called 0 0x28 (Memory (mem_arg_of 1 1 4)) ++ called 0xfd 84 (Mem
 unfolding printing
 operand_calls = refl
 
--- the keyword `result` has its blank before one type alone
+-- The keyword `result` includes a space only before a single type.
 selection_calls : called 0 0x1c (Types (types.I32 ∷ [])) ++ called 0 0x1c (Types []) ++ called 0 0x1c (Types (types.I32 ∷ types.F64 ∷ []))
     ≡ atoms (
     plain (codes "select") ++ one_result (codes "i32")
@@ -74,7 +74,7 @@ cast_calls : called 0xfb 24 (Cast 0 (ref_type true types.Any) (ref_type false (t
 unfolding printing
 cast_calls = refl
 
--- the numbers of a vector are one constant, the lanes of a shuffle are none
+-- The numbers of a vector are one literal. The lanes of a shuffle have no style.
 vector_calls : called 0xfd 12 (Bytes (1 ∷ replicate 15 0)) ++ called 0xfd 13 (Bytes (replicate 16 7))
     ≡ atoms (
     plain (codes "v128.const") ++ in_style TypeName (codes " i32x4") ++ in_style Literal (codes " 0x00000001 0x00000000 0x00000000 0x00000000")

@@ -1,4 +1,5 @@
--- Worked rows of operators with immediates of each shape: what their bytes spell, how they are printed, and that the texts read back.
+-- Worked rows of operators with immediates of each shape: what their bytes encode, their printed texts, and that
+-- the texts read back.
 use Rattle.std.specs.Prelude.{◌≡◌, ℕ, List, [], ◌∷◌, map, Option, Some, refl}
 use Rattle.wasmprinter_spec.specs.Grammar.{Placed}
 use Rattle.wasmprinter_spec.specs.Types.{signature_at}
@@ -17,13 +18,13 @@ use Rattle.wasmprinter_spec.proofs.FromBytes.{spelled}
 use Rattle.wasmprinter_spec.proofs.FromText.{operators_beside}
 use Rattle.wasmprinter_spec.specs.Names.{no_names}
 
--- ---- what bytes spell
+-- ---- what bytes encode
 
 samples_spelled : map (λ ss. map (λ s. spelled s.bytes) ss) all_samples ≡ map (λ ss. map (λ s. Some (s.operator ∷ [])) ss) all_samples
 unfolding table
 samples_spelled = refl
 
--- ---- how they are printed
+-- ---- printed texts
 
 abbrev printed : Operator → List ℕ
 printed o =
@@ -34,7 +35,7 @@ samples_printed : map (λ ss. map (λ s. printed s.operator) ss) all_samples ≡
 unfolding printing
 samples_printed = refl
 
--- ---- the way back
+-- ---- reading back
 
 abbrev pub around : Context
 around = record { spaces = no_spaces; signature = signature_at sample_types; fields = λ n. [] }

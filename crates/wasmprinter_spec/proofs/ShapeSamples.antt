@@ -1,4 +1,5 @@
--- Operators with immediates of each shape, written by hand, which the worked rows share: their bytes, what these spell, and their texts.
+-- Operators with immediates of each shape, typed by hand, which the worked rows share: their bytes, the operators
+-- that these encode, and their texts.
 use Rattle.std.specs.Prelude.{ℕ, List, [], ◌∷◌, ◌++◌, true, false, codes, replicate}
 use Rattle.wasmprinter_spec.specs.Types as types
 use Rattle.wasmprinter_spec.specs.Types.{ref_type}
@@ -10,11 +11,11 @@ pub record Sample : Type 0 where
   pub operator : Operator
   pub text : List ℕ
 
--- an operator with this prefix and number
+-- An operator with this prefix and number
 abbrev sample : List ℕ → ℕ → ℕ → Immediates → List ℕ → Sample
 sample bs p n i t = record { bytes = bs; operator = record { opcode = opcode p n; immediates = i }; text = t }
 
--- A number behind a prefix may be spelled longer than is needed, and has two bytes from 128 on.
+-- The encoding of a number after a prefix may be longer than needed. From 128 on it has at least two bytes.
 abbrev no_immediates : List Sample
 no_immediates =
     sample (0x00 ∷ []) 0 0 NoImmediates (codes "unreachable")
@@ -29,7 +30,7 @@ no_immediates =
     ∷ sample (0xfe ∷ 0x03 ∷ 0x00 ∷ []) 0xfe 3 NoImmediates (codes "atomic.fence")
     ∷ []
 
--- an index: what it is an index of stands in no text
+-- An index. The text does not say which index space it belongs to.
 abbrev indices : List Sample
 indices =
     sample (0x10 ∷ 0x00 ∷ []) 0 0x10 (Index 0) (codes "call 0")
@@ -43,7 +44,7 @@ indices =
     ∷ sample (0xfc ∷ 0x10 ∷ 0x00 ∷ []) 0xfc 16 (Index 0) (codes "table.size 0")
     ∷ []
 
--- the index of a memory, which is left out where it is 0
+-- The index of a memory, which is omitted if it is 0
 abbrev default_indices : List Sample
 default_indices =
     sample (0x3f ∷ 0x00 ∷ []) 0 0x3f (Index 0) (codes "memory.size")
@@ -53,7 +54,7 @@ default_indices =
     ∷ sample (0xfc ∷ 0x0b ∷ 0x01 ∷ []) 0xfc 11 (Index 1) (codes "memory.fill 1")
     ∷ []
 
--- two indices, a type with a field, and a type with a number
+-- Two indices, a type with a field, and a type with a number
 abbrev pairs : List Sample
 pairs =
     sample (0xfb ∷ 0x09 ∷ 0x01 ∷ 0x02 ∷ []) 0xfb 9 (Indices 1 2) (codes "array.new_data 1 2")
@@ -66,7 +67,7 @@ pairs =
     ∷ sample (0xfb ∷ 0x08 ∷ 0x00 ∷ 0xff ∷ 0xff ∷ 0xff ∷ 0xff ∷ 0x0f ∷ []) 0xfb 8 (Indices 0 4294967295) (codes "array.new_fixed 0 4294967295")
     ∷ []
 
--- a type and a table, which stands in front, and not where it is 0
+-- A type and a table. The table comes first and is omitted if it is 0.
 abbrev calls : List Sample
 calls =
     sample (0x11 ∷ 0x00 ∷ 0x01 ∷ []) 0 0x11 (Indices 0 1) (codes "call_indirect 1 (type 0)")
@@ -74,7 +75,7 @@ calls =
     ∷ sample (0x13 ∷ 0x01 ∷ 0x02 ∷ []) 0 0x13 (Indices 1 2) (codes "return_call_indirect 2 (type 1)")
     ∷ []
 
--- a segment and a memory or table, which stands in front, and not where it is 0
+-- A segment, and a memory or table. The memory or table comes first and is omitted if it is 0.
 abbrev segments : List Sample
 segments =
     sample (0xfc ∷ 0x08 ∷ 0x00 ∷ 0x00 ∷ []) 0xfc 8 (Indices 0 0) (codes "memory.init 0")
@@ -84,7 +85,7 @@ segments =
     ∷ sample (0xfc ∷ 0x0c ∷ 0x00 ∷ 0x01 ∷ []) 0xfc 12 (Indices 0 1) (codes "table.init 1 0")
     ∷ []
 
--- the memory or table that is written and the one that is read, which both stand there where one of them isn't 0
+-- The memory or table that is written, and the one that is read. Both are printed if one of them is not 0.
 abbrev copies : List Sample
 copies =
     sample (0xfc ∷ 0x0e ∷ 0x00 ∷ 0x00 ∷ []) 0xfc 14 (Indices 0 0) (codes "table.copy")
@@ -94,7 +95,7 @@ copies =
     ∷ sample (0xfc ∷ 0x0a ∷ 0x02 ∷ 0x03 ∷ []) 0xfc 10 (Indices 2 3) (codes "memory.copy 2 3")
     ∷ []
 
--- no types, and two lists of them
+-- A `select` without types, and some with a list of types
 abbrev selections : List Sample
 selections =
     sample (0x1b ∷ []) 0 0x1b NoImmediates (codes "select")
@@ -104,7 +105,8 @@ selections =
     ∷ sample (0x1c ∷ 0x02 ∷ 0x7f ∷ 0x70 ∷ []) 0 0x1c (Types (types.I32 ∷ to_null types.Func ∷ [])) (codes "select (result i32 funcref)")
     ∷ []
 
--- Heap types, reference types, and a label with two of these. Of a reference type the opcode or the flags say whether it may be null.
+-- Heap types, reference types, and a label with two reference types. The opcode or the flags say whether a
+-- reference type is nullable.
 abbrev references : List Sample
 references =
     sample (0xd0 ∷ 0x70 ∷ []) 0 0xd0 (Heap types.Func) (codes "ref.null func")
@@ -128,8 +130,8 @@ casts =
     (codes "br_on_cast_fail 0 (ref null 1) (ref null 0)")
     ∷ []
 
--- Memory operands: an exponent below 64 is one of memory 0, from 64 on an index follows, which may be 0 too. The natural
--- alignment and what is 0 are left out.
+-- Memory operands. An exponent below 64 implies memory 0; from 64 on, the index of a memory follows, which may be
+-- 0 too. The natural alignment, memory 0 and an offset of 0 are omitted.
 abbrev memory_operands : List Sample
 memory_operands =
     sample (0x28 ∷ 0x02 ∷ 0x00 ∷ []) 0 0x28 (Memory (mem_arg_of 2 0 0)) (codes "i32.load")
@@ -146,7 +148,7 @@ memory_operands =
     ∷ sample (0xfe ∷ 0x4e ∷ 0x02 ∷ 0x08 ∷ []) 0xfe 0x4e (Memory (mem_arg_of 2 0 8)) (codes "i64.atomic.rmw32.cmpxchg_u offset=8")
     ∷ []
 
--- lanes, by themselves and behind memory operands
+-- Lanes, alone and after memory operands
 abbrev lanes : List Sample
 lanes =
     sample (0xfd ∷ 0x15 ∷ 0x00 ∷ []) 0xfd 21 (Lane 0) (codes "i8x16.extract_lane_s 0")
@@ -156,11 +158,11 @@ lanes =
     ∷ sample (0xfd ∷ 0x5b ∷ 0x00 ∷ 0x00 ∷ 0xff ∷ []) 0xfd 91 (MemoryLane (mem_arg_of 0 0 0) 255) (codes "v128.store64_lane align=1 255")
     ∷ []
 
--- the bytes 00 to 0F
+-- The bytes 00 to 0F
 abbrev rising : List ℕ
 rising = 0 ∷ 1 ∷ 2 ∷ 3 ∷ 4 ∷ 5 ∷ 6 ∷ 7 ∷ 8 ∷ 9 ∷ 10 ∷ 11 ∷ 12 ∷ 13 ∷ 14 ∷ 15 ∷ []
 
--- floats, vectors as four numbers with the lowest byte first, and sixteen lanes
+-- Floats, vectors as four numbers with the lowest byte first, and sixteen lanes
 abbrev constants : List Sample
 constants =
     sample (0x43 ∷ 0x00 ∷ 0x00 ∷ 0xc0 ∷ 0x3f ∷ []) 0 0x43 (F32 0x3fc00000) (codes "f32.const 0x1.8p+0")

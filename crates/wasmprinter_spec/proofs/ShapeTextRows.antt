@@ -1,4 +1,5 @@
--- Worked rows of immediates of each shape: bytes that spell no operator, other texts of the same operators, and texts of none.
+-- Worked rows of immediates of each shape: bytes that encode no operator, other texts of the same operators, and
+-- texts of no operator.
 use Rattle.std.specs.Prelude.{◌≡◌, ℕ, List, [], ◌∷◌, ◌++◌, map, replicate, true, false, codes, Option, Some, refl}
 use Rattle.wasmprinter_spec.specs.Types as types
 use Rattle.wasmprinter_spec.specs.Types.{ref_type}
@@ -9,9 +10,9 @@ use Rattle.wasmprinter_spec.proofs.ShapeRows.{ops}
 use Rattle.wasmprinter_spec.proofs.FromBytes.{spelled}
 use Rattle.wasmprinter_spec.proofs.Numbers.{numbers_from}
 
--- ---- what isn't spelled
+-- ---- bytes that encode no operator
 
--- opcodes that the table doesn't list, and one of too many bits
+-- Opcodes that the table does not list, and a number of too many bits
 unlisted : numbers_from spelled 0 (
     (0x00 ∷ [])
     ∷ (0x16 ∷ [])
@@ -28,8 +29,8 @@ unlisted : numbers_from spelled 0 (
 unfolding table
 unlisted = refl
 
--- A cast has flags below 4, a memory operand begins with a number below 128. Another byte of a fence, a byte that is no
--- type, immediates that are cut off.
+-- The flags of a cast are below 4, and a memory operand begins with a number below 128. Another byte after a
+-- fence, a byte that is no type, and truncated immediates
 misspelled : numbers_from spelled 0 (
     (0xfb ∷ 0x18 ∷ 0x03 ∷ 0x00 ∷ 0x6e ∷ 0x6e ∷ [])
     ∷ (0xfb ∷ 0x18 ∷ 0x04 ∷ 0x00 ∷ 0x6e ∷ 0x6e ∷ [])
@@ -55,7 +56,7 @@ misspelled = refl
 abbrev one : ℕ → ℕ → Immediates → Option (List Operator)
 one p n i = Some (record { opcode = opcode p n; immediates = i } ∷ [])
 
--- indices that might be left out
+-- Indices that could be omitted
 written_indices : map ops (
     codes "memory.size 0"
     ∷ codes "memory.fill 0"
@@ -74,7 +75,7 @@ written_indices : map ops (
 unfolding reading
 written_indices = refl
 
--- offsets of 0 and natural alignments, in hexadecimal too
+-- Offsets of 0 and natural alignments, also in hexadecimal
 written_operands : map ops (
     codes "i32.load 0 offset=0 align=4"
     ∷ codes "i32.load offset=0x1_0 align=0x8"
@@ -91,7 +92,7 @@ written_operands : map ops (
 unfolding reading
 written_operands = refl
 
--- several groups of results, references that are written out, and vectors of other lanes
+-- Several groups of results, references in their long form, and vectors with other lanes
 written_types : map ops (
     codes "select (result i32) (result) (result i64)"
     ∷ codes "ref.test (ref null func)"
@@ -110,9 +111,10 @@ written_types : map ops (
 unfolding reading
 written_types = refl
 
--- ---- texts of no operators
+-- ---- texts of no operator
 
--- In each list the first text reads. An alignment is a power of two of 64 bits, which stands behind the offset.
+-- In each list, the first text reads. An alignment is a power of two of at most 64 bits and comes after the
+-- offset.
 unread_operands : numbers_from ops 0 (
     codes "i32.load 1 offset=18446744073709551615 align=1"
     ∷ codes "i32.load align=3"

@@ -1,4 +1,5 @@
--- Worked rows of the table of operators (sections 5.4 and 6.5 of the standard): words, shapes, arities and roles by opcode.
+-- Worked rows of the table of operators (sections 5.4 and 6.5 of the standard): words, shapes, arities and roles
+-- by opcode.
 use Rattle.std.specs.Prelude.{◌≡◌, ℕ, List, [], ◌∷◌, ◌++◌, replicate, Bool, true, false, not, ◌&&◌, is_some, map, codes, Option, Some, option_map, refl}
 use Rattle.std.specs.List.{filter}
 use Rattle.wasmprinter_spec.specs.Operator.{opcode}
@@ -6,7 +7,7 @@ use Rattle.wasmprinter_spec.specs.Row.{Row, Shape, NoneShape, BlockShape, TryTab
 use Rattle.wasmprinter_spec.specs.Table.{table, first, has_opcode, rows_of, by_opcode, word_of, role_of, shape_of}
 use Rattle.wasmprinter_spec.specs.Code.{role_by}
 
--- return, call, drop, local.get, local.set, i32.const, i64.const
+-- The opcodes of return, call, drop, local.get, local.set, i32.const and i64.const
 abbrev numbers : List ℕ
 numbers = 0x0f ∷ 0x10 ∷ 0x1a ∷ 0x20 ∷ 0x21 ∷ 0x41 ∷ 0x42 ∷ []
 
@@ -25,9 +26,9 @@ arities : map (λ n. option_map (λ r. r.arity) (by_opcode (opcode 0 n))) number
 unfolding table
 arities = refl
 
--- ---- control
+-- ---- control instructions
 
--- the operators that stand to the blocks around them, and then the others
+-- The operators that have a role among blocks, and then the others
 abbrev nesting_numbers : List ℕ
 nesting_numbers = 0x02 ∷ 0x03 ∷ 0x04 ∷ 0x05 ∷ 0x06 ∷ 0x07 ∷ 0x19 ∷ 0x18 ∷ 0x0b ∷ 0x1f ∷ []
 
@@ -67,13 +68,13 @@ branch_arities : map (λ n. option_map (λ r. r.arity) (by_opcode (opcode 0 n)))
 unfolding table
 branch_arities = refl
 
--- all others stand as they are, an opcode that isn't listed too
+-- All other opcodes have the role `Plain`, even an opcode that is not listed.
 plain_roles : map (λ n. role_of (opcode 0 n)) (branch_numbers ++ (0x1d ∷ numbers))
     ≡ Plain ∷ Plain ∷ Plain ∷ Plain ∷ Plain ∷ Plain ∷ Plain ∷ Plain ∷ Plain ∷ Plain ∷ Plain ∷ Plain ∷ Plain ∷ Plain ∷ Plain ∷ Plain ∷ []
 unfolding table
 plain_roles = refl
 
--- those with one label alone: rethrow, br, br_if, delegate
+-- The operators whose only immediate is a label: rethrow, br, br_if, delegate
 abbrev takes_label : Option Shape → Bool
 takes_label (Some (IndexShape Label)) = true
 takes_label _ = false
@@ -82,19 +83,19 @@ label_takers : filter (λ n. takes_label (shape_of (opcode 0 n))) (nesting_numbe
 unfolding table
 label_takers = refl
 
--- operators with one word stand alike
+-- Operators with the same word have the same role.
 alike : map (λ r. role_by (rows_of r.word)) table ≡ map (λ r. r.role) table
 unfolding table
 alike = refl
 
 -- ---- words
 
--- the rows of a word: its opcode's alone, and none of what is no operator's word
+-- The rows of a word are those of its opcode. A word of no operator has none.
 same_rows : map Some (rows_of (codes "local.set")) ≡ by_opcode (opcode 0 0x21) ∷ []
 unfolding table
 same_rows = refl
 
--- those of a word that two opcodes share, in the order of the opcodes
+-- The rows of a word that two opcodes share, in the order of the opcodes
 shared_rows : map (λ w. map Some (rows_of w)) (codes "select" ∷ codes "ref.test" ∷ codes "ref.cast" ∷ [])
     ≡ (by_opcode (opcode 0 0x1b) ∷ by_opcode (opcode 0 0x1c) ∷ []) ∷ (by_opcode (opcode 0xfb 20) ∷ by_opcode (opcode 0xfb 21) ∷ [])
     ∷ (by_opcode (opcode 0xfb 22) ∷ by_opcode (opcode 0xfb 23) ∷ []) ∷ []
@@ -105,12 +106,12 @@ no_rows : map rows_of (codes "local" ∷ codes "param" ∷ codes "" ∷ codes "l
 unfolding table
 no_rows = refl
 
--- a byte that no operator has, and a byte of one behind a prefix
+-- A byte that is the opcode of no operator, and a number that no opcode with the prefix has
 no_word : map word_of (opcode 0 0x1d ∷ opcode 0 0xff ∷ opcode 0xfc 0x20 ∷ []) ≡ [] ∷ [] ∷ [] ∷ []
 unfolding table
 no_word = refl
 
--- no opcode is listed twice
+-- No opcode is listed twice.
 abbrev have_own_opcodes : List Row → Bool
 have_own_opcodes [] = true
 have_own_opcodes (r ∷ rs) = not (is_some (first (has_opcode (opcode r.prefix r.number)) rs)) && have_own_opcodes rs

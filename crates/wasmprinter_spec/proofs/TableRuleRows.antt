@@ -1,5 +1,6 @@
--- Rules over the words of the table: how many operators there are, which words stand for several, the natural alignment of each memory
--- operand (section 2.4 of the standard, "Memory Instructions"), and how many operands operators on numbers and vectors take.
+-- Rules about the words of the table: the number of operators, which words several operators share, the natural
+-- alignment of each memory operand (section 2.4 of the standard, "Memory Instructions"), and the operand counts of
+-- operators on numbers and vectors.
 use Rattle.std.specs.Prelude.{◌≡◌, ℕ, ◌+◌, ◌*◌, List, [], ◌∷◌, length, Bool, true, false, ◌&&◌, ◌||◌, ◌==◌, is_some, map, cond, codes, Option, Some, None, refl}
 use Rattle.std.specs.List.{filter, list_any}
 use Rattle.wasmprinter_spec.specs.Row.{Row, Shape, NoneShape, MemoryShape, MemoryLaneShape, LaneShape, Arity, Fixed}
@@ -7,7 +8,7 @@ use Rattle.wasmprinter_spec.specs.Table.{table}
 use Rattle.wasmprinter_spec.specs.Text.Items.{or_else}
 use Rattle.wasmprinter_spec.specs.Text.Operators.{behind_prefix}
 
--- ---- how many
+-- ---- the number of operators
 
 abbrev behind : ℕ → List Row
 behind p = filter (λ r. r.prefix == p) table
@@ -22,7 +23,7 @@ in_all = refl
 
 -- ---- words that several operators share
 
--- the bytes of a word as one number
+-- The bytes of a word as one number
 abbrev key_after : ℕ → List ℕ → ℕ
 key_after k [] = k
 key_after k (b ∷ bs) = key_after (k * 256 + b) bs
@@ -30,7 +31,7 @@ key_after k (b ∷ bs) = key_after (k * 256 + b) bs
 abbrev keyed : Row → List ℕ × ℕ
 keyed r = (r.word, key_after 0 r.word)
 
--- those that stand again further on
+-- The words that occur again later in the list
 abbrev repeated_words : List (List ℕ × ℕ) → List (List ℕ)
 repeated_words [] = []
 repeated_words (x ∷ xs) = cond (list_any (λ y. y.1 == x.1) xs) (x.0 ∷ repeated_words xs) (repeated_words xs)
@@ -44,7 +45,7 @@ shared_words = refl
 abbrev begins : List ℕ → List ℕ → Bool
 begins p w = is_some (behind_prefix p w)
 
--- what stands behind the first place where p stands
+-- The part of a word after the first occurrence of `p`
 abbrev behind_part : List ℕ → List ℕ → Option (List ℕ)
 behind_part p [] = behind_prefix p []
 behind_part p (b ∷ w) = or_else (behind_prefix p (b ∷ w)) (behind_part p w)
@@ -52,7 +53,7 @@ behind_part p (b ∷ w) = or_else (behind_prefix p (b ∷ w)) (behind_part p w)
 abbrev holds : List ℕ → List ℕ → Bool
 holds w p = is_some (behind_part p w)
 
--- what the first of these says that w begins with
+-- The value of the first listed prefix that `w` has
 abbrev by_beginning : {A : Type 0} → List (List ℕ × A) → List ℕ → Option A
 by_beginning [] w = None
 by_beginning (x ∷ xs) w = cond (begins x.0 w) (Some x.1) (by_beginning xs w)
@@ -61,20 +62,21 @@ abbrev part_by_beginning : {A : Type 0} → List (List ℕ × A) → Option (Lis
 part_by_beginning xs None = None
 part_by_beginning xs (Some w) = by_beginning xs w
 
--- what stands behind the first dot
+-- The part of a word after the first dot
 abbrev behind_dot : List ℕ → Option (List ℕ)
 behind_dot w = behind_part (codes ".") w
 
 -- ---- alignments
 
--- The number behind `load`, `store` or `rmw` is how many bits are accessed, of lanes that are widened all together.
+-- The number after `load`, `store` or `rmw` is the number of bits that are accessed. For lanes that are extended,
+-- all lanes count together.
 abbrev accessed : List ℕ → Option ℕ
 accessed w =
     part_by_beginning (
     (codes "8x8", 3) ∷ (codes "16x4", 3) ∷ (codes "32x2", 3) ∷ (codes "8", 0) ∷ (codes "16", 1) ∷ (codes "32", 2) ∷ (codes "64", 3) ∷ [])
     (or_else (behind_part (codes "load") w) (or_else (behind_part (codes "store") w) (behind_part (codes "rmw") w)))
 
--- else the type says it, or the operator's name
+-- Without such a number, the type or the operator's name determines the alignment.
 abbrev of_type : List ℕ → Option ℕ
 of_type w =
     by_beginning (
@@ -93,7 +95,7 @@ alignments : map (λ r. natural r.shape) on_memory ≡ map (λ r. or_else (acces
 unfolding table
 alignments = refl
 
--- a memory operand stands behind each operator that loads or stores, waits or notifies, and behind no other
+-- An operator has a memory operand exactly if it loads, stores, waits or notifies.
 abbrev accesses : List ℕ → Bool
 accesses w = list_any (holds w) (codes ".load" ∷ codes ".store" ∷ codes ".rmw" ∷ codes ".wait" ∷ codes ".notify" ∷ [])
 
@@ -127,7 +129,7 @@ of_numbers w =
 abbrev on_numbers : List Row
 on_numbers = filter (λ r. is_none r.shape && of_numbers r.word) table
 
--- by what stands behind the type; two operands and one result where none of these does
+-- The arity by the part of the word after the type. If no entry matches, there are two operands and one result.
 abbrev by_name : Option (List ℕ) → Option Arity
 by_name w =
     part_by_beginning (
@@ -150,7 +152,7 @@ abbrev is_lane : Shape → Bool
 is_lane LaneShape = true
 is_lane _ = false
 
--- a lane is taken out of one operand, or put into one
+-- A lane is extracted from one operand, or replaced in one by another.
 abbrev on_lanes : List Row
 on_lanes = filter (λ r. is_lane r.shape) table
 

@@ -1,5 +1,5 @@
--- The text of lists of calls, without the sequences of styles and with them, and their lines: of two lists, and of calls that differ only in how
--- text is cut.
+-- The text of lists of calls, with ANSI escape sequences and without, and their lines: of joined lists, and of
+-- lists that differ only in how text is split.
 use Rattle.std.proofs.Common.{◌≡◌, ℕ, List, [], ◌∷◌, ◌++◌, map, refl, sym, ap, ap₂, ◌∙◌, append_assoc, append-nil}
 use Rattle.wasmprinter_spec.specs.Call.{Call, Text, Newline, Line, Start, Claim, call_text, text_of, calls_of_bytes, atoms}
 use Rattle.wasmprinter_spec.specs.Lines.{TextLine, text_before_line, lines_of}
@@ -43,16 +43,16 @@ coloured_text-atoms : (cs : List Call) → coloured_text (atoms cs) ≡ coloured
 coloured_text-atoms [] = refl
 coloured_text-atoms (c ∷ cs) = coloured_text-append (calls_of_bytes c) (atoms cs) ∙ ap₂ (λ x y. x ++ y) (cut_coloured c) (coloured_text-atoms cs)
 
--- Calls that differ only in how text is cut have one text,
+-- Lists of calls that differ only in how text is split have the same text.
 pub alike_texts : (k l : List Call) → atoms k ≡ atoms l → text_of k ≡ text_of l
 alike_texts k l e = sym (text_of-atoms k) ∙ ap text_of e ∙ text_of-atoms l
 
--- Calls that are a prefix of others up to cutting have a prefix of their text.
+-- If calls are a prefix of other calls, except for how text is split, their text is a prefix of the other text.
 pub prefix_text : (k rest l : List Call) → atoms k ++ rest ≡ atoms l → text_of l ≡ text_of k ++ text_of rest
 prefix_text k rest l e =
     sym (text_of-atoms l) ∙ ap text_of (sym e) ∙ text_of-append (atoms k) rest ∙ ap (λ t. t ++ text_of rest) (text_of-atoms k)
 
--- Calls that differ only in how text is cut have one text also with the sequences of their styles.
+-- Lists of calls that differ only in how text is split have the same text with ANSI escape sequences.
 pub alike_coloured : (k l : List Call) → atoms k ≡ atoms l → coloured_text k ≡ coloured_text l
 alike_coloured k l e = sym (coloured_text-atoms k) ∙ ap coloured_text e ∙ coloured_text-atoms l
 
@@ -79,6 +79,6 @@ lines_of-atoms (Line p ∷ k) =
     ap₂ (λ (t : List ℕ) (lines : List TextLine). (p, t) ∷ lines) (before-atoms k) (lines_of-atoms k)
 lines_of-atoms (c ∷ k) = lines_of-atoms k
 
--- lists of calls that differ only in how text is cut have the same lines
+-- Lists of calls that differ only in how text is split have the same lines.
 pub alike_lines : (k l : List Call) → atoms k ≡ atoms l → lines_of k ≡ lines_of l
 alike_lines k l e = sym (lines_of-atoms k) ∙ ap lines_of e ∙ lines_of-atoms l

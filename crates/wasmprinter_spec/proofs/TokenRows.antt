@@ -12,17 +12,17 @@ group_tokens : tokens (codes "(module $m\t(func\r\n0))\n") ≡ left ∷ word (co
 unfolding lex class
 group_tokens = refl
 
--- all identifier characters that are no digits or letters
+-- All identifier characters that are neither digits nor letters, after a letter
 sign_characters : tokens (codes "a!#$%&'*+-./:<=>?@\\^_`|~") ≡ word (codes "a!#$%&'*+-./:<=>?@\\^_`|~") ∷ []
 unfolding lex class
 sign_characters = refl
 
--- a sign that begins an identifier or an annotation may stand within a word
+-- A sign that begins an identifier or an annotation may occur within a word.
 one_word : tokens (codes "i32$x @a") ≡ word (codes "i32$x") ∷ word (codes "@a") ∷ []
 unfolding lex class
 one_word = refl
 
--- they may begin one too, the dollar aside
+-- Except for the dollar sign, these signs may also begin a word.
 first_signs : tokens (codes "\\a $\\a (@\\a @ @@ # $# (@#")
     ≡ word (codes "\\a") ∷ name (codes "\\a") ∷ left_note (codes "\\a") ∷ word (codes "@") ∷ word (codes "@@") ∷ word (codes "#") ∷ name (codes "#") ∷ left_note (codes "#") ∷ []
 unfolding lex class
@@ -36,17 +36,17 @@ name_with_blank : tokens (codes "$\"a b\" $$ $@") ≡ name (codes "a b") ∷ nam
 unfolding lex class encode_utf8 is_utf8 chars
 name_with_blank = refl
 
--- no name is empty or no UTF-8, and a dollar alone is none
+-- An identifier is neither empty nor invalid UTF-8. A dollar sign alone is no identifier.
 no_names : tokens (codes "$ $\"\" $\"\\ff\" ($)") ≡ reserved ∷ reserved ∷ reserved ∷ left ∷ reserved ∷ right ∷ []
 unfolding lex class escape encode_utf8 is_utf8 chars
 no_names = refl
 
--- each of these is a token by itself that stands in annotations alone
+-- Each of these signs is a token by itself, which is allowed only in annotations.
 reserved_signs : tokens (codes ", ; [ ] { }") ≡ reserved ∷ reserved ∷ reserved ∷ reserved ∷ reserved ∷ reserved ∷ []
 unfolding lex class
 reserved_signs = refl
 
--- what the end of the text cuts off
+-- Tokens at the end of the text
 cut_tokens : tokens (codes "a") ++ tokens (codes "$a") ++ tokens (codes "$") ++ tokens (codes ";") ++ tokens (codes "(") ++ tokens (codes "(@") ++ tokens (codes "(@a") ++ tokens (codes "\"a\"")
     ≡ word (codes "a") ∷ name (codes "a") ∷ reserved ∷ reserved ∷ left ∷ left ∷ reserved ∷ left_note (codes "a") ∷ string (codes "a") ∷ []
 unfolding lex class
@@ -64,7 +64,7 @@ touching_word : tokens (codes "a\"b\" \"a\"b $a\"b\" \"a\"$b")
 unfolding lex class
 touching_word = refl
 
--- a parenthesis or a comment may stand directly behind a token and before one
+-- A parenthesis or a comment may touch the tokens before and after it.
 parted : tokens (codes "(\"a\"(b)\"c\"d;;\ne(;;)f)") ≡ left ∷ string (codes "a") ∷ left ∷ word (codes "b") ∷ right ∷ string (codes "c") ∷ reserved ∷ word (codes "d") ∷ word (codes "e") ∷ word (codes "f") ∷ right ∷ []
 unfolding lex class
 parted = refl
@@ -79,12 +79,12 @@ block_comments : tokens (codes "a(; b (; c ;) d ;)e (;;) (;(;;);) (;;;) (;();) (
 unfolding lex class
 block_comments = refl
 
--- one opens behind a parenthesis, a semicolon or another opening
+-- A comment may open directly after a parenthesis, a semicolon or another opening.
 nested_comments : tokens (codes "(; ((; ;) ;) a (; ;(; ;) ;) b (; (;) ;) ;) c (;(;;)(;;);) d") ≡ word (codes "a") ∷ word (codes "b") ∷ word (codes "c") ∷ word (codes "d") ∷ []
 unfolding lex class
 nested_comments = refl
 
--- characters that stand in no token stand in comments
+-- Comments may contain characters that no token may contain.
 in_comments : tokens (codes "(; " ++ 0x00 ∷ 0x7f ∷ 0xc3 ∷ 0xa9 ∷ codes " \" ;) ;; " ++ 0x01 ∷ 0xc3 ∷ 0xa9 ∷ codes "\" (;") ≡ []
 unfolding lex class
 in_comments = refl
@@ -93,12 +93,12 @@ open_comment : tokens (codes "a (; b (; c ;)") ≡ word (codes "a") ∷ bad ∷ 
 unfolding lex class
 open_comment = refl
 
--- a parenthesis serves only one of `(;` and `;)`
+-- A semicolon belongs to only one of `(;` and `;)`.
 shared_parenthesis : tokens (codes "(;)") ≡ bad ∷ []
 unfolding lex class
 shared_parenthesis = refl
 
--- the end of a comment where none is open
+-- The end of a comment where no comment is open
 end_alone : tokens (codes "a ;) b") ≡ word (codes "a") ∷ reserved ∷ right ∷ word (codes "b") ∷ []
 unfolding lex class
 end_alone = refl
@@ -118,7 +118,7 @@ character_escapes : tokens (codes "\"\\u{0}\\u{e9}\\u{1F600}\\u{10_ffff}\\u{D7FF
 unfolding lex class escape numeral encode_utf8
 character_escapes = refl
 
--- characters beyond ASCII, parentheses and comment signs stand for themselves
+-- Characters beyond ASCII, parentheses and comment delimiters have no special meaning in strings.
 plain_string : tokens (34 ∷ 0xc3 ∷ 0xa9 ∷ codes " (; ;; )'\"") ≡ string (0xc3 ∷ 0xa9 ∷ codes " (; ;; )'") ∷ []
 unfolding lex class
 plain_string = refl

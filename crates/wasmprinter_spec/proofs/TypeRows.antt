@@ -1,5 +1,5 @@
--- Worked rows of types in the binary format (sections 5.3 and 5.5 of the standard): what single bytes spell, and which type indices are
--- declared.
+-- Worked rows of types in the binary format (sections 5.3 and 5.5 of the standard): what single bytes encode, and
+-- which type indices are declared.
 use Rattle.std.specs.Prelude.{◌≡◌, ℕ, zero, suc, List, [], ◌∷◌, ◌++◌, Bool, true, false, cond, not, is_some, map, replicate, Option, Some, None, refl}
 use Rattle.std.proofs.Common.{arith}
 use Rattle.wasmprinter_spec.specs.Grammar.{Grammar, input, Placed}
@@ -13,7 +13,7 @@ use Rattle.wasmprinter_spec.specs.Module.{Module}
 use Rattle.wasmprinter_spec.specs.Indexed.{IsIndexed}
 use Rattle.wasmprinter_spec.proofs.Samples.{func, bare, empty, nothing}
 
--- what bytes spell where nothing stands behind them
+-- The value that exactly these bytes encode
 abbrev spelled_by : {A : Type 0} → Grammar A → List ℕ → Option A
 spelled_by g bytes = (alone g).parse (input 0 bytes)
 
@@ -23,12 +23,12 @@ abstract_heaps : map (λ b. spelled_by heap_type (b ∷ [])) (0x69 ∷ 0x6a ∷ 
     ≡ map (λ h. Some h) (Exn ∷ Array ∷ Struct ∷ I31 ∷ Eq ∷ Any ∷ Extern ∷ Func ∷ NoAny ∷ NoExtern ∷ NoFunc ∷ NoExn ∷ [])
 abstract_heaps = refl
 
--- in one byte, in two, in the longest spelling, the greatest
+-- Indices in one byte, in two bytes, in the longest encoding, and the greatest index
 heap_indices : map (spelled_by heap_type) ((0x00 ∷ []) ∷ (0x3f ∷ []) ∷ (0xe9 ∷ 0x00 ∷ []) ∷ (0x85 ∷ 0x80 ∷ 0x80 ∷ 0x80 ∷ 0x00 ∷ []) ∷ (0xff ∷ 0xff ∷ 0xff ∷ 0xff ∷ 0x0f ∷ []) ∷ [])
     ≡ map (λ n. Some (Index n)) (0 ∷ 63 ∷ 105 ∷ 5 ∷ 4294967295 ∷ [])
 heap_indices = refl
 
--- negative numbers, also in more bytes, a number of more than 33 bits, nothing, more than one
+-- Negative numbers, also in several bytes; a number of more than 33 bits; no byte; more than one number
 no_heaps : map (spelled_by heap_type) ((0x40 ∷ []) ∷ (0x68 ∷ []) ∷ (0x75 ∷ []) ∷ (0x7f ∷ []) ∷ (0xf0 ∷ 0x7f ∷ []) ∷ (0xff ∷ 0xff ∷ 0xff ∷ 0xff ∷ 0x7f ∷ []) ∷ (0x80 ∷ 0x80 ∷ 0x80 ∷ 0x80 ∷ 0x10 ∷ []) ∷ [] ∷ (0x80 ∷ []) ∷ (0x70 ∷ 0x70 ∷ []) ∷ [])
     ≡ replicate 10 None
 no_heaps = refl
@@ -51,7 +51,7 @@ no_value_types : map (spelled_by val_type) ([] ∷ (0x40 ∷ []) ∷ (0x7a ∷ [
     ≡ replicate 9 None
 no_value_types = refl
 
--- the numbers below n that pass a test
+-- The numbers below `n` that pass a test
 abbrev passing : (ℕ → Bool) → ℕ → List ℕ
 passing test zero = []
 passing test (suc n) = passing test n ++ cond (test n) (n ∷ []) []
@@ -60,15 +60,15 @@ first_bytes : passing begins_val_type 256
     ≡ 0x63 ∷ 0x64 ∷ 0x69 ∷ 0x6a ∷ 0x6b ∷ 0x6c ∷ 0x6d ∷ 0x6e ∷ 0x6f ∷ 0x70 ∷ 0x71 ∷ 0x72 ∷ 0x73 ∷ 0x74 ∷ 0x7b ∷ 0x7c ∷ 0x7d ∷ 0x7e ∷ 0x7f ∷ []
 first_bytes = refl
 
--- What is said of the first byte is so: behind each of these bytes something makes a value type of it, and behind
--- the other bytes nothing does.
+-- `begins_val_type` is right about each byte: with some continuation, each of the listed bytes begins a value
+-- type, and no other byte does with any.
 begun : map (λ b. is_some (val_type.parse (input 0 (b ∷ 0x00 ∷ [])))) (passing begins_val_type 256) ≡ replicate 19 true
 begun = refl
 
 not_begun : (p : ℕ) (bs : List ℕ) → map (λ b. val_type.parse (input p (b ∷ bs))) (passing (λ b. not (begins_val_type b)) 256) ≡ replicate 237 None
 not_begun p bs = refl
 
--- the bytes that by themselves are a block type: indices, 40, and the value types but for 63 and 64
+-- The bytes that are a block type by themselves: indices, 40, and the value types except 63 and 64
 one_byte_block_types : passing (λ b. is_some (spelled_by block_type (b ∷ []))) 256
     ≡ passing (λ b. true) 0x41 ++ 0x69 ∷ 0x6a ∷ 0x6b ∷ 0x6c ∷ 0x6d ∷ 0x6e ∷ 0x6f ∷ 0x70 ∷ 0x71 ∷ 0x72 ∷ 0x73 ∷ 0x74 ∷ 0x7b ∷ 0x7c ∷ 0x7d ∷ 0x7e ∷ 0x7f ∷ []
 one_byte_block_types = refl
@@ -107,7 +107,7 @@ subtypes : map (spelled_by subtype) (
     ∷ [])
 subtypes = refl
 
--- a subtype in another one, a group in one, a value type, no field
+-- A subtype within a subtype, a group within a subtype, a value type, and a missing field
 no_subtypes : map (spelled_by subtype) (
     (0x50 ∷ 0x00 ∷ 0x50 ∷ 0x00 ∷ 0x60 ∷ 0x00 ∷ 0x00 ∷ [])
     ∷ (0x50 ∷ 0x00 ∷ 0x4e ∷ 0x00 ∷ [])
@@ -130,7 +130,7 @@ written place ts = record { place = place; value = type_group true ts }
 group_of_one : groups_at 0xa (0x01 ∷ 0x4e ∷ 0x01 ∷ 0x60 ∷ 0x00 ∷ 0x00 ∷ []) ≡ Some (written 0xb (final_type nothing ∷ []) ∷ [])
 group_of_one = refl
 
--- groups of one, of none, of two, and a type by itself
+-- A type outside groups, a group of no types, a group of two types, and another type outside groups
 several_groups : groups_at 0xa (0x04 ∷ 0x60 ∷ 0x00 ∷ 0x00 ∷ 0x4e ∷ 0x00 ∷ 0x4e ∷ 0x02 ∷ 0x50 ∷ 0x00 ∷ 0x60 ∷ 0x00 ∷ 0x00 ∷ 0x5e ∷ 0x77 ∷ 0x01 ∷ 0x5f ∷ 0x00 ∷ [])
     ≡ Some (
     bare 0xb (final_type nothing)
@@ -140,13 +140,13 @@ several_groups : groups_at 0xa (0x04 ∷ 0x60 ∷ 0x00 ∷ 0x00 ∷ 0x4e ∷ 0x0
     ∷ [])
 several_groups = refl
 
--- a group in a group
+-- A group within a group, truncated groups, and a byte that begins neither a group nor a type
 no_groups : map (groups_at 0xa) ((0x01 ∷ 0x4e ∷ 0x01 ∷ 0x4e ∷ 0x00 ∷ []) ∷ (0x01 ∷ 0x4e ∷ []) ∷ (0x01 ∷ 0x4e ∷ 0x02 ∷ 0x5f ∷ 0x00 ∷ []) ∷ (0x01 ∷ 0x4d ∷ 0x00 ∷ []) ∷ []) ≡ None ∷ None ∷ None ∷ None ∷ []
 no_groups = refl
 
 -- ---- type indices
 
--- they count the types of all groups
+-- Type indices count the types of all groups.
 abbrev two_groups : List (List SubType)
 two_groups = (final_type (StructComposite []) ∷ []) ∷ [] ∷ (func (I32 ∷ []) [] ∷ sub_type false [] nothing ∷ []) ∷ []
 
@@ -154,7 +154,7 @@ signatures : map (signature_at (all_types two_groups)) (0 ∷ 1 ∷ 2 ∷ 3 ∷ 
     ≡ None ∷ Some (record { params = I32 ∷ []; results = [] }) ∷ Some (record { params = []; results = [] }) ∷ None ∷ []
 signatures = refl
 
--- a module of one group and of a function with a local
+-- A module with one group, and with a function that has a local
 abbrev of_types : List SubType → Module
 of_types ts = record empty { types = ts ∷ [] }
 
@@ -164,7 +164,7 @@ using ts i local = record (of_types ts) { functions = record { type_index = i; l
 abbrev to : ℕ → ValType
 to i = Ref (ref_type true (Index i))
 
--- types that name each other, and themselves
+-- Types that name each other, and themselves
 mutual_types : IsIndexed (using (sub_type false [] (StructComposite (field_type true (Val (to 1)) ∷ [])) ∷ sub_type true (0 ∷ []) (ArrayComposite (field_type false (Val (to 1)))) ∷ func (to 2 ∷ []) (to 0 ∷ []) ∷ []) 2 (to 2))
 mutual_types = record {
   types = (
@@ -212,6 +212,6 @@ undeclared_result i =
 undeclared_local : IsIndexed (using (func [] [] ∷ []) 0 (to 1)) → ⊥
 undeclared_local i = omega (arith, i.functions.0.locals.0)
 
--- a function of a structure's type
+-- A function whose type is a structure type
 structure_as_function : IsIndexed (using (final_type (StructComposite []) ∷ []) 0 I32) → ⊥
 structure_as_function i = absurd (let e = i.functions.0.type_index.1 in cc)

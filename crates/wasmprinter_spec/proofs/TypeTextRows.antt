@@ -1,4 +1,5 @@
--- Worked rows of types in the text format (section 6.4 of the standard): the texts that single types give, and what texts of types write.
+-- Worked rows of types in the text format (section 6.4 of the standard): the texts of single types, and the
+-- modules that texts of types write.
 use Rattle.std.specs.Prelude.{◌≡◌, ℕ, List, [], ◌∷◌, ◌++◌, true, false, length, map, codes, Some, refl}
 use Rattle.std.specs.Fmt.{digits}
 use Rattle.std.specs.Char.{encode_utf8}
@@ -28,11 +29,11 @@ use Rattle.wasmprinter_spec.specs.Names.{no_names}
 
 -- ---- from bytes to text
 
--- a module whose type section holds these bytes
+-- A module whose type section consists of these bytes
 abbrev with_types : List ℕ → List ℕ
 with_types bytes = head_bytes ++ (0x01 ∷ length bytes ∷ bytes)
 
--- the lines of a module's fields
+-- The text of a module with these lines of fields
 abbrev module_text : List (List ℕ) → List ℕ
 module_text fields = lines (codes "(module" ∷ (fields ++ codes ")" ∷ []))
 
@@ -44,7 +45,7 @@ group_of_one : printed (with_types (0x01 ∷ 0x4e ∷ 0x01 ∷ 0x60 ∷ 0x00 ∷
 unfolding composing repetition_of digits
 group_of_one = refl
 
--- each type of a group has the place behind two bytes, whatever the bytes before it are
+-- Each type of a group has the place two bytes after the group's first byte, wherever its own bytes are.
 group_with_offsets : printed_by (record defaults { offsets = true }) (with_types (0x03 ∷ 0x60 ∷ 0x00 ∷ 0x00 ∷ 0x4e ∷ 0x02 ∷ 0x60 ∷ 0x00 ∷ 0x00 ∷ 0x50 ∷ 0x00 ∷ 0x60 ∷ 0x00 ∷ 0x00 ∷ 0x4e ∷ 0x00 ∷ [])) ≡ Some (lines (
     codes "(module"
     ∷ codes "(;@b     ;)  (type (;0;) (func))"
@@ -66,7 +67,7 @@ open_array : printed (with_types (0x01 ∷ 0x50 ∷ 0x00 ∷ 0x5e ∷ 0x7f ∷ 0
 unfolding composing repetition_of digits
 open_array = refl
 
--- a final type with a supertype, and one without
+-- A final type with a supertype, and one without
 final_types : printed (with_types (0x03 ∷ 0x50 ∷ 0x00 ∷ 0x60 ∷ 0x00 ∷ 0x00 ∷ 0x4f ∷ 0x01 ∷ 0x00 ∷ 0x60 ∷ 0x00 ∷ 0x00 ∷ 0x4f ∷ 0x00 ∷ 0x60 ∷ 0x00 ∷ 0x00 ∷ [])) ≡ Some (module_text (
     codes "  (type (;0;) (sub (func)))"
     ∷ codes "  (type (;1;) (sub final 0 (func)))"
@@ -75,7 +76,7 @@ final_types : printed (with_types (0x03 ∷ 0x50 ∷ 0x00 ∷ 0x60 ∷ 0x00 ∷ 
 unfolding composing repetition_of digits
 final_types = refl
 
--- supertypes, of which the second stands behind
+-- Two supertypes, of which the second is declared later
 two_supertypes : printed (with_types (0x02 ∷ 0x50 ∷ 0x02 ∷ 0x00 ∷ 0x01 ∷ 0x5f ∷ 0x00 ∷ 0x5e ∷ 0x77 ∷ 0x01 ∷ [])) ≡ Some (module_text (
     codes "  (type (;0;) (sub 0 1 (struct)))"
     ∷ codes "  (type (;1;) (array (mut i16)))"
@@ -100,7 +101,7 @@ each_type : printed (with_types (0x01 ∷ 0x60 ∷ 0x13 ∷ (value_bytes ++ 0x0e
 unfolding composing repetition_of digits
 each_type = refl
 
--- functions use types of groups: one of a function type behind a group, and one of a structure
+-- Functions that use types of groups: a function type after another type, and a structure type
 functions_of_groups : printed (head_bytes
     ++ (0x01 ∷ 0x0b ∷ 0x02 ∷ 0x4e ∷ 0x02 ∷ 0x5f ∷ 0x00 ∷ 0x60 ∷ 0x00 ∷ 0x00 ∷ 0x60 ∷ 0x00 ∷ 0x00 ∷ [])
     ++ (0x03 ∷ 0x03 ∷ 0x02 ∷ 0x01 ∷ 0x00 ∷ [])
@@ -163,13 +164,13 @@ reads_each_type : read each_type_text ≡ Some (of_groups ((func
 unfolding lex class numeral natural groups heap_of_word ref_of_word number_of_word is_utf8 chars encode_utf8 kind_of_word
 reads_each_type = refl
 
--- the long forms of references that may be null
+-- The long forms of nullable references
 reads_long_forms : read (codes "(module (type (func (param (ref null func) (ref null none) (ref null 0x0) (ref null $t)))) (type $t (array (ref null i31))))")
     ≡ Some (of_groups ((func (to_null Func ∷ to_null NoAny ∷ to_null (Index 0) ∷ to_null (Index 1) ∷ []) [] ∷ []) ∷ (final_type (ArrayComposite (field_type false (Val (to_null I31)))) ∷ []) ∷ []))
 unfolding lex class numeral natural groups heap_of_word ref_of_word number_of_word packed_of_word is_utf8 chars encode_utf8 kind_of_word
 reads_long_forms = refl
 
--- printed groups, also without types
+-- Printed groups, also without types
 reads_groups : read (module_text (
     codes "  (rec"
     ∷ codes "    (type (;0;) (sub (struct (field (mut i8)) (field (ref null 1)))))"
@@ -186,7 +187,8 @@ reads_groups : read (module_text (
 unfolding lex class numeral natural groups heap_of_word ref_of_word number_of_word packed_of_word is_utf8 chars encode_utf8 kind_of_word
 reads_groups = refl
 
--- identifiers of types and fields, in groups and outside, for types behind their use; fields in one group
+-- Identifiers of types and fields, within groups and outside, also of types that are declared after their use;
+-- several fields in one group
 reads_names : read (codes "(module (type $p (sub final $a $q (struct (field $x i32) (field i16 (mut (ref $b))) (field) (field $y (mut f32))))) (rec (type $a (func)) (type $b (sub (func))) (type $q (array (ref $p)))))") ≡ Some (of_groups (
     (sub_type true (1 ∷ 3 ∷ []) (StructComposite (field_type false (Val I32) ∷ field_type false I16 ∷ field_type true (Val (to (Index 2))) ∷ field_type true (Val F32) ∷ [])) ∷ [])
     ∷ (final_type nothing ∷ sub_type false [] nothing ∷ final_type (ArrayComposite (field_type false (Val (to (Index 0))))) ∷ [])
@@ -194,13 +196,13 @@ reads_names : read (codes "(module (type $p (sub final $a $q (struct (field $x i
 unfolding lex class numeral natural groups heap_of_word ref_of_word number_of_word packed_of_word is_utf8 chars encode_utf8 kind_of_word
 reads_names = refl
 
--- one identifier in two structures; `sub final` without supertypes is the composite type by itself
+-- The same identifier in two structures. `sub final` without supertypes reads as the composite type alone.
 reads_shared_names : read (codes "(module (type $x (struct (field $x i32))) (type (sub final (struct (field $x i32)))))")
     ≡ Some (of_groups ((final_type (StructComposite (field_type false (Val I32) ∷ [])) ∷ []) ∷ (final_type (StructComposite (field_type false (Val I32) ∷ [])) ∷ []) ∷ []))
 unfolding lex class numeral natural groups heap_of_word ref_of_word number_of_word packed_of_word is_utf8 chars encode_utf8 kind_of_word
 reads_shared_names = refl
 
--- a signature with references beside the index of a type in a group
+-- A signature with references after the index of a type in a group
 reads_function : read (codes "(module (func (type $f) (param $x (ref $s)) (result (ref null $s)) (local $y (ref $s)) (local funcref v128) local.get $x) (rec (type $s (struct)) (type $f (func (param (ref 0)) (result (ref null 0))))))")
     ≡ Some (record empty {
       types = (final_type (StructComposite []) ∷ func (to (Index 0) ∷ []) (to_null (Index 0) ∷ []) ∷ []) ∷ [];

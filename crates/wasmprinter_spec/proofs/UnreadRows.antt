@@ -15,16 +15,16 @@ use Rattle.wasmprinter_spec.proofs.Samples.{mixed_text, procedure_text}
 use Rattle.wasmprinter_spec.proofs.Numbers.{numbers_from}
 use Rattle.wasmprinter_spec.specs.Text.Customs.{section_of_word}
 
--- which of these texts write a module, counted from 0
+-- The numbers, from 0, of the texts in this list that write a module
 abbrev pub numbers_read : List (List ℕ) → List ℕ
 numbers_read ts = numbers_from read 0 ts
 
--- a text that reads is seen
+-- A text that reads is counted.
 read_among : numbers_read (codes "(module" ∷ codes "(module)" ∷ codes "module" ∷ codes "(module (type (func)))" ∷ []) ≡ 1 ∷ 3 ∷ []
 unfolding lex class escape numeral natural integer groups table head is_utf8 chars encode_utf8 heap_of_word ref_of_word number_of_word packed_of_word kind_of_word
 read_among = refl
 
--- parentheses that don't match, more than one module or none
+-- Unbalanced parentheses, more than one module, or no module
 unread_groups : numbers_read (
     codes "module"
     ∷ codes "()"
@@ -41,7 +41,8 @@ unread_groups : numbers_read (
 unfolding lex class escape numeral natural integer groups table head is_utf8 chars encode_utf8 heap_of_word ref_of_word number_of_word packed_of_word kind_of_word
 unread_groups = refl
 
--- texts and comments that stay open, signs that mean nothing outside annotations, and characters that stand in comments alone
+-- Strings and comments that are not closed, signs without a meaning outside annotations, and characters that are
+-- allowed only in comments
 unread_tokens : numbers_read (
     codes "(module (export \"f (func 0)))"
     ∷ codes "(module (; )"
@@ -65,7 +66,7 @@ unread_tokens : numbers_read (
 unfolding lex class escape numeral natural integer groups table head is_utf8 chars encode_utf8 heap_of_word ref_of_word number_of_word packed_of_word kind_of_word
 unread_tokens = refl
 
--- two tokens that touch
+-- Two tokens that touch
 unread_touching : numbers_read (
     codes "(module (export \"a\"\"b\" (func 0)))"
     ∷ codes "(module (export\"a\" (func 0)))"
@@ -77,7 +78,7 @@ unread_touching : numbers_read (
 unfolding lex class escape numeral natural integer groups table head is_utf8 chars encode_utf8 heap_of_word ref_of_word number_of_word packed_of_word kind_of_word
 unread_touching = refl
 
--- a custom section without a place, with a place that is none, and with more than bytes
+-- A custom section without a place, with an unknown place, and with items other than strings or no name
 unread_customs : numbers_read (
     codes "(module (@custom \"a\" \"b\"))"
     ∷ codes "(module (@custom \"a\" (before func) \"b\"))"
@@ -112,7 +113,7 @@ unread_fields : numbers_read (
 unfolding lex class escape numeral natural integer groups table head is_utf8 chars encode_utf8 heap_of_word ref_of_word number_of_word packed_of_word kind_of_word
 unread_fields = refl
 
--- numbers beyond 32 bits, and identifiers without one declaration in their space
+-- Numbers beyond 32 bits, and identifiers that are not declared exactly once in their space
 unread_indices : numbers_read (
     codes "(module (export \"f\" (func 4294967296)))"
     ∷ codes "(module (export \"f\" (func +0)))"
@@ -133,7 +134,7 @@ unread_indices : numbers_read (
 unfolding lex class escape numeral natural integer groups table head is_utf8 chars encode_utf8 heap_of_word ref_of_word number_of_word packed_of_word kind_of_word
 unread_indices = refl
 
--- an identifier declared twice in one space, which nothing uses
+-- An identifier that is declared twice in one space and is not used
 unread_identifiers : numbers_read (
     codes "(module (type $t (func)) (type $t (func)))"
     ∷ codes "(module (type $t (func)) (type (func)) (type $u (func)) (type $\"t\" (func (param i32))))"
@@ -149,7 +150,7 @@ unread_identifiers : numbers_read (
 unfolding lex class escape numeral natural integer groups table head is_utf8 chars encode_utf8 heap_of_word ref_of_word number_of_word packed_of_word kind_of_word
 unread_identifiers = refl
 
--- a signature beside a type's index is whole and in order
+-- A signature after a type index must be complete and in order.
 unread_signatures : numbers_read (
     codes "(module (type (func (param i32))) (func (type 0) (param i64)))"
     ∷ codes "(module (type (func)) (func (type 0) (param i32)))"
@@ -170,7 +171,7 @@ unread_signatures : numbers_read (
 unfolding lex class escape numeral natural integer groups table head is_utf8 chars encode_utf8 heap_of_word ref_of_word number_of_word packed_of_word kind_of_word
 unread_signatures = refl
 
--- a function whose type isn't declared or is no function type, with a signature beside it and without one
+-- A function whose type is not declared or is no function type, with a signature or without
 unread_type_uses : numbers_read (
     codes "(module (func (type 0)))"
     ∷ codes "(module (func (type 0) (param i32)))"
@@ -187,7 +188,8 @@ unread_type_uses : numbers_read (
 unfolding lex class escape numeral natural integer groups table head is_utf8 chars encode_utf8 heap_of_word ref_of_word number_of_word packed_of_word kind_of_word
 unread_type_uses = refl
 
--- types that no grammar has, an identifier declared twice in a structure or in groups, a name of no type
+-- Types outside the grammar, an identifier that is declared twice in a structure or in groups, and a word of no
+-- type
 unread_types : numbers_read (
     codes "(module (type (sub final final (func))))"
     ∷ codes "(module (type (sub)))"
@@ -224,7 +226,7 @@ unread_types : numbers_read (
 unfolding lex class escape numeral natural integer groups heap_of_word ref_of_word number_of_word packed_of_word table is_utf8 chars encode_utf8 kind_of_word
 unread_types = refl
 
--- words of no heap type or of no value type, more than a heap type, and indices that can't be
+-- Words of no heap type or of no value type, more items than a heap type, and indices that do not exist
 unread_references : numbers_read (map (λ t. codes "(module (type $t (func (param " ++ t ++ codes "))))") (
     codes "(ref)"
     ∷ codes "(ref null)"
@@ -283,7 +285,7 @@ unread_code : numbers_read (map procedure_text (
 unfolding lex class escape numeral natural integer groups table head is_utf8 chars encode_utf8 heap_of_word ref_of_word number_of_word packed_of_word kind_of_word
 unread_code = refl
 
--- operands stand behind what the operator's word takes, and are folded themselves
+-- Operands come after the immediates of the operator's word, and must be folded themselves.
 unread_folded : numbers_read (map procedure_text (
     codes "(local.set 0 i32.const 1)"
     ∷ codes "(local.set (i32.const 1) 0)"
@@ -308,7 +310,7 @@ unread_folded : numbers_read (map procedure_text (
 unfolding lex class escape numeral natural integer groups table head is_utf8 chars encode_utf8 heap_of_word ref_of_word number_of_word packed_of_word kind_of_word
 unread_folded = refl
 
--- an identifier twice among tags, also where one is imported, and among data segments
+-- An identifier that is declared twice among tags, one of which may be imported, and among data segments
 unread_doubles : numbers_read (
     codes "(module (type (func)) (tag $t (type 0)) (tag $s (type 0)))"
     ∷ codes "(module (type (func)) (tag $t (type 0)) (tag $t (type 0)))"
@@ -319,7 +321,7 @@ unread_doubles : numbers_read (
 unfolding lex class escape numeral natural integer groups table head is_utf8 chars encode_utf8 heap_of_word ref_of_word number_of_word packed_of_word kind_of_word
 unread_doubles = refl
 
--- the identifier of a field, which is one of the structure that stands before it
+-- The identifier of a field is resolved in the structure type that precedes it.
 unread_fields_of_others : numbers_read (
     codes "(module (type $r (struct (field $y i32))) (type $s (struct (field i32) (field $x i32))) (type (func)) (func (type 2) struct.get $s $x))"
     ∷ codes "(module (type $r (struct (field $y i32))) (type $s (struct (field i32) (field $x i32))) (type (func)) (func (type 2) struct.get $s $y))"

@@ -1,4 +1,4 @@
-//! Printers over writers of bytes that take few bytes at once, write down the calls on them, or fail at one.
+//! Printers over byte writers that accept few bytes per call, record their calls, or fail at one.
 
 use crate::colors::{EMPTY_COLORED, print_colors_to};
 use crate::scripted::{Scripted, print_to};
@@ -9,14 +9,14 @@ use wasmprinter::print::{Ansi, Color, ColorSpec, NoColor, WriteColor};
 use wasmprinter::{Config, Error, Print, PrintIoWrite, PrintTermcolor};
 use wasmprinter_samples::{EMPTY_TEXT, IDENTITY, IDENTITY_TEXT, PREAMBLE};
 
-/// Prints to any writer of bytes.
+/// Prints a module to any byte writer, and returns the writer.
 pub fn print_bytes_to<W: Write + Drop>(alloc: Global, wasm: &[u8], writer: W) -> Result<W, Error> {
     let mut printer = PrintIoWrite(writer);
     print_to(&Config::new(), alloc, wasm, &mut printer)?;
     Ok(printer.0)
 }
 
-/// A printer over a writer of bytes.
+/// A printer over a byte writer.
 #[derive(Clone, Copy, Debug)]
 enum Way {
     Plain,
@@ -29,9 +29,9 @@ enum Way {
 struct Run<'a> {
     way: Way,
     wasm: &'a [u8],
-    /// What the writer holds in the end.
+    /// The contents of the writer at the end.
     wanted: &'a str,
-    /// How many bytes it takes in one call at most.
+    /// The maximum number of bytes that the writer accepts in one call.
     most: usize,
 }
 
@@ -60,7 +60,7 @@ impl<'a> Run<'a> {
         Ok(())
     }
 
-    /// Whether printing stops at a write that fails, with its error, and nothing is written behind it.
+    /// Reports whether printing stops at a write that fails, returns its error, and writes nothing after it.
     fn stops_at(&self, alloc: Global, write: usize, kind: ErrorKind) -> bool {
         let mut writer = Scripted::with_failure(alloc, self.most, write, kind);
         let refused = self.print(alloc, &mut writer);

@@ -1,4 +1,4 @@
-//! Printers in colours. The sequences are typed by hand.
+//! Printers with colors. The ANSI escape sequences are typed by hand.
 ghost use Rattle.std.specs.Prelude.{◌≡◌, true, Ok};
 
 use crate::byte_writers::print_bytes_to;
@@ -13,10 +13,10 @@ use wasmprinter_samples::{
     EMPTY_TEXT, EVERYTHING, EVERYTHING_TEXT, IDENTITY, IDENTITY_TEXT, PREAMBLE,
 };
 
-/// The module without fields in colours.
+/// The text of the module without fields, with colors.
 pub const EMPTY_COLORED: &str = "(\x1b[0m\x1b[1m\x1b[38;5;11mmodule\x1b[0m)\n";
 
-/// `IDENTITY` in colours.
+/// The text of `IDENTITY` with colors.
 const IDENTITY_COLORED: &str = "(\x1b[0m\x1b[1m\x1b[38;5;11mmodule\x1b[0m
   (\x1b[0m\x1b[1m\x1b[38;5;11mtype \x1b[0m\x1b[0m\x1b[35m(;0;)\x1b[0m (\x1b[0m\x1b[1m\x1b[38;5;11mfunc\x1b[0m \
 (\x1b[0m\x1b[1m\x1b[38;5;11mparam\x1b[0m \x1b[0m\x1b[1m\x1b[38;5;10mi32\x1b[0m) \
@@ -31,7 +31,7 @@ const IDENTITY_COLORED: &str = "(\x1b[0m\x1b[1m\x1b[38;5;11mmodule\x1b[0m
 )
 ";
 
-/// A console whose colours take effect at once, and whose bytes nobody keeps.
+/// A console whose colors take effect immediately, and which discards all bytes.
 #[derive(Drop)]
 struct Console;
 
@@ -69,7 +69,7 @@ impl WriteColor for Console {
     }
 }
 
-/// Prints to any writer that knows colours.
+/// Prints a module to any writer that supports colors, and returns the writer.
 pub fn print_colors_to<W: WriteColor + Drop>(
     alloc: Global,
     wasm: &[u8],

@@ -1,5 +1,5 @@
-//! Tests of printers over writers of bytes, with colours and without, through the paths of the crate
-//! `wasmprinter` alone. What is expected is typed by hand.
+//! Tests of printers over byte writers, with colors and without. They use only paths of the crate `wasmprinter`.
+//! Expected values are typed by hand.
 #![tactic(auto)]
 
 #[cfg(test)]

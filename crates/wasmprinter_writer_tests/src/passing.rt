@@ -1,4 +1,4 @@
-//! What writers hand on to the writer below them: each call, once and as it is, with its answer.
+//! Writers over other writers. They forward each call once and unchanged, and return its result.
 
 use crate::scripted::{Asked, Scripted};
 use std::alloc::Global;
@@ -7,15 +7,15 @@ use std::io::{ErrorKind, Write};
 use std::test::Fail;
 use wasmprinter::print::{Ansi, NoColor, WriteBytes};
 
-/// How long the pieces are at most that are handed on in each length.
+/// The length in bytes up to which a piece of each length is forwarded.
 const LONGEST: usize = 300;
 
 const PIECES: [u8; LONGEST] = [b'x'; LONGEST];
 
-/// How a call comes to the writer below.
+/// The path by which a call reaches the underlying writer.
 #[derive(Clone, Copy, Debug)]
 enum Way {
-    /// From the writer's own `WriteBytes`.
+    /// The underlying writer is called directly, through `WriteBytes`.
     Itself,
     Colored,
     Uncolored,
@@ -24,7 +24,7 @@ enum Way {
 const WAYS: [Way; 3] = [Way::Itself, Way::Colored, Way::Uncolored];
 
 impl Way {
-    /// Hands on all of a piece.
+    /// Forwards a whole piece.
     fn write_all(self, writer: &mut Scripted, piece: &[u8]) -> io::Result<()> {
         match self {
             Way::Itself => writer.write_bytes(piece),
@@ -33,7 +33,7 @@ impl Way {
         }
     }
 
-    /// Hands on some of a piece.
+    /// Forwards a piece with one `write` call, and returns the number of bytes that were accepted.
     fn write(self, writer: &mut Scripted, piece: &[u8]) -> io::Result<usize> {
         match self {
             Way::Itself => writer.write(piece),
@@ -51,17 +51,17 @@ impl Way {
     }
 }
 
-/// Whether a call that succeeded came to the writer alone, and left just these bytes.
+/// Reports whether the writer received only this call and holds exactly these bytes.
 fn has_taken(writer: &Scripted, call: Asked, bytes: &[u8]) -> bool {
     writer.calls.as_slice() == [call].as_slice() && writer.bytes.as_slice() == bytes
 }
 
-/// A writer that takes all bytes at once.
+/// Returns a writer that accepts any number of bytes at once.
 fn writer_that_takes(alloc: Global) -> Scripted {
     Scripted::new(alloc, usize::MAX)
 }
 
-/// A writer whose first call fails.
+/// Returns a writer whose first call fails.
 fn writer_that_refuses(alloc: Global, kind: ErrorKind) -> Scripted {
     Scripted::with_failure(alloc, usize::MAX, 1, kind)
 }

@@ -1,11 +1,12 @@
-//! A writer of bytes that writes down each call on it, and fails at one if it is told to; and how any printer is called.
+//! A byte writer that records each call and can be set to fail one; and a function that prints to any printer.
 
 use std::alloc::Global;
 use std::io;
 use std::io::{ErrorKind, Write};
 use wasmprinter::{Config, Error, Print};
 
-/// Prints to any printer. It promises nothing, so that no caller works out what the promises mean for its own printer.
+/// Prints a module to any printer. The function has no contract, so the prover need not evaluate the contract of
+/// `print` for each caller's printer.
 pub fn print_to<P: Print>(
     config: &Config,
     alloc: Global,
@@ -18,22 +19,22 @@ pub fn print_to<P: Print>(
 /// A call on the writer.
 #[derive(Clone, Copy, Debug, PartialEq, Eq)]
 pub enum Asked {
-    /// To write so many bytes, or some of them.
+    /// A write of this many bytes, of which the writer may accept fewer.
     Write(usize),
-    /// To flush.
+    /// A flush.
     Flush,
 }
 
-/// A writer that takes only so many bytes at once, writes down its calls, and fails at one of them.
+/// A writer that accepts a limited number of bytes per call, records its calls, and can fail one of them.
 #[derive(Drop)]
 pub struct Scripted {
-    /// The bytes that it took.
+    /// The bytes that the writer accepted.
     pub bytes: Vec<u8>,
-    /// The calls on it, in their order.
+    /// The calls on the writer, in order.
     pub calls: Vec<Asked>,
-    /// How many bytes it takes in one call at most.
+    /// The maximum number of bytes that the writer accepts in one call.
     most: usize,
-    /// Which of the calls fails, and how; the first is 1.
+    /// The number of the call that fails, counted from 1, and its error.
     failure: Option<(usize, ErrorKind)>,
 }
 
@@ -53,7 +54,7 @@ impl Scripted {
         writer
     }
 
-    /// Writes a call down, and answers whether it fails.
+    /// Records a call, and returns an error if this is the call that fails.
     fn answer(&mut self, call: Asked) -> io::Result<()> {
         self.calls.push(call)?;
         match self.failure {

@@ -1,5 +1,5 @@
-//! What the public printers ask of the writer below them: each write is kept apart, for a quoted string, for bytes and for a module. No
-//! contract says how a text is split into writes.
+//! The writes that the public printers make on the underlying writer, for a quoted string, for bytes and for a
+//! module. The sinks keep each write separate. No contract specifies how a text is split into writes.
 ghost use Rattle.std.specs.Prelude.{true};
 
 use crate::scripted::print_to;
@@ -12,7 +12,7 @@ use wasmprinter::text::{write_bytes, write_quoted};
 use wasmprinter::{Config, Error, Print, PrintFmtWrite, PrintIoWrite, PrintTermcolor};
 use wasmprinter_samples::IDENTITY;
 
-/// A writer that takes everything, and keeps each write with a bar after it and each color in braces.
+/// A writer that accepts everything. It records each write with a bar after it, and each color in braces.
 #[derive(Drop)]
 struct Sink {
     calls: Vec<u8>,
@@ -39,7 +39,7 @@ impl Write for Sink {
     }
 }
 
-/// A writer of text that keeps each write with a bar after it.
+/// A text writer that records each write with a bar after it.
 #[derive(Drop)]
 struct TextSink {
     calls: String,
@@ -61,7 +61,7 @@ impl fmt::Write for TextSink {
     }
 }
 
-/// Returns the word for a look; an exclamation mark says that it is bold and intense.
+/// Returns the word for a color specification. An exclamation mark says that the text is bold and intense.
 fn word_of(spec: &ColorSpec) -> &'static [u8] {
     match (spec.fg(), spec.bold(), spec.intense()) {
         (Some(Color::Red), false, false) => b"{red}",
@@ -99,18 +99,19 @@ impl WriteColor for Sink {
     }
 }
 
-/// What is printed.
+/// An input that is printed.
 #[derive(Clone, Copy, Debug)]
 enum Input {
-    /// A quoted string, of a character that is written as it is and others that are not.
+    /// A quoted string of characters that are written as they are and characters that are escaped.
     Quoted,
-    /// Bytes of the same kinds.
+    /// Bytes that are written as they are and bytes that are escaped.
     Bytes,
     /// The module `IDENTITY`.
     Module,
 }
 
-/// Prints to any printer. It promises nothing, so that no caller works out what the promises mean for its own printer.
+/// Prints an input to any printer. The function has no contract, so the prover need not evaluate the contract of
+/// `print` for each caller's printer.
 fn print_input_to<P: Print>(alloc: Global, input: Input, printer: &mut P) -> Result<(), Error> {
     match input {
         Input::Quoted => write_quoted(printer, "ab\u{e9}\"\n\u{1f600}c"),
@@ -119,7 +120,7 @@ fn print_input_to<P: Print>(alloc: Global, input: Input, printer: &mut P) -> Res
     }
 }
 
-/// Inputs with the writes that a printer of plain bytes makes. It makes none for the empty indent of the last line.
+/// Inputs with the writes of a printer over a byte writer. It makes no write for the empty indent of the last line.
 const IN_BYTES: [(Input, &str); 3] = [
     (
         Input::Quoted,
@@ -139,7 +140,8 @@ const IN_BYTES: [(Input, &str); 3] = [
     ),
 ];
 
-/// Inputs with the writes that a printer of text makes, an empty one for the empty indent of the last line.
+/// Inputs with the writes of a printer over a text writer. It makes an empty write for the empty indent of the
+/// last line.
 const IN_TEXT: [(Input, &str); 3] = [
     (
         Input::Quoted,
@@ -159,7 +161,7 @@ const IN_TEXT: [(Input, &str); 3] = [
     ),
 ];
 
-/// Inputs with the writes and colors that a printer with colors makes.
+/// Inputs with the writes and colors of a printer over a writer that supports colors.
 const IN_COLORS: [(Input, &str); 3] = [
     (
         Input::Quoted,
@@ -178,21 +180,21 @@ local.get| |{magenta}0|{reset}\n|  |)|\n|)|\n|",
     ),
 ];
 
-/// Returns what a writer of bytes is asked for.
+/// Returns the writes on a byte writer.
 fn writes_of_bytes(alloc: Global, input: Input) -> Result<Sink, Error> {
     let mut printer = PrintIoWrite(Sink::new(alloc));
     print_input_to(alloc, input, &mut printer)?;
     Ok(printer.0)
 }
 
-/// Returns what a writer of text is asked for.
+/// Returns the writes on a text writer.
 fn writes_of_text(alloc: Global, input: Input) -> Result<TextSink, Error> {
     let mut printer = PrintFmtWrite(TextSink::new(alloc));
     print_input_to(alloc, input, &mut printer)?;
     Ok(printer.0)
 }
 
-/// Returns what a writer that knows colors is asked for.
+/// Returns the writes and colors on a writer that supports colors.
 fn writes_with_colors(alloc: Global, input: Input) -> Result<Sink, Error> {
     let mut printer = PrintTermcolor(Sink::new(alloc));
     print_input_to(alloc, input, &mut printer)?;

@@ -1,4 +1,4 @@
-//! `PrintFmtWrite` over a string, and over a writer that refuses a piece.
+//! `PrintFmtWrite` over a string, and over a writer that refuses one piece.
 
 use crate::scripted::print_to;
 use std::alloc::{AllocError, Global};
@@ -8,13 +8,13 @@ use std::test::Fail;
 use wasmprinter::{Config, Error, Print, PrintFmtWrite, print};
 use wasmprinter_samples::{EMPTY_TEXT, IDENTITY, IDENTITY_TEXT, PREAMBLE, expect_text};
 
-/// A writer that refuses one piece, and takes all others.
+/// A writer that refuses one piece and accepts all others.
 #[derive(Drop)]
 struct Refusing {
     text: String,
-    /// How many pieces it was given.
+    /// The number of pieces that the writer received.
     given: u32,
-    /// Which of them it refuses; the first is 1.
+    /// The number of the piece that the writer refuses, counted from 1.
     refused: u32,
 }
 
@@ -54,7 +54,7 @@ fn writes_nothing_behind_a_piece_that_was_refused(rt: HostRuntime) -> Result<(),
             matches!(refused, Err(Error::Printer(e)) if e.kind() == ErrorKind::Other),
             "at piece {piece}"
         );
-        // no piece was given behind the one that was refused, and none before it failed
+        // The printer wrote no piece after the refused one, and no earlier piece failed.
         assert!(rt; printer.0.given == piece);
         assert!(rt;
             IDENTITY_TEXT.starts_with(printer.0.text.as_str()),
@@ -123,7 +123,7 @@ fn gives_a_long_piece_to_the_writer(rt: HostRuntime) -> Result<(), Fail> {
     Ok(())
 }
 
-/// Whether a text of this length is passed on in one write, and the error of that write is returned.
+/// Reports whether a text of this length is forwarded in one write, and whether the error of that write is returned.
 fn is_passed_on(alloc: Global, len: usize) -> Result<bool, AllocError> {
     let mut text = String::new(alloc);
     for _ in 0..len {
