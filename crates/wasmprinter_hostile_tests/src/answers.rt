@@ -1,4 +1,4 @@
-//! What the calls on one module return, and whether they agree.
+//! The results of the calls on one module, and whether they agree.
 
 use crate::outcome::{Outcome, Refusal};
 use crate::printing::{Layout, print_to_string};
@@ -6,23 +6,24 @@ use std::alloc::{AllocError, Global};
 use wasmprinter::wasm::decode;
 use wasmprinter::{Config, Error, OffsetsAndLines, print_bytes};
 
-/// How the calls on a module disagree.
+/// A disagreement between the calls on a module.
 #[derive(Debug, Drop)]
 pub enum Disagreement {
-    /// Decoding is refused, and flat printing isn't or for another reason. Or decoding succeeds, and flat printing is refused for another
-    /// reason than an unknown `dylink.0` subsection.
+    /// Decoding is refused, and flat printing succeeds or is refused for another reason. Or decoding succeeds, and
+    /// flat printing is refused for another reason than an unknown `dylink.0` subsection.
     DecodedAndFlat,
-    /// The lines aren't the text of flat printing, or the errors differ.
+    /// The lines differ from the text of flat printing, or the errors differ.
     FlatAndLines,
     /// `print_bytes` returns another text or error than flat printing.
     FlatAndString,
-    /// Only one of flat and folded printing is refused, or the errors differ, and not because something can't be folded.
+    /// Only one of flat and folded printing is refused, or the errors differ; the reason is not that something can't
+    /// be folded.
     FlatAndFolded,
-    /// The storage of the lines doesn't begin with its old text.
+    /// The storage of the lines does not start with its old text.
     OldTextLost,
-    /// The module isn't damaged.
+    /// The damaged module equals the original.
     Undamaged,
-    /// An error that doesn't depend on the bytes of the module alone.
+    /// An error that does not depend on the bytes of the module alone.
     Other(Error),
 }
 
@@ -38,16 +39,16 @@ impl From<AllocError> for Disagreement {
     }
 }
 
-/// What the calls on one module return.
+/// The results of the calls on one module.
 #[derive(Drop)]
 pub struct Answers {
-    /// Why the module isn't decoded, if it isn't.
+    /// The reason why the module is not decoded, or `None` if it is.
     decoded: Option<Refusal>,
     flat: Outcome,
     folded: Outcome,
     /// The joined lines of `Config::offsets_and_lines`.
     lines: Outcome,
-    /// What `print_bytes` returns.
+    /// The result of `print_bytes`.
     string: Outcome,
 }
 
@@ -104,7 +105,7 @@ impl Answers {
     }
 }
 
-/// Returns why a module isn't decoded, if it isn't.
+/// Returns the reason why a module is not decoded, or `None` if it is.
 fn decoding_refusal(alloc: Global, wasm: &[u8]) -> Result<Option<Refusal>, Error> {
     match decode(alloc, wasm) {
         Ok(_) => Ok(None),
@@ -112,7 +113,7 @@ fn decoding_refusal(alloc: Global, wasm: &[u8]) -> Result<Option<Refusal>, Error
     }
 }
 
-/// What a storage holds before lines are appended to it.
+/// The contents of a storage before lines are appended to it.
 const OLD_TEXT: &str = "old\n";
 
 /// Appends the lines of a module to a storage with an old text, and returns the joined lines.

@@ -1,4 +1,5 @@
-//! Printers that claim custom sections: nothing of a claimed section is printed, and everything else is printed as without the claim.
+//! Printers that claim custom sections: a claimed section is not printed, and everything else is printed as without
+//! the claim.
 
 use crate::examples::HINTED_FLAT;
 use crate::printing::{LAYOUTS, Layout, print_to};
@@ -11,12 +12,12 @@ use wasmprinter_rows::{
 };
 use wasmprinter_samples::expect_text;
 
-/// A module whose custom sections with a given name are claimed.
+/// A module, and the name of its custom sections that the printer claims.
 #[derive(Clone, Copy)]
 struct Claim {
     wasm: &'static [u8],
     name: &'static str,
-    /// All calls if operators are laid out flat.
+    /// All calls if operators are printed flat.
     flat: &'static str,
     /// All calls if operators are folded.
     folded: &'static str,
@@ -44,7 +45,7 @@ const MEMORY_CLAIMED: &str = r#"[0x0]({K}module{R}{? "dylink.0" 0x13 [1, 4, 16, 
 const CUT_CLAIMED: &str = r#"[0x0]({K}module{R}{? "dylink.0" 0x13 [1, 5, 16]})
 "#;
 
-/// A claimed section isn't parsed: its unknown subsection isn't refused.
+/// A claimed section is not parsed: its unknown subsection is not refused.
 const UNKNOWN_CLAIMED: &str = r#"[0x0]({K}module{R}{? "dylink.0" 0x13 [9, 0]})
 "#;
 
@@ -85,7 +86,7 @@ const CLAIMS: [Claim; 7] = [
         flat: UNKNOWN_CLAIMED,
         folded: UNKNOWN_CLAIMED,
     },
-    // hints are read before the first call on the printer
+    // Hints are read before the first call on the printer.
     Claim {
         wasm: HINTED_IF,
         name: "metadata.code.branch_hint",

@@ -2,10 +2,10 @@
 
 use std::alloc::{AllocError, Global};
 
-/// How a module is damaged at a byte.
+/// A way to damage a module at a byte.
 #[derive(Clone, Copy, Debug, PartialEq, Eq)]
 pub enum Damage {
-    /// The module is cut off before the byte.
+    /// The module is truncated before the byte.
     Cut,
     /// The byte is replaced by itself plus one, modulo 256.
     PlusOne,

@@ -1,4 +1,5 @@
-//! The modules of the worked examples, damaged at each byte in turn: all calls return, and they agree on each damaged module.
+//! The modules of the worked examples, damaged at each byte in turn: all calls return, and they agree on each
+//! damaged module.
 
 use crate::answers::{Answers, Disagreement};
 use crate::damage::Damage;
@@ -11,7 +12,7 @@ use wasmprinter_rows::{
 };
 use wasmprinter_samples::{PREAMBLE, expect_text};
 
-/// How many damaged modules were tried, and how many of them were printed.
+/// The number of damaged modules that were tried, and the number of those that were printed.
 #[derive(Clone, Copy, Debug)]
 struct Tally {
     tried: usize,
@@ -76,7 +77,7 @@ fn check_all(alloc: Global, damage: Damage) -> Result<Tally, Counterexample> {
     Ok(tally)
 }
 
-/// Returns the number of bytes in all modules. Each is damaged once in each way.
+/// Returns the number of bytes of all modules. Each byte is damaged once in each way.
 fn byte_count() -> usize {
     let mut count: usize = 0;
     for wasm in MODULES {
@@ -85,8 +86,8 @@ fn byte_count() -> usize {
     count
 }
 
-/// Returns the number of modules that consist of the preamble and more bytes. Cut off after the preamble, each is printed as a module
-/// without fields.
+/// Returns the number of modules that consist of the preamble and more bytes. Truncated after the preamble, each is
+/// printed as a module without fields.
 fn longer_count() -> usize {
     let mut count: usize = 0;
     for wasm in MODULES {
@@ -107,7 +108,7 @@ struct Survivor {
 }
 
 const SURVIVORS: [Survivor; 12] = [
-    // the index of a local
+    // The damaged byte is the index of a local.
     Survivor {
         wasm: IDENTITY,
         damage: Damage::PlusOne,
@@ -121,7 +122,7 @@ const SURVIVORS: [Survivor; 12] = [
 )
 "#,
     },
-    // the value of a constant
+    // The damaged byte is the value of a constant.
     Survivor {
         wasm: GLOBAL_BLOCK,
         damage: Damage::PlusOne,
@@ -131,7 +132,7 @@ const SURVIVORS: [Survivor; 12] = [
 )
 "#,
     },
-    // the index of a local
+    // The damaged byte is the index of a local.
     Survivor {
         wasm: HINTED_IF,
         damage: Damage::PlusOne,
@@ -147,7 +148,7 @@ const SURVIVORS: [Survivor; 12] = [
 )
 "#,
     },
-    // the value of a hint, which is then no hint
+    // The damaged byte is the value of a hint, which is then not valid, so that no hint is printed.
     Survivor {
         wasm: HINTED_IF,
         damage: Damage::Complement,
@@ -162,7 +163,7 @@ const SURVIVORS: [Survivor; 12] = [
 )
 "#,
     },
-    // the smallest size of the memory
+    // The damaged byte is the minimum size of the memory.
     Survivor {
         wasm: CUSTOMS_AROUND_A_MEMORY,
         damage: Damage::PlusOne,
@@ -174,7 +175,7 @@ const SURVIVORS: [Survivor; 12] = [
 )
 "#,
     },
-    // the byte of the first custom section
+    // The damaged byte is the content of the first custom section.
     Survivor {
         wasm: CUSTOMS_AROUND_A_MEMORY,
         damage: Damage::Complement,
@@ -186,7 +187,7 @@ const SURVIVORS: [Survivor; 12] = [
 )
 "#,
     },
-    // the space in the name of a field, which then consists of characters of identifiers
+    // The damaged byte is the space in the name of a field, which then consists of identifier characters.
     Survivor {
         wasm: RAW_PRODUCERS,
         damage: Damage::PlusOne,
@@ -198,7 +199,7 @@ const SURVIVORS: [Survivor; 12] = [
 )
 "#,
     },
-    // the version, which is then no UTF-8
+    // The damaged byte is the version, which is then not UTF-8.
     Survivor {
         wasm: RAW_PRODUCERS,
         damage: Damage::Complement,
@@ -209,7 +210,7 @@ const SURVIVORS: [Survivor; 12] = [
 )
 "#,
     },
-    // the size of the memory
+    // The damaged byte is the size of the memory.
     Survivor {
         wasm: DYLINK_MEMORY,
         damage: Damage::PlusOne,
@@ -221,7 +222,7 @@ const SURVIVORS: [Survivor; 12] = [
 )
 "#,
     },
-    // the size of the memory, which then takes two bytes, so that a number is missing
+    // The damaged byte is the size of the memory, which then takes two bytes, so that a number is missing.
     Survivor {
         wasm: DYLINK_MEMORY,
         damage: Damage::Complement,
@@ -232,7 +233,7 @@ const SURVIVORS: [Survivor; 12] = [
 )
 "#,
     },
-    // a byte of a subsection that is cut
+    // The damaged byte is in a truncated subsection.
     Survivor {
         wasm: DYLINK_CUT,
         damage: Damage::PlusOne,

@@ -1,5 +1,5 @@
-//! Worked examples with the calls on a printer, flat and folded. Folded operators have no styles, since the printer supports no colors
-//! within text.
+//! Worked examples with the calls on a printer, flat and folded. Folded operators have no styles, since the printer
+//! supports no colors within text.
 
 use crate::printing::Layout;
 use wasmprinter::Error;
@@ -13,17 +13,17 @@ use wasmprinter_rows::{
 };
 use wasmprinter_samples::IDENTITY_CALLS;
 
-/// How the printing of an example ends.
+/// The result of printing an example.
 #[derive(Clone, Copy, Debug)]
 pub enum Ending {
-    /// All of it is printed.
+    /// The whole module is printed.
     Printed,
-    /// It is refused for a `dylink.0` subsection with this id.
+    /// The module is refused for a `dylink.0` subsection with this id.
     UnknownSubsection(u8),
 }
 
 impl Ending {
-    /// Returns whether a result has this ending.
+    /// Returns whether a result is this one.
     pub fn is_of(self, printed: &Result<(), Error>) -> bool {
         match (self, printed) {
             (Ending::Printed, Ok(())) => true,
@@ -35,12 +35,12 @@ impl Ending {
     }
 }
 
-/// A module, and how it is printed.
+/// A module, with the calls and the result of printing it.
 #[derive(Clone, Copy)]
 pub struct Example {
     pub name: &'static str,
     pub wasm: &'static [u8],
-    /// All calls if operators are laid out flat.
+    /// All calls if operators are printed flat.
     pub flat: &'static str,
     /// All calls if operators are folded.
     pub folded: &'static str,
@@ -121,7 +121,7 @@ const GLOBAL_FLAT: &str = "[0x0]({K}module{R}
 [0x13])
 ";
 
-/// The calls of `HINTED_IF` if its operators are laid out flat.
+/// The calls of `HINTED_IF` if its operators are printed flat.
 pub const HINTED_FLAT: &str = r#"[0x0]({K}module{R}
 [0xb]  ({K}type {R}{N}(;0;){R} ({K}func{R} ({K}param{R} {T}i32{R}))){? "metadata.code.branch_hint" 0x2f [1, 0, 1, 3, 1, 1]}
 [0x39]  ({K}func {R}{N}(;0;){R} ({K}type {R}{N}0{R}) ({K}param{R} {T}i32{R})

@@ -1,5 +1,5 @@
-//! Printers that fail at each of their calls in turn: the printer's error is returned, no call follows, and the calls before are a prefix
-//! of those on a printer that doesn't fail.
+//! Printers that fail at each of their calls in turn: the printer's error is returned, no call follows, and the
+//! calls before it are a prefix of those on a printer that does not fail.
 
 use crate::examples::{EXAMPLES, Example};
 use crate::printing::{KINDS, LAYOUTS, Layout, print_to};
@@ -10,12 +10,12 @@ use wasmprinter::Error;
 use wasmprinter_recorder::{REFUSED, Recorder};
 use wasmprinter_samples::expect_text;
 
-/// What is wrong with the calls of a run.
+/// The failure of a test at a call of a run.
 #[derive(Debug, Drop)]
 struct Failure {
     example: &'static str,
     layout: Layout,
-    /// The number of the call that fails, from 1, or 0 if none does.
+    /// The number of the call that fails, from 1, or 0 if no call fails.
     call: u32,
     reason: &'static str,
 }
@@ -29,7 +29,7 @@ struct Run<'a> {
 }
 
 impl Run<'_> {
-    /// Checks all calls on a printer that never fails, and returns how many of them can fail.
+    /// Checks all calls on a printer that never fails, and returns the number of calls that can fail.
     fn check_whole(&self, recorder: &mut Recorder) -> Result<u32, Fail> {
         let result = print_to(self.layout, self.alloc, self.example.wasm, recorder);
         if !self.example.ending.is_of(&result) {
@@ -42,7 +42,8 @@ impl Run<'_> {
         Ok(recorder.call_count())
     }
 
-    /// Checks that printing ends at the call with this number, which fails, and returns the calls up to and including it.
+    /// Checks that printing ends at the call with this number, which fails, and returns the calls up to and
+    /// including that call.
     fn calls_until(&self, call: u32, kind: ErrorKind) -> Result<String, Fail> {
         let mut recorder = Recorder::with_refusal(self.alloc, call, kind);
         let result = print_to(self.layout, self.alloc, self.example.wasm, &mut recorder);
@@ -77,7 +78,8 @@ impl Run<'_> {
     }
 }
 
-/// Checks that a run ends at each call that fails, and that it is complete if only a call after the last one would fail.
+/// Checks that a run ends at each call that fails, and that it is complete if only a call after the last one would
+/// fail.
 fn check_each_call(run: &Run<'_>, kind: ErrorKind) -> Result<(), Fail> {
     let last = run.check_whole(&mut Recorder::new(run.alloc))?;
     for call in 1..=last {
@@ -110,10 +112,10 @@ fn stops_at_the_call_that_fails_and_returns_its_error(rt: HostRuntime) -> Result
 /// The start of a call that asks whether the printer claims a custom section.
 const CLAIM_START: &str = "{? ";
 
-/// The end of a call that asks for a claim. No other call ends in it.
+/// The end of a call that asks for a claim. No other call ends with it.
 const CLAIM_END: &str = "]}";
 
-/// Lets each call fail in turn, and returns how many of these calls ask for a claim.
+/// Lets each call fail in turn, and returns the number of these calls that ask for a claim.
 fn count_failed_claims(run: &Run<'_>, kind: ErrorKind) -> Result<usize, Fail> {
     let mut count: usize = 0;
     for call in 1..=run.check_whole(&mut Recorder::new(run.alloc))? {

@@ -1,4 +1,4 @@
-//! Files of the system that can't be read.
+//! Files of the system that can't be read
 
 use std::fs;
 use std::fs::Permissions;
@@ -15,7 +15,7 @@ fn is_unreadable(rt: &HostRuntime, path: &str) -> bool {
     matches!(printed, Err(Error::Unreadable))
 }
 
-/// Paths at which there is no file: an empty one, a name and a folder that are missing, and a name with a NUL byte.
+/// Paths without a file: an empty path, a missing name, a missing folder, and a name with a NUL byte.
 const MISSING: [&str; 4] = ["", "missing.wasm", "missing/missing.wasm", "missing\0.wasm"];
 
 #[test]

@@ -1,5 +1,5 @@
-//! Tests of hostile use, through the paths of the crate `wasmprinter` alone: damaged modules, printers and writers that fail at each of
-//! their calls, and files that can't be read. What is expected is typed by hand.
+//! Tests of hostile use, through the public paths of the crate `wasmprinter` only: damaged modules, printers and
+//! writers that fail at each of their calls, and files that can't be read. Expected values are typed by hand.
 #![tactic(auto)]
 
 #[cfg(test)]

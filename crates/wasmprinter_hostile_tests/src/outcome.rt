@@ -1,8 +1,8 @@
-//! What a call on a module returns: a text, or the reason why the module is refused.
+//! The result of a call on a module: a text, or the reason why the module is refused.
 
 use wasmprinter::Error;
 
-/// Why a module is refused: the errors that depend on its bytes and the options alone.
+/// The reasons why a module is refused: the errors that depend only on its bytes and on the options.
 #[derive(Clone, Copy, Debug, PartialEq, Eq)]
 pub enum Refusal {
     Malformed { place: u64 },
@@ -16,7 +16,7 @@ pub enum Refusal {
 }
 
 impl Refusal {
-    /// Returns the refusal that an error stands for.
+    /// Returns the reason that an error reports.
     ///
     /// # Errors
     ///
@@ -41,7 +41,7 @@ impl Refusal {
     }
 }
 
-/// What a call returns.
+/// The result of a call.
 #[derive(Debug, PartialEq, Eq, Drop)]
 pub enum Outcome {
     Text(String),
@@ -49,11 +49,11 @@ pub enum Outcome {
 }
 
 impl Outcome {
-    /// Returns the outcome that a result stands for.
+    /// Returns the outcome that a result represents.
     ///
     /// # Errors
     ///
-    /// An error that is about a file, a printer or memory.
+    /// The error itself, if it is about a file, a printer or memory.
     pub fn of(returned: Result<String, Error>) -> Result<Outcome, Error> {
         match returned {
             Ok(text) => Ok(Outcome::Text(text)),

@@ -1,10 +1,10 @@
-//! How the tests print: flat or folded, to any printer.
+//! Functions that print, flat or folded, to any printer.
 
 use std::alloc::Global;
 use std::io::ErrorKind;
 use wasmprinter::{Config, Error, Print, PrintFmtWrite};
 
-/// How operators are laid out.
+/// The layout of operators.
 #[derive(Clone, Copy, Debug)]
 pub enum Layout {
     Flat,
@@ -13,7 +13,8 @@ pub enum Layout {
 
 pub const LAYOUTS: [Layout; 2] = [Layout::Flat, Layout::Folded];
 
-/// The kinds of errors with which printers and writers fail. A writer isn't called again after either of them.
+/// The kinds of errors with which printers and writers fail. A writer is not called again after an error of either
+/// kind.
 pub const KINDS: [ErrorKind; 2] = [ErrorKind::BrokenPipe, ErrorKind::StorageFull];
 
 impl Layout {

@@ -1,5 +1,6 @@
-//! Printers over writers of bytes that fail at each of their calls in turn: the writer's error is returned, and the bytes that were
-//! written before are a prefix of the text. One kind of writer accepts one byte in each call, the other all bytes.
+//! Printers over writers of bytes that fail at each of their calls in turn: the writer's error is returned, and the
+//! bytes that were written before it are a prefix of the text. One kind of writer accepts one byte in each call, the
+//! other accepts all bytes.
 
 use crate::printing::{KINDS, LAYOUTS, Layout, print_to};
 use std::alloc::{AllocError, Global};
@@ -17,7 +18,7 @@ struct Slow {
     bytes: Vec<u8>,
     /// The number of calls of `write`.
     writes: usize,
-    /// The most bytes that one call accepts.
+    /// The maximum number of bytes that one call accepts.
     most: usize,
     /// The number of the call that fails, from 1, and the kind of its error.
     failure: Option<(usize, ErrorKind)>,
@@ -81,7 +82,7 @@ fn print_plain_to<W: Write + Drop>(
     print_to(layout, alloc, wasm, &mut PrintIoWrite(writer))
 }
 
-/// Prints to a writer that knows colors.
+/// Prints to a writer that supports colors.
 fn print_colors_to<W: WriteColor + Drop>(
     layout: Layout,
     alloc: Global,
@@ -91,7 +92,7 @@ fn print_colors_to<W: WriteColor + Drop>(
     print_to(layout, alloc, wasm, &mut PrintTermcolor(writer))
 }
 
-/// The marks of styles in typed texts, and their ANSI escape sequences.
+/// The markers of styles in typed texts, and their ANSI escape sequences.
 const STYLES: [(&str, &str); 6] = [
     ("{K}", "\x1b[0m\x1b[1m\x1b[38;5;11m"),
     ("{N}", "\x1b[0m\x1b[35m"),
@@ -101,7 +102,7 @@ const STYLES: [(&str, &str); 6] = [
     ("{R}", "\x1b[0m"),
 ];
 
-/// A module with its texts. They contain the marks of styles.
+/// A module with its texts. They contain the markers of styles.
 #[derive(Clone, Copy)]
 struct Styled {
     name: &'static str,
@@ -220,7 +221,8 @@ impl Run {
         Ok(text)
     }
 
-    /// Checks that printing ends at the call of `write` with this number, which fails, and returns the bytes that were written before.
+    /// Checks that printing ends at the call of `write` with this number, which fails, and returns the bytes that
+    /// were written before.
     fn bytes_before(&self, most: usize, write: usize, kind: ErrorKind) -> Result<Vec<u8>, Fail> {
         let mut writer = Slow::with_failure(self.alloc, most, write, kind);
         let result = self.print(&mut writer);
@@ -243,8 +245,8 @@ impl Run {
         Ok(writer.writes)
     }
 
-    /// Checks that a writer of single bytes is called once for each byte of the text, and that exactly the bytes before a failing call
-    /// are written.
+    /// Checks that a writer of single bytes is called once for each byte of the text, and that exactly the bytes
+    /// before a failing call are written.
     fn check_bytes(&self, kind: ErrorKind) -> Result<(), Fail> {
         let text = self.text()?;
         if self.check_whole(1, text.as_str())? != text.len() {
@@ -260,7 +262,7 @@ impl Run {
         Ok(())
     }
 
-    /// Checks that a proper prefix of the text is written if a call fails of a writer that accepts all bytes.
+    /// Checks that a proper prefix of the text is written if a call fails on a writer that accepts all bytes.
     fn check_pieces(&self, kind: ErrorKind) -> Result<(), Fail> {
         let text = self.text()?;
         for write in 1..=self.check_whole(usize::MAX, text.as_str())? {
@@ -283,13 +285,13 @@ impl Run {
     }
 }
 
-/// What is wrong with a run.
+/// The failure of a test at a write of a run.
 #[derive(Debug, Drop)]
 struct Failure {
     module: &'static str,
     layout: Layout,
     printer: Printer,
-    /// The number of the call of `write` that fails, from 1, or 0 if none does.
+    /// The number of the call of `write` that fails, from 1, or 0 if no call fails.
     write: usize,
     reason: &'static str,
 }

@@ -1,4 +1,4 @@
--- What holds of all entries that bytes give, as far as they are read.
+-- Facts about all entries that bytes give, up to the first error
 use Rattle.std.proofs.Common.{◌≡◌, ℕ, zero, suc, List, [], Bool, true, false, Option, Some, None, sym, subst, inl, inr}
 use Rattle.std.specs.Prelude.{MatchOption}
 use Rattle.std.specs.List.{AllByRecursion}
@@ -8,11 +8,11 @@ use Rattle.wasmprinter_spec.specs.Lenient.{Lenient, give, follow, repeat, Repeat
 use Rattle.wasmprinter_spec.proofs.Each.{all_both}
 use Rattle.wasmprinter_reading.proofs.AllSpelled.{AllSpelled, Spelled-any, split_bytes}
 
--- bytes are left behind bytes
+-- The rest of the input consists of bytes, if reading goes on.
 abbrev pub Stays : Option Input → Type 0
 Stays end = MatchOption end (Unit {0}) (λ mid. AreBytes mid.bytes)
 
--- Bytes give entries that have P.
+-- The entries that bytes give have P.
 pub record AllGiven {E : Type 0} (P : E → Type 0) (l : Lenient E) : Type 0 where
   pub has : (at : Input) (xs : List E) (end : Option Input) → AreBytes at.bytes → l.gives at xs end → AllByRecursion P xs × Stays end
 
@@ -33,7 +33,7 @@ module _ {E : Type 0} (P : E → Type 0) where
     pub AllGiven-follow : AllGiven P (follow g h)
     AllGiven-follow = record { has = follow_has }
 
-  -- whatever the value
+  -- The same without a fact about the value
   pub AllGiven-follow_any : {A : Type 0} (g : Grammar A) (h : A → Lenient E) → ((a : A) → AllGiven P (h a)) → AllGiven P (follow g h)
   AllGiven-follow_any g h f = AllGiven-follow g (Spelled-any g) h (λ a t. f a)
 

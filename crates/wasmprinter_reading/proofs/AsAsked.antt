@@ -1,4 +1,4 @@
--- Where operators are folded as the options say: the layout, and what is asked of a module, are those of operators folded in that way.
+-- If operators are folded as the options say, the layout and the premises are those of operators folded in that way.
 use Rattle.std.proofs.Common.{◌≡◌, Bool, true, false, cond, Some, None, refl, ap}
 use Rattle.wasmprinter_spec.specs.Placed.{PlacedModule}
 use Rattle.wasmprinter_spec.specs.Options.{Options, Answers}
@@ -27,9 +27,9 @@ pub refused_as_asked : (o : Options) (answers : Answers) (m : PlacedModule) → 
 unfolding module_parts
 refused_as_asked o answers m = refl
 
--- ---- what is asked
+-- ---- the premises
 
--- operators are folded only where that is asked for
+-- Operators are folded only if the options ask for it.
 pub folds_where_asked : (o : Options) (m : PlacedModule) → is_folding (folding_of o m) ≡ true → o.folds ≡ true
 folds_where_asked o m = by o.folds
   where

@@ -12,9 +12,9 @@ use Rattle.wasmprinter_reading.specs.FoldedLaws.{FoldedModulesReadAsFlat}
 use Rattle.wasmprinter_reading.proofs.AsAsked.{refused_as_asked}
 use Rattle.wasmprinter_reading.proofs.Main.{reads_back}
 
--- ---- whether a section is refused doesn't depend on how operators are printed
+-- ---- whether a section is refused does not depend on how operators are printed
 
--- the first refusal in parts, or behind them
+-- The first refusal in the parts or, if they have none, the given one
 abbrev refused_before : Option ℕ → List Part → Option ℕ
 refused_before behind [] = behind
 refused_before behind (Shown ps ∷ xs) = refused_before behind xs
@@ -51,7 +51,7 @@ refusal-folds o folds answers m =
 
 -- ---- the law
 
--- of a flat text nothing is asked
+-- For flat text, the premise about folding holds.
 pub flat_is_foldable : (o : Options) (m : PlacedModule) → IsFoldable (record o { folds = false }) m
 flat_is_foldable o m = record { legacy = λ e. absurd cc; hints = λ e. absurd cc }
 

@@ -66,19 +66,19 @@ use Rattle.wasmprinter_reading.proofs.Types.Trees.{type_section_items}
 use Rattle.wasmprinter_reading.proofs.Sorted.{field_rows, fields-gathered, gathered_functions, gathered_tables, gathered_memories, gathered_tags, gathered_globals, gathered_exports, gathered_elements, gathered_datas, fields-start, extern_id, imports_held, fields-imports, group_bodies, fields-types, unidentified_rows, unidentified_imports, unidentified_start, unidentified_types}
 use Rattle.wasmprinter_reading.proofs.DeclaredTypes.{declared_types, declared_groups, read_groups-items, group_types-identifiers_of, field_space-identifiers_of, own_signature_counted, own_fields_counted, own_signature_declared}
 
--- ---- what is read of each
+-- ---- the value that each item reads as
 
 each-numbered : {A B F : Type 0} {P : A → Type 0} (read : F → Option B) (items : ℕ → A → F) (value : A → B) →
     ((i : ℕ) (x : A) → P x → read (items i x) ≡ Some (value x)) → (i : ℕ) (xs : List A) → AllByRecursion P xs → each read (map_numbered items i xs) ≡ Some (map value xs)
 each-numbered read items value law i [] h = refl
 each-numbered read items value law i (x ∷ xs) h = rw (law i x h.0, each-numbered read items value law (i + 1) xs h.1)
 
--- both facts of each
+-- Both facts hold of each element.
 pub and_each : {A : Type 0} (P Q : A → Type 0) (xs : List A) → AllByRecursion P xs → AllByRecursion Q xs → AllByRecursion (λ x. P x × Q x) xs
 and_each P Q [] h k = tt
 and_each P Q (x ∷ xs) h k = ((h.0, k.0), and_each P Q xs h.1 k.1)
 
--- two facts of each, the second of its value
+-- Two facts hold of each element, the second one of its value.
 both_of_each : {A B : Type 0} (P : A → Type 0) (Q : B → Type 0) (value : A → B) (xs : List A) → AllByRecursion P xs → AllByRecursion Q (map value xs) →
     AllByRecursion (λ x. P x × Q (value x)) xs
 both_of_each P Q value [] h k = tt
@@ -86,7 +86,7 @@ both_of_each P Q value (x ∷ xs) h k = ((h.0, k.0), both_of_each P Q value xs h
 
 -- ---- the module
 
--- no imports stand before the first
+-- Before the first import, the number of imports of each kind is 0.
 none_before : (kind : ExternKind) → number_in kind no_numbers ≡ 0
 none_before FuncKind = refl
 none_before TableKind = refl
@@ -101,12 +101,12 @@ imports_few MemoryKind is = imported_types-length memory_import is
 imports_few GlobalKind is = imported_types-length global_import is
 imports_few TagKind is = imported_types-length tag_import is
 
--- what bytes spell of types is in range
+-- Types that are in range have type indices of 32 bits.
 groups_ranged : (gs : List (Placed TypeGroup)) → AllByRecursion (λ g. IsRangedGroup g.value) gs → AllByRecursion (λ g. AllByRecursion (IsDeclaredSub (2 ^ 32)) g) (groups_of gs)
 groups_ranged [] h = tt
 groups_ranged (g ∷ gs) h = (h.0.each, groups_ranged gs h.1)
 
--- what is in range and declared is below the lesser
+-- Type indices that are in range and declared are below the lesser of both bounds.
 all_bounded : (n : ℕ) (gs : List (List SubType)) → AllByRecursion (λ g. AllByRecursion (IsDeclaredSub (2 ^ 32)) g) gs → AllByRecursion (λ g. AllByRecursion (IsDeclaredSub n) g) gs →
     AllByRecursion (λ g. AllByRecursion (IsDeclaredSub (min (2 ^ 32) n)) g) gs
 all_bounded n gs h k = of_least (λ b. AllByRecursion (λ g. AllByRecursion (IsDeclaredSub b) g) gs) (2 ^ 32) n h k
@@ -118,14 +118,14 @@ module _ (folding : Option Folding) (names : Names) (m : PlacedModule) where
   pub signatures_ranged : IsRanged m → AreSignaturesInRange (signature_at own_types)
   signatures_ranged h i = own_signature_ranged m.types i h.each_group
 
-  -- what stands before functions and what stands behind them
+  -- The scopes of fields before the functions and after them
   abbrev pub early : Scope
   early = scope_before folding names m
 
   abbrev pub late : Scope
   late = scope_behind m early
 
-  -- how many of a kind are imported
+  -- The number of imports of a kind
   abbrev pub before : ExternKind → ℕ
   before kind = imports_of kind (without_places m.imports)
 
@@ -147,12 +147,12 @@ module _ (folding : Option Folding) (names : Names) (m : PlacedModule) where
   abbrev pub own_element : Bool → ℕ → Placed ElementEntry → Forest
   own_element skeleton i e = element_items early skeleton i e.value
 
-  -- the hints that wait behind so many functions
+  -- The hints that are left after this number of functions
   abbrev pub waiting : ℕ → List FunctionHints
   waiting zero = hints_of m.customs
   waiting (suc k) = hints_behind (before FuncKind + k) (waiting k)
 
-  -- those of the function i
+  -- The hints of function `i`
   abbrev pub own_hints : ℕ → List (Placed Hint)
   own_hints i = next_hints i (waiting (i - before FuncKind))
 
@@ -162,7 +162,7 @@ module _ (folding : Option Folding) (names : Names) (m : PlacedModule) where
   abbrev pub own_data : Bool → ℕ → Placed (Data (Placed Operator)) → Forest
   own_data skeleton i d = data_items late skeleton i d.value
 
-  -- what the fields of the section of a kind are written as, functions and segments whole or not
+  -- The items of the fields in the section of a kind; functions and segments are complete or a skeleton.
   abbrev pub fields_items : Bool → Kind → Forest
   fields_items skeleton TypeSection = type_section_items names 0 m.types
   fields_items skeleton ImportSection = imports_items early no_numbers m.imports
@@ -179,19 +179,19 @@ module _ (folding : Option Folding) (names : Names) (m : PlacedModule) where
   fields_items skeleton DataSection = field_rows (codes "data") (own_data skeleton) 0 m.datas
   fields_items skeleton CustomSection = End
 
-  -- those of sections in order
+  -- The items of the fields of sections in order
   abbrev pub kinds_items : Bool → List Kind → Forest
   kinds_items skeleton [] = End
   kinds_items skeleton (k ∷ ks) = onto (fields_items skeleton k) (kinds_items skeleton ks)
 
-  -- what a module is written as behind its identifier
+  -- The items of a module after its identifier
   unfoldable pub module_items : Bool → Forest
   module_items skeleton = kinds_items skeleton section_order
 
   abbrev own_imports : List ImportField
   own_imports = imports_held early no_numbers m.imports
 
-  -- the fields as they are sorted
+  -- The fields, sorted by kind
   unfoldable pub all_fields : Fields
   all_fields = record {
     types = group_bodies names 0 m.types;
@@ -244,7 +244,7 @@ module _ (folding : Option Folding) (names : Names) (m : PlacedModule) where
     locals = [];
   }
 
-  -- imports of a kind, and behind them what is defined
+  -- The index space of a kind: its imports, and then its definitions
   kind_space : {A : Type 0} → AreApart names → (kind : ExternKind) (items : ℕ → A → Forest) →
       ((i : ℕ) (x : A) → (identifier_in_front (items i x)).0 ≡ id (names.items (space_of kind) i)) → (xs : List A) → before kind + length xs ≤ 2 ^ 64 →
       (n : ℕ) → n ≡ before kind + length xs →
@@ -260,11 +260,11 @@ module _ (folding : Option Folding) (names : Names) (m : PlacedModule) where
       let fits : n ≤ 2 ^ 64 = omega (arith, e, few) in
       ap index_space are ∙ identifiers_space named (apart.items (space_of kind)) n fits
 
-  -- numbers of what is defined, behind what is imported
+  -- There are at most 2 ^ 64 imports and definitions of a kind together.
   pub numbers_fit : IsRanged m → (kind : ExternKind) (n : ℕ) → n < 2 ^ 32 → before kind + n ≤ 2 ^ 64
   numbers_fit h kind n small = omega (arith, small, h.imports, imports_few kind (without_places m.imports), length-map m.imports (λ i. i.value))
 
-  -- a space of what is not imported
+  -- The index space of items that can't be imported
   alone_space : {A : Type 0} → AreApart names → (space : Space) (items : ℕ → A → Forest) → ((i : ℕ) (x : A) → (identifier_in_front (items i x)).0 ≡ id (names.items space i)) →
       (xs : List A) (n : ℕ) → n < 2 ^ 32 → n ≡ length xs →
       index_space (identifiers_of (map_numbered items 0 xs)) ≡ Some (identifiers (names.items space) n)
@@ -272,14 +272,14 @@ module _ (folding : Option Folding) (names : Names) (m : PlacedModule) where
       ap index_space (declared_numbered items (names.items space) its 0 xs ∙ ap (identifiers_at (names.items space) 0) (sym e))
       ∙ identifiers_space (names.items space) (apart.items space) n (omega (arith, small))
 
-  -- no more types than can be counted
+  -- There are at most 2 ^ 64 types.
   types_fit : IsRanged m → length own_types ≤ 2 ^ 64
   types_fit h = omega (arith, h.types, types_few m.types h.each_group)
 
   types_space : AreApart names → IsRanged m → index_space (identifiers_of (concat (group_bodies names 0 m.types))) ≡ Some (own_space Types)
   types_space apart h = ap index_space (declared_types names 0 m.types) ∙ identifiers_space (names.items Types) (apart.items Types) (length own_types) (types_fit h)
 
-  -- as many values as there are
+  -- Mapping the items of a kind does not change their number.
   counted : {A B : Type 0} (kind : ExternKind) (f : A → B) (xs : List A) → before kind + length (map f xs) ≡ before kind + length xs
   counted kind f xs = ap (λ (k : ℕ). before kind + k) (length-map xs f)
 
@@ -304,7 +304,7 @@ module _ (folding : Option Folding) (names : Names) (m : PlacedModule) where
             (omega (arith, h.datas, length-map m.datas (λ d. data_without_places d.value))) (length-map m.datas (λ d. data_without_places d.value)),
       )
 
-  -- ---- what fields are read with
+  -- ---- the context in which fields are read
 
   abbrev own_groups : List (List (text.Declared SubType))
   own_groups = declared_groups names 0 m.types
@@ -500,7 +500,7 @@ module _ (folding : Option Folding) (names : Names) (m : PlacedModule) where
         (type_indices-read early whole_context own_counts (scoped early.function)) apart.fields 0 m.types
         (all_bounded own_counts.types (groups_of m.types) (groups_ranged m.types h.each_group) k.types) h.each_group
 
-    -- the module without its custom sections, which no field holds
+    -- The module without its custom sections, which no field contains
     abbrev uncustomed : Module
     uncustomed = record (module_of m) { customs = [] }
 
@@ -523,7 +523,7 @@ module _ (folding : Option Folding) (names : Names) (m : PlacedModule) where
           group_types-identifiers_of names 0 m.types,
         )
 
-  -- no identifier stands before the fields
+  -- The fields do not start with an identifier.
   unidentified_fields : (k : Kind) (f : Forest) → IsUnidentified f → IsUnidentified (onto (fields_items false k) f)
   unidentified_fields TypeSection f h = unidentified_types names 0 m.types f h
   unidentified_fields ImportSection f h = unidentified_imports early no_numbers m.imports f h
@@ -541,7 +541,7 @@ module _ (folding : Option Folding) (names : Names) (m : PlacedModule) where
   unfolding module_items
   no_identifier = unidentified_kinds section_order
 
-  -- behind the word `module` stand the module's identifier and its fields
+  -- After the word `module`, the identifier and the fields of the module read back.
   pub module_reads : AreApart names → AreNamed names → CanFold folding m → IsIndexed (module_of m) → IsRanged m → AllByRecursion (λ t. HasNoEmptyInit t.value.init) m.tables →
       read_forest (Group (Word (codes "module") (onto (id_items names.module_name) (module_items false))) End) ≡ Some (record (module_of m) { customs = [] })
   module_reads apart named foldable k h some =

@@ -1,4 +1,4 @@
--- The comparison of texts decides.
+-- The comparison of texts decides equality.
 use Rattle.std.proofs.Common.{◌≡◌, ℕ, true, List, refl, bytes_eq}
 use Rattle.std.proofs.lemmas.Slice.Eq.{bytes_eq-Decides}
 

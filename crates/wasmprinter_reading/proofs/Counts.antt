@@ -1,4 +1,4 @@
--- How many items a module that bytes spell has of each kind: fewer than 2 ^ 64, and so many that identifiers of them are apart.
+-- A module that bytes encode has at most 2 ^ 64 items of each kind, few enough for their identifiers to be apart.
 use Rattle.std.proofs.Common.{◌≡◌, ℕ, zero, suc, ◌<◌, ◌≤◌, ◌+◌, ◌*◌, ◌^◌, List, [], ◌∷◌, length, Option, Some, None, subst, replicate, arith}
 use Rattle.std.specs.List.{AllByRecursion}
 use Rattle.std.proofs.lemmas.List.{length-append, length-replicate}
@@ -26,7 +26,7 @@ parameters_few [] i h = omega arith
 parameters_few (t ∷ ts) zero h = composite_parameters t.composite h.0
 parameters_few (t ∷ ts) (suc i) h = parameters_few ts i h.1
 
--- a function type has so few parameters
+-- A function type has fewer than 2 ^ 32 parameters.
 pub own_parameters_few : (gs : List (Placed TypeGroup)) (i : ℕ) → AllByRecursion (λ g. IsRangedGroup g.value) gs →
     parameter_count (signature_at (all_types (groups_of gs)) i) < 2 ^ 32
 own_parameters_few gs i h = parameters_few (all_types (groups_of gs)) i (all_types_few gs h)
@@ -41,19 +41,19 @@ fields_few [] i fs h e = absurd cc
 fields_few (t ∷ ts) zero fs h e = composite_fields t.composite fs h.0 e
 fields_few (t ∷ ts) (suc i) fs h e = fields_few ts i fs h.1 e
 
--- and a structure type so few fields
+-- A structure type has fewer than 2 ^ 32 fields.
 pub own_fields_few : (gs : List (Placed TypeGroup)) (i : ℕ) (fs : List FieldType) → AllByRecursion (λ g. IsRangedGroup g.value) gs →
     fields_at (all_types (groups_of gs)) i ≡ Some fs → length fs < 2 ^ 32
 own_fields_few gs i fs h e = fields_few (all_types (groups_of gs)) i fs (all_types_few gs h) e
 
--- groups hold fewer than 2 ^ 32 types each
+-- The number of types is at most 2 ^ 32 times that of groups, each of which has fewer.
 pub types_few : (gs : List (Placed TypeGroup)) → AllByRecursion (λ g. IsRangedGroup g.value) gs → length (all_types (groups_of gs)) ≤ length gs * 2 ^ 32
 types_few [] h = omega arith
 types_few (g ∷ gs) h = omega (arith, length-append g.value.types (all_types (groups_of gs)), h.0.count, types_few gs h.1)
 
 -- ---- imports
 
--- no more is imported of a kind than of all
+-- There are at most as many imports of a kind as imports.
 pub imported_types-length : {A : Type 0} (f : ExternType → Option A) (is : List Import) → length (imported_types f is) ≤ length is
 imported_types-length f [] = omega arith
 imported_types-length {A = A} f (i ∷ is) = by (f i.type) (imported_types-length f is)
@@ -64,13 +64,13 @@ imported_types-length {A = A} f (i ∷ is) = by (f i.type) (imported_types-lengt
 
 -- ---- locals
 
--- groups hold fewer than 2 ^ 32 locals each
+-- The number of locals is at most 2 ^ 32 - 1 times that of groups, each of which has fewer than 2 ^ 32.
 pub locals_few : (es : List (Placed LocalEntry)) → AllByRecursion (λ e. IsRangedLocal e.value) es → length (locals_of es) ≤ length es * 4294967295
 locals_few [] h = omega arith
 locals_few (e ∷ es) h =
     omega (arith, length-append (replicate e.value.count e.value.type) (locals_of es), length-replicate e.value.count e.value.type, h.0.count, locals_few es h.1)
 
--- parameters and locals together
+-- A function has at most 2 ^ 64 parameters and locals together.
 pub variables_few : (parameters : ℕ) (es : List (Placed LocalEntry)) → parameters < 2 ^ 32 → length es < 2 ^ 32 → AllByRecursion (λ e. IsRangedLocal e.value) es →
     parameters + length (locals_of es) ≤ 2 ^ 64
 variables_few parameters es p n h = omega (arith, p, n, locals_few es h)

@@ -1,4 +1,4 @@
--- Custom sections: in which order they stand, what they are written as, and that they read back.
+-- Custom sections: their order, the items of their text, and that they read back
 pub mod Ordered
 pub mod Roles
 pub mod Lines

@@ -1,14 +1,14 @@
--- Declarations with the identifiers that they have: parameters, locals and fields.
+-- Declarations of parameters, locals and fields with their identifiers
 use Rattle.std.proofs.Common.{◌≡◌, ℕ, zero, suc, ◌+◌, List, [], ◌∷◌, ◌++◌, length, Option, refl, ap, ◌∙◌, arith, option_map}
 use Rattle.wasmprinter_spec.specs.Labels.{Named}
 use Rattle.wasmprinter_spec.specs.Names.{identifiers_at}
 use Rattle.wasmprinter_spec.specs.Text.Items.{Declaration, declaration, ids_of, types_of}
 
--- what a reader keeps of an identifier
+-- The identifier that a reader keeps
 abbrev pub id : Option Named → Option (List ℕ)
 id o = option_map (λ n. n.content) o
 
--- declarations k, k + 1 ..
+-- Declarations k, k + 1, and so on
 abbrev pub declared_from : {A : Type 0} → (ℕ → Option Named) → ℕ → List A → List (Declaration A)
 declared_from named k [] = []
 declared_from named k (x ∷ xs) = declaration (id (named k)) x ∷ declared_from named (k + 1) xs
@@ -21,7 +21,7 @@ pub ids_of-declared : {A : Type 0} (named : ℕ → Option Named) (k : ℕ) (xs 
 ids_of-declared named k [] = refl
 ids_of-declared named k (x ∷ xs) = ap (λ is. id (named k) ∷ is) (ids_of-declared named (k + 1) xs)
 
--- the identifiers of so many items, and of those behind them
+-- The identifiers of m items and of the n items after them are those of m + n items.
 pub identifiers_at-more : (named : ℕ → Option Named) (k m n : ℕ) → identifiers_at named k m ++ identifiers_at named (k + m) n ≡ identifiers_at named k (m + n)
 identifiers_at-more named k zero n =
     let e : k + 0 ≡ k = omega arith in

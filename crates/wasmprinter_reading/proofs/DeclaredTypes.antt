@@ -1,4 +1,4 @@
--- The types of a module: their groups read back, with the identifiers of types and of fields.
+-- The groups of types of a module read back, with the identifiers of types and of fields.
 use Rattle.std.proofs.Common.{◌≡◌, ℕ, zero, suc, ◌+◌, ◌<◌, List, [], ◌∷◌, ◌++◌, length, Some, refl, sym, ap, ap₂, subst, ◌∙◌, slice_get, arith}
 use Rattle.std.specs.List.{AllByRecursion}
 use Rattle.std.proofs.lemmas.List.{length-append}
@@ -42,7 +42,7 @@ declared_types names i (g ∷ gs) =
 
 -- ---- types read back
 
--- what is read of each group
+-- The declarations that each group reads as
 abbrev pub declared_groups : Names → ℕ → List (Placed TypeGroup) → List (List (Declared SubType))
 declared_groups names i [] = []
 declared_groups names i (g ∷ gs) = map_numbered (declared_type names) i g.value.types ∷ declared_groups names (i + length g.value.types) gs
@@ -96,7 +96,7 @@ fields_from names i (t ∷ ts) (suc k) fs e =
     let same : i + 1 + k ≡ i + suc k = omega arith in
     fields_from names (i + 1) ts k fs e ∙ ap (λ (k : ℕ). identifiers (names.fields k) (length fs)) same
 
--- the identifiers of a structure type's fields
+-- The fields of a structure type have the identifiers that the names give.
 pub field_space-identifiers_of : (names : Names) (gs : List (Placed TypeGroup)) (k : ℕ) (fs : List FieldType) → fields_at (all_types (groups_of gs)) k ≡ Some fs →
     field_space (declared_groups names 0 gs) k ≡ identifiers (names.fields k) (length fs)
 field_space-identifiers_of names gs k fs e =
@@ -105,7 +105,7 @@ field_space-identifiers_of names gs k fs e =
     ∙ fields_from names 0 (all_types (groups_of gs)) k fs e
     ∙ ap (λ (j : ℕ). identifiers (names.fields j) (length fs)) same
 
--- ---- what has a signature or fields is a type of the module
+-- ---- a type index with a signature or fields is one of the module's types
 
 signature_counted : (ts : List SubType) (k : ℕ) (f : FuncType) → signature_at ts k ≡ Some f → k < length ts
 signature_counted [] k f e = absurd cc
@@ -123,7 +123,7 @@ fields_counted (t ∷ ts) (suc k) fs e = let less = fields_counted ts k fs e in 
 pub own_fields_counted : (gs : List (Placed TypeGroup)) (k : ℕ) (fs : List FieldType) → fields_at (all_types (groups_of gs)) k ≡ Some fs → k < length (all_types (groups_of gs))
 own_fields_counted gs k fs e = fields_counted (all_types (groups_of gs)) k fs e
 
--- ---- what is declared of all types is so of each signature
+-- ---- if all types are declared, then so is each signature
 
 module _ (bound : ℕ) where
   all_types_declared : (gs : List (Placed TypeGroup)) → AllByRecursion (λ g. AllByRecursion (IsDeclaredSub bound) g) (groups_of gs) →

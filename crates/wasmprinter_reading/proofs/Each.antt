@@ -1,4 +1,4 @@
--- What holds of each element of a list, for lists in parts.
+-- Facts about each element of a list that is built from parts
 use Rattle.std.proofs.Common.{◌≡◌, List, [], ◌∷◌, ◌++◌, map, refl}
 use Rattle.std.specs.List.{AllByRecursion, flat_map}
 use Rattle.wasmprinter_spec.proofs.Each.{all_parts}

@@ -1,5 +1,5 @@
--- What holds of all values that fewer than 2 ^ 32 bytes spell, which are all that a section can hold: as for any number of bytes, and
--- besides the operators of an expression are no more than its bytes.
+-- Facts about all values that fewer than 2 ^ 32 bytes encode; a section has no more. They are those of any number of
+-- bytes, and in addition an expression has at most as many operators as bytes.
 use Rattle.std.proofs.Common.{ℕ, ◌<◌, ◌^◌, List, ◌++◌, length, subst, sym, arith}
 use Rattle.std.proofs.lemmas.List.{length-append}
 use Rattle.wasmprinter_spec.specs.Grammar.{Grammar}
@@ -7,7 +7,7 @@ use Rattle.wasmprinter_spec.specs.Sized.{alone, exactly}
 use Rattle.wasmprinter_spec.specs.Binary.{AreBytes}
 use Rattle.wasmprinter_reading.proofs.AllSpelled.{ByteStrings, Spelled, AllSpelled, split_bytes}
 
--- bytes of which there are so few
+-- Fewer than 2 ^ 32 bytes
 abbrev pub AreFewBytes : List ℕ → Type 0
 AreFewBytes text = AreBytes text × (length text < 2 ^ 32)
 
@@ -19,10 +19,10 @@ split_few t u h =
 abbrev pub few_bytes : ByteStrings
 few_bytes = record { Are = AreFewBytes; bytes = λ text h. h.0; split = split_few }
 
--- each value that few bytes spell has P
+-- Each value that fewer than 2 ^ 32 bytes encode has P.
 abbrev pub FewSpelled : {A : Type 0} → Grammar A → (A → Type 0) → Type 0
 FewSpelled g P = Spelled few_bytes g P
 
--- a value of n bytes, where these are few
+-- A value encoded by exactly n bytes has P if n is below 2 ^ 32.
 pub AllSpelled-few : {A : Type 0} {g : Grammar A} {P : A → Type 0} → FewSpelled g P → (n : ℕ) → AllSpelled (exactly (alone g) n) (λ a. n < 2 ^ 32 → P a)
 AllSpelled-few all n = record { has = λ p text a bytes s small. all.has p text a (bytes, subst (λ k. k < 2 ^ 32) (sym s.0) small) s.1 }

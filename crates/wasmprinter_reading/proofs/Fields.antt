@@ -1,4 +1,5 @@
--- Fields of a module, a file for each kind: what it is written as, that its pieces write it, and that it reads back.
+-- Fields of a module, a file for each kind: the items of a field, that its pieces write them, and that they read
+-- back
 pub mod Scopes
 pub mod Expressions
 pub mod Limits

@@ -1,4 +1,4 @@
--- Folded operators: what their text is as nested groups, and that it reads back.
+-- Folded operators: the items of their text, and that they read back
 pub mod OneLine
 pub mod Words
 pub mod Items

@@ -1,4 +1,4 @@
--- The identifiers of a module that bytes spell are apart, and are UTF-8.
+-- The identifiers of a module that bytes encode are apart and are UTF-8.
 use Rattle.std.proofs.Common.{List, [], ◌∷◌, ◌++◌, Bool, true, false, bytes_eq}
 use Rattle.std.specs.Prelude.{if◌then◌else◌}
 use Rattle.std.specs.List.{AllByRecursion}
@@ -37,7 +37,7 @@ module_names_apart invents m h = identifiers_are_apart invents (name_entries m.c
 pub module_names_named : (invents : Bool) (m : PlacedModule) → IsRanged m → AreNamed (module_names invents m)
 module_names_named invents m h = identifiers_are_named invents (name_entries m.customs) (name_entries-are m.customs h.each_custom)
 
--- the entries by which items have their names are those that the data give
+-- The entries from which items have their names are those that the data gives.
 pub entries_are_given : EntriesAreGiven
 entries_are_given d = gives_some (input d.place d.value)
 

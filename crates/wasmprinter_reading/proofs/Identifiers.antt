@@ -1,4 +1,5 @@
--- Identifiers: what indices and declarations are written as, that their pieces write this, and that an index reads back.
+-- Identifiers: the items of indices and declarations, that their pieces write these items, and that an index reads
+-- back
 use Rattle.std.proofs.Common.{◌⊎◌, inl, inr, sym, ◌≡◌, ℕ, ◌<◌, ◌≤◌, ◌^◌, Bool, true, false, cond, List, [], ◌∷◌, Option, Some, None, refl, ap, ◌∙◌, subst, arith, bytes_eq, chars, decimal, length, encode_utf8_all, min}
 use Rattle.std.specs.Prelude.{IsUtf8}
 use Rattle.std.proofs.Math.Utf8.{scalars}
@@ -20,21 +21,21 @@ use Rattle.wasmprinter_reading.proofs.Items.{index-decimal}
 use Rattle.wasmprinter_reading.proofs.Declarations.{id}
 use Rattle.wasmprinter_reading.proofs.Names.Resolving.{resolves}
 
--- ---- what they are written as
+-- ---- the items
 
--- an index: the identifier of what is meant, or else the number
+-- The items of an index: the identifier of its item, or else the number
 abbrev pub index_items : Option Named → ℕ → Forest
 index_items None n = Word (decimal n) End
 index_items (Some m) n = Name m.content End
 
--- a declaration: the identifier, if it has one
+-- The items of a declaration: the identifier, if there is one
 abbrev pub id_items : Option Named → Forest
 id_items None = End
 id_items (Some n) = Name n.content End
 
--- ---- they read back
+-- ---- the items read back
 
--- no identifier stands in front
+-- The items do not start with an identifier.
 abbrev pub IsUnidentified : Forest → Type 0
 IsUnidentified f = identifier_in_front f ≡ (None, f)
 
@@ -42,13 +43,13 @@ pub declaration-items : (o : Option Named) (f : Forest) → IsUnidentified f →
 declaration-items None f h = h
 declaration-items (Some n) f h = refl
 
--- An identifier of these declarations means the one that has it.
+-- The identifiers of these declarations are distinct, so each means one declaration.
 pub record Declares (ids : Identifiers) (named : ℕ → Option Named) (count : ℕ) : Type 0 where
   pub are : ids ≡ identifiers named count
   pub few : count ≤ 2 ^ 64
   pub apart : AreDistinct named
 
--- Below a bound each printed index reads as itself.
+-- Each printed index below the bound reads as itself.
 abbrev pub Reads : Identifiers → (ℕ → Option Named) → ℕ → Type 0
 Reads ids named bound = (n : ℕ) → n < bound → index ids (index_items (named n) n) ≡ Some n
 
@@ -60,13 +61,13 @@ index_reads ids named count d n declared small = by (named n) refl
     by None e = index-decimal ids n small
     by (Some m) e = ap (λ is. index is (Name m.content End)) d.are ∙ resolves named d.apart count n m d.few declared e
 
--- the same in front of other items
+-- A printed index before other items reads as itself.
 pub leading_reads : (ids : Identifiers) (o : Option Named) (n : ℕ) (f : Forest) → index ids (index_items o n) ≡ Some n →
     leading_index ids (onto (index_items o n) f) ≡ Some (n, f)
 leading_reads ids None n f e = rw e
 leading_reads ids (Some m) n f e = rw e
 
--- What holds of two numbers holds of the lesser.
+-- A fact that holds of two numbers holds of the lesser one.
 pub of_least : (P : ℕ → Type 0) (m n : ℕ) → P m → P n → P (min m n)
 of_least P m n h k = by (cases_lt m n)
   where
@@ -77,13 +78,13 @@ of_least P m n h k = by (cases_lt m n)
 pub reads_least : (ids : Identifiers) (named : ℕ → Option Named) (count : ℕ) → Declares ids named count → Reads ids named (min (2 ^ 32) count)
 reads_least ids named count d n h = index_reads ids named count d n (omega (arith, h, min-le_right (2 ^ 32) count)) (omega (arith, h, min-le_left (2 ^ 32) count))
 
--- ---- their pieces write them
+-- ---- pieces write the items
 
 is_name-utf8 : (s : List ℕ) → IsUtf8 s → 0 < length s → is_name s ≡ true
 is_name-utf8 [] h some = absurd (omega arith)
 is_name-utf8 (b ∷ bs) h some = is_utf8-from_IsUtf8 (b ∷ bs) h
 
--- an identifier before other pieces
+-- The content of an identifier is UTF-8 and can be written as one.
 record IsIdentifier (n : Named) : Type 0 where
   same : encode_utf8_all (chars n.content) ≡ n.content
   scalar : scalars (chars n.content) ≡ true

@@ -49,7 +49,7 @@ use Rattle.wasmprinter_reading.proofs.Back.{early, before, module_items, module_
 
 -- ---- raw custom sections read back
 
--- behind cuts no annotation is left
+-- Without annotations, a row has no custom sections.
 row_customs-without_annotations : (f : Forest) → row_customs (without_annotations f) ≡ []
 row_customs-without_annotations End = refl
 row_customs-without_annotations (Word s f) = row_customs-without_annotations f
@@ -59,7 +59,7 @@ row_customs-without_annotations (Reserved f) = row_customs-without_annotations f
 row_customs-without_annotations (Group g f) = row_customs-without_annotations f
 row_customs-without_annotations (Note id g f) = row_customs-without_annotations f
 
--- the raw custom sections of a row read as these
+-- The raw custom sections of a row read as these.
 record RawRow (f : Forest) (rs : List RawCustom) : Type 0 where
   reads : RowReads f rs
 
@@ -95,13 +95,13 @@ module _ (folding : Option Folding) (bare : IsUnpainted folding) (o : Options) (
   unfolding own_noted raws
   place_row place = record { reads = (noting folding bare o names named m h answers place).reads unclaimed whole }
 
-  -- no custom section is among the fields
+  -- The fields of a section contain no custom section.
   fields_row : (k : Kind) → RawRow (fields_noted folding bare o names named m h k) []
   fields_row CodeSection =
       record { reads = functions_row o.skeleton (early folding names m) (hints_of m.customs) (before folding names m FuncKind) m.functions }
   fields_row k = plain_row (fields_write folding bare o names named m h k)
 
-  -- those behind the fields of sections in order
+  -- The custom sections after the fields of sections in order read as the raw ones with those places.
   kinds_row : (ks : List Kind) → RawRow (kinds_noted folding bare o names named m h answers ks) (raws_over (map Some ks) m.customs)
   unfolding own_noted raws
   kinds_row [] = record { reads = refl }
@@ -140,7 +140,7 @@ module _ (folding : Option Folding) (bare : IsUnpainted folding) (o : Options) (
       ∙ ap (λ r. r >>= λ y. read_customs w.whole >>= λ cs. Some (record y { customs = cs })) e
       ∙ ap (λ r. r >>= λ cs. Some (record x { customs = cs })) (customs_read w.whole w.noted)
 
--- ---- of a module with its own identifiers
+-- ---- a module with its own identifiers
 
 module _ (folding : Option Folding) (bare : IsUnpainted folding) (o : Options) (answers : Answers) (m : PlacedModule) (h : IsRanged m) (blank : IsBlank o.indent) where
   abbrev own_names : Names
@@ -167,7 +167,7 @@ module _ (folding : Option Folding) (bare : IsUnpainted folding) (o : Options) (
   pub pieces_are_plain : IsPlainText (text_of (all_calls o own_pieces))
   pieces_are_plain = subst IsPlainText (sym pieces_text) (text_is_plain o blank pieces_stand.printed pieces_stand.are)
 
-  -- however operators are folded
+  -- The text reads back as the module, for any way to fold its operators.
   pub pieces_read_back : AreUnclaimed answers → o.skeleton ≡ false → IsIndexed (module_of m) → AllByRecursion (λ t. HasNoEmptyInit t.value.init) m.tables →
       CanFold folding m → (laid_parts (parts_by folding o answers own_names m)).refused ≡ None → read (text_of (all_calls o own_pieces)) ≡ Some (module_of m)
   pieces_read_back unclaimed whole indexed some foldable none =
@@ -175,7 +175,7 @@ module _ (folding : Option Folding) (bare : IsUnpainted folding) (o : Options) (
       (ap (λ s. read_forest (Group (Word (codes "module") (onto (id_items own_names.module_name) (module_items folding own_names m s))) End)) whole
       ∙ module_reads folding own_names m (module_names_apart o.invents m h) named foldable indexed h some)
 
--- ---- the laws, where operators are folded as the options say
+-- ---- the laws, if operators are folded as the options say
 
 pub reads_back : ReadsBack
 reads_back bytes m o answers spelled indexed some whole plain blank unclaimed foldable none =

@@ -12,8 +12,8 @@ use Rattle.wasmprinter_spec.specs.Read.{read}
 use Rattle.wasmprinter_spec.proofs.Computing.{composing, reading}
 use Rattle.wasmprinter_spec.proofs.Samples.{head_bytes, lines, func, empty}
 
--- a function of two parameters and two locals; the names of the module, of the function, of both parameters, which have
--- one name, and of the last local
+-- A function with two parameters and two locals. Names are given to the module, to the function, to both parameters
+-- (the same name) and to the last local.
 abbrev named_bytes : List ℕ
 named_bytes =
     head_bytes

@@ -1,4 +1,4 @@
--- Name sections and the identifiers that they give.
+-- Name sections and the identifiers that they give
 pub mod Fits
 pub mod Listing
 pub mod Distinct

@@ -1,4 +1,4 @@
--- The reader's test of nesting holds exactly where operators are well nested.
+-- The reader's test of nesting accepts operators exactly if they are well nested.
 use Rattle.std.proofs.Common.{◌≡◌, Bool, true, false, Some, None, if◌then◌else◌, refl, ap}
 use Rattle.wasmprinter_spec.specs.NestingSteps.{stops_at_end, nested_to_end}
 use Rattle.wasmprinter_spec.specs.Row.{Ends}

@@ -1,4 +1,4 @@
--- Worked rows: the nodes of texts, and of the fields of a module's text.
+-- Worked rows: the nodes of texts, and of the fields of a module's text
 use Rattle.std.specs.Prelude.{◌≡◌, ℕ, List, [], ◌∷◌, ◌++◌, map, false, Option, Some, None, option_map, codes, refl}
 use Rattle.wasmprinter_spec.specs.Grammar.{◌>>=◌, input}
 use Rattle.wasmprinter_spec.specs.Instructions.{expression}
@@ -18,26 +18,26 @@ use Rattle.wasmprinter_spec.proofs.Samples.{lines}
 use Rattle.wasmprinter_reading.specs.NodeLaws.{items_in, nodes_in, with_heads}
 use Rattle.wasmprinter_reading.specs.TreeLaws.{field_nodes, segment_nodes, tree_of}
 
--- one more node, of a constant
+-- One more node, of a constant
 abbrev constant : List ℕ → NodesOf Forest → NodesOf Forest
 constant n before = Snoc before (Word (codes "i32.const") (Word n End)) 0 Nil
 
 -- ---- texts of operators
 
--- An `if` holds its operand and its cases. The group of its result is part of its own operator.
+-- An `if` contains its operand and its cases. The group of its result is part of its own operator.
 choice : nodes_in (codes "(if (result i32) (i32.const 0) (then (i32.const 1)) (else (i32.const 2)))")
     ≡ Some (Snoc Nil (Word (codes "if") (Group (Word (codes "result") (Word (codes "i32") End)) End)) 0
     (Snoc (Snoc (constant (codes "0") Nil) (Word (codes "then") End) 0 (constant (codes "1") Nil)) (Word (codes "else") End) 0 (constant (codes "2") Nil)))
 unfolding reading
 choice = refl
 
--- nodes in a row, with a comment and a hint between them
+-- Several nodes, with a comment and a hint between them
 row : nodes_in (codes "(i32.const 0) (; a comment ;) (@metadata.code.branch_hint \"\\01\") (drop (i32.const 1)) ;; (nop)")
     ≡ Some (Snoc (constant (codes "0") Nil) (Word (codes "drop") End) 0 (constant (codes "1") Nil))
 unfolding reading
 row = refl
 
--- a text with an operator in no group, or with an item behind a node, is no row of nodes
+-- A text with an operator outside of groups, or with an item after a node, has no row of nodes.
 flat_operator : nodes_in (codes "(i32.const 0) drop") ≡ None
 unfolding reading
 flat_operator = refl
@@ -54,17 +54,17 @@ no_signatures = record { types = λ t. None; functions = λ f. None; tags = λ t
 abbrev in_one_line : Setting
 in_one_line = record { form = InLine; signature = λ n. None; nesting = 2; names = no_names; function = 0; body = 0 }
 
--- what the operators that bytes spell are printed as when they are folded
+-- The folded text of the operators that bytes encode
 abbrev folded_text : List ℕ → Option (Option (List ℕ))
 folded_text bytes =
     option_map (λ x. option_map (λ ps. text_of (all_calls defaults ps)) (folded_pieces defaults false in_one_line no_signatures [] x.0.items)) (expression.parse (input 1 bytes))
 
--- and their tree, with the items of each node's own operator
+-- The tree of these operators, with the items of each node's own operator
 abbrev folded_tree : List ℕ → Option (Option (NodesOf (Option Forest)))
 folded_tree bytes =
     option_map (λ x. option_map (with_heads (λ h. items_in (head_text defaults h))) (tree_of in_one_line no_signatures [] x.0.items)) (expression.parse (input 1 bytes))
 
--- the `if` from above
+-- The `if` of the first row
 abbrev choice_bytes : List ℕ
 choice_bytes = 0x41 ∷ 0x00 ∷ 0x04 ∷ 0x7f ∷ 0x41 ∷ 0x01 ∷ 0x05 ∷ 0x41 ∷ 0x02 ∷ 0x0b ∷ 0x0b ∷ []
 
@@ -101,7 +101,7 @@ module_text = lines (
 abbrev sorted : Option Fields
 sorted = items_in module_text >>= module_fields >>= fields
 
--- what stands in front of a body is no node, and a table without an initialiser has none
+-- The items before a body are not nodes, and a table without an initialiser has no nodes.
 bodies : option_map (λ fs. map field_nodes fs.functions) sorted
     ≡ Some (Some (Snoc (Snoc Nil (Word (codes "global.set") (Name (codes "g") End)) 0 (constant (codes "1") Nil)) (Word (codes "local.get") (Name (codes "a") End)) 0 Nil) ∷ [])
 unfolding reading
@@ -112,7 +112,7 @@ initialisers : option_map (λ fs. map field_nodes (fs.tables ++ fs.globals)) sor
 unfolding reading
 initialisers = refl
 
--- an offset and items, each behind the word of its group, or alone in it
+-- An offset and items, each after the word of its group or alone in it
 segments : option_map (λ fs. map segment_nodes (fs.elements ++ fs.datas)) sorted
     ≡ Some (
     (Some (Snoc Nil (Word (codes "i32.add") End) 0 (constant (codes "1") (constant (codes "0") Nil))) ∷ [])

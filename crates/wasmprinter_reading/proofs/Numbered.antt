@@ -1,4 +1,4 @@
--- Rows of groups: the fields of one kind, and what is printed for each with its number.
+-- Rows of groups: the fields of one kind, each printed with its number
 use Rattle.std.proofs.Common.{ℕ, ◌<◌, ◌^◌, ◌≤◌, ◌+◌, length, List, [], ◌∷◌, arith}
 use Rattle.std.specs.List.{AllByRecursion}
 use Rattle.wasmprinter_spec.specs.Forest.{Forest, End, Group}
@@ -11,12 +11,12 @@ unfoldable pub rows : List Forest → Forest
 rows [] = End
 rows (g ∷ gs) = Group g (rows gs)
 
--- of each with its number, from i on
+-- The value of f for each element with its number, from i on
 abbrev pub map_numbered : {A B : Type 0} → (ℕ → A → B) → ℕ → List A → List B
 map_numbered f i [] = []
 map_numbered f i (x ∷ xs) = f i x ∷ map_numbered f (i + 1) xs
 
--- fields of one kind, each with its number
+-- The pieces of numbered fields of one kind write their items.
 pub numbered_writes : {A : Type 0} (P : A → Type 0) (write : ℕ → A → List Piece) (items : ℕ → A → Forest) → ((i : ℕ) (x : A) → i < 2 ^ 64 → P x → Writes Bound (write i x) Bound (Group (items i x) End)) →
     (i : ℕ) (xs : List A) → i + length xs ≤ 2 ^ 64 → AllByRecursion P xs → Writes Bound (numbered_pieces write i xs) Bound (rows (map_numbered items i xs))
 unfolding numbered_pieces rows

@@ -1,4 +1,4 @@
--- Worked rows: lists of operators that meet what their law asks for, and the texts that therefore read back.
+-- Worked rows: lists of operators that meet the premises of their law, and their texts, which therefore read back
 use Rattle.std.proofs.Common.{◌≡◌, ℕ, zero, suc, pos, inl, ◌∷◌, [], List, length, Bool, Option, Some, None, true, false, refl, sym, ap, ◌∙◌, subst, codes, arith, lit<, ◌<◌, ◌≤◌, ◌^◌}
 use Rattle.std.specs.Fmt.{digits}
 use Rattle.std.specs.Str.{chars}
@@ -35,7 +35,7 @@ use Rattle.wasmprinter_reading.specs.OperatorLaws.{count_in, HaveSameTypes, Have
 use Rattle.wasmprinter_reading.proofs.Operators.LabelNames.{printed_is_utf8}
 use Rattle.wasmprinter_reading.proofs.Operators.ReadBack.{named_operators_read_back}
 
--- ---- what the rows have in common
+-- ---- definitions for all rows
 
 abbrev operator : ℕ → Immediates → Placed Operator
 operator n i = record { place = 0; value = record { opcode = opcode 0 n; immediates = i } }
@@ -43,7 +43,7 @@ operator n i = record { place = 0; value = record { opcode = opcode 0 n; immedia
 abbrev prefixed : ℕ → ℕ → Immediates → Placed Operator
 prefixed p n i = record { place = 0; value = record { opcode = opcode p n; immediates = i } }
 
--- two types: of a function of one i32, and a structure of one i32
+-- Two types: a function with one parameter of type i32, and a structure with one field of type i32
 abbrev one_i32 : FuncType
 one_i32 = record { params = types.I32 ∷ []; results = [] }
 
@@ -56,7 +56,7 @@ fields zero = None
 fields (suc zero) = Some (types.field_type false (types.Val types.I32) ∷ [])
 fields (suc (suc n)) = None
 
--- two of each
+-- Two items of each kind
 abbrev counts : Counts
 counts = record {
   types = 2;
@@ -143,7 +143,7 @@ module _ (names : Names) (form : Form) where
 two_blanks : IsBlank defaults.indent
 two_blanks = (inl refl, (inl refl, tt))
 
--- the text of operators that have what their law asks for reads as them
+-- The text of operators that meet the premises of the law reads as these operators.
 reads_by : (invents : Bool) (entries : List Entry) → AreEntries entries → (form : Form) (os : List (Placed Operator)) → AreOperators counts os →
     read_alone (context (names_of invents entries)) (text_of (all_calls defaults (expression_pieces (setting (names_of invents entries) form) os))) ≡ Some (without_places os)
 unfolding expression_pieces
@@ -151,7 +151,7 @@ reads_by invents entries h form os is =
     named_operators_read_back invents entries h (setting (names_of invents entries) form) refl (context (names_of invents entries)) counts
     (same_types (names_of invents entries) form) (same_names (names_of invents entries) form) [] os is defaults two_blanks
 
--- no name sections, with identifiers made up or without
+-- Names without name sections, with synthesized identifiers or without
 abbrev unnamed : Names
 unnamed = names_of false []
 
@@ -180,7 +180,7 @@ one_result_reads : read_alone (context unnamed) (codes "block (result i32)  (; l
 one_result_reads =
     ap (read_alone (context unnamed)) (sym one_result_text) ∙ reads_by false [] tt InLine one_result one_result_is
 
--- the result of a block may name a type by its index
+-- The result type of a block may contain a type index.
 abbrev reference_result : List (Placed Operator)
 reference_result = operator 0x02 (Block (Value (types.Ref (types.ref_type false (types.Index 0))))) ∷ operator 0x0b NoImmediates ∷ []
 
@@ -286,7 +286,7 @@ operands_read =
     ap (read_alone (context unnamed)) (sym operands_print)
     ∙ reads_by false [] tt InLine operands operands_are
 
--- ---- over lines
+-- ---- over several lines
 
 abbrev branches : List (Placed Operator)
 branches = operator 0x03 (Block (OfType 0)) ∷ operator 0x02 (Block Empty) ∷ operator 0x0c (Index 1) ∷ operator 0x0b NoImmediates ∷ operator 0x0c (Index 1) ∷ operator 0x0b NoImmediates ∷ []
@@ -320,12 +320,12 @@ branches_read : read_alone (context invented) branches_text ≡ Some (without_pl
 branches_read =
     ap (read_alone (context invented)) (sym branches_print) ∙ reads_by true [] tt OverLines branches branches_are
 
--- ---- by names
+-- ---- with names
 
 abbrev entry : ℕ → ℕ → ℕ → List ℕ → Entry
 entry s outer index name = record { subsection = s; outer = outer; index = index; name = name }
 
--- names for the structure and its field, a function, a local and a label
+-- Names of the structure and its field, of a function, a local and a label
 abbrev some_entries : List Entry
 some_entries =
     entry type_subsection 0 1 (codes "point") ∷ entry field_subsection 1 0 (codes "x") ∷ entry function_subsection 0 1 (codes "run")
@@ -385,7 +385,7 @@ named_print = refl
 named_read : read_alone (context some_names) named_text ≡ Some (without_places accesses)
 named_read = ap (read_alone (context some_names)) (sym named_print) ∙ reads_by false some_entries some_are_entries InLine accesses accesses_are
 
--- the same with identifiers made up for all
+-- The same operators with synthesized identifiers for all items
 abbrev invented_text : List ℕ
 invented_text = codes "block $#label0 local.get $#local0 struct.get $#type1 $#field0 call $#func1 local.get $#local1 br $#label0 end"
 

@@ -1,4 +1,4 @@
--- Operators, a file for each part: what it is written as, that its pieces write it, and that it reads back.
+-- Operators, a file for each part: the items, that pieces write them, and that they read back
 pub mod Spelled
 pub mod Arguments
 pub mod Numbers

@@ -1,5 +1,5 @@
--- What the parts of sections that bytes spell keep to: limits, the types of memories, tables and globals,
--- imports, expressions and segments.
+-- The parts of sections that bytes encode are in range: limits, the types of memories, tables and globals, imports,
+-- expressions and segments.
 use Rattle.std.proofs.Common.{◌≡◌, ℕ, ◌<◌, ◌^◌, ◌==◌, ◌||◌, Bool, true, false, ltb, Some, refl, subst, arith}
 use Rattle.std.specs.Prelude.{IsUtf8}
 use Rattle.std.specs.Str.{is_utf8}
@@ -40,7 +40,7 @@ AllSpelled-name = Spelled-try_map (Spelled-any _) (λ text checked e h.
     let t = tested (is_utf8 text) (Some text) checked e in
     subst IsUtf8 (some_is text checked t.1) (IsUtf8-from_is_utf8 text t.0))
 
--- Limits of 64 bits, and the size of a page.
+-- Limits are below 2 ^ 64.
 AllSpelled-limits : (b : Bool) → AllSpelled (limits b) (λ l. (l.min < 2 ^ 64) × IsRangedMax l.max)
 AllSpelled-limits true = Spelled-map_value (Spelled-seq (AllSpelled-unsigned 64) (λ _. AllSpelled-unsigned 64)) (λ x h. h)
 AllSpelled-limits false = Spelled-map_value (AllSpelled-unsigned 64) (λ n h. (h, tt))
@@ -56,20 +56,20 @@ AllSpelled-page : (b : Bool) → AllSpelled (page b) IsRangedPage
 AllSpelled-page true = Spelled-map_value (Spelled-try_map (Spelled-any u32) page_ranged) (λ e h. h)
 AllSpelled-page false = Spelled-succeed tt
 
--- A memory: its limits and the size of its pages.
+-- A memory type is in range: its limits and the size of its pages.
 pub AllSpelled-memory_type : AllSpelled memory_type IsRangedMemory
 AllSpelled-memory_type = Spelled-behind_first_byte (λ flags.
     Spelled-choose (ltb flags 16)
     (Spelled-map_value (Spelled-seq (AllSpelled-limits (has_bit 0 flags)) (λ _. AllSpelled-page (has_bit 3 flags)))
     (λ x ((min, max), page). record { min = min; max = max; page = page })) Spelled-fail)
 
--- A tag: the index of its type.
+-- The type index of a tag is a number of 32 bits.
 pub AllSpelled-tag : AllSpelled tag (λ i. i < 2 ^ 32)
 AllSpelled-tag = Spelled-map_value (Spelled-seq (Spelled-any (only 0x00)) (λ _. AllSpelled-u32)) (λ x h. h.1)
 
 -- ---- expressions
 
--- An expression of few bytes: its operators are no more.
+-- An expression of fewer than 2 ^ 32 bytes is in range: it has at most as many operators as bytes.
 FewSpelled-constant : FewSpelled constant IsRangedExpression
 FewSpelled-constant = Spelled-map_value nested (λ x h. h)
   where
@@ -86,19 +86,19 @@ FewSpelled-constant = Spelled-map_value nested (λ x h. h)
 
 -- ---- tables and globals
 
--- The limits of a table.
+-- The limits of a table are below 2 ^ 64.
 AllSpelled-table_limits : (flags : ℕ) → AllSpelled (table_limits_behind flags) (λ x. (x.1.min < 2 ^ 64) × IsRangedMax x.1.max)
 AllSpelled-table_limits flags =
     Spelled-choose (flags == 0 || flags == 1 || flags == 4 || flags == 5)
     (Spelled-map_value (AllSpelled-limits (has_bit 0 flags)) (λ l h. h)) Spelled-fail
 
--- The type of a table.
+-- The type of a table is in range.
 AllSpelled-table_type : AllSpelled table_type IsRangedTableType
 AllSpelled-table_type =
     Spelled-map_value (Spelled-seq AllSpelled-reference_type (λ _. Spelled-behind_first_byte AllSpelled-table_limits))
     (λ x (element, (min, max)). record { min = min; max = max; element = element })
 
--- A table, with an initialiser or without.
+-- A table is in range, with an initialiser or without.
 FewSpelled-table_by : (b : ℕ) → FewSpelled (table_by b) IsRangedTable
 FewSpelled-table_by b =
     Spelled-choose (b == 0x40)
@@ -110,7 +110,7 @@ FewSpelled-table_by b =
 pub FewSpelled-table : FewSpelled table IsRangedTable
 FewSpelled-table = Spelled-by_first_byte FewSpelled-table_by
 
--- The type of a global.
+-- The type of a global is in range.
 AllSpelled-global_type : AllSpelled global_type (λ t. IsRangedVal t.type)
 AllSpelled-global_type = Spelled-map_value (Spelled-seq AllSpelled-val_type (λ _. Spelled-any mutability)) (λ x h. h.0)
 
@@ -128,7 +128,7 @@ AllSpelled-extern_type_behind k =
     (Spelled-choose (k == 3) (Spelled-map_value AllSpelled-global_type (λ t h. h))
     (Spelled-choose (k == 4) (Spelled-map_value AllSpelled-tag (λ i h. h)) Spelled-fail))))
 
--- An import: two names, and what it is.
+-- An import is in range: two names and a type.
 pub AllSpelled-import : AllSpelled import IsRangedImport
 AllSpelled-import =
     Spelled-map_value (Spelled-seq AllSpelled-name (λ _. Spelled-seq AllSpelled-name (λ _. Spelled-behind_first_byte AllSpelled-extern_type_behind)))

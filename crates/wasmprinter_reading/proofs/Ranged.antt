@@ -1,5 +1,5 @@
--- What a module that some bytes spell keeps to: counts and indices are numbers of 32 bits, names are UTF-8, and the table lists each
--- operator with such immediates.
+-- Ranges in a module that some bytes encode: counts and indices are numbers of 32 bits, names are UTF-8, and the
+-- table lists each operator with its immediates.
 use Rattle.std.proofs.Common.{◌≡◌, ℕ, ◌<◌, ◌≤◌, ◌^◌, suc, Bool, true, false, length, List, [], ◌∷◌, Option, Some, None}
 use Rattle.std.specs.Prelude.{IsUtf8}
 use Rattle.std.specs.List.{AllByRecursion}
@@ -19,7 +19,7 @@ abbrev pub IsRangedMax : Option ℕ → Type 0
 IsRangedMax None = Unit {0}
 IsRangedMax (Some n) = n < 2 ^ 64
 
--- the exponent of the size of a page
+-- The exponent of the size of a page
 abbrev pub IsRangedPage : Option ℕ → Type 0
 IsRangedPage None = Unit {0}
 IsRangedPage (Some e) = e < 64
@@ -29,7 +29,7 @@ pub record IsRangedMemory (m : MemoryType) : Type 0 where
   pub max : IsRangedMax m.limits.max
   pub page : IsRangedPage m.page
 
--- operators that the table lists, well nested, as many as a size can count
+-- Operators that the table lists, well nested, at most 2 ^ 64
 pub record IsRangedExpression (os : List (Placed Operator)) : Type 0 where
   pub listed : AllByRecursion IsListed (without_places os)
   pub nested : Nests Sequence (roles os)
@@ -64,7 +64,7 @@ pub record IsRangedImport (i : Import) : Type 0 where
   pub name : IsUtf8 i.name
   pub type : IsRangedExtern i.type
 
--- a table that is not named is table 0
+-- A table that the bytes do not name is table 0.
 abbrev pub IsNamedTable : Bool → ℕ → Type 0
 IsNamedTable true t = t < 2 ^ 32
 IsNamedTable false t = t ≡ 0
@@ -98,22 +98,23 @@ abbrev pub IsRangedStart : Option (Placed ℕ) → Type 0
 IsRangedStart None = Unit {0}
 IsRangedStart (Some i) = i.value < 2 ^ 32
 
--- the name of a custom section is UTF-8, and its bytes are bytes
+-- The name of a custom section is UTF-8, and its content consists of bytes.
 pub record IsRangedCustom (c : Custom) : Type 0 where
   pub name : IsUtf8 c.name
   pub bytes : AreBytes c.bytes.value
 
--- so many locals of a type in range
+-- A group of fewer than 2 ^ 32 locals with a type in range
 pub record IsRangedLocal (e : LocalEntry) : Type 0 where
   pub count : e.count < 2 ^ 32
   pub type : IsRangedVal e.type
 
--- their places rise from this one on
+-- The places of operators increase, and none is below p.
 abbrev pub ArePlaced : ℕ → List (Placed Operator) → Type 0
 ArePlaced p [] = Unit {0}
 ArePlaced p (o ∷ os) = (p ≤ o.place) × ArePlaced (suc o.place) os
 
--- few groups of locals; operators that the table lists, well nested, as many as a size can count, one behind the other
+-- Fewer than 2 ^ 32 groups of locals, and operators that the table lists, well nested, at most 2 ^ 64, with
+-- increasing places
 pub record IsRangedBody (b : Placed Body) : Type 0 where
   pub groups : length b.value.locals < 2 ^ 32
   pub locals : AllByRecursion (λ e. IsRangedLocal e.value) b.value.locals

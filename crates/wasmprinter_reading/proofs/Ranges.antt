@@ -1,4 +1,4 @@
--- A module that bytes spell keeps to its ranges.
+-- A module that bytes encode is in range.
 use Rattle.std.proofs.Common.{◌≡◌, ℕ, suc, ◌<◌, ◌≤◌, ◌+◌, ◌^◌, ◌&&◌, List, [], ◌∷◌, length, Option, Some, None, refl, sym, ap, subst, inl, inr, arith}
 use Rattle.std.specs.List.{AllByRecursion}
 use Rattle.std.proofs.lemmas.Bool.{and_parts}
@@ -32,13 +32,13 @@ use Rattle.wasmprinter_reading.proofs.Operators.Spelled.{AllSpelled-expression, 
 
 -- ---- sections
 
--- locals of types in range, and operators that are listed and well nested
+-- Locals whose types are in range, and operators that are listed and well nested
 record IsNestedBody (b : Body) : Type 0 where
   locals : IsVector (λ e. IsRangedLocal e.value) b.locals
   listed : AllByRecursion IsListed (without_places b.operators)
   nested : Nests Sequence (roles b.operators)
 
--- what a section of each kind holds: a vector, or the start function
+-- The content of a section of each kind is in range: a vector, or the start function.
 abbrev IsRangedSection : Section → Type 0
 IsRangedSection (holds CustomSection c) = IsRangedCustom c.value
 IsRangedSection (holds TypeSection gs) = IsVector (λ g. IsRangedGroup g.value) gs
@@ -55,30 +55,30 @@ IsRangedSection (holds DataCountSection count) = Unit {0}
 IsRangedSection (holds CodeSection bs) = IsVector IsRangedBody bs
 IsRangedSection (holds DataSection ds) = IsVector (λ d. IsRangedData d.value) ds
 
--- An export: a name, a kind and an index.
+-- An export is in range: a name, a kind and an index.
 AllSpelled-export : AllSpelled export IsRangedExport
 AllSpelled-export =
     Spelled-map_value (Spelled-seq AllSpelled-name (λ _. Spelled-seq (Spelled-any extern_kind) (λ _. AllSpelled-u32)))
     (λ x (name, (_, index)). record { name = name; index = index })
 
--- So many locals of a type.
+-- A group of locals is in range: a count and a type.
 AllSpelled-local_entry : AllSpelled local_entry IsRangedLocal
 AllSpelled-local_entry = Spelled-map_value (Spelled-seq AllSpelled-u32 (λ _. AllSpelled-val_type)) (λ x h. record { count = h.0; type = h.1 })
 
--- A body: its locals and its operators.
+-- The locals and operators of a body are in range.
 AllSpelled-body : AllSpelled body (λ b. IsNestedBody b)
 AllSpelled-body =
     Spelled-map_value (Spelled-seq (Spelled-vec (Spelled-value_with_place AllSpelled-local_entry)) (λ _. AllSpelled-expression))
     (λ x h. record { locals = h.0; listed = h.1.listed; nested = h.1.nested })
 
--- each operator of a body takes a byte
+-- A body has at most as many operators as bytes.
 body_takes : (p : ℕ) (text : List ℕ) (b : Placed Body) → (value_with_place body).spells p text b → length b.value.operators ≤ length text
 body_takes p text b (here, ((locals, code), made, (t, u, joined, locals_spelled, code_spelled))) =
     let same : body_from locals code ≡ b.value = some_is (body_from locals code) b.value made in
     let count : length code.items ≤ length u = expression_takes (p + length t) u code code_spelled in
     omega (arith, count, ap (λ y. length y.operators) same, ap length joined, length-append t u)
 
--- one stands behind the other
+-- Operators that are encoded one after the other have increasing places.
 operators_placed : (os : List (Placed Operator)) (low p : ℕ) (text : List ℕ) → low ≤ p → AreItems (value_with_place operator) p text os → ArePlaced low os
 operators_placed [] low p text h s = tt
 operators_placed (o ∷ os) low p text h (t, u, joined, spelled, all_spelled) =
@@ -97,7 +97,7 @@ AllSpelled-placed_body = record {
   has = λ p text b bytes s. ((Spelled-value_with_place AllSpelled-body).has p text b bytes s, body_placed p text b s);
 }
 
--- A code entry: its body.
+-- The body in a code entry is in range.
 AllSpelled-code_entry : AllSpelled code_entry IsRangedBody
 AllSpelled-code_entry =
     Spelled-map_value (Spelled-seq AllSpelled-u32 (λ size. Spelled-within {size = λ b. length b.value.operators} body_takes AllSpelled-placed_body size))
@@ -110,17 +110,17 @@ AllSpelled-code_entry =
       places = placed;
     })
 
--- A size and what a section holds.
+-- A size, followed by the content of a section in that many bytes, gives a section in range.
 AllSpelled-sized : {A : Type 0} {g : Grammar A} {P : A → Type 0} (made : A → Section) → AllSpelled g P → ((a : A) → P a → IsRangedSection (made a))
     → AllSpelled (map_value (λ x. made x.1) (seq u32 (λ size. exactly (alone g) size))) IsRangedSection
 AllSpelled-sized made all keeps = Spelled-map_value (Spelled-seq AllSpelled-u32 (λ size. Spelled-exactly all size)) (λ x h. keeps x.1 h.1)
 
--- The same of what few bytes spell.
+-- The same for a fact about fewer than 2 ^ 32 bytes
 AllSpelled-few_sized : {A : Type 0} {g : Grammar A} {P : A → Type 0} (made : A → Section) → FewSpelled g P → ((a : A) → P a → IsRangedSection (made a))
     → AllSpelled (map_value (λ x. made x.1) (seq u32 (λ size. exactly (alone g) size))) IsRangedSection
 AllSpelled-few_sized made all keeps = Spelled-map_value (Spelled-seq AllSpelled-u32 (λ size. AllSpelled-few all size)) (λ x h. keeps x.1 (h.1 h.0))
 
--- A custom section: a name, and all other bytes.
+-- A custom section, a name and all other bytes, is in range.
 custom_has : (p : ℕ) (text : List ℕ) (c : Placed Custom) → AreBytes text → custom_section.spells p text c → IsRangedCustom c.value
 custom_has p text c bytes (here, ((title, rest), made, (t, u, joined, title_spelled, (rest_place, all_left)))) =
     let both = split_bytes t u (subst AreBytes joined bytes) in
@@ -130,7 +130,7 @@ custom_has p text c bytes (here, ((title, rest), made, (t, u, joined, title_spel
 AllSpelled-custom : (size : ℕ) → AllSpelled (exactly custom_section size) (λ c. IsRangedCustom c.value)
 AllSpelled-custom size = record { has = λ p text c bytes s. custom_has p text c bytes s.1 }
 
--- The content of a section of each kind.
+-- The content of a section of each kind is in range.
 AllSpelled-content : (kind : Kind) → AllSpelled (map_value (λ x. holds kind x.1) (seq u32 (λ size. exactly (content kind) size))) IsRangedSection
 AllSpelled-content CustomSection = Spelled-map_value (Spelled-seq AllSpelled-u32 (λ size. AllSpelled-custom size)) (λ x h. h.1)
 AllSpelled-content TypeSection = AllSpelled-sized (holds TypeSection) (Spelled-vec (Spelled-value_with_place AllSpelled-group)) (λ gs h. h)
@@ -147,15 +147,15 @@ AllSpelled-content DataCountSection = AllSpelled-sized (holds DataCountSection) 
 AllSpelled-content CodeSection = AllSpelled-sized (holds CodeSection) (Spelled-vec AllSpelled-code_entry) (λ bs h. h)
 AllSpelled-content DataSection = AllSpelled-few_sized (holds DataSection) (Spelled-vec (Spelled-value_with_place FewSpelled-data)) (λ ds h. h)
 
--- A section: its content.
+-- A section is in range.
 AllSpelled-section : AllSpelled section IsRangedSection
 AllSpelled-section = Spelled-map_value (Spelled-seq (Spelled-any section_id) (λ k. AllSpelled-content k)) (λ x h. h.1)
 
--- No items are a vector.
+-- The empty list is a vector.
 no_items : {A : Type 0} (P : A → Type 0) → IsVector P []
 no_items P = record { count = omega arith; each = tt }
 
--- What is so of each section is so of each that is custom.
+-- If each section is in range, then so is each custom section.
 customs_each : (last : Option Kind) (ss : List Section) → AllByRecursion IsRangedSection ss → AllByRecursion (λ c. IsRangedCustom c.section.value) (customs_behind last ss)
 customs_each last [] all = tt
 customs_each last (s ∷ ss) all =
@@ -166,11 +166,11 @@ customs_each last (s ∷ ss) all =
 
 -- ---- functions
 
--- so many functions, each in its ranges
+-- n functions, each in range
 abbrev AreRangedFunctions : ℕ → List PlacedFunction → Type 0
 AreRangedFunctions n fs = (length fs ≡ n) × AllByRecursion IsRangedFunction fs
 
--- Type indices and bodies that pair make as many functions.
+-- Type indices paired with bodies are as many functions, each in range.
 pairs_ranged : (is : List ℕ) (bs : List (Placed Body)) (fs : List PlacedFunction) → function_pairs is bs ≡ Some fs →
     AllByRecursion (λ i. i < 2 ^ 32) is → AllByRecursion IsRangedBody bs → AreRangedFunctions (length is) fs
 pairs_ranged [] [] fs e indices bodies = subst (AreRangedFunctions 0) (some_is [] fs e) (refl, tt)
@@ -185,7 +185,7 @@ pairs_ranged (i ∷ is) [] fs e indices bodies = absurd cc
 
 -- ---- the module
 
--- A module of ranged sections keeps to its ranges.
+-- A module of sections in range is in range.
 module_ranged : (size : ℕ) (ss : List Section) (m : PlacedModule) → module_of_sections size ss ≡ Some m → AllByRecursion IsRangedSection ss → IsRanged m
 module_ranged size ss m e ranged =
     let ordered = tested (are_above 0 ss && counts_data (data_count_in ss) (length (datas_in ss))) (function_pairs (type_indices_in ss) (bodies_in ss) >>= λ fs. Some (module_from size ss fs)) m e in
@@ -232,7 +232,7 @@ module_ranged size ss m e ranged =
       customs_in_order = in_order 0 None ss refl (omega arith) (and_parts (are_above 0 ss) (counts_data (data_count_in ss) (length (datas_in ss))) ordered.0).0;
     })
 
--- A module that bytes spell keeps to its ranges.
+-- A module that bytes encode is in range.
 pub ranged : (bytes : List ℕ) (m : PlacedModule) → Spells bytes m → IsRanged m
 ranged bytes m s =
     let ((marks, sections), made, (t, u, joined, preamble, entries)) = s.spelled in

@@ -1,4 +1,4 @@
--- The fields of a module, sorted by kind.
+-- The fields of a module, sorted by kind
 use Rattle.std.proofs.Common.{◌≡◌, ℕ, ◌+◌, Bool, true, false, List, [], ◌∷◌, ◌++◌, length, Option, Some, None, refl, sym, ap, subst, ◌∙◌, codes, option_map}
 use Rattle.std.specs.List.{AllByRecursion}
 use Rattle.wasmprinter_spec.specs.Grammar.{Placed, ◌>>=◌}
@@ -28,11 +28,11 @@ use Rattle.wasmprinter_reading.proofs.Fields.Imports.{extern_items, import_items
 
 -- ---- fields of one kind, before others
 
--- fields of one word, each of which holds such items by its number
+-- Fields that start with the word w, each with the items of an element and its number
 abbrev pub field_rows : {A : Type 0} → List ℕ → (ℕ → A → Forest) → ℕ → List A → Forest
 field_rows w items i xs = rows (map_numbered (λ k x. Word w (items k x)) i xs)
 
--- fields with this word are gathered in one list, where no imports stand behind them
+-- Fields with this word are gathered in one list of `Fields`, if no imports follow them.
 pub record IsGathered (w : List ℕ) (held : Fields → List Forest) (holding : List Forest → Fields → Fields) : Type 0 where
   takes : (f : Forest) (m : Fields) → m.imports ≡ [] → with_field w f m ≡ Some (holding (f ∷ held m) m)
   alone : (m : Fields) → holding (held m) m ≡ m
@@ -76,7 +76,7 @@ fields-gathered {w = w} {held = held} {holding = holding} g items i (x ∷ xs) f
     ∙ ap (λ gs. Some (holding (items i x ∷ gs) (holding fs m))) (g.first fs m)
     ∙ ap (λ x. Some x) (g.last (items i x ∷ fs) fs m)
 
--- one start function at most
+-- The start function is read if no other one follows it.
 pub fields-start : (s : Scope) (start : Option (Placed ℕ)) (f : Forest) (m : Fields) → m.start ≡ None → fields f ≡ Some m →
     fields (onto (start_items s start) f) ≡ Some (record m { start = start_held s start })
 fields-start s None f m none e = e ∙ ap (λ x. Some (record m { start = x })) none
@@ -91,7 +91,7 @@ extern_id s n t = ap (λ x. x.0) (identifier_in_front-extern s n t)
 abbrev pub imports_held : Scope → Numbers → List (Placed Import) → List ImportField
 imports_held s n is = held_imports s.names (extern_items s) (extern_id s) n is
 
--- imports stand before the others
+-- Imports are read before all other fields.
 pub fields-imports : (s : Scope) (n : Numbers) (is : List (Placed Import)) (f : Forest) (m : Fields) → AllByRecursion (λ i. IsRangedImport i.value) is →
     fields f ≡ Some m → fields (onto (imports_items s n is) f) ≡ Some (record m { imports = imports_held s n is ++ m.imports })
 fields-imports s n [] f m h e = e
@@ -104,12 +104,12 @@ fields-imports s n (i ∷ is) f m h e =
 
 -- ---- types
 
--- what the fields of a group's types hold
+-- The items inside the fields of each group's types
 abbrev pub group_bodies : Names → ℕ → List (Placed TypeGroup) → List (List Forest)
 group_bodies names i [] = []
 group_bodies names i (g ∷ gs) = map_numbered (type_items names) i g.value.types ∷ group_bodies names (i + length g.value.types) gs
 
--- a group, written as one or not
+-- The types of a group are read, whether it is written as a group or not.
 fields-group : (names : Names) (written : Bool) (i : ℕ) (ts : List SubType) (f : Forest) (m : Fields) → IsSingle written ts → fields f ≡ Some m →
     fields (onto (type_group_items_by names written (members_items names i ts)) f) ≡ Some (record m { types = map_numbered (type_items names) i ts ∷ m.types })
 unfolding rows
@@ -127,7 +127,7 @@ fields-types names i (g ∷ gs) f m h e =
     ap fields (onto_assoc group rest f)
     ∙ fields-group names g.value.written i g.value.types (onto rest f) _ h.0.single (fields-types names (i + length g.value.types) gs f m h.1 e)
 
--- ---- no identifier stands before fields
+-- ---- fields do not start with an identifier
 
 pub unidentified_rows : (gs : List Forest) (f : Forest) → IsUnidentified f → IsUnidentified (onto (rows gs) f)
 unfolding rows

@@ -1,4 +1,5 @@
--- The identifiers of declarations in order are an index space: those of fields of one kind, behind those of imports.
+-- The identifiers of declarations, in order, are an index space: those of imports, and then those of the fields of
+-- one kind.
 use Rattle.std.proofs.Common.{◌≡◌, ◌⊎◌, inl, inr, ℕ, suc, ◌+◌, ◌≤◌, ◌^◌, true, false, List, [], ◌∷◌, ◌++◌, length, Option, Some, option_map, refl, sym, ap, ap₂, ◌∙◌}
 use Rattle.wasmprinter_spec.specs.Forest.{Forest}
 use Rattle.wasmprinter_spec.specs.Grammar.{Placed}
@@ -17,7 +18,7 @@ use Rattle.wasmprinter_reading.proofs.Declarations.{id}
 use Rattle.wasmprinter_reading.proofs.Numbered.{map_numbered}
 use Rattle.wasmprinter_reading.proofs.Names.Resolving.{identifiers_are_distinct}
 
--- they are a space, where they are apart
+-- Identifiers that are apart are an index space.
 pub identifiers_space : (named : ℕ → Option Named) → AreDistinct named → (count : ℕ) → count ≤ 2 ^ 64 → index_space (identifiers named count) ≡ Some (identifiers named count)
 identifiers_space named apart count few = rw (identifiers_are_distinct named apart count few)
 
@@ -41,7 +42,7 @@ kind_of_extern (MemoryExtern t) = MemoryKind
 kind_of_extern (GlobalExtern t) = GlobalKind
 kind_of_extern (TagExtern i) = TagKind
 
--- the number of the next import of a kind
+-- The number of the next import of a kind
 abbrev pub number_in : ExternKind → Numbers → ℕ
 number_in FuncKind n = n.functions
 number_in TableKind n = n.tables
@@ -49,7 +50,7 @@ number_in MemoryKind n = n.memories
 number_in GlobalKind n = n.globals
 number_in TagKind n = n.tags
 
--- how many imports of a kind there are
+-- The number of imports of a kind
 abbrev pub imports_of : ExternKind → List Import → ℕ
 imports_of FuncKind is = length (imported_types func_import is)
 imports_of TableKind is = length (imported_types table_import is)
@@ -57,7 +58,7 @@ imports_of MemoryKind is = length (imported_types memory_import is)
 imports_of GlobalKind is = length (imported_types global_import is)
 imports_of TagKind is = length (imported_types tag_import is)
 
--- the same with one of this type in front
+-- The number of imports of a kind, with an import of this type before them
 abbrev imports_with : ExternKind → ExternType → List Import → ℕ
 imports_with FuncKind t is = length (with_first_if_any (func_import t) (imported_types func_import is))
 imports_with TableKind t is = length (with_first_if_any (table_import t) (imported_types table_import is))
@@ -72,7 +73,7 @@ imports_of-first MemoryKind i is = refl
 imports_of-first GlobalKind i is = refl
 imports_of-first TagKind i is = refl
 
--- an import of the kind takes its next number
+-- An import of the kind takes the next number of that kind.
 record TakesNumber (kind : ExternKind) (t : ExternType) (n : Numbers) (is : List Import) : Type 0 where
   same : same_kind kind (kind_of_extern t) ≡ true
   its_kind : kind_of_extern t ≡ kind
@@ -80,7 +81,7 @@ record TakesNumber (kind : ExternKind) (t : ExternType) (n : Numbers) (is : List
   next : number_in kind (numbers_behind t n) ≡ number_in kind n + 1
   count : imports_with kind t is ≡ suc (imports_of kind is)
 
--- an import of another kind does not
+-- An import of another kind leaves the next number of this kind.
 record LeavesNumber (kind : ExternKind) (t : ExternType) (n : Numbers) (is : List Import) : Type 0 where
   other : same_kind kind (kind_of_extern t) ≡ false
   next : number_in kind (numbers_behind t n) ≡ number_in kind n
@@ -100,7 +101,7 @@ takes_or_leaves TagKind _ n is = inr (record { other = refl; next = refl; count 
 
 module _ (names : Names) (items : ℕ → ExternType → Forest)
     (its : (n : ℕ) (t : ExternType) → (identifier_in_front (items n t)).0 ≡ id (names.items (space_of (kind_of_extern t)) n)) where
-  -- the fields as they are sorted
+  -- The import fields, as they are sorted
   abbrev pub held_imports : Numbers → List (Placed Import) → List ImportField
   held_imports n [] = []
   held_imports n (i ∷ is) =

@@ -20,7 +20,7 @@ use Rattle.wasmprinter_spec.specs.Layout.Customs.{Part, Shown, Stops, parts_at, 
 use Rattle.wasmprinter_spec.specs.Layout.{early_scope, section_pieces, section_order, section_parts, module_parts, module_pieces_of, module_pieces_with, module_pieces}
 use Rattle.wasmprinter_lexical.proofs.Respelled.{all_lexed, all_lexed-append}
 
--- the tokens of a keyword, of what a group holds and of its end
+-- The tokens of a group: a parenthesis, its keyword, its content and a parenthesis
 abbrev group_tokens : List ℕ → List Token → List Token
 group_tokens w ts = left ∷ (word w ∷ (ts ++ (right ∷ [])))
 
@@ -40,7 +40,7 @@ group_gap_at_tokens : (offsets : Bool) (place nesting : ℕ) (w : List ℕ) (ps 
 unfolding group_gap_at
 group_gap_at_tokens offsets place nesting w ps = ap (λ ts. left ∷ (word w ∷ ts)) (closed_tokens ps (Some place) nesting (offsets || has_break ps))
 
--- a function without regard to places
+-- The tokens of a function do not depend on offsets.
 function_stays : (skeleton a b : Bool) (s : Scope) (hs : List (Placed Hint)) (f : PlacedFunction) →
     all_lexed (function_group skeleton a s hs f) ≡ all_lexed (function_group skeleton b s hs f)
 unfolding function_group
@@ -49,11 +49,11 @@ function_stays false a b s hs f =
     let ps : List Piece = header_pieces s Func (Some s.function) s.function f.type_index ++ inner_pieces s hs f in
     group_gap_at_tokens a f.body.value.end 1 (codes "func") ps ∙ sym (group_gap_at_tokens b f.body.value.end 1 (codes "func") ps)
 
--- the same pieces before others
+-- Pieces with the same tokens, after the same pieces, have the same tokens.
 behind_stays : (ps qs rs : List Piece) → all_lexed qs ≡ all_lexed rs → all_lexed (ps ++ qs) ≡ all_lexed (ps ++ rs)
 behind_stays ps qs rs e = all_lexed-append ps qs ∙ ap (λ ts. all_lexed ps ++ ts) e ∙ sym (all_lexed-append ps rs)
 
--- two parts without regard to what they depend on
+-- Two lists of pieces with the same tokens, joined, have the same tokens.
 both_stay : (ps ps2 qs qs2 : List Piece) → all_lexed ps ≡ all_lexed ps2 → all_lexed qs ≡ all_lexed qs2 → all_lexed (ps ++ qs) ≡ all_lexed (ps2 ++ qs2)
 both_stay ps ps2 qs qs2 e f = all_lexed-append ps qs ∙ ap₂ (λ ts us. ts ++ us) e f ∙ sym (all_lexed-append ps2 qs2)
 
@@ -88,7 +88,7 @@ joined_alike (both_stop v) = record { tokens = refl; refused = refl }
 -- ---- the module
 
 module _ (o r : Options) (same : o.skeleton ≡ r.skeleton) where
-  -- where operators are folded or not by both
+  -- The options r, except that operators are folded and colored as by o
   abbrev p : Options
   p = record r { folds = o.folds; paints = o.paints }
 
@@ -111,7 +111,7 @@ module _ (o r : Options) (same : o.skeleton ≡ r.skeleton) where
         subst (λ t. PartsStay (parts_at o.skeleton answers place 0 m.customs) (parts_at t answers place 0 m.customs)) same
         (same_stay (parts_at o.skeleton answers place 0 m.customs))
 
-    -- of both
+    -- The scope of fields before the functions; it is the same for both options.
     abbrev early : Scope
     early = early_scope o names m
 
@@ -122,7 +122,7 @@ module _ (o r : Options) (same : o.skeleton ≡ r.skeleton) where
     fields_stay DataSection = ap (λ t. all_lexed (section_pieces (record o { skeleton = t }) early m DataSection)) same
     fields_stay _ = refl
 
-    -- the fields of sections in order, and the custom sections behind each
+    -- The fields of sections in order, each followed by its custom sections, have the same tokens.
     kinds_stay : (ks : List Kind) →
         PartsStay (flat_map (section_parts o early m answers) ks) (flat_map (section_parts p early m answers) ks)
     kinds_stay [] = no_parts
@@ -132,7 +132,7 @@ module _ (o r : Options) (same : o.skeleton ≡ r.skeleton) where
     unfolding module_parts
     parts_stay = parts_then (customs_stay None) (kinds_stay section_order)
 
-    -- whole or up to a refusal
+    -- A module has the same tokens, whether it is printed completely or up to a refusal.
     pieces_stay : (r : Option ℕ) (ps qs : List Piece) → all_lexed ps ≡ all_lexed qs →
         all_lexed (module_pieces_of o names m.size ps r) ≡ all_lexed (module_pieces_of p names m.size qs r)
     pieces_stay None ps qs e =

@@ -1,4 +1,4 @@
--- What the table keeps, by tests over its rows: each is computed once, however many rows there are.
+-- Facts about the table, shown by tests over its rows. Each test is computed once, for all rows.
 use Rattle.std.proofs.Common.{◌≡◌, ℕ, ◌<◌, ◌≤◌, ◌^◌, Bool, true, false, ◌&&◌, ◌||◌, not, cond, eqb, leb, is_some, List, [], ◌∷◌, Option, Some, None, refl, sym, ap, ◌∙◌, subst, codes, bytes_eq, decimal, map, ℤ, pos, negsuc, ◌*◌, ◌+◌, arith, suc}
 use Rattle.std.proofs.lemmas.Bool.{and_parts, eqb-true, not-true, eq-eqb, both_ways, false_from_ne_true, le-leb}
 use Rattle.std.specs.Fmt.{signed_decimal}
@@ -23,9 +23,9 @@ abbrev pub all : {A : Type 0} → (A → Bool) → List A → Bool
 all p [] = true
 all p (x ∷ xs) = p x && all p xs
 
--- ---- words that are no operator's
+-- ---- words that no operator has
 
--- begins as a number does
+-- Reports whether a word starts with a digit or a minus sign, as numbers do.
 abbrev pub is_number : List ℕ → Bool
 is_number [] = false
 is_number (b ∷ bs) = eqb b 45 || (leb 48 b && leb b 57)
@@ -33,7 +33,7 @@ is_number (b ∷ bs) = eqb b 45 || (leb 48 b && leb b 57)
 abbrev begins_with : List ℕ → List ℕ → Bool
 begins_with p w = is_some (behind_prefix p w)
 
--- those of heap types and of references to them, and of the lanes of a vector
+-- The words of heap types, of references to them, and of the lanes of a vector
 abbrev argument_words : List (List ℕ)
 argument_words =
     codes "exn" ∷ codes "array" ∷ codes "struct" ∷ codes "i31" ∷ codes "eq" ∷ codes "any"
@@ -42,14 +42,15 @@ argument_words =
     ∷ codes "externref" ∷ codes "funcref" ∷ codes "nullref" ∷ codes "nullexternref" ∷ codes "nullfuncref" ∷ codes "nullexnref"
     ∷ codes "ref" ∷ codes "i32x4" ∷ []
 
--- a word that immediates are written with: a number, a float, an offset or an alignment, or one of these
+-- Reports whether a word can be one of immediates: a number, a float, an offset or an alignment, or a word of that
+-- list.
 abbrev pub is_argument : List ℕ → Bool
 is_argument w =
     is_number w || (is_option w || (begins_with (codes "inf") w || (begins_with (codes "nan") w || list_any (λ v. bytes_eq v w) argument_words)))
 
 -- ---- blocks
 
--- an operator that opens a block has a block type
+-- Reports whether an operator with this role opens a block; its immediates then contain a block type.
 abbrev pub is_opening : Role → Bool
 is_opening Opens = true
 is_opening OpensIf = true
@@ -70,7 +71,7 @@ abbrev pub is_item : Space → Bool
 is_item Label = false
 is_item _ = true
 
--- an index of a label stands alone
+-- Reports whether no index of this shape that may be left out, or that is one of two, is a label.
 abbrev pub means_items : Shape → Bool
 means_items (DefaultIndexShape space) = is_item space
 means_items (PairShape first second) = is_item first && is_item second
@@ -80,7 +81,7 @@ means_items _ = true
 
 -- ---- operators that share a word
 
--- a word as one number, which is compared at once
+-- A word as one number, so that words are compared in one step
 abbrev pub key_after : ℕ → List ℕ → ℕ
 key_after k [] = k
 key_after k (b ∷ bs) = key_after (k * 256 + b) bs
@@ -88,7 +89,7 @@ key_after k (b ∷ bs) = key_after (k * 256 + b) bs
 abbrev pub key : Row → ℕ
 key r = key_after 0 r.word
 
--- whether no operator of one shape reads what one of another is written as
+-- Reports whether no operator of the first shape reads the items of one of the second.
 abbrev pub refuses : Shape → Shape → Bool
 refuses NoneShape SelectShape = true
 refuses SelectShape NoneShape = true
@@ -98,19 +99,20 @@ refuses _ _ = false
 abbrev pub keyed : Row → ℕ × Shape
 keyed r = (key r, r.shape)
 
--- of two rows that share a word the one in front refuses what the other is written as
+-- Reports whether, of any two rows with the same word, the first refuses the items of the second.
 abbrev pub are_told_apart : List (ℕ × Shape) → Bool
 are_told_apart [] = true
 are_told_apart (x ∷ xs) = all (λ y. not (eqb y.0 x.0) || refuses x.1 y.1) xs && are_told_apart xs
 
--- ---- operators that stand alone in a group
+-- ---- operators that are alone in a group
 
--- Such an operator neither opens nor closes a block. Its group is no part of another operator, and none of the groups of a field.
+-- Reports whether an operator neither opens nor closes a block. Its group is then no part of another operator, and
+-- none of the groups of a field.
 abbrev pub is_plain : Role → Bool
 is_plain Plain = true
 is_plain _ = false
 
--- the words of the operators of blocks
+-- The words of the operators of blocks
 abbrev pub block_words : List (List ℕ)
 block_words =
     codes "block" ∷ codes "loop" ∷ codes "if" ∷ codes "else" ∷ codes "try" ∷ codes "catch" ∷ codes "end"
@@ -119,7 +121,7 @@ block_words =
 abbrev pub is_block_word : List ℕ → Bool
 is_block_word w = list_any (λ v. bytes_eq v w) block_words
 
--- the words of groups that may stand where a folded operator may
+-- The words of groups that may occur where a folded operator may
 abbrev pub group_words : List (List ℕ)
 group_words = codes "then" ∷ codes "else" ∷ codes "offset" ∷ codes "item" ∷ codes "ref" ∷ codes "table" ∷ codes "memory" ∷ codes "local" ∷ codes "param" ∷ codes "result" ∷ codes "type" ∷ []
 
@@ -159,9 +161,9 @@ words_alone : all (λ r. not (is_plain r.role) || (not (is_part_word r.word) && 
 unfolding table
 words_alone = refl
 
--- ---- what they mean
+-- ---- consequences of the tests
 
--- r is one of the rows
+-- r is one of the rows.
 pub data In : Row → List Row → Type 0 where
   here : {r : Row} {rs : List Row} → In r (r ∷ rs)
   there : {r s : Row} {rs : List Row} → In r rs → In r (s ∷ rs)
@@ -176,7 +178,7 @@ keyed_at p r (s ∷ rs) h here = (and_parts (p (keyed r)) (all p (map keyed rs))
 keyed_at p r (s ∷ rs) h (there i) = keyed_at p r rs (and_parts (p (keyed s)) (all p (map keyed rs)) h).1 i
 keyed_at p r [] h i = elim i [ ]
 
--- what `first` gives is a row that passes
+-- If `first` returns a row, it is one of the rows and passes the test.
 first_gives : (p : Row → Bool) (rs : List Row) (r : Row) → first p rs ≡ Some r → In r rs × (p r ≡ true)
 first_gives p [] r h = absurd (cc)
 first_gives p (s ∷ rs) r h = by (p s) refl h (first_gives p rs r)
@@ -185,11 +187,11 @@ first_gives p (s ∷ rs) r h = by (p s) refl h (first_gives p rs r)
     by true e g more = let same : s ≡ r = cc in (subst (λ x. In x (s ∷ rs)) same here, subst (λ x. p x ≡ true) same e)
     by false e g more = (there (more g).0, (more g).1)
 
--- the rows are told apart from the second on
+-- If the rows with one word are distinguished in a list, they are in its tail.
 pub told_apart_later : (s : Row) (rs : List Row) → are_told_apart (map keyed (s ∷ rs)) ≡ true → are_told_apart (map keyed rs) ≡ true
 told_apart_later s rs t = (and_parts (all (λ y. not (eqb y.0 (key s)) || refuses s.shape y.1) (map keyed rs)) (are_told_apart (map keyed rs)) t).1
 
--- a row before another of its word refuses what that is written as
+-- A row before another one with the same word refuses its items.
 pub refuses_later : (s r : Row) (rs : List Row) → are_told_apart (map keyed (s ∷ rs)) ≡ true → In r rs → has_word r.word s ≡ true →
     refuses s.shape r.shape ≡ true
 refuses_later s r rs t i e =
@@ -233,13 +235,13 @@ row_for o h = by (by_opcode o.opcode) refl h.shape
           items = all_at (λ x. means_items x.shape) r table rows_mean_items found.0;
         }
 
--- ---- a plain operator stands alone in a group
+-- ---- a plain operator can be alone in a group
 
 pub record StandsAlone (w : List ℕ) : Type 0 where
   pub part : is_part_word w ≡ false
   pub others : AllByRecursion (λ v. bytes_eq w v ≡ false) group_words
 
--- a word that is none of these is another than each of them
+-- A word that differs from each word of a list differs from any word in that list.
 differs_from : (w v : List ℕ) (us : List (List ℕ)) → AllByRecursion (λ u. bytes_eq w u ≡ false) us → list_any (λ u. bytes_eq v u) us ≡ true → bytes_eq w v ≡ false
 differs_from w v [] apart h = absurd cc
 differs_from w v (u ∷ us) apart h = by (bytes_eq v u) refl h (differs_from w v us apart.1)
@@ -248,7 +250,7 @@ differs_from w v (u ∷ us) apart h = by (bytes_eq v u) refl h (differs_from w v
     by true same k more = ap (λ x. bytes_eq w x) (bytes_same v u same) ∙ apart.0
     by false other k more = more k
 
--- it is none of the words that begin groups of another kind
+-- The word of an operator that can be alone in a group differs from the words of groups of other kinds.
 pub differs : (w v : List ℕ) → StandsAlone w → is_group_word v ≡ true → bytes_eq w v ≡ false
 differs w v a h = differs_from w v group_words a.others h
 
@@ -280,7 +282,7 @@ same_flag-true false false e = refl
 same_flag-true true false e = absurd cc
 same_flag-true false true e = absurd cc
 
--- operators with one word are plain, or none of them is
+-- If one operator with a word is plain, then so are all with that word.
 pub plain_by_word : (r s : Row) → In r table → In s table → s.word ≡ r.word → r.role ≡ Plain → s.role ≡ Plain
 plain_by_word r s i j same p =
     let first : is_plain r.role ≡ not (is_block_word r.word) = same_flag-true _ _
@@ -289,7 +291,7 @@ plain_by_word r s i j same p =
     (all_at (λ x. same_flag (is_plain x.role) (not (is_block_word x.word))) s table plain_words j) in
     is_plain-true s.role (second ∙ ap (λ w. not (is_block_word w)) same ∙ sym first ∙ ap is_plain p)
 
--- ---- a word of immediates is no word of the table
+-- ---- the words of immediates are not in the table
 
 none_of_argument : (w : List ℕ) (rs : List Row) → is_argument w ≡ true → all (λ r. not (is_argument r.word)) rs ≡ true → filter (has_word w) rs ≡ []
 none_of_argument w [] n h = refl

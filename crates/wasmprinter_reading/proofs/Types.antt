@@ -1,4 +1,4 @@
--- Types, a file for each step: what they are written as, that their pieces write it, and that they read back.
+-- Types, a file for each step: their items, that pieces write the items, and that they read back
 pub mod Ranged
 pub mod Ranges
 pub mod Trees

@@ -1,4 +1,4 @@
--- Numbers of 32 bits and vectors that bytes spell.
+-- Numbers of 32 bits and vectors that bytes encode
 use Rattle.std.proofs.Common.{◌<◌, ◌^◌, List, length, arith}
 use Rattle.std.specs.List.{AllByRecursion}
 use Rattle.wasmprinter_spec.specs.Grammar.{Grammar}
@@ -6,16 +6,16 @@ use Rattle.wasmprinter_spec.specs.Name.{u32, vec}
 use Rattle.wasmprinter_reading.proofs.AllSpelled.{ByteStrings, Spelled, AllSpelled, Spelled-of_all, Spelled-seq, Spelled-map_value, Spelled-times}
 use Rattle.wasmprinter_reading.proofs.LebRange.{AllSpelled-unsigned}
 
--- What a vector holds: fewer than 2 ^ 32 items, each of which has P.
+-- A vector: fewer than 2 ^ 32 items, each of which has P
 pub record IsVector {A : Type 0} (P : A → Type 0) (xs : List A) : Type 0 where
   pub count : length xs < 2 ^ 32
   pub each : AllByRecursion P xs
 
--- A number of 32 bits.
+-- A u32 is below 2 ^ 32.
 pub AllSpelled-u32 : AllSpelled u32 (λ n. n < 2 ^ 32)
 AllSpelled-u32 = AllSpelled-unsigned 32
 
--- A vector, of items that each have P.
+-- If items have P, then so has each item of a vector.
 pub Spelled-vec : {kind : ByteStrings} {A : Type 0} {g : Grammar A} {P : A → Type 0} → Spelled kind g P → Spelled kind (vec g) (IsVector P)
 Spelled-vec all =
     Spelled-map_value (Spelled-seq (Spelled-of_all AllSpelled-u32) (λ n. Spelled-times all n))

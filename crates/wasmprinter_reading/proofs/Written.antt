@@ -1,4 +1,4 @@
--- A module: what its pieces write, field by field, with the custom sections at their places among them.
+-- The items that the pieces of a module write, field by field, with the custom sections at their places
 use Rattle.std.proofs.Common.{◌≡◌, ℕ, ◌≤◌, ◌+◌, ◌^◌, List, [], ◌∷◌, ◌++◌, length, Option, Some, None, refl, sym, ap, ◌∙◌, suc, ◌-◌, codes, arith, true, subst}
 use Rattle.std.specs.Prelude.{flat_map}
 use Rattle.std.specs.List.{AllByRecursion}
@@ -43,7 +43,7 @@ use Rattle.wasmprinter_reading.proofs.Customs.Parts.{PartsWrite, no_parts, shown
 use Rattle.wasmprinter_reading.proofs.Customs.Notes.{NotesAt, notes_at}
 use Rattle.wasmprinter_reading.proofs.Customs.Places.{ordered_anywhere}
 
--- pieces that may stand alone, or others that are printed as they are
+-- Pieces that may occur alone, or are printed as other pieces that may
 pub record Stands (ps : List Piece) : Type 0 where
   pub printed : List Piece
   pub spelled : Respelled ps printed
@@ -56,7 +56,7 @@ module _ (folding : Option Folding) (bare : IsUnpainted folding) (o : Options) (
 
   -- ---- the fields of each section
 
-  -- what waits behind a function
+  -- The hints left after a function are those left before the next function.
   pub next_waiting : (i : ℕ) → before folding names m FuncKind ≤ i →
       hints_behind i (waiting folding names m (i - before folding names m FuncKind)) ≡ waiting folding names m (i + 1 - before folding names m FuncKind)
   next_waiting i low =
@@ -65,13 +65,14 @@ module _ (folding : Option Folding) (bare : IsUnpainted folding) (o : Options) (
       let more : suc (i - b) ≡ i + 1 - b = omega (arith, low) in
       ap (λ k. hints_behind k (waiting folding names m (i - b))) same ∙ ap (waiting folding names m) more
 
-  -- functions from i on, before which these hints wait, are written with those that they take
+  -- The pieces of functions from index i on, with the hints es left before them, write their items with the hints
+  -- that they take.
   abbrev AreWritten : List FunctionHints → ℕ → List PlacedFunction → Type 0
   AreWritten es i fs =
       WritesNoted Bound (functions_pieces o (early folding names m) es i fs) Bound
       (field_rows (codes "func") (own_function folding names m o.skeleton) i fs) (functions_hinted o.skeleton (early folding names m) es i fs)
 
-  -- the hints that the functions take, in order
+  -- The pieces of functions write their items with the hints that they take, in order.
   own_functions_write : (i : ℕ) → before folding names m FuncKind ≤ i → (fs : List PlacedFunction) → i + length fs ≤ 2 ^ 64 →
       AllByRecursion IsRangedFunction fs → AreWritten (waiting folding names m (i - before folding names m FuncKind)) i fs
   unfolding functions_pieces function_pieces rows
@@ -90,7 +91,7 @@ module _ (folding : Option Folding) (bare : IsUnpainted folding) (o : Options) (
       subst (λ (k : ℕ). AreWritten (waiting folding names m k) b m.functions) none
       (own_functions_write b (omega arith) m.functions (numbers_fit folding names m h FuncKind _ h.functions) h.each_function)
 
-  -- the fields of the section of a kind with their hints, which functions alone have
+  -- The items of the fields in the section of a kind with their hints, which only functions have
   abbrev pub fields_noted : Kind → Forest
   fields_noted CodeSection = functions_hinted o.skeleton (early folding names m) (hints_of m.customs) (before folding names m FuncKind) m.functions
   fields_noted kind = fields_items folding names m o.skeleton kind
@@ -139,12 +140,12 @@ module _ (folding : Option Folding) (bare : IsUnpainted folding) (o : Options) (
     abbrev pub noted : Option Kind → Forest
     noted place = (noting place).notes
 
-    -- the fields of sections in order, with those custom sections behind each
+    -- The items of the fields of sections in order, each followed by the custom sections with that place
     abbrev pub kinds_noted : List Kind → Forest
     kinds_noted [] = End
     kinds_noted (k ∷ ks) = onto (fields_noted k) (onto (noted (Some k)) (kinds_noted ks))
 
-    -- what a module is written as behind its identifier, with custom sections and hints
+    -- The items of a module after its identifier, with custom sections and hints
     unfoldable pub module_noted : Forest
     module_noted = onto (noted None) (kinds_noted section_order)
 
@@ -175,7 +176,7 @@ module _ (folding : Option Folding) (bare : IsUnpainted folding) (o : Options) (
         (Group (Word (codes "module") (onto (id_items names.module_name) (module_items folding names m o.skeleton))) End)
         (Group (Word (codes "module") (onto (id_items names.module_name) module_noted)) End)) (sym none) written
 
-    -- whole or not, its pieces may stand so
+    -- The pieces of a module, complete or up to a refusal, may occur alone.
     pub module_stands : Stands (pieces_by folding o answers names m)
     unfolding pieces_by class
     module_stands = by laid.refused

@@ -1,5 +1,5 @@
--- The laws of folded text: that of operators reads as exactly them, whatever numbers of operands and results they are said to have; that of
--- a module reads as its flat text does.
+-- The laws of folded text: the text of operators reads as exactly these operators, for any numbers of operands and
+-- results by which they are folded; the text of a module reads as its flat text does.
 use Rattle.std.specs.Prelude.{◌≡◌, ℕ, List, [], map, true, false, Some, None}
 use Rattle.std.specs.List.{AllByRecursion}
 use Rattle.wasmprinter_spec.specs.Grammar.{Placed}
@@ -25,12 +25,12 @@ use Rattle.wasmprinter_spec.specs.IndexSpaces.{Context}
 use Rattle.wasmprinter_spec.specs.Read.{read}
 use Rattle.wasmprinter_reading.specs.OperatorLaws.{HaveSameTypes, HaveSameNames, AreOperators, read_alone}
 
--- an item, but for what is said of its operands and results
+-- An item without its numbers of operands and results
 abbrev pub without_counts : Item → Item
 without_counts x = record x { takes = 0; gives = 0 }
 
--- The text that is laid out for operators folded by any numbers of operands and results, over lines or in one, with hints in front of them
--- or without, reads as exactly them.
+-- The text that is laid out for operators folded by any numbers of operands and results, over several lines or in
+-- one, with or without hints before them, reads as exactly these operators.
 abbrev pub FoldedOperatorsReadBack : Type 0
 FoldedOperatorsReadBack =
     (s : Setting) → AreApart s.names → AreNamed s.names →
@@ -41,8 +41,8 @@ FoldedOperatorsReadBack =
     (o : Options) → IsBlank o.indent →
     read_alone c (text_of (all_calls o (node_pieces o false s.form true s.nesting (tree code)))) ≡ Some (without_places os)
 
--- The text of a module whose operators are folded reads as its flat text does. (As in the reading law, no initialiser of a table is empty,
--- all operators can be folded, and no `dylink.0` section is refused.)
+-- The text of a module whose operators are folded reads as its flat text does. (As in the reading law, no table has
+-- an empty initialiser, all operators can be folded, and no `dylink.0` section is refused.)
 abbrev pub FoldedModulesReadAsFlat : Type 0
 FoldedModulesReadAsFlat =
     (bytes : List ℕ) (m : PlacedModule) (o : Options) (answers : Answers) →

@@ -5,14 +5,14 @@ use Rattle.wasmprinter_spec.specs.Piece.{Gap, Number}
 use Rattle.wasmprinter_spec.specs.Layout.Operators.{label_name_pieces, label_pieces}
 use Rattle.wasmprinter_spec.specs.Text.Operators.{depth}
 
--- the labels of open blocks, the innermost first: each is that of a block with so many blocks around it
+-- The labels of open blocks, the innermost first. Each is the label of some block with `length xs` blocks around it.
 abbrev pub Opened : LabelNaming → List Label → Type 0
 Opened naming [] = Unit {0}
 Opened naming (x ∷ xs) = ((i : ℕ) × (naming i (length xs) ≡ x)) × (length xs < 2 ^ 64) × Opened naming xs
 
--- A label of a block with an identifier, among the labels that an operator may mean and, further in than these, others that it
--- may not: where none further in was given its name, the identifier is printed, and by it a reader finds that very block; where
--- one was, the number is printed.
+-- The label of a block with an identifier: `xs` are the labels that an operator may mean, `inner` those of blocks
+-- further in that it may not. If no block further in was given the same name, the identifier is printed, and a
+-- reader finds that very block by it. Otherwise the number is printed.
 abbrev pub LabelsMeanTheirBlocks : Type 0
 LabelsMeanTheirBlocks =
     (naming : LabelNaming) → AreLabelsApart naming → (inner xs : List Label) → Opened naming xs →

@@ -1,4 +1,4 @@
--- The laws of what bytes spell and of what is printed of it, but for those in `wasmprinter_spec`.
+-- The laws about what bytes encode and about its printed text, except those in `wasmprinter_spec`.
 pub mod Listed
 pub mod OperatorLaws
 pub mod NameLaws

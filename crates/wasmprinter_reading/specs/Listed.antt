@@ -1,4 +1,5 @@
--- Operators that some bytes spell: opcodes that the table lists, with immediates of their shape, whose numbers lie in range.
+-- Operators that some bytes encode: the table lists the opcode with immediates of this shape, and their numbers are
+-- in range.
 use Rattle.std.specs.Prelude.{◌≡◌, ℕ, ℤ, pos, neg_ℤ, ◌<◌, ◌^◌, ◌≤ℤ◌, ◌<ℤ◌, true, Option, Some, None, List, length}
 use Rattle.std.specs.List.{AllByRecursion}
 use Rattle.wasmprinter_spec.specs.Types.{FuncType}
@@ -7,11 +8,11 @@ use Rattle.wasmprinter_spec.specs.Operator.{BlockType, Empty, Value, OfType, Cat
 use Rattle.wasmprinter_spec.specs.Shapes.{has_row_shape}
 use Rattle.wasmprinter_spec.specs.Table.{by_opcode}
 
--- a signed number of so many bits beside its sign
+-- A signed number of `n` bits and a sign
 abbrev pub FitsSigned : ℕ → ℤ → Type 0
 FitsSigned n z = (neg_ℤ (pos (2 ^ n)) ≤ℤ z) × (z <ℤ pos (2 ^ n))
 
--- a number of 32 bits
+-- A number of 32 bits
 abbrev pub IsU32 : ℕ → Type 0
 IsU32 n = n < 2 ^ 32
 
@@ -34,12 +35,12 @@ pub record IsMemArgInRange (m : MemArg) : Type 0 where
   pub memory : IsU32 m.memory
   pub offset : m.offset < 2 ^ 64
 
--- sixteen bytes
+-- Sixteen bytes
 pub record IsVectorInRange (bs : List ℕ) : Type 0 where
   pub count : length bs ≡ 16
   pub each : AllByRecursion IsByte bs
 
--- the numbers that immediates hold are in range
+-- The numbers in the immediates are in range.
 abbrev pub AreInRange : Immediates → Type 0
 AreInRange NoImmediates = Unit {0}
 AreInRange (Block t) = IsBlockInRange t
@@ -59,7 +60,7 @@ AreInRange (F32 bits) = bits < 2 ^ 32
 AreInRange (F64 bits) = bits < 2 ^ 64
 AreInRange (Bytes bs) = IsVectorInRange bs
 
--- type indices in the signature of a function type are too; another type has no signature
+-- The type indices in the signature of a function type are in range. Any other type has no signature.
 abbrev pub IsSignatureInRange : Option FuncType → Type 0
 IsSignatureInRange None = Unit {0}
 IsSignatureInRange (Some t) = IsDeclaredFunc (2 ^ 32) t
@@ -67,7 +68,7 @@ IsSignatureInRange (Some t) = IsDeclaredFunc (2 ^ 32) t
 abbrev pub AreSignaturesInRange : (ℕ → Option FuncType) → Type 0
 AreSignaturesInRange signature = (i : ℕ) → IsSignatureInRange (signature i)
 
--- the table lists the opcode with immediates of this shape
+-- The table lists the opcode with immediates of this shape.
 pub record IsListed (o : Operator) : Type 0 where
   pub shape : has_row_shape (by_opcode o.opcode) o.immediates ≡ true
   pub range : AreInRange o.immediates

@@ -1,4 +1,4 @@
--- Laws of name sections and of the identifiers that they give.
+-- Laws of name sections and of the identifiers that they give
 use Rattle.std.specs.Prelude.{◌≡◌, ◌⊎◌, ℕ, List, map, length, ◌<◌, ◌≤◌, ◌^◌, Bool, true, Option, Some, None, IsUtf8}
 use Rattle.std.specs.List.{AllByRecursion}
 use Rattle.wasmprinter_spec.specs.Grammar.{Input, input, Placed, Spans, Grammar}
@@ -19,23 +19,23 @@ use Rattle.wasmprinter_reading.specs.Listed.{IsU32}
 abbrev pub NamesAreOneList : Type 0
 NamesAreOneList = (at : Input) → (xs : List Entry) × GivesNames at xs × ((ys : List Entry) → GivesNames at ys → ys ≡ xs)
 
--- It is the one by which a module's items have their names.
+-- The list of entries that a name section gives is the one from which the items of a module have their names.
 abbrev pub EntriesAreGiven : Type 0
 EntriesAreGiven = (d : Placed (List ℕ)) → GivesNames (input d.place d.value) (entries_given d)
 
--- Items that are counted, read as far as they stand: these are spelled one after the other, and then either the count is reached or
--- no more is spelled behind them.
+-- The items of a counted list that is read up to the first error: they are encoded one after the other. Either the
+-- count is reached, or the bytes after them encode no further item.
 abbrev pub Listed : {A : Type 0} → Grammar A → ℕ → Input → List A → Option Input → Type 0
 Listed g n at xs end = (behind : Input) × Spans (AreItems g) at (xs, behind)
     × (((length xs ≡ n) × (end ≡ Some behind)) ⊎ ((length xs < n) × Lacks g behind × (end ≡ None)))
 
--- The entries of a name map are listed so.
+-- The entries of a name map are those of a counted list that is read up to the first error.
 abbrev pub NameMapsAreListed : Type 0
 NameMapsAreListed =
     (s outer n : ℕ) (at : Input) (entries : List Entry) (end : Option Input) → (repeat (entry s outer) n).gives at entries end
     → (xs : List (ℕ × List ℕ)) × Listed association n at xs end × (entries ≡ map (λ x. entry_of s outer x) xs)
 
--- indices are numbers of 32 bits, and names UTF-8
+-- An entry has an index of 32 bits and a name in UTF-8.
 pub record IsEntry (e : Entry) : Type 0 where
   pub index : IsU32 e.index
   pub name : IsUtf8 e.name
@@ -48,7 +48,7 @@ BytesGiveEntries = (at : Input) (entries : List Entry) → AreBytes at.bytes →
 
 -- ---- identifiers
 
--- No identifier means two items of one space, with identifiers made up for items without names or without.
+-- No identifier means two items of one space, whether identifiers are synthesized for items without names or not.
 abbrev pub IdentifiersAreApart : Type 0
 IdentifiersAreApart = (invents : Bool) (entries : List Entry) → AreEntries entries → AreApart (names_of invents entries)
 
@@ -56,12 +56,14 @@ IdentifiersAreApart = (invents : Bool) (entries : List Entry) → AreEntries ent
 abbrev pub IdentifiersAreNamed : Type 0
 IdentifiersAreNamed = (invents : Bool) (entries : List Entry) → AreEntries entries → AreNamed (names_of invents entries)
 
--- So are the identifiers of each module that bytes spell: none means two items of one space, of one function or of one type.
+-- The identifiers of each module that bytes encode are UTF-8 and not empty, and none means two items of one space, of
+-- one function or of one type.
 abbrev pub ModulesHaveIdentifiers : Type 0
 ModulesHaveIdentifiers = (bytes : List ℕ) (m : PlacedModule) (invents : Bool) → Spells bytes m →
     AreApart (module_names invents m) × AreNamed (module_names invents m)
 
--- Identifiers of which no two items of a space have one are distinct as declarations, and each is resolved to its item.
+-- If no two items of a space have the same identifier, the identifiers are distinct as declarations, and each is
+-- resolved to its item.
 abbrev pub IdentifiersResolve : Type 0
 IdentifiersResolve = (named : ℕ → Option Named) (count : ℕ) → AreDistinct named → count ≤ 2 ^ 64 →
     (are_distinct (identifiers named count) ≡ true)

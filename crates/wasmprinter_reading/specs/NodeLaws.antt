@@ -21,7 +21,7 @@ use Rattle.wasmprinter_reading.specs.FoldedLaws.{without_counts}
 
 -- ---- the nodes of a text
 
--- a row of items: those before its first node, and its nodes, each with the items before the nodes that it holds
+-- A row of items: those before its first node, and its nodes, each with the items before its inner nodes
 pub record NodeRow : Type 0 where
   pub front : Forest
   pub nodes : NodesOf Forest
@@ -29,7 +29,8 @@ pub record NodeRow : Type 0 where
 abbrev pub node_row : Forest → NodesOf Forest → NodeRow
 node_row f ns = record { front = f; nodes = ns }
 
--- A group is a node where its first word is that of an operator, `then` or `else`, and not that of a part of an operator.
+-- A group is a node if its first word is that of an operator, `then` or `else`, and not that of a part of an
+-- operator.
 abbrev pub is_node_head : GroupHead → Bool
 is_node_head PartHead = false
 is_node_head _ = true
@@ -38,22 +39,22 @@ abbrev pub is_node : Forest → Bool
 is_node (Word w f) = is_node_head (head w)
 is_node _ = false
 
--- an item that is no node
+-- A row that starts with an item that is not a node
 abbrev pub with_item : (Forest → Forest) → Option NodeRow → Option NodeRow
 with_item item r = option_map (λ r. node_row (item r.front) r.nodes) r
 
--- nodes, and no item before them
+-- The nodes of a row without items before them
 abbrev pub only_nodes : NodeRow → Option (NodesOf Forest)
 only_nodes r = elim r.front as (λ f. Option (NodesOf Forest)) [ End ↦ Some r.nodes | _ ↦ None ]
 
--- a node, with what it holds; only nodes follow it
+-- A row that starts with a node, given the row inside it; only nodes may follow it.
 abbrev pub with_node : Option NodeRow → Option NodeRow → Option NodeRow
 with_node inner rest = do
   r ← inner
   behind ← rest >>= only_nodes
   Some (node_row End (row_of_both (Snoc Nil r.front 0 r.nodes) behind))
 
--- An annotation is no item.
+-- The row of a forest. An annotation is not an item.
 abbrev pub node_row_of : Forest → Option NodeRow
 node_row_of End = Some (node_row End Nil)
 node_row_of (Word w f) = with_item (Word w) (node_row_of f)
@@ -63,27 +64,28 @@ node_row_of (Reserved f) = with_item Reserved (node_row_of f)
 node_row_of (Group g f) = cond (is_node g) (with_node (node_row_of g) (node_row_of f)) (with_item (Group g) (node_row_of f))
 node_row_of (Note id g f) = node_row_of f
 
--- the nodes of a row that holds nothing else
+-- The nodes of a row that contains only nodes
 abbrev pub node_groups : Forest → Option (NodesOf Forest)
 node_groups f = node_row_of f >>= only_nodes
 
--- the items of a text, without annotations
+-- The items of a text, without annotations
 abbrev pub items_in : List ℕ → Option Forest
 items_in text = option_map without_annotations (forest text)
 
--- the nodes of a text
+-- The nodes of a text
 abbrev pub nodes_in : List ℕ → Option (NodesOf Forest)
 nodes_in text = items_in text >>= node_groups
 
 -- ---- the law
 
--- the same nodes, with something in place of each head, and no count of results, which no text has
+-- The same nodes with each head replaced, and without the counts of results, which a text does not contain
 abbrev pub with_heads : {H K : Type 0} → (H → K) → NodesOf H → NodesOf K
 with_heads make Nil = Nil
 with_heads make (Snoc before head results held) = Snoc (with_heads make before) (make head) 0 (with_heads make held)
 
--- The nodes of the text of folded operators are those of their tree: one group for each node, in the same order and at the same depth. The
--- items of a group before the nodes that it holds are what the text of its operator reads as, or the word `then` or `else`.
+-- The nodes of the text of folded operators are those of their tree: one group for each node, in the same order and
+-- at the same depth. The items of a group before its inner nodes are those that the text of its operator reads as,
+-- or the word `then` or `else`.
 abbrev pub FoldedGroupsAreNodes : Type 0
 FoldedGroupsAreNodes =
     (s : Setting) → AreNamed s.names → AreSignaturesInRange s.signature →

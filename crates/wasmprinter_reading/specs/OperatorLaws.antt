@@ -1,4 +1,4 @@
--- The laws of nested operators: their text reads as exactly them.
+-- The laws of nested operators: their text reads as exactly these operators.
 use Rattle.std.specs.Prelude.{◌≡◌, ℕ, ◌<◌, ◌≤◌, ◌^◌, List, [], length, Bool, true, Option, Some}
 use Rattle.std.specs.List.{AllByRecursion}
 use Rattle.wasmprinter_spec.specs.Grammar.{Placed, ◌>>=◌}
@@ -23,7 +23,7 @@ use Rattle.wasmprinter_spec.specs.Text.Operators.{read_operators}
 use Rattle.wasmprinter_reading.specs.Listed.{IsListed, AreSignaturesInRange}
 use Rattle.wasmprinter_reading.specs.NameLaws.{AreEntries}
 
--- how many items an index space holds (labels are found by another rule)
+-- The number of items in an index space (labels are found by another rule)
 abbrev pub count_in : Counts → Space → ℕ
 count_in c Types = c.types
 count_in c Func = c.functions
@@ -36,14 +36,15 @@ count_in c Data = c.datas
 count_in c Local = c.locals
 count_in c Label = 0
 
--- what operators are laid out by, read with and counted in has the same types, whose type indices are numbers of 32 bits
+-- The setting of the layout, the context of the reader and the counts have the same types, whose type indices are
+-- numbers of 32 bits.
 pub record HaveSameTypes (s : Setting) (c : Context) (n : Counts) : Type 0 where
   pub read : (i : ℕ) → c.signature i ≡ s.signature i
   pub counted : (i : ℕ) → n.signature i ≡ s.signature i
   pub in_range : AreSignaturesInRange s.signature
 
--- And the same identifiers: those of all items that are counted. What has a signature or fields is a counted type, and
--- so is what a signature names.
+-- They also have the same identifiers: those of all counted items. A type with a signature or fields is a counted
+-- type, and so are the types that a signature names.
 pub record HaveSameNames (s : Setting) (c : Context) (n : Counts) : Type 0 where
   pub spaces : (space : Space) → space_in c.spaces space ≡ identifiers (in_function s.names s.function space) (count_in n space)
   pub fields : (t : ℕ) (fs : List FieldType) → n.fields t ≡ Some fs → c.fields t ≡ identifiers (s.names.fields t) (length fs)
@@ -53,19 +54,20 @@ pub record HaveSameNames (s : Setting) (c : Context) (n : Counts) : Type 0 where
   pub signatures : (t : ℕ) (f : FuncType) → n.signature t ≡ Some f → IsDeclaredFunc n.types f
   pub structures : (t : ℕ) (fs : List FieldType) → n.fields t ≡ Some fs → t < n.types
 
--- Operators of an expression: listed, well nested, no more than a size can count, and every used index is declared.
+-- The operators of an expression are listed and well nested, there are at most 2 ^ 64 of them, and every index that
+-- they use is declared.
 pub record AreOperators (n : Counts) (os : List (Placed Operator)) : Type 0 where
   pub listed : AllByRecursion IsListed (without_places os)
   pub nested : Nests Sequence (roles os)
   pub count : length (without_places os) ≤ 2 ^ 64
   pub indexed : AllByRecursion (IsIndexedOperator n) (without_places os)
 
--- the operators that a text holds, and nothing else
+-- The operators in a text that contains nothing else
 abbrev pub read_alone : Context → List ℕ → Option (List Operator)
 read_alone c text = forest text >>= λ f. chunks_of_forest (without_annotations f) >>= read_operators c
 
--- The text that is laid out for operators, over lines or in one, with hints in front of them or without, reads as exactly them,
--- whatever items and labels are called.
+-- The text that is laid out for operators, over several lines or in one, with or without hints before them, reads as
+-- exactly these operators, for any names of items and labels that are apart.
 abbrev pub OperatorsReadBack : Type 0
 OperatorsReadBack =
     (s : Setting) → AreApart s.names → AreNamed s.names →
@@ -74,7 +76,8 @@ OperatorsReadBack =
     (o : Options) → IsBlank o.indent →
     read_alone c (text_of (all_calls o (operators_pieces s hs true 0 [] os))) ≡ Some (without_places os)
 
--- The same where items and labels have the names of name sections, and the others identifiers made up for them, or none.
+-- The same holds if items and labels have the names that name sections give, and the others synthesized identifiers
+-- or none.
 abbrev pub NamedOperatorsReadBack : Type 0
 NamedOperatorsReadBack =
     (invents : Bool) (entries : List Entry) → AreEntries entries →

@@ -1,4 +1,5 @@
--- The law of the groups of a folded module's text: in each field they are the nodes of the trees of its lists of operators.
+-- The law of the groups of a folded module's text: in each field they are the nodes of the trees of its lists of
+-- operators.
 use Rattle.std.specs.Prelude.{◌≡◌, ℕ, ◌+◌, ◌||◌, List, [], ◌∷◌, ◌++◌, map, bytes_eq, codes, cond, length, Bool, true, false, Option, Some, None, option_map}
 use Rattle.wasmprinter_spec.specs.Grammar.{Placed, ◌>>=◌}
 use Rattle.wasmprinter_spec.specs.Binary.{Spells}
@@ -27,18 +28,18 @@ use Rattle.wasmprinter_reading.specs.NodeLaws.{is_node_head, node_row_of, node_g
 
 -- ---- the nodes of fields
 
--- those after the other items of a field: the body of a function, the initialiser of a global or of a table
+-- The nodes after the other items of a field: the body of a function, the initialiser of a global or of a table
 abbrev pub field_nodes : Forest → Option (NodesOf Forest)
 field_nodes f = option_map (λ r. r.nodes) (node_row_of f)
 
--- those of an expression in a group of its own: after the word `offset` or `item`, or a single node
+-- The nodes of an expression in a group of its own: after the word `offset` or `item`, or a single node
 abbrev pub group_nodes : Forest → List (Option (NodesOf Forest))
 group_nodes (Word w f) =
     cond (bytes_eq w (codes "offset") || bytes_eq w (codes "item")) (node_groups f ∷ [])
     (cond (is_node_head (head w)) (node_groups (Group (Word w f) End) ∷ []) [])
 group_nodes _ = []
 
--- those of each expression of a segment: of its offset, and of its items
+-- The nodes of each expression of a segment: of its offset and of its items
 abbrev pub segment_nodes : Forest → List (Option (NodesOf Forest))
 segment_nodes End = []
 segment_nodes (Word w f) = segment_nodes f
@@ -50,52 +51,53 @@ segment_nodes (Note id g f) = segment_nodes f
 
 -- ---- the trees of a module
 
--- the tree of a list of operators: none where it can't be folded
+-- The tree of a list of operators, or `None` if it can't be folded
 abbrev pub tree_of : Setting → Signatures → List (Placed Hint) → List (Placed Operator) → Option Nodes
 tree_of s signatures hs os = option_map tree (nested_code_of (items s signatures hs 0 [] [] os))
 
 module _ (m : PlacedModule) where
-  -- of a constant expression at this nesting depth
+  -- The tree of a constant expression at this nesting depth
   abbrev pub constant_tree : Scope → ℕ → List (Placed Operator) → Option Nodes
   constant_tree s nesting os = tree_of (in_line s nesting) (signatures_within m (Some 0)) [] os
 
-  -- of the initialiser of a table; without one there are no nodes
+  -- The tree of the initialiser of a table; a table without one has no nodes.
   abbrev pub init_tree : Scope → Option (List (Placed Operator)) → Option Nodes
   init_tree s init = elim init as (λ i. Option Nodes) [ None ↦ Some Nil | Some os ↦ constant_tree s 2 os ]
 
-  -- of the expressions of a segment
+  -- The trees of the expressions of a segment
   abbrev pub segment_trees : Scope → List (List (Placed Operator)) → List (Option Nodes)
   segment_trees s es = map (constant_tree s 3) es
 
-  -- of the body of a function, with these hints
+  -- The tree of the body of a function, with these hints
   abbrev pub body_tree : Scope → List (Placed Hint) → PlacedFunction → Option Nodes
   body_tree s hs f = tree_of (over_lines s f.body.place) (signatures_within m (result_count s f.type_index)) hs f.body.value.operators
 
-  -- of functions from i on, each with its hints
+  -- The trees of the bodies of functions from index `i` on, each with its hints
   abbrev pub body_trees : Scope → List FunctionHints → ℕ → List PlacedFunction → List (Option Nodes)
   body_trees s es i [] = []
   body_trees s es i (f ∷ fs) = body_tree (scope_of_function s i) (next_hints i es) f ∷ body_trees s (hints_behind i es) (i + 1) fs
 
 -- ---- the law
 
--- one by one
+-- Lists of equal length whose elements are related one by one
 abbrev pub AreAlike : {A B : Type 0} → (A → B → Type 0) → List A → List B → Type 0
 AreAlike R [] [] = Unit {0}
 AreAlike R (x ∷ xs) (y ∷ ys) = R x y × AreAlike R xs ys
 AreAlike R _ _ = ⊥
 
--- Nodes of a text are those of a tree. Before the nodes that it holds, each has what the text of its own operator reads as.
+-- The nodes of a text are those of a tree. The items of each node before its inner nodes are those that the text of
+-- its own operator reads as.
 abbrev pub AreNodesOf : Option (NodesOf Forest) → Option Nodes → Type 0
 AreNodesOf found expected =
     (t : Nodes) × (expected ≡ Some t) × (option_map (with_heads (λ f. Some f)) found ≡ Some (with_heads (λ h. items_in (head_text defaults h)) t))
 
--- what the trees of a module are made by: its types and identifiers, and the first function that it defines
+-- The scope of the trees of a module: its types and identifiers, and the index of the first function that it defines
 abbrev pub tree_scope : Bool → PlacedModule → Scope
 tree_scope invents m =
     scope_of (all_types (groups_of m.types)) (module_names invents m) (length (imported_types func_import (without_places m.imports))) None
 
--- The fields of a text have the nodes of the module's trees: a function those of its body, a global and a table those of their
--- initialisers, and a segment those of its offset and of its items.
+-- The nodes in the fields of a text are those of the module's trees: a function has those of its body, a global and
+-- a table those of their initialisers, and a segment those of its offset and of its items.
 pub record HaveTrees (invents : Bool) (m : PlacedModule) (fs : Fields) : Type 0 where
   pub tables : AreAlike AreNodesOf (map field_nodes fs.tables) (map (λ t. init_tree m (tree_scope invents m) t.value.init) m.tables)
   pub globals : AreAlike AreNodesOf (map field_nodes fs.globals) (map (λ g. constant_tree m (tree_scope invents m) 2 g.value.init) m.globals)
@@ -106,8 +108,8 @@ pub record HaveTrees (invents : Bool) (m : PlacedModule) (fs : Fields) : Type 0 
   pub datas : AreAlike (AreAlike AreNodesOf) (map segment_nodes fs.datas)
       (map (λ d. segment_trees m (scope_behind m (tree_scope invents m)) (data_lists d)) m.datas)
 
--- The groups of the text of a module whose operators are folded are the nodes of its trees, field by field. (All operators can be folded,
--- the text has no colours, and no `dylink.0` section is refused.)
+-- The groups of the text of a module whose operators are folded are the nodes of its trees, field by field. (All
+-- operators can be folded, the text has no colors, and no `dylink.0` section is refused.)
 abbrev pub FoldedModulesHaveTrees : Type 0
 FoldedModulesHaveTrees =
     (bytes : List ℕ) (m : PlacedModule) (o : Options) (answers : Answers) →

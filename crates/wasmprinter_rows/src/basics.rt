@@ -1,4 +1,4 @@
-//! Texts of the smallest modules with each option, their cut and damaged forms, and components.
+//! Texts of the smallest modules with each option, of their truncated and damaged forms, and of components.
 
 use crate::expecting::{
     expect_folded, expect_printed, expect_printed_by, is_malformed, is_printed_as,
@@ -144,7 +144,7 @@ local.get 0
 /// The text of the first section of `IDENTITY` alone.
 const TYPE_TEXT: &str = "(module\n  (type (;0;) (func (param i32) (result i32)))\n)\n";
 
-/// Returns the text of the first bytes of `IDENTITY`, or `None` if they are no module.
+/// Returns the text of the first `len` bytes of `IDENTITY`, or `None` if they do not encode a module.
 fn text_of_prefix(len: usize) -> Option<&'static str> {
     match len {
         8 => Some("(module)\n"),
@@ -153,7 +153,7 @@ fn text_of_prefix(len: usize) -> Option<&'static str> {
     }
 }
 
-/// Returns whether the first bytes of `IDENTITY` are printed as their text, or are refused as malformed if they have none.
+/// Returns whether a prefix of `IDENTITY` is printed as its text, or is refused as malformed if it has no text.
 fn is_printed_or_refused(alloc: Global, prefix: &[u8]) -> bool {
     match text_of_prefix(prefix.len()) {
         Some(text) => is_printed_as(alloc, prefix, text),

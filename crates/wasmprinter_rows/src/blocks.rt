@@ -1,4 +1,4 @@
-//! Blocks, branches and exception handlers, flat.
+//! Blocks, branches and exception handlers, printed flat.
 
 use crate::expecting::{expect_body, expect_printed, is_malformed};
 use crate::modules::control::{

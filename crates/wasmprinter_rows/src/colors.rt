@@ -28,7 +28,7 @@ fn colors_a_keyword(rt: HostRuntime) -> Result<(), Fail> {
     Ok(())
 }
 
-/// A function with a constant that is dropped.
+/// The text of a function with a constant that is dropped.
 const DROPPED_CONSTANT_TEXT: &str = "(\x1b[0m\x1b[1m\x1b[38;5;11mmodule\x1b[0m
   (\x1b[0m\x1b[1m\x1b[38;5;11mtype \x1b[0m\x1b[0m\x1b[35m(;0;)\x1b[0m (\x1b[0m\x1b[1m\x1b[38;5;11mfunc\x1b[0m))
   (\x1b[0m\x1b[1m\x1b[38;5;11mfunc \x1b[0m\x1b[0m\x1b[35m(;0;)\x1b[0m \
@@ -52,7 +52,7 @@ fn colors_the_number_of_a_folded_constant(rt: HostRuntime) -> Result<(), Fail> {
     Ok(())
 }
 
-/// A function with an empty block.
+/// The text of a function with an empty block.
 const EMPTY_BLOCK_TEXT: &str = "(\x1b[0m\x1b[1m\x1b[38;5;11mmodule\x1b[0m
   (\x1b[0m\x1b[1m\x1b[38;5;11mtype \x1b[0m\x1b[0m\x1b[35m(;0;)\x1b[0m (\x1b[0m\x1b[1m\x1b[38;5;11mfunc\x1b[0m))
   (\x1b[0m\x1b[1m\x1b[38;5;11mfunc \x1b[0m\x1b[0m\x1b[35m(;0;)\x1b[0m \

@@ -1,4 +1,4 @@
-//! Custom sections: raw ones with their places, `producers`, `dylink.0`, and a section that the printer claims.
+//! Custom sections: raw ones at their places, `producers`, `dylink.0`, and a section that the printer claims.
 
 use crate::expecting::{expect_printed, print_to};
 use crate::modules::customs::{

@@ -1,11 +1,11 @@
-//! What the tests have in common: how a module is printed, and the text around the lines that a test types.
+//! Shared functions of the tests: they print a module, and add the text around the lines that a test types.
 
 use std::alloc::{AllocError, Global};
 use std::test::Fail;
 use wasmprinter::{Config, Error, Print, print_bytes};
 use wasmprinter_samples::expect_text;
 
-/// The text before the operators of a function that has no parameters, results and locals, and is alone in its module.
+/// The text before the operators of the only function of a module, without parameters, results and locals.
 const BODY_START: &str = "(module\n  (type (;0;) (func))\n  (func (;0;) (type 0)\n";
 
 /// The text after the operators of the last function of a module.
@@ -58,13 +58,15 @@ pub fn expect_folded(alloc: Global, wasm: &[u8], text: &str) -> Result<(), Fail>
     expect_printed_by(alloc, &folding(), wasm, text)
 }
 
-/// Checks the text of a module that has one function, without parameters, results and locals, whose operators have these lines.
+/// Checks the text of a module with one function, without parameters, results and locals, whose operators have these
+/// lines.
 pub fn expect_body(alloc: Global, wasm: &[u8], lines: &str) -> Result<(), Fail> {
     let text = join(alloc, BODY_START, lines, BODY_END)?;
     expect_printed(alloc, wasm, text.as_str())
 }
 
-/// Checks the folded text of such a module.
+/// Checks the folded text of a module with one function, without parameters, results and locals, whose operators
+/// have these lines.
 pub fn expect_folded_body(alloc: Global, wasm: &[u8], lines: &str) -> Result<(), Fail> {
     let text = join(alloc, BODY_START, lines, BODY_END)?;
     expect_folded(alloc, wasm, text.as_str())
@@ -84,7 +86,7 @@ pub fn is_printed_as(alloc: Global, wasm: &[u8], text: &str) -> bool {
     }
 }
 
-/// Returns whether a module is refused as malformed, with a place that is at most its length.
+/// Returns whether a module is refused as malformed, with a byte offset that is at most its length.
 pub fn is_malformed(alloc: Global, wasm: &[u8]) -> bool {
     match print_bytes(alloc, wasm) {
         Err(Error::Malformed { place }) => place <= wasm.len() as u64,

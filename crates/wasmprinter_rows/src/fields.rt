@@ -1,4 +1,4 @@
-//! Fields of a module: types, tables, memories, globals, element segments and data segments.
+//! Fields of a module: types, tables, memories, globals, element segments and data segments
 
 use crate::expecting::{expect_field, is_malformed};
 use crate::modules::sections::{

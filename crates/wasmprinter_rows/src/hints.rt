@@ -1,4 +1,4 @@
-//! Branch hints: before their operators, flat and folded, and those that no operator takes.
+//! Branch hints: before their operators, flat and folded, and hints that no operator takes.
 
 use crate::expecting::{expect_folded, expect_printed, folding};
 use crate::modules::customs::{
@@ -19,7 +19,7 @@ const LIKELY_TEXT: &str = r#"(module
 )
 "#;
 
-/// Its text without a hint.
+/// The text of this function without a hint.
 const UNHINTED_TEXT: &str = r#"(module
   (type (;0;) (func (param i32)))
   (func (;0;) (type 0) (param i32)

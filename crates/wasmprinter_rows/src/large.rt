@@ -1,4 +1,5 @@
-//! Large modules: many locals, long chains of operands, deep nesting and many functions. The expected texts are built line by line.
+//! Large modules: many locals, long chains of operands, deep nesting and many functions. The expected texts are
+//! built line by line.
 
 use crate::expecting::{expect_folded, expect_printed};
 use crate::modules::whole::MOST_LOCALS;
@@ -7,13 +8,13 @@ use std::test::Fail;
 use wasmprinter::print_bytes;
 use wasmprinter_samples::{PREAMBLE, expect_text};
 
-/// How many locals the function of `MOST_LOCALS` has.
+/// The number of locals of the function of `MOST_LOCALS`.
 const LOCALS: u32 = 50_000;
 
-/// How many operators or blocks a body has.
+/// The number of operators or blocks of a body.
 const MANY: u32 = 100_000;
 
-/// How many functions a module has.
+/// The number of functions of a module.
 const FUNCTIONS: u32 = 20_000;
 
 /// The nesting depth of the operators of a body.
@@ -28,7 +29,7 @@ const START: &str = "(module\n  (type (;0;) (func))\n  (func (;0;) (type 0)";
 /// The text after the last line of the function.
 const END: &str = "\n  )\n)\n";
 
-/// Adds a text several times.
+/// Appends a text `count` times.
 fn add_repeated(text: &mut String, piece: &str, count: u32) -> Result<(), AllocError> {
     for _ in 0..count {
         text.push_str(piece)?;
@@ -36,19 +37,19 @@ fn add_repeated(text: &mut String, piece: &str, count: u32) -> Result<(), AllocE
     Ok(())
 }
 
-/// Begins a line at a nesting depth, with this text.
+/// Appends a line feed, the indent of a nesting depth, and the text of a line.
 fn add_line(text: &mut String, depth: u32, line: &str) -> Result<(), AllocError> {
     text.push_str("\n")?;
     add_repeated(text, "  ", depth.min(MOST_INDENTED))?;
     text.push_str(line)
 }
 
-/// Returns the nesting depth of an operator or block of a body, given how many others enclose it.
+/// Returns the nesting depth of an operator or block of a body, given the number of blocks and operators around it.
 fn depth_within(outer: u32) -> u32 {
     BODY_DEPTH.saturating_add(outer)
 }
 
-/// Bytes, and how often they are repeated.
+/// Bytes, and the number of their repetitions.
 struct Run {
     bytes: &'static [u8],
     count: u32,
@@ -72,7 +73,7 @@ fn add_runs(wasm: &mut Vec<u8>, runs: &[Run]) -> Result<(), AllocError> {
     Ok(())
 }
 
-/// Returns a module of these runs of bytes.
+/// Returns a module that consists of these runs of bytes.
 fn module_of(alloc: Global, runs: &[Run]) -> Result<Vec<u8>, AllocError> {
     let mut wasm = Vec::new(alloc);
     add_runs(&mut wasm, runs)?;
@@ -99,7 +100,7 @@ fn prints_the_greatest_number_of_locals(rt: HostRuntime) -> Result<(), Fail> {
 
 // ---- a chain of operands
 
-/// The preamble, a type and a function of it.
+/// The preamble, a type and a function with that type.
 const BEFORE_CODE: [u8; 18] = [
     0x00, 0x61, 0x73, 0x6d, 0x01, 0x00, 0x00, 0x00, // preamble
     0x01, 0x04, 0x01, 0x60, 0x00, 0x00, // types
@@ -113,7 +114,7 @@ const CHAIN: [Run; 4] = [
         count: 1,
     },
     Run {
-        // a code section of 100,008 bytes, a body of 100,004 bytes, no locals, and the constant
+        // A code section of 100,008 bytes, a body of 100,004 bytes, no locals, and the constant
         bytes: &[
             0x0a, 0xa8, 0x8d, 0x06, 0x01, 0xa4, 0x8d, 0x06, 0x00, 0x41, 0x00,
         ],
@@ -138,7 +139,7 @@ fn flat_chain(alloc: Global) -> Result<String, AllocError> {
     Ok(text)
 }
 
-/// Adds the first line of each `i32.eqz` of the folded chain, from the outermost.
+/// Appends the first line of each `i32.eqz` of the folded chain, from the outermost to the innermost.
 fn add_folded_lines(text: &mut String) -> Result<(), AllocError> {
     for outer in 0..MANY {
         add_line(text, depth_within(outer), "(i32.eqz")?;
@@ -172,14 +173,14 @@ fn folds_a_long_chain(rt: HostRuntime) -> Result<(), Fail> {
 
 // ---- nested blocks
 
-/// 100,000 blocks, each inside of the one before it.
+/// 100,000 blocks, each inside the one before it.
 const NESTED: [Run; 5] = [
     Run {
         bytes: &BEFORE_CODE,
         count: 1,
     },
     Run {
-        // a code section of 300,006 bytes, a body of 300,002 bytes, and no locals
+        // A code section of 300,006 bytes, a body of 300,002 bytes, and no locals
         bytes: &[0x0a, 0xe6, 0xa7, 0x12, 0x01, 0xe2, 0xa7, 0x12, 0x00],
         count: 1,
     },
@@ -197,7 +198,7 @@ const NESTED: [Run; 5] = [
     },
 ];
 
-/// Adds the first line of each block, from the outermost.
+/// Appends the first line of each block, from the outermost to the innermost.
 fn add_blocks(text: &mut String, word: &str) -> Result<(), AllocError> {
     for outer in 0..MANY {
         add_line(text, depth_within(outer), word)?;
@@ -206,7 +207,7 @@ fn add_blocks(text: &mut String, word: &str) -> Result<(), AllocError> {
     Ok(())
 }
 
-/// Adds the last line of each block, from the innermost.
+/// Appends the last line of each block, from the innermost to the outermost.
 fn add_ends(text: &mut String) -> Result<(), AllocError> {
     for inner in 1..=MANY {
         add_line(text, depth_within(MANY.saturating_sub(inner)), "end")?;
@@ -223,7 +224,8 @@ fn flat_blocks(alloc: Global) -> Result<String, AllocError> {
     Ok(text)
 }
 
-/// Builds the folded text of the blocks. The innermost ends on a line of its own, since its first line ends in a comment.
+/// Builds the folded text of the blocks. The innermost closes on a line of its own, since its first line ends with a
+/// comment.
 fn folded_blocks(alloc: Global) -> Result<String, AllocError> {
     let mut text = String::from_str(alloc, START)?;
     add_blocks(&mut text, "(block")?;
@@ -249,7 +251,7 @@ fn folds_deep_nesting(rt: HostRuntime) -> Result<(), Fail> {
 
 // ---- many functions
 
-/// 20,000 functions with an `if` that has both arms.
+/// 20,000 functions, each with an `if` that has both branches.
 const BODIES: [Run; 6] = [
     Run {
         bytes: &PREAMBLE,
@@ -260,7 +262,7 @@ const BODIES: [Run; 6] = [
         count: 1,
     },
     Run {
-        // a function section of 20,003 bytes, and the number of functions
+        // A function section of 20,003 bytes, and the number of functions
         bytes: &[0x03, 0xa3, 0x9c, 0x01, 0xa0, 0x9c, 0x01],
         count: 1,
     },
@@ -269,7 +271,7 @@ const BODIES: [Run; 6] = [
         count: FUNCTIONS,
     },
     Run {
-        // a code section of 260,003 bytes, and the number of bodies
+        // A code section of 260,003 bytes, and the number of bodies
         bytes: &[0x0a, 0xa3, 0xef, 0x0f, 0xa0, 0x9c, 0x01],
         count: 1,
     },
@@ -299,7 +301,7 @@ const FOLDED_BODY: &str = r#"    (if ;; label = @1
         (i32.const 0)))
 "#;
 
-/// Adds the text of each function, whose operators have these lines.
+/// Appends the text of each function, whose operators have these lines.
 fn add_functions(text: &mut String, lines: &str) -> Result<(), AllocError> {
     for function in 0..FUNCTIONS {
         write!(text, "  (func (;{function};) (type 0)\n{lines}  )\n")?;
@@ -315,7 +317,7 @@ fn functions_text(alloc: Global, lines: &str) -> Result<String, AllocError> {
     Ok(text)
 }
 
-/// The length that the flat text of the functions must not reach, in bytes.
+/// The exclusive upper bound of the length of the flat text of the functions, in bytes.
 const FLAT_LIMIT: usize = 500_000_000;
 
 #[test]

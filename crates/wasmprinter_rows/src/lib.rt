@@ -1,5 +1,5 @@
-//! Small example modules that cover the binary format, and tests of the exact text, value or error of each. All expected values are
-//! typed by hand.
+//! Small example modules that cover the binary format, and tests of the exact text, value or error of each. All
+//! expected values are typed by hand.
 #![tactic(auto)]
 
 #[cfg(test)]

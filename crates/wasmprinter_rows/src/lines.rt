@@ -9,7 +9,7 @@ use wasmprinter::wasm::{OperatorsReader, decode};
 use wasmprinter::{Config, Error, OffsetsAndLines, place_of};
 use wasmprinter_samples::expect_text;
 
-/// The place of a line, and its text.
+/// The place and the text of a line.
 type Line = (Option<u64>, &'static str);
 
 /// The lines of `IDENTITY`.

@@ -168,7 +168,7 @@ fn ignores_a_name_that_is_cut(rt: HostRuntime) -> Result<(), Fail> {
     )
 }
 
-/// Returns whether local 0 of function 0 is `x`, and function 0 and the module have no names.
+/// Returns whether local 0 of function 0 is named `x`, and function 0 and the module have no names.
 fn name_the_parameter_alone(names: &Names<'_>) -> bool {
     names.identifier(Space::Local, 0, 0) == Some("x")
         && names.identifier(Space::Func, 0, 0) == None

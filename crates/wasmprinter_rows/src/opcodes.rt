@@ -1,4 +1,4 @@
-//! Operators of each group, flat: their words, their immediates, and what is left out.
+//! Operators of each group, printed flat: their words, their immediates, and immediates that are left out.
 
 use crate::expecting::{expect_body, is_malformed};
 use crate::modules::operators::{

@@ -68,7 +68,7 @@ const SINGLES: [Single; 11] = [
     },
 ];
 
-/// The same for 64 bits.
+/// Numbers of each class, of 64 bits.
 const DOUBLES: [Double; 4] = [
     Double {
         bits: 0x3ff0_0000_0000_0000,

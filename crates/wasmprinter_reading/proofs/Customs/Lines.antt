@@ -1,4 +1,4 @@
--- The lines of the annotations `producers` and `dylink.0` are groups of items: nothing more counts of them.
+-- The lines of the annotations `producers` and `dylink.0` are groups of items. Only this matters for reading.
 use Rattle.std.proofs.Common.{◌≡◌, ℕ, ◌<◌, ◌^◌, ◌-◌, ◌&&◌, ◌==◌, Bool, true, false, cond, List, [], ◌∷◌, ◌++◌, Option, refl, subst, codes, chars, decimal, append_assoc, lit<, lt_trans}
 use Rattle.std.specs.Prelude.{IsUtf8}
 use Rattle.std.specs.Fmt.{digits}
@@ -40,7 +40,7 @@ word_written h w = written (word_writes h w.writes)
 nothing_written : {a : Edge} → IsWritten a [] a
 nothing_written = written nothing_writes
 
--- groups before others
+-- A group before other pieces
 group_written : {b : Edge} (v : List ℕ) (ps qs : List Piece) → is_word v ≡ true → IsWritten Bound ps Bound → IsWritten Bound qs b →
     IsWritten Free (Open v ∷ (ps ++ (Shut ∷ qs))) b
 unfolding line_group

@@ -1,4 +1,5 @@
--- What custom sections are written as, those at one place among the other sections, and that raw ones read back.
+-- The annotations of the custom sections at one place among the other sections, and that those of raw sections read
+-- back
 use Rattle.std.proofs.Common.{◌≡◌, ℕ, ◌+◌, Bool, true, false, cond, List, [], ◌∷◌, ◌++◌, Option, Some, None, refl, sym, ap, ◌∙◌, subst, codes, chars, append_assoc, append-nil, map, encode_utf8_all}
 use Rattle.std.specs.List.{AllByRecursion}
 use Rattle.std.proofs.lemmas.List.{map-append}
@@ -32,12 +33,12 @@ use Rattle.wasmprinter_reading.proofs.Customs.Parts.{PartsWrite, no_parts, shown
 
 -- ---- raw sections
 
--- among the other sections
+-- The place among the other sections
 abbrev place_items : Option Kind → Forest
 place_items None = Word (codes "before") (Word (codes "first") End)
 place_items (Some kind) = Word (codes "after") (Word (place_word kind) End)
 
--- what the annotation holds
+-- The items in the annotation
 abbrev raw_items : Bool → CustomEntry → Forest
 raw_items skeleton c = String c.section.value.name (Group (place_items c.behind) (bytes_items skeleton c.section.value.bytes.value))
 
@@ -95,7 +96,7 @@ faulted_writes skeleton c is h remark =
     (is_remark-append (codes "failed to parse custom section `") (c.section.value.name ++ codes "`") refl (is_remark-append c.section.value.name (codes "`") remark refl))
     (raw_writes skeleton c is h))
 
--- ---- they read back
+-- ---- raw sections read back
 
 custom_place-items : (place : Option Kind) → is_any_place place ≡ true → custom_place (place_items place) ≡ Some place
 unfolding section_of_word
@@ -123,7 +124,7 @@ place_cut : (place : Option Kind) → without_annotations (place_items place) �
 place_cut None = refl
 place_cut (Some kind) = refl
 
--- the raw custom sections of a row read as these
+-- The raw custom sections of a row read as these.
 abbrev pub RowReads : Forest → List RawCustom → Type 0
 RowReads f rs = each read_custom (raw_row f) ≡ Some rs
 
@@ -140,7 +141,7 @@ both_rows f g rs ts e h =
 
 -- ---- each section
 
--- annotations alone, and no hint among them
+-- Only annotations, none of which is a hint
 abbrev pub AreNotes : Forest → Type 0
 AreNotes End = Unit {0}
 AreNotes (Note id f g) = (is_hint id ≡ false) × AreNotes g
@@ -151,12 +152,12 @@ notes_onto End g h k = k
 notes_onto (Note id x f) g h k = (h.0, notes_onto f g h.1 k)
 notes_onto _ g h k = absurd h
 
--- what a part of custom sections writes: nothing in front of a refusal
+-- The annotations that a part of the custom sections writes: none before a refusal
 abbrev PartWrites : Part → Forest → Type 0
 PartWrites (Shown ps) k = WritesNoted Bound ps Bound End k
 PartWrites (Stops ps id) k = WritesNoted Bound ps Bound End End × (k ≡ End)
 
--- the annotations that a section is written as, of which raw ones read back
+-- The annotations of a section; those of a raw section read back.
 record PartNotes (skeleton answer : Bool) (part : Part) (c : CustomEntry) : Type 0 where
   notes : Forest
   are : AreNotes notes
@@ -217,7 +218,7 @@ custom_notes : (skeleton answer : Bool) (c : CustomEntry) → is_any_place c.beh
 custom_notes skeleton true c is h = record { notes = End; are = tt; write = claim_writes skeleton true c is h nothing_writes; reads = λ u w. absurd cc }
 custom_notes skeleton false c is h = role_notes skeleton false c is h (custom_role_of c.section.value) refl (role_ranged c.section.value h)
 
--- ---- those at one place
+-- ---- the custom sections at one place
 
 abbrev pub at_place : Option Kind → List CustomEntry → List CustomEntry
 at_place place [] = []
@@ -229,7 +230,7 @@ raw_customs-append (c ∷ xs) ys =
     let own : List RawCustom = cond (is_raw (custom_role_of c.section.value)) (raw_custom c ∷ []) [] in
     ap (λ t. own ++ t) (raw_customs-append xs ys) ∙ sym (append_assoc own (raw_customs xs) (raw_customs ys))
 
--- the annotations that they are written as
+-- Their annotations
 pub record NotesAt (skeleton : Bool) (answers : Answers) (place : Option Kind) (n : ℕ) (cs : List CustomEntry) : Type 0 where
   pub notes : Forest
   pub are : AreNotes notes
@@ -241,7 +242,7 @@ part_before (Shown ps) k w rest = shown w rest
 part_before (Stops ps id) {parts = parts} k {f = f} {h = h} w rest =
     subst (λ t. PartsWrite (Stops ps id ∷ parts) f (onto t h)) (sym w.1) (stopped w.0 rest)
 
--- each at any place
+-- The place of each custom section is one that it can have.
 abbrev pub AreAnywhere : List CustomEntry → Type 0
 AreAnywhere cs = AllByRecursion (λ c. is_any_place c.behind ≡ true) cs
 

@@ -1,4 +1,4 @@
--- Custom sections stand in the order of the sections in front of them.
+-- Custom sections are in the order of their places, which are the sections before them.
 use Rattle.std.proofs.Common.{◌≡◌, ℕ, ◌≤◌, Bool, true, false, cond, List, [], ◌∷◌, Option, Some, None, refl, sym, ap, ◌∙◌, inl, inr, arith}
 use Rattle.std.proofs.lemmas.Bool.{and_parts, ltb-true}
 use Rattle.wasmprinter_spec.specs.Repeated.{some_or}
@@ -7,19 +7,19 @@ use Rattle.wasmprinter_spec.specs.Placed.{CustomEntry}
 use Rattle.wasmprinter_spec.specs.Sections.{Section, holds, section_kind, content_of, rank, follows, rank_behind, are_above, is_place, place_behind, customs_behind}
 use Rattle.wasmprinter_spec.proofs.Ordered.{picks}
 
--- how far behind a place stands
+-- The rank of a place
 abbrev pub place_rank : Option Kind → ℕ
 place_rank None = 0
 place_rank (Some kind) = some_or (rank kind) 0 (λ r. r)
 
--- sections of the kind can hold something behind which others stand
+-- Reports whether a custom section can have this place, which is never a custom section or a data count section.
 abbrev pub is_any_place : Option Kind → Bool
 is_any_place None = true
 is_any_place (Some CustomSection) = false
 is_any_place (Some DataCountSection) = false
 is_any_place (Some kind) = true
 
--- each stands behind those in front of it, or with them, and all from this rank on
+-- The ranks of the places do not decrease, and none is below `low`.
 abbrev pub AreInOrder : ℕ → List CustomEntry → Type 0
 AreInOrder low [] = Unit {0}
 AreInOrder low (c ∷ cs) = (low ≤ place_rank c.behind) × (is_any_place c.behind ≡ true) × AreInOrder (place_rank c.behind) cs
@@ -28,14 +28,14 @@ earlier : (a b : ℕ) (cs : List CustomEntry) → a ≤ b → AreInOrder b cs �
 earlier a b [] le h = tt
 earlier a b (c ∷ cs) le (from, any, others) = (omega (arith, from), any, others)
 
--- what becomes of the last place at a section
+-- The last place after a section, compared with the last place before it
 record Moves (low : ℕ) (last : Option Kind) (s : Section) : Type 0 where
   any : is_any_place (place_behind last s) ≡ true
   from : place_rank last ≤ place_rank (place_behind last s)
   to : place_rank (place_behind last s) ≤ rank_behind low (rank (section_kind s))
 
 module _ (low : ℕ) (last : Option Kind) (any : is_any_place last ≡ true) (le : place_rank last ≤ low) where
-  -- a kind with a rank, which may be a place
+  -- A section of a kind with a rank that may be a place
   moved : (kind : Kind) (r : ℕ) → rank kind ≡ Some r → is_any_place (Some kind) ≡ true → follows low (rank kind) ≡ true → (t : Bool) →
       (is_any_place (cond t (Some kind) last) ≡ true) × (place_rank last ≤ place_rank (cond t (Some kind) last)) × (place_rank (cond t (Some kind) last) ≤ rank_behind low (rank kind))
   moved kind r e is up true =

@@ -1,4 +1,4 @@
--- Parts of a layout, up to the first refusal.
+-- Parts of a layout, up to the first refusal
 use Rattle.std.proofs.Common.{◌≡◌, ℕ, List, [], ◌∷◌, ◌++◌, None, sym, subst}
 use Rattle.wasmprinter_spec.specs.Forest.{Forest, End, onto}
 use Rattle.wasmprinter_spec.specs.Piece.{Piece}
@@ -7,7 +7,7 @@ use Rattle.wasmprinter_lexical.proofs.Grown.{onto_assoc}
 use Rattle.wasmprinter_lexical.proofs.Pieces.{Bound}
 use Rattle.wasmprinter_lexical.proofs.Writes.{WritesNoted, IsWritten, written, both_write, nothing_writes}
 
--- what parts write, if none is refused
+-- The items that parts write, if none is refused
 pub data PartsWrite : List Part → Forest → Forest → Type 0 where
   no_parts : PartsWrite [] End End
   shown : {ps : List Piece} {parts : List Part} {f g k h : Forest} → WritesNoted Bound ps Bound f k → PartsWrite parts g h →
@@ -15,7 +15,7 @@ pub data PartsWrite : List Part → Forest → Forest → Type 0 where
   stopped : {ps : List Piece} {id : ℕ} {parts : List Part} {g h : Forest} → WritesNoted Bound ps Bound End End → PartsWrite parts g h →
       PartsWrite (Stops ps id ∷ parts) g h
 
--- parts and others
+-- Two lists of parts, joined
 pub both_parts : {xs ys : List Part} {f g k h : Forest} → PartsWrite xs f k → PartsWrite ys g h → PartsWrite (xs ++ ys) (onto f g) (onto k h)
 both_parts no_parts w = w
 both_parts {ys = ys} {g = g'} {h = h'} (shown {ps} {parts} {f} {g} {k} {h} x rest) w =

@@ -1,4 +1,4 @@
--- The custom sections at all places, one place behind the other, are all of them in their order.
+-- The custom sections at each place, one place after the other, are all custom sections in their order.
 use Rattle.std.proofs.Common.{◌≡◌, ℕ, suc, ◌<◌, ◌≤◌, Bool, true, false, ◌&&◌, ◌||◌, leb, List, [], ◌∷◌, ◌++◌, Option, Some, None, refl, sym, ap, ◌∙◌, map, true≢false, arith}
 use Rattle.std.proofs.lemmas.Bool.{and_parts, leb-true}
 use Rattle.wasmprinter_spec.specs.Kinds.{Kind, CustomSection, DataCountSection}
@@ -10,7 +10,7 @@ use Rattle.wasmprinter_spec.proofs.SameKinds.{same_kind-is}
 use Rattle.wasmprinter_reading.proofs.Customs.Ordered.{place_rank, is_any_place, AreInOrder}
 use Rattle.wasmprinter_reading.proofs.Customs.Notes.{at_place, raw_customs-append, AreAnywhere}
 
--- all places, as the layout goes over them
+-- All places, in the order of the layout
 abbrev pub all_places : List (Option Kind)
 all_places = None ∷ map Some section_order
 
@@ -18,12 +18,12 @@ abbrev over : List (Option Kind) → List CustomEntry → List CustomEntry
 over [] cs = []
 over (p ∷ ps) cs = at_place p cs ++ over ps cs
 
--- the raw ones
+-- The raw custom sections at these places
 abbrev pub raws_over : List (Option Kind) → List CustomEntry → List RawCustom
 raws_over [] cs = []
 raws_over (p ∷ ps) cs = raw_customs (at_place p cs) ++ raws_over ps cs
 
--- places that rise, from this rank on
+-- Reports whether the ranks of places increase and none is below `low`.
 abbrev rises : ℕ → List (Option Kind) → Bool
 rises low [] = true
 rises low (p ∷ ps) = leb low (place_rank p) && rises (suc (place_rank p)) ps
@@ -40,7 +40,7 @@ same_rank (Some j) (Some k) e = ap (λ x. place_rank (Some x)) (same_kind-is j k
 same_rank None (Some k) e = absurd cc
 same_rank (Some j) None e = absurd cc
 
--- another rank is another place
+-- Places with different ranks are different.
 other_place : (a b : Option Kind) → (place_rank a ≡ place_rank b → ⊥) → same_place a b ≡ false
 other_place a b apart = by (same_place a b) refl
   where
@@ -48,7 +48,7 @@ other_place a b apart = by (same_place a b) refl
     by true e = absurd (apart (same_rank a b e))
     by false e = refl
 
--- a place in front of all sections holds none
+-- A place with a rank below those of all sections has none of them.
 none_at : (p : Option Kind) (low : ℕ) (cs : List CustomEntry) → place_rank p < low → AreInOrder low cs → at_place p cs ≡ []
 none_at p low [] lt h = refl
 none_at p low (c ∷ cs) lt (from, any, others) =
@@ -56,7 +56,7 @@ none_at p low (c ∷ cs) lt (from, any, others) =
 
 -- ---- all places
 
--- a section in front of these places is at none of them
+-- A section with a rank below those of all places is at none of them.
 absent : (ps : List (Option Kind)) (low : ℕ) (c : CustomEntry) (cs : List CustomEntry) → rises low ps ≡ true → place_rank c.behind < low → over ps (c ∷ cs) ≡ over ps cs
 absent [] low c cs up lt = refl
 absent (p ∷ ps) low c cs up lt =
@@ -64,7 +64,7 @@ absent (p ∷ ps) low c cs up lt =
     let le : low ≤ place_rank p = leb-true low (place_rank p) parts.0 in
     rw (other_place c.behind p (λ e. omega (arith, le, lt, e)), absent ps (suc (place_rank p)) c cs parts.1 (omega (arith, le, lt)))
 
--- it is at one of these places: then its rank is not below
+-- The rank of a section at one of these places is not below `low`.
 among_rank : (ps : List (Option Kind)) (low : ℕ) (k : Option Kind) → rises low ps ≡ true → is_among k ps ≡ true → low ≤ place_rank k
 among_rank [] low k up i = absurd (true≢false (sym i))
 among_rank (p ∷ ps) low k up i =
@@ -75,7 +75,7 @@ among_rank (p ∷ ps) low k up i =
     by true e j le more = omega (arith, le, same_rank k p e)
     by false e j le more = omega (arith, le, more j)
 
--- the first of sections in order comes first
+-- The first of sections in order comes first.
 first_over : (ps : List (Option Kind)) (low : ℕ) (c : CustomEntry) (cs : List CustomEntry) → rises low ps ≡ true → is_among c.behind ps ≡ true →
     AreInOrder (place_rank c.behind) cs → over ps (c ∷ cs) ≡ c ∷ over ps cs
 first_over [] low c cs up i h = absurd (true≢false (sym i))

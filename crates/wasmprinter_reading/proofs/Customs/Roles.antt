@@ -1,4 +1,5 @@
--- What the sections `producers` and `dylink.0` of a module that bytes spell hold: names of UTF-8 and numbers of 32 bits.
+-- The contents of the sections `producers` and `dylink.0` of a module that bytes encode: names in UTF-8 and numbers
+-- of 32 bits
 use Rattle.std.proofs.Common.{◌≡◌, ℕ, ◌<◌, ◌^◌, ◌==◌, Bool, true, false, cond, List, [], ◌∷◌, length, Option, Some, None, refl, sym, subst, bytes_eq}
 use Rattle.std.specs.Prelude.{IsUtf8}
 use Rattle.std.proofs.lemmas.Bool.{and_parts}
@@ -29,7 +30,7 @@ pub record IsRangedValue (v : Value) : Type 0 where
 abbrev pub AreRangedValues : Field → Type 0
 AreRangedValues f = AllByRecursion (λ v. IsRangedValue v.value) f.values
 
--- its name can head a group
+-- The name of the field can start a group.
 abbrev pub IsRangedField : Field → Type 0
 IsRangedField f = (is_run f.name ≡ true) × AreRangedValues f
 
@@ -102,9 +103,9 @@ AllGiven-subsections n =
     each : Lenient Subsection
     each = one (λ s. s ∷ []) subsection
 
--- ---- what a section is to the text
+-- ---- the role of a section in the text
 
--- a section with a fault has a name that may stand in a comment
+-- The name of a malformed section may be printed in a comment.
 abbrev pub IsRangedRole : Custom → CustomRole → Type 0
 IsRangedRole c (Listed fields) = AllByRecursion IsRangedField fields
 IsRangedRole c (Linked ss) = AreRangedSubsections ss

@@ -1,4 +1,4 @@
--- Data segments among the fields of a module.
+-- Data segments among the fields of a module
 use Rattle.std.proofs.Common.{◌≡◌, ℕ, ◌==◌, ◌<◌, ◌^◌, Bool, true, false, cond, List, [], ◌∷◌, ◌++◌, append-nil, Some, None, option_map, refl, sym, ap, ◌∙◌, codes, arith}
 use Rattle.std.proofs.lemmas.Bool.{eqb-true}
 use Rattle.wasmprinter_spec.specs.Character.{class}
@@ -29,9 +29,9 @@ use Rattle.wasmprinter_reading.proofs.Fields.Scopes.{own_id, own_index, AreScope
 use Rattle.wasmprinter_reading.proofs.Ranged.{IsRangedExpression, IsRangedDataMode, IsRangedData}
 use Rattle.wasmprinter_reading.proofs.Fields.Expressions.{constant_held, constant_group_writes, AreIndexed, constant_group-items, IsOffset, offset_stands, no_offset}
 
--- ---- what data segments are written as
+-- ---- the items of data segments
 
--- memory 0 is left out
+-- Memory 0 is left out.
 abbrev pub named_memory_items_by : Scope → Bool → ℕ → Forest → Forest
 named_memory_items_by s true m f = f
 named_memory_items_by s false m f = Group (Word (codes "memory") (own_index s row.Memory m)) f
@@ -39,7 +39,7 @@ named_memory_items_by s false m f = Group (Word (codes "memory") (own_index s ro
 abbrev pub named_memory_items : Scope → ℕ → Forest → Forest
 named_memory_items s m f = named_memory_items_by s (m == 0) m f
 
--- the bytes, or three points in a skeleton
+-- The bytes, or `...` in a skeleton
 abbrev pub bytes_items : Bool → List ℕ → Forest
 bytes_items true bs = Word (codes "...") End
 bytes_items false bs = String bs End
@@ -48,15 +48,15 @@ abbrev pub data_mode_items : Scope → DataMode (Placed Operator) → Forest →
 data_mode_items s PassiveData f = f
 data_mode_items s (ActiveData m offset) f = named_memory_items s m (Group (constant_held s (codes "offset") offset) f)
 
--- a data segment without its identifier
+-- A data segment without its identifier
 abbrev pub segment_items : Scope → Bool → Data (Placed Operator) → Forest
 segment_items s skeleton d = data_mode_items s d.mode (bytes_items skeleton d.bytes)
 
--- what a data segment holds behind its word
+-- The items of a data segment after its word
 abbrev pub data_items : Scope → Bool → ℕ → Data (Placed Operator) → Forest
 data_items s skeleton i d = onto (own_id s row.Data i) (segment_items s skeleton d)
 
--- ---- their pieces write it
+-- ---- pieces write the items
 
 pub bytes_write : (skeleton : Bool) (bs : List ℕ) → AreBytes bs → Writes Free (shown_bytes skeleton bs) Bound (bytes_items skeleton bs)
 unfolding class
@@ -105,12 +105,12 @@ module _ (s : Scope) (named : AreNamed s.names) (ranged : AreSignaturesInRange (
       (gap_writes {a = Bound} refl (both_write (data_mode_writes d.value.mode h.mode) (bytes_write skeleton d.value.bytes h.bytes))))) in
       rw (data_mode_onto mode bytes) at held
 
--- ---- they read back
+-- ---- the items read back
 
 strings-items : (bs : List ℕ) → strings (String bs End) ≡ Some bs
 strings-items bs = ap (λ x. Some x) (append-nil bs)
 
--- no identifier stands in front of the mode
+-- The mode does not start with an identifier.
 identifier_in_front-segment : (s : Scope) (d : Data (Placed Operator)) → identifier_in_front (segment_items s false d) ≡ (None, segment_items s false d)
 identifier_in_front-segment s d = by d.mode
   where
@@ -122,23 +122,23 @@ identifier_in_front-segment s d = by d.mode
     by PassiveData = refl
     by (ActiveData m offset) = active (m == 0) m (constant_held s (codes "offset") offset) (String d.bytes End)
 
--- the identifier of a data segment, and what it is
+-- The identifier of a data segment is read, and the items after it are left.
 pub identifier_in_front-data : (s : Scope) (i : ℕ) (d : Data (Placed Operator)) → identifier_in_front (data_items s false i d) ≡ (id (s.names.items row.Data i), segment_items s false d)
 identifier_in_front-data s i d = declaration-items (s.names.items row.Data i) (segment_items s false d) (identifier_in_front-segment s d)
 
 module _ (s : Scope) (c : Context) (n : Counts) (scoped : AreScoped s c n) where
-  -- every index in the mode is declared
+  -- Every index in the mode is declared.
   abbrev pub IsIndexedDataMode : DataMode (Placed Operator) → Type 0
   IsIndexedDataMode PassiveData = Unit {0}
   IsIndexedDataMode (ActiveData m offset) = (m < n.memories) × AreIndexed s n offset
 
-  -- an active segment, behind its memory
+  -- An active segment reads back after its memory.
   active-items : (m : ℕ) (offset : List (Placed Operator)) (f : Forest) → IsRangedExpression offset → AreIndexed s n offset →
       active_in c m (Group (constant_held s (codes "offset") offset) f) ≡ with_bytes c (ActiveData m (without_places offset)) f
   active-items m offset f h d =
       ap (λ o. o >>= λ e. with_bytes c (ActiveData m e) f) (constant_group-items s c n scoped (codes "offset") no_offset offset h d)
 
-  -- the group of an offset is no memory
+  -- The group of an offset does not read as a memory.
   segment-offset : (g f : Forest) → IsOffset g → segment c (Group g f) ≡ active_in c 0 (Group g f)
   segment-offset g f o =
       ap (λ x. segment c (Group x f)) o.is

@@ -1,4 +1,4 @@
--- Element segments among the fields of a module.
+-- Element segments among the fields of a module
 use Rattle.std.proofs.Common.{◌≡◌, ℕ, ◌<◌, ◌^◌, Bool, true, false, cond, List, [], ◌∷◌, ◌++◌, Option, Some, None, option_map, map, refl, sym, ap, ◌∙◌, codes, bytes_eq, arith}
 use Rattle.std.specs.List.{AllByRecursion}
 use Rattle.wasmprinter_spec.specs.Character.{class}
@@ -34,15 +34,15 @@ use Rattle.wasmprinter_reading.proofs.Types.Trees.{ref_items_by, ref_items, ref_
 use Rattle.wasmprinter_reading.proofs.Types.Back.{ref_item, identifier_in_front-ref}
 use Rattle.wasmprinter_reading.proofs.Fields.Expressions.{constant_held, constant_group_writes, AreIndexed, constant_group-items, IsOffset, offset_stands, no_offset, no_item}
 
--- ---- what element segments are written as
+-- ---- the items of element segments
 
--- the table stands there where the bytes name it
+-- The table is printed if the bytes name it.
 abbrev pub named_table_items : Scope → Bool → ℕ → Forest → Forest
 named_table_items s true t f = Group (Word (codes "table") (own_index s row.Table t)) f
 named_table_items s false t f = f
 
 module _ (s : Scope) where
-  -- functions in a row
+  -- Functions, one after the other
   abbrev pub function_row : List ℕ → Forest
   function_row [] = End
   function_row (i ∷ is) = onto (own_index s row.Func i) (function_row is)
@@ -55,27 +55,27 @@ module _ (s : Scope) where
   items_items (Functions is) = Word (codes "func") (function_row is)
   items_items (Expressions t es) = onto (ref_items s.names t) (expressions_items es)
 
-  -- the items, or three points in a skeleton
+  -- The elements, or `...` in a skeleton
   abbrev pub shown_items_items : Bool → Items (Placed Operator) → Forest
   shown_items_items true is = Word (codes "...") End
   shown_items_items false is = items_items is
 
-  -- what stands before the items
+  -- The mode, before the elements
   abbrev pub mode_items : Bool → ElementMode (Placed Operator) → Forest → Forest
   mode_items names Passive f = f
   mode_items names Declared f = Word (codes "declare") f
   mode_items names (Active t offset) f = named_table_items s names t (Group (constant_held s (codes "offset") offset) f)
 
-  -- an element segment without its identifier
+  -- An element segment without its identifier
   abbrev pub segment_items : Bool → ElementEntry → Forest
   segment_items skeleton e =
       mode_items e.names_table e.element.mode (shown_items_items skeleton e.element.items)
 
-  -- what an element segment holds behind its word
+  -- The items of an element segment after its word
   abbrev pub element_items : Bool → ℕ → ElementEntry → Forest
   element_items skeleton i e = onto (own_id s row.Elem i) (segment_items skeleton e)
 
--- ---- their pieces write it
+-- ---- pieces write the items
 
 module _ (s : Scope) (named : AreNamed s.names) (ranged : AreSignaturesInRange (signature_at s.types)) (bare : IsUnpainted s.folding) where
   functions_write : (is : List ℕ) → AllByRecursion (λ i. i < 2 ^ 32) is → Writes Bound (layout.function_items s is) Bound (function_row s is)
@@ -103,7 +103,7 @@ module _ (s : Scope) (named : AreNamed s.names) (ranged : AreSignaturesInRange (
   shown_items_write true is h = word_writes refl nothing_writes
   shown_items_write false is h = items_write is h
 
-  -- the mode, and a blank, before the items
+  -- The mode and a space are written before the elements.
   mode_writes : (names : Bool) (m : ElementMode (Placed Operator)) → IsRangedMode names m → {qs : List piece.Piece} {f : Forest} → Writes Free qs Bound f →
       Writes Bound (mode_pieces s names m ++ (piece.Gap ∷ qs)) Bound (mode_items s names m f)
   unfolding mode_pieces class
@@ -129,9 +129,9 @@ module _ (s : Scope) (named : AreNamed s.names) (ranged : AreSignaturesInRange (
       (both_write (declaration_writes (s.names.items row.Elem i) i (named.items row.Elem i) small)
       (mode_writes e.value.names_table e.value.element.mode h.mode (shown_items_write skeleton e.value.element.items h.items))))
 
--- ---- they read back
+-- ---- the items read back
 
--- no identifier stands in front of the items
+-- The elements do not start with an identifier.
 identifier_in_front-items : (s : Scope) (is : Items (Placed Operator)) → identifier_in_front (items_items s is) ≡ (None, items_items s is)
 identifier_in_front-items s (Functions is) = refl
 identifier_in_front-items s (Expressions t es) = identifier_in_front-ref s.names t.nullable t.heap (expressions_items s es)
@@ -147,18 +147,18 @@ identifier_in_front-segment s e = by e.names_table e.element.mode
     by true (Active t offset) = refl
     by false (Active t offset) = refl
 
--- the identifier of an element segment, and what it is
+-- The identifier of an element segment is read, and the items after it are left.
 pub identifier_in_front-element : (s : Scope) (i : ℕ) (e : ElementEntry) → identifier_in_front (element_items s false i e) ≡ (id (s.names.items row.Elem i), segment_items s false e)
 identifier_in_front-element s i e = declaration-items (s.names.items row.Elem i) (segment_items s false e) (identifier_in_front-segment s e)
 
--- functions in a row, read one by one
+-- Functions, one after the other, read back.
 first_function : (c : Context) (o : Option Named) (i : ℕ) (f : Forest) (is : List ℕ) → index c.spaces.functions (index_items o i) ≡ Some i →
     function_indices c f ≡ Some is → function_indices c (onto (index_items o i) f) ≡ Some (i ∷ is)
 first_function c None i f is h k = rw (h, k)
 first_function c (Some n) i f is h k = rw (h, k)
 
 module _ (s : Scope) (c : Context) (n : Counts) (scoped : AreScoped s c n) where
-  -- every index in the mode and in the items is declared
+  -- Every index in the mode and in the elements is declared.
   abbrev pub IsIndexedMode : ElementMode (Placed Operator) → Type 0
   IsIndexedMode (Active t offset) = (t < n.tables) × AreIndexed s n offset
   IsIndexedMode _ = Unit {0}
@@ -190,7 +190,7 @@ module _ (s : Scope) (c : Context) (n : Counts) (scoped : AreScoped s c n) where
         expressions-items es h d,
       )
 
-  -- a reference type does not begin as other items and other modes do
+  -- A reference type does not start as other elements and other modes do.
   items-typed : (null : Bool) (h : HeapType) (f : Forest) → items c (onto (ref_items_by s.names null h) f) ≡ typed_items c (onto (ref_items_by s.names null h) f)
   items-typed true (Index n) f = refl
   items-typed true _ f = refl
@@ -209,19 +209,19 @@ module _ (s : Scope) (c : Context) (n : Counts) (scoped : AreScoped s c n) where
       items-typed t.nullable t.heap (expressions_items s es)
       ∙ typed_items-items t es (heap_bounded s c n scoped t.heap h.0 d.0) h.1 d.1
 
-  -- a passive segment
+  -- A passive segment reads back.
   segment-passive : (is : Items (Placed Operator)) →
       segment c (items_items s is) ≡ with_mode c Passive (items_items s is)
   segment-passive (Functions is) = refl
   segment-passive (Expressions t es) = segment-typed t.nullable t.heap (expressions_items s es)
 
-  -- an active segment, behind its table
+  -- An active segment reads back after its table.
   active-items : (t : ℕ) (offset : List (Placed Operator)) (f : Forest) → IsRangedExpression offset → AreIndexed s n offset →
       active_in c t (Group (constant_held s (codes "offset") offset) f) ≡ with_mode c (Active t (without_places offset)) f
   active-items t offset f h d =
       ap (λ o. o >>= λ e. with_mode c (Active t e) f) (constant_group-items s c n scoped (codes "offset") no_offset offset h d)
 
-  -- the group of an offset is no type and no table
+  -- The group of an offset does not read as a type or a table.
   segment-offset : (g f : Forest) → IsOffset g → segment c (Group g f) ≡ active_in c 0 (Group g f)
   segment-offset g f o =
       let w : List ℕ = o.word in

@@ -1,4 +1,4 @@
--- Exports among the fields of a module.
+-- Exports among the fields of a module
 use Rattle.std.proofs.Common.{◌≡◌, ℕ, true, ◌<◌, ◌^◌, Some, refl, codes, decimal, chars, arith, encode_utf8_all}
 use Rattle.std.proofs.Math.Utf8.{scalars}
 use Rattle.std.proofs.lemmas.Str.{encodes-chars, scalars-chars, is_utf8-from_IsUtf8}
@@ -24,12 +24,12 @@ use Rattle.wasmprinter_reading.proofs.Items.{index-decimal}
 use Rattle.wasmprinter_reading.proofs.Identifiers.{index_writes}
 use Rattle.wasmprinter_reading.proofs.Fields.Scopes.{own_index, AreScoped, space_of-module, space_of-counted, own_index-reads}
 
--- tags go by their numbers
+-- Tags are printed by their numbers.
 abbrev pub extern_index_items : Scope → ExternKind → ℕ → Forest
 extern_index_items s TagKind n = Word (decimal n) End
 extern_index_items s kind n = own_index s (space_of kind) n
 
--- what an export holds behind its word
+-- The items of an export after its word
 abbrev pub export_items : Scope → Export → Forest
 export_items s e = String e.name (Group (Word (kind_word e.kind) (extern_index_items s e.kind e.index)) End)
 

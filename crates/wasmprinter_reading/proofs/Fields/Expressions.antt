@@ -1,4 +1,4 @@
--- Expressions of fields: flat or folded, or in a group of their own, where a single operator stands alone.
+-- Expressions of fields, flat or folded. In a group of its own, a single operator is the group alone.
 use Rattle.std.proofs.Common.{◌≡◌, ℕ, true, false, cond, List, [], ◌∷◌, Option, Some, None, refl, ap, ◌∙◌, codes, bytes_eq}
 use Rattle.std.specs.List.{AllByRecursion}
 use Rattle.wasmprinter_spec.specs.Grammar.{Placed, ◌>>=◌}
@@ -34,18 +34,18 @@ use Rattle.wasmprinter_reading.proofs.Operators.Lists.{arguments_items, expressi
 use Rattle.wasmprinter_reading.proofs.Folded.Lists.{IsUnpainted, AreFoldable, list_items, unhinted_list_writes, chunks_of_forest-list}
 use Rattle.wasmprinter_reading.proofs.Fields.Scopes.{AreScoped}
 
--- ---- what they are written as
+-- ---- the items
 
--- the operators in one line, flat or folded
+-- The operators in one line, flat or folded
 abbrev pub constant_items : Scope → ℕ → List (Placed Operator) → Forest
 constant_items s nesting os = list_items false s.folding (Some 0) (in_line s nesting) [] os
 
--- what a group of its own holds: one operator alone, else a word and the operators
+-- The items of a group of its own: a single operator alone, or else a word and the operators
 abbrev pub constant_held : Scope → List ℕ → List (Placed Operator) → Forest
 constant_held s w (o ∷ []) = expression_items (in_line s 3) (o.value ∷ [])
 constant_held s w os = Word w (constant_items s 3 os)
 
--- ---- their pieces write it
+-- ---- pieces write the items
 
 module _ (s : Scope) (named : AreNamed s.names) (ranged : AreSignaturesInRange (signature_at s.types)) (bare : IsUnpainted s.folding) where
   constant_writes : (folding : Option Folding) → IsUnpainted folding → (nesting : ℕ) (os : List (Placed Operator)) → AllByRecursion IsListed (without_places os) →
@@ -58,7 +58,7 @@ module _ (s : Scope) (named : AreNamed s.names) (ranged : AreSignaturesInRange (
   unfolding constant_pieces
   in_line_writes nesting os h = constant_writes s.folding bare nesting os h.listed
 
-  -- one operator stands right behind a bare parenthesis
+  -- A single operator may directly follow a parenthesis.
   alone_writes : (o : Placed Operator) → IsRangedExpression (o ∷ []) → Writes Opened (expression_pieces (in_line s 3) (o ∷ [])) Bound (expression_items (in_line s 3) (o.value ∷ []))
   unfolding expression_pieces operators_pieces operator_pieces
   alone_writes o h =
@@ -69,7 +69,7 @@ module _ (s : Scope) (named : AreNamed s.names) (ranged : AreSignaturesInRange (
       (writes_by (in_line s 3) named ranged (labels_inside role []) (labels_outside role []) own (outside_labels role [] tt) (named.labels s.function 0 0) (shape_of o.value.opcode) o.value.immediates h.listed.0.range))
       nothing_writes
 
-  -- a word and operators
+  -- A word and the operators after it
   worded_writes : (w : List ℕ) (os : List (Placed Operator)) → is_word w ≡ true → IsRangedExpression os →
       Writes Opened (piece.Word w ∷ (piece.Gap ∷ constant_pieces s 3 os)) Bound (Word w (constant_items s 3 os))
   worded_writes w os h r = opened_word_writes h (gap_writes refl (in_line_writes 3 os r))
@@ -81,9 +81,9 @@ module _ (s : Scope) (named : AreNamed s.names) (ranged : AreSignaturesInRange (
   constant_group_writes w (o ∷ []) e h r = bare_group_writes 2 _ _ e (alone_writes o r)
   constant_group_writes w (o ∷ p ∷ os) e h r = bare_group_writes 2 _ _ e (worded_writes w (o ∷ p ∷ os) h r)
 
--- ---- they read back
+-- ---- the items read back
 
--- operators of which every used index is declared, and which can be folded where they are
+-- Every index that the operators use is declared, and the operators can be folded if they are.
 abbrev pub AreIndexed : Scope → Counts → List (Placed Operator) → Type 0
 AreIndexed s n os = AllByRecursion (IsIndexedOperator n) (without_places os) × AreFoldable s.folding os
 
@@ -114,7 +114,7 @@ module _ (s : Scope) (c : Context) (n : Counts) (scoped : AreScoped s c n) (nest
       (chunks_of_forest-list s.folding (Some 0) (in_line s nesting) scoped.named scoped.types.in_range [] os h.listed h.nested d.1) ∙ chunks-read os h d
 
 module _ (s : Scope) (c : Context) (n : Counts) (scoped : AreScoped s c n) where
-  -- behind the word of the group
+  -- The operators after the word of the group read back.
   worded-items : (w : List ℕ) (os : List (Placed Operator)) → IsRangedExpression os → AreIndexed s n os →
       expression_group c w (Word w (constant_items s 3 os)) ≡ Some (without_places os)
   worded-items w os h d =
@@ -146,7 +146,7 @@ module _ (s : Scope) (c : Context) (n : Counts) (scoped : AreScoped s c n) where
 
 -- ---- the offset of a segment
 
--- the group of an offset begins with a word that is none of these
+-- The group of an offset starts with a word that starts no other group of a segment.
 pub record IsOffset (f : Forest) : Type 0 where
   pub word : List ℕ
   pub rest : Forest

@@ -1,4 +1,4 @@
--- Functions among the fields of a module.
+-- Functions among the fields of a module
 use Rattle.std.proofs.Common.{◌≡◌, ℕ, zero, suc, ◌+◌, ◌-◌, ◌<◌, ◌≤◌, ◌^◌, true, false, Bool, bytes_eq, cond, List, [], ◌∷◌, ◌++◌, length, Option, Some, None, refl, ap, ◌∙◌, subst, codes, replicate, arith}
 use Rattle.std.specs.List.{AllByRecursion}
 use Rattle.wasmprinter_spec.specs.Character.{class}
@@ -45,21 +45,21 @@ use Rattle.wasmprinter_reading.proofs.Folded.Begins.{BeginsCode, list_begins}
 use Rattle.wasmprinter_reading.proofs.Fields.Scopes.{own_index, AreScoped, own_index-reads, type_bound, type_indices-read, vals_bounded, signature_bounded, signature_declared}
 use Rattle.wasmprinter_reading.proofs.Fields.Headers.{header_items, header_writes, identifier_in_front-header}
 
--- ---- what functions are written as
+-- ---- the items of functions
 
--- the locals behind so many parameters
+-- The locals after `count` parameters
 abbrev local_items : Scope → ℕ → List ValType → Forest
 local_items s count ls = groups_items s.names (codes "local") (variable_groups (s.names.locals s.function) count ls)
 
--- the operators, with their hints or without
+-- The operators, with their hints or without
 abbrev pub body_items : Bool → Scope → List (Placed Hint) → PlacedFunction → Forest
 body_items hints s hs f = list_items hints s.folding (result_count s f.type_index) (over_lines s f.body.place) hs f.body.value.operators
 
--- what a function holds behind its type
+-- The items of a function after its type
 abbrev inner_items : Bool → Scope → List (Placed Hint) → ℕ → PlacedFunction → Forest
 inner_items hints s hs count f = onto (local_items s count (locals_of f.body.value.locals)) (body_items hints s hs f)
 
--- a function with this behind its type, or a skeleton
+-- A function with these items after its type, or `...` in a skeleton
 abbrev function_items_by : Bool → Scope → PlacedFunction → Forest → Forest
 function_items_by true s f inner = header_items s Func (Some s.function) s.function f.type_index (Word (codes "...") End)
 function_items_by false s f inner = header_items s Func (Some s.function) s.function f.type_index inner
@@ -75,15 +75,15 @@ abbrev pub function_hinted : Bool → Scope → ℕ → List (Placed Hint) → P
 function_hinted skeleton s i hs f =
     function_items_by skeleton (scope_of_function s i) f (inner_items true (scope_of_function s i) hs (own_parameter_count s f) f)
 
--- functions from i on, each with its hints
+-- Functions from index `i` on, each with its hints
 abbrev pub functions_hinted : Bool → Scope → List FunctionHints → ℕ → List PlacedFunction → Forest
 functions_hinted skeleton s es i [] = End
 functions_hinted skeleton s es i (f ∷ fs) =
     Group (Word (codes "func") (function_hinted skeleton s i (next_hints i es) f)) (functions_hinted skeleton s (hints_behind i es) (i + 1) fs)
 
--- ---- their pieces write it
+-- ---- pieces write the items
 
--- the same type many times
+-- If a type is in range, then so is each of its repetitions.
 replicated_ranged : (n : ℕ) (t : ValType) (ts : List ValType) → IsRangedVal t → AllByRecursion IsRangedVal ts → AllByRecursion IsRangedVal (replicate n t ++ ts)
 replicated_ranged zero t ts h r = r
 replicated_ranged (suc n) t ts h r = (h, replicated_ranged n t ts h r)
@@ -100,7 +100,7 @@ has_break-behind (p ∷ hs) ps h = by (breaks p) (has_break-behind hs ps h)
     by true e = refl
     by false e = e
 
--- operators begin with a line
+-- The first operator begins a line.
 body_breaks : (s : Scope) (place : ℕ) (hs : List (Placed Hint)) (o : Placed Operator) (os : List (Placed Operator)) →
     has_break (operators_pieces (over_lines s place) hs true 0 [] (o ∷ os)) ≡ true
 unfolding operators_pieces operator_pieces
@@ -133,7 +133,7 @@ module _ (s : Scope) (named : AreNamed s.names) (ranged : AreSignaturesInRange (
   unfolding operators_pieces
   empty_body_writes place hs = nothing_writes
 
-  -- a function closes on a line of its own behind its operators, so that no comment hides its parenthesis
+  -- A function closes on a line of its own after its operators, so that no line comment contains its parenthesis.
   pub function_group_writes : {a : Edge} → is_open a ≡ true → (skeleton offsets : Bool) (hs : List (Placed Hint)) (f : PlacedFunction) → s.function < 2 ^ 64 → IsRangedFunction f →
       WritesNoted a (function_group skeleton offsets s hs f) Bound
       (Group (Word (codes "func") (function_items_by skeleton s f (inner_items false s hs (own_parameter_count s f) f))) End)
@@ -195,9 +195,9 @@ pub function_writes : (s : Scope) → AreNamed s.names → AreSignaturesInRange 
 function_writes s named ranged bare e skeleton offsets i hs f h r =
     function_group_writes (scope_of_function s i) named ranged bare e skeleton offsets hs f h r
 
--- ---- they read back
+-- ---- the items read back
 
--- operators don't begin as parameters, results or locals do
+-- Operators do not start as parameters, results or locals do.
 groups_operators : {A : Type 0} (read : Forest → Option (List A)) (w : List ℕ) → ((v : List ℕ) → StandsAlone v → bytes_eq v w ≡ false) → (f : Forest) → BeginsCode f →
     groups read w f ≡ Some ([], f)
 unfolding groups
@@ -216,7 +216,7 @@ no_result v a = differs v (codes "result") a refl
 no_local : (v : List ℕ) → StandsAlone v → bytes_eq v (codes "local") ≡ false
 no_local v a = differs v (codes "local") a refl
 
--- parameters and the locals behind them are one space
+-- The parameters and the locals after them are one index space.
 variables_space : (named : ℕ → Option Named) → AreDistinct named → (count : ℕ) (ls : List ValType) → count + length ls ≤ 2 ^ 64 →
     index_space (identifiers named count ++ ids_of (declared_from named count ls)) ≡ Some (identifiers named (count + length ls))
 variables_space named apart count ls few =
@@ -228,7 +228,7 @@ variables_space named apart count ls few =
     ap index_space are ∙ identifiers_space named apart (count + length ls) few
 
 module _ (s : Scope) (c : Context) (n : Counts) (scoped : AreScoped s c n) (i count : ℕ) (few : count ≤ 2 ^ 64) (place : ℕ) where
-  -- what a function's operators are counted in and read with: so many parameters and locals
+  -- The counts and the context of the operators of a function with this number of parameters and locals
   abbrev own_counts : Counts
   own_counts = record n { locals = count }
 
@@ -283,16 +283,16 @@ module _ (s : Scope) (c : Context) (n : Counts) (scoped : AreScoped s c n) (i co
       expression_reads (over_lines (scope_of_function s i) place) own_context own_counts own_types own_names scoped.apart
       f.body.value.operators (record { listed = h.body.listed; nested = h.body.nested; count = h.body.count; indexed = d })
 
--- how many parameters and locals a function has
+-- The number of parameters and locals of a function
 abbrev pub variable_count : Option FuncType → PlacedFunction → ℕ
 variable_count t f = parameter_count t + length (locals_of f.body.value.locals)
 
--- what its operators are counted in
+-- The counts for the operators of a function
 abbrev pub counts_with : Counts → Option FuncType → PlacedFunction → Counts
 counts_with n t f = record n { locals = variable_count t f }
 
 module _ (s : Scope) (c : Context) (n : Counts) (scoped : AreScoped s c n) where
-  -- what a function holds behind its identifier
+  -- The items of a function after its identifier read back.
   typed-items : (i : ℕ) (hs : List (Placed Hint)) (t : FuncType) (f : PlacedFunction) → signature_at s.types f.type_index ≡ Some t → IsRangedFunction f →
       AllByRecursion (IsDeclaredVal n.types) (locals_of f.body.value.locals) → variable_count (Some t) f ≤ 2 ^ 64 →
       AllByRecursion (IsIndexedOperator (counts_with n (Some t) f)) (without_places f.body.value.operators) → AreFoldable s.folding f.body.value.operators →
@@ -352,7 +352,7 @@ module _ (s : Scope) (c : Context) (n : Counts) (scoped : AreScoped s c n) where
       ∙ typed-items i hs t f own h locals (subst (λ x. variable_count x f ≤ 2 ^ 64) own few)
       (subst (λ x. AllByRecursion (IsIndexedOperator (counts_with n x f)) os) own d) foldable
 
--- the identifier of a function
+-- The identifier of a function is read.
 pub identifier_in_front-function : (s : Scope) (i : ℕ) (hs : List (Placed Hint)) (f : PlacedFunction) → (identifier_in_front (function_items false s i hs f)).0 ≡ id (s.names.items Func i)
 identifier_in_front-function s i hs f =
     ap (λ x. x.0)

@@ -1,4 +1,4 @@
--- Globals among the fields of a module.
+-- Globals among the fields of a module
 use Rattle.std.proofs.Common.{◌≡◌, inl, inr, ℕ, ◌<◌, ◌^◌, Bool, true, false, [], Some, None, refl, codes}
 use Rattle.wasmprinter_spec.specs.Character.{class}
 use Rattle.wasmprinter_spec.specs.Grammar.{Placed}
@@ -31,7 +31,7 @@ use Rattle.wasmprinter_reading.proofs.Folded.Lists.{IsUnpainted}
 use Rattle.wasmprinter_reading.proofs.Fields.Scopes.{own_id, AreScoped, type_bound, type_indices-read, val_bounded}
 use Rattle.wasmprinter_reading.proofs.Fields.Expressions.{constant_items, in_line_writes, AreIndexed, expression-items}
 
--- ---- what globals are written as
+-- ---- the items of globals
 
 abbrev pub mutable_items : Names → Bool → ValType → Forest
 mutable_items names true t = Group (Word (codes "mut") (val_items names t)) End
@@ -40,11 +40,11 @@ mutable_items names false t = val_items names t
 abbrev pub global_type_items : Names → GlobalType → Forest
 global_type_items names t = mutable_items names t.mutable t.type
 
--- what a global holds behind its word
+-- The items of a global after its word
 abbrev pub global_items : Scope → ℕ → Global (Placed Operator) → Forest
 global_items s i g = onto (own_id s row.Global i) (onto (global_type_items s.names g.type) (constant_items s 2 g.init))
 
--- ---- their pieces write it
+-- ---- pieces write the items
 
 module _ (names : Names) (named : AreNamed names) where
   mutable_writes : (mut : Bool) (t : ValType) → IsRangedVal t → Writes Free (mutable_pieces names mut t) Bound (mutable_items names mut t)
@@ -66,9 +66,9 @@ global_writes s named ranged bare i g small h =
     (gap_writes {a = Bound} refl (both_write (global_type_writes s.names named g.value.type h.type)
     (gap_writes {a = Bound} refl (in_line_writes s named ranged bare 2 g.value.init h.init))))))
 
--- ---- they read back
+-- ---- the items read back
 
--- no identifier stands in front of the type
+-- The type does not start with an identifier.
 identifier_in_front-mutable : (names : Names) (mut : Bool) (t : ValType) (f : Forest) → identifier_in_front (onto (mutable_items names mut t) f) ≡ (None, onto (mutable_items names mut t) f)
 identifier_in_front-mutable names true t f = refl
 identifier_in_front-mutable names false t f = identifier_in_front-val names t f
@@ -77,7 +77,7 @@ pub identifier_in_front-global_type : (names : Names) (t : GlobalType) (f : Fore
     identifier_in_front (onto (global_type_items names t) f) ≡ (None, onto (global_type_items names t) f)
 identifier_in_front-global_type names t f = identifier_in_front-mutable names t.mutable t.type f
 
--- the identifier of a global, and what it is
+-- The identifier of a global is read, and the items after it are left.
 pub identifier_in_front-global : (s : Scope) (i : ℕ) (g : Global (Placed Operator)) →
     identifier_in_front (global_items s i g) ≡ (id (s.names.items row.Global i), onto (global_type_items s.names g.type) (constant_items s 2 g.init))
 identifier_in_front-global s i g =

@@ -1,5 +1,5 @@
--- What functions and tags begin with: an identifier, the index of a type, and its signature. It is all that a tag holds, and a
--- function or tag that is imported.
+-- The header of functions and tags: an identifier, the index of a type, and its signature. A tag, and a function or
+-- tag that is imported, consists of the header alone.
 use Rattle.std.proofs.Common.{◌≡◌, ℕ, ◌<◌, ◌^◌, [], List, ◌++◌, length, Option, Some, None, refl, ap, ◌∙◌, subst, append-nil, arith}
 use Rattle.wasmprinter_spec.specs.Forest.{Forest, End, onto}
 use Rattle.wasmprinter_spec.specs.Types.{FuncType, signature_at}
@@ -26,11 +26,11 @@ use Rattle.wasmprinter_reading.proofs.Types.Trees.{signature_items, type_use_ite
 use Rattle.wasmprinter_reading.proofs.Types.Back.{end_behind_signature, printed_signature, signature-items, own_parameters}
 use Rattle.wasmprinter_reading.proofs.Fields.Scopes.{own_id, own_index, AreScoped, own_index-reads, type_bound, type_indices-read, signature_bounded, signature_declared}
 
--- the type and its signature, with the parameters of a function or of none
+-- The type and its signature, with the identifiers of the parameters of a function or of none
 abbrev pub use_items : Scope → Option ℕ → ℕ → Forest
 use_items s f type_index = type_use_items s.names f type_index (signature_at s.types type_index)
 
--- the declaration and its type, before the rest
+-- The declaration and its type, before the rest
 abbrev pub header_items : Scope → Space → Option ℕ → ℕ → ℕ → Forest → Forest
 header_items s space f i type_index rest = onto (own_id s space i) (onto (use_items s f type_index) rest)
 
@@ -48,28 +48,28 @@ module _ (s : Scope) (named : AreNamed s.names) (ranged : AreSignaturesInRange (
       (both_write (both_write (declaration_writes (s.names.items space i) i (named.items space i) h)
       (gap_writes {a = Bound} refl (type_use_writes s.names named f type_index (signature_at s.types type_index) refl r (ranged type_index)))) w))
 
-  -- where nothing stands behind it
+  -- A header without items after it
   pub header_alone_writes : (space : Space) (f : Option ℕ) (i type_index : ℕ) → i < 2 ^ 64 → type_index < 2 ^ 32 →
       Writes Free (header_pieces s space f i type_index) Bound (header_items s space f i type_index End)
   header_alone_writes space f i type_index h r = rw append-nil at (header_writes space f i type_index [] End End h r nothing_writes)
 
--- the identifier, and the rest
+-- The identifier is read, and the items after it are left.
 pub identifier_in_front-header : (s : Scope) (space : Space) (f : Option ℕ) (i type_index : ℕ) (rest : Forest) →
     identifier_in_front (header_items s space f i type_index rest) ≡ (id (s.names.items space i), onto (use_items s f type_index) rest)
 identifier_in_front-header s space f i type_index rest = declaration-items (s.names.items space i) (onto (use_items s f type_index) rest) refl
 
--- ---- they read back
+-- ---- the items read back
 
 module _ (s : Scope) (c : Context) (n : Counts) (scoped : AreScoped s c n) where
   parameters_apart : (f : Option ℕ) → AreDistinct (parameters_of s.names f)
   parameters_apart None i j a b p q e g h = absurd cc
   parameters_apart (Some f) i j a b p q e g h = scoped.apart.locals f i j a b p q e g h
 
-  -- so few parameters
+  -- A function type has fewer than 2 ^ 32 parameters.
   pub parameters_fit : (t : FuncType) (i : ℕ) → signature_at s.types i ≡ Some t → length t.params < 2 ^ 32
   parameters_fit t i own = subst (λ o. parameter_count o < 2 ^ 32) own (scoped.few i)
 
-  -- the type is a function type
+  -- A type use reads as the index of its function type.
   pub use-items : (f : Option ℕ) (t : FuncType) (i : ℕ) → signature_at s.types i ≡ Some t → i < 2 ^ 32 → type_index c (onto (use_items s f i) End) ≡ Some i
   use-items f t i own small =
       let ids : Identifiers = c.spaces.types in

@@ -1,4 +1,4 @@
--- Imports among the fields of a module.
+-- Imports among the fields of a module
 use Rattle.std.proofs.Common.{◌≡◌, ℕ, suc, ◌+◌, ◌<◌, ◌≤◌, ◌^◌, true, List, [], ◌∷◌, length, Some, None, option_map, refl, ap, codes, chars, arith, encode_utf8_all}
 use Rattle.std.specs.List.{AllByRecursion}
 use Rattle.std.proofs.Math.Utf8.{scalars}
@@ -34,7 +34,7 @@ use Rattle.wasmprinter_reading.proofs.Fields.Tables.{table_type_items, table_typ
 use Rattle.wasmprinter_reading.proofs.Fields.Memories.{memory_type_items, memory_type_writes, memory_type-items, identifier_in_front-memory_type}
 use Rattle.wasmprinter_reading.proofs.Fields.Globals.{global_type_items, global_type_writes, global_type-items, identifier_in_front-global_type}
 
--- ---- what imports are written as
+-- ---- the items of imports
 
 abbrev pub extern_word : ExternType → List ℕ
 extern_word (FuncExtern i) = codes "func"
@@ -43,7 +43,7 @@ extern_word (MemoryExtern t) = codes "memory"
 extern_word (GlobalExtern t) = codes "global"
 extern_word (TagExtern i) = codes "tag"
 
--- with its number
+-- The imported item with its number
 abbrev pub extern_items : Scope → ℕ → ExternType → Forest
 extern_items s n (FuncExtern i) = header_items s Func (Some n) n i End
 extern_items s n (TableExtern t) = onto (own_id s row.Table n) (table_type_items s.names t)
@@ -51,7 +51,7 @@ extern_items s n (MemoryExtern t) = onto (own_id s row.Memory n) (memory_type_it
 extern_items s n (GlobalExtern t) = onto (own_id s row.Global n) (global_type_items s.names t)
 extern_items s n (TagExtern i) = header_items s Tag None n i End
 
--- what an import holds behind its word
+-- The items of an import after its word
 abbrev pub import_items : Scope → ℕ → Import → Forest
 import_items s n i = String i.source (String i.name (Group (Word (extern_word i.type) (extern_items s n i.type)) End))
 
@@ -60,9 +60,9 @@ imports_items s n [] = End
 imports_items s n (i ∷ is) =
     Group (Word (codes "import") (import_items s (number_of i.value.type n) i.value)) (imports_items s (numbers_behind i.value.type n) is)
 
--- ---- their pieces write it
+-- ---- pieces write the items
 
--- there are at most so many of each kind with n more
+-- With `more` items of a kind added, there are at most 2 ^ 64 of that kind.
 pub record LeaveRoom (n : Numbers) (more : ℕ) : Type 0 where
   pub functions : n.functions + more ≤ 2 ^ 64
   pub tables : n.tables + more ≤ 2 ^ 64
@@ -70,7 +70,7 @@ pub record LeaveRoom (n : Numbers) (more : ℕ) : Type 0 where
   pub globals : n.globals + more ≤ 2 ^ 64
   pub tags : n.tags + more ≤ 2 ^ 64
 
--- the number of the next import
+-- The number of the next import is below 2 ^ 64.
 number_small : (t : ExternType) (n : Numbers) (more : ℕ) → LeaveRoom n (suc more) → number_of t n < 2 ^ 64
 number_small (FuncExtern i) n more h = omega (arith, h.functions)
 number_small (TableExtern t) n more h = omega (arith, h.tables)
@@ -78,7 +78,7 @@ number_small (MemoryExtern t) n more h = omega (arith, h.memories)
 number_small (GlobalExtern t) n more h = omega (arith, h.globals)
 number_small (TagExtern i) n more h = omega (arith, h.tags)
 
--- an import takes a place of its kind
+-- An import takes one number of its kind.
 room_behind : (t : ExternType) (n : Numbers) (more : ℕ) → LeaveRoom n (suc more) → LeaveRoom (numbers_behind t n) more
 room_behind t n more h =
     by t (omega (arith, h.functions)) (omega (arith, h.tables)) (omega (arith, h.memories)) (omega (arith, h.globals)) (omega (arith, h.tags))
@@ -131,7 +131,7 @@ module _ (s : Scope) (named : AreNamed s.names) (ranged : AreSignaturesInRange (
       both_write (import_writes (number_of i.value.type n) i (number_small i.value.type n (length is) room) h.0)
       (imports_write (numbers_behind i.value.type n) is (room_behind i.value.type n (length is) room) h.1)
 
--- ---- they read back
+-- ---- the items read back
 
 kind_of_word-extern : (t : ExternType) → kind_of_word (extern_word t) ≡ Some (kind_of_extern t)
 unfolding kind_of_word
@@ -145,7 +145,7 @@ pub import_field-items : (s : Scope) (n : ℕ) (i : Import) → IsRangedImport i
     import_field (import_items s n i) ≡ Some (field_of i.source i.name (extern_items s n i.type) (kind_of_extern i.type))
 import_field-items s n i h = rw (is_utf8-from_IsUtf8 i.source h.source, is_utf8-from_IsUtf8 i.name h.name, kind_of_word-extern i.type)
 
--- what is imported, behind its identifier
+-- The items of an imported item after its identifier
 abbrev pub behind_id : Scope → ℕ → ExternType → Forest
 behind_id s n (FuncExtern i) = onto (use_items s (Some n) i) End
 behind_id s n (TableExtern t) = table_type_items s.names t
@@ -163,7 +163,7 @@ identifier_in_front-extern s n (GlobalExtern t) =
     declaration-items (s.names.items row.Global n) (global_type_items s.names t) (rw onto-End at (identifier_in_front-global_type s.names t End))
 identifier_in_front-extern s n (TagExtern i) = identifier_in_front-header s Tag None n i End
 
--- every index in the type of what is imported is declared
+-- Every index in the type of an imported item is declared.
 abbrev pub IsScopedExtern : Scope → Counts → ExternType → Type 0
 IsScopedExtern s n (FuncExtern i) = (t : FuncType) × (signature_at s.types i ≡ Some t)
 IsScopedExtern s n (TableExtern t) = IsDeclaredHeap n.types t.element.heap

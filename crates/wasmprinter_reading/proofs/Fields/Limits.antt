@@ -1,4 +1,4 @@
--- Limits of memories and tables, with the type of addresses in front.
+-- Limits of memories and tables, with the type of addresses before them
 use Rattle.std.proofs.Common.{◌≡◌, ℕ, ◌<◌, ◌^◌, Bool, true, false, Option, Some, None, refl, sym, ap, ◌∙◌, codes, decimal, bytes_eq, List, ◌∷◌}
 use Rattle.std.proofs.lemmas.Bool.{false_from_ne_true}
 use Rattle.wasmprinter_spec.specs.Character.{class}
@@ -16,7 +16,7 @@ use Rattle.wasmprinter_lexical.proofs.Writes.{Writes, writing, nothing_writes, w
 use Rattle.wasmprinter_reading.proofs.Ranged.{IsRangedMax}
 use Rattle.wasmprinter_reading.proofs.Bytes.{bytes_same}
 
--- ---- what they are written as
+-- ---- the items
 
 abbrev pub wide_items : Bool → Forest
 wide_items true = Word (codes "i64") End
@@ -25,7 +25,7 @@ wide_items false = End
 abbrev pub limits_items : Limits → Forest
 limits_items l = Word (decimal l.min) (words_before (max_words l.max) End)
 
--- ---- their pieces write it
+-- ---- pieces write the items
 
 pub wide_writes : (wide : Bool) → Writes Free (wide_pieces wide) Free (wide_items wide)
 unfolding class
@@ -42,9 +42,9 @@ limits_write l h k =
     let words : are_words (decimal l.min ∷ max_words l.max) ≡ true = rw (is_word-decimal l.min h) (are_words-max l.max k) in
     search writing
 
--- ---- they read back
+-- ---- the items read back
 
--- a number is no word that is none
+-- The text of a number differs from each word that is not a number.
 not_word : (n : ℕ) (w : List ℕ) → n < 2 ^ 64 → natural w ≡ None → bytes_eq (decimal n) w ≡ false
 not_word n w h none =
     false_from_ne_true (bytes_eq (decimal n) w) (λ e.
@@ -65,7 +65,7 @@ pub address_type-items : (wide : Bool) (l : Limits) (f : Forest) → l.min < 2 ^
 address_type-items true l f h = refl
 address_type-items false l f h = rw (not_word l.min (codes "i64") h no_i64, not_word l.min (codes "i32") h no_i32)
 
--- no number stands in front
+-- The items do not start with a number.
 abbrev pub IsNoNumber : Forest → Type 0
 IsNoNumber f = (min : ℕ) → max_behind min f ≡ (limits_of min None, f)
 
@@ -78,7 +78,7 @@ pub limits-items : (l : Limits) (f : Forest) → l.min < 2 ^ 64 → IsRangedMax 
     limits (onto (limits_items l) f) ≡ Some (l, f)
 limits-items l f h k behind = rw (u64-decimal l.min h, max-items l.min l.max f k behind)
 
--- no identifier stands in front
+-- The limits do not start with an identifier.
 pub identifier_in_front-limits : (wide : Bool) (l : Limits) (f : Forest) →
     identifier_in_front (onto (wide_items wide) (onto (limits_items l) f)) ≡ (None, onto (wide_items wide) (onto (limits_items l) f))
 identifier_in_front-limits true l f = refl

@@ -1,4 +1,4 @@
--- Memories among the fields of a module.
+-- Memories among the fields of a module
 use Rattle.std.proofs.Common.{◌≡◌, ℕ, ◌<◌, ◌^◌, Bool, true, false, cond, List, ◌++◌, Option, Some, None, refl, ap, ◌∙◌, codes, arith}
 use Rattle.std.proofs.lemmas.Bool.{lt-ltb}
 use Rattle.std.proofs.Math.Pow.{pow-lt}
@@ -25,13 +25,13 @@ use Rattle.wasmprinter_reading.proofs.Operators.Memory.{exponent_below-power}
 use Rattle.wasmprinter_reading.proofs.Fields.Scopes.{own_id}
 use Rattle.wasmprinter_reading.proofs.Fields.Limits.{wide_items, limits_items, wide_writes, limits_write, IsNoNumber, address_type-items, limits-items, identifier_in_front-limits}
 
--- ---- what memories are written as
+-- ---- the items of memories
 
 abbrev shared_items : Bool → Forest
 shared_items true = Word (codes "shared") End
 shared_items false = End
 
--- the size of a page
+-- The text of the size of a page
 abbrev size_text : ℕ → List ℕ
 size_text e = codes "0x" ++ digits 16 false (2 ^ e)
 
@@ -42,18 +42,18 @@ page_items (Some e) = Group (Word (codes "pagesize") (Word (size_text e) End)) E
 abbrev pub memory_type_items : MemoryType → Forest
 memory_type_items m = onto (wide_items m.wide) (onto (limits_items m.limits) (onto (shared_items m.shared) (page_items m.page)))
 
--- what a memory holds behind its word
+-- The items of a memory after its word
 abbrev pub memory_items : Scope → ℕ → MemoryType → Forest
 memory_items s i m = onto (own_id s Memory i) (memory_type_items m)
 
--- ---- their pieces write it
+-- ---- pieces write the items
 
 shared_writes : (shared : Bool) → Writes Bound (shared_pieces shared) Bound (shared_items shared)
 unfolding class
 shared_writes true = search writing
 shared_writes false = nothing_writes
 
--- the size of a page fits into 64 bits
+-- The size of a page is below 2 ^ 64.
 size_fits : (e : ℕ) → e < 64 → 2 ^ e < 2 ^ 64
 size_fits e h = pow-lt h
 
@@ -77,9 +77,9 @@ memory_writes s named i m h r =
     break_writes (line_group_gap_writes (codes "memory") _ refl refl
     (both_write (declaration_writes (s.names.items Memory i) i (named.items Memory i) h) (gap_writes {a = Bound} refl (memory_type_writes m.value r))))
 
--- ---- they read back
+-- ---- the items read back
 
--- what stands behind the limits
+-- The items after the limits
 abbrev behind_items : Bool → Option ℕ → Forest
 behind_items shared e = onto (shared_items shared) (page_items e)
 
@@ -105,7 +105,7 @@ page-items : (e : Option ℕ) → IsRangedPage e → page (page_items e) ≡ Som
 page-items None h = refl
 page-items (Some e) h = ap (λ o. o >>= λ n. Some (Some n)) (exponent_of-size e h)
 
--- no identifier stands in front
+-- The type does not start with an identifier.
 pub identifier_in_front-memory_type : (m : MemoryType) → identifier_in_front (memory_type_items m) ≡ (None, memory_type_items m)
 identifier_in_front-memory_type m = identifier_in_front-limits m.wide m.limits (behind_items m.shared m.page)
 
@@ -118,7 +118,7 @@ memory_type-items m h =
       page-items m.page h.page,
     )
 
--- the identifier of a memory, and what it is
+-- The identifier of a memory is read, and the items after it are left.
 pub identifier_in_front-memory : (s : Scope) (i : ℕ) (m : MemoryType) → identifier_in_front (memory_items s i m) ≡ (id (s.names.items Memory i), memory_type_items m)
 identifier_in_front-memory s i m = declaration-items (s.names.items Memory i) (memory_type_items m) (identifier_in_front-memory_type m)
 

@@ -1,4 +1,5 @@
--- What fields are laid out by, read with and counted in: the same types and the same identifiers.
+-- The scope of the layout, the context of the reader and the counts of fields have the same types and the same
+-- identifiers.
 use Rattle.std.proofs.Common.{◌≡◌, ℕ, ◌<◌, ◌^◌, List, Some, refl, subst, ◌∙◌, min}
 use Rattle.std.specs.List.{AllByRecursion}
 use Rattle.wasmprinter_spec.specs.Forest.{Forest}
@@ -14,15 +15,16 @@ use Rattle.wasmprinter_reading.specs.OperatorLaws.{count_in, HaveSameTypes, Have
 use Rattle.wasmprinter_reading.proofs.Identifiers.{index_items, id_items, Declares, Reads, index_reads, of_least, reads_least}
 use Rattle.wasmprinter_reading.proofs.Types.Ranged.{IsRangedHeap, IsRangedVal}
 
--- what an item is written as where it is declared, before what it is
+-- The identifier in the declaration of an item
 abbrev pub own_id : Scope → Space → ℕ → Forest
 own_id s space i = id_items (s.names.items space i)
 
--- what an index of an item is written as
+-- The items of an index
 abbrev pub own_index : Scope → Space → ℕ → Forest
 own_index s space i = index_items (s.names.items space i) i
 
--- types and identifiers are the same, and identifiers are apart
+-- Types and identifiers are the same, identifiers are apart and UTF-8, and each function type has fewer than 2 ^ 32
+-- parameters.
 pub record AreScoped (s : Scope) (c : Context) (n : Counts) : Type 0 where
   pub types : HaveSameTypes (in_line s 2) c n
   pub names : HaveSameNames (in_line s 2) c n
@@ -30,7 +32,7 @@ pub record AreScoped (s : Scope) (c : Context) (n : Counts) : Type 0 where
   pub named : AreNamed s.names
   pub few : (i : ℕ) → parameter_count (signature_at s.types i) < 2 ^ 32
 
--- a space of the module
+-- An index space of the module, not of a function
 abbrev pub IsOfModule : Space → Type 0
 IsOfModule space = (names : Names) (f : ℕ) → in_function names f space ≡ names.items space
 
@@ -56,19 +58,19 @@ module _ (s : Scope) (c : Context) (n : Counts) (scoped : AreScoped s c n) where
     apart = scoped.apart.items space;
   }
 
-  -- an index of an item that is counted reads as itself
+  -- An index of a counted item reads as itself.
   pub own_index-reads : (space : Space) → IsOfModule space → (i : ℕ) → i < count_in n space → i < 2 ^ 32 →
       index (space_in c.spaces space) (own_index s space i) ≡ Some i
   own_index-reads space own i declared small = index_reads (space_in c.spaces space) (s.names.items space) (count_in n space) (scope_declares space own) i declared small
 
-  -- indices of types below this read as themselves
+  -- Type indices below this bound read as themselves.
   abbrev pub type_bound : ℕ
   type_bound = min (2 ^ 32) n.types
 
   pub type_indices-read : Reads c.spaces.types (s.names.items Types) type_bound
   type_indices-read = reads_least c.spaces.types (s.names.items Types) n.types (scope_declares Types (λ names f. refl))
 
-  -- what is in range and declared
+  -- Indices that are in range and declared are below the bound.
   pub heap_bounded : (h : HeapType) → IsRangedHeap h → IsDeclaredHeap n.types h → IsDeclaredHeap type_bound h
   heap_bounded h r d = of_least (λ k. IsDeclaredHeap k h) (2 ^ 32) n.types r d
 
@@ -78,7 +80,7 @@ module _ (s : Scope) (c : Context) (n : Counts) (scoped : AreScoped s c n) where
   pub vals_bounded : (ts : List ValType) → AllByRecursion IsRangedVal ts → AllByRecursion (IsDeclaredVal n.types) ts → AllByRecursion (IsDeclaredVal type_bound) ts
   vals_bounded ts r d = of_least (λ k. AllByRecursion (IsDeclaredVal k) ts) (2 ^ 32) n.types r d
 
-  -- a function type, whose signature is printed beside its index
+  -- The type indices in the signature of a function type, which is printed beside its index, are below the bound.
   pub signature_bounded : (t : FuncType) (i : ℕ) → signature_at s.types i ≡ Some t → IsDeclaredFunc type_bound t
   signature_bounded t i own =
       of_least (λ k. IsDeclaredFunc k t) (2 ^ 32) n.types

@@ -1,4 +1,4 @@
--- The start function among the fields of a module.
+-- The start function among the fields of a module
 use Rattle.std.proofs.Common.{◌≡◌, ℕ, ◌<◌, Option, Some, None, option_map, refl, ap, codes, arith}
 use Rattle.wasmprinter_spec.specs.Character.{class}
 use Rattle.wasmprinter_spec.specs.Forest.{Forest, End, Word, Group}
@@ -16,7 +16,7 @@ use Rattle.wasmprinter_reading.proofs.Ranged.{IsRangedStart}
 use Rattle.wasmprinter_reading.proofs.Identifiers.{index_writes}
 use Rattle.wasmprinter_reading.proofs.Fields.Scopes.{own_index, AreScoped, own_index-reads}
 
--- what the field holds behind its word, if it is there
+-- The items of the field after its word, if there is a start function
 abbrev pub start_held : Scope → Option (Placed ℕ) → Option Forest
 start_held s start = option_map (λ i. own_index s Func i.value) start
 
@@ -30,7 +30,7 @@ start_writes s named None h = nothing_writes
 start_writes s named (Some i) h =
     break_writes (line_group_gap_writes (codes "start") _ refl refl (index_writes (s.names.items Func i.value) i.value (named.items Func i.value) (omega (arith, h))))
 
--- the index of the start function is declared
+-- The index of the start function is declared.
 abbrev pub IsIndexedStart : Counts → Option (Placed ℕ) → Type 0
 IsIndexedStart n None = Unit {0}
 IsIndexedStart n (Some i) = i.value < n.functions

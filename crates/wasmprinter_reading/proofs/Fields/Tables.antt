@@ -1,4 +1,4 @@
--- Tables among the fields of a module.
+-- Tables among the fields of a module
 use Rattle.std.proofs.Common.{◌≡◌, ℕ, ◌<◌, ◌^◌, Bool, true, false, List, [], ◌∷◌, Option, Some, None, option_map, refl, ap, ◌∙◌, codes}
 use Rattle.wasmprinter_spec.specs.Character.{class}
 use Rattle.wasmprinter_spec.specs.Grammar.{Placed}
@@ -34,7 +34,7 @@ use Rattle.wasmprinter_reading.proofs.Folded.Lists.{IsUnpainted}
 use Rattle.wasmprinter_reading.proofs.Fields.Scopes.{own_id, AreScoped, type_bound, type_indices-read, heap_bounded}
 use Rattle.wasmprinter_reading.proofs.Fields.Expressions.{constant_items, in_line_writes, AreIndexed, expression-items}
 
--- ---- what tables are written as
+-- ---- the items of tables
 
 abbrev pub table_type_items : Names → TableType → Forest
 table_type_items names t = onto (wide_items t.wide) (onto (limits_items t.limits) (ref_items names t.element))
@@ -43,11 +43,11 @@ abbrev pub init_items : Scope → Option (List (Placed Operator)) → Forest
 init_items s None = End
 init_items s (Some os) = constant_items s 2 os
 
--- what a table holds behind its word
+-- The items of a table after its word
 abbrev pub table_items : Scope → ℕ → Table (Placed Operator) → Forest
 table_items s i t = onto (own_id s row.Table i) (onto (table_type_items s.names t.type) (init_items s t.init))
 
--- ---- their pieces write it
+-- ---- pieces write the items
 
 pub table_type_writes : (names : Names) → AreNamed names → (t : TableType) → IsRangedTableType t → Writes Free (table_type_pieces names t) Bound (table_type_items names t)
 unfolding table_type_pieces
@@ -68,9 +68,9 @@ module _ (s : Scope) (named : AreNamed s.names) (ranged : AreSignaturesInRange (
       (both_write (declaration_writes (s.names.items row.Table i) i (named.items row.Table i) small)
       (gap_writes {a = Bound} refl (both_write (table_type_writes s.names named t.value.type h.type) (init_writes t.value.init h.init)))))
 
--- ---- they read back
+-- ---- the items read back
 
--- a reference type is no number
+-- A reference type does not start with a number.
 no_number-ref : (names : Names) (null : Bool) (h : HeapType) (f : Forest) → IsNoNumber (onto (ref_items_by names null h) f)
 unfolding natural numeral
 no_number-ref names true (Index n) f min = refl
@@ -83,11 +83,11 @@ table_type_onto names t f =
     onto_assoc (wide_items t.wide) (onto (limits_items t.limits) (ref_items names t.element)) f
     ∙ ap (onto (wide_items t.wide)) (onto_assoc (limits_items t.limits) (ref_items names t.element) f)
 
--- no identifier stands in front of the type
+-- The type does not start with an identifier.
 pub identifier_in_front-table_type : (names : Names) (t : TableType) (f : Forest) → identifier_in_front (onto (table_type_items names t) f) ≡ (None, onto (table_type_items names t) f)
 identifier_in_front-table_type names t f = rw (table_type_onto names t f) (identifier_in_front-limits t.wide t.limits (onto (ref_items names t.element) f))
 
--- the identifier of a table, and what it is
+-- The identifier of a table is read, and the items after it are left.
 pub identifier_in_front-table : (s : Scope) (i : ℕ) (t : Table (Placed Operator)) →
     identifier_in_front (table_items s i t) ≡ (id (s.names.items row.Table i), onto (table_type_items s.names t.type) (init_items s t.init))
 identifier_in_front-table s i t =
@@ -111,7 +111,7 @@ module _ (s : Scope) (c : Context) (n : Counts) (scoped : AreScoped s c n) where
   IsIndexedInit None = Unit {0}
   IsIndexedInit (Some os) = AreIndexed s n os
 
-  -- what reads as an operator and others is something
+  -- Items that read as at least one operator read as an initialiser.
   something_reads : (f : Forest) (o : Operator) (os : List Operator) → expression c f ≡ Some (o ∷ os) → init c f ≡ Some (Some (o ∷ os))
   something_reads End o os e = absurd cc
   something_reads _ o os e = ap (option_map Some) e

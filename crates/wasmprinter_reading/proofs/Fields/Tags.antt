@@ -1,4 +1,4 @@
--- Tags among the fields of a module.
+-- Tags among the fields of a module
 use Rattle.std.proofs.Common.{◌≡◌, ℕ, ◌<◌, ◌^◌, Some, None, refl, ap, codes}
 use Rattle.wasmprinter_spec.specs.Character.{class}
 use Rattle.wasmprinter_spec.specs.Forest.{Forest, End, Word, Group}
@@ -19,7 +19,7 @@ use Rattle.wasmprinter_reading.proofs.Declarations.{id}
 use Rattle.wasmprinter_reading.proofs.Fields.Scopes.{AreScoped}
 use Rattle.wasmprinter_reading.proofs.Fields.Headers.{header_items, header_alone_writes, identifier_in_front-header, use-items}
 
--- what a tag holds behind its word
+-- The items of a tag after its word
 abbrev pub tag_items : Scope → ℕ → ℕ → Forest
 tag_items s i type_index = header_items s Tag None i type_index End
 
@@ -28,11 +28,11 @@ pub tag_writes : (s : Scope) → AreNamed s.names → AreSignaturesInRange (sign
 unfolding tag_pieces class
 tag_writes s named ranged i tag h r = break_writes (line_group_gap_writes (codes "tag") _ refl refl (header_alone_writes s named ranged Tag None i tag.value h r))
 
--- the identifier of a tag
+-- The identifier of a tag is read.
 pub identifier_in_front-tag : (s : Scope) (i type_index : ℕ) → (identifier_in_front (tag_items s i type_index)).0 ≡ id (s.names.items Tag i)
 identifier_in_front-tag s i type_index = ap (λ x. x.0) (identifier_in_front-header s Tag None i type_index End)
 
--- the type is a function type
+-- A tag reads as the index of its function type.
 pub read_tag-items : (s : Scope) (c : Context) (n : Counts) → AreScoped s c n → (i : ℕ) (t : FuncType) (type_index : ℕ) → signature_at s.types type_index ≡ Some t →
     type_index < 2 ^ 32 → read_tag c (tag_items s i type_index) ≡ Some type_index
 read_tag-items s c n scoped i t type_index own h = rw (identifier_in_front-header s Tag None i type_index End, use-items s c n scoped None t type_index own h)

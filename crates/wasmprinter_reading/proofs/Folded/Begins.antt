@@ -1,4 +1,4 @@
--- What the operators of a body begin with: a word, or a group that is an operator.
+-- The items of the operators of a body start with a word, or with a group that is an operator.
 use Rattle.std.proofs.Common.{◌≡◌, ℕ, true, false, Bool, List, [], ◌∷◌, Option, Some, None, refl, ap, sym, ◌∙◌, subst}
 use Rattle.std.specs.List.{AllByRecursion}
 use Rattle.wasmprinter_spec.specs.Grammar.{Placed}
@@ -25,7 +25,7 @@ use Rattle.wasmprinter_reading.proofs.Folded.Reads.{hint_at, row_items}
 use Rattle.wasmprinter_reading.proofs.Folded.ReadBack.{tree_row}
 use Rattle.wasmprinter_reading.proofs.Folded.Lists.{code_items, list_items}
 
--- nothing, a word, a group that begins with the word of an operator, or a hint
+-- No items, or items that start with a word, with a group that starts with the word of an operator, or with a hint
 abbrev pub BeginsCode : Forest → Type 0
 BeginsCode End = Unit {0}
 BeginsCode (Word w f) = Unit {0}
@@ -40,7 +40,7 @@ begins_onto (Group (Word w g) a) b h k = h
 begins_onto (Note id g a) b h k = h
 begins_onto _ b h k = absurd h
 
--- the word of an operator that has a node
+-- The word of an operator that has a node can start a group.
 pub stands_alone : {form : Form} (x : Item) → IsPrinted form x → is_folded (role x) ≡ true → StandsAlone (word x)
 stands_alone x p e =
     let r : HasRow x.operator.value = row_for x.operator.value p.listed in
@@ -51,7 +51,7 @@ hint_begins true (Some h) w g a = refl
 hint_begins true None w g a = a
 hint_begins false h w g a = a
 
--- with hints in front of them, or without
+-- The items of a row start in this way, with or without hints before the nodes.
 pub row_begins : (hints : Bool) (form : Form) (f : Nodes) → IsRow form f → BeginsCode (row_items hints f)
 row_begins hints form f no_nodes = tt
 row_begins hints form f (a_plain b x r held e p rb rh) =

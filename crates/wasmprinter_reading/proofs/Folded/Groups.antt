@@ -31,17 +31,17 @@ use Rattle.wasmprinter_reading.proofs.Folded.ReadBack.{printed_nodes_write, node
 
 -- ---- one group
 
--- what stands in a node in front of what it holds
+-- The items of a node before its inner nodes
 abbrev pub own_items : Head → Forest
 own_items (Of x) = Word (word x) (arguments x)
 own_items (ThenCase x) = Word (codes "then") End
 own_items (ElseCase x) = Word (codes "else") End
 
--- a row of these nodes, and nothing else
+-- A row of these nodes without other items
 abbrev pub IsRowOf : Forest → NodesOf Forest → Type 0
 IsRowOf f ns = node_row_of f ≡ Some (node_row End ns)
 
--- items that are no nodes
+-- Items that are not nodes
 abbrev pub AreFront : Forest → Type 0
 AreFront End = Unit {0}
 AreFront (Word w f) = AreFront f
@@ -51,7 +51,7 @@ AreFront (Reserved f) = AreFront f
 AreFront (Group g f) = (is_node g ≡ false) × AreFront f
 AreFront (Note id g f) = ⊥
 
--- they leave the nodes behind them
+-- Items without nodes, before a row, keep the nodes of that row.
 pub node_front : (a : Forest) → AreFront a → (f g : Forest) (ns : NodesOf Forest) → node_row_of f ≡ Some (node_row g ns) →
     node_row_of (onto a f) ≡ Some (node_row (onto a g) ns)
 node_front End h f g ns e = e
@@ -62,7 +62,7 @@ node_front (Reserved a) h f g ns e = ap (with_item Reserved) (node_front a h f g
 node_front (Group k a) h f g ns e = rw (h.0, node_front a h.1 f g ns e) refl
 node_front (Note id k a) h f g ns e = absurd h
 
--- arguments are such items
+-- Arguments contain no nodes.
 arguments_are : (a : Forest) → AreArguments a → AreFront a
 arguments_are End h = tt
 arguments_are (Word w a) h = arguments_are a h.1
@@ -73,7 +73,7 @@ arguments_are _ h = absurd h
 arguments_front : (a : Forest) → AreArguments a → (f : Forest) (ns : NodesOf Forest) → IsRowOf f ns → node_row_of (onto a f) ≡ Some (node_row a ns)
 arguments_front a h f ns e = node_front a (arguments_are a h) f End ns e ∙ ap (λ g. Some (node_row g ns)) (onto-End a)
 
--- a group is one node, which holds these
+-- A group is one node with these inner nodes.
 record IsGroupOf (h : Head) (held : Forest) (ks : NodesOf Forest) : Type 0 where
   node : is_node (head_items h held) ≡ true
   holds : node_row_of (head_items h held) ≡ Some (node_row (own_items h) ks)
@@ -97,9 +97,9 @@ group_leads : (h : Head) (held : Forest) (ks : NodesOf Forest) → IsGroupOf h h
     IsRowOf (Group (head_items h held) g) (row_of_both (Snoc Nil (own_items h) 0 ks) ns)
 group_leads h held ks k g ns e = rw (k.node, k.holds, e) refl
 
--- ---- nodes in a row
+-- ---- rows of nodes
 
--- in front of others
+-- The groups of these nodes, before a row of nodes, are a row of both.
 abbrev pub AreNodes : Nodes → Type 0
 AreNodes f = (g : Forest) (ns : NodesOf Forest) → IsRowOf g ns → IsRowOf (onto (row_items false f) g) (row_of_both (with_heads own_items f) ns)
 
@@ -141,13 +141,13 @@ row_nodes form f (an_if_else b x r given q held y t other p h rb rg rh nested py
     one_more b (Of x) r node (row_nodes form b rb)
     (operator_group x h (ap is_folded p) (row_items false node) (with_heads own_items node) (alone node cases))
 
--- the groups of a row are its nodes
+-- The groups of a row are its nodes.
 pub row_groups : (form : Form) (f : Nodes) → IsRow form f → node_groups (row_items false f) ≡ Some (with_heads own_items f)
 row_groups form f h = ap (λ r. r >>= only_nodes) (alone f (row_nodes form f h))
 
--- ---- what stands in them
+-- ---- the items of nodes
 
--- what pieces write is what their text reads as
+-- The text of pieces reads as the items that the pieces write.
 pub items_written : {b : Edge} {f k : Forest} (o : Options) → IsBlank o.indent → (ps : List Piece) → WritesNoted Free ps b f k →
     items_in (text_of (all_calls o ps)) ≡ Some f
 items_written o blank ps w =
@@ -167,7 +167,7 @@ module _ (o : Options) (blank : IsBlank o.indent) (form : Form) where
   unfolding class
   else_reads x = items_written o blank (piece.Word (codes "else") ∷ []) (word_writes refl nothing_writes)
 
-  -- what each head's text reads as, and what stands in its group
+  -- The nodes with the items that the text of each head reads as, and those with the items in its group
   abbrev as_read : Nodes → NodesOf (Option Forest)
   as_read f = with_heads (λ h. items_in (head_text o h)) f
 
@@ -192,14 +192,14 @@ module _ (o : Options) (blank : IsBlank o.indent) (form : Form) where
 
   -- ---- the text of nodes
 
-  -- it is plain
+  -- The text of nodes is plain.
   pub nodes_plain : (f : Nodes) → IsRow form f → (nesting : ℕ) → IsPlainText (text_of (all_calls o (node_pieces o false form true nesting f)))
   nodes_plain f h nesting =
       let ps : List Piece = node_pieces o false form true nesting f in
       let w = printed_nodes_write o blank form f h nesting in
       subst IsPlainText (sym (writes_text o ps w)) (text_is_plain o blank w.printed w.are)
 
-  -- its groups are the nodes
+  -- The groups of the text are the nodes.
   pub nodes_read : (f : Nodes) → IsRow form f → (nesting : ℕ) →
       option_map (with_heads (λ g. Some g)) (nodes_in (text_of (all_calls o (node_pieces o false form true nesting f)))) ≡ Some (as_read f)
   nodes_read f h nesting =

@@ -1,4 +1,4 @@
--- What holds of all operators of code holds of all heads of its tree.
+-- A fact about all operators of code holds for all heads of its tree.
 use Rattle.std.proofs.Common.{◌∷◌, ◌++◌, subst}
 use Rattle.std.specs.List.{AllByRecursion}
 use Rattle.wasmprinter_spec.specs.Folding.Code.{Item, NestedCode, Done, Plain, Block, If, IfElse, flat}
@@ -7,7 +7,7 @@ use Rattle.wasmprinter_spec.proofs.Folding.{AreLast, AreLast-operand_search}
 use Rattle.wasmprinter_spec.proofs.Each.{all_parts}
 
 module _ (P : Item → Type 0) where
-  -- of the operator of a head; `then` has none of its own
+  -- The fact about the operator of a head; `then` has no operator of its own.
   abbrev pub OnHead : Head → Type 0
   OnHead (Of x) = P x
   OnHead (ThenCase x) = Unit {0}

@@ -1,4 +1,5 @@
--- The operators of a list, each with what is printed of it: what this is as items, and which operator of the flat text it is.
+-- The operators of a list with their pieces: the items that the pieces write, and which operators of the flat text
+-- they are
 use Rattle.std.proofs.Common.{◌≡◌, ℕ, ◌-◌, Bool, true, false, List, [], ◌∷◌, length, map, Option, Some, None, refl, sym, ap, ap₂, ◌∙◌, subst, codes}
 use Rattle.std.specs.List.{AllByRecursion}
 use Rattle.wasmprinter_spec.specs.Grammar.{Placed}
@@ -34,13 +35,13 @@ use Rattle.wasmprinter_spec.proofs.OneLine.{IsOneLine, then_stay}
 use Rattle.wasmprinter_spec.proofs.ImmediateLines.{by_shape_stay}
 use Rattle.wasmprinter_reading.proofs.Folded.Words.{IsBare, turn_is_bare, end_is_bare, role_by-rows}
 
--- ---- what pieces write
+-- ---- the items that pieces write
 
 abbrev pub forest_or_end : Option Forest → Forest
 forest_or_end None = End
 forest_or_end (Some f) = without_annotations f
 
--- the items of pieces, without annotations
+-- The items of pieces, without annotations
 abbrev pub items_of : List Piece → Forest
 items_of ps = forest_or_end (the_one (grow (all_lexed ps)))
 
@@ -56,20 +57,20 @@ abbrev pub behind_first : List Piece → List Piece
 behind_first [] = []
 behind_first (p ∷ ps) = ps
 
--- the pieces of its immediates, and what they write
+-- The pieces of the immediates, and the items that they write
 abbrev pub rest : Item → List Piece
 rest x = behind_first x.pieces
 
 abbrev pub arguments : Item → Forest
 arguments x = items_of (rest x)
 
--- `else` and `end` have no immediates
+-- `else` and `end` have no immediates.
 abbrev pub is_bare : Role → Bool
 is_bare Turns = true
 is_bare Ends = true
 is_bare _ = false
 
--- it is listed, and its pieces are its word and what may stand behind a word
+-- The operator is listed, and its pieces are its word and pieces that may follow a word.
 pub record IsPrinted (form : Form) (x : Item) : Type 0 where
   pub listed : IsListed x.operator.value
   pub pieces : x.pieces ≡ Word (word x) ∷ rest x
@@ -78,11 +79,11 @@ pub record IsPrinted (form : Form) (x : Item) : Type 0 where
   pub bare : is_bare (role x) ≡ true → arguments x ≡ End
   pub line : IsOneLine x.pieces
 
--- as the reader has it
+-- The operator as the reader has it
 abbrev pub item_chunk : Item → Chunk
 item_chunk x = chunk (rows_of (word x)) (arguments x)
 
--- with its hint, or without
+-- The same with its hint, if hints are shown
 abbrev pub noted_chunk : Bool → Option (Placed Hint) → Chunk → Chunk
 noted_chunk true (Some h) c = with_hint_group (String (flag_byte h.value.taken ∷ []) End) c
 noted_chunk true None c = c
@@ -98,7 +99,7 @@ told_chunk hints (Some x) = own_chunk hints x
 abbrev pub told_chunks : Bool → List Told → List Chunk
 told_chunks hints ts = map (told_chunk hints) ts
 
--- where hints are shown, such an operator has none
+-- If hints are shown, an operator that can't have one in folded text has none.
 abbrev pub IsHintless : Bool → Item → Type 0
 IsHintless false x = Unit {0}
 IsHintless true x = is_hintless (role x) ≡ true → x.hint ≡ None
@@ -107,7 +108,7 @@ hintless_chunk : (hints : Bool) (x : Item) → IsHintless hints x → is_hintles
 hintless_chunk false x h e = refl
 hintless_chunk true x h e = ap (λ i. noted_chunk true i (item_chunk x)) (h e)
 
--- `else`
+-- The chunk of an `else` is that of its word.
 pub turn_chunk : {form : Form} (hints : Bool) (x : Item) → IsPrinted form x → IsHintless hints x → role x ≡ Turns → own_chunk hints x ≡ word_chunk (codes "else")
 turn_chunk hints x h k e =
     let b : IsBare x.operator.value (codes "else") = turn_is_bare x.operator.value h.listed e in
@@ -118,7 +119,7 @@ end_chunk hints x h k e =
     let b : IsBare x.operator.value (codes "end") = end_is_bare x.operator.value h.listed e in
     hintless_chunk hints x k (ap is_hintless e) ∙ ap₂ (λ w f. chunk (rows_of w) f) b.word (h.bare (ap is_bare e))
 
--- what is told of an operator is its chunk
+-- The chunk of an operator in the unfolding is its own chunk.
 told_item : {form : Form} (hints : Bool) (x : Item) → IsPrinted form x → IsHintless hints x → told_chunk hints (told_by_role (role x) x) ≡ own_chunk hints x
 told_item hints x h k = by (role x) refl
   where
@@ -138,12 +139,12 @@ pub told_items : (hints : Bool) (form : Form) (xs : List Item) → AllByRecursio
 told_items hints form [] h k = refl
 told_items hints form (x ∷ xs) h k = ap₂ (λ c cs. c ∷ cs) (told_item hints x h.0 k.0) (told_items hints form xs h.1 k.1)
 
--- without hints nothing is asked
+-- Without hints, this condition is trivial.
 pub unasked : (xs : List Item) → AllByRecursion (IsHintless false) xs
 unasked [] = tt
 unasked (x ∷ xs) = (tt, unasked xs)
 
--- they stand to their blocks as the operators do
+-- The chunks have the roles of the operators.
 pub told_roles : (form : Form) (xs : List Item) → AllByRecursion (IsPrinted form) xs → map (λ c. role_by c.rows) (map (own_chunk false) xs) ≡ map role xs
 told_roles form [] h = refl
 told_roles form (x ∷ xs) h = ap₂ (λ c cs. c ∷ cs) (role_by-rows x.operator.value h.0.listed) (told_roles form xs h.1)
@@ -170,7 +171,7 @@ module _ (s : Setting) (named : AreNamed s.names) (ranged : AreSignaturesInRange
       let is : Role = role_of o.value.opcode in
       writes_by s named ranged (labels_inside is xs) (labels_outside is xs) own (outside_labels is xs h) k (shape_of o.value.opcode) o.value.immediates l.range
 
-  -- what is written of an operator of a list
+  -- The arguments of an operator in a list are those of the flat text.
   pub item_arguments : (hint : Option (Placed Hint)) (own : Label) (xs : List Label) (ls : List (Option ℕ)) (o : Placed Operator) →
       AllByRecursion IsNamedIfAny xs → IsNamedIfAny own → IsListed o.value → arguments (item s signatures hint own xs ls o) ≡ arguments_items s own xs o.value
   item_arguments hint own xs ls o h k l = items_of-writes (item_writes own xs o h k l)
@@ -203,7 +204,7 @@ module _ (s : Setting) (named : AreNamed s.names) (ranged : AreSignaturesInRange
             (after_labels is own xs k h) l.1,
       )
 
-  -- they are the operators of the flat text
+  -- The chunks of the items are those of the flat text.
   pub items_chunks : (hs : List (Placed Hint)) (n : ℕ) (xs : List Label) (ls : List (Option ℕ)) (os : List (Placed Operator)) →
       AllByRecursion IsNamedIfAny xs → AllByRecursion IsListed (without_places os) →
       map (own_chunk false) (items s signatures hs n xs ls os) ≡ chunks_of s n xs (without_places os)

@@ -1,5 +1,5 @@
--- The operators of a body or of an expression, flat or folded: what they are written as, that their pieces write
--- it, and that it is their code.
+-- The operators of a body or of an expression, flat or folded: their items, that pieces write these, and that they
+-- are the code of the operators
 use Rattle.std.proofs.Common.{◌≡◌, inl, ℕ, Bool, true, false, List, [], ◌∷◌, Option, Some, None, option_map, map, refl, sym, ap, ap₂, subst, ◌∙◌}
 use Rattle.std.specs.List.{AllByRecursion}
 use Rattle.wasmprinter_spec.specs.Grammar.{Placed}
@@ -36,14 +36,14 @@ use Rattle.wasmprinter_reading.proofs.Folded.Spelled.{row_spelled}
 use Rattle.wasmprinter_reading.proofs.Folded.Writes.{RowWrites, row_writes}
 use Rattle.wasmprinter_reading.proofs.Folded.ReadBack.{tree_row, tree_unfolds}
 
--- ---- what they are written as
+-- ---- the items
 
--- nothing where they have no tree
+-- The items of folded code, or none if the operators have no tree
 abbrev pub code_items : Bool → Option NestedCode → Forest
 code_items hints None = End
 code_items hints (Some code) = row_items hints (tree code)
 
--- folded, with hints in front of them or without
+-- The items of folded operators, with or without hints before them
 abbrev pub folded_items : Bool → Setting → Signatures → List (Placed Hint) → List (Placed Operator) → Forest
 folded_items hints s signatures hs os = code_items hints (folding.nested_code_of (items s signatures hs 0 [] [] os))
 
@@ -51,14 +51,14 @@ abbrev pub flat_items : Bool → Setting → List (Placed Hint) → List (Placed
 flat_items true s hs os = hinted_items s hs 0 [] os
 flat_items false s hs os = expression_items s (without_places os)
 
--- flat, or folded where the function around has so many results
+-- The items of flat operators, or of operators folded inside a function with this number of results
 abbrev pub list_items : Bool → Option Folding → Option ℕ → Setting → List (Placed Hint) → List (Placed Operator) → Forest
 list_items hints None own s hs os = flat_items hints s hs os
 list_items hints (Some f) own s hs os = folded_items hints s (f.signatures own) hs os
 
--- ---- what is asked of them
+-- ---- the premises
 
--- their text has no colours
+-- The text of folded operators has no colors.
 abbrev pub IsUnpainted : Option Folding → Type 0
 IsUnpainted None = Unit {0}
 IsUnpainted (Some f) = f.paints ≡ false
@@ -67,14 +67,14 @@ abbrev pub is_folding : Option Folding → Bool
 is_folding None = false
 is_folding (Some f) = true
 
--- where they are folded, none is of the older `try`
+-- If operators are folded, none is one of legacy exception handling.
 abbrev pub AreFoldable : Option Folding → List (Placed Operator) → Type 0
 AreFoldable None os = Unit {0}
 AreFoldable (Some f) os = AreWithoutTry (roles os)
 
--- ---- their pieces write it
+-- ---- pieces write the items
 
--- where the first may stand: over lines behind anything on its line, in one line behind a blank
+-- What the first operator may follow: any token if operators are on several lines, a space if they are in one line
 abbrev pub in_front : Form → Edge
 in_front OverLines = Bound
 in_front InLine = Free
@@ -146,9 +146,9 @@ unhinted_list_writes f bare own s named ranged os l =
     subst (WritesNoted (in_front s.form) (folded_list f own s [] os) Bound (folded_items false s (f.signatures own) [] os)) (folded_unhinted s (f.signatures own) os)
     (folded_list_writes f bare own s named ranged [] os l)
 
--- ---- it is their code
+-- ---- the items are the code of the operators
 
--- well nested and without the older `try`, they have a tree
+-- Well-nested operators without legacy exception handling have a tree.
 pub has_tree : (s : Setting) (signatures : Signatures) (hs : List (Placed Hint)) (os : List (Placed Operator)) → Nests Sequence (roles os) → AreWithoutTry (roles os) →
     (code : NestedCode) × (folding.nested_code_of (items s signatures hs 0 [] [] os) ≡ Some code)
 has_tree s signatures hs os n t =

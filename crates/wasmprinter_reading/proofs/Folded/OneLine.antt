@@ -1,4 +1,4 @@
--- Pieces that stay on their line have the same text by all options.
+-- Pieces that stay on their line have the same text under all options.
 use Rattle.std.proofs.Common.{◌≡◌, ℕ, List, [], ◌∷◌, ◌++◌, true, false, ap₂, refl}
 use Rattle.std.specs.List.{flat_map}
 use Rattle.wasmprinter_spec.specs.Options.{Options}

@@ -32,7 +32,7 @@ use Rattle.wasmprinter_reading.proofs.Folded.Texts.{nodes_spelled}
 use Rattle.wasmprinter_reading.proofs.Folded.Spelled.{row_spelled}
 use Rattle.wasmprinter_reading.proofs.Folded.Writes.{nodes_write}
 
--- nodes as they are printed write their groups
+-- The pieces of nodes, as they are printed, write their groups.
 pub printed_nodes_write : (o : Options) → IsBlank o.indent → (form : Form) (f : Nodes) → IsRow form f → (nesting : ℕ) →
     WritesNoted Free (node_pieces o false form true nesting f) Bound (row_items false f) (row_items true f)
 printed_nodes_write o blank form f h nesting =
@@ -40,16 +40,16 @@ printed_nodes_write o blank form f h nesting =
 
 -- ---- items that are folded
 
--- by whatever numbers of operands and results they have
+-- The items have any numbers of operands and results.
 module _ (form : Form) (xs : List Item) (printed : AllByRecursion (IsPrinted form) xs) (code : NestedCode) (is : nested_code_of xs ≡ Some code) where
   code_printed : AllByRecursion (IsPrinted form) (flat code)
   code_printed = subst (AllByRecursion (IsPrinted form)) (sym (nested_code_of-tree xs code is).0) printed
 
-  -- their nodes are such as a text may hold
+  -- Their nodes are a row that a text may contain.
   pub nodes_row : IsRow form (tree code)
   nodes_row = row-tree form code (nested_code_of-tree xs code is).1 code_printed
 
-  -- The reader takes what they are written as for the operators in their flat order, each with its hint if hints are shown.
+  -- The groups read as the operators in their flat order, each with its hint if hints are shown.
   nodes_unfold : (hints : Bool) → AllByRecursion (IsHintless hints) xs → chunks_of_forest (row_items hints (tree code)) ≡ Some (map (own_chunk hints) xs)
   nodes_unfold hints h =
       let rule = nested_code_of-tree xs code is in
@@ -59,7 +59,7 @@ module _ (form : Form) (xs : List Item) (printed : AllByRecursion (IsPrinted for
       ∙ ap (λ cs. Some cs) (told_items hints form (flat code) code_printed hintless)
       ∙ ap (λ xs. Some (map (own_chunk hints) xs)) rule.0
 
--- ---- the list of operators that is folded, by the numbers that signatures give
+-- ---- the list of operators, folded by the numbers that signatures give
 
 module _ (s : Setting) (named : AreNamed s.names) (ranged : AreSignaturesInRange s.signature) (signatures : Signatures)
     (hs : List (Placed Hint)) (os : List (Placed Operator)) (listed : AllByRecursion IsListed (without_places os)) (code : NestedCode)
@@ -70,22 +70,22 @@ module _ (s : Setting) (named : AreNamed s.names) (ranged : AreSignaturesInRange
   own_printed : AllByRecursion (IsPrinted s.form) own_items
   own_printed = items_printed s named ranged signatures hs 0 [] [] os tt listed
 
-  -- its nodes are such as a text may hold
+  -- Its nodes are a row that a text may contain.
   pub tree_row : IsRow s.form (tree code)
   tree_row = nodes_row s.form own_items own_printed code is
 
-  -- The reader takes what they are written as for the operators in their flat order, each with its hint if hints are shown.
+  -- The groups read as the operators in their flat order, each with its hint if hints are shown.
   pub tree_unfolds_at : (hints : Bool) → AllByRecursion (IsHintless hints) (items s signatures hs 0 [] [] os) →
       chunks_of_forest (row_items hints (tree code)) ≡ Some (map (own_chunk hints) (items s signatures hs 0 [] [] os))
   tree_unfolds_at hints h = nodes_unfold s.form own_items own_printed code is hints h
 
-  -- those of the flat text
+  -- Without hints, these are the operators of the flat text.
   pub tree_unfolds : chunks_of_forest (row_items false (tree code)) ≡ Some (chunks_of s 0 [] (without_places os))
   tree_unfolds = tree_unfolds_at false (unasked own_items) ∙ ap (λ cs. Some cs) (items_chunks s named ranged signatures hs 0 [] [] os tt listed)
 
 -- ---- other numbers of operands and results
 
--- what is printed of an item has nothing of them
+-- The pieces of an item do not depend on these numbers.
 recounted : (form : Form) (x : Item) (takes gives : ℕ) → IsPrinted form x → IsPrinted form (record x { takes = takes; gives = gives })
 recounted form x takes gives h = record { listed = h.listed; pieces = h.pieces; are = h.are; writes = h.writes; bare = h.bare; line = h.line }
 
@@ -97,11 +97,11 @@ uncounted_printed : (form : Form) (xs : List Item) → AllByRecursion (IsPrinted
 uncounted_printed form [] h = tt
 uncounted_printed form (x ∷ xs) h = (recounted form (without_counts x) x.takes x.gives h.0, uncounted_printed form xs h.1)
 
--- nor has its chunk
+-- The chunk of an item does not depend on them either.
 chunks-without_counts : (xs : List Item) → map (own_chunk false) (map without_counts xs) ≡ map (own_chunk false) xs
 chunks-without_counts xs = map-map (own_chunk false) without_counts xs
 
--- items of the same operators are printed alike
+-- Items of the same operators have the same pieces.
 pub all_printed : (s : Setting) → AreNamed s.names → AreSignaturesInRange s.signature → (signatures : Signatures) (hs : List (Placed Hint)) (os : List (Placed Operator)) →
     AllByRecursion IsListed (without_places os) → (xs : List Item) → map without_counts xs ≡ map without_counts (items s signatures hs 0 [] [] os) → AllByRecursion (IsPrinted s.form) xs
 all_printed s named ranged signatures hs os listed xs e =

@@ -1,4 +1,4 @@
--- What nodes are written as, and that the reader takes it as the operators that the nodes say, in their flat order.
+-- The items of nodes, and that they read as the operators of the nodes in their flat order
 use Rattle.std.proofs.Common.{◌≡◌, ℕ, Bool, true, false, List, [], ◌∷◌, ◌++◌, map, Option, Some, None, option_map, refl, sym, ap, ap₂, ◌∙◌, append_assoc, append-nil, codes}
 use Rattle.std.proofs.lemmas.List.{map-append}
 use Rattle.wasmprinter_spec.specs.Grammar.{Placed, ◌>>=◌}
@@ -25,27 +25,27 @@ use Rattle.wasmprinter_reading.proofs.Folded.Items.{word, arguments, IsPrinted, 
 use Rattle.wasmprinter_reading.proofs.Folded.Heads.{AllHeads}
 use Rattle.wasmprinter_reading.proofs.Folded.Rows.{are_nested, IsNested, IsRow, no_nodes, a_plain, a_block, an_if, an_if_else}
 
--- ---- what nodes are written as
+-- ---- the items of nodes
 
--- with hints in front of them, or without
+-- A hint before a node, if hints are shown
 abbrev pub hint_at : Bool → Option (Placed Hint) → Forest → Forest
 hint_at true h f = hint_items h f
 hint_at false h f = f
 
--- what stands in a node, with what it holds
+-- The items of a node, with those of its inner nodes
 abbrev pub head_items : Head → Forest → Forest
 head_items (Of x) f = Word (word x) (onto (arguments x) f)
 head_items (ThenCase x) f = Word (codes "then") f
 head_items (ElseCase x) f = Word (codes "else") f
 
--- each node is a group
+-- Each node is a group.
 abbrev pub row_items : Bool → Nodes → Forest
 row_items hints Nil = End
 row_items hints (Snoc b h r held) = onto (row_items hints b) (hint_at hints (head_hint h) (Group (head_items h (row_items hints held)) End))
 
--- ---- folded operators in a row
+-- ---- rows of folded operators
 
--- the operators in front of one's own, its own, and those behind it
+-- A folded operator: the operators before its own, its own, and those after it
 pub record Fold : Type 0 where
   pub front : List Chunk
   pub own : Chunk
@@ -78,7 +78,7 @@ branches-folds (n ∷ ns) is a b e =
 
 -- ---- one group
 
--- of an operator
+-- The group of an operator reads as its instruction, before the instructions that follow.
 operator_reads : (form : Form) (x : Item) (h : IsPrinted form x) (held g : Forest) (is js : List Instruction) (i : Instruction) → is_folded (role x) ≡ true →
     code held ≡ Some (code_of End is) → folded_instruction (role x) (rows_of (word x)) (code_of (arguments x) is) ≡ Some i → code g ≡ Some (code_of End js) →
     code (Group (Word (word x) (onto (arguments x) held)) g) ≡ Some (code_of End (i ∷ js))
@@ -94,7 +94,7 @@ operator_reads form x h held g is js i p e f eg =
     ∙ ap (λ t. t >>= λ j. code g >>= with_instruction j) own
     ∙ ap (λ t. t >>= with_instruction i) eg
 
--- of a case of an `if`
+-- The group of a case of an `if` reads as that case.
 branch_reads : (make : List Chunk → Instruction) (held g : Forest) (is js : List Instruction) (cs : List Chunk) →
     code held ≡ Some (code_of End is) → chunks_of_instructions is ≡ Some cs → are_nested cs ≡ true → code g ≡ Some (code_of End js) →
     branch make (code held) (code g) ≡ Some (code_of End (make cs ∷ js))
@@ -110,9 +110,9 @@ else_reads : (held g : Forest) (is js : List Instruction) (cs : List Chunk) → 
 unfolding head
 else_reads held g is js cs e f n eg = branch_reads code.Else held g is js cs e f n eg
 
--- ---- nodes in a row
+-- ---- rows of nodes
 
--- They are folded operators, which are those that the nodes say.
+-- The items of nodes read as folded operators, whose operators are those of the nodes.
 pub record Reads (hints : Bool) (f : Nodes) : Type 0 where
   pub folds : List Fold
   pub say : chunks_in folds ≡ told_chunks hints (unfolding_of f)
@@ -126,7 +126,7 @@ told_append : (hints : Bool) (a b : List Told) → told_chunks hints (a ++ b) �
 told_append hints [] b = refl
 told_append hints (t ∷ a) b = simp (told_append hints a b)
 
--- hints don't matter to nesting
+-- Hints do not change the nesting.
 same_rows : (hints : Bool) (t : Told) → (told_chunk hints t).rows ≡ (told_chunk false t).rows
 same_rows hints None = refl
 same_rows hints (Some x) = by hints x.hint
@@ -143,7 +143,7 @@ same_roles hints (t ∷ ts) = ap₂ (λ rs l. role_by rs ∷ l) (same_rows hints
 nested_at : (hints : Bool) (f : Nodes) → IsNested f → are_nested (told_chunks hints (unfolding_of f)) ≡ true
 nested_at hints f h = ap (λ rs. stops advance at_start rs Ends) (same_roles hints (unfolding_of f)) ∙ h
 
--- both cases of an `if`, and its `end`
+-- The operators of both cases of an `if`, and its `end`
 told_cases : (hints : Bool) (g h o : List Told) (x y : Item) → own_chunk hints y ≡ word_chunk (codes "else") →
     told_chunks hints (((g ++ Some x ∷ h) ++ Some y ∷ o) ++ None ∷ [])
     ≡ told_chunks hints g ++ own_chunk hints x ∷ ((told_chunks hints h ++ word_chunk (codes "else") ∷ told_chunks hints o) ++ word_chunk (codes "end") ∷ [])
@@ -154,7 +154,7 @@ told_cases hints g h o x y e =
     ∙ ap (λ l. l ++ end) (append_assoc (told_chunks hints g) (own_chunk hints x ∷ told_chunks hints h) (word_chunk (codes "else") ∷ told_chunks hints o))
     ∙ append_assoc (told_chunks hints g) (own_chunk hints x ∷ (told_chunks hints h ++ word_chunk (codes "else") ∷ told_chunks hints o)) end
 
--- what an operator's own node says
+-- The operators of an operator's own node
 abbrev own_told : Item → Nodes → List Told
 own_told x held = unfolding_by_role (role x) x (unfold_at Elsewhere held) (unfold_at (Within x) held)
 
@@ -162,7 +162,7 @@ hint_none : (hints : Bool) (f : Forest) → hint_at hints None f ≡ f
 hint_none true f = refl
 hint_none false f = refl
 
--- the hint in front of a folded operator is its own
+-- A hint before a folded operator is that of its own operator.
 noted_fold : Bool → Option (Placed Hint) → Fold → Fold
 noted_fold hints h n = record n { own = noted_chunk hints h n.own }
 
@@ -174,7 +174,7 @@ note_reads true None n f g is e = e
 note_reads false h n f g is e = e
 
 module _ (hints : Bool) where
-  -- one more node
+  -- If a row reads back, then so does the row with one more node.
   one_more : (b : Nodes) (x : Item) (r : ℕ) (held : Nodes) (rb : Reads hints b) (n : Fold) → n.own ≡ item_chunk x →
       n.front ++ own_chunk hints x ∷ n.behind ≡ told_chunks hints (own_told x held) →
       ((g : Forest) (is : List Instruction) → code g ≡ Some (code_of End is) → code (Group (head_items (Of x) (row_items hints held)) g) ≡ Some (code_of End (as_folded n ∷ is))) →
@@ -198,7 +198,7 @@ module _ (hints : Bool) where
             (sym (append_assoc (map as_folded rb.folds) (as_folded k ∷ []) is) ∙ ap (λ (l : List Instruction). l ++ is) (sym (map-append as_folded rb.folds (k ∷ []))));
       }
 
-  -- each kind of node in its turn
+  -- Each kind of node reads back.
   row_reads : (form : Form) (f : Nodes) → IsRow form f → AllHeads (IsHintless hints) f → Reads hints f
   row_reads form f no_nodes a = record { folds = []; say = refl; reads = λ g is e. e }
   row_reads form f (a_plain b x r held p h rb rh) (own, before, inside) =
@@ -264,7 +264,7 @@ module _ (hints : Bool) where
       (λ g is e. operator_reads form x h (row_items hints node) g (map as_folded j.folds ++ both) is (as_folded n) (ap is_folded p) cases
       (rw (p, branches-folds j.folds both [] (yes ++ turn ∷ otherwise) refl) refl) e)
 
-  -- nodes read as the operators that they say
+  -- The items of nodes read as the operators of the nodes.
   pub row_unfolds : (form : Form) (f : Nodes) → IsRow form f → AllHeads (IsHintless hints) f → code.chunks_of_forest (row_items hints f) ≡ Some (told_chunks hints (unfolding_of f))
   row_unfolds form f h a =
       let r : Reads hints f = row_reads form f h a in

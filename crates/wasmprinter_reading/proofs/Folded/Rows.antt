@@ -1,4 +1,5 @@
--- Nodes that a text may hold: what stands in each, and that the tree of a list of operators is made of such nodes.
+-- Nodes that a text may contain: the operator and the inner nodes of each. The tree of a list of operators is a
+-- row of these nodes.
 use Rattle.std.proofs.Common.{◌≡◌, ℕ, Bool, true, false, List, ◌∷◌, ◌++◌, map, sym, ap, ◌∙◌, subst}
 use Rattle.std.specs.List.{AllByRecursion}
 use Rattle.wasmprinter_spec.specs.Row as row
@@ -19,12 +20,12 @@ use Rattle.wasmprinter_reading.proofs.Folded.Items.{IsPrinted, told_chunks, told
 abbrev pub are_nested : List Chunk → Bool
 are_nested cs = stops advance at_start (map (λ c. role_by c.rows) cs) Ends
 
--- what a block or a case of an `if` holds is well nested by itself
+-- The operators in a block or in a case of an `if` are well nested by themselves.
 abbrev pub IsNested : Nodes → Type 0
 IsNested f = are_nested (told_chunks false (unfolding_of f)) ≡ true
 
--- Nodes in a row, by the last of them: the node of a plain operator with its operands, of a block with what it holds, or of an `if` with
--- the nodes that are given to it and with its cases.
+-- A row of nodes, by its last one: the node of a plain operator with its operands, of a block with its content, or
+-- of an `if` with its operands and its cases.
 pub data IsRow (form : Form) : Nodes → Type 0 where
   no_nodes : IsRow form Nil
   a_plain : (b : Nodes) (x : Item) (r : ℕ) (held : Nodes) → role x ≡ row.Plain → IsPrinted form x → IsRow form b → IsRow form held → IsRow form (Snoc b (Of x) r held)
@@ -36,7 +37,7 @@ pub data IsRow (form : Form) : Nodes → Type 0 where
       IsRow form given → IsRow form held → IsNested held → role y ≡ Turns → IsPrinted form y → IsRow form other → IsNested other →
       IsRow form (Snoc b (Of x) r (Snoc (Snoc given (ThenCase x) q held) (ElseCase y) p other))
 
--- ---- rows in parts
+-- ---- rows that consist of two parts
 
 module _ (form : Form) where
   parts : (a b : Nodes) → IsRow form (row_of_both a b) → IsRow form a × IsRow form b
@@ -59,7 +60,7 @@ module _ (form : Form) where
   row-with_operands f x Passed e p l h = a_plain f x _ Nil e p h no_nodes
   row-with_operands f x Short e p l h = a_plain f x _ Nil e p h no_nodes
 
-  -- code is well nested
+  -- The operators of code are well nested.
   nested-code : (code : NestedCode) → IsFit code → AllByRecursion (IsPrinted form) (flat code) → IsNested (tree code)
   nested-code code h p =
       ap (λ ts. are_nested (told_chunks false ts)) (unfolding_of-tree code h)

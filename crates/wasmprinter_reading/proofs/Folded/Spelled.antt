@@ -1,4 +1,4 @@
--- In front of what a node holds stands a text in place of pieces that read by themselves.
+-- The text of a head is printed in place of its pieces, which read by themselves.
 use Rattle.std.proofs.Common.{◌≡◌, ℕ, true, List, [], ◌∷◌, ◌++◌, refl, sym, ap, ◌∙◌, subst, append-nil}
 use Rattle.wasmprinter_spec.specs.Options.{Options, IsBlank}
 use Rattle.wasmprinter_spec.specs.Token.{tokens}
@@ -19,14 +19,14 @@ use Rattle.wasmprinter_reading.proofs.Folded.Items.{word as item_word, rest, IsP
 use Rattle.wasmprinter_reading.proofs.Folded.Rows.{IsRow, no_nodes, a_plain, a_block, an_if, an_if_else}
 use Rattle.wasmprinter_reading.proofs.Folded.Texts.{opened, HeadSpelled, AreSpelled}
 
--- the word of an operator is one
+-- The word of an operator is a word.
 pub word_is_word : {form : Form} (x : Item) → IsPrinted form x → is_word (item_word x) ≡ true
 word_is_word x p =
     let r : HasRow x.operator.value = row_for x.operator.value p.listed in
     ap is_word (ap word_of_row r.found) ∙ r.is_its_word
 
 module _ (o : Options) (blank : IsBlank o.indent) (form : Form) where
-  -- by these options the text is that of a parenthesis and of the pieces
+  -- Under these options, the text is that of a parenthesis and of the pieces.
   opened_text : (x : Item) → IsPrinted form x → 40 ∷ head_text o (Of x) ≡ all_text o (OpenPlain (item_word x) ∷ rest x)
   opened_text x p =
       ap (λ t. 40 ∷ t) (text_of-all_calls o x.pieces ∙ ap (all_text o) p.pieces)

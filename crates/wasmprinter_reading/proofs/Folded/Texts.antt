@@ -1,4 +1,4 @@
--- The text of folded operators is that of pieces that read by themselves: those of each operator's immediates,
+-- The text of folded operators is that of pieces that read by themselves: the pieces of each operator's immediates,
 -- and the annotation of each hint.
 use Rattle.std.proofs.Common.{◌≡◌, ℕ, ◌+◌, ◌==◌, Bool, true, false, ◌&&◌, true≢false, List, [], ◌∷◌, ◌++◌, Option, Some, None, refl, sym, ap, ◌∙◌, append_assoc, append-nil, codes}
 use Rattle.std.proofs.lemmas.Bool.{and_parts, and_from, or_parts}
@@ -16,7 +16,7 @@ use Rattle.wasmprinter_lexical.proofs.Writes.{pieces_tokens}
 
 -- ---- the pieces
 
--- a parenthesis in front of a word
+-- The pieces with a parenthesis before their first word
 abbrev pub opened : List Piece → List Piece
 opened (Word w ∷ ps) = OpenPlain w ∷ ps
 opened ps = OpenPlain [] ∷ ps
@@ -41,10 +41,10 @@ whole_pieces o form first nesting (Snoc before head results held) =
     ++ (before_word form (leads && is_none (head_hint head)) place nesting
     ++ (opened (head_pieces head) ++ (comment_end (is_nil held) s place nesting ++ (whole_pieces o form false (nesting + 1) held ++ (Shut ∷ []))))))
 
--- ---- they are printed as the nodes are
+-- ---- the pieces are printed as the nodes are
 
 module _ (o : Options) where
-  -- a parenthesis with a text that stands for pieces
+  -- A parenthesis with the text of a head is printed as the pieces of the head.
   abbrev pub HeadSpelled : Head → Type 0
   HeadSpelled h = Respelled (OpenPlain (head_text o h) ∷ []) (opened (head_pieces h))
 
@@ -89,7 +89,7 @@ module _ (o : Options) where
         (both_spelled own inner))
         (equal_spelled (append_assoc (whole_before ++ hint_whole) word whole_group ∙ append_assoc whole_before hint_whole (word ++ whole_group)))
 
--- ---- where no two semicolons follow one another, no comment goes up to the end of the line
+-- ---- without two adjacent semicolons, there is no line comment
 
 comment_behind : (a : ℕ) (l : List ℕ) → has_line_comment (a ∷ l) ≡ false → has_line_comment l ≡ false
 comment_behind a [] h = refl
@@ -99,7 +99,7 @@ pub no_comment_behind : (s t : List ℕ) → has_line_comment (s ++ t) ≡ false
 no_comment_behind [] t h = h
 no_comment_behind (a ∷ s) t h = no_comment_behind s t (comment_behind a (s ++ t) h)
 
--- a parenthesis may close there
+-- Reports whether a parenthesis may close there.
 abbrev pub may_shut : Edge → Bool
 may_shut Ended = false
 may_shut _ = true

@@ -1,4 +1,5 @@
--- The words of operators that may be folded, and of those that a folded text writes by itself: tests over the rows of the table.
+-- The words of operators that may be folded, and the words that folded text itself contains: tests over the rows of
+-- the table
 use Rattle.std.proofs.Common.{◌≡◌, Bool, true, false, ◌&&◌, ◌||◌, not, cond, List, ◌∷◌, Option, Some, refl, sym, ap, ◌∙◌, codes, bytes_eq, ℕ}
 use Rattle.std.proofs.lemmas.Bool.{and_parts, not-true}
 use Rattle.wasmprinter_spec.specs.Operator.{Operator}
@@ -13,14 +14,14 @@ use Rattle.wasmprinter_reading.proofs.Operators.Alone.{head-alone}
 
 -- ---- tests
 
--- may stand first in a group
+-- Reports whether an operator with this role may start a group.
 abbrev pub is_folded : Role → Bool
 is_folded Plain = true
 is_folded Opens = true
 is_folded OpensIf = true
 is_folded _ = false
 
--- a word says how its operators stand to the blocks around them
+-- The role of all operators with this word
 abbrev role_of_word : List ℕ → Role
 role_of_word w =
     cond (bytes_eq w (codes "block") || (bytes_eq w (codes "loop") || bytes_eq w (codes "try_table"))) Opens
@@ -46,7 +47,7 @@ abbrev is_none_shape : Shape → Bool
 is_none_shape NoneShape = true
 is_none_shape _ = false
 
--- `else` and `end` are one word each, and nothing else
+-- Reports whether an operator, if it is an `else` or `end`, has that word and no immediates.
 abbrev stands_bare : Role → List ℕ → Shape → Bool
 stands_bare Turns w s = bytes_eq w (codes "else") && is_none_shape s
 stands_bare Ends w s = bytes_eq w (codes "end") && is_none_shape s
@@ -67,7 +68,7 @@ bare_words : all (λ r. stands_bare r.role r.word r.shape) table ≡ true
 unfolding table
 bare_words = refl
 
--- ---- what they mean
+-- ---- consequences of the tests
 
 same_role-true : (a b : Role) → same_role a b ≡ true → a ≡ b
 same_role-true Plain Plain e = refl
@@ -88,7 +89,7 @@ none_shape-true _ e = absurd cc
 row_role : (r : Row) → In r table → role_of_word r.word ≡ r.role
 row_role r i = same_role-true (role_of_word r.word) r.role (all_at (λ x. same_role (role_of_word x.word) x.role) r table words_have_roles i)
 
--- the rows of an operator's word
+-- The rows of an operator's word; the first has the role of the operator.
 pub record HasRows (o : Operator) : Type 0 where
   pub first : Row
   pub others : List Row
@@ -108,7 +109,7 @@ rows_for o h =
       role = sym (row_role some.first at.0) ∙ ap role_of_word at.1 ∙ row_role r.row r.in_table ∙ sym (ap role_of_row r.found);
     }
 
--- operators with one word stand alike
+-- All operators with a word have the same role.
 pub role_by-rows : (o : Operator) → IsListed o → role_by (rows_of (word_of o.opcode)) ≡ role_of o.opcode
 role_by-rows o h = let r : HasRows o = rows_for o h in ap role_by r.are ∙ r.role
 
@@ -120,7 +121,7 @@ leads_alone r i p =
     let parts = and_parts (not (is_part_word r.word)) (not (is_group_word r.word)) both in
     record { part = not-true (is_part_word r.word) parts.0; others = none_among r.word group_words (not-true (is_group_word r.word) parts.1) }
 
--- a group that begins with the word of such an operator is that operator
+-- A group that starts with the word of an operator that may start a group is that operator.
 pub head-folded : (o : Operator) (h : IsListed o) → is_folded (role_of o.opcode) ≡ true →
     head (word_of o.opcode) ≡ OperatorHead (rows_for o h).first (rows_for o h).others
 head-folded o h p =
@@ -139,7 +140,7 @@ bare_row o h r e =
     some_row : (a b : Row) → ◌≡◌ {A = Option Row} (Some a) (Some b) → a ≡ b
     some_row a b e = cc
 
--- `else` or `end`: this word, and no immediates
+-- An `else` or `end`: it has this word and no immediates.
 pub record IsBare (o : Operator) (w : List ℕ) : Type 0 where
   pub word : word_of o.opcode ≡ w
   pub shape : shape_of o.opcode ≡ Some NoneShape

@@ -1,4 +1,4 @@
--- The pieces of nodes write the groups that the nodes are written as.
+-- The pieces of nodes write the groups of the nodes.
 use Rattle.std.proofs.Common.{◌≡◌, ℕ, ◌+◌, Bool, true, false, ◌&&◌, cond, List, [], ◌∷◌, ◌++◌, Option, Some, None, refl, sym, ap, ◌∙◌, subst, append_assoc, codes}
 use Rattle.std.proofs.lemmas.Bool.{and_parts}
 use Rattle.wasmprinter_spec.specs.Character.{class}
@@ -34,12 +34,12 @@ loosened_list : (qs : List Piece) → pieces_follow Bound qs ≡ true → pieces
 loosened_list [] h = refl
 loosened_list (q ∷ qs) h = (and_parts (may_follow Bound q) (pieces_follow (leaves q) qs) h).1
 
--- a group that closes behind pieces, wherever these may stand
+-- A group of pieces that may be followed by a parenthesis
 group_closes : {f k : Forest} (v : List ℕ) (ps : List Piece) → is_word v ≡ true → WritesNoted Bound ps Bound f k →
     WritesNoted Free (OpenPlain v ∷ (ps ++ (Shut ∷ []))) Bound (Group (Word v f) End) (Group (Word v k) End)
 group_closes v ps h w = plain_group_then refl h w nothing_writes
 
--- a group that closes behind pieces whose text holds no comment to the end of the line
+-- A group of pieces whose text contains no line comment
 text_closes : {f : Forest} {c : Edge} (o : Options) (v : List ℕ) (ps : List Piece) → is_word v ≡ true → has_line_comment (all_text o ps) ≡ false → Writes Bound ps c f →
     Writes Free (OpenPlain v ∷ (ps ++ (Shut ∷ []))) Bound (Group (Word v f) End)
 text_closes o v ps h n w = record {
@@ -55,7 +55,7 @@ text_closes o v ps h n w = record {
 }
 
 module _ (o : Options) (form : Form) where
-  -- nothing is held: where the text may hold a comment to the end of the line, the line ends
+  -- A group without inner nodes: if the text may contain a line comment, the line ends before the parenthesis.
   bare_group : {f : Forest} (v : List ℕ) (ps : List Piece) (s : List ℕ) (place nesting : ℕ) → is_word v ≡ true → (has_line_comment s ≡ false → has_line_comment (all_text o ps) ≡ false) →
       Writes Bound ps (behind form) f → Writes Free (OpenPlain v ∷ (ps ++ (comment_end true s place nesting ++ (Shut ∷ [])))) Bound (Group (Word v (onto f End)) End)
   bare_group {f = f} v ps s place nesting h n w = by (has_line_comment s) refl
@@ -68,7 +68,7 @@ module _ (o : Options) (form : Form) where
           (group_closes v (ps ++ Break (Some place) nesting ∷ []) h (both_write w (break_writes free_writes)))
       by false e = subst (λ g. Writes Free (OpenPlain v ∷ (ps ++ (Shut ∷ []))) Bound (Group (Word v g) End)) (sym (onto-End f)) (text_closes o v ps h (n e) w)
 
-  -- nodes in a row, unless there is none
+  -- The pieces of a row write its groups, if it is not empty.
   abbrev pub RowWrites : Bool → ℕ → Nodes → Type 0
   RowWrites first nesting Nil = Unit {0}
   RowWrites first nesting (Snoc b h r held) =
@@ -77,7 +77,7 @@ module _ (o : Options) (form : Form) where
   abbrev held_pieces : List ℕ → ℕ → ℕ → Nodes → List Piece
   held_pieces s place nesting held = comment_end (is_nil held) s place nesting ++ (whole_pieces o form false (nesting + 1) held ++ (Shut ∷ []))
 
-  -- a group with what it holds
+  -- A group with its inner nodes
   group_by : {f : Forest} (v : List ℕ) (ps : List Piece) (s : List ℕ) (place nesting : ℕ) (held : Nodes) → is_word v ≡ true →
       (has_line_comment s ≡ false → has_line_comment (all_text o ps) ≡ false) → Writes Bound ps (behind form) f → RowWrites false (nesting + 1) held →
       WritesNoted Free (OpenPlain v ∷ (ps ++ held_pieces s place nesting held)) Bound
@@ -89,7 +89,7 @@ module _ (o : Options) (form : Form) where
       subst (λ t. WritesNoted Free (OpenPlain v ∷ t) Bound (Group (Word v (onto f (row_items false held))) End) (Group (Word v (onto f (row_items true held))) End))
       (append_assoc ps qs (Shut ∷ [])) (group_closes v (ps ++ qs) h (both_write w (goes_on form k)))
 
-  -- the group of a node
+  -- The pieces of the group of a node
   abbrev group_pieces : Head → ℕ → Nodes → List Piece
   group_pieces h nesting held = opened (head_pieces h) ++ held_pieces (head_text o h) (head_place h) nesting held
 
@@ -117,9 +117,9 @@ module _ (o : Options) (form : Form) where
   unfolding class
   else_group x nesting held k = group_by (codes "else") [] (codes "else") x.operator.place nesting held refl (λ n. refl) (may_end form nothing_writes) k
 
-  -- ---- nodes in a row
+  -- ---- rows of nodes
 
-  -- a group with what stands in front of it
+  -- A group with a hint and white space before it
   led : {ps : List Piece} {f k : Forest} (leads : Bool) (place nesting : ℕ) (h : Option (Placed Hint)) → WritesNoted Free ps Bound f k →
       WritesNoted (ahead form leads) (whole_hint form leads place nesting h ++ (before_word form (leads && is_none h) place nesting ++ ps)) Bound f (hint_items h k)
   led true place nesting None w = before_writes form true place nesting w
@@ -133,7 +133,7 @@ module _ (o : Options) (form : Form) where
       behind_hint true = at_free form false (before_writes form false place nesting w)
       behind_hint false = at_free form false (before_writes form false place nesting w)
 
-  -- what goes on may stand behind a group
+  -- Pieces that may follow an operator may follow a group.
   behind_group : {ps : List Piece} {f k : Forest} → WritesNoted (ahead form false) ps Bound f k → WritesNoted Bound ps Bound f k
   behind_group w = by form w
     where
@@ -168,7 +168,7 @@ module _ (o : Options) (form : Form) where
       one_more first_case (ElseCase y) t other false (nesting + 1) one (else_group y (nesting + 1) other (row_writes other ro false (nesting + 1 + 1))) in
       one_more b (Of x) r node first nesting (row_writes b rb first nesting) (operator_group x p nesting node cases)
 
-  -- nodes write their groups
+  -- The pieces of nodes write their groups.
   pub nodes_write : (f : Nodes) → IsRow form f → (nesting : ℕ) → WritesNoted Free (whole_pieces o form true nesting f) Bound (row_items false f) (row_items true f)
   nodes_write f h nesting = by f (row_writes f h true nesting)
     where

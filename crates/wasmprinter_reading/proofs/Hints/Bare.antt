@@ -1,4 +1,5 @@
--- Annotations behind identifiers, and what stands between operators, don't matter to the hints of operators: code is compared without them.
+-- The hints of operators do not depend on annotations after identifiers or on the items between operators: code is
+-- compared without them.
 use Rattle.std.proofs.Common.{◌≡◌, ℕ, ◌+◌, Bool, true, false, cond, List, [], ◌∷◌, ◌++◌, map, Option, Some, None, option_map, refl, sym, ap, ap₂, ◌∙◌, codes}
 use Rattle.std.proofs.lemmas.List.{map-append}
 use Rattle.wasmprinter_spec.specs.Grammar.{◌>>=◌}
@@ -14,14 +15,14 @@ use Rattle.wasmprinter_spec.specs.Text.Items.{each}
 use Rattle.wasmprinter_spec.specs.Text.Hints.{hint_flag, chunk_hints}
 use Rattle.wasmprinter_lexical.proofs.Noted.{Noted, no_items, a_word, a_name, a_noted_name, a_string, a_reserved, a_group, a_note}
 
--- ---- without what does not matter
+-- ---- code without the irrelevant items
 
--- of items only whether there are any
+-- Of items, only whether there are any
 abbrev bare_items : Forest → Forest
 bare_items End = End
 bare_items _ = Word [] End
 
--- of a hint only its flag, if it has one
+-- Of a hint, only its flag, if it has one
 abbrev bare_hint_by : Option Bool → Forest
 bare_hint_by None = End
 bare_hint_by (Some t) = String (flag_byte t ∷ []) End
@@ -50,11 +51,11 @@ bare_code c = code_of (bare_items c.front) (bare_instructions c.instructions)
 abbrev bare : Option Code → Option Code
 bare c = option_map bare_code c
 
--- in place of any item
+-- A placeholder for any items
 abbrev dull : Forest → Forest
 dull f = Word [] End
 
--- ---- what code is made of
+-- ---- the parts of code
 
 only_bare : (f : Forest) (is : List Instruction) → only_instructions (bare_code (code_of f is)) ≡ option_map bare_instructions (only_instructions (code_of f is))
 only_bare End is = refl
@@ -105,7 +106,7 @@ nested_bare cs =
     by true = refl
     by false = refl
 
--- both parts of an `if`
+-- Both cases of an `if`
 abbrev bare_cases : List Chunk × List Chunk → List Chunk × List Chunk
 bare_cases x = (bare_chunks x.0, bare_chunks x.1)
 
@@ -260,7 +261,7 @@ noted_flag (a_note m n) = refl
 
 -- ---- code
 
--- a group that begins with no word, in front of code
+-- The content of a group that does not start with a word, before code, does not matter.
 other_group : (h i : Forest) (c d : Option Code) → bare c ≡ bare d → bare (with_front (Group h) c) ≡ bare (with_front (Group i) d)
 other_group h i c d e = front_bare (Group h) (λ f. refl) c ∙ ap (with_front dull) e ∙ sym (front_bare (Group i) (λ f. refl) d)
 
@@ -311,7 +312,7 @@ hints_bare f n [] = refl
 hints_bare f n (c ∷ cs) =
     ap₂ (λ o p. o >>= λ flags. p >>= λ rest. Some (map (λ taken. operator_hint f n taken) flags ++ rest)) (each_bare c.hints) (hints_bare f (n + 1) cs)
 
--- Items have the hints of the same items without annotations behind identifiers.
+-- Items have the hints of the same items without annotations after identifiers.
 pub noted_hints : {z g : Forest} (f n : ℕ) → Noted z g → (chunks_of_forest z >>= chunk_hints f n) ≡ (chunks_of_forest g >>= chunk_hints f n)
 noted_hints {z} {g} f n m =
     by (chunks_of_forest z)

@@ -1,4 +1,4 @@
--- The hints of a function's text: annotations behind identifiers count for nothing, and each hint stands in front of its operator.
+-- The hints of a function's text: annotations after identifiers are ignored, and each hint is before its operator.
 use Rattle.std.proofs.Common.{◌≡◌, ℕ, ◌-◌, ◌+◌, Bool, true, false, List, [], ◌∷◌, ◌++◌, Option, Some, None, refl, ap, ◌∙◌, bytes_eq, map, option_map, length}
 use Rattle.std.specs.List.{AllByRecursion, list_any}
 use Rattle.wasmprinter_spec.specs.Grammar.{Placed, ◌>>=◌}
@@ -23,37 +23,37 @@ use Rattle.wasmprinter_reading.proofs.Operators.Forms.{hint_items}
 use Rattle.wasmprinter_reading.proofs.Operators.Immediates.{arguments_by}
 use Rattle.wasmprinter_reading.proofs.Operators.Lists.{arguments_items, hinted_items, chunks_of_instructions-Flat, row_word, word_takes}
 
--- ---- the hints that operators take, one after the other
+-- ---- the hints that operators take, in order
 
--- the operator k of the function f
+-- The hint of operator k of function f, if it has one
 abbrev pub own_hint : ℕ → ℕ → Option (Placed Hint) → List OperatorHint
 own_hint f k None = []
 own_hint f k (Some h) = operator_hint f k h.value.taken ∷ []
 
--- operators from k on, in a body that begins at this place
+-- The hints of operators from k on, in a body that starts at the place `body`
 abbrev pub taken_hints : ℕ → ℕ → ℕ → List (Placed Hint) → List (Placed Operator) → List OperatorHint
 taken_hints f k body hs [] = []
 taken_hints f k body hs (o ∷ os) = own_hint f k (next_hint (o.place - body) hs) ++ taken_hints f (k + 1) body (hint_behind (o.place - body) hs) os
 
--- functions from i on
+-- The hints of functions from index i on
 abbrev pub all_taken : List FunctionHints → ℕ → List PlacedFunction → List OperatorHint
 all_taken es i [] = []
 all_taken es i (f ∷ fs) = taken_hints i 0 f.body.place (next_hints i es) f.body.value.operators ++ all_taken (hints_behind i es) (i + 1) fs
 
 -- ---- code
 
--- Items are operators behind this front, from the operator k of f on, with these hints.
+-- Items read as these items, followed by operators of function f from k on with these hints.
 record IsCode (z front : Forest) (f k : ℕ) (rs : List OperatorHint) : Type 0 where
   chunks : List Chunk
   is : code z ≡ Some (code_of front (map Flat chunks))
   hints : chunk_hints f k chunks ≡ Some rs
 
--- behind any front
+-- The same after any items
 record BehindFront (z : Forest) (f k : ℕ) (rs : List OperatorHint) : Type 0 where
   front : Forest
   code_is : IsCode z front f k rs
 
--- arguments in front of operators
+-- Arguments before operators
 arguments_noted : (a : Forest) → AreArguments a → (g : Forest) (f k : ℕ) (rs : List OperatorHint) → ((y : Forest) → Noted y g → IsCode y End f k rs) →
     (z : Forest) → Noted z (onto a g) → BehindFront z f k rs
 arguments_noted End h g f k rs law z n = record { front = End; code_is = law z n }
@@ -83,12 +83,12 @@ arguments_noted (Group (Word w x) a) h g f k rs law _ (a_group {f = z} (a_word {
     }
 arguments_noted _ h g f k rs law z n = absurd h
 
--- the flag of a hint is read from its byte
+-- The flag of a hint is read from its byte.
 pub flag-byte : (taken : Bool) → flag (flag_byte taken) ≡ Some taken
 flag-byte true = refl
 flag-byte false = refl
 
--- a word in front of operators is an operator
+-- The word of an operator, before operators, is that operator.
 operator_code : (o : Operator) → IsListed o → (z : Forest) (f k : ℕ) (rs : List OperatorHint) → BehindFront z f (k + 1) rs → IsCode (Word (word_of o.opcode) z) End f k rs
 operator_code o l z f k rs b =
     let r : HasRow o = row_for o l in
@@ -99,7 +99,7 @@ operator_code o l z f k rs b =
       hints = rw b.code_is.hints;
     }
 
--- an operator, perhaps behind a hint
+-- An operator, with or without a hint before it
 operator_noted : (hint : Option (Placed Hint)) (o : Operator) → IsListed o → (a : Forest) → AreArguments a → (g : Forest) (f k : ℕ) (rs : List OperatorHint) →
     ((y : Forest) → Noted y g → IsCode y End f (k + 1) rs) → (z : Forest) → Noted z (hint_items hint (Word (word_of o.opcode) (onto a g))) →
     IsCode z End f k (own_hint f k hint ++ rs)
@@ -131,7 +131,7 @@ module _ (s : Setting) (f : ℕ) where
       (hinted_items s behind (count_after role n) ys os) f k (taken_hints f (k + 1) s.body behind os)
       (operators_code behind (count_after role n) ys os (k + 1) l.1) z m
 
-  -- nothing stands in front of the first operator or its hint
+  -- The body starts with the first operator or its hint.
   first_noted : (hint : Option (Placed Hint)) (w : List ℕ) (g z : Forest) → Noted z (hint_items hint (Word w g)) → body_of z ≡ z
   first_noted None w g _ (a_word n) = refl
   first_noted (Some hint) w g _ (a_note m n) = refl
@@ -140,16 +140,16 @@ module _ (s : Setting) (f : ℕ) where
   body_noted hs n xs [] _ no_items = refl
   body_noted hs n xs (o ∷ os) z m = first_noted (next_hint (o.place - s.body) hs) (word_of o.value.opcode) _ z m
 
-  -- the operators of a body have these hints
+  -- The operators of a body have these hints.
   pub operators_hints : (hs : List (Placed Hint)) (os : List (Placed Operator)) → AllByRecursion IsListed (without_places os) →
       (z : Forest) → Noted z (hinted_items s hs 0 [] os) → (chunks_of_forest (body_of z) >>= chunk_hints f 0) ≡ Some (taken_hints f 0 s.body hs os)
   operators_hints hs os l z m =
       let c : IsCode z End f 0 (taken_hints f 0 s.body hs os) = operators_code hs 0 [] os 0 l z m in
       rw (body_noted hs 0 [] os z m, c.is, chunks_of_instructions-Flat c.chunks, c.hints)
 
--- ---- what stands in front of a body
+-- ---- the header before a body
 
--- identifiers, and groups of a type, of parameters, of results and of locals
+-- Identifiers, and groups of a type, of parameters, of results and of locals
 abbrev pub AreHeader : Forest → Type 0
 AreHeader End = Unit {0}
 AreHeader (Name s f) = AreHeader f
@@ -162,7 +162,7 @@ header_onto (Name s a) b h k = header_onto a b h k
 header_onto (Group (Word w g) a) b h k = (h.0, header_onto a b h.1 k)
 header_onto _ b h k = absurd h
 
--- what is so of the body of items is so with a header in front of them
+-- A fact about the body of items also holds with a header before the items.
 pub header_noted : (P : Forest → Type 0) (a : Forest) → AreHeader a → (g : Forest) → ((y : Forest) → Noted y g → P (body_of y)) →
     (z : Forest) → Noted z (onto a g) → P (body_of z)
 header_noted P End h g law z n = law z n

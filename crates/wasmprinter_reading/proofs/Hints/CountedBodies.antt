@@ -1,4 +1,4 @@
--- Bodies, flat or folded, are written with so many hints as their operators take, and nothing else of a function has one.
+-- The text of a body, flat or folded, has as many hints as its operators take, and the rest of a function has none.
 use Rattle.std.proofs.Common.{◌≡◌, ℕ, ◌<◌, ◌≤◌, ◌+◌, ◌-◌, ◌^◌, Bool, true, false, List, [], ◌∷◌, ◌++◌, length, Option, Some, None, refl, sym, ap, ◌∙◌, subst, codes, arith}
 use Rattle.std.proofs.lemmas.List.{length-append}
 use Rattle.std.specs.List.{AllByRecursion}
@@ -48,7 +48,7 @@ use Rattle.wasmprinter_reading.proofs.Hints.FoldedBodies.{all_hintless}
 use Rattle.wasmprinter_reading.proofs.Hints.Counts.{front_count, behind_count, written_count, one_if_any, hint_count-hint_items, length-own_hint}
 use Rattle.wasmprinter_reading.proofs.Hints.Nodes.{HasBareArguments, bare_arguments, row_count, item_hints, node_hints-tree}
 
--- one more operator, which takes its hint
+-- One more operator, which takes its hint
 taken_count : (f k : ℕ) (hint : Option (Placed Hint)) (rs : List OperatorHint) (n : ℕ) → n ≡ length rs → one_if_any hint + n ≡ length (own_hint f k hint ++ rs)
 taken_count f k hint rs n e = omega (arith, e, length-append (own_hint f k hint) rs, length-own_hint f k hint)
 
@@ -117,7 +117,7 @@ list_count (Some x) own s f named ranged hs os l n t fit = folded_count s (x.sig
 -- ---- functions
 
 module _ (s : Scope) (named : AreNamed s.names) (ranged : AreSignaturesInRange (signature_at s.types)) (bare : IsUnpainted s.folding) where
-  -- the body has all hints of a function
+  -- All hints of a function are those of its body.
   function_count : (i : ℕ) (hs : List (Placed Hint)) (f : PlacedFunction) → i < 2 ^ 64 → IsRangedFunction f → AreFoldable s.folding f.body.value.operators →
       (is_folding s.folding ≡ true → misplaced_hints_in f.body.place hs f.body.value.operators ≡ []) →
       hint_count (function_hinted false s i hs f) ≡ length (taken_hints i 0 f.body.place hs f.body.value.operators)

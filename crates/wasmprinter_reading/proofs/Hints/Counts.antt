@@ -1,4 +1,5 @@
--- How many hints items have: identifiers and what stands behind them have none, and neither has what is written without annotations.
+-- The number of hints in items. Annotations after identifiers are not hints, and items that are written without
+-- annotations have none.
 use Rattle.std.proofs.Common.{◌≡◌, ℕ, suc, ◌+◌, Bool, true, false, cond, List, length, Option, Some, None, refl, sym, ap, ap₂, ◌∙◌, arith}
 use Rattle.wasmprinter_spec.specs.Grammar.{Placed}
 use Rattle.wasmprinter_spec.specs.Forest.{Forest, End, Word, Name, String, Reserved, Group, Note, onto, without_annotations}
@@ -15,7 +16,7 @@ use Rattle.wasmprinter_reading.proofs.Operators.Forms.{hint_items}
 use Rattle.wasmprinter_reading.proofs.Customs.Notes.{AreNotes}
 use Rattle.wasmprinter_reading.proofs.Hints.Bodies.{own_hint}
 
--- annotations behind identifiers are no hints
+-- Annotations after identifiers are not hints.
 pub noted_count : {z g : Forest} → Noted z g → hint_count z ≡ hint_count g
 noted_count no_items = refl
 noted_count (a_word n) = noted_count n
@@ -40,15 +41,15 @@ hint_count-onto (Note id h f) g = by (is_hint id) (hint_count-onto f g)
     by true e = omega (arith, e)
     by false e = e
 
--- items before others, where all of them have no hints
+-- If joined items have no hints, neither part has any.
 pub front_count : (a f : Forest) → hint_count (onto a f) ≡ 0 → (hint_count a ≡ 0) × (hint_count f ≡ 0)
 front_count a f e = (omega (arith, e, hint_count-onto a f), omega (arith, e, hint_count-onto a f))
 
--- behind items that have none
+-- Items without hints, before other items, do not change the number of hints.
 pub behind_count : (a f : Forest) → hint_count a ≡ 0 → hint_count (onto a f) ≡ hint_count f
 behind_count a f e = omega (arith, e, hint_count-onto a f)
 
--- ---- what has none
+-- ---- items without hints
 
 bare_count : (f : Forest) → hint_count (without_annotations f) ≡ 0
 bare_count End = refl
@@ -59,7 +60,7 @@ bare_count (Reserved f) = bare_count f
 bare_count (Group g f) = ap₂ (λ a b. a + b) (bare_count g) (bare_count f)
 bare_count (Note id g f) = bare_count f
 
--- what pieces write, without its annotations
+-- The items that pieces write, without annotations, have no hints.
 pub written_count : {a b : Edge} {ps : List Piece} {f k : Forest} → WritesNoted a ps b f k → hint_count f ≡ 0
 written_count {k = k} w = ap hint_count (sym w.without) ∙ bare_count k
 
@@ -67,7 +68,7 @@ pub id_count : (o : Option Named) → hint_count (id_items o) ≡ 0
 id_count None = refl
 id_count (Some d) = refl
 
--- the annotations of custom sections
+-- The annotations of custom sections are not hints.
 pub notes_count : (a : Forest) → AreNotes a → hint_count a ≡ 0
 notes_count End h = refl
 notes_count (Note id f a) h = rw h.0 (notes_count a h.1)

@@ -1,4 +1,4 @@
--- The hints of the fields of a module: functions have theirs, and all other fields and annotations have none.
+-- The hints of the fields of a module: those of functions. No other field or annotation has a hint.
 use Rattle.std.proofs.Common.{◌≡◌, ℕ, ◌+◌, Bool, true, false, List, [], ◌∷◌, ◌++◌, Option, Some, None, refl, sym, subst, codes, bytes_eq, length, arith, append_assoc}
 use Rattle.std.specs.List.{AllByRecursion, list_any}
 use Rattle.wasmprinter_spec.specs.Grammar.{Placed, ◌>>=◌}
@@ -37,7 +37,7 @@ use Rattle.wasmprinter_reading.proofs.Each.{nothing_joined}
 use Rattle.wasmprinter_reading.proofs.Hints.FoldedBodies.{list_hints}
 use Rattle.wasmprinter_reading.proofs.Hints.Bodies.{taken_hints, all_taken, AreHeader, header_onto, header_noted}
 
--- Items behind so many functions have these hints, whatever annotations stand behind their identifiers.
+-- Items after `i` functions have these hints, with any annotations after their identifiers.
 pub record HasHints (i : ℕ) (g : Forest) (hs : List OperatorHint) : Type 0 where
   pub law : (z : Forest) → Noted z g → field_hints i z ≡ Some hs
 
@@ -47,7 +47,7 @@ no_hints i = record { law = by }
     by : (z : Forest) → Noted z End → field_hints i z ≡ Some []
     by _ no_items = refl
 
--- ---- what has none
+-- ---- fields without hints
 
 pub notes_before : (a : Forest) → AreNotes a → {i : ℕ} {g : Forest} {hs : List OperatorHint} → HasHints i g hs → HasHints i (onto a g) hs
 notes_before End h x = x
@@ -65,7 +65,7 @@ id_before (Some d) {i = i} {g = g} {hs = hs} x = record { law = by }
     by _ (a_name {f = z} n) = x.law z n
     by _ (a_noted_name {f = z} n) = x.law z n
 
--- a field of another word than these two
+-- A field with a word other than `func` and `import`
 abbrev pub IsOther : List ℕ → Type 0
 IsOther w = (bytes_eq w (codes "func") ≡ false) × (bytes_eq w (codes "import") ≡ false)
 
@@ -99,9 +99,9 @@ types_before names k (x ∷ xs) {i = i} {g = g} {hs = hs} h =
     subst (λ t. HasHints i t hs) (sym (onto_assoc group rest g))
     (group_before names x.value.written k x.value.types (types_before names (k + length x.value.types) xs h))
 
--- ---- imports, of which each function has a number
+-- ---- imports, in which each function has a number
 
--- an import of this word
+-- An import of the kind with this word
 abbrev import_group : List ℕ → List ℕ → List ℕ → Forest → Forest
 import_group m n w x = Word (codes "import") (String m (String n (Group (Word w x) End)))
 

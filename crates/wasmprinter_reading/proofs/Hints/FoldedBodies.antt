@@ -1,4 +1,4 @@
--- The hints of a body's text, flat or folded: each stands in front of its operator or in front of the group of its operator.
+-- The hints of the text of a body, flat or folded: each is before its operator or the group of its operator.
 use Rattle.std.proofs.Common.{◌≡◌, ℕ, ◌+◌, ◌-◌, Bool, true, false, ◌||◌, cond, List, [], ◌∷◌, ◌++◌, map, length, Option, Some, None, refl, sym, ap, ◌∙◌, subst, codes, bytes_eq, true≢false}
 use Rattle.std.specs.List.{AllByRecursion, list_any}
 use Rattle.wasmprinter_spec.specs.Grammar.{Placed, ◌>>=◌}
@@ -35,7 +35,7 @@ use Rattle.wasmprinter_reading.proofs.Each.{nothing_joined}
 use Rattle.wasmprinter_reading.proofs.Hints.Bodies.{own_hint, taken_hints, flag-byte, operators_hints}
 use Rattle.wasmprinter_reading.proofs.Hints.Bare.{noted_hints}
 
--- ---- where a body begins
+-- ---- the start of a body
 
 other_way : (v w : List ℕ) → bytes_eq w v ≡ false → bytes_eq v w ≡ false
 other_way v w e = by (bytes_eq v w) refl
@@ -48,7 +48,7 @@ neither : (p q : Bool) → p ≡ false → q ≡ false → (p || q) ≡ false
 neither true q e f = e
 neither false q e f = f
 
--- an operator is no part of a header
+-- An operator is not part of a header.
 not_header : (w : List ℕ) → StandsAlone w → list_any (λ v. bytes_eq v w) header_words ≡ false
 not_header w a =
     neither _ _ (other_way (codes "type") w (differs w (codes "type") a refl))
@@ -114,7 +114,7 @@ module _ (s : Setting) (signatures : Signatures) (f : ℕ) where
 
 -- ---- flat or folded
 
--- the operators of a body have these hints
+-- The operators of a body have these hints.
 pub list_hints : (folding : Option Folding) (own : Option ℕ) (s : Setting) (f : ℕ) → AreNamed s.names → AreSignaturesInRange s.signature → (hs : List (Placed Hint)) (os : List (Placed Operator)) →
     AllByRecursion IsListed (without_places os) → Nests Sequence (roles os) → AreFoldable folding os → (is_folding folding ≡ true → misplaced_hints_in s.body hs os ≡ []) →
     (z : Forest) → Noted z (list_items true folding own s hs os) → (chunks_of_forest (body_of z) >>= chunk_hints f 0) ≡ Some (taken_hints f 0 s.body hs os)

@@ -47,21 +47,21 @@ module _ (folding : Option Folding) (bare : IsUnpainted folding) (o : Options) (
   abbrev own_taken : List OperatorHint
   own_taken = all_taken (hints_of m.customs) (before folding names m FuncKind) m.functions
 
-  -- the annotations of custom sections have no hints
+  -- The annotations of custom sections have no hints.
   place_before : (place : Option Kind) {i : ℕ} {g : Forest} {hs : List OperatorHint} → HasHints i g hs → HasHints i (onto (noted folding bare o names named m h answers place) g) hs
   place_before place x = notes_before (noted folding bare o names named m h answers place) (noting folding bare o names named m h answers place).are x
 
-  -- where operators are folded, no hint is on an operator that can't have one
+  -- If operators are folded, each hint is on an operator that can have one.
   hints_fit : is_folding folding ≡ true → misplaced_hints_from (hints_of m.customs) (before folding names m FuncKind) m.functions ≡ []
   hints_fit e = ap (λ s. cond s [] (misplaced_hints_from (hints_of m.customs) (before folding names m FuncKind) m.functions)) (sym whole) ∙ placed e
 
-  -- the fields of which sections hold or import functions
+  -- Reports whether the fields of a section of this kind are functions or may import some.
   abbrev has_functions : Kind → Bool
   has_functions ImportSection = true
   has_functions CodeSection = true
   has_functions _ = false
 
-  -- all others have no hints, and leave the number of the next function
+  -- All other fields have no hints and do not change the number of the next function.
   fields_before : (k : Kind) → has_functions k ≡ false → {i : ℕ} {g : Forest} {hs : List OperatorHint} → HasHints i g hs →
       HasHints i (onto (fields_noted folding bare o names named m h k) g) hs
   fields_before TypeSection e x = types_before names 0 m.types x
@@ -76,7 +76,7 @@ module _ (folding : Option Folding) (bare : IsUnpainted folding) (o : Options) (
   abbrev own_kinds : List Kind → Forest
   own_kinds = kinds_noted folding bare o names named m h answers
 
-  -- sections of such kinds before others
+  -- Sections without functions, before other sections, have no hints.
   kinds_before : (ks others : List Kind) → list_any has_functions ks ≡ false → {i : ℕ} {hs : List OperatorHint} →
       HasHints i (own_kinds others) hs → HasHints i (own_kinds (ks ++ others)) hs
   kinds_before [] others e x = x
@@ -104,14 +104,14 @@ module _ (folding : Option Folding) (bare : IsUnpainted folding) (o : Options) (
       let imports = imports_before (early folding names m) no_numbers m.imports (at_number (omega arith) behind) in
       id_before names.module_name (place_before None (fields_before TypeSection refl (place_before (Some TypeSection) imports)))
 
-  -- the text of the module's pieces has the hints that its functions take
+  -- The text of the module's pieces has the hints that its functions take.
   forest_has : (z : Forest) → Noted z (Group (Word (codes "module") (onto (id_items names.module_name) (module_noted folding bare o names named m h answers))) End) →
       forest_hints z ≡ Some own_taken
   forest_has _ (a_group (a_word {f = y} n) no_items) = fields_have.law y n
 
   -- ---- no other hints
 
-  -- how many are written of a section: functions have all of them
+  -- The number of hints in the text of a section: functions have all of them.
   abbrev section_count : Kind → ℕ
   section_count CodeSection = length own_taken
   section_count _ = 0
@@ -146,14 +146,14 @@ module _ (folding : Option Folding) (bare : IsUnpainted folding) (o : Options) (
       ∙ place_count None (own_kinds section_order)
       ∙ omega (arith, kinds_count section_order)
 
-  -- each hint annotation of the text gives one
+  -- Each hint annotation of the text gives one hint.
   all_given : (z : Forest) → Noted z (Group (Word (codes "module") (onto (id_items names.module_name) (module_noted folding bare o names named m h answers))) End) →
       (forest_hints z >>= if_all z) ≡ Some own_taken
   all_given z n =
       let count : hint_count z ≡ length own_taken = noted_count n ∙ omega (arith, module_count) in
       rw (forest_has z n, eq-eqb (length own_taken) (hint_count z) (sym count)) refl
 
--- the entries of a well formed section
+-- The entries of a well-formed section
 record AreWellFormed (m : PlacedModule) (hs : List OperatorHint) : Type 0 where
   functions_up : rise (map (λ e. e.function) (hints_of m.customs)) ≡ true
   offsets_up : offsets_rise (hints_of m.customs) ≡ true

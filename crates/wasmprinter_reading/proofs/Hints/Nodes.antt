@@ -1,4 +1,4 @@
--- How many hints nodes have: those of the code that they are made of, and so many are written of them.
+-- The number of hints of nodes: it is that of their code, and the items of the nodes have the same number.
 use Rattle.std.proofs.Common.{◌≡◌, ℕ, ◌+◌, true, List, [], ◌∷◌, ◌++◌, refl, ap, ◌∙◌, arith}
 use Rattle.std.specs.List.{AllByRecursion}
 use Rattle.wasmprinter_spec.specs.Forest.{Forest, End, Group}
@@ -17,14 +17,14 @@ use Rattle.wasmprinter_reading.proofs.Folded.Heads.{OnHead, AllHeads}
 use Rattle.wasmprinter_reading.proofs.Folded.Reads.{head_items, row_items}
 use Rattle.wasmprinter_reading.proofs.Hints.Counts.{hint_count-onto, behind_count, written_count, one_if_any, hint_count-hint_items}
 
--- ---- what nodes are written as
+-- ---- the items of nodes
 
--- the hints of nodes, at every depth
+-- The number of hints of nodes at every depth
 abbrev pub node_hints : Nodes → ℕ
 node_hints Nil = 0
 node_hints (Snoc b h r held) = node_hints b + (one_if_any (head_hint h) + node_hints held)
 
--- what is written of an operator behind its word has no hints
+-- The arguments of an operator have no hints.
 abbrev pub HasBareArguments : Item → Type 0
 HasBareArguments x = hint_count (arguments x) ≡ 0
 
@@ -45,7 +45,7 @@ row_count (Snoc b g r held) (own, before, inside) =
     let holds : hint_count (head_items g (row_items true held)) ≡ node_hints held = head_count g own (row_items true held) ∙ row_count held inside in
     omega (arith, hint_count-onto (row_items true b) (hint_items (head_hint g) group), hint_count-hint_items (head_hint g) group, first, holds)
 
--- ---- what code becomes
+-- ---- the nodes of code
 
 abbrev pub item_hints : List Item → ℕ
 item_hints [] = 0
@@ -63,13 +63,13 @@ node_hints-front-last : (f : Nodes) → node_hints f ≡ node_hints (front f) + 
 node_hints-front-last Nil = refl
 node_hints-front-last (Snoc b h r held) = omega arith
 
--- operands that were found keep their hints
+-- Operands that were found keep their hints.
 node_hints-with_operands : (f : Nodes) (x : Item) (o : Operands) → AreLast f o → node_hints (with_operands f (Of x) x.gives o) ≡ node_hints f + one_if_any x.hint
 node_hints-with_operands f x (Fit before run) l = omega (arith, node_hints-row_of_both before run, ap node_hints l)
 node_hints-with_operands f x Passed l = omega arith
 node_hints-with_operands f x Short l = omega arith
 
--- `else` and `end`, which have no node that a hint can stand before, have none
+-- `else` and `end` have no hint, since they have no node that a hint can precede.
 no_hint : (x : Item) (r : Role) → IsHintless true x → role x ≡ r → is_hintless r ≡ true → one_if_any x.hint ≡ 0
 no_hint x r h e k = ap one_if_any (h (ap is_hintless e ∙ k))
 
@@ -114,6 +114,6 @@ node_hints-tree_behind f (IfElse x body turn other end rest) (opens, fit_body, t
       no_hint end Ends of_end closes refl,
     )
 
--- the nodes of code have its hints
+-- The nodes of code have its hints.
 pub node_hints-tree : (code : NestedCode) → IsFit code → AllByRecursion (IsHintless true) (flat code) → node_hints (tree code) ≡ item_hints (flat code)
 node_hints-tree code h p = omega (arith, node_hints-tree_behind Nil code h p)

@@ -1,4 +1,5 @@
--- Operators and functions take all hints of a well formed section: each hint that waits meets its operator, and each entry its function.
+-- Operators and functions take all hints of a well-formed section: each hint reaches its operator, and each entry
+-- its function.
 use Rattle.std.proofs.Common.{◌≡◌, ℕ, suc, ◌+◌, ◌-◌, ◌<◌, ◌≤◌, eqb, ltb, Bool, true, false, cond, List, [], ◌∷◌, ◌++◌, Option, Some, None, refl, sym, ap, ap₂, ◌∙◌, subst, map, option_map, arith, inl, inr, ◌⊎◌}
 use Rattle.std.specs.List.{AllByRecursion}
 use Rattle.std.specs.Prelude.{slice_get}
@@ -12,9 +13,9 @@ use Rattle.wasmprinter_spec.specs.Text.Items.{each}
 use Rattle.wasmprinter_reading.proofs.Ranged.{ArePlaced, IsRangedFunction}
 use Rattle.wasmprinter_reading.proofs.Hints.Bodies.{taken_hints, all_taken}
 
--- ---- numbers that rise
+-- ---- increasing numbers
 
--- all are greater
+-- All numbers are greater than `a`.
 abbrev AreOver : ℕ → List ℕ → Type 0
 AreOver a bs = AllByRecursion (λ b. a < b) bs
 
@@ -35,11 +36,11 @@ rise_tail a (b ∷ bs) h = (and_parts (ltb a b) (rise (b ∷ bs)) h).1
 
 -- ---- operators
 
--- an operator that begins before the place is passed over
+-- An operator that starts before the place is skipped.
 passed : (place k : ℕ) (o : Placed Operator) (os : List (Placed Operator)) → o.place < place → number_at place k (o ∷ os) ≡ number_at place (k + 1) os
 passed place k o os lt = rw (ne_eqb o.place place (λ e. omega (arith, lt, e)))
 
--- what is found does not stand in front
+-- If an operator is found at a place, the place is not before the first operator.
 found_behind : (place low k : ℕ) (os : List (Placed Operator)) (n : ℕ) → ArePlaced low os → number_at place k os ≡ Some n → low ≤ place
 found_behind place low k [] n h e = absurd cc
 found_behind place low k (o ∷ os) n h e = by (eqb o.place place) refl e (λ f. found_behind place (suc o.place) (k + 1) os n h.1 f)
@@ -53,14 +54,14 @@ mapped_some g None y e = absurd cc
 mapped_some g (Some x) y e = (x, refl)
 
 module _ (f body : ℕ) where
-  -- a hint of a body, by its operators from k on
+  -- The operator of a hint in a body, among the operators from k on
   abbrev hint_from : ℕ → List (Placed Operator) → Placed Hint → Option OperatorHint
   hint_from k os h = option_map (λ n. operator_hint f n h.value.taken) (number_at (body + h.value.offset) k os)
 
   abbrev offsets : List (Placed Hint) → List ℕ
   offsets hs = map (λ h. h.value.offset) hs
 
-  -- hints behind an operator
+  -- Hints after an operator are not those of that operator.
   each_passed : (k : ℕ) (o : Placed Operator) (os : List (Placed Operator)) (hs : List (Placed Hint)) (a : ℕ) → o.place ≤ body + a → AreOver a (offsets hs) →
       each (hint_from k (o ∷ os)) hs ≡ each (hint_from (k + 1) os) hs
   each_passed k o os [] a le h = refl
@@ -68,12 +69,12 @@ module _ (f body : ℕ) where
       let lt : o.place < body + x.value.offset = omega (arith, le, h.0) in
       rw (passed (body + x.value.offset) k o os lt, each_passed k o os hs a le h.1)
 
-  -- no hints, nothing is taken
+  -- Without hints, operators take none.
   none_taken : (k : ℕ) (os : List (Placed Operator)) → taken_hints f k body [] os ≡ []
   none_taken k [] = refl
   none_taken k (o ∷ os) = none_taken (k + 1) os
 
-  -- the operator o takes the hint
+  -- Operator o takes the hint.
   taken_here : (k : ℕ) (o : Placed Operator) (os : List (Placed Operator)) (h : Placed Hint) (hs : List (Placed Hint)) (rs : List OperatorHint) → o.place ≡ body + h.value.offset →
       AreOver h.value.offset (offsets hs) → each (hint_from k (o ∷ os)) (h ∷ hs) ≡ Some rs →
       ((ts : List OperatorHint) → each (hint_from (k + 1) os) hs ≡ Some ts → taken_hints f (k + 1) body hs os ≡ ts) → taken_hints f k body (h ∷ hs) (o ∷ os) ≡ rs
@@ -89,7 +90,7 @@ module _ (f body : ℕ) where
       let takes : eqb h.value.offset (o.place - body) ≡ true = eq-eqb h.value.offset (o.place - body) (omega (arith, same)) in
       rw takes (ap₂ (λ x y. x ∷ y) first behind ∙ some_is (found ∷ others) rs result)
 
-  -- the operator o takes no hint
+  -- Operator o takes no hint.
   taken_later : (k : ℕ) (o : Placed Operator) (os : List (Placed Operator)) (h : Placed Hint) (hs : List (Placed Hint)) (rs : List OperatorHint) → body ≤ o.place →
       ArePlaced (suc o.place) os → eqb o.place (body + h.value.offset) ≡ false → AreOver h.value.offset (offsets hs) → each (hint_from k (o ∷ os)) (h ∷ hs) ≡ Some rs →
       (each (hint_from (k + 1) os) (h ∷ hs) ≡ Some rs → taken_hints f (k + 1) body (h ∷ hs) os ≡ rs) → taken_hints f k body (h ∷ hs) (o ∷ os) ≡ rs
@@ -126,7 +127,7 @@ module _ (f body : ℕ) where
 abbrev functions_of : List FunctionHints → List ℕ
 functions_of es = map (λ e. e.function) es
 
--- bodies are numbered behind the imports
+-- Functions with bodies are numbered after the imported ones. Without any, there is no body at any index.
 no_body : (i g : ℕ) → body_at i [] g ≡ None
 no_body i g = by (ltb g i)
   where
@@ -144,7 +145,7 @@ later_body i g f fs lt =
     let behind : g - i ≡ suc (g - (i + 1)) = omega (arith, lt) in
     rw (le-ltb g i (omega (arith, lt)), le-ltb g (i + 1) (omega (arith, lt)), behind)
 
--- a function with a body is not imported
+-- A function with a body is not imported.
 is_defined : (i g : ℕ) (fs : List PlacedFunction) (b : Placed Body) → body_at i fs g ≡ Some b → i ≤ g
 is_defined i g fs b e = by (ltb g i) refl e
   where
@@ -160,7 +161,7 @@ none_of_functions : (i : ℕ) (fs : List PlacedFunction) → all_taken [] i fs �
 none_of_functions i [] = refl
 none_of_functions i (f ∷ fs) = rw (none_taken i f.body.place 0 f.body.value.operators, none_of_functions (i + 1) fs)
 
--- the function i takes the entry
+-- Function i takes the entry.
 entry_here : (i : ℕ) (f : PlacedFunction) (fs : List PlacedFunction) (e : FunctionHints) (es : List FunctionHints) (rs : List OperatorHint) → IsRangedFunction f →
     rise (offsets i f.body.place e.hints) ≡ true → AreOver i (functions_of es) → e.function ≡ i → all_hints i (f ∷ fs) (e ∷ es) ≡ Some rs →
     ((ts : List OperatorHint) → all_hints (i + 1) fs es ≡ Some ts → all_taken es (i + 1) fs ≡ ts) → all_taken (e ∷ es) i (f ∷ fs) ≡ rs
@@ -176,7 +177,7 @@ entry_here i f fs e es rs h up over same k more =
     let rest : all_taken es (i + 1) fs ≡ others = more others (sym (entries_later i f fs es over) ∙ are_others) in
     rw (eq-eqb e.function i same) (ap₂ (λ x y. x ++ y) taken rest ∙ some_is (found ++ others) rs result)
 
--- the function i takes no entry
+-- Function i takes no entry.
 entry_later : (i : ℕ) (f : PlacedFunction) (fs : List PlacedFunction) (e : FunctionHints) (es : List FunctionHints) (rs : List OperatorHint) →
     AreOver e.function (functions_of es) → eqb e.function i ≡ false → all_hints i (f ∷ fs) (e ∷ es) ≡ Some rs →
     (all_hints (i + 1) fs (e ∷ es) ≡ Some rs → all_taken (e ∷ es) (i + 1) fs ≡ rs) → all_taken (e ∷ es) i (f ∷ fs) ≡ rs

@@ -1,4 +1,4 @@
--- Within one space no two indices have one identifier.
+-- No two indices of one space have the same identifier.
 use Rattle.std.proofs.Common.{◌≡◌, ◌≢◌, ℕ, ◌<◌, ◌^◌, List, [], ◌∷◌, ◌++◌, Bool, true, false, ◌||◌, ◌&&◌, not, bytes_eq, decimal, Option, Some, None, refl, sym, ap, ◌∙◌, subst, arith, true≢false}
 use Rattle.std.specs.Prelude.{nat_eq, if◌then◌else◌}
 use Rattle.std.proofs.lemmas.Bool.{eqb-true, eqb-false, or_left, or_right, or_parts}
@@ -23,9 +23,9 @@ pub are_entries-in : (s outer : ℕ) (entries : List Entry) → AreEntries entri
 are_entries-in s outer [] h = tt
 are_entries-in s outer (e ∷ entries) h = keeps_entry (is_in s outer e) e (entries_in s outer entries) h.0 (are_entries-in s outer entries h.1)
 
--- ---- what a content tells
+-- ---- the index in a content
 
--- what follows one beginning
+-- Two equal texts with the same prefix have the same rest.
 behind_group : (g xs ys : List ℕ) → g ++ xs ≡ g ++ ys → xs ≡ ys
 behind_group [] xs ys e = e
 behind_group (c ∷ g) xs ys e = behind_group g xs ys (let f : g ++ xs ≡ g ++ ys = cc in f)
@@ -47,14 +47,14 @@ index-index g i j p q e = number i j p q (behind_sign g (decimal i) (decimal j) 
 marked-not_index : (g n : List ℕ) (i j : ℕ) → marked_content g j n ≡ index_content g i → ⊥
 marked-not_index g n i j e = has_blank (decimal j) (decimal i) n (no_blank-decimal i) (behind_sign g (decimal j ++ (32 ∷ n)) (decimal i) e)
 
--- ---- what an index is called
+-- ---- the identifier of an index
 
--- the identifier, made up where there is no name
+-- The identifier of an index, synthesized if it has no name
 abbrev text_at : ℕ → Option Named → ℕ → List ℕ
 text_at s None index = index_content (group_of s) index
 text_at s (Some n) index = n.content
 
--- It is the index's own, or a name that was given.
+-- An identifier contains its own index, or it is a name that was given.
 data Calls (s : ℕ) (given : List (List ℕ)) (i : ℕ) (c : List ℕ) : Type 0 where
   Marked : (n : List ℕ) → c ≡ marked_content (group_of s) i n → Calls s given i c
   Invented : c ≡ index_content (group_of s) i → Calls s given i c
@@ -68,7 +68,7 @@ and-right : (a b : Bool) → a ≡ true → (a && b) ≡ false → b ≡ false
 and-right true b e f = f
 and-right false b e f = absurd (true≢false (sym e))
 
--- whether a name can't stand as it is
+-- Reports whether a name can't be the identifier, so that the identifier has to contain the index.
 abbrev needs_mark : ℕ → List (List ℕ) → Entry → Bool
 needs_mark s given e = not (is_clean e.name) || (is_counted s && is_among e.name given)
 
@@ -78,7 +78,7 @@ clean s given e h = not-false (is_clean e.name) (or_parts (not (is_clean e.name)
 unclean : (c d : List ℕ) → is_clean c ≡ true → is_clean d ≡ false → c ≢ d
 unclean c d h k e = true≢false (sym h ∙ ap is_clean e ∙ k)
 
--- what an entry gives
+-- The identifier that an entry gives is one of its index.
 calls_by : (s : ℕ) (given : List (List ℕ)) (e : Entry) (b : Bool) → needs_mark s given e ≡ b
     → Calls s (e.name ∷ given) e.index (if b then marked_content (group_of s) e.index e.name else e.name)
 calls_by s given e true h = Marked e.name refl
@@ -92,7 +92,7 @@ still_calls s given i c n (Given h k) = Given (or_right (bytes_eq n c) (is_among
 -- ---- two indices
 
 module _ (s : ℕ) (counted : is_counted s ≡ true) where
-  -- what an entry gives is not what another index is called
+  -- The identifier that an entry gives differs from that of another index.
   apart_by : (given : List (List ℕ)) (e : Entry) (b : Bool) (j : ℕ) (d : List ℕ) → needs_mark s given e ≡ b
       → e.index < 2 ^ 64 → j < 2 ^ 64 → e.index ≢ j → Calls s given j d → (if b then marked_content (group_of s) e.index e.name else e.name) ≢ d
   apart_by given e true j d h p q ne (Marked n r) f = ne (marked-index (group_of s) e.name n e.index j p q (f ∙ r))
@@ -105,7 +105,7 @@ module _ (s : ℕ) (counted : is_counted s ≡ true) where
       and-right (is_counted s) (is_among e.name given) counted (or_parts (not (is_clean e.name)) (is_counted s && is_among e.name given) h).1 in
       true≢false (sym a ∙ ap (λ x. is_among x given) (sym f) ∙ new)
 
-  -- the name of an index behind an entry
+  -- The name of an index after an entry
   abbrev next : List (List ℕ) → Entry → Bool → Option Named → Option Named
   next given e hit a = if hit then Some (entry_name s given e) else a
 
@@ -115,7 +115,7 @@ module _ (s : ℕ) (counted : is_counted s ≡ true) where
       subst (λ (k : ℕ). Calls s (e.name ∷ given) k (content s given e)) (eqb-true e.index i h) (calls_by s given e (needs_mark s given e) refl)
   calls_next given e false i a h r = still_calls s given i (text_at s a i) e.name r
 
-  -- two indices stay apart over an entry
+  -- If two indices have different identifiers before an entry, they have different identifiers after it.
   apart_next : (given : List (List ℕ)) (e : Entry) (hit strike : Bool) (i j : ℕ) (a b : Option Named)
       → nat_eq e.index i ≡ hit → nat_eq e.index j ≡ strike → e.index < 2 ^ 64 → i < 2 ^ 64 → j < 2 ^ 64 → i ≢ j
       → Calls s given i (text_at s a i) → Calls s given j (text_at s b j) → text_at s a i ≢ text_at s b j

@@ -1,4 +1,4 @@
--- Each entry that a name section gives has an index of 32 bits and a name of UTF-8.
+-- Each entry that a name section gives has an index of 32 bits and a name in UTF-8.
 use Rattle.std.proofs.Common.{◌≡◌, ℕ, List, [], ◌∷◌, ◌++◌, Option, Some, None, sym, subst, arith}
 use Rattle.std.specs.Prelude.{◌<◌, ◌^◌, IsUtf8, MatchOption, nat_lt, ◌==◌}
 use Rattle.wasmprinter_spec.specs.Grammar.{Input, byte}

@@ -1,4 +1,4 @@
--- Entries read one by one are listed.
+-- Entries that are read one by one are those of a counted list.
 use Rattle.std.proofs.Common.{◌≡◌, ℕ, zero, suc, List, [], ◌∷◌, ◌++◌, Option, Some, None, refl, sym, ap, ◌∙◌, subst, append_assoc, arith, inl, inr}
 use Rattle.std.specs.Prelude.{map}
 use Rattle.std.proofs.lemmas.List.{length-append}
@@ -32,7 +32,7 @@ module _ {A E : Type 0} (h : A → E) (g : Grammar A) where
   abbrev single : Lenient E
   single = one (λ a. h a ∷ []) g
 
-  -- one more entry, and then those that are listed behind it
+  -- An entry and the counted list after it are a counted list.
   more : (n : ℕ) (at : Input) (ys zs : List E) (mid : Input) (end : Option Input) → single.gives at ys (Some mid) → Lists n mid zs end → Lists (suc n) at (ys ++ zs) end
   more n at ys zs mid end (inl ((value, after), spans, (one_entry, stands))) r =
       subst (λ (us : List E). Lists (suc n) at (us ++ zs) end) (sym one_entry)

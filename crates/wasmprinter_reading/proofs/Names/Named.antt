@@ -34,7 +34,7 @@ group-printed s =
     (either (s == data_subsection) (codes "data") _ refl
     (either (s == field_subsection) (codes "field") (codes "tag") refl refl))))))))))
 
--- the sign and the word in front of a text
+-- The sign `#` and the word for the kind of item, before a text in UTF-8, are UTF-8.
 signed : (s : ℕ) (text : List ℕ) → IsUtf8 text → IsUtf8 (35 ∷ (group_of s ++ text))
 signed s text h =
     IsUtf8-append (35 ∷ []) (group_of s ++ text) (printed_is_utf8 (35 ∷ []) refl)

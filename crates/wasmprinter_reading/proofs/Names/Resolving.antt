@@ -1,4 +1,4 @@
--- An item with an identifier is the one that the identifier is resolved to.
+-- The identifier of an item is resolved to that item.
 use Rattle.std.proofs.Common.{◌≡◌, ◌≢◌, ℕ, zero, suc, ◌+◌, ◌-◌, ◌<◌, ◌≤◌, ◌^◌, List, ◌∷◌, Bool, true, false, bytes_eq, Option, Some, None, refl, ap, ◌∙◌, subst, arith}
 use Rattle.std.specs.Prelude.{nat_eq}
 use Rattle.std.proofs.lemmas.Bool.{eqb-true, eqb-false, false_from_ne_true}
@@ -10,7 +10,7 @@ use Rattle.wasmprinter_reading.proofs.Bytes.{bytes_same, same_bytes}
 use Rattle.wasmprinter_reading.proofs.Declarations.{id}
 
 module _ (named : ℕ → Option Named) (c : List ℕ) where
-  -- none of these declarations has the identifier
+  -- If no declaration has the identifier, it is not declared.
   undeclared : (n k : ℕ) → ((j : ℕ) → k ≤ j → j < k + n → declares c (id (named j)) ≡ false)
       → is_declared c (identifiers_at named k n) ≡ false
   undeclared zero k h = refl
@@ -32,7 +32,7 @@ module _ (named : ℕ → Option Named) (c : List ℕ) where
       let one : (i - (k + 1)) + 1 ≡ i - k = omega (arith, later) in
       rw (before, rest later) (ap Some one)
 
-  -- the place of the only declaration that has it
+  -- If exactly one declaration has the identifier, it is resolved to the position of that declaration.
   place_of : (n k i : ℕ) → k ≤ i → i < k + n → declares c (id (named i)) ≡ true
       → ((j : ℕ) → k ≤ j → j < k + n → j ≢ i → declares c (id (named j)) ≡ false)
       → resolve c (identifiers_at named k n) ≡ Some (i - k)
@@ -42,7 +42,7 @@ module _ (named : ℕ → Option Named) (c : List ℕ) where
       (λ later. place_of n (k + 1) i later (omega (arith, q)) d (λ j a b ne. h j (omega (arith, a)) (omega (arith, b)) ne))
 
 module _ (named : ℕ → Option Named) (apart : AreDistinct named) where
-  -- no other item has an item's identifier
+  -- No other item has the identifier of an item.
   other_by : (i j : ℕ) (n : Named) (o : Option Named) → i < 2 ^ 64 → j < 2 ^ 64 → j ≢ i → named i ≡ Some n → named j ≡ o
       → declares n.content (id o) ≡ false
   other_by i j n None p q ne e f = refl

@@ -1,4 +1,4 @@
--- One operator alone in a group: its group is its code.
+-- The group of a single operator reads as the code of that operator.
 use Rattle.std.proofs.Common.{◌≡◌, true, cond, List, [], ◌∷◌, ℕ, Option, Some, refl, sym, ap, ◌∙◌, codes, bytes_eq}
 use Rattle.wasmprinter_spec.specs.Grammar.{◌>>=◌}
 use Rattle.wasmprinter_spec.specs.Forest.{Forest, End, Word, Group, onto}
@@ -14,7 +14,7 @@ use Rattle.wasmprinter_reading.proofs.Tabled.{HasRow, row_for, StandsAlone, plai
 use Rattle.wasmprinter_reading.proofs.Operators.Arguments.{AreArguments, arguments_front}
 use Rattle.wasmprinter_reading.proofs.Operators.Rows.{IsSome, rows_of-row, first_of_rows}
 
--- an operator that is well nested by itself neither opens nor closes a block
+-- An operator that is well nested by itself neither opens nor closes a block.
 plain_role : (r : Role) → Nests Sequence (r ∷ []) → r ≡ Plain
 plain_role r n = by r (stops_at_end (r ∷ []) n)
   where
@@ -29,7 +29,7 @@ plain_role r n = by r (stops_at_end (r ∷ []) n)
     by Delegates e = absurd cc
     by Ends e = absurd cc
 
--- its word is the head of a folded operator
+-- Its word is the head of a folded operator.
 pub head-alone : (w : List ℕ) → StandsAlone w → head w ≡ head_by (rows_of w)
 unfolding head
 head-alone w a =
@@ -51,7 +51,7 @@ alone_for o l n =
     let e : word_of o.opcode ≡ r.row.word = ap word_of_row r.found in
     record { row = r; role = plain; alone = rw e a }
 
--- its group is its code
+-- Its group reads as its code.
 pub chunks_of_forest-alone : (o : Operator) (a : Forest) → IsAlone o → AreArguments a →
     chunks_of_forest (Group (Word (word_of o.opcode) (onto a End)) End) ≡ Some (chunk (rows_of (word_of o.opcode)) a ∷ [])
 chunks_of_forest-alone o a h args =

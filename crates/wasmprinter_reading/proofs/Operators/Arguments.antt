@@ -1,10 +1,10 @@
--- Arguments: what may stand between an operator's word and the next operator.
+-- Arguments: the items that may occur between the word of an operator and the next operator
 use Rattle.std.proofs.Common.{◌≡◌, List, [], Some}
 use Rattle.wasmprinter_spec.specs.Forest.{Forest, End, Word, Name, Group, onto}
 use Rattle.wasmprinter_spec.specs.Table.{rows_of}
 use Rattle.wasmprinter_spec.specs.Code.{Instruction, code_of, PartHead, head, code}
 
--- words that are no operator's, identifiers, and groups that are parts of an operator
+-- Words that no operator has, identifiers, and groups that are parts of an operator
 abbrev pub AreArguments : Forest → Type 0
 AreArguments End = Unit {0}
 AreArguments (Word w f) = (rows_of w ≡ []) × AreArguments f
@@ -12,7 +12,7 @@ AreArguments (Name s f) = AreArguments f
 AreArguments (Group (Word w g) f) = (head w ≡ PartHead) × AreArguments f
 AreArguments _ = ⊥
 
--- they are the front of the code that they stand before
+-- Arguments before code are read as the items before its first instruction.
 pub arguments_front : (a : Forest) → AreArguments a → (f : Forest) (is : List Instruction) → code f ≡ Some (code_of End is) →
     code (onto a f) ≡ Some (code_of a is)
 arguments_front End h f is e = e

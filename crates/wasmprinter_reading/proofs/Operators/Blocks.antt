@@ -1,4 +1,4 @@
--- The identifier and the type of a block.
+-- The identifier and the type of a block
 use Rattle.std.proofs.Common.{◌≡◌, ℕ, ◌+◌, ◌<◌, ◌^◌, true, List, [], ◌∷◌, ◌++◌, Option, Some, None, refl, ◌∙◌, codes, decimal, subst}
 use Rattle.wasmprinter_spec.specs.Character.{class}
 use Rattle.wasmprinter_spec.specs.Grammar.{◌>>=◌}
@@ -30,7 +30,7 @@ use Rattle.wasmprinter_reading.proofs.Operators.Arguments.{AreArguments, argumen
 use Rattle.wasmprinter_reading.proofs.Operators.Forms.{behind, may_end}
 use Rattle.wasmprinter_reading.proofs.Operators.Spaces.{least, item_reads, types_read}
 
--- ---- what they are written as
+-- ---- the items
 
 abbrev pub block_items : Setting → BlockType → Forest
 block_items s Empty = End
@@ -65,9 +65,9 @@ block_arguments s Empty = tt
 block_arguments s (Value t) = (refl, tt)
 block_arguments s (OfType n) = (refl, behind_arguments s.names (s.signature n))
 
--- ---- they read back
+-- ---- the items read back
 
--- what may stand behind a block type: no identifier, no block type and no signature
+-- The items that may follow a block type: they start with no identifier, no block type and no signature.
 pub record IsBehindBlock (c : Context) (f : Forest) : Type 0 where
   pub no_id : id_of f ≡ None
   pub all_behind_id : behind_id f ≡ f
@@ -96,7 +96,7 @@ nameless k [] = refl
 nameless k (t ∷ ts) = nameless (k + 1) ts
 
 module _ (s : Setting) (c : Context) (k : Counts) (types : HaveSameTypes s c k) (same : HaveSameNames s c k) (apart : AreApart s.names) where
-  -- a signature behind the index of its type
+  -- The signature after the index of its type reads as that type.
   type_reads : (n : ℕ) (x : Option FuncType) (f : Forest) → IsFunctionType x → ((t : FuncType) → x ≡ Some t → IsDeclaredFunc (least k) t) → IsBehindSignature c.spaces.types f →
       (signature c.spaces.types (onto (signature_if_any_items s.names None x) f) >>= type_with n x) ≡ Some (OfType n, f)
   type_reads n None f i r h = absurd i
@@ -107,7 +107,7 @@ module _ (s : Setting) (c : Context) (k : Counts) (types : HaveSameTypes s c k) 
         nameless 0 t.params,
       )
 
-  -- the signature of a declared type names declared types
+  -- The signature of a declared type names only declared types.
   pub declared_signature : (n : ℕ) (t : FuncType) → s.signature n ≡ Some t → IsDeclaredFunc (least k) t
   declared_signature n t e =
       let ranged : IsSignatureInRange (Some t) = subst IsSignatureInRange e (types.in_range n) in
@@ -130,7 +130,7 @@ module _ (s : Setting) (c : Context) (k : Counts) (types : HaveSameTypes s c k) 
         type_reads n (s.signature n) f is (declared_signature n) h.no_signature,
       )
 
--- ---- their pieces write them
+-- ---- pieces write the items
 
 pub block_writes : (s : Setting) → AreNamed s.names → AreSignaturesInRange s.signature → (t : BlockType) → IsBlockInRange t →
     Writes Bound (block_pieces s t) Bound (block_items s t)

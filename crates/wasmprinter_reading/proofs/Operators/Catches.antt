@@ -1,4 +1,4 @@
--- The catch clauses of `try_table`.
+-- The catch clauses of `try_table`
 use Rattle.std.proofs.Common.{◌≡◌, ℕ, ◌<◌, List, [], ◌∷◌, ◌++◌, Option, Some, None, refl, codes}
 use Rattle.std.specs.List.{AllByRecursion}
 use Rattle.wasmprinter_spec.specs.Character.{class}
@@ -25,7 +25,7 @@ use Rattle.wasmprinter_reading.proofs.Operators.Arguments.{AreArguments}
 use Rattle.wasmprinter_reading.proofs.Operators.Spaces.{space_items, item_reads, item_writes}
 use Rattle.wasmprinter_reading.proofs.Operators.Blocks.{IsBehindBlock}
 
--- ---- what they are written as
+-- ---- the items
 
 abbrev pub catch_items : Setting → List Label → List Label → Catch → Forest
 catch_items s inner xs (One t l) = Word (codes "catch") (onto (space_items s row.Tag t) (label_items inner xs l))
@@ -45,9 +45,9 @@ catches_arguments s inner xs (OneRef t l ∷ cs) = (refl, catches_arguments s in
 catches_arguments s inner xs (All l ∷ cs) = (refl, catches_arguments s inner xs cs)
 catches_arguments s inner xs (AllRef l ∷ cs) = (refl, catches_arguments s inner xs cs)
 
--- ---- they read back
+-- ---- the items read back
 
--- a clause is no part of a block type
+-- Catch clauses do not start with a block type.
 catches_no_type : (s : Setting) (c : Context) (inner xs : List Label) (cs : List Catch) → block_type c (catches_items s inner xs cs) ≡ Some (Empty, catches_items s inner xs cs)
 catches_no_type s c inner xs [] = refl
 catches_no_type s c inner xs (One t l ∷ cs) = refl
@@ -89,7 +89,7 @@ catches_behind_block s c inner xs cs = record {
   no_signature = record { params = catches_no_params s c.spaces.types inner xs cs; results = catches_no_results s c.spaces.types inner xs cs };
 }
 
--- a tag stands in front of its label
+-- The first index of a catch clause with a tag is that of the tag.
 tag_alone : (o : Option Named) (t : ℕ) (f : Forest) → first_alone (onto (index_items o t) f) ≡ index_items o t
 tag_alone None t f = refl
 tag_alone (Some n) t f = refl
@@ -120,7 +120,7 @@ module _ (s : Setting) (c : Context) (k : Counts) (same : HaveSameNames s c k) (
   catches_read (All l ∷ cs) h d = rw (one_label l h.0, catches_read cs h.1 d.1)
   catches_read (AllRef l ∷ cs) h d = rw (one_label l h.0, catches_read cs h.1 d.1)
 
--- ---- their pieces write them
+-- ---- pieces write the items
 
 module _ (s : Setting) (named : AreNamed s.names) (inner xs : List Label) (labelled : AllByRecursion IsNamedIfAny xs) where
   tag_writes : (t l : ℕ) → IsU32 t → IsU32 l →

@@ -1,4 +1,4 @@
--- Floats: what they are written as reads back as their bits, and is no operator's word.
+-- Floats: their text reads back as the same bits, and is the word of no operator.
 use Rattle.std.proofs.Common.{◌≡◌, ℕ, ◌<◌, ◌/◌, ◌%◌, ◌^◌, ◌-◌, Bool, true, false, cond, eqb, ltb, List, [], ◌∷◌, ◌++◌, refl, codes, lit≤}
 use Rattle.std.specs.Fmt.{digits}
 use Rattle.wasmprinter_spec.specs.Forest.{Forest, End, Word}
@@ -10,7 +10,7 @@ use Rattle.wasmprinter_lexical.proofs.Writes.{Writes, gap_writes, float_writes, 
 use Rattle.wasmprinter_reading.proofs.Tabled.{is_argument, no_rows}
 use Rattle.wasmprinter_reading.proofs.Operators.Arguments.{AreArguments}
 
--- ---- what they are written as
+-- ---- the items
 
 abbrev pub float_items : Width → ℕ → Forest
 float_items w bits = Word (float_text w bits) End
@@ -41,7 +41,7 @@ unsigned_is_argument w exponent fraction = by (eqb exponent (greatest_exponent w
     by true = special_is_argument w fraction
     by false = finite_is_argument w exponent fraction
 
--- with a minus sign too
+-- With a minus sign, it is still a word of immediates.
 signed_is_argument : (b : Bool) (s t : List ℕ) → is_argument s ≡ true → is_argument (cond b s (45 ∷ t)) ≡ true
 signed_is_argument true s t h = h
 signed_is_argument false s t h = refl
@@ -56,7 +56,7 @@ float_is_argument w bits =
 pub float_arguments : (w : Width) (bits : ℕ) → AreArguments (float_items w bits)
 float_arguments w bits = (no_rows (float_text w bits) (float_is_argument w bits), tt)
 
--- ---- their pieces write them
+-- ---- pieces write the items
 
 single_is_width : IsWidth single
 single_is_width = record { exponent = (lit≤ tt, lit≤ tt); fraction = (lit≤ tt, lit≤ tt) }

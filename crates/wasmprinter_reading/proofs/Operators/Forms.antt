@@ -1,4 +1,4 @@
--- Operators over lines and in one line: what they may stand behind, and what may stand behind them.
+-- Operators over several lines and in one line: which pieces they may follow, and which pieces may follow them
 use Rattle.std.proofs.Common.{ℕ, Bool, true, false, List, [], ◌∷◌, ◌++◌, Option, Some, None, codes, refl}
 use Rattle.wasmprinter_spec.specs.Grammar.{Placed}
 use Rattle.wasmprinter_spec.specs.Forest.{Forest, End, String, Note}
@@ -8,9 +8,9 @@ use Rattle.wasmprinter_spec.specs.Layout.Operators.{Form, OverLines, InLine, bef
 use Rattle.wasmprinter_lexical.proofs.Pieces.{Edge, Free, Bound, Ended}
 use Rattle.wasmprinter_lexical.proofs.Writes.{Writes, WritesNoted, loosened, nothing_writes, free_writes, break_writes, gap_writes, hint_note_writes, behind_anything, before_line}
 
--- ---- behind an operator
+-- ---- after an operator
 
--- over lines the line must end, since a comment may run up to there
+-- If operators are on several lines, the line must end, since its last piece may be a line comment.
 abbrev pub behind : Form → Edge
 behind OverLines = Ended
 behind InLine = Bound
@@ -19,9 +19,9 @@ pub may_end : {ps : List Piece} {f k : Forest} (form : Form) → WritesNoted Bou
 may_end OverLines w = before_line Bound w
 may_end InLine w = w
 
--- ---- in front of an operator, which is the first of its list or not
+-- ---- before an operator, which is the first of its list or not
 
--- over lines it may stand behind anything, since it begins a line
+-- If operators are on several lines, an operator may follow anything, since it begins a line.
 abbrev pub ahead : Form → Bool → Edge
 ahead OverLines first = Ended
 ahead InLine true = Free
@@ -46,18 +46,18 @@ no_operators_write OverLines first = nothing_writes
 no_operators_write InLine true = free_writes
 no_operators_write InLine false = nothing_writes
 
--- further operators stand behind the first
+-- Further operators may follow the first.
 pub goes_on : {ps : List Piece} {b : Edge} {f k : Forest} (form : Form) → WritesNoted (ahead form false) ps b f k → WritesNoted (behind form) ps b f k
 goes_on OverLines w = w
 goes_on InLine w = w
 
--- an operator may stand behind anything that ends
+-- An operator may also follow a piece that any piece may follow.
 pub at_free : {ps : List Piece} {b : Edge} {f k : Forest} (form : Form) (first : Bool) → WritesNoted (ahead form first) ps b f k → WritesNoted Free ps b f k
 at_free OverLines first w = behind_anything Free w
 at_free InLine true w = w
 at_free InLine false w = loosened w
 
--- a hint in front of an operator, on a line of its own
+-- A hint before an operator, on a line of its own
 pub hinted_writes : {ps : List Piece} {b : Edge} {f k : Forest} (form : Form) (first : Bool) (nesting : ℕ) (h : Option (Placed Hint)) → WritesNoted (ahead form first) ps b f k →
     WritesNoted (ahead form first) (hint_pieces nesting h ++ ps) b f (hint_items h k)
 hinted_writes form first nesting None w = w

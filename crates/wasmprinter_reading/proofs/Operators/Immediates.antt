@@ -1,4 +1,4 @@
--- The immediates of an operator, by their shape: what they are written as, that this reads back, and that their pieces write it.
+-- The immediates of an operator, by their shape: their items, that these read back, and that pieces write them
 use Rattle.std.proofs.Common.{◌≡◌, ℕ, ◌<◌, ◌^◌, suc, true, List, length, Option, Some, None, refl, sym, ◌∙◌, subst}
 use Rattle.std.proofs.lemmas.Bool.{and_parts}
 use Rattle.std.specs.Fmt.{signed_decimal}
@@ -40,9 +40,10 @@ use Rattle.wasmprinter_reading.proofs.Operators.Forms.{behind, may_end}
 use Rattle.wasmprinter_reading.proofs.Operators.Blocks.{block_items, id_arguments, block_arguments, IsBehindBlock, end_behind_block, behind_id-block, id_of-block, function_is_type, block_reads, block_writes, comment_writes}
 use Rattle.wasmprinter_reading.proofs.Operators.Catches.{catches_items, catches_arguments, catches_behind_block, catches_read, catches_write}
 
--- ---- what they are written as
+-- ---- the items
 
--- own: the label that the operator opens; xs: those that it may mean; inner: those further in
+-- `own` is the label of the block that the operator opens, `xs` are those that it may mean, and `inner` those of
+-- blocks further in.
 abbrev pub immediate_items : Setting → List labels.Label → List labels.Label → labels.Label → Shape → Immediates → Forest
 immediate_items s inner xs own BlockShape (Block t) = onto (id_items own) (block_items s t)
 immediate_items s inner xs own TryTableShape (TryTable t cs) = onto (id_items own) (onto (block_items s t) (catches_items s inner xs cs))
@@ -70,7 +71,7 @@ immediate_items s inner xs own VectorShape (Bytes bs) = vector_items bs
 immediate_items s inner xs own LanesShape (Bytes bs) = lanes_items bs
 immediate_items s inner xs own _ _ = End
 
--- an opcode that isn't listed has no immediates
+-- An opcode that the table does not list has no immediates.
 abbrev pub items_by : Setting → List labels.Label → List labels.Label → labels.Label → Option Shape → Immediates → Forest
 items_by s inner xs own None i = End
 items_by s inner xs own (Some t) i = immediate_items s inner xs own t i
@@ -111,14 +112,14 @@ module _ (s : Setting) (inner xs : List labels.Label) (own : labels.Label) where
   arguments_by None i h = tt
   arguments_by (Some t) i h = immediate_arguments t i h
 
--- ---- they read back
+-- ---- the items read back
 
 module _ (s : Setting) (c : Context) (n : Counts) (types : HaveSameTypes s c n) (same : HaveSameNames s c n) (apart : AreApart s.names) where
-  -- a function type is one for the reader too
+  -- A function type is a function type for the reader too.
   read_as_function : (t : ℕ) → IsFunctionType (n.signature t) → IsFunctionType (c.signature t)
   read_as_function t d = subst IsFunctionType (types.counted t ∙ sym (types.read t)) d
 
-  -- a declared type whose index is a number of 32 bits
+  -- A fact about indices of 32 bits and about declared types holds for the lesser bound.
   both : (P : ℕ → Type 0) → P (2 ^ 32) → P n.types → P (least n)
   both P h d = of_least P (2 ^ 32) n.types h d
 
@@ -181,7 +182,7 @@ module _ (s : Setting) (c : Context) (n : Counts) (types : HaveSameTypes s c n) 
     immediates_read LanesShape (Bytes bs) k l h d = lanes_read bs h
     immediates_read _ _ k l h d = absurd cc
 
-    -- a shape that refuses another reads nothing of it
+    -- A shape that refuses another shape does not read its items.
     pub immediates_refused : (is : Identifiers) (r t : Shape) (i : Immediates) → refuses r t ≡ true → has_shape t i ≡ true → AreInRange i → AreDeclared n t i →
         immediates c is r (immediate_items s inner xs own t i) ≡ None
     immediates_refused is NoneShape SelectShape (Types ts) r k h d = refl
@@ -190,7 +191,7 @@ module _ (s : Setting) (c : Context) (n : Counts) (types : HaveSameTypes s c n) 
         test_refuses s.names c (least n) (types_read s c n same apart) null wanted t (both (λ m. IsDeclaredHeap m t) h d) r
     immediates_refused is _ _ _ r k h d = absurd cc
 
--- the identifier of an operator that opens a block stands in front
+-- The items of an operator that opens a block start with the identifier of its label.
 pub id_of-opening : (s : Setting) (c : Context) (inner xs : List labels.Label) (own : labels.Label) (t : Shape) (i : Immediates) →
     has_block t ≡ true → has_shape t i ≡ true →
     id_of (immediate_items s inner xs own t i) ≡ id own
@@ -199,7 +200,7 @@ id_of-opening s c inner xs own TryTableShape (TryTable t cs) b k =
     id_of-block s own t (catches_items s inner xs cs) (catches_behind_block s c inner xs cs).no_id
 id_of-opening s c inner xs own _ _ b k = absurd cc
 
--- ---- their pieces write them
+-- ---- pieces write the items
 
 module _ (s : Setting) (named : AreNamed s.names) (ranged : AreSignaturesInRange s.signature) (inner xs : List labels.Label) (own : labels.Label)
     (labelled : AllByRecursion IsNamedIfAny xs) (own_named : IsNamedIfAny own) where

@@ -1,4 +1,4 @@
--- Immediates that are indices: what they are written as, that this reads back, and that their pieces write it.
+-- Immediates that are indices: their items, that these read back, and that pieces write them
 use Rattle.std.proofs.Common.{◌≡◌, ℕ, Bool, true, false, ◌&&◌, cond, eqb, List, [], ◌∷◌, ◌++◌, Option, Some, None, refl, sym, ap, ◌∙◌, codes, decimal, arith}
 use Rattle.std.specs.List.{AllByRecursion}
 use Rattle.std.proofs.lemmas.Bool.{and_parts, eqb-true}
@@ -36,29 +36,29 @@ use Rattle.wasmprinter_reading.proofs.Operators.Arguments.{AreArguments, argumen
 use Rattle.wasmprinter_reading.proofs.Operators.Numbers.{index_is_no_word, u32-decimal}
 use Rattle.wasmprinter_reading.proofs.Operators.Spaces.{space_items, field_items, item_arguments, item_reads, field_reads, item_writes}
 
--- ---- what they are written as
+-- ---- the items
 
--- an index: a label, or one of another space
+-- An index: of a label, or in another space
 abbrev pub operand_items : Setting → List labels.Label → List labels.Label → Space → ℕ → Forest
 operand_items s inner xs Label n = label_items inner xs n
 operand_items s inner xs space n = space_items s space n
 
--- an index that is left out where it is 0
+-- An index that is left out if it is 0
 abbrev pub default_items : Setting → Space → ℕ → Forest
 default_items s space n = cond (eqb n 0) End (space_items s space n)
 
 abbrev pub pair_items : Setting → Space → Space → ℕ → ℕ → Forest
 pair_items s first second m n = onto (space_items s first m) (space_items s second n)
 
--- a structure type, and one of its fields
+-- A structure type and one of its fields
 abbrev pub type_and_field_items : Setting → ℕ → ℕ → Forest
 type_and_field_items s t n = onto (space_items s row.Types t) (field_items s t n)
 
--- a type, and a number
+-- A type and a number
 abbrev pub count_items : Setting → ℕ → ℕ → Forest
 count_items s t n = onto (space_items s row.Types t) (Word (decimal n) End)
 
--- a type use
+-- A type use
 abbrev pub use_items : Setting → ℕ → Forest
 use_items s t = Group (Word (codes "type") (type_index_items s.names t)) End
 
@@ -68,7 +68,7 @@ call_items s t n = onto (default_items s row.Table n) (use_items s t)
 abbrev pub segment_items : Setting → Space → Space → ℕ → ℕ → Forest
 segment_items s segments space m n = onto (default_items s space n) (space_items s segments m)
 
--- two indices that are left out where both are 0
+-- Two indices that are left out if both are 0
 abbrev pub copy_items : Setting → Space → ℕ → ℕ → Forest
 copy_items s space m n = cond (eqb m 0 && eqb n 0) End (pair_items s space space m n)
 
@@ -117,15 +117,15 @@ module _ (s : Setting) where
       by true = tt
       by false = pair_arguments space space m n h k
 
--- ---- one item, whatever it is
+-- ---- one index, by identifier or by number
 
--- where an index may be left out one is read
+-- A printed index is read in a position in which it may be left out.
 default_one : (c : Context) (space : Space) (o : Option Named) (n : ℕ) → index_in (space_in c.spaces space) (index_items o n) ≡ Some n →
     default_index c space (index_items o n) ≡ Some n
 default_one c space None n e = e
 default_one c space (Some m) n e = e
 
--- two indices are not one
+-- The items of two indices do not read as one index.
 two_are_not_one : (is : Identifiers) (o p : Option Named) (m n : ℕ) → index_in is (onto (index_items o m) (index_items p n)) ≡ None
 two_are_not_one is None None m n = refl
 two_are_not_one is None (Some p) m n = refl
@@ -136,13 +136,13 @@ copied_two : (c : Context) (space : Space) (o : Option Named) (n : ℕ) (f : For
 copied_two c space None n f = refl
 copied_two c space (Some m) n f = refl
 
--- a table before a type use
+-- A table before a type use reads back.
 table_first : (c : Context) (o : Option Named) (n t : ℕ) (f : Forest) → index_in c.spaces.tables (index_items o n) ≡ Some n → block_type c f ≡ Some (OfType t, End) →
     call_parts c (onto (index_items o n) f) ≡ Some (Indices t n)
 table_first c None n t f e b = rw (e, b)
 table_first c (Some m) n t f e b = rw (e, b)
 
--- ---- they read back
+-- ---- the items read back
 
 module _ (s : Setting) (c : Context) (k : Counts) (same : HaveSameNames s c k) (apart : AreApart s.names) where
   pub operand_reads : (inner xs : List labels.Label) → Opened (s.names.labels s.function) xs → (space : Space) (n : ℕ) → IsU32 n → IsIndex k space n →
@@ -180,7 +180,7 @@ module _ (s : Setting) (c : Context) (k : Counts) (same : HaveSameNames s c k) (
         u32-decimal n i,
       )
 
-  -- an absent signature agrees with any type
+  -- An absent signature agrees with any type.
   absent_agrees : (t : FuncType) → agrees (record { params = []; results = [] }) t ≡ true
   absent_agrees t = by (same_func_type no_type t)
     where
@@ -188,7 +188,7 @@ module _ (s : Setting) (c : Context) (k : Counts) (same : HaveSameNames s c k) (
       by true = refl
       by false = refl
 
-  -- a type use without a signature
+  -- A type use without a signature reads back.
   use_reads : (t : ℕ) (f : FuncType) → IsU32 t → IsIndex k row.Types t → c.signature t ≡ Some f → block_type c (use_items s t) ≡ Some (OfType t, End)
   use_reads t f h d e =
       let no_params = no_groups (variables c.spaces.types) (codes "param") in
@@ -229,7 +229,7 @@ module _ (s : Setting) (c : Context) (k : Counts) (same : HaveSameNames s c k) (
       by false some =
           copied_two c space (in_function s.names s.function space m) m (space_items s space n) ∙ pair_reads space space m n a a h i d e
 
--- ---- their pieces write them
+-- ---- pieces write the items
 
 module _ (s : Setting) (named : AreNamed s.names) where
   space_writes : (space : Space) (n : ℕ) → IsU32 n → Writes Bound (Gap ∷ named_index s space n) Bound (space_items s space n)

@@ -1,4 +1,5 @@
--- Labels with the names of a name section, and with identifiers made up for the others or none, are apart, and their names are UTF-8.
+-- Labels with the names of a name section, and with synthesized identifiers or none for the others, are apart, and
+-- their names are UTF-8.
 use Rattle.std.proofs.Common.{◌≡◌, ℕ, zero, suc, ◌<◌, ◌^◌, ◌/◌, ◌%◌, Bool, true, false, ◌&&◌, not, cond, eqb, List, [], ◌∷◌, ◌++◌, Option, Some, None, refl, sym, ap, ◌∙◌, arith, true≢false, codes, decimal, bytes_eq, length}
 use Rattle.std.proofs.lemmas.Bool.{and_parts, and_from, agree_below, agree_below_at}
 use Rattle.std.proofs.lemmas.Fmt.{decimal_injective}
@@ -12,7 +13,7 @@ use Rattle.wasmprinter_spec.specs.LabelNames.{is_clean, label_content, label_nam
 use Rattle.wasmprinter_spec.specs.Names.{IsNamed, IsNamedIfAny}
 use Rattle.wasmprinter_reading.proofs.Bytes.{same_bytes}
 
--- ---- no blank stands in a number
+-- ---- a number contains no space
 
 abbrev pub no_blank : List ℕ → Bool
 no_blank [] = true
@@ -42,7 +43,7 @@ pub no_blank-decimal : (n : ℕ) → no_blank (decimal n) ≡ true
 unfolding digits
 no_blank-decimal n = no_blank-digits 64 n [] refl
 
--- what stands in front of the first blank, and behind it
+-- If two texts are equal, so are their parts before the first space and their parts after it.
 pub around_blank : (a b s t : List ℕ) → no_blank a ≡ true → no_blank b ≡ true → a ++ (32 ∷ s) ≡ b ++ (32 ∷ t) → (a ≡ b) × (s ≡ t)
 around_blank [] [] s t ha hb e = (refl, cc)
 around_blank [] (y ∷ ys) s t ha hb e = let same : 32 ≡ y = cc in absurd (true≢false (sym hb ∙ ap (λ c. not (eqb c 32) && no_blank ys) (sym same)))
@@ -62,7 +63,7 @@ has_blank (x ∷ xs) (y ∷ ys) s h e = let more : xs ++ (32 ∷ s) ≡ ys = cc 
 
 -- ---- contents
 
--- one content comes from one name
+-- Equal contents come from equal names.
 one_content : (m n : ℕ) (s t : List ℕ) → label_content m s ≡ label_content n t → s ≡ t
 one_content m n s t e = by (is_clean s) refl (is_clean t) refl e
   where
@@ -75,7 +76,7 @@ one_content m n s t e = by (is_clean s) refl (is_clean t) refl e
         let rest : decimal m ++ (32 ∷ s) ≡ decimal n ++ (32 ∷ t) = cc in
         (around_blank (decimal m) (decimal n) s t (no_blank-decimal m) (no_blank-decimal n) rest).1
 
--- no name gives an invented content
+-- The content that a name gives is never a synthesized one.
 not_invented : (m d : ℕ) (s : List ℕ) → label_content m s ≡ codes "#label" ++ decimal d → ⊥
 not_invented m d s e = by (is_clean s) refl e
   where

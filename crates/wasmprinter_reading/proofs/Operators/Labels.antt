@@ -1,4 +1,4 @@
--- Labels: a label that is printed by its identifier means the block that is meant, and one that is printed by its number too.
+-- A label means the intended block, whether it is printed by its identifier or by its number.
 use Rattle.std.proofs.Common.{◌≡◌, ℕ, zero, suc, ◌<◌, ◌-◌, ◌^◌, Bool, true, false, ◌||◌, cond, List, [], ◌∷◌, ◌++◌, Option, Some, None, refl, sym, ap, ◌∙◌, subst, map, length, bytes_eq, decimal, arith, option_map}
 use Rattle.std.specs.List.{AllByRecursion}
 use Rattle.std.proofs.lemmas.Bool.{or_parts, both_ways, false_from_ne_true, lt-ltb}
@@ -26,12 +26,12 @@ use Rattle.wasmprinter_reading.proofs.Operators.Numbers.{index_is_no_word}
 
 -- ---- which labels are open
 
--- what a reader keeps of labels
+-- The identifiers of labels, as a reader keeps them
 abbrev pub ids : List Label → Identifiers
 ids xs = map id xs
 
 module _ (naming : LabelNaming) (apart : AreLabelsApart naming) where
-  -- a label around another is one of a block with fewer blocks around it
+  -- The label that an index means is that of a block with fewer blocks around it than there are labels.
   further_out : (l : ℕ) (xs : List Label) (y : Label) (further : List Label) → Opened naming xs → target l xs ≡ Around y further →
       (i : ℕ) × (d : ℕ) × (d < length xs) × (naming i d ≡ y)
   further_out zero [] y further o e = absurd cc
@@ -51,7 +51,7 @@ module _ (naming : LabelNaming) (apart : AreLabelsApart naming) where
       by Own same g more = absurd cc
       by Nothing same g more = absurd cc
 
-  -- an identifier that is not hidden is not that of a label further in
+  -- If a label further in does not hide an identifier, it does not have that identifier.
   not_declared : (x : Label) (xs : List Label) (n : Named) (i j d : ℕ) → d < length xs → length xs < 2 ^ 64 → naming i d ≡ Some n → naming j (length xs) ≡ x →
       hides n x ≡ false → declares n.content (id x) ≡ false
   not_declared None xs n i j d lt small outer inner h = refl
@@ -59,7 +59,7 @@ module _ (naming : LabelNaming) (apart : AreLabelsApart naming) where
       false_from_ne_true (bytes_eq m.content n.content)
       (λ e. both_ways (same_name m.given n.given) h (apart i j d (length xs) n m lt small outer inner (bytes_same m.content n.content e)))
 
-  -- an identifier that nothing hides is found at the number of its label
+  -- A reader finds an identifier that no label hides at the number of its own label.
   depth-target : (l : ℕ) (xs : List Label) (n : Named) (further : List Label) → Opened naming xs → target l xs ≡ Around (Some n) further →
       is_hidden n further ≡ false →
       depth n.content (ids xs) ≡ Some l
@@ -87,13 +87,13 @@ module _ (naming : LabelNaming) (apart : AreLabelsApart naming) where
       by Own same g more = absurd cc
       by Nothing same g more = absurd cc
 
--- ---- what labels are written as
+-- ---- the items of labels
 
 abbrev pub named_items : ℕ → Named → Bool → Forest
 named_items l n true = Word (decimal l) End
 named_items l n false = Name n.content End
 
--- inner: the labels further in than those that the operator may mean
+-- `inner` are the labels of blocks further in than those that the operator may mean.
 abbrev pub target_items : List Label → ℕ → Target → Forest
 target_items inner l (Around (Some n) further) = named_items l n (is_hidden n further || is_hidden n inner)
 target_items inner l (Around None further) = Word (decimal l) End
@@ -107,7 +107,7 @@ abbrev pub labels_items : List Label → List Label → List ℕ → ℕ → For
 labels_items inner xs [] l = label_items inner xs l
 labels_items inner xs (m ∷ ms) l = onto (label_items inner xs m) (labels_items inner xs ms l)
 
--- ---- they are arguments
+-- ---- the items are arguments
 
 pub label_arguments : (inner xs : List Label) (l : ℕ) → IsU32 l → AreArguments (label_items inner xs l)
 label_arguments inner xs l h = by (target l xs)
@@ -126,7 +126,7 @@ pub labels_arguments : (inner xs : List Label) (ls : List ℕ) (l : ℕ) → All
 labels_arguments inner xs [] l hs h = label_arguments inner xs l h
 labels_arguments inner xs (m ∷ ms) l hs h = arguments_onto (label_items inner xs m) (labels_items inner xs ms l) (label_arguments inner xs m hs.0) (labels_arguments inner xs ms l hs.1 h)
 
--- ---- they read back
+-- ---- the items read back
 
 number_first : (is : Identifiers) (l : ℕ) (f : Forest) (ls : List ℕ) → IsU32 l → labels is f ≡ Some ls →
     labels is (onto (Word (decimal l) End) f) ≡ Some (l ∷ ls)
@@ -145,7 +145,7 @@ last_apart-targets (m ∷ []) l = refl
 last_apart-targets (m ∷ k ∷ ks) l = last_apart-more m k (targets ks l) (k ∷ ks) l (last_apart-targets (k ∷ ks) l)
 
 module _ (naming : LabelNaming) (apart : AreLabelsApart naming) (inner xs : List Label) (o : Opened naming xs) where
-  -- a printed label before others
+  -- A printed label before others reads back.
   label_first : (l : ℕ) (f : Forest) (ls : List ℕ) → IsU32 l → labels (ids xs) f ≡ Some ls → labels (ids xs) (onto (label_items inner xs l) f) ≡ Some (l ∷ ls)
   label_first l f ls small e = by (target l xs) refl
     where
@@ -172,7 +172,7 @@ module _ (naming : LabelNaming) (apart : AreLabelsApart naming) (inner xs : List
   pub label_reads : (l : ℕ) → IsU32 l → label (ids xs) (label_items inner xs l) ≡ Some l
   label_reads l small = let e : labels (ids xs) (label_items inner xs l) ≡ Some (l ∷ []) = labels_read [] l tt small in rw e
 
--- ---- their pieces write them
+-- ---- pieces write the items
 
 is_label-target : (l : ℕ) (xs : List Label) (y : Label) (further : List Label) → AllByRecursion IsNamedIfAny xs → target l xs ≡ Around y further → IsNamedIfAny y
 is_label-target zero [] y further h e = absurd cc
@@ -219,7 +219,7 @@ labels_write inner xs (m ∷ ms) l h hs small = then (label_writes inner xs m h 
 
 -- ---- the law
 
--- what stands further in hides, or what stands further in still
+-- A name is hidden by inner labels joined with further ones exactly if it is hidden by either.
 hidden-append : (n : Named) (inner further : List Label) → is_hidden n (inner ++ further) ≡ (is_hidden n further || is_hidden n inner)
 hidden-append n [] further = by (is_hidden n further)
   where

@@ -1,4 +1,4 @@
--- Lists of operators: what they are written as, that this is their code, and that it reads back.
+-- Lists of operators: their items, that these are their code, and that they read back
 use Rattle.std.proofs.Common.{◌≡◌, ℕ, ◌<◌, ◌≤◌, ◌+◌, ◌-◌, ◌^◌, Bool, true, false, List, [], ◌∷◌, Some, None, refl, sym, ap, ◌∙◌, subst, map, length, arith}
 use Rattle.std.specs.List.{AllByRecursion}
 use Rattle.wasmprinter_spec.specs.Grammar.{Placed}
@@ -31,13 +31,13 @@ use Rattle.wasmprinter_reading.proofs.Operators.Immediates.{immediate_items, ite
 use Rattle.wasmprinter_reading.proofs.Operators.Rows.{IsSome, rows_of-row, first_reading-row}
 use Rattle.wasmprinter_reading.proofs.Operators.Open.{outside_ids, outside_opened, outside_labels, after_opened, after_labels, after_length, after_ids}
 
--- ---- what operators are written as
+-- ---- the items of operators
 
 abbrev pub arguments_items : Setting → Label → List Label → Operator → Forest
 arguments_items s own xs o =
     items_by s (labels_inside (role_of o.opcode) xs) (labels_outside (role_of o.opcode) xs) own (shape_of o.opcode) o.immediates
 
--- n blocks were opened before, and these labels are open
+-- The items of operators after `n` blocks were opened, with these labels open
 abbrev pub operators_items : Setting → ℕ → List Label → List Operator → Forest
 operators_items s n xs [] = End
 operators_items s n xs (o ∷ os) =
@@ -47,7 +47,7 @@ operators_items s n xs (o ∷ os) =
 abbrev pub expression_items : Setting → List Operator → Forest
 expression_items s os = operators_items s 0 [] os
 
--- with hints in front of them
+-- The same with hints before them
 abbrev pub hinted_items : Setting → List (Placed Hint) → ℕ → List Label → List (Placed Operator) → Forest
 hinted_items s hs n xs [] = End
 hinted_items s hs n xs (o ∷ os) =
@@ -63,7 +63,7 @@ unhinted s n xs (o ∷ os) =
     let own : Label = s.names.labels s.function n (length xs) in
     ap (λ f. Word (word_of o.value.opcode) (onto (arguments_items s own xs o.value) f)) (unhinted s (count_after role n) (labels_after role own xs) os)
 
--- ---- this is their code
+-- ---- the items are their code
 
 abbrev pub chunks_of : Setting → ℕ → List Label → List Operator → List Chunk
 chunks_of s n xs [] = []
@@ -71,11 +71,11 @@ chunks_of s n xs (o ∷ os) =
     chunk (rows_of (word_of o.opcode)) (arguments_items s (s.names.labels s.function n (length xs)) xs o)
     ∷ chunks_of s (count_after (role_of o.opcode) n) (labels_after (role_of o.opcode) (s.names.labels s.function n (length xs)) xs) os
 
--- an operator's word
+-- The word of an operator is that of its row.
 pub row_word : (o : Operator) (r : HasRow o) → word_of o.opcode ≡ r.row.word
 row_word o r = ap word_of_row r.found
 
--- an operator's word takes what stands behind it
+-- The word of an operator takes the items after it as its own.
 pub word_takes : (r : Row) → In r table → (w : List ℕ) → w ≡ r.word → (f : Forest) (is : List Instruction) →
     with_word (rows_of w) w (Some (code_of f is)) ≡ Some (code_of End (Flat (chunk (rows_of w) f) ∷ is))
 word_takes r at w e f is =
@@ -107,9 +107,9 @@ pub chunks_of_forest-operators : (s : Setting) (n : ℕ) (xs : List Label) (os :
     chunks_of_forest (operators_items s n xs os) ≡ Some (chunks_of s n xs os)
 chunks_of_forest-operators s n xs os h = rw (code-operators s n xs os h, chunks_of_instructions-Flat (chunks_of s n xs os))
 
--- ---- they read back
+-- ---- the items read back
 
--- declared as its row says
+-- The immediates of an operator are declared as its row requires.
 declared_by_row : (n : Counts) (o : Operator) (r : Row) → by_opcode o.opcode ≡ Some r → IsIndexedOperator n o → AreDeclared n r.shape o.immediates
 declared_by_row n o r e d = subst (λ x. AreDeclaredBy n x o.immediates) e d
 
@@ -161,12 +161,12 @@ module _ (s : Setting) (c : Context) (k : Counts) (types : HaveSameTypes s c k) 
         r.number,
       )
 
-  -- operators that are well nested read as themselves
+  -- Well-nested operators read as themselves.
   pub expression_reads : (os : List (Placed Operator)) → AreOperators k os →
       read_operators c (chunks_of s 0 [] (without_places os)) ≡ Some (without_places os)
   expression_reads os h = rw (operators-read 0 [] (without_places os) tt (omega (arith, h.count)) h.listed h.indexed, nested-roles os h.nested)
 
--- ---- their pieces write them
+-- ---- pieces write the items
 
 operator_writes : (s : Setting) → AreNamed s.names → AreSignaturesInRange s.signature → (first : Bool) (own : Label) (xs : List Label) (o : Placed Operator) →
     AllByRecursion IsNamedIfAny xs → IsNamedIfAny own → IsListed o.value →
@@ -194,7 +194,7 @@ operators_write s named ranged hs first n xs (o ∷ os) h l =
     hinted_writes s.form first (s.nesting + length xs) (next_hint offset hs)
     (both_write (operator_writes s named ranged first own xs o h k l.0) (goes_on s.form rest))
 
--- operators with no label open
+-- The pieces of operators write their items if no label is open.
 pub hinted_write : (s : Setting) → AreNamed s.names → AreSignaturesInRange s.signature → (hs : List (Placed Hint)) (os : List (Placed Operator)) →
     AllByRecursion IsListed (without_places os) →
     WritesNoted (ahead s.form true) (operators_pieces s hs true 0 [] os) (behind s.form) (expression_items s (without_places os)) (hinted_items s hs 0 [] os)

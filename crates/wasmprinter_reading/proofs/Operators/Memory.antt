@@ -1,4 +1,4 @@
--- Memory operands, and lanes: what they are written as, that this reads back, and that their pieces write it.
+-- Memory operands and lanes: their items, that these read back, and that pieces write them
 use Rattle.std.proofs.Common.{◌≡◌, ℕ, zero, suc, ◌<◌, ◌≤◌, ◌^◌, Bool, true, false, cond, eqb, List, [], ◌∷◌, ◌++◌, Option, Some, None, refl, sym, ap, ◌∙◌, codes, decimal, arith, option_map, ◌⊎◌, inl, inr}
 use Rattle.std.proofs.lemmas.Bool.{cases_lt, eq-eqb, eqb-true, ne_eqb}
 use Rattle.std.proofs.lemmas.Nat.{pow_below}
@@ -32,7 +32,7 @@ use Rattle.wasmprinter_reading.proofs.Operators.Numbers.{byte_is_no_word, u8-dec
 use Rattle.wasmprinter_reading.proofs.Operators.Spaces.{space_items, item_reads}
 use Rattle.wasmprinter_reading.proofs.Operators.Indices.{default_items, default_arguments, default_writes}
 
--- ---- what they are written as
+-- ---- the items
 
 abbrev offset_items : ℕ → Forest
 offset_items n = cond (eqb n 0) End (Word (codes "offset=" ++ decimal n) End)
@@ -40,7 +40,7 @@ offset_items n = cond (eqb n 0) End (Word (codes "offset=" ++ decimal n) End)
 abbrev align_items : ℕ → ℕ → Forest
 align_items natural e = cond (eqb e natural) End (Word (codes "align=" ++ decimal (2 ^ e)) End)
 
--- what stands behind the memory
+-- The items after the memory
 abbrev options_items : ℕ → ℕ → ℕ → Forest
 options_items natural offset e = onto (offset_items offset) (align_items natural e)
 
@@ -82,7 +82,7 @@ mem_arg_lane_arguments s natural m k h l = arguments_onto (mem_arg_items s natur
 
 -- ---- a power of two
 
--- the exponent of a power of two is found
+-- The exponent of a power of two is found.
 pub exponent_below-power : (n e : ℕ) → e < n → exponent_below n (2 ^ e) ≡ Some e
 exponent_below-power zero e h = absurd (omega arith)
 exponent_below-power (suc n) e h = by (cases_lt e n) (λ l. exponent_below-power n e l)
@@ -101,7 +101,7 @@ power_below e h = pow_below e 64 h
 exponent_of-power : (e : ℕ) → e < 64 → exponent_of (decimal (2 ^ e)) ≡ Some e
 exponent_of-power e h = rw (u64-decimal (2 ^ e) (power_below e h)) (exponent_below-power 64 e h)
 
--- ---- they read back
+-- ---- the items read back
 
 alignment-items : (natural e : ℕ) → e < 64 → alignment natural (align_items natural e) ≡ Some e
 alignment-items natural e h = by (eqb e natural) refl
@@ -110,7 +110,7 @@ alignment-items natural e h = by (eqb e natural) refl
     by true same = ap (λ k. Some k) (sym (eqb-true e natural same))
     by false other = exponent_of-power e h
 
--- an alignment behind no offset
+-- An alignment without an offset before it reads back.
 with_memory-align : (natural memory e : ℕ) → e < 64 → with_memory natural memory (align_items natural e) ≡ Some (mem_arg_of e memory 0)
 with_memory-align natural memory e h = by (eqb e natural) (alignment-items natural e h)
   where
@@ -129,7 +129,7 @@ with_memory-options natural memory offset e small h = by (eqb offset 0) refl
     by true none = with_memory-align natural memory e h ∙ ap (λ k. Some (mem_arg_of e memory k)) (sym (eqb-true offset 0 none))
     by false some = rw (u64-decimal offset small, alignment-items natural e h)
 
--- where no memory stands, it is the first
+-- If no memory is named, it is memory 0.
 without_memory : (c : Context) (natural offset e : ℕ) →
     mem_arg c natural (options_items natural offset e) ≡ with_memory natural 0 (options_items natural offset e)
 without_memory c natural offset e = by (eqb offset 0) (eqb e natural)
@@ -141,7 +141,7 @@ without_memory c natural offset e = by (eqb offset 0) (eqb e natural)
     by true false = refl
     by false d = refl
 
--- a number is neither an offset nor an alignment
+-- A number is neither an offset nor an alignment.
 digits_no_option : (ds : List ℕ) → IsNumeral 10 ds → is_option ds ≡ false
 digits_no_option [] h = absurd (omega (arith, h.0))
 digits_no_option (d ∷ ds) h =
@@ -151,7 +151,7 @@ digits_no_option (d ∷ ds) h =
 decimal_no_option : (n : ℕ) → n < 2 ^ 64 → is_option (decimal n) ≡ false
 decimal_no_option n h = digits_no_option (decimal n) (decimal_is_IsNumeral n h).0
 
--- a memory in front
+-- A memory before an offset and an alignment is read.
 memory_first : (c : Context) (natural : ℕ) (o : Option Named) (n : ℕ) (f : Forest) → n < 2 ^ 32 → index c.spaces.memories (index_items o n) ≡ Some n →
     mem_arg c natural (onto (index_items o n) f) ≡ with_memory natural n f
 memory_first c natural None n f small e = rw (decimal_no_option n (omega (arith, small)), e)
@@ -172,9 +172,9 @@ mem_arg_reads s c k same apart natural m h d = by (eqb m.memory 0) refl
         (item_reads s c k same apart row.Memory m.memory refl h.memory d)
         ∙ with_memory-options natural m.memory m.offset m.exponent h.offset h.exponent
 
--- ---- a lane behind a memory operand
+-- ---- a lane after a memory operand
 
--- words and identifiers
+-- Only words and identifiers
 abbrev AreWords : Forest → Type 0
 AreWords End = Unit {0}
 AreWords (Word w f) = AreWords f
@@ -207,7 +207,7 @@ options_words natural offset e = by (eqb offset 0) (eqb e natural)
     by false true = tt
     by false false = tt
 
--- the last of several words is found
+-- The last of several words is found.
 but_last-words : (f : Forest) (w : List ℕ) → AreWords f → but_last (onto f (Word w End)) ≡ Some (f, w)
 but_last-words End w h = refl
 but_last-words (Word v End) w h = refl
@@ -223,9 +223,9 @@ mem_arg_lane_reads s c k same apart natural m l h d small =
     words_onto (default_items s row.Memory m.memory) (options_items natural m.offset m.exponent) (default_words s m.memory) (options_words natural m.offset m.exponent) in
     rw (but_last-words (mem_arg_items s natural m) (decimal l) words, mem_arg_reads s c k same apart natural m h d, u8-decimal l small)
 
--- ---- their pieces write them
+-- ---- pieces write the items
 
--- the words that begin so
+-- `offset=` and `align=`, followed by a number, are words.
 is_word-offset : (n : ℕ) → n < 2 ^ 64 → is_word (codes "offset=" ++ decimal n) ≡ true
 unfolding class
 is_word-offset n h =

@@ -1,4 +1,4 @@
--- Numbers in operators: they read back, and none is an operator's word.
+-- Numbers in operators: they read back, and none is the word of an operator.
 use Rattle.std.proofs.Common.{◌≡◌, ℕ, ℤ, pos, negsuc, ◌<◌, ◌^◌, [], Some, decimal, arith, lit≤}
 use Rattle.std.proofs.lemmas.Bool.{lt-ltb}
 use Rattle.std.proofs.lemmas.Int.{ints}

@@ -1,4 +1,4 @@
--- What is open behind an operator: the labels of the layout and those of the reader go together.
+-- The labels that are open after an operator are the same for the layout and for the reader.
 use Rattle.std.proofs.Common.{◌≡◌, ℕ, suc, ◌<◌, ◌≤◌, ◌^◌, true, List, [], ◌∷◌, length, refl, ap, arith}
 use Rattle.std.specs.List.{AllByRecursion}
 use Rattle.wasmprinter_spec.specs.Operator.{Immediates}
@@ -30,7 +30,7 @@ outside_labels Delegates [] h = h
 outside_labels Delegates (x ∷ xs) h = h.1
 outside_labels _ xs h = h
 
--- ---- the labels behind an operator
+-- ---- the labels after an operator
 
 pub after_opened : (naming : LabelNaming) (n : ℕ) (r : Role) (xs : List Label) → length xs < 2 ^ 64 → Opened naming xs →
     Opened naming (labels_after r (naming n (length xs)) xs)
@@ -53,7 +53,7 @@ after_labels Ends own [] k h = h
 after_labels Ends own (x ∷ xs) k h = h.1
 after_labels _ own xs k h = h
 
--- an operator opens at most one block
+-- An operator opens at most one block.
 pub after_length : (r : Role) (own : Label) (xs : List Label) → length (labels_after r own xs) ≤ suc (length xs)
 after_length Opens own xs = omega arith
 after_length OpensIf own xs = omega arith

@@ -1,4 +1,4 @@
--- Immediates that are types, and casts: what they are written as, that this reads back, and that their pieces write it.
+-- Immediates that are types, and casts: their items, that these read back, and that pieces write them
 use Rattle.std.proofs.Common.{◌≡◌, ℕ, Bool, true, false, ◌||◌, not, List, [], ◌∷◌, ◌++◌, Some, None, refl, sym, ap, subst, codes, append-nil}
 use Rattle.std.specs.List.{AllByRecursion}
 use Rattle.wasmprinter_spec.specs.Character.{class}
@@ -33,7 +33,7 @@ use Rattle.wasmprinter_reading.proofs.Operators.Labels.{ids, Opened, named_items
 use Rattle.wasmprinter_reading.proofs.Operators.Arguments.{AreArguments, arguments_onto}
 use Rattle.wasmprinter_reading.proofs.Operators.Spaces.{item_arguments}
 
--- ---- what they are written as
+-- ---- the items
 
 abbrev pub select_items : Names → List ValType → Forest
 select_items names ts = Group (Word (codes "result") (types_items names ts)) End
@@ -43,7 +43,7 @@ cast_items names inner xs l r t = onto (label_items inner xs l) (onto (ref_items
 
 -- ---- arguments
 
--- no operator has this word
+-- No operator has the word `ref`.
 ref_head : head (codes "ref") ≡ PartHead
 unfolding head
 ref_head = ap head_by (no_rows (codes "ref") refl)
@@ -67,9 +67,9 @@ module _ (names : Names) where
       arguments_onto (label_items inner xs l) (onto (ref_items names r) (ref_items names t)) (label_arguments inner xs l h)
       (arguments_onto (ref_items names r) (ref_items names t) (ref_arguments r.nullable r.heap) (ref_arguments t.nullable t.heap))
 
--- ---- they read back
+-- ---- the items read back
 
--- a label stands by itself
+-- The items of a label are split from those after it.
 record IsAlone (f g : Forest) : Type 0 where
   first : first_alone (onto f g) ≡ f
   others : behind_first (onto f g) ≡ g
@@ -92,7 +92,7 @@ module _ (names : Names) (c : Context) (bound : ℕ) (reads : Reads c.spaces.typ
   unfolding groups
   select_reads ts r = rw (val_types-items names c.spaces.types bound reads ts r, append-nil ts)
 
-  -- a reference type that may be null reads where one is wanted, and so does one that may not
+  -- A reference type reads back, nullable or not.
   pub ref_reads : (null : Bool) (h : HeapType) → IsDeclaredHeap bound h → reference_type c.spaces.types (ref_items_by names null h) ≡ Some (ref_type null h)
   ref_reads null h r =
       one_item-reads ref_named (ref_group c.spaces.types) (ref_items_by names null h) (ref_type null h) (ref_item names c.spaces.types bound reads null h r)
@@ -100,7 +100,7 @@ module _ (names : Names) (c : Context) (bound : ℕ) (reads : Reads c.spaces.typ
   pub test_reads : (null : Bool) (h : HeapType) → IsDeclaredHeap bound h → (reference_type c.spaces.types (ref_items_by names null h) >>= heap_with null) ≡ Some (Heap h)
   test_reads null h r = rw (ref_reads null h r, same_flag_refl null)
 
-  -- and not where the other is wanted
+  -- A reference type is refused if the operator requires the other nullability.
   pub test_refuses : (null wanted : Bool) (h : HeapType) → IsDeclaredHeap bound h → not (same_flag null wanted) ≡ true →
       (reference_type c.spaces.types (ref_items_by names null h) >>= heap_with wanted) ≡ None
   test_refuses true true h r n = absurd cc
@@ -124,7 +124,7 @@ module _ (names : Names) (c : Context) (bound : ℕ) (reads : Reads c.spaces.typ
       let alone : IsAlone (label_items inner xs l) (onto (ref_items names r) (ref_items names t)) = label_alone inner xs l (onto (ref_items names r) (ref_items names t)) in
       rw (alone.first, alone.others, label_reads naming apart inner xs o l small, two_reads r t h k)
 
--- ---- their pieces write them
+-- ---- pieces write the items
 
 module _ (names : Names) (named : AreNamed names) where
   pub select_writes : (ts : List ValType) → AllByRecursion IsRangedVal ts → Writes Bound (select_pieces names ts) Bound (select_items names ts)

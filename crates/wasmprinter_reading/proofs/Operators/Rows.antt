@@ -1,4 +1,4 @@
--- The rows of a word: of those that share it, the one that was meant is the first that reads what is written.
+-- Of the rows with the same word, the row of the operator is the first that reads its items.
 use Rattle.std.proofs.Common.{◌≡◌, ℕ, Bool, true, false, cond, List, [], ◌∷◌, Some, None, refl, sym, ap, ◌∙◌, subst, map}
 use Rattle.std.specs.List.{filter}
 use Rattle.wasmprinter_spec.specs.Forest.{Forest}
@@ -10,7 +10,7 @@ use Rattle.wasmprinter_spec.specs.Text.Operators.{immediates, labels_in_sight, f
 use Rattle.wasmprinter_reading.proofs.Bytes.{same_bytes, bytes_same}
 use Rattle.wasmprinter_reading.proofs.Tabled.{In, here, there, refuses, keyed, are_told_apart, told_apart_later, refuses_later, table_tells_apart}
 
--- the first of the rows and those behind it
+-- A list of rows that is not empty
 pub record IsSome (rs : List Row) : Type 0 where
   pub first : Row
   pub others : List Row
@@ -25,7 +25,7 @@ some_of_word (s ∷ rs) r (there i) = by (has_word r.word s) (some_of_word rs r 
     by true more = record { first = s; others = filter (has_word r.word) rs; is = refl }
     by false more = more
 
--- rows that have a word are rows of it
+-- The first row with a word is one of the rows, and has that word.
 pub first_of_rows : (w : List ℕ) (rs : List Row) (r : Row) (others : List Row) → filter (has_word w) rs ≡ r ∷ others → In r rs × (r.word ≡ w)
 first_of_rows w [] r others e = absurd cc
 first_of_rows w (s ∷ rs) r others e = by (has_word w s) refl e (first_of_rows w rs r others)
@@ -42,7 +42,7 @@ module _ (c : Context) (is : Identifiers) (f : Forest) (i : Immediates) where
   first_reads : (r : Row) (rs : List Row) → immediates c (labels_in_sight r.role is) r.shape f ≡ Some i → first_reading c is (r ∷ rs) f ≡ Some (r, i)
   first_reads r rs e = rw e
 
-  -- a row that reads nothing is passed over
+  -- A row that does not read the items is skipped.
   passed_over : (s : Row) (rs : List Row) → immediates c (labels_in_sight s.role is) s.shape f ≡ None → first_reading c is (s ∷ rs) f ≡ first_reading c is rs f
   passed_over s rs e = rw e
 
@@ -59,7 +59,7 @@ module _ (c : Context) (is : Identifiers) (f : Forest) (i : Immediates) where
       by true same more = passed_over s (filter (has_word r.word) rs) (refused s (refuses_later s r rs t at same)) ∙ more
       by false other more = more
 
-  -- the row that was meant reads what is written
+  -- The first row that reads the items is the row of the operator.
   pub first_reading-row : (r : Row) → In r table → immediates c (labels_in_sight r.role is) r.shape f ≡ Some i →
       ((s : Row) → refuses s.shape r.shape ≡ true → immediates c (labels_in_sight s.role is) s.shape f ≡ None) → first_reading c is (rows_of r.word) f ≡ Some (r, i)
   first_reading-row r at e refused = first_of_word table r table_tells_apart at e refused

@@ -1,4 +1,4 @@
--- Indices of items, in operators: what they are written as, that their pieces write it, and that they read back.
+-- Indices of items in operators: their items in the text, that pieces write these, and that they read back
 use Rattle.std.proofs.Common.{◌≡◌, ℕ, ◌<◌, ◌^◌, true, List, Option, Some, None, refl, length, arith, min}
 use Rattle.wasmprinter_spec.specs.Forest.{Forest}
 use Rattle.wasmprinter_spec.specs.Row.{Space, Types, Local, Label}
@@ -17,12 +17,12 @@ use Rattle.wasmprinter_reading.proofs.Identifiers.{index_items, Declares, Reads,
 use Rattle.wasmprinter_reading.proofs.Operators.Arguments.{AreArguments}
 use Rattle.wasmprinter_reading.proofs.Operators.Numbers.{index_is_no_word}
 
--- ---- what they are written as
+-- ---- the items
 
 abbrev pub space_items : Setting → Space → ℕ → Forest
 space_items s space n = index_items (in_function s.names s.function space n) n
 
--- a field of a structure type
+-- A field of a structure type
 abbrev pub field_items : Setting → ℕ → ℕ → Forest
 field_items s t n = index_items (s.names.fields t n) n
 
@@ -32,7 +32,7 @@ pub item_arguments : (o : Option Named) (n : ℕ) → IsU32 n → AreArguments (
 item_arguments None n h = (index_is_no_word n h, tt)
 item_arguments (Some m) n h = tt
 
--- ---- they read back
+-- ---- the items read back
 
 pub function_apart : (s : Setting) → AreApart s.names → (space : Space) → AreDistinct (in_function s.names s.function space)
 function_apart s apart Local = apart.locals s.function
@@ -43,7 +43,7 @@ counted : (k : Counts) (space : Space) (n : ℕ) → is_item space ≡ true → 
 counted k Label n t d = absurd cc
 counted k _ n t d = d
 
--- indices below this one are declared types, and numbers of 32 bits
+-- Indices below this bound are those of declared types, and numbers of 32 bits.
 abbrev pub least : Counts → ℕ
 least k = min (2 ^ 32) k.types
 
@@ -66,7 +66,7 @@ module _ (s : Setting) (c : Context) (k : Counts) (same : HaveSameNames s c k) (
       by (Some fs) e f =
           index_reads (c.fields t) (s.names.fields t) (length fs) (record { are = same.fields t fs e; few = same.few_fields t fs e; apart = apart.fields t }) n f h
 
--- ---- their pieces write them
+-- ---- pieces write the items
 
 in_function-named : (s : Setting) → AreNamed s.names → (space : Space) (n : ℕ) → IsNamedIfAny (in_function s.names s.function space n)
 in_function-named s named Local n = named.locals s.function n

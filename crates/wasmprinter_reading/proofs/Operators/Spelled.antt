@@ -1,4 +1,4 @@
--- Operators that bytes spell are listed, in range and well nested.
+-- Operators that bytes encode are listed, in range and well nested.
 use Rattle.std.proofs.Common.{◌≡◌, ℕ, ◌<◌, ◌≤◌, ◌+◌, ◌^◌, ◌==◌, ltb, true, List, [], ◌∷◌, length, Option, Some, None, refl, ap, subst, arith}
 use Rattle.std.proofs.lemmas.Bool.{ltb-true}
 use Rattle.std.proofs.lemmas.List.{length-append}
@@ -23,7 +23,7 @@ use Rattle.wasmprinter_reading.proofs.LebRange.{AllSpelled-unsigned, AllSpelled-
 use Rattle.wasmprinter_reading.proofs.Vectors.{AllSpelled-u32, Spelled-vec}
 use Rattle.wasmprinter_reading.proofs.Types.Ranges.{AllSpelled-signed_index, AllSpelled-heap_type, AllSpelled-val_type}
 
--- of this shape, and in range
+-- Immediates of this shape, in range
 abbrev HasShape : Shape → Immediates → Type 0
 HasShape s i = (has_shape s i ≡ true) × AreInRange i
 
@@ -32,13 +32,13 @@ HasRowShape r i = (has_row_shape r i ≡ true) × AreInRange i
 
 -- ---- immediates
 
--- A block type.
+-- A block type is in range.
 AllSpelled-block_type : AllSpelled block_type IsBlockInRange
 AllSpelled-block_type = Spelled-by_first_byte (λ b.
     Spelled-choose (b == 0x40) (Spelled-map_value (Spelled-any byte) (λ x h. tt))
     (Spelled-choose (begins_val_type b) (Spelled-map_value AllSpelled-val_type (λ t h. h)) (Spelled-map_value AllSpelled-signed_index (λ n h. h))))
 
--- A catch clause, behind the byte of its kind.
+-- A catch clause with a tag and a label is in range.
 AllSpelled-tag_and_label : (c : ℕ → ℕ → Catch) → ((t l : ℕ) → IsU32 t → IsU32 l → IsCatchInRange (c t l)) → AllSpelled (tag_and_label c) IsCatchInRange
 AllSpelled-tag_and_label c keeps = Spelled-map_value (Spelled-seq AllSpelled-u32 (λ _. AllSpelled-u32)) (λ x h. keeps x.0 x.1 h.0 h.1)
 
@@ -52,7 +52,7 @@ AllSpelled-catch_by k =
 AllSpelled-catch : AllSpelled catch IsCatchInRange
 AllSpelled-catch = Spelled-behind_first_byte AllSpelled-catch_by
 
--- A memory operand: its first number says whether a memory stands behind it.
+-- A memory operand is in range. Its first number says whether the index of a memory follows.
 AllSpelled-u64 : AllSpelled u64 (λ n. n < 2 ^ 64)
 AllSpelled-u64 = AllSpelled-unsigned 64
 
@@ -69,18 +69,18 @@ AllSpelled-mem_arg =
         (λ x h. record { exponent = omega (arith, ltb-true n 128 small); memory = h.0; offset = h.1 }))
         (λ _. Spelled-fail))
 
--- Two indices, or an index and a number.
+-- Two indices, or an index and a number, are in range.
 AllSpelled-indices : AllSpelled indices (HasShape FieldShape)
 AllSpelled-indices = Spelled-map_value (Spelled-seq AllSpelled-u32 (λ _. AllSpelled-u32)) (λ x h. (refl, h))
 
--- A cast: a label, and two heap types.
+-- A cast is in range: a label and two heap types.
 AllSpelled-cast : AllSpelled cast (HasShape CastShape)
 AllSpelled-cast =
     Spelled-map_value (Spelled-seq (Spelled-any (try_map cast_nulls byte))
     (λ _. Spelled-seq AllSpelled-u32 (λ _. Spelled-seq AllSpelled-heap_type (λ _. AllSpelled-heap_type))))
     (λ x (_, (label, (from, to))). (refl, (label, from, to)))
 
--- The number of so many bytes.
+-- The number that n bytes encode, the lowest byte first, is below 256 ^ n.
 little_endian-below : (bs : List ℕ) → AllByRecursion IsByte bs → little_endian bs < 256 ^ length bs
 little_endian-below [] h = omega arith
 little_endian-below (b ∷ bs) h = omega (arith, h.0, little_endian-below bs h.1, pow-suc 256 (length bs))
@@ -91,7 +91,7 @@ AllSpelled-float_bits n = Spelled-map_value (AllSpelled-take_bytes n) (λ bs h. 
 AllSpelled-sixteen : AllSpelled (map_value Bytes (take_bytes 16)) (HasShape VectorShape)
 AllSpelled-sixteen = Spelled-map_value (AllSpelled-take_bytes 16) (λ bs h. (refl, record { count = h.0; each = h.1 }))
 
--- The immediates of each shape.
+-- Immediates of each shape have that shape and are in range.
 AllSpelled-immediates : (s : Shape) → AllSpelled (immediates s) (HasShape s)
 AllSpelled-immediates NoneShape = Spelled-succeed (refl, tt)
 AllSpelled-immediates FenceShape = Spelled-map_value (Spelled-any (only 0x00)) (λ _ h. (refl, tt))
@@ -122,7 +122,7 @@ AllSpelled-immediates F64Shape = Spelled-map_value (AllSpelled-float_bits 8) (λ
 AllSpelled-immediates VectorShape = AllSpelled-sixteen
 AllSpelled-immediates LanesShape = AllSpelled-sixteen
 
--- The immediates of an opcode that the table lists; there are none of another.
+-- The immediates of an opcode that the table lists are in range; another opcode has none.
 AllSpelled-immediates_of_row : (r : Option Row) → AllSpelled (immediates_of_row r) (HasRowShape r)
 AllSpelled-immediates_of_row None = Spelled-fail
 AllSpelled-immediates_of_row (Some r) = AllSpelled-immediates r.shape
@@ -139,12 +139,12 @@ listed_values : (os : List (Placed Operator)) → AllByRecursion (λ o. IsListed
 listed_values [] h = tt
 listed_values (o ∷ os) h = (h.0, listed_values os h.1)
 
--- operators that are listed and well nested
+-- Operators that are listed and well nested
 pub record AreNested (x : Closed (Placed Operator)) : Type 0 where
   pub listed : AllByRecursion IsListed (without_places x.items)
   pub nested : Nests Sequence (roles x.items)
 
--- An expression: operators well nested.
+-- The operators of an expression are listed and well nested.
 pub AllSpelled-expression : AllSpelled expression AreNested
 AllSpelled-expression = record {
   has = λ p text x bytes (t, closed, all_spelled, nested, end_place).

@@ -1,4 +1,5 @@
--- Sixteen bytes, as four hexadecimal words or as lanes: what they are written as, that this reads back, and that their pieces write it.
+-- Sixteen bytes, as four hexadecimal words or as lanes: their items, that these read back, and that pieces write
+-- them
 use Rattle.std.proofs.Common.{◌≡◌, ℕ, zero, suc, ℤ, pos, negsuc, ◌-ℤ◌, ◌+◌, ◌*◌, ◌/◌, ◌%◌, ◌<◌, ◌^◌, Bool, true, false, cond, ltb, List, [], ◌∷◌, ◌++◌, length, Some, refl, ap, ◌∙◌, codes, decimal, arith, lit≤, lit<}
 use Rattle.std.specs.Fmt.{digit_glyph}
 use Rattle.std.specs.Char.{digit_value}
@@ -26,7 +27,7 @@ use Rattle.wasmprinter_reading.proofs.Operators.Arguments.{AreArguments}
 use Rattle.wasmprinter_reading.proofs.Operators.Numbers.{byte_is_no_word, u8-decimal}
 use Rattle.wasmprinter_reading.proofs.Operators.Memory.{lane_writes}
 
--- ---- what they are written as
+-- ---- the items
 
 abbrev pub vector_items : List ℕ → Forest
 vector_items bs = Word (codes "i32x4") (words_before (hex_words bs) End)
@@ -51,7 +52,7 @@ lanes_arguments (k ∷ ks) h = (byte_is_no_word k h.0, lanes_arguments ks h.1)
 
 -- ---- hexadecimal words
 
--- the number of bytes that stand behind others, the highest first
+-- The number of bytes after those of `n`, the highest byte first
 abbrev number_behind : ℕ → List ℕ → ℕ
 number_behind n [] = n
 number_behind n (b ∷ bs) = number_behind (n * 256 + b) bs
@@ -75,7 +76,7 @@ hex_value n (b ∷ bs) h =
     rw (high, low) (omega arith) in
     ap (λ m. digits_value_after 16 m (hex_digits bs)) byte ∙ hex_value (n * 256 + b) bs h.1
 
--- a number of four bytes, without a sign
+-- A hexadecimal number of four bytes without a sign reads as the signed number with these bits.
 integer_of_word : (ds : List ℕ) (n : ℕ) → numeral 16 ds ≡ Some n → n < 2 ^ 32 → integer 32 (codes "0x" ++ ds) ≡ Some (as_signed 32 n)
 unfolding integer natural
 integer_of_word ds n e h = rw (e, lt-ltb n (2 ^ 32) h)
@@ -103,15 +104,15 @@ record AreFourBytes (a b c d : ℕ) : Type 0 where
   third : c < 256
   fourth : d < 256
 
--- the first four of bytes, and the others
+-- The first four bytes, and the others
 four_parts : (a b c d : ℕ) (bs : List ℕ) → AllByRecursion IsByte (a ∷ b ∷ c ∷ d ∷ bs) → AreFourBytes a b c d × AllByRecursion IsByte bs
 four_parts a b c d bs (first, (second, (third, (fourth, others)))) = (record { first = first; second = second; third = third; fourth = fourth }, others)
 
--- the bytes, the last first
+-- Four bytes in reverse order are bytes.
 are_bytes-back : (a b c d : ℕ) → AreFourBytes a b c d → AllByRecursion IsByte (d ∷ (c ∷ (b ∷ (a ∷ []))))
 are_bytes-back a b c d h = (h.fourth, (h.third, (h.second, (h.first, tt))))
 
--- a word reads as its four bytes
+-- A hexadecimal word reads as its four bytes.
 word_reads : (a b c d : ℕ) → AreFourBytes a b c d → vector_lane 4 (hex_word (a ∷ (b ∷ (c ∷ (d ∷ []))))) ≡ Some (a ∷ (b ∷ (c ∷ (d ∷ []))))
 word_reads a b c d h =
     let bs : List ℕ = d ∷ (c ∷ (b ∷ (a ∷ []))) in
@@ -127,9 +128,9 @@ word_reads a b c d h =
     (bytes_of-behind 2 (d * 256 + c) b h.second ∙ ap (λ xs. b ∷ xs) (bytes_of-behind 1 d c h.third ∙ ap (λ x. c ∷ (x ∷ [])) highest)) in
     rw (integer_of_word (hex_digits bs) n number small, unsigned-signed n small, four)
 
--- ---- they read back
+-- ---- the items read back
 
--- the bytes of each word
+-- The bytes of each word
 abbrev fours : List ℕ → List (List ℕ)
 fours (a ∷ b ∷ c ∷ d ∷ bs) = (a ∷ (b ∷ (c ∷ (d ∷ [])))) ∷ fours bs
 fours _ = []
@@ -157,7 +158,7 @@ each_lane_reads (k ∷ ks) h = rw (u8-decimal k h.0, each_lane_reads ks h.1)
 pub lanes_read : (ks : List ℕ) → IsVectorInRange ks → lanes (lanes_items ks) ≡ Some (Bytes ks)
 lanes_read ks h = rw (each_lane_reads ks h.each, eq-eqb (length ks) 16 h.count)
 
--- ---- their pieces write them
+-- ---- pieces write the items
 
 is_word-hex : (ds : List ℕ) → AllDigits 16 ds → is_word (codes "0x" ++ ds) ≡ true
 unfolding class

@@ -1,4 +1,4 @@
--- The nodes of a field: those of its lists of operators.
+-- The nodes of a field are those of its lists of operators.
 use Rattle.std.proofs.Common.{◌≡◌, ℕ, ◌==◌, Bool, true, false, List, [], ◌∷◌, ◌++◌, Option, Some, None, option_map, refl, sym, ap, ◌∙◌, subst, codes}
 use Rattle.std.specs.List.{AllByRecursion}
 use Rattle.wasmprinter_spec.specs.Grammar.{Placed}
@@ -45,7 +45,7 @@ use Rattle.wasmprinter_reading.proofs.Fields.DataSegments.{data_items}
 use Rattle.wasmprinter_reading.proofs.Fields.Functions.{function_items}
 use Rattle.wasmprinter_reading.proofs.Trees.Lists.{HasNodes, list_has, IsField, behind_front, field_has, GroupHas, constant_has, constant_folds, group_has}
 
--- ---- what stands in front of the operators
+-- ---- the items before the operators
 
 front_onto : (a b : Forest) → AreFront a → AreFront b → AreFront (onto a b)
 front_onto End b h k = k
@@ -88,7 +88,7 @@ table_type_front names t =
     front_onto (wide_items t.wide) (onto (limits_items t.limits) (ref_items names t.element)) (wide_front t.wide)
     (front_onto (limits_items t.limits) (ref_items names t.element) (max_front t.limits.max) (ref_front names t.element.nullable t.element.heap))
 
--- parameters, results and locals
+-- Parameters, results and locals are not nodes.
 groups_front : (names : Names) (w : List ℕ) (gs : List Variables) → is_node_head (head w) ≡ false → AreFront (groups_items names w gs)
 groups_front names w [] h = tt
 groups_front names w (Alone d t ∷ gs) h = (h, groups_front names w gs h)
@@ -117,7 +117,7 @@ use_front : (names : Names) (f : Option ℕ) (i : ℕ) (t : Option FuncType) →
 unfolding head
 use_front names f i t = (refl, signature_front names f t)
 
--- ---- what stands among the expressions of a segment
+-- ---- the items among the expressions of a segment
 
 id_silent : (o : Option Named) (f : Forest) → segment_nodes (onto (id_items o) f) ≡ segment_nodes f
 id_silent None f = refl
@@ -147,7 +147,7 @@ function_row_silent : (s : Scope) (is : List ℕ) → segment_nodes (elements.fu
 function_row_silent s [] = refl
 function_row_silent s (i ∷ is) = index_silent (s.names.items row.Func i) i (elements.function_row s is) ∙ function_row_silent s is
 
--- an expression in front of others
+-- An expression before others
 group_then : {g : Forest} {t : Option Nodes} → GroupHas g t → (f : Forest) (ts : List (Option Nodes)) → AreAlike AreNodesOf (segment_nodes f) ts →
     AreAlike AreNodesOf (segment_nodes (Group g f)) (t ∷ ts)
 group_then {t = t} h f ts rest =
@@ -155,7 +155,7 @@ group_then {t = t} h f ts rest =
 
 -- ---- fields
 
--- the ways to fold of this module
+-- The way in which this module's operators are folded
 abbrev pub own_folding : Bool → PlacedModule → Folding
 own_folding paints m = record { paints = paints; signatures = signatures_within m }
 
@@ -179,7 +179,7 @@ module _ (paints : Bool) (m : PlacedModule) (s : Scope) (is : s.folding ≡ Some
       (behind_front (groups_items s.names (codes "local") locals) (groups_front s.names (codes "local") locals no_local)
       (record { front = End; row = ap (λ t. node_row_of (list_items false t results setting hs os)) is ∙ k.row }))))
 
-  -- a constant expression behind a front
+  -- A constant expression in a field
   constant_field : (nesting : ℕ) (os : List (Placed Operator)) (h : IsRangedExpression os) (foldable : Foldable os) →
       IsField (constant_items s nesting os) (constant_has s (own_folding paints m) is named ranged nesting os h foldable).groups
   constant_field nesting os h foldable =
@@ -214,7 +214,7 @@ module _ (paints : Bool) (m : PlacedModule) (s : Scope) (is : s.folding ≡ Some
 
   -- ---- segments
 
-  -- these items have these expressions
+  -- These items contain these expressions.
   abbrev HasExpressions : Forest → List Operators → Type 0
   HasExpressions f es = AreAlike AreNodesOf (segment_nodes f) (segment_trees m s es)
 

@@ -1,4 +1,4 @@
--- The nodes of a list of operators: by themselves, behind what a field holds in front of them, and in a group of their own.
+-- The nodes of a list of operators: alone, after the other items of a field, and in a group of its own
 use Rattle.std.proofs.Common.{◌≡◌, ℕ, zero, suc, Bool, false, true, ◌||◌, cond, List, [], ◌∷◌, Option, Some, None, option_map, refl, sym, ap, ◌∙◌, subst, bytes_eq, codes}
 use Rattle.std.specs.List.{AllByRecursion}
 use Rattle.wasmprinter_spec.specs.Grammar.{Placed, ◌>>=◌}
@@ -39,9 +39,9 @@ use Rattle.wasmprinter_reading.proofs.Folded.ReadBack.{tree_row}
 use Rattle.wasmprinter_reading.proofs.Folded.Groups.{own_items, IsRowOf, AreFront, node_front, alone, row_nodes, heads_read}
 use Rattle.wasmprinter_reading.proofs.Fields.Expressions.{constant_items, constant_held, no_offset, no_item}
 
--- ---- a list by itself
+-- ---- a list alone
 
--- its tree, and the nodes that it is written as, which are those of the tree
+-- The tree of a list, and the nodes in its items, which are those of the tree
 pub record HasNodes (s : Setting) (signatures : Signatures) (hs : List (Placed Hint)) (os : List (Placed Operator)) : Type 0 where
   pub nodes : Nodes
   pub is : tree_of s signatures hs os ≡ Some nodes
@@ -49,7 +49,7 @@ pub record HasNodes (s : Setting) (signatures : Signatures) (hs : List (Placed H
   pub row : IsRowOf (folded_items false s signatures hs os) groups
   pub heads : with_heads (λ f. Some f) groups ≡ with_heads (λ h. items_in (head_text defaults h)) nodes
 
--- well nested and without the older `try`, a list has it
+-- A well-nested list without legacy exception handling has a tree with these nodes.
 pub list_has : (s : Setting) → AreNamed s.names → AreSignaturesInRange s.signature → (signatures : Signatures) (hs : List (Placed Hint)) (os : List (Placed Operator)) →
     AllByRecursion IsListed (without_places os) → Nests Sequence (roles os) → AreWithoutTry (roles os) → HasNodes s signatures hs os
 list_has s named ranged signatures hs os l n t =
@@ -66,22 +66,22 @@ list_has s named ranged signatures hs os l n t =
 
 -- ---- in a field
 
--- a row with these nodes, and something in front of them
+-- A row with these nodes, and any items before them
 pub record IsField (f : Forest) (ns : NodesOf Forest) : Type 0 where
   pub front : Forest
   pub row : node_row_of f ≡ Some (node_row front ns)
 
--- with more in front
+-- The same with more items before the row
 pub behind_front : (a : Forest) → AreFront a → {f : Forest} {ns : NodesOf Forest} → IsField f ns → IsField (onto a f) ns
 behind_front a h {f} {ns} x = record { front = onto a x.front; row = node_front a h f x.front ns x.row }
 
--- whatever stands in front of them, the nodes of the field are the list's
+-- The nodes of a field are those of its list of operators, with any items before them.
 pub field_has : {s : Setting} {signatures : Signatures} {hs : List (Placed Hint)} {os : List (Placed Operator)} (h : HasNodes s signatures hs os) {f : Forest} → IsField f h.groups →
     AreNodesOf (field_nodes f) (tree_of s signatures hs os)
 field_has h x =
     (h.nodes, h.is, ap (λ r. option_map (with_heads (λ (f : Forest). Some f)) (option_map (λ r. r.nodes) r)) x.row ∙ ap (λ t. Some t) h.heads)
 
--- where nothing stands in front of them
+-- The same without items before them
 row_has : {s : Setting} {signatures : Signatures} {hs : List (Placed Hint)} {os : List (Placed Operator)} (h : HasNodes s signatures hs os) (f : Forest) → IsRowOf f h.groups →
     AreNodesOf (node_groups f) (tree_of s signatures hs os)
 row_has h f e =
@@ -89,17 +89,17 @@ row_has h f e =
 
 -- ---- in a group of its own
 
--- one list in a group
+-- A group with one list of operators
 pub record GroupHas (g : Forest) (expected : Option Nodes) : Type 0 where
   pub found : Option (NodesOf Forest)
   pub is : group_nodes g ≡ found ∷ []
   pub are : AreNodesOf found expected
 
--- the words of groups that hold an expression
+-- Reports whether a word is that of a group that contains an expression.
 abbrev pub is_expression : List ℕ → Bool
 is_expression w = bytes_eq w (codes "offset") || bytes_eq w (codes "item")
 
--- a group of an expression, with its word
+-- A group of an expression with its word
 worded_has : {s : Setting} {signatures : Signatures} {hs : List (Placed Hint)} {os : List (Placed Operator)} → HasNodes s signatures hs os → (w : List ℕ) → is_expression w ≡ true →
     (f : Forest) → f ≡ folded_items false s signatures hs os → GroupHas (Word w f) (tree_of s signatures hs os)
 worded_has h w e f same = record {
@@ -108,11 +108,11 @@ worded_has h w e f same = record {
   are = row_has h f (ap node_row_of same ∙ h.row);
 }
 
--- an operator is no such word
+-- The word of an operator is not that of a group that contains an expression.
 no_expression : (v : List ℕ) → StandsAlone v → is_expression v ≡ false
 no_expression v a = rw (no_offset v a, no_item v a) refl
 
--- an operator that stands there alone
+-- A group that is a single operator
 alone_has : {s : Setting} {signatures : Signatures} {hs : List (Placed Hint)} {os : List (Placed Operator)} → HasNodes s signatures hs os → (v : List ℕ) → StandsAlone v →
     is_node_head (head v) ≡ true → (f : Forest) → Group (Word v f) End ≡ folded_items false s signatures hs os → GroupHas (Word v f) (tree_of s signatures hs os)
 alone_has h v a is_head f same = record {
@@ -121,11 +121,11 @@ alone_has h v a is_head f same = record {
   are = row_has h (Group (Word v f) End) (ap node_row_of same ∙ h.row);
 }
 
--- one plain operator is one node, whose group holds its immediates
+-- A single plain operator is one node.
 one_tree : (x : Item) → folding.role x ≡ Plain → nested_code_of (x ∷ []) ≡ Some (folding.Plain x Done)
 one_tree x e = rw e refl
 
--- whatever operands it takes, there are none
+-- Its group contains only its immediates, since there are no operands to take.
 one_node : (x : Item) → row_items false (with_operands Nil (Of x) x.gives (operand_search x.takes Nil)) ≡ Group (head_items (Of x) End) End
 one_node x = by x.takes
   where
@@ -136,7 +136,7 @@ one_node x = by x.takes
 -- ---- in a scope whose operators are folded
 
 module _ (s : Scope) (x : Folding) (is : s.folding ≡ Some x) (named : AreNamed s.names) (ranged : AreSignaturesInRange (signature_at s.types)) where
-  -- a constant expression
+  -- The nodes of a constant expression
   abbrev pub constant_nodes : ℕ → List (Placed Operator) → Type 0
   constant_nodes nesting os = HasNodes (in_line s nesting) (x.signatures (Some 0)) [] os
 
@@ -150,7 +150,7 @@ module _ (s : Scope) (x : Folding) (is : s.folding ≡ Some x) (named : AreNamed
   pub constant_folds : (nesting : ℕ) (os : List (Placed Operator)) → constant_items s nesting os ≡ folded_items false (in_line s nesting) (x.signatures (Some 0)) [] os
   constant_folds nesting os = ap (λ t. list_items false t (Some 0) (in_line s nesting) [] os) is
 
-  -- the one operator is printed as its node
+  -- A single operator is printed as its node.
   one_folds : (o : Placed Operator) → IsListed o.value → role_of o.value.opcode ≡ Plain →
       Group (expression_items (in_line s 3) (o.value ∷ [])) End ≡ folded_items false (in_line s 3) (x.signatures (Some 0)) [] (o ∷ [])
   unfolding items
@@ -162,7 +162,7 @@ module _ (s : Scope) (x : Folding) (is : s.folding ≡ Some x) (named : AreNamed
       ∙ ap (λ a. Group (Word (word_of o.value.opcode) (onto a End)) End)
       (item_arguments (in_line s 3) named ranged (x.signatures (Some 0)) None own [] [] o tt (named.labels s.function 0 0) l))
 
-  -- what stands in a group of its own has the nodes of its tree
+  -- A group of its own has the nodes of its tree.
   pub group_has : (w : List ℕ) → is_expression w ≡ true → (os : List (Placed Operator)) → IsRangedExpression os → AreFoldable s.folding os →
       GroupHas (constant_held s w os) (tree_of (in_line s 3) (x.signatures (Some 0)) [] os)
   group_has w e [] h foldable = worded_has (constant_has 3 [] h foldable) w e _ (constant_folds 3 [])

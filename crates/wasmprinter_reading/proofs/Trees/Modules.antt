@@ -30,7 +30,7 @@ use Rattle.wasmprinter_reading.proofs.Written.{next_waiting, module_writes}
 use Rattle.wasmprinter_reading.proofs.Folded.Groups.{items_written}
 use Rattle.wasmprinter_reading.proofs.Trees.Fields.{own_folding, function_has, global_has, table_has, element_has, data_has}
 
--- fields of one kind, each with its number
+-- If a relation holds for each element with its number, it holds for the lists.
 numbered_alike : {A B C : Type 0} {P : A → Type 0} (R : B → C → Type 0) (found : Forest → B) (items : ℕ → A → Forest) (expected : A → C) →
     ((i : ℕ) (x : A) → P x → R (found (items i x)) (expected x)) → (i : ℕ) (xs : List A) → AllByRecursion P xs → AreAlike R (map found (map_numbered items i xs)) (map expected xs)
 numbered_alike R found items expected law i [] h = tt
@@ -61,7 +61,7 @@ module _ (o : Options) (folds : o.folds ≡ true) (whole : o.skeleton ≡ false)
   can : CanFold asked m
   can = can_fold_as_asked o m whole foldable
 
-  -- functions from i on, before which these hints wait
+  -- The nodes of functions from index i on, with the hints left for them, are those of their trees.
   functions_have : (i : ℕ) → before asked own_names m FuncKind ≤ i → (fs : List PlacedFunction) → AllByRecursion (λ f. IsRangedFunction f × Foldable asked m f.body.value.operators) fs →
       AreAlike AreNodesOf (map field_nodes (map_numbered (own_function asked own_names m false) i fs))
       (body_trees m own_scope (waiting asked own_names m (i - before asked own_names m FuncKind)) i fs)
@@ -99,7 +99,7 @@ module _ (o : Options) (folds : o.folds ≡ true) (whole : o.skeleton ≡ false)
         (and_each (λ d. IsRangedData d.value) (λ d. AllFoldable asked m (data_lists d)) m.datas h.each_data can.datas);
   }
 
-  -- the text has these fields
+  -- The text has these fields.
   fields_read : (answers : Answers) → IsBlank o.indent → refusal o answers m ≡ None →
       (items_in (text_of (layout o answers m)) >>= module_fields >>= fields) ≡ Some (all_fields asked own_names m)
   fields_read answers blank none =

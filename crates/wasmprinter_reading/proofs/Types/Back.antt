@@ -1,4 +1,4 @@
--- The items of types read back, where indices do.
+-- The items of types read back, if those of indices do.
 use Rattle.std.proofs.Common.{◌≡◌, ◌⊎◌, inl, inr, ℕ, ◌<◌, ◌+◌, true, false, Bool, List, [], ◌∷◌, ◌++◌, Option, Some, None, refl, ap, ◌∙◌, codes, bytes_eq, append-nil, map, option_map, length, arith}
 use Rattle.std.specs.List.{AllByRecursion}
 use Rattle.std.proofs.lemmas.Bool.{and_from, eq-eqb}
@@ -27,20 +27,20 @@ use Rattle.wasmprinter_reading.proofs.Numbered.{rows, map_numbered}
 
 -- ---- value types
 
--- the word of a value type, which is no packed type's
+-- The word of a value type that is not one of a packed type
 pub record IsValWord (f : Forest) (t : ValType) : Type 0 where
   pub name : List ℕ
   pub is : f ≡ Word name End
   pub reads : val_named name ≡ Some t
   pub unpacked : packed_of_word name ≡ None
 
--- a group of the keyword `ref`
+-- A group with the keyword `ref`
 pub record IsRefGroup (ids : Identifiers) (f : Forest) (t : ValType) : Type 0 where
   pub held : Forest
   pub is : f ≡ Group (Word (codes "ref") held) End
   pub reads : option_map Ref (ref_parts ids held) ≡ Some t
 
--- an index where a heap type is wanted, and behind the word `null`
+-- The items of an index read as a heap type.
 index_heap : (ids : Identifiers) (o : Option Named) (n : ℕ) → index ids (index_items o n) ≡ Some n → heap_type ids (index_items o n) ≡ Some (Index n)
 index_heap ids o n e = rw e
 
@@ -50,13 +50,13 @@ unfolding natural numeral heap_of_word
 null_index ids None n e = rw (index_heap ids None n e)
 null_index ids (Some m) n e = rw (index_heap ids (Some m) n e)
 
--- an index before other supertypes
+-- An index before other supertypes reads back.
 first_supertype : (ids : Identifiers) (o : Option Named) (n : ℕ) (f : Forest) (x : List ℕ × Declared CompositeType) → index ids (index_items o n) ≡ Some n →
     supertypes ids f ≡ Some x → supertypes ids (onto (index_items o n) f) ≡ Some (n ∷ x.0, x.1)
 first_supertype ids None n f x e g = rw (e, g)
 first_supertype ids (Some m) n f x e g = rw (e, g)
 
--- ---- no identifier stands before a type
+-- ---- types do not start with an identifier
 
 pub identifier_in_front-ref : (names : Names) (null : Bool) (h : HeapType) (f : Forest) → identifier_in_front (onto (ref_items_by names null h) f) ≡ (None, onto (ref_items_by names null h) f)
 identifier_in_front-ref names true (Index n) f = refl
@@ -69,7 +69,7 @@ identifier_in_front-val names _ f = refl
 
 -- ---- groups of types
 
--- what a group of variables declares
+-- The declarations in a group of variables
 abbrev pub held_by : Variables → List (Declaration ValType)
 held_by (Alone n t) = declaration (Some n.content) t ∷ []
 held_by (Together ts) = unnamed ts
@@ -84,13 +84,13 @@ held-with_variable None t [] = refl
 held-with_variable None t (Together ts ∷ gs) = refl
 held-with_variable None t (Alone n u ∷ gs) = refl
 
--- groups declare what stands in them
+-- The groups of variables declare these variables, in order.
 pub held-variable_groups : (named : ℕ → Option Named) (k : ℕ) (ts : List ValType) → held_by_all (variable_groups named k ts) ≡ declared_from named k ts
 held-variable_groups named k [] = refl
 held-variable_groups named k (t ∷ ts) =
     held-with_variable (named k) t (variable_groups named (k + 1) ts) ∙ ap (λ ds. declaration (id (named k)) t ∷ ds) (held-variable_groups named (k + 1) ts)
 
--- a group of another word is left
+-- Groups with another word are not read.
 pub groups_leave : {A : Type 0} (names : Names) (read : Forest → Option (List A)) (w v : List ℕ) (ts : List ValType) (f : Forest) → bytes_eq v w ≡ false →
     groups read w f ≡ Some ([], f) → groups read w (onto (group_items names v ts) f) ≡ Some ([], onto (group_items names v ts) f)
 unfolding groups
@@ -104,7 +104,7 @@ variables_leave names read w v [] f other h = h
 variables_leave names read w v (Alone n t ∷ gs) f other h = rw other
 variables_leave names read w v (Together ts ∷ gs) f other h = rw other
 
--- no parameter or result stands in front
+-- The items do not start with a parameter or a result.
 pub record IsBehindSignature (ids : Identifiers) (f : Forest) : Type 0 where
   pub params : groups (variables ids) (codes "param") f ≡ Some ([], f)
   pub results : groups (val_types ids) (codes "result") f ≡ Some ([], f)
@@ -112,11 +112,11 @@ pub record IsBehindSignature (ids : Identifiers) (f : Forest) : Type 0 where
 pub end_behind_signature : (ids : Identifiers) → IsBehindSignature ids End
 end_behind_signature ids = record { params = no_groups (variables ids) (codes "param"); results = no_groups (val_types ids) (codes "result") }
 
--- the signature of a type, as it is printed with these identifiers of parameters
+-- The signature of a type, printed with these identifiers of parameters
 abbrev pub printed_signature : (ℕ → Option Named) → FuncType → Signature
 printed_signature named t = record { params = declared_from named 0 t.params; results = t.results }
 
--- the identifiers of the fields of a type with this index
+-- The identifiers of the fields of the type with this index
 abbrev pub composite_fields : Names → ℕ → CompositeType → Identifiers
 composite_fields names i (StructComposite fs) = identifiers (names.fields i) (length fs)
 composite_fields names i _ = []
@@ -124,11 +124,11 @@ composite_fields names i _ = []
 abbrev pub declared_composite : Names → ℕ → CompositeType → Declared CompositeType
 declared_composite names i c = with_fields (composite_fields names i c) c
 
--- what the declaration of a type says
+-- The declaration of a type, as it is read
 abbrev pub declared_type : Names → ℕ → SubType → Declared SubType
 declared_type names i t = with_fields (composite_fields names i t.composite) t
 
--- Indices of types below the bound read as themselves.
+-- Type indices below the bound read as themselves.
 module _ (names : Names) (ids : Identifiers) (bound : ℕ) (reads : Reads ids (names.items Types) bound) where
   pub heap_type-items : (h : HeapType) → IsDeclaredHeap bound h → heap_type ids (heap_items names h) ≡ Some h
   unfolding natural numeral heap_of_word
@@ -141,7 +141,7 @@ module _ (names : Names) (ids : Identifiers) (bound : ℕ) (reads : Reads ids (n
   ref_item true _ r = inl (record { name = _; is = refl; reads = refl })
   ref_item false h r = inr (record { held = Word (codes "ref") (heap_items names h); is = refl; reads = rw (heap_type-items h r) })
 
-  -- A value type: a word that no packed type has, or a group of the keyword `ref`.
+  -- The items of a value type: a word that no packed type has, or a group with the keyword `ref`
   abbrev pub IsValItem : Forest → ValType → Type 0
   IsValItem f t = IsValWord f t ⊎ IsRefGroup ids f t
 
@@ -175,7 +175,7 @@ module _ (names : Names) (ids : Identifiers) (bound : ℕ) (reads : Reads ids (n
   val_types-items [] r = refl
   val_types-items (t ∷ ts) r = all_items-reads val_named (val_group ids) (val_items names t) t (types_items names ts) ts (val_item t r.0) (val_types-items ts r.1)
 
-  -- one value type alone
+  -- The items of a single value type read as that type alone.
   pub val_types-one : (t : ValType) → IsDeclaredVal bound t → val_types ids (val_items names t) ≡ Some (t ∷ [])
   val_types-one t r = rw onto-End at (val_types-items (t ∷ []) (r, tt))
 
@@ -186,7 +186,7 @@ module _ (names : Names) (ids : Identifiers) (bound : ℕ) (reads : Reads ids (n
   unnamed-items (t ∷ ts) r =
       declarations-items (val_types ids) val_named (val_group ids) (val_items names t) t (types_items names ts) (t ∷ ts) (val_item t r.0) (val_types-items (t ∷ ts) r)
 
-  -- groups of this word are taken, where no other stands behind them
+  -- Groups of value types with this word read back, if no other group with it follows.
   pub results_take : (w : List ℕ) (ts : List ValType) (f : Forest) → AllByRecursion (IsDeclaredVal bound) ts → groups (val_types ids) w f ≡ Some ([], f) →
       groups (val_types ids) w (onto (group_items names w ts) f) ≡ Some (ts, f)
   unfolding groups
@@ -200,7 +200,7 @@ module _ (names : Names) (ids : Identifiers) (bound : ℕ) (reads : Reads ids (n
   groups_take w (Alone n t ∷ gs) f r h = rw (same_bytes w, val_types-one t r.0, groups_take w gs f r.1 h)
   groups_take w (Together ts ∷ gs) f r h = rw (same_bytes w, unnamed-items ts r.0, groups_take w gs f r.1 h)
 
-  -- variables k, k + 1 ..
+  -- The variables k, k + 1, and so on, read back.
   pub variables_take : (named : ℕ → Option Named) (k : ℕ) (w : List ℕ) (ts : List ValType) (f : Forest) → AllByRecursion (IsDeclaredVal bound) ts →
       groups (variables ids) w f ≡ Some ([], f) → groups (variables ids) w (onto (groups_items names w (variable_groups named k ts)) f) ≡ Some (declared_from named k ts, f)
   variables_take named k w ts f r h =
@@ -208,7 +208,7 @@ module _ (names : Names) (ids : Identifiers) (bound : ℕ) (reads : Reads ids (n
 
   -- ---- signatures
 
-  -- a signature before items that are neither parameters nor results
+  -- A signature reads back before items that are neither parameters nor results.
   pub signature-items : (function : Option ℕ) (t : FuncType) (f : Forest) → IsDeclaredFunc bound t → IsBehindSignature ids f →
       signature ids (onto (signature_items names function t) f) ≡ Some (printed_signature (parameters_of names function) t, f)
   signature-items function t f h b =
@@ -246,7 +246,7 @@ module _ (names : Names) (ids : Identifiers) (bound : ℕ) (reads : Reads ids (n
   fields-one f r =
       rw onto-End at (all_items-reads field_named (field_group ids) (field_items names f) f End [] (field_item f r) refl)
 
-  -- a field with its identifier
+  -- A field with its identifier reads back.
   declaration-one : (o : Option Named) (f : FieldType) → IsDeclaredField bound f →
       declarations (fields ids) (onto (id_items o) (field_items names f)) ≡ Some (declaration (id o) f ∷ [])
   declaration-one (Some n) f r = rw (fields-one f r)
@@ -260,7 +260,7 @@ module _ (names : Names) (ids : Identifiers) (bound : ℕ) (reads : Reads ids (n
   struct-items named k [] r = refl
   struct-items named k (f ∷ fs) r = rw (declaration-one (named k) f r.0, struct-items named (k + 1) fs r.1)
 
-  -- the fields of each structure type have identifiers of their own
+  -- The identifiers of the fields of each structure type are distinct.
   module _ (apart : (i : ℕ) → AreDistinct (names.fields i)) where
     composite-items : (i : ℕ) (c : CompositeType) → IsDeclaredComposite bound c → IsFewComposite c → composite ids (composite_items names i c) ≡ Some (declared_composite names i c)
     composite-items i (FuncComposite t) r few = rw (signature-alone t r, types_of-declared (λ i. None) 0 t.params)
@@ -310,13 +310,13 @@ module _ (names : Names) (ids : Identifiers) (bound : ℕ) (reads : Reads ids (n
     read_group-items i [] r few = refl
     read_group-items i (t ∷ ts) r few = rw (read_type-items i t r.0 few.0, read_group-items (i + 1) ts r.1 few.1)
 
--- the types of a written group are its members
+-- The members of a group that is written as one are its types.
 pub group_members-items : (names : Names) (i : ℕ) (ts : List SubType) → group_members (members_items names i ts) ≡ Some (map_numbered (type_items names) i ts)
 unfolding rows
 group_members-items names i [] = refl
 group_members-items names i (t ∷ ts) = rw (group_members-items names (i + 1) ts)
 
--- a declaration says the type
+-- The types in the declarations of a group are its types.
 pub types-declared : (names : Names) (i : ℕ) (ts : List SubType) → map (λ d. d.type) (map_numbered (declared_type names) i ts) ≡ ts
 types-declared names i [] = refl
 types-declared names i (t ∷ ts) = ap (λ us. t ∷ us) (types-declared names (i + 1) ts)
@@ -341,7 +341,7 @@ same_types_refl (t ∷ ts) = and_from (same_type t t) (same_types ts ts) (same_t
 same_func_type_refl : (t : FuncType) → same_func_type t t ≡ true
 same_func_type_refl t = and_from (same_types t.params t.params) (same_types t.results t.results) (same_types_refl t.params) (same_types_refl t.results)
 
--- the signature that stands beside the index of a type is the type's
+-- The printed signature of a type agrees with the type itself, so its parameters have these identifiers.
 pub own_parameters : (named : ℕ → Option Named) (t : FuncType) → parameters (printed_signature named t) (Some t) ≡ Some (identifiers named (length t.params))
 own_parameters named t = rw (types_of-declared named 0 t.params, same_func_type_refl t, ids_of-declared named 0 t.params)
 

@@ -1,4 +1,4 @@
--- What types that some bytes spell keep to: their indices are numbers of 32 bits.
+-- Ranges in types that some bytes encode: their indices are numbers of 32 bits.
 use Rattle.std.proofs.Common.{◌<◌, ◌^◌, length, List, [], ◌∷◌, Bool, true, false}
 use Rattle.std.specs.List.{AllByRecursion}
 use Rattle.wasmprinter_spec.specs.Types.{HeapType, ValType, StorageType, FieldType, FuncType, CompositeType, FuncComposite, ArrayComposite, StructComposite, SubType}
@@ -26,7 +26,7 @@ IsRangedComposite c = IsDeclaredComposite (2 ^ 32) c
 abbrev pub IsRangedSub : SubType → Type 0
 IsRangedSub t = IsDeclaredSub (2 ^ 32) t
 
--- fewer than 2 ^ 32 parameters, or fields
+-- Fewer than 2 ^ 32 parameters or fields
 abbrev pub IsFewComposite : CompositeType → Type 0
 IsFewComposite (FuncComposite t) = length t.params < 2 ^ 32
 IsFewComposite (ArrayComposite f) = Unit {0}
@@ -35,7 +35,7 @@ IsFewComposite (StructComposite fs) = length fs < 2 ^ 32
 abbrev pub IsFewSub : SubType → Type 0
 IsFewSub t = IsFewComposite t.composite
 
--- a group that isn't written as one has one type
+-- A group that is not written as one has one type.
 abbrev pub IsSingle : Bool → List SubType → Type 0
 IsSingle true ts = Unit {0}
 IsSingle false (t ∷ []) = Unit {0}

@@ -1,4 +1,4 @@
--- Types that bytes spell keep to their ranges.
+-- Types that bytes encode are in range.
 use Rattle.std.proofs.Common.{◌≡◌, ℕ, zero, suc, ℤ, pos, negsuc, ◌<◌, ◌^◌, Bool, true, false, List, [], ◌∷◌, length, Some, arith, is_some, ◌==◌}
 use Rattle.std.specs.List.{AllByRecursion}
 use Rattle.std.proofs.lemmas.Int.{ints}
@@ -17,7 +17,7 @@ use Rattle.wasmprinter_reading.proofs.Types.Ranged.{IsRangedHeap, IsRangedVal, I
 
 -- ---- value types
 
--- no byte stands for an index
+-- No byte encodes an index as an abstract heap type.
 abstract_ranged : (b : ℕ) (h : HeapType) → abstract_heap_of b ≡ Some h → IsRangedHeap h
 abstract_ranged b (Index n) e = absurd (grind arith)
 abstract_ranged b _ e = tt
@@ -94,7 +94,7 @@ AllSpelled-sub_type_behind b =
     (Spelled-choose (b == 0x4f) (AllSpelled-sub_type_parts true)
     (Spelled-map_value (AllSpelled-composite_behind b) (λ c h. (record { supertypes = tt; composite = h.0 }, h.1))))
 
--- the facts of each, one by one
+-- If both facts hold of each type, then each of them holds of all types.
 each_ranged : (ts : List SubType) → AllByRecursion (λ t. IsRangedSub t × IsFewSub t) ts → AllByRecursion IsRangedSub ts × AllByRecursion IsFewSub ts
 each_ranged [] h = (tt, tt)
 each_ranged (t ∷ ts) ((ranged, few), others) = let rest = each_ranged ts others in ((ranged, rest.0), (few, rest.1))
@@ -121,6 +121,6 @@ signature_ranged [] i h = tt
 signature_ranged (t ∷ ts) zero h = composite_signature t.composite h.0.composite
 signature_ranged (t ∷ ts) (suc i) h = signature_ranged ts i h.1
 
--- the signature of the type with an index
+-- The signature of the type with an index is in range.
 pub own_signature_ranged : (gs : List (Placed TypeGroup)) (i : ℕ) → AllByRecursion (λ g. IsRangedGroup g.value) gs → IsSignatureInRange (signature_at (all_types (groups_of gs)) i)
 own_signature_ranged gs i h = signature_ranged (all_types (groups_of gs)) i (all_types_ranged gs h)

@@ -1,4 +1,4 @@
--- What types are written as, by the identifiers that a module has: the items of each construct, and that its pieces write them.
+-- The items of types, with the identifiers of a module, and that pieces write them
 use Rattle.std.proofs.Common.{◌≡◌, ℕ, ◌<◌, ◌^◌, ◌+◌, ◌≤◌, ◌*◌, length, true, false, Bool, List, [], ◌∷◌, Option, Some, None, refl, codes, arith}
 use Rattle.std.specs.List.{AllByRecursion}
 use Rattle.wasmprinter_spec.specs.Character.{class}
@@ -22,10 +22,10 @@ use Rattle.wasmprinter_reading.proofs.Types.Ranged.{IsRangedHeap, IsRangedVal, I
 use Rattle.wasmprinter_reading.proofs.Numbered.{rows, map_numbered, numbered_writes}
 use Rattle.wasmprinter_reading.proofs.Identifiers.{index_items, id_items, index_writes, mark_gap_writes, identifier_gap_writes, declaration_writes}
 
--- ---- what they are written as
+-- ---- the items
 
 module _ (names : Names) where
-  -- the index of a type
+  -- The index of a type
   abbrev pub type_index_items : ℕ → Forest
   type_index_items n = index_items (names.items Types n) n
 
@@ -60,7 +60,7 @@ module _ (names : Names) where
   group_items w [] = End
   group_items w (t ∷ ts) = Group (Word w (types_items (t ∷ ts))) End
 
-  -- a group of parameters or locals
+  -- A group of parameters or locals
   abbrev pub variables_items : List ℕ → Variables → Forest
   variables_items w (Alone n t) = Word w (Name n.content (val_items t))
   variables_items w (Together ts) = Word w (types_items ts)
@@ -69,16 +69,16 @@ module _ (names : Names) where
   groups_items w [] = End
   groups_items w (g ∷ gs) = Group (variables_items w g) (groups_items w gs)
 
-  -- the signature of a function, or of no function
+  -- The signature of a function with this index, or of no function
   abbrev pub signature_items : Option ℕ → FuncType → Forest
   signature_items f t = onto (groups_items (codes "param") (variable_groups (parameters_of names f) 0 t.params)) (group_items (codes "result") t.results)
 
-  -- nothing where a type is no function type
+  -- The signature, or no items if the type is no function type
   abbrev pub signature_if_any_items : Option ℕ → Option FuncType → Forest
   signature_if_any_items f None = End
   signature_if_any_items f (Some t) = signature_items f t
 
-  -- a type use
+  -- A type use
   abbrev pub type_use_items : Option ℕ → ℕ → Option FuncType → Forest
   type_use_items f i t = Group (Word (codes "type") (type_index_items i)) (signature_if_any_items f t)
 
@@ -96,12 +96,12 @@ module _ (names : Names) where
   abbrev pub field_items : FieldType → Forest
   field_items f = field_items_by f.mutable f.storage
 
-  -- each field of a structure is a group
+  -- Each field of a structure is a group.
   abbrev pub struct_items : (ℕ → Option Named) → ℕ → List FieldType → Forest
   struct_items named k [] = End
   struct_items named k (f ∷ fs) = Group (Word (codes "field") (onto (id_items (named k)) (field_items f))) (struct_items named (k + 1) fs)
 
-  -- the type with this index
+  -- The composite type with this index
   abbrev pub composite_items : ℕ → CompositeType → Forest
   composite_items i (FuncComposite t) = Word (codes "func") (signature_items None t)
   composite_items i (ArrayComposite f) = Word (codes "array") (field_items f)
@@ -127,7 +127,7 @@ module _ (names : Names) where
   abbrev pub sub_items : ℕ → SubType → Forest
   sub_items i t = sub_items_by i t.final t.supertypes t.composite
 
-  -- what a field `type` holds behind its word
+  -- The items of a field `type` after its word
   abbrev pub type_items : ℕ → SubType → Forest
   type_items i t = onto (id_items (names.items Types i)) (Group (sub_items i t) End)
 
@@ -136,11 +136,11 @@ module _ (names : Names) where
 
   -- ---- groups of types
 
-  -- the types of a group, whose first has this number
+  -- The types of a group, the first of which has this index
   abbrev pub members_items : ℕ → List SubType → Forest
   members_items i ts = rows (map_numbered type_field i ts)
 
-  -- a group is one field, or each of its types is
+  -- A written group is one field; otherwise each of its types is one.
   abbrev pub type_group_items_by : Bool → Forest → Forest
   type_group_items_by true f = Group (Word (codes "rec") f) End
   type_group_items_by false f = f
@@ -154,7 +154,7 @@ module _ (names : Names) where
 
 -- ---- groups of parameters and locals
 
--- what holds of the type of each
+-- The type of each variable has P.
 abbrev pub HaveTypes : (ValType → Type 0) → Variables → Type 0
 HaveTypes P (Alone n t) = P t
 HaveTypes P (Together ts) = AllByRecursion P ts
@@ -183,7 +183,7 @@ pub grouped_names : (named : ℕ → Option Named) → ((i : ℕ) → IsNamedIfA
 grouped_names named h k [] = tt
 grouped_names named h k (t ∷ ts) = with_name (named k) t (variable_groups named (k + 1) ts) (h k) (grouped_names named h (k + 1) ts)
 
--- ---- their pieces write them
+-- ---- pieces write the items
 
 module _ (names : Names) (named : AreNamed names) where
   pub type_index_writes : (n : ℕ) → n < 2 ^ 32 → Writes Free (type_index_pieces names n) Bound (type_index_items names n)

@@ -17,7 +17,7 @@ pub const PRODUCERS: &[u8] = &[
     0x00, // the field `language` with the value `Rust`
 ];
 
-/// A `producers` section with a field whose name has a space.
+/// A `producers` section with a field whose name contains a space.
 pub const RAW_PRODUCERS: &[u8] = &[
     0x00, 0x61, 0x73, 0x6d, 0x01, 0x00, 0x00, 0x00, // preamble
     0x00, 0x14, 0x09, 0x70, 0x72, 0x6f, 0x64, 0x75, 0x63, 0x65, 0x72, 0x73, // custom section `producers`
@@ -45,11 +45,11 @@ pub const DYLINK_UNKNOWN: &[u8] = &[
     0x09, 0x00, // subsection 9
 ];
 
-/// A `dylink.0` section with a subsection that does not fit.
+/// A `dylink.0` section with a subsection whose size exceeds the section.
 pub const DYLINK_CUT: &[u8] = &[
     0x00, 0x61, 0x73, 0x6d, 0x01, 0x00, 0x00, 0x00, // preamble
     0x00, 0x0c, 0x08, 0x64, 0x79, 0x6c, 0x69, 0x6e, 0x6b, 0x2e, 0x30, // custom section `dylink.0`
-    0x01, 0x05, 0x10, // five bytes, of which one is there
+    0x01, 0x05, 0x10, // a subsection of five bytes, of which four are missing
 ];
 
 /// `IF_WITHOUT_ELSE` with a branch hint for the `if`.
