@@ -1,4 +1,4 @@
--- Values whose readers may want memory: a fault of one is a fault of what it is part of.
+-- Errors of values whose readers may allocate: an error of a part is an error of the whole.
 use Rattle.std.proofs.Common.{◌≡◌, ℕ, suc, ◌+◌, ◌-◌, ◌<◌, List, Option, Some, None, refl, sym, ◌∙◌, arith}
 use Rattle.wasmprinter_spec.specs.Grammar.{Input}
 use Rattle.wasmprinter_spec.specs.Name.{u32}
@@ -10,7 +10,7 @@ use Rattle.wasmprinter_bytes.specs.Reads.{end_of}
 use Rattle.wasmprinter_bytes.specs.Lists.{CountsItems, reader_reasons, vec_at}
 use Rattle.wasmprinter_bytes.proofs.Fronts.{with_front}
 
--- a fault of a part, which ends where the whole does, is one of the whole
+-- An error of a part that ends where the whole ends is an error of the whole.
 pub part_fault : (nothing grows whole grows_whole : Type 0) (at old : Input) → (nothing → whole) → (grows → grows_whole) → end_of at ≡ end_of old → (f : Error)
     → HasReason (reader_reasons nothing grows at) f → HasReason (reader_reasons whole grows_whole old) f
 part_fault nothing grows whole grows_whole at old none more ends = reason_implied (reader_reasons nothing grows at) (reader_reasons whole grows_whole old) (record {
@@ -24,7 +24,7 @@ part_fault nothing grows whole grows_whole at old none more ends = reason_implie
 
 module _ {A : Type 0} (parse : Input → Option (A × Input)) (old start at : Input) (count i : ℕ) (front : List A) (counted : u32.parse old ≡ Some (count, start)) (lt : i < count)
     (so_far : with_front front (items_at parse (count - i) at) ≡ items_at parse count start) where
-  -- where an item is missing, so is the list
+  -- If an item can't be read, the list can't be read.
   none_behind : parse at ≡ None → vec_at parse old ≡ None
   none_behind e =
       let k : count - i ≡ suc (count - (i + 1)) = omega arith in
@@ -32,11 +32,11 @@ module _ {A : Type 0} (parse : Input → Option (A × Input)) (old start at : In
       let none : items_at parse count start ≡ None = sym so_far ∙ missing in
       rw (counted, none) refl
 
-  -- there are items
+  -- The count is above zero.
   pub counted_some : CountsItems old
   counted_some = record { count = count; after = start; counted = counted; some = omega arith }
 
-  -- a fault of an item is one of the list
+  -- An error of an item is an error of the list.
   pub list_fault : (grows : Type 0) → end_of at ≡ end_of old → (f : Error) → HasReason (reader_reasons (parse at ≡ None) grows at) f
       → HasReason (reader_reasons (vec_at parse old ≡ None) (CountsItems old) old) f
   list_fault grows ends = part_fault (parse at ≡ None) grows (vec_at parse old ≡ None) (CountsItems old) at old none_behind (λ h. counted_some) ends

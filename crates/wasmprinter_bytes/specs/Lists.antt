@@ -1,4 +1,4 @@
--- Values that are read one after the other.
+-- Values that are read one after the other, and reading that may allocate.
 use Rattle.std.specs.Prelude.{◌≡◌, ℕ, ◌<◌, ◌≤◌, List, Option, Some, None, IsSome, Result, Ok, Err}
 use Rattle.wasmprinter_spec.specs.Grammar.{Input, ◌>>=◌}
 use Rattle.wasmprinter_spec.specs.Name.{u32}
@@ -7,27 +7,28 @@ use Rattle.wasmprinter_bytes.specs.Reads.{end_of}
 use Rattle.wasmprinter_error.specs.declared.error.Error.{Error}
 use Rattle.wasmprinter_error.specs.Reasons.{Reasons, HasReason}
 
--- a count, and so many values
+-- A count, and that many values.
 abbrev pub count_and_items_at : {A : Type 0} → (Input → Option (A × Input)) → Input → Option ((ℕ × List A) × Input)
 count_and_items_at parse at = u32.parse at >>= λ (count, behind). items_at parse count behind >>= λ (xs, after). Some ((count, xs), after)
 
--- the values alone: `(vec g).parse` is `vec_at g.parse`
+-- The values without their count: `(vec g).parse` is `vec_at g.parse`.
 abbrev pub vec_at : {A : Type 0} → (Input → Option (A × Input)) → Input → Option (List A × Input)
 vec_at parse at = count_and_items_at parse at >>= λ ((count, xs), after). Some (xs, after)
 
--- a count above zero stands there
+-- The bytes begin with a count above zero.
 pub record CountsItems (at : Input) : Type 0 where
   pub count : ℕ
   pub after : Input
   pub counted : u32.parse at ≡ Some (count, after)
   pub some : 0 < count
 
--- a count above zero stands there, and behind it a first value
+-- The bytes begin with a count above zero, followed by a first value.
 pub record BeginsList {A : Type 0} (parse : Input → Option (A × Input)) (at : Input) : Type 0 where
   pub counts : CountsItems at
   pub first : IsSome (parse counts.after)
 
--- why a reader that grows something may refuse: nothing of the kind stands there; or a growth was refused, for which this is so
+-- The reasons why a reader that may allocate can fail: `nothing`, that the bytes do not encode the value, for
+-- `Malformed` within the bytes; and `grows`, which holds where the reader may allocate, for `Memory`.
 abbrev pub reader_reasons : Type 0 → Type 0 → Input → Reasons
 reader_reasons nothing grows at = record {
   malformed = λ place. nothing × (place ≤ end_of at);
@@ -38,8 +39,8 @@ reader_reasons nothing grows at = record {
   memory = grows;
 }
 
--- The value stands there, and reading goes on behind it; or nothing of the kind stands there; or a growth was refused, and then `Grows`
--- holds of where reading stood.
+-- Reading by `parse` gives the value, and the cursor is after it. On `Malformed`, the bytes do not encode a value; on
+-- `Memory`, `Grows` holds at the position where reading started.
 abbrev pub Takes : {X A : Type 0} → (X → A) → (Input → Option (A × Input)) → (Input → Type 0) → Input → Result X Error → Input → Type 0
 Takes view parse Grows old (Ok x) new = parse old ≡ Some (view x, new)
 Takes view parse Grows old (Err e) new = HasReason (reader_reasons (parse old ≡ None) (Grows old) old) e

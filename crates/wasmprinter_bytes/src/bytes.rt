@@ -1,4 +1,4 @@
-//! A cursor over a module's bytes: whole numbers in LEB128 and names (section 5.2 of the WebAssembly Core
+//! A cursor over the bytes of a module, with integers in LEB128 and names (section 5.2 of the WebAssembly Core
 //! Specification, "Integers" and "Names").
 ghost use Rattle.std.specs.Prelude.{◌≡◌, ◌<◌, ◌≤◌, ◌^◌, ◌+◌, ◌-◌, ◌*◌, ◌↔◌, [], length, take};
 ghost use Rattle.std.specs.Prelude.{slice_get, nat_lt, Some, IfOk, IfSome, IfNone, IsTrue};
@@ -12,18 +12,18 @@ ghost use Rattle.wasmprinter_bytes.specs.Reads.{Reads, IsWithin, end_of};
 use std::marker::Model;
 use wasmprinter_error::Malformed;
 
-/// The bits that one byte of LEB128 holds.
+/// The number of value bits in one byte of LEB128.
 const BITS: u32 = 7;
 
-/// A byte of LEB128 from here on has more bytes behind it.
+/// A byte of LEB128 that is at least this has another byte after it.
 const MORE: u8 = 0x80;
 
-/// The last byte of a signed number in LEB128 from here on is negative.
+/// The last byte of a signed LEB128 number encodes a negative number if it is at least this.
 const SIGN: u8 = 0x40;
 
-/// The bytes that are left, and the place of the first of them.
+/// The remaining bytes, and the place of the first of them.
 ///
-/// A read that is refused leaves the cursor somewhere before the end.
+/// After a failed read, the position of the cursor is unspecified, but not after the end.
 #[derive(Drop)]
 pub struct Cursor<'a> {
     place: u64,
@@ -41,7 +41,7 @@ impl<'a> Model for Cursor<'a> {
     ghost invariant = { λ c. c.place + length c.rest.now < 2 ^ 64 };
 }
 
-/// Whether a number of seven bits is one of so many bits.
+/// Reports whether a seven-bit number fits in `bits` bits.
 #[tactic(auto, using(crate::proofs::Powers::small_fits))]
 fn has_bits(low: u8, bits: u32) -> bool
     requires { low < 128 }
@@ -50,7 +50,7 @@ fn has_bits(low: u8, bits: u32) -> bool
     bits >= BITS || low < 1 << bits
 }
 
-/// The negative number whose low seven bits are these.
+/// Returns the negative number whose seven low bits are `byte`.
 fn negative(byte: u8) -> i64
     requires { byte < 128 }
     ensures { result ≡ negsuc (127 - byte) }
@@ -58,7 +58,7 @@ fn negative(byte: u8) -> i64
     i64::from(byte) - i64::from(MORE)
 }
 
-/// Seven bits with others above them.
+/// Returns the number with the low seven bits `low` and the bits `high` above them.
 fn with_low_bits(low: u8, high: u64) -> u64
     requires seven { low < 128 }
     requires above { high < 2 ^ 57 }
@@ -67,7 +67,7 @@ fn with_low_bits(low: u8, high: u64) -> u64
     u64::from(low) + u64::from(MORE) * high
 }
 
-/// Seven bits with others above them, the highest of which is the sign.
+/// Returns the signed number with the low seven bits `low` and the signed number `high` above them.
 fn with_low_bits_signed(low: u8, high: i64) -> i64
     requires seven { low < 128 }
     requires above { neg_ℤ (pos (2 ^ 56)) ≤ℤ high }
@@ -78,7 +78,7 @@ fn with_low_bits_signed(low: u8, high: i64) -> i64
 }
 
 impl<'a> Cursor<'a> {
-    /// At the first of the bytes, which lies at the place.
+    /// Returns a cursor at the first of `bytes`, whose place is `place`.
     pub fn new(place: u64, bytes: &'a [u8]) -> Self
         requires { place + length bytes.now < 2 ^ 64 }
         ensures { result ≡ record { place = place; bytes = bytes.now } }
@@ -86,42 +86,42 @@ impl<'a> Cursor<'a> {
         Cursor { place, rest: bytes }
     }
 
-    /// The place of the next byte: a byte offset from the module's start.
+    /// Returns the place of the next byte: a byte offset from the start of the module.
     pub fn place(&self) -> u64
         ensures { result ≡ self.now.place }
     {
         self.place
     }
 
-    /// The place behind the last byte: a byte offset from the module's start.
+    /// Returns the place after the last byte: a byte offset from the start of the module.
     pub fn end(&self) -> u64
         ensures { result ≡ end_of self.now }
     {
         self.place + self.len() as u64
     }
 
-    /// How many bytes are left.
+    /// Returns the number of remaining bytes.
     pub fn len(&self) -> usize
         ensures { result ≡ length self.now.bytes }
     {
         self.rest.len()
     }
 
-    /// Whether no byte is left.
+    /// Reports whether no byte remains.
     pub fn is_empty(&self) -> bool
         ensures { IsTrue result ↔ (self.now.bytes ≡ []) }
     {
         self.rest.is_empty()
     }
 
-    /// The bytes that are left.
+    /// Returns the remaining bytes.
     pub fn rest(&self) -> &'a [u8]
         ensures { result.now ≡ self.now.bytes }
     {
         self.rest
     }
 
-    /// A second cursor that stands at the same place.
+    /// Returns a second cursor at the same place.
     pub fn fork(&self) -> Cursor<'a>
         ensures same { result ≡ self.now }
         ensures fits { end_of self.now < 2 ^ 64 }
@@ -132,7 +132,7 @@ impl<'a> Cursor<'a> {
         }
     }
 
-    /// A second cursor over the next bytes, so many, alone.
+    /// Returns a second cursor, over the next `len` bytes only.
     pub fn front(&self, len: usize) -> Cursor<'a>
         requires { len ≤ length self.now.bytes }
         ensures { result ≡ record { place = self.now.place; bytes = take len self.now.bytes } }
@@ -143,14 +143,14 @@ impl<'a> Cursor<'a> {
         }
     }
 
-    /// The next byte, which isn't passed by.
+    /// Returns the next byte without advancing.
     pub fn peek(&self) -> Option<u8>
         ensures { result ≡ slice_get self.now.bytes 0 }
     {
         self.rest.first().copied()
     }
 
-    /// Goes on behind the next byte, where these are left.
+    /// Advances by one byte; `rest` is the bytes after it.
     #[inline(always)]
     fn go_on(&mut self, rest: &'a [u8])
         requires { length rest.now + 1 ≡ length self.now.bytes }
@@ -160,11 +160,11 @@ impl<'a> Cursor<'a> {
         self.rest = rest;
     }
 
-    /// The next byte.
+    /// Reads a byte.
     ///
     /// # Errors
     ///
-    /// `Malformed` where no byte is left, with the place where they end.
+    /// `Malformed` if no byte remains, with the place where the bytes end.
     pub fn u8(&mut self) -> Result<u8, Malformed>
         ensures reads { Reads (λ b. b) byte.parse self.old result self.new }
         ensures within { IsWithin self.old result }
@@ -179,11 +179,11 @@ impl<'a> Cursor<'a> {
         }
     }
 
-    /// So many bytes.
+    /// Reads `len` bytes.
     ///
     /// # Errors
     ///
-    /// `Malformed` where fewer are left, with the place of the next byte.
+    /// `Malformed` if fewer bytes remain, with the place of the next byte.
     pub fn take(&mut self, len: usize) -> Result<&'a [u8], Malformed>
         ensures reads { Reads (λ b. b.now) (take_bytes len).parse self.old result self.new }
         ensures within { IsWithin self.old result }
@@ -198,11 +198,11 @@ impl<'a> Cursor<'a> {
         Ok(bytes)
     }
 
-    /// A cursor over so many bytes, alone; this one goes on behind them.
+    /// Returns a cursor over the next `len` bytes only, and advances past them.
     ///
     /// # Errors
     ///
-    /// `Malformed` where fewer are left, with the place of the next byte.
+    /// `Malformed` if fewer bytes remain, with the place of the next byte.
     pub fn part(&mut self, len: usize) -> Result<Cursor<'a>, Malformed>
         ensures reads { Reads (λ c. c.bytes) (take_bytes len).parse self.old result self.new }
         ensures place { IfOk result (λ c. c.place ≡ self.old.place) }
@@ -214,7 +214,7 @@ impl<'a> Cursor<'a> {
         Ok(Cursor { place, rest })
     }
 
-    /// An unsigned number of so many bits, in at most as many bytes as these fill.
+    /// Reads an unsigned number of `bits` bits, in at most ceil(`bits` / 7) bytes.
     fn unsigned(&mut self, bits: u32) -> Result<u64, Malformed>
         requires { bits ≤ 64 }
         ensures reads { Reads (λ n. n) (unsigned bits).parse self.old result self.new }
@@ -238,7 +238,7 @@ impl<'a> Cursor<'a> {
         }
     }
 
-    /// A signed number of so many bits, in at most as many bytes as these fill.
+    /// Reads a signed number of `bits` bits, in at most ceil(`bits` / 7) bytes.
     fn signed(&mut self, bits: u32) -> Result<i64, Malformed>
         requires least { 1 ≤ bits }
         requires most { bits ≤ 64 }
@@ -270,7 +270,7 @@ impl<'a> Cursor<'a> {
         }
     }
 
-    /// Passes by the next byte if it is below the limit. A number in LEB128 is often such a byte alone.
+    /// Reads the next byte if it is below `limit`. This is the fast path for a LEB128 number of one byte.
     #[inline(always)]
     fn single(&mut self, limit: u8) -> Option<u8>
         ensures reads { IfSome result (λ b. byte.parse self.old ≡ Some (b, self.new)) }
@@ -288,11 +288,12 @@ impl<'a> Cursor<'a> {
         }
     }
 
-    /// An unsigned number of 32 bits.
+    /// Reads an unsigned 32-bit number.
     ///
     /// # Errors
     ///
-    /// `Malformed` where none is spelled: with the place of the byte that may not stand there, or where the bytes end.
+    /// `Malformed` if the bytes do not encode one, with the place of the first byte that is not
+    /// allowed, or of the end of the bytes.
     pub fn u32(&mut self) -> Result<u32, Malformed>
         ensures reads { Reads (λ n. n) u32_grammar.parse self.old result self.new }
         ensures within { IsWithin self.old result }
@@ -305,11 +306,11 @@ impl<'a> Cursor<'a> {
         Ok(number as u32)
     }
 
-    /// An unsigned number of 64 bits.
+    /// Reads an unsigned 64-bit number.
     ///
     /// # Errors
     ///
-    /// `Malformed` where none is spelled: with the place of the byte that may not stand there, or where the bytes end.
+    /// As [`Cursor::u32`].
     pub fn u64(&mut self) -> Result<u64, Malformed>
         ensures reads { Reads (λ n. n) (unsigned 64).parse self.old result self.new }
         ensures within { IsWithin self.old result }
@@ -321,11 +322,11 @@ impl<'a> Cursor<'a> {
         self.unsigned(u64::BITS)
     }
 
-    /// A signed number of 32 bits.
+    /// Reads a signed 32-bit number.
     ///
     /// # Errors
     ///
-    /// `Malformed` where none is spelled: with the place of the byte that may not stand there, or where the bytes end.
+    /// As [`Cursor::u32`].
     pub fn s32(&mut self) -> Result<i32, Malformed>
         ensures reads { Reads (λ n. n) (signed 32).parse self.old result self.new }
         ensures within { IsWithin self.old result }
@@ -338,11 +339,11 @@ impl<'a> Cursor<'a> {
         Ok(number as i32)
     }
 
-    /// A signed number of 33 bits.
+    /// Reads a signed 33-bit number.
     ///
     /// # Errors
     ///
-    /// `Malformed` where none is spelled: with the place of the byte that may not stand there, or where the bytes end.
+    /// As [`Cursor::u32`].
     pub fn s33(&mut self) -> Result<i64, Malformed>
         ensures reads { Reads (λ n. n) (signed 33).parse self.old result self.new }
         ensures within { IsWithin self.old result }
@@ -353,11 +354,11 @@ impl<'a> Cursor<'a> {
         self.signed(i32::BITS + 1)
     }
 
-    /// A signed number of 64 bits.
+    /// Reads a signed 64-bit number.
     ///
     /// # Errors
     ///
-    /// `Malformed` where none is spelled: with the place of the byte that may not stand there, or where the bytes end.
+    /// As [`Cursor::u32`].
     pub fn s64(&mut self) -> Result<i64, Malformed>
         ensures reads { Reads (λ n. n) (signed 64).parse self.old result self.new }
         ensures within { IsWithin self.old result }
@@ -366,12 +367,13 @@ impl<'a> Cursor<'a> {
         self.signed(i64::BITS)
     }
 
-    /// A name: a length, and so many bytes of UTF-8.
+    /// Reads a name: a length, and that many bytes of UTF-8.
     ///
     /// # Errors
     ///
-    /// `Malformed` with the place of the length where the bytes aren't UTF-8, with that behind the length where they are too few, and as
-    /// [`Cursor::u32`] where there is no length.
+    /// - If the length is not encoded, as [`Cursor::u32`].
+    /// - `Malformed` if too few bytes follow, with the place after the length.
+    /// - `Malformed` if the bytes are not UTF-8, with the place of the length.
     pub fn name(&mut self) -> Result<&'a str, Malformed>
         ensures reads { Reads (λ s. s.now) name.parse self.old result self.new }
         ensures within { IsWithin self.old result }

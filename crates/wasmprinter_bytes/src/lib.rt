@@ -1,4 +1,4 @@
-//! Reading a WebAssembly module's bytes: a cursor, numbers, names and lists.
+//! Reads the bytes of a WebAssembly module: a cursor, numbers, names and lists.
 #![tactic(auto)]
 
 pub mod bytes;

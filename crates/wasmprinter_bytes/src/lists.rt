@@ -1,4 +1,5 @@
-//! Vectors (section 5.1 of the WebAssembly Core Specification, "Lists"): a count, and so many items one after the other.
+//! Lists (section 5.1 of the WebAssembly Core Specification, "Lists"): a count, and that
+//! many items one after the other.
 ghost use Rattle.std.specs.Prelude.{◌≡◌, [], length};
 ghost use Rattle.wasmprinter_bytes.specs.Reads.{Reads, IsWithin, end_of};
 ghost use Rattle.wasmprinter_bytes.specs.Lists.{Takes, CountsItems, BeginsList, vec_at};
@@ -9,12 +10,12 @@ use std::fmt;
 use std::marker::{Model, PhantomData};
 use wasmprinter_error::{Error, Malformed};
 
-/// A value that bytes spell, read without memory of its own; it borrows nothing.
+/// A value that can be read from bytes without allocating, and that borrows nothing.
 pub trait Spelled: Drop {
     ghost use Rattle.std.specs.Prelude.{Option};
     ghost use Rattle.wasmprinter_spec.specs.Grammar.{Input};
 
-    /// How it is read.
+    /// The grammar's reader for the value.
     ghost parse: { Input → Option (Self × Input) };
 
     /// Reads the value at the cursor.
@@ -34,12 +35,12 @@ impl Spelled for u32 {
     }
 }
 
-/// A value that bytes spell, read without memory of its own; it may borrow the bytes.
+/// A value that can be read from bytes without allocating, and that may borrow the bytes.
 pub trait SpelledIn<'a>: Drop {
     ghost use Rattle.std.specs.Prelude.{Option};
     ghost use Rattle.wasmprinter_spec.specs.Grammar.{Input};
 
-    /// How it is read.
+    /// The grammar's reader for the value.
     ghost parse: { Input → Option (Self × Input) };
 
     /// Reads the value at the cursor.
@@ -49,11 +50,13 @@ pub trait SpelledIn<'a>: Drop {
         ensures end { end_of cursor.new ≡ end_of cursor.old };
 }
 
-/// Reads a count and so many values, and keeps them in memory.
+/// Reads a count and that many values, and returns the values in memory.
 ///
 /// # Errors
 ///
-/// `Malformed` where the count or a value isn't spelled, with the place of what may not stand there; `Memory` where a growth is refused.
+/// - `Malformed` if the bytes do not encode the count or one of the values, with the place of the
+///   first unexpected byte or number.
+/// - `Memory` if an allocation fails.
 pub fn read_list<'a, T: SpelledIn<'a>>(
     alloc: Global,
     cursor: &mut Cursor<'a>,
@@ -69,15 +72,15 @@ pub fn read_list<'a, T: SpelledIn<'a>>(
     Ok(values)
 }
 
-/// A value that bytes spell; reading it may want memory. It may borrow the bytes.
+/// A value that can be read from bytes, for which reading may allocate. It may borrow the bytes.
 pub trait GrownIn<'a>: Drop {
     ghost use Rattle.std.specs.Prelude.{Option};
     ghost use Rattle.wasmprinter_spec.specs.Grammar.{Input};
 
-    /// How it is read.
+    /// The grammar's reader for the value.
     ghost parse: { Input → Option (Self × Input) };
 
-    /// What is so of where reading stands, if memory is wanted for the value.
+    /// The condition on a position under which reading the value from there may allocate.
     ghost grows: { Input → Type 0 };
 
     /// Reads the value at the cursor.
@@ -86,11 +89,13 @@ pub trait GrownIn<'a>: Drop {
         ensures end { end_of cursor.new ≡ end_of cursor.old };
 }
 
-/// Reads a count and so many values that may want memory, and keeps them.
+/// Reads a count and that many values for which reading may allocate, and returns the values in memory.
 ///
 /// # Errors
 ///
-/// Those of reading a value; `Malformed` where the count isn't spelled; `Memory` where a growth is refused.
+/// - `Malformed` if the bytes do not encode the count.
+/// - The errors of reading a value.
+/// - `Memory` if an allocation fails.
 pub fn read_grown_list<'a, T: GrownIn<'a>>(
     alloc: Global,
     cursor: &mut Cursor<'a>,
@@ -106,7 +111,7 @@ pub fn read_grown_list<'a, T: GrownIn<'a>>(
     Ok(grown)
 }
 
-/// So many values that are known to stand one after the other; they are read again as they are asked for.
+/// A list of values whose encoding was checked. Each value is read again from the bytes when it is requested.
 #[derive(Drop)]
 pub struct Items<'a, T: Spelled> {
     left: u32,
@@ -140,7 +145,8 @@ pub fn no_items<'a, T: Spelled>(cursor: &Cursor<'a>) -> Items<'a, T>
 ///
 /// # Errors
 ///
-/// `Malformed` if the bytes do not encode the count or one of the values. Its place is the offset of the first unexpected byte or number.
+/// `Malformed` if the bytes do not encode the count or one of the values, with the place of the
+/// first unexpected byte or number.
 pub fn read_items<'a, T: Spelled>(cursor: &mut Cursor<'a>) -> Result<Items<'a, T>, Malformed>
     ensures reads { Reads (λ t. t) (vec_at T.parse) cursor.old result cursor.new }
     ensures within { IsWithin cursor.old result }
@@ -159,14 +165,14 @@ pub fn read_items<'a, T: Spelled>(cursor: &mut Cursor<'a>) -> Result<Items<'a, T
 }
 
 impl<'a, T: Spelled> Items<'a, T> {
-    /// How many values there are.
+    /// Returns the number of values.
     pub fn len(&self) -> u32
         ensures { result ≡ length self.now }
     {
         self.left
     }
 
-    /// The values in order.
+    /// Returns the values in order.
     pub fn iter(&self) -> Items<'a, T>
         ensures { result ≡ self.now }
     {
@@ -199,7 +205,7 @@ impl<'a, T: Spelled> Iterator for Items<'a, T> {
     }
 }
 
-// A clone is a second view of the same bytes, and takes no memory.
+// A clone is a second view of the same bytes, and allocates nothing.
 impl<T: Spelled> Clone for Items<'_, T> {
     ghost use Rattle.std.specs.Prelude.{◌≡◌, ⊤};
 
@@ -212,7 +218,7 @@ impl<T: Spelled> Clone for Items<'_, T> {
     }
 }
 
-// Equal where their values are, wherever these stand.
+// Two lists are equal if their values are equal; the places of the values do not matter.
 impl<T: Spelled + PartialEq> PartialEq for Items<'_, T> {
     ghost use Rattle.std.specs.Cmp.Lexicographic.{pointwise, lists_per};
 
@@ -232,7 +238,7 @@ impl<T: Spelled + PartialEq> PartialEq for Items<'_, T> {
     }
 }
 
-// Printed as a list of the values.
+// Formats the values as a list.
 impl<T: Spelled + fmt::Debug> fmt::Debug for Items<'_, T> {
     fn fmt<W: fmt::Write>(&self, f: &mut fmt::Formatter<W>) -> fmt::Result {
         f.debug_list().entries(self.iter()).finish()

@@ -1,4 +1,4 @@
--- Flags are laid out as their words and the other bits.
+-- Flags are laid out as their words followed by the other bits.
 use Rattle.std.proofs.Common.{◌≡◌, ℕ, ◌-◌, List, [], ◌∷◌, ◌++◌, Bool, true, false, refl, ap}
 use Rattle.wasmprinter_spec.specs.Piece.{Piece, Gap, Word}
 use Rattle.wasmprinter_spec.specs.Layout.Customs.{flag_words, has_flag, flags_by, flags_pieces}

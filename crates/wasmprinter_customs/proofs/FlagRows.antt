@@ -1,4 +1,4 @@
--- The flags that are taken one after the other.
+-- Testing and clearing the flags one after the other.
 use Rattle.std.proofs.Common.{◌≡◌, ◌≢◌, ℕ, zero, suc, ◌+◌, ◌-◌, ◌*◌, ◌^◌, ◌<◌, ◌≤◌, get_or, List, [], ◌∷◌, length, true, false, refl, sym, ap, ◌∙◌, subst, arith, bit_and}
 use Rattle.std.specs.Prelude.{◌==◌, drop, map}
 use Rattle.std.specs.Int.{bit_at}
@@ -9,12 +9,12 @@ use Rattle.std.proofs.lemmas.Nat.Bits.{and_pow, bit_at-lt}
 use Rattle.wasmprinter_spec.specs.Layout.Customs.{flag_words, has_flag}
 use Rattle.wasmprinter_customs.specs.Flags.{words_by, others_by}
 
--- one bit
+-- The number has exactly one bit set.
 pub record IsBit (bit : ℕ) : Type 0 where
   pub place : ℕ
   pub power : bit ≡ 2 ^ place
 
--- ---- a bit of flags
+-- ---- A bit of flags
 
 module _ (rest bit : ℕ) (one : IsBit bit) where
   abbrev k : ℕ
@@ -29,7 +29,7 @@ module _ (rest bit : ℕ) (one : IsBit bit) where
   some : 0 < bit
   some = subst (λ (b : ℕ). 0 < b) (sym one.power) (pow_pos k)
 
-  -- the bit is set, or it isn't
+  -- The bit is set, or it is not.
   set_by : (b : ℕ) → b < 2 → bit_and rest bit ≡ b * bit → (bit_and rest bit == bit) ≡ (b == 1)
   set_by zero lt e = ne_eqb (bit_and rest bit) bit (λ same. omega (arith, e, same, some))
   set_by (suc zero) lt e = eq-eqb (bit_and rest bit) bit (omega (arith, e))
@@ -38,7 +38,7 @@ module _ (rest bit : ℕ) (one : IsBit bit) where
   pub contains_bit : (bit_and rest bit == bit) ≡ has_flag rest bit
   contains_bit = set_by (bit_at rest k) (bit_at-lt rest k) both ∙ sym at_bit
 
--- ---- each flag is a bit
+-- ---- Each flag is one bit
 
 AreBits : List (ℕ × List ℕ) → Type 0
 AreBits [] = Unit {0}
@@ -61,7 +61,7 @@ first_is_bit : (rows rest : List (ℕ × List ℕ)) (row : ℕ × List ℕ) → 
 unfolding AreBits
 first_is_bit rows rest row e h = (subst AreBits e h).0
 
--- ---- behind all rows
+-- ---- After all rows
 
 module _ {X : Type 0} (shown : X → ℕ × List ℕ) (items : List X) (all : map shown items ≡ flag_words) (i : ℕ) (le : length items ≤ i) (rest : ℕ) where
   no_row : drop i flag_words ≡ []
@@ -77,7 +77,7 @@ module _ {X : Type 0} (shown : X → ℕ × List ℕ) (items : List X) (all : ma
   unfolding others_by
   others_end = ap (λ rows. others_by rows rest) no_row
 
--- ---- the flag in a row
+-- ---- The flag in a row
 
 module _ {X : Type 0} (shown : X → ℕ × List ℕ) (items : List X) (all : map shown items ≡ flag_words) (i : ℕ) (d : X) (lt : i < length items) where
   abbrev pub item : X
@@ -105,7 +105,7 @@ module _ {X : Type 0} (shown : X → ℕ × List ℕ) (items : List X) (all : ma
     row_here : drop i flag_words ≡ row ∷ drop (i + 1) flag_words
     row_here = row_there ∙ ap (λ (b : ℕ). (b, (shown item).1) ∷ drop (i + 1) flag_words) (sym same)
 
-    -- the flag is set: its word comes first
+    -- If the flag is set, its word comes first.
     pub word_first : bit_and rest bits ≡ bits → words_by (drop i flag_words) rest ≡ (shown item).1 ∷ words_by (drop (i + 1) flag_words) (rest - bits)
     unfolding words_by
     word_first e = ap (λ rows. words_by rows rest) row_here ∙ rw (set e) refl
@@ -114,7 +114,7 @@ module _ {X : Type 0} (shown : X → ℕ × List ℕ) (items : List X) (all : ma
     unfolding others_by
     other_taken e = ap (λ rows. others_by rows rest) row_here ∙ rw (set e) refl
 
-    -- it isn't
+    -- If the flag is not set, its word is skipped.
     pub word_passed : bit_and rest bits ≢ bits → words_by (drop i flag_words) rest ≡ words_by (drop (i + 1) flag_words) rest
     unfolding words_by
     word_passed n = ap (λ rows. words_by rows rest) row_here ∙ rw (unset n) refl

@@ -1,4 +1,4 @@
--- A subsection of a known id is passed by.
+-- A subsection with a known id is skipped.
 use Rattle.std.proofs.Common.{◌≡◌, ◌≢◌, ◌∷◌, ◌<◌, [], length, Some, None, ap, subst, ◌∙◌}
 use Rattle.wasmprinter_spec.specs.Grammar.{Input}
 use Rattle.wasmprinter_spec.specs.Customs.Dylink.{Subsection, subsection, judgement_of, other_of}

@@ -1,4 +1,4 @@
--- The next entry of an iterator, and what the iterator has left behind it, are what it had.
+-- The next entry of an iterator, and the entries that remain after it, are the entries that it had.
 use Rattle.std.specs.Prelude.{◌≡◌, List, [], ◌∷◌, Option, Some, None, MatchOption}
 use Rattle.std.proofs.Common.{sym}
 use Rattle.wasmprinter_spec.specs.Customs.Hints.{FunctionHints}

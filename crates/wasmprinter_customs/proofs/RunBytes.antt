@@ -1,4 +1,4 @@
--- Which bytes are identifier characters.
+-- The bytes that are identifier characters.
 use Rattle.std.proofs.Common.{◌≡◌, true≢false, ◌<◌, ℕ, zero, suc, Bool, true, false, refl, sym, ap, ◌∙◌, subst, arith}
 use Rattle.std.specs.Prelude.{codes, ◌&&◌, ◌==◌, not}
 use Rattle.std.specs.List.{list_any}
@@ -7,7 +7,7 @@ use Rattle.std.proofs.lemmas.Bool.{and_parts, eqb-true, eqb-false}
 use Rattle.wasmprinter_spec.specs.Character.{class}
 use Rattle.wasmprinter_spec.specs.Quoted.{runs}
 
--- printable, and none that don't stand in a word
+-- The byte is a printable character that is allowed in a word.
 abbrev pub stands : ℕ → Bool
 stands b = is_ascii_graphic b && not (list_any (λ c. c == b) (codes "\"(),;[]{}"))
 
@@ -42,10 +42,10 @@ all_agree = refl
 runs_class : (b : ℕ) → b < 256 → stands b ≡ runs (class b)
 runs_class b lt = agree_below 256 all_agree b lt
 
--- a printable byte
+-- A printable byte is an identifier character exactly if it is not one of the excluded characters.
 pub runs_graphic : (b : ℕ) → b < 256 → is_ascii_graphic b ≡ true → not (list_any (λ c. c == b) (codes "\"(),;[]{}")) ≡ runs (class b)
 runs_graphic b lt g = sym (ap (λ t. t && not (list_any (λ c. c == b) (codes "\"(),;[]{}"))) g) ∙ runs_class b lt
 
--- any other
+-- Any other byte is not an identifier character.
 pub runs_other : (b : ℕ) → b < 256 → is_ascii_graphic b ≡ false → false ≡ runs (class b)
 runs_other b lt g = sym (ap (λ t. t && not (list_any (λ c. c == b) (codes "\"(),;[]{}"))) g) ∙ runs_class b lt

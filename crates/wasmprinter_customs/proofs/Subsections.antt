@@ -1,4 +1,4 @@
--- Subsections of `dylink.0`, judged one after the other.
+-- Subsections of `dylink.0`, checked one after the other.
 use Rattle.std.proofs.Common.{◌≡◌, ◌≢◌, ℕ, zero, suc, ◌-◌, ◌<◌, ◌≤◌, List, [], ◌∷◌, length, Bool, true, false, Option, Some, None, refl, sym, ap, ◌∙◌, subst, arith}
 use Rattle.std.specs.Prelude.{◌==◌}
 use Rattle.std.proofs.lemmas.Bool.{eqb-true, eqb-false, eq-eqb, ne_eqb}
@@ -8,21 +8,21 @@ use Rattle.wasmprinter_spec.specs.Lenient.{give, read_behind, repeat_at, continu
 use Rattle.wasmprinter_spec.specs.Customs.Dylink.{Subsection, subsection, one_subsection, Judged, Whole, Unknown, Faulty, other_of, first_some, first_other, judgement_by, judgement_of}
 use Rattle.wasmprinter_customs.specs.Sound.{subsections_in, IsFaultless}
 
--- each subsection takes a byte at least
+-- Each subsection takes at least one byte.
 pub shrinks : (at : Input) (x : Subsection × Input) → subsection.parse at ≡ Some x → length x.1.bytes < length at.bytes
 shrinks at x e =
     let s = subsection.sound at x e in
     let (begins, (value, kept, (front, behind, joined, id_spelled, spelled))) = s.spelled in
     omega (arith, ap length s.parts, length-append s.text x.1.bytes, ap length joined, length-append front behind, ap length id_spelled)
 
--- ---- the turns suffice
+-- ---- The bound on the number of subsections suffices
 
--- behind the last byte
+-- At the end of the bytes there is no subsection.
 none_at_end : (n : ℕ) (at : Input) → length at.bytes ≡ 0 → repeat_at one_subsection n at ≡ ([], Some at)
 none_at_end zero at e = refl
 none_at_end (suc n) at e = rw (eq-eqb (length at.bytes) 0 e, none_at_end n at e) refl
 
--- a subsection, and what is read behind it
+-- A subsection, followed by those that are read after it.
 abbrev on_from : (Input → List Subsection × Option Input) → Option (Subsection × Input) → List Subsection × Option Input
 on_from k None = ([], None)
 on_from k (Some x) = (x.0 ∷ (k x.1).0, (k x.1).1)
@@ -38,7 +38,7 @@ on_same j k (Some x) h = ap (λ (r : List Subsection × Option Input). (x.0 ∷ 
 step : (n : ℕ) (at : Input) → length at.bytes ≢ 0 → repeat_at one_subsection (suc n) at ≡ on_from (λ mid. repeat_at one_subsection n mid) (subsection.parse at)
 step n at some = rw (ne_eqb (length at.bytes) 0 some) (on_by (λ mid. repeat_at one_subsection n mid) (subsection.parse at))
 
--- with as many turns as bytes more of them change nothing
+-- Any two bounds that are at least the number of bytes give the same subsections.
 enough : (n m : ℕ) (at : Input) → length at.bytes ≤ n → length at.bytes ≤ m → repeat_at one_subsection n at ≡ repeat_at one_subsection m at
 enough zero m at le more = sym (none_at_end m at (omega (arith, le)))
 enough (suc n) zero at le more = none_at_end (suc n) at (omega (arith, more))
@@ -53,12 +53,12 @@ enough (suc n) (suc m) at le more = by (length at.bytes == 0) refl (λ x e. enou
         let ne = eqb-false (length at.bytes) 0 some in
         step n at ne ∙ on_same (λ mid. repeat_at one_subsection n mid) (λ mid. repeat_at one_subsection m mid) (subsection.parse at) same ∙ sym (step m at ne)
 
--- ---- the first subsection, and then the others
+-- ---- The first subsection, then the others
 
 abbrev judged_read : List Subsection × Option Input → Judged
 judged_read r = judgement_by r.0 (first_other r.0) r.1
 
--- a subsection, perhaps of an unknown id, in front of others
+-- The result for a section, by its first subsection, whose id may be unknown, and the result for the others.
 abbrev decided : Subsection → Option ℕ → Judged → Judged
 decided s (Some id) others = Unknown id
 decided s None (Whole ss) = Whole (s ∷ ss)
@@ -92,9 +92,9 @@ judged_some at some =
 pub judged_none : (at : Input) → at.bytes ≡ [] → judgement_of at ≡ Whole []
 judged_none at none = ap judged_read (none_at_end (length at.bytes) at (ap length none))
 
--- ---- a loop over them
+-- ---- A loop over the subsections
 
--- what is decided, without the subsections
+-- The result without the subsections.
 abbrev pub outcome : Judged → Judged
 outcome (Whole ss) = Whole []
 outcome (Unknown id) = Unknown id
@@ -130,7 +130,7 @@ module _ (at : Input) (some : at.bytes ≢ []) where
     whole_by (Unknown id) w = absurd w
     whole_by Faulty w = absurd w
 
-    -- a section without a fault goes on without one
+    -- If a section is well-formed, so is the rest after its first subsection.
     pub whole_goes_on : other_of x.0.value ≡ None → IsFaultless (judgement_of at) → IsFaultless (judgement_of x.1) × (subsections_in (judgement_of at) ≡ x.0 ∷ subsections_in (judgement_of x.1))
     whole_goes_on e w =
         let known : judgement_of at ≡ decided x.0 None (judgement_of x.1) = judged_known e in
@@ -143,7 +143,7 @@ module _ (at : Input) (some : at.bytes ≢ []) where
   pub fault_not_whole : subsection.parse at ≡ None → IsFaultless (judgement_of at) → ⊥
   fault_not_whole e w = subst IsFaultless (fault_decides e) w
 
--- ---- what the outcome says
+-- ---- The result, given its outcome
 
 pub whole_is : (j : Judged) → outcome j ≡ Whole [] → IsFaultless j × (j ≡ Whole (subsections_in j))
 whole_is (Whole ss) e = (tt, refl)

@@ -1,4 +1,4 @@
--- What a subsection of `dylink.0` holds, as the definitions see it.
+-- The content of a `dylink.0` subsection that the program's value represents.
 use Rattle.wasmprinter_spec.specs.Customs.Dylink as d
 use Rattle.wasmprinter_customs.specs.declared.dylink.Content.{Content}
 use Rattle.wasmprinter_customs.specs.declared.dylink.Content.TheVariants.{MemInfo, Needed, Exports, Imports, RuntimePath}

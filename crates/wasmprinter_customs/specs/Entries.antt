@@ -1,4 +1,5 @@
--- The entries of a hint section that are left: the next one, and those behind it. Where there is no next one, none is left.
+-- The remaining entries of a hint section: the next one and those after it. If there is no next
+-- entry, no entry remains.
 use Rattle.std.specs.Prelude.{List, [], ◌∷◌, Option, Some, None}
 use Rattle.wasmprinter_spec.specs.Customs.Hints.{FunctionHints}
 

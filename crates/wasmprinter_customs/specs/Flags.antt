@@ -1,4 +1,4 @@
--- The words of flags and what is left behind them: what `flags_by` lays out.
+-- The words of flags and the remaining bits, as `flags_by` lays them out.
 use Rattle.std.specs.Prelude.{ℕ, ◌-◌, List, [], ◌∷◌, if◌then◌else◌}
 use Rattle.wasmprinter_spec.specs.Layout.Customs.{has_flag}
 use Rattle.wasmprinter_customs.specs.declared.flags.SymbolFlags.{SymbolFlags}
@@ -6,12 +6,12 @@ use Rattle.wasmprinter_customs.specs.declared.flags.SymbolFlags.{SymbolFlags}
 abbrev pub bits_of : SymbolFlags → ℕ
 bits_of flags = flags.0
 
--- the words of the flags that are set
+-- The words of the flags that are set.
 unfoldable pub words_by : List (ℕ × List ℕ) → ℕ → List (List ℕ)
 words_by [] rest = []
 words_by (row ∷ rows) rest = if has_flag rest row.0 then row.1 ∷ words_by rows (rest - row.0) else words_by rows rest
 
--- all other bits
+-- All other bits.
 unfoldable pub others_by : List (ℕ × List ℕ) → ℕ → ℕ
 others_by [] rest = rest
 others_by (row ∷ rows) rest = if has_flag rest row.0 then others_by rows (rest - row.0) else others_by rows rest

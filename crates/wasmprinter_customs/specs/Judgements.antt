@@ -1,4 +1,4 @@
--- What is found in a section of `dylink.0`, as the definitions see it.
+-- The contents of a `dylink.0` section that the program's values represent.
 use Rattle.std.specs.Prelude.{◌≡◌, None}
 use Rattle.wasmprinter_spec.specs.Customs.Dylink as d
 use Rattle.wasmprinter_customs.specs.declared.dylink.Found.{Found}
@@ -6,12 +6,12 @@ use Rattle.wasmprinter_customs.specs.declared.dylink.Found.TheVariants as f
 use Rattle.wasmprinter_customs.specs.declared.dylink.Judgement.{Judgement}
 use Rattle.wasmprinter_customs.specs.declared.dylink.Judgement.TheVariants as j
 
--- a subsection, or what is known of one whose id isn't
+-- A subsection; only the place and the id if the id is unknown.
 abbrev pub found_view : Found → d.Subsection
 found_view (f.Known s) = s
 found_view (f.Other place id) = record { place = place; value = d.Other id }
 
--- something is known of the subsection's id
+-- If the program returns a subsection with a known id, the definitions know that id.
 abbrev pub HasKnownId : Found → Type 0
 HasKnownId (f.Known s) = d.other_of s.value ≡ None
 HasKnownId (f.Other place id) = Unit {0}

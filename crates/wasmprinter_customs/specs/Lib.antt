@@ -1,4 +1,4 @@
--- What the contracts of the custom sections that are known cite.
+-- The definitions that the contracts of the known custom sections use.
 pub mod Contents
 pub mod Entries
 pub mod FlagPieces

@@ -1,4 +1,4 @@
--- What a custom section is to the text, as the definitions see it.
+-- The role of a custom section that the program's value represents.
 use Rattle.wasmprinter_spec.specs.Customs as d
 use Rattle.wasmprinter_customs.specs.declared.role.CustomRole.{CustomRole}
 use Rattle.wasmprinter_customs.specs.declared.role.CustomRole.TheVariants as r

@@ -1,4 +1,4 @@
--- The subsections of a section of `dylink.0` without a fault.
+-- The subsections of a well-formed `dylink.0` section.
 use Rattle.std.specs.Prelude.{List, []}
 use Rattle.wasmprinter_spec.specs.Customs.Dylink.{Subsection, Judged, Whole}
 
@@ -6,7 +6,7 @@ abbrev pub subsections_in : Judged → List Subsection
 subsections_in (Whole ss) = ss
 subsections_in _ = []
 
--- there is no fault, and each id is known
+-- The section is well-formed, and each id is known.
 abbrev pub IsFaultless : Judged → Type 0
 IsFaultless (Whole ss) = Unit {0}
 IsFaultless _ = ⊥

@@ -1,4 +1,5 @@
-//! The section `dylink.0` (tool conventions, "Dynamic Linking"): subsections, each an id, a size and so many bytes.
+//! The `dylink.0` section (tool conventions, "Dynamic Linking"): subsections, each with an id, a
+//! size and that many bytes.
 ghost use Rattle.std.specs.Prelude.{◌≡◌, IfOk};
 ghost use Rattle.wasmprinter_spec.specs.Customs.Dylink.{mem_info, export_info, import_info, content_by_id};
 ghost use Rattle.wasmprinter_spec.specs.Customs.Dylink.{is_known, subsection, judgement_of};
@@ -15,22 +16,22 @@ use std::marker::Model;
 use wasmprinter_bytes::bytes::Cursor;
 use wasmprinter_error::Malformed;
 
-/// The id of `MemInfo`.
+/// The id of the subsection `MemInfo`.
 const MEM_INFO: u8 = 1;
 
-/// The id of the names of libraries.
+/// The id of the subsection with the names of libraries.
 const NEEDED: u8 = 2;
 
-/// The id of exports.
+/// The id of the subsection with exports.
 const EXPORT_INFO: u8 = 3;
 
-/// The id of imports.
+/// The id of the subsection with imports.
 const IMPORT_INFO: u8 = 4;
 
-/// The id of paths.
+/// The id of the subsection with paths.
 const RUNTIME_PATH: u8 = 5;
 
-/// What a module wants of memory and of the table.
+/// The memory and table elements that a module requires.
 #[derive(Drop)]
 pub struct MemInfo {
     memory_size: u32,
@@ -53,7 +54,7 @@ impl Model for MemInfo {
 }
 
 impl MemInfo {
-    /// Reads what is wanted of memory, and then of the table: a size and an alignment.
+    /// Reads a size and an alignment for the memory, then for the table.
     fn read(cursor: &mut Cursor) -> Result<Self, Malformed>
         ensures { Reads (λ m. m) mem_info.parse cursor.old result cursor.new }
     {
@@ -69,28 +70,28 @@ impl MemInfo {
         })
     }
 
-    /// How many bytes of memory it wants.
+    /// Returns the required memory size in bytes.
     pub fn memory_size(&self) -> u32
         ensures { result ≡ self.now.memory_size }
     {
         self.memory_size
     }
 
-    /// The exponent of their alignment in bytes, a power of two.
+    /// Returns the exponent of the memory alignment in bytes, a power of two.
     pub fn memory_alignment(&self) -> u32
         ensures { result ≡ self.now.memory_alignment }
     {
         self.memory_alignment
     }
 
-    /// How many elements of the table it wants.
+    /// Returns the required number of table elements.
     pub fn table_size(&self) -> u32
         ensures { result ≡ self.now.table_size }
     {
         self.table_size
     }
 
-    /// The exponent of their alignment in elements, a power of two.
+    /// Returns the exponent of the table alignment in elements, a power of two.
     pub fn table_alignment(&self) -> u32
         ensures { result ≡ self.now.table_alignment }
     {
@@ -98,7 +99,7 @@ impl MemInfo {
     }
 }
 
-/// An export and its flags.
+/// An export with its flags.
 #[derive(Drop)]
 pub struct ExportInfo<'a> {
     name: &'a str,
@@ -126,14 +127,14 @@ impl<'a> ReadFrom for ExportInfo<'a> {
 }
 
 impl<'a> ExportInfo<'a> {
-    /// The name of the export.
+    /// Returns the name of the export.
     pub fn name(&self) -> &'a str
         ensures { result.now ≡ self.now.name }
     {
         self.name
     }
 
-    /// Its flags.
+    /// Returns the flags of the export.
     pub fn flags(&self) -> SymbolFlags
         ensures { bits_of result ≡ self.now.flags }
     {
@@ -141,7 +142,7 @@ impl<'a> ExportInfo<'a> {
     }
 }
 
-/// An import and its flags.
+/// An import with its flags.
 #[derive(Drop)]
 pub struct ImportInfo<'a> {
     source: &'a str,
@@ -175,21 +176,21 @@ impl<'a> ReadFrom for ImportInfo<'a> {
 }
 
 impl<'a> ImportInfo<'a> {
-    /// The module that it comes from.
+    /// Returns the name of the module that the import comes from.
     pub fn source(&self) -> &'a str
         ensures { result.now ≡ self.now.source }
     {
         self.source
     }
 
-    /// Its name there.
+    /// Returns the name of the import in that module.
     pub fn name(&self) -> &'a str
         ensures { result.now ≡ self.now.name }
     {
         self.name
     }
 
-    /// Its flags.
+    /// Returns the flags of the import.
     pub fn flags(&self) -> SymbolFlags
         ensures { bits_of result ≡ self.now.flags }
     {
@@ -197,18 +198,18 @@ impl<'a> ImportInfo<'a> {
     }
 }
 
-/// What a subsection holds.
+/// The content of a subsection.
 #[derive(Drop)]
 pub enum Content<'a> {
-    /// What the module wants of memory and of the table.
+    /// The memory and table elements that the module requires.
     MemInfo(MemInfo),
-    /// The names of the libraries that it needs.
+    /// The names of the libraries that the module needs.
     Needed(DylinkNames<'a>),
-    /// Exports and their flags.
+    /// Exports with their flags.
     Exports(ItemsIn<ExportInfo<'a>>),
-    /// Imports and their flags.
+    /// Imports with their flags.
     Imports(ItemsIn<ImportInfo<'a>>),
-    /// Paths at which libraries are looked for.
+    /// The paths at which libraries are searched.
     RuntimePath(DylinkNames<'a>),
 }
 
@@ -228,7 +229,7 @@ impl<'a> Model for Subsection<'a> {
     ghost view = { λ s. record { place = s.place; value = content_view s.content } };
 }
 
-/// Whether anything is known of the id.
+/// Reports whether the id is known.
 fn is_known(id: u8) -> bool
     ensures { result ≡ is_known id }
 {
@@ -239,7 +240,7 @@ fn is_known(id: u8) -> bool
 }
 
 impl<'a> Content<'a> {
-    /// Reads what a subsection of a known id holds.
+    /// Reads the content of a subsection with a known id.
     fn read(id: u8, cursor: &mut Cursor<'a>) -> Result<Self, Malformed>
         ensures { Reads content_view (content_by_id id).parse cursor.old result cursor.new }
     {
@@ -253,17 +254,18 @@ impl<'a> Content<'a> {
     }
 }
 
-/// What stands in front: a subsection, or one of an unknown id.
+/// The next subsection, whose id is known or not.
 #[derive(Drop)]
 enum Found<'a> {
-    /// A subsection whose id is known.
+    /// A subsection with a known id.
     Known(Subsection<'a>),
-    /// One of another id, and the place of that.
+    /// The place and the id of a subsection with an unknown id.
     Other { place: u64, id: u8 },
 }
 
 impl<'a> Found<'a> {
-    /// Reads an id, a size and so many bytes, which a subsection of a known id fills. `Malformed` has the place of the id where it doesn't.
+    /// Reads an id, a size and that many bytes. If the id is known and bytes remain after the content, returns
+    /// `Malformed` with the place of the id.
     fn read(cursor: &mut Cursor<'a>) -> Result<Self, Malformed>
         ensures reads { Reads found_view subsection.parse cursor.old result cursor.new }
         ensures known { IfOk result HasKnownId }
@@ -284,14 +286,14 @@ impl<'a> Found<'a> {
 }
 
 impl<'a> Subsection<'a> {
-    /// The place of its id: a byte offset from the module's start.
+    /// Returns the place of the id: a byte offset from the start of the module.
     pub fn place(&self) -> u64
         ensures { result ≡ self.now.place }
     {
         self.place
     }
 
-    /// What it holds.
+    /// Returns the content.
     pub fn content(&self) -> &Content<'a>
         ensures { content_view result.now ≡ self.now.value }
     {
@@ -299,7 +301,7 @@ impl<'a> Subsection<'a> {
     }
 }
 
-/// The subsections of a section without a fault, one after the other; the id of each is known.
+/// The subsections of a well-formed section in which each id is known.
 #[derive(Drop)]
 pub struct Dylink<'a> {
     cursor: Cursor<'a>,
@@ -318,7 +320,7 @@ impl<'a> Model for Dylink<'a> {
 }
 
 impl<'a> Dylink<'a> {
-    /// The subsections in order.
+    /// Returns the subsections in order.
     pub fn iter(&self) -> Dylink<'a>
         ensures { result ≡ self.now }
     {
@@ -348,19 +350,19 @@ impl<'a> Iterator for Dylink<'a> {
     }
 }
 
-/// What a section is: the first subsection of an unknown id, or the first fault, decides.
+/// The result of checking a section. The first subsection with an unknown id, or the first error, decides.
 #[derive(Drop)]
 pub(crate) enum Judgement<'a> {
-    /// No fault: each subsection has a known id.
+    /// A well-formed section: each subsection has a known id.
     Whole(Dylink<'a>),
-    /// The first subsection of an unknown id, which comes before any fault.
+    /// The first unknown id, with no error before it.
     Unknown(u8),
-    /// A fault, which comes before any unknown id.
+    /// An error, with no unknown id before it.
     Faulty,
 }
 
 impl<'a> Judgement<'a> {
-    /// Judges what a section holds behind its name.
+    /// Checks the content of a section after its name.
     pub(crate) fn of(section: Cursor<'a>) -> Self
         ensures { judgement_view result ≡ judgement_of section.entry }
     {

@@ -6,36 +6,36 @@ ghost use Rattle.wasmprinter_customs.specs.Flags.{bits_of, words_by, others_by};
 use bitflags::{Flag, Flags};
 use std::marker::Model;
 
-/// What is said of a symbol.
+/// The flags of a symbol.
 #[derive(Clone, Copy, Debug, PartialEq, Eq)]
 pub struct SymbolFlags(u32);
 
 impl SymbolFlags {
-    /// Another definition of the symbol may stand for it.
+    /// The symbol is weak: another definition may replace it.
     pub const BINDING_WEAK: SymbolFlags = SymbolFlags(0x1);
 
-    /// The symbol is of its own module alone.
+    /// The symbol is local to its module.
     pub const BINDING_LOCAL: SymbolFlags = SymbolFlags(0x2);
 
-    /// Other modules don't see it.
+    /// The symbol is not visible to other modules.
     pub const VISIBILITY_HIDDEN: SymbolFlags = SymbolFlags(0x4);
 
-    /// It is defined elsewhere.
+    /// The symbol is defined elsewhere.
     pub const UNDEFINED: SymbolFlags = SymbolFlags(0x10);
 
-    /// It is to be exported.
+    /// The symbol must be exported.
     pub const EXPORTED: SymbolFlags = SymbolFlags(0x20);
 
-    /// It has a name of its own where it is imported.
+    /// The symbol has a name of its own where it is imported.
     pub const EXPLICIT_NAME: SymbolFlags = SymbolFlags(0x40);
 
-    /// It stays, even if nothing uses it.
+    /// The symbol is kept even if nothing uses it.
     pub const NO_STRIP: SymbolFlags = SymbolFlags(0x80);
 
-    /// It stands in the memory of a thread.
+    /// The symbol is in thread-local memory.
     pub const TLS: SymbolFlags = SymbolFlags(0x100);
 
-    /// Its address is absolute.
+    /// The address of the symbol is absolute.
     pub const ABSOLUTE: SymbolFlags = SymbolFlags(0x200);
 
     /// The flags and their words in the text.
@@ -104,7 +104,7 @@ impl Flags for SymbolFlags {
     }
 }
 
-/// The words of the flags that are left, in the order of their bits.
+/// An iterator over the words of the remaining flags, in the order of their bits.
 #[derive(Drop)]
 pub struct FlagWords {
     left: u32,
@@ -146,14 +146,14 @@ impl Iterator for FlagWords {
 }
 
 impl SymbolFlags {
-    /// The flags in the order of their bits.
+    /// Returns the flags in the order of their bits.
     fn rows() -> &'static [Flag<SymbolFlags>]
         ensures { map (λ flag. (bits_of flag.value, flag.name.now)) result.now ≡ flag_words }
     {
         SymbolFlags::FLAGS
     }
 
-    /// The words of the flags that are set, in the order of their bits.
+    /// Returns the words of the flags that are set, in the order of their bits.
     pub fn words(self) -> FlagWords
         ensures { result ≡ words_by flag_words (bits_of self) }
     {
@@ -163,7 +163,7 @@ impl SymbolFlags {
         }
     }
 
-    /// The bits of no flag.
+    /// Returns the bits that are set and belong to no flag.
     pub fn other_bits(self) -> u32
         ensures { result ≡ others_by flag_words (bits_of self) }
     {

@@ -1,4 +1,4 @@
-//! Branch hints (Code Metadata): for functions, which operators are likely to branch.
+//! Branch hints (Code Metadata): for each listed function, which operators are likely to branch.
 ghost use Rattle.std.specs.Prelude.{◌≡◌, ◌+◌, ◌<◌, ◌^◌, [], length, codes, bytes_eq};
 ghost use Rattle.wasmprinter_spec.specs.Grammar.{value_with_place};
 ghost use Rattle.wasmprinter_spec.specs.Customs.Hints.{hint as hint_grammar, flag, function_hints, hint_section, hints_given};
@@ -12,26 +12,26 @@ use wasmprinter_bytes::bytes::Cursor;
 use wasmprinter_bytes::lists::{Items, Spelled, no_items, read_items};
 use wasmprinter_error::Malformed;
 
-/// The name of sections of branch hints. Of several the last counts.
+/// The name of sections with branch hints. If there are several, the last one counts.
 pub(crate) const HINT_SECTION: &str = "metadata.code.branch_hint";
 
-/// More functions with hints are taken for a fault.
+/// A section with more functions is treated as malformed.
 const MOST_FUNCTIONS: u32 = 1_000_000;
 
-/// More hints in one function are taken for a fault.
+/// A section with more hints in one function is treated as malformed.
 const MOST_HINTS: u32 = 131_071;
 
-/// How many bytes a hint has: one.
+/// The size of a hint in bytes.
 const HINT_SIZE: u8 = 0x01;
 
-/// Whether sections of this name hold branch hints.
+/// Reports whether sections with this name hold branch hints.
 pub fn is_hint_section(name: &str) -> bool
     ensures { result ≡ bytes_eq name.now (codes "metadata.code.branch_hint") }
 {
     name == HINT_SECTION
 }
 
-/// A hint, with the place of its first byte.
+/// A branch hint, with the place of its first byte.
 #[derive(Drop)]
 pub struct Hint {
     place: u64,
@@ -48,7 +48,7 @@ impl Model for Hint {
     ghost view = { λ h. record { place = h.place; value = record { offset = h.offset; taken = h.taken } } };
 }
 
-/// Reads the byte that says how many follow.
+/// Reads the size of a hint, which must be 1.
 fn read_size(cursor: &mut Cursor) -> Result<u8, Malformed>
     ensures reads { Reads (λ b. b) (only 1).parse cursor.old result cursor.new }
     ensures within { IsWithin cursor.old result }
@@ -63,7 +63,7 @@ fn read_size(cursor: &mut Cursor) -> Result<u8, Malformed>
     }
 }
 
-/// Whether the flag says that the operator is likely to branch.
+/// Returns whether the operator is likely to branch, or `None` if the byte is not a valid flag.
 fn flag_of(byte: u8) -> Option<bool>
     ensures { result ≡ flag byte }
 {
@@ -93,14 +93,14 @@ impl Spelled for Hint {
 }
 
 impl Hint {
-    /// The place of its first byte: a byte offset from the module's start.
+    /// Returns the place of the first byte: a byte offset from the start of the module.
     pub fn place(&self) -> u64
         ensures { result ≡ self.now.place }
     {
         self.place
     }
 
-    /// Whether the operator is likely to branch.
+    /// Reports whether the operator is likely to branch.
     pub fn is_taken(&self) -> bool
         ensures { result ≡ self.now.value.taken }
     {
@@ -108,7 +108,8 @@ impl Hint {
     }
 }
 
-/// The hints of a function that are left; they are taken in order, so that one that no operator takes blocks those behind it.
+/// The remaining hints of a function. They are taken in order, so a hint that no operator
+/// takes blocks those after it.
 #[derive(Drop)]
 pub struct FunctionHints<'a> {
     hints: Items<'a, Hint>,
@@ -125,7 +126,7 @@ impl<'a> Model for FunctionHints<'a> {
 }
 
 impl<'a> FunctionHints<'a> {
-    /// No hints.
+    /// Returns an empty list of hints.
     pub fn none() -> Self
         ensures { result ≡ [] }
     {
@@ -134,7 +135,7 @@ impl<'a> FunctionHints<'a> {
         }
     }
 
-    /// The hint of the operator that stands so far behind the body's first byte, if it is the next.
+    /// Takes the next hint if its operator is `offset` bytes after the first byte of the body.
     pub fn next_at(&mut self, offset: u64) -> Option<Hint>
         ensures gives { result ≡ next_hint offset self.old }
         ensures behind { self.new ≡ hint_behind offset self.old }
@@ -150,7 +151,7 @@ impl<'a> FunctionHints<'a> {
     }
 }
 
-/// The hints of a function.
+/// The hints of one function.
 #[derive(Drop)]
 struct Entry<'a> {
     function: u32,
@@ -181,7 +182,7 @@ impl<'a> ReadFrom for Entry<'a> {
     }
 }
 
-/// Reads the entries that are all of a section.
+/// Reads the entries of a section, which must take all of its bytes.
 fn read_entries<'a>(section: Cursor<'a>) -> Option<ItemsIn<Entry<'a>>>
     ensures { result ≡ hint_section.parse section.entry }
 {
@@ -192,10 +193,11 @@ fn read_entries<'a>(section: Cursor<'a>) -> Option<ItemsIn<Entry<'a>>>
     }
 }
 
-/// The functions with hints that are left; they are taken in order, so that an entry that no function takes blocks those behind it.
+/// The functions with hints that remain. They are taken in order, so an entry that no function
+/// takes blocks those after it.
 #[derive(Drop)]
 pub struct Hints<'a> {
-    /// The next entry, which is read once however many functions don't take it.
+    /// The next entry, kept so that it is read only once.
     next: Option<Entry<'a>>,
     behind: ItemsIn<Entry<'a>>,
 }
@@ -211,7 +213,7 @@ impl<'a> Model for Hints<'a> {
 }
 
 impl<'a> Hints<'a> {
-    /// No hints.
+    /// Returns an empty list of hints.
     pub fn none() -> Self
         ensures { result ≡ [] }
     {
@@ -221,7 +223,7 @@ impl<'a> Hints<'a> {
         }
     }
 
-    /// The hints of these entries.
+    /// Returns the hints of these entries.
     #[tactic(auto, using(crate::proofs::NextEntry::next_is_first))]
     fn of(entries: ItemsIn<Entry<'a>>) -> Self
         ensures { result ≡ entries.entry }
@@ -231,7 +233,8 @@ impl<'a> Hints<'a> {
         Hints { next, behind }
     }
 
-    /// The hints that a section gives: none where it has a fault. Its bytes behind the name begin at the place.
+    /// Returns the hints of a section, or no hints if the section is malformed. `place` is the place of
+    /// its bytes after the name.
     pub fn of_section(place: u64, bytes: &'a [u8]) -> Self
         requires { place + length bytes.now < 2 ^ 64 }
         ensures { result ≡ hints_given (record { place = place; value = bytes.now }) }
@@ -242,7 +245,7 @@ impl<'a> Hints<'a> {
         }
     }
 
-    /// The hints of the function with this number, if its entry is the next; else none.
+    /// Takes the hints of the function `number` if its entry is the next, and otherwise returns no hints.
     #[tactic(auto, using(crate::proofs::NextEntry::next_is_first))]
     pub fn next_function(&mut self, number: u64) -> FunctionHints<'a>
         ensures gives { result ≡ next_hints number self.old }

@@ -1,4 +1,4 @@
-//! Counted lists of values that borrow the bytes (section 5.1 of the WebAssembly Core Specification, "Lists").
+//! Lists of values that borrow the bytes (section 5.1 of the WebAssembly Core Specification, "Lists").
 ghost use Rattle.std.specs.Prelude.{◌≡◌, [], length};
 ghost use Rattle.wasmprinter_spec.specs.Name.{u32 as u32_grammar};
 ghost use Rattle.wasmprinter_bytes.specs.Reads.{Reads};
@@ -8,18 +8,18 @@ use std::marker::Model;
 use wasmprinter_bytes::bytes::Cursor;
 use wasmprinter_error::Malformed;
 
-/// What values are read from: a cursor. (It keeps the cursor's lifetime out of the trait of the values.)
+/// A cursor from which values are read. This trait keeps the cursor's lifetime out of the trait of the values.
 pub trait ValueSource: Drop {
     ghost use Rattle.wasmprinter_spec.specs.Grammar.{Input};
 
-    /// Where reading stands.
+    /// The input at the cursor.
     ghost input: { Self → Input };
 
-    /// A second one that stands at the same place.
+    /// Returns a second cursor at the same place.
     fn again(&self) -> Self
         ensures { input result ≡ input self.now };
 
-    /// Reads how many values there are.
+    /// Reads the number of values.
     fn count(&mut self) -> Result<u32, Malformed>
         ensures { Reads (λ n. n) u32_grammar.parse (input self.old) result (input self.new) };
 }
@@ -36,15 +36,15 @@ impl<'a> ValueSource for Cursor<'a> {
     }
 }
 
-/// A value that bytes spell, read without memory of its own; it may borrow the bytes.
+/// A value that can be read from bytes without allocating, and that may borrow the bytes.
 pub trait ReadFrom: Drop {
     ghost use Rattle.std.specs.Prelude.{Option};
     ghost use Rattle.wasmprinter_spec.specs.Grammar.{Input};
 
-    /// The cursor, with the lifetime of what it borrows.
+    /// The type of the cursor, with the lifetime of the bytes that the value borrows.
     type Source: ValueSource;
 
-    /// How it is read.
+    /// The grammar's reader for the value.
     ghost parse: { Input → Option (Self × Input) };
 
     /// Reads the value at the cursor.
@@ -52,7 +52,7 @@ pub trait ReadFrom: Drop {
         ensures { Reads (λ x. x) parse (Self.Source.input source.old) result (Self.Source.input source.new) };
 }
 
-/// So many values that are known to stand one after the other; they are read again as they are asked for.
+/// A list of values whose encoding was checked. Each value is read again from the bytes when it is requested.
 #[derive(Drop)]
 pub struct ItemsIn<T: ReadFrom> {
     left: u32,
@@ -71,14 +71,14 @@ impl<T: ReadFrom> Model for ItemsIn<T> {
 }
 
 impl<T: ReadFrom> ItemsIn<T> {
-    /// No values.
+    /// Returns an empty list.
     pub(crate) fn none(source: <T as ReadFrom>::Source) -> Self
         ensures { result ≡ [] }
     {
         ItemsIn { left: 0, source }
     }
 
-    /// Reads a count and so many values.
+    /// Reads a count and that many values.
     pub(crate) fn read(source: &mut <T as ReadFrom>::Source) -> Result<Self, Malformed>
         ensures { Reads (λ t. t) (vec_at T.parse) (T.Source.input source.old) result (T.Source.input source.new) }
     {
@@ -93,14 +93,14 @@ impl<T: ReadFrom> ItemsIn<T> {
         })
     }
 
-    /// How many values there are.
+    /// Returns the number of values.
     pub fn len(&self) -> u32
         ensures { result ≡ length self.now }
     {
         self.left
     }
 
-    /// The values in order.
+    /// Returns the values in order.
     pub fn iter(&self) -> ItemsIn<T>
         ensures { result ≡ self.now }
     {

@@ -1,5 +1,5 @@
-//! The custom sections that are known, read from their bytes without memory: `producers` and `dylink.0` (tool conventions), and branch
-//! hints (Code Metadata).
+//! The known custom sections, read from their bytes without allocating: `producers` and `dylink.0` (tool
+//! conventions), and branch hints (Code Metadata).
 #![tactic(auto)]
 
 mod dylink;

@@ -33,7 +33,7 @@ impl<'a> ReadFrom for Name<'a> {
     }
 }
 
-/// Names, one after the other.
+/// A list of names.
 #[derive(Drop)]
 pub struct DylinkNames<'a> {
     names: ItemsIn<Name<'a>>,
@@ -48,7 +48,7 @@ impl<'a> Model for DylinkNames<'a> {
 }
 
 impl<'a> DylinkNames<'a> {
-    /// Reads a count and so many names.
+    /// Reads a count and that many names.
     pub(crate) fn read(cursor: &mut Cursor<'a>) -> Result<Self, Malformed>
         ensures { Reads (λ n. n) (vec name).parse cursor.old result cursor.new }
     {
@@ -56,7 +56,7 @@ impl<'a> DylinkNames<'a> {
         Ok(DylinkNames { names })
     }
 
-    /// The names in order.
+    /// Returns the names in order.
     pub fn iter(&self) -> DylinkNames<'a>
         ensures { result ≡ self.now }
     {

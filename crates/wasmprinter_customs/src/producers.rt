@@ -1,4 +1,5 @@
-//! The section `producers` (tool conventions, "Producers Section"): fields, each with the names and versions of its values.
+//! The `producers` section (tool conventions, "Producers Section"): fields, each with the names
+//! and versions of its values.
 ghost use Rattle.std.specs.Prelude.{◌≡◌};
 ghost use Rattle.wasmprinter_spec.specs.Grammar.{value_with_place};
 ghost use Rattle.wasmprinter_spec.specs.Customs.Producers.{value as value_grammar, field as field_grammar, producers, are_runs};
@@ -9,7 +10,7 @@ use std::marker::Model;
 use wasmprinter_bytes::bytes::Cursor;
 use wasmprinter_error::Malformed;
 
-/// A value of a field: its place, a name and a version.
+/// A value of a field: its place, its name and its version.
 #[derive(Drop)]
 pub struct Value<'a> {
     place: u64,
@@ -44,21 +45,21 @@ impl<'a> ReadFrom for Value<'a> {
 }
 
 impl<'a> Value<'a> {
-    /// The place of its first byte: a byte offset from the module's start.
+    /// Returns the place of the first byte: a byte offset from the start of the module.
     pub fn place(&self) -> u64
         ensures { result ≡ self.now.place }
     {
         self.place
     }
 
-    /// What the value says, as the name of a tool.
+    /// Returns the name of the value, such as the name of a tool.
     pub fn name(&self) -> &'a str
         ensures { result.now ≡ self.now.value.name }
     {
         self.name
     }
 
-    /// Its version, which may be empty.
+    /// Returns the version, which may be empty.
     pub fn version(&self) -> &'a str
         ensures { result.now ≡ self.now.value.version }
     {
@@ -66,7 +67,7 @@ impl<'a> Value<'a> {
     }
 }
 
-/// The values of a field, one after the other.
+/// The values of a field.
 pub type Values<'a> = ItemsIn<Value<'a>>;
 
 /// A field: a name and values.
@@ -97,14 +98,14 @@ impl<'a> ReadFrom for ProducersField<'a> {
 }
 
 impl<'a> ProducersField<'a> {
-    /// Its name.
+    /// Returns the name of the field.
     pub fn name(&self) -> &'a str
         ensures { result.now ≡ self.now.name }
     {
         self.name
     }
 
-    /// Its values in order.
+    /// Returns the values of the field in order.
     pub fn values(&self) -> Values<'a>
         ensures { result ≡ self.now.values }
     {
@@ -112,10 +113,10 @@ impl<'a> ProducersField<'a> {
     }
 }
 
-/// The fields of a section, one after the other.
+/// The fields of a section.
 pub type Producers<'a> = ItemsIn<ProducersField<'a>>;
 
-/// Reads the fields that are all of a section.
+/// Reads the fields of a section, which must take all of its bytes.
 pub(crate) fn read_producers<'a>(section: Cursor<'a>) -> Option<Producers<'a>>
     ensures { result ≡ producers.parse section.entry }
 {
@@ -126,7 +127,7 @@ pub(crate) fn read_producers<'a>(section: Cursor<'a>) -> Option<Producers<'a>>
     }
 }
 
-/// Whether the name of each field can head a group.
+/// Reports whether the name of each field can be the first word of a group.
 pub(crate) fn are_runs(fields: Producers) -> bool
     ensures { result ≡ are_runs fields.entry }
 {

@@ -1,4 +1,4 @@
-//! What a custom section is to the text.
+//! How the text represents a custom section.
 ghost use Rattle.std.specs.Prelude.{◌≡◌, ◌+◌, ◌<◌, ◌^◌, length};
 ghost use Rattle.wasmprinter_spec.specs.Placed.{custom_of};
 ghost use Rattle.wasmprinter_spec.specs.Customs.{custom_role_of, producers_role, dylink_role};
@@ -11,33 +11,33 @@ use crate::hints::HINT_SECTION;
 use crate::producers::{Producers, are_runs, read_producers};
 use wasmprinter_bytes::bytes::Cursor;
 
-/// The name of sections that give names.
+/// The name of name sections.
 const NAME_SECTION: &str = "name";
 
-/// The name of sections that say what made the module.
+/// The name of the section that lists the tools that produced the module.
 const PRODUCERS_SECTION: &str = "producers";
 
-/// The name of sections for dynamic linking.
+/// The name of the section for dynamic linking.
 const DYLINK_SECTION: &str = "dylink.0";
 
-/// What a custom section is to the text. (Match on a reference to it: its lists are given again by `iter`.)
+/// How the text represents a custom section. Match on a reference to it: `iter` returns its lists again.
 #[derive(Drop)]
 pub enum CustomRole<'a> {
-    /// Its names stand in the text, or its hints.
+    /// Nothing is printed for the section; its names or hints occur in the text.
     Silent,
     /// The fields of `producers`.
     Producers(Producers<'a>),
     /// The subsections of `dylink.0`.
     Dylink(Dylink<'a>),
-    /// A subsection of `dylink.0` has this id, which isn't known.
+    /// A subsection of `dylink.0` has this unknown id.
     Refused(u8),
-    /// It stands in the text as it is.
+    /// The section is printed as raw bytes.
     Raw,
-    /// It stands in the text as it is, behind a line that tells of its fault.
+    /// The section is printed as raw bytes, after a line that reports its error.
     Faulted,
 }
 
-/// The role of a section `producers`.
+/// Returns the role of a `producers` section.
 fn producers_role(section: Cursor) -> CustomRole
     ensures { role_view result ≡ producers_role (producers.parse section.entry) }
 {
@@ -48,7 +48,7 @@ fn producers_role(section: Cursor) -> CustomRole
     }
 }
 
-/// The role of a section `dylink.0`.
+/// Returns the role of a `dylink.0` section.
 fn dylink_role(section: Cursor) -> CustomRole
     ensures { role_view result ≡ dylink_role (judgement_of section.entry) }
 {
@@ -59,7 +59,7 @@ fn dylink_role(section: Cursor) -> CustomRole
     }
 }
 
-/// What the custom section of this name is to the text; its bytes behind the name begin at the place.
+/// Returns the role of a custom section. `place` is the place of its bytes after the name.
 pub fn custom_role<'a>(name: &str, place: u64, bytes: &'a [u8]) -> CustomRole<'a>
     requires { place + length bytes.now < 2 ^ 64 }
     ensures { role_view result ≡ custom_role_of (custom_of name.now (record { place = place; value = bytes.now })) }

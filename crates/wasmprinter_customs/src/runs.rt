@@ -1,19 +1,19 @@
-//! Names that can stand as a word (section 6.3 of the WebAssembly Core Specification, "Identifiers").
+//! Names that can occur as a word in the text (section 6.3 of the WebAssembly Core Specification, "Identifiers").
 ghost use Rattle.std.specs.Prelude.{◌≡◌};
 ghost use Rattle.wasmprinter_spec.specs.Character.{class};
 ghost use Rattle.wasmprinter_spec.specs.Quoted.{runs, all_run, is_run};
 
-/// The printable characters, but the blank, that don't stand in a word.
+/// The printable characters, other than the space, that are not allowed in a word.
 const NOT_IN_WORDS: [u8; 9] = [b'"', b'(', b')', b',', b';', b'[', b']', b'{', b'}'];
 
-/// Whether a byte is an identifier character.
+/// Reports whether a byte is an identifier character.
 fn runs(byte: u8) -> bool
     ensures { result ≡ runs (class byte) }
 {
     byte.is_ascii_graphic() && !NOT_IN_WORDS.contains(&byte)
 }
 
-/// Whether all bytes are identifier characters.
+/// Reports whether all bytes are identifier characters.
 fn all_run(bytes: &[u8]) -> bool
     ensures { result ≡ all_run bytes.now }
 {
@@ -25,7 +25,7 @@ fn all_run(bytes: &[u8]) -> bool
     true
 }
 
-/// Whether a name has identifier characters alone, and one at least.
+/// Reports whether a name consists of one or more identifier characters.
 pub(crate) fn is_run(name: &str) -> bool
     ensures { result ≡ is_run name.now }
 {

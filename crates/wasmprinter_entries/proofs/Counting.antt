@@ -1,4 +1,4 @@
--- Counts in front of lists.
+-- Counts before lists.
 use Rattle.std.proofs.Common.{◌≡◌, ℕ, ◌<◌, List, length, Some, sym, ap, ◌∙◌, arith}
 use Rattle.wasmprinter_spec.specs.Grammar.{Input, Grammar, ◌>>=◌, bind_some, some_is, seq}
 use Rattle.wasmprinter_spec.specs.Name.{u32, vec}
@@ -7,7 +7,7 @@ use Rattle.wasmprinter_bytes.specs.Lists.{CountsItems}
 use Rattle.wasmprinter_entries.specs.Contents.{CountStands}
 
 module _ {A : Type 0} (g : Grammar A) (at : Input) (x : List A × Input) (read : (vec g).parse at ≡ Some x) where
-  -- in front of a list stands the number of its items
+  -- The count before a list is the number of its items.
   pub vec_counted : CountStands at (length x.0)
   vec_counted =
       let (listed, parsed, given) = bind_some ((seq u32 (λ n. times g n)).parse at) (λ ((_, xs), rest). Some (xs, rest)) x read in
@@ -20,11 +20,11 @@ module _ {A : Type 0} (g : Grammar A) (at : Input) (x : List A × Input) (read :
       let same : count ≡ length x.0 = sym (times_sound g count after items has_items).spelled.0 ∙ ap length (first ∙ made) in
       record { after = after; counted = has_count ∙ ap (λ (n : ℕ). Some (n, after)) same }
 
-  -- which is a count above zero if there are items
+  -- If a list has items, its count is above zero.
   pub counts_items : 0 < length x.0 → CountsItems at
   counts_items some = let v = vec_counted in record { count = length x.0; after = v.after; counted = v.counted; some = some }
 
-  -- and there are items if the count is above zero
+  -- If the count is above zero, the list has items.
   pub vec_some : CountsItems at → 0 < length x.0
   vec_some c =
       let v = vec_counted in

@@ -1,4 +1,4 @@
--- Lists that are all that a section holds.
+-- Lists that are the whole content of a section.
 use Rattle.std.proofs.Common.{◌≡◌, ℕ, ◌<◌, List, length, Some, None, refl, sym, ap, ◌∙◌, arith}
 use Rattle.wasmprinter_spec.specs.Grammar.{Input, Grammar, some_is}
 use Rattle.wasmprinter_spec.specs.Sized.{alone}
@@ -13,11 +13,11 @@ use Rattle.wasmprinter_entries.specs.Contents.{item_count, whole_reasons, conten
 use Rattle.wasmprinter_entries.proofs.Parts.{alone_some, alone_none}
 use Rattle.wasmprinter_entries.proofs.Counting.{vec_counted, counts_items, vec_some}
 
--- a list that stands alone behind a count above zero has items
+-- A list that takes all bytes, with a count above zero, has items.
 pub alone_items : {A : Type 0} (g : Grammar A) (at : Input) → CountsItems at → (x : List A) → (alone (vec g)).parse at ≡ Some x → 0 < length x
 alone_items g at c x e = let s = alone_some (vec g) at x e in vec_some g at (x, s.0) s.1 c
 
--- a fault of a list, whose items may want memory, is one of the section that is the list
+-- An error of a list for whose items memory may be allocated is an error of the section that contains the list.
 pub grown_fault : {A : Type 0} (g : Grammar A) (made : List A → Section) (items functions : Type 0) → items
     → ((xs : List A) → item_count (made xs) ≡ length xs) → (at : Input) (f : Error)
     → HasReason (reader_reasons ((vec g).parse at ≡ None) (CountsItems at) at) f → HasReason (whole_reasons (alone (vec g)) made items functions at) f
@@ -31,7 +31,7 @@ grown_fault g made items functions listed counts at =
       memory = λ h. (listed, h, λ x e. let some = alone_items g at h x e in omega (arith, counts x));
     })
 
--- the same of a list that wants memory behind its first item alone
+-- The same for a list that allocates only after its first item.
 pub list_fault : {A : Type 0} (g : Grammar A) (made : List A → Section) (items functions : Type 0) → items
     → ((xs : List A) → item_count (made xs) ≡ length xs) → (at : Input) (f : Error)
     → HasReason (reader_reasons ((vec g).parse at ≡ None) (BeginsList g.parse at) at) f → HasReason (whole_reasons (alone (vec g)) made items functions at) f
@@ -39,7 +39,7 @@ list_fault g made items functions listed counts at f h =
     grown_fault g made items functions listed counts at f
     (part_fault ((vec g).parse at ≡ None) (BeginsList g.parse at) ((vec g).parse at ≡ None) (CountsItems at) at at (λ none. none) (λ b. b.counts) refl f h)
 
--- memory was wanting for what a list holds, which has items
+-- If an allocation failed for a list with items, this is a reason for `Memory` of the section.
 pub list_grown : {A : Type 0} (g : Grammar A) (made : List A → Section) (items functions : Type 0) → items
     → ((xs : List A) → item_count (made xs) ≡ length xs) → (at : Input) (x : List A × Input)
     → (vec g).parse at ≡ Some x → 0 < length x.0 → (whole_reasons (alone (vec g)) made items functions at).memory
@@ -47,7 +47,7 @@ list_grown g made items functions listed counts at x read some =
     let c = counts_items g at x read some in
     (listed, c, λ y e. let held = alone_items g at c y e in omega (arith, counts y))
 
--- a fault of type indices is one of the function section
+-- An error of the type indices is an error of the function section.
 pub functions_fault : (at : Input) (f : Error) → HasReason (indices_reasons at) f → HasReason (content_reasons FunctionSection at) f
 functions_fault at = reason_implied (indices_reasons at) (content_reasons FunctionSection at) (record {
   malformed = λ place h. (alone_none (vec u32) at h.0, h.1);

@@ -1,4 +1,4 @@
--- Reading what sections hold.
+-- Reading the contents of sections.
 use Rattle.std.specs.Prelude.{◌≡◌, ℕ, ◌<◌, ◌≤◌, List, length, Option, Some, None, Result, Ok, Err}
 use Rattle.std.specs.List.{AllByRecursion}
 use Rattle.wasmprinter_spec.specs.Grammar.{Input, Remainder, Placed}
@@ -15,17 +15,18 @@ use Rattle.wasmprinter_error.specs.Reasons.{Reasons, HasReason}
 use Rattle.wasmprinter_bytes.specs.Lists.{CountsItems}
 use Rattle.wasmprinter_entries.specs.Refusals.{HasManyLocals, HasEmptyInit, HoldsItems, AnyIsOver, PlacedTable, FirstIsEmpty}
 
--- ---- of each kind
+-- ---- Sections of each kind
 
--- a body of no more locals than are allowed
+-- The body has at most as many locals as are allowed.
 abbrev pub HasFew : Placed Body → Type 0
 HasFew b = local_count b.value.locals ≤ most_locals
 
--- the table has no initialiser without operators
+-- The table does not have an empty initialiser.
 abbrev pub HasNoEmpty : PlacedTable → Type 0
 HasNoEmpty t = HasNoEmptyInit t.value.init
 
--- the section's bodies have no more locals than are allowed, there are no more functions, and no table has an empty initialiser
+-- The section is within the limits: no body has too many locals, there are not too many functions, and no table
+-- has an empty initialiser.
 abbrev pub IsSmall : SectionValue → Type 0
 IsSmall (holds CustomSection c) = Unit {0}
 IsSmall (holds TypeSection ts) = Unit {0}
@@ -42,7 +43,8 @@ IsSmall (holds DataCountSection n) = Unit {0}
 IsSmall (holds CodeSection bs) = AllByRecursion HasFew bs
 IsSmall (holds DataSection ds) = Unit {0}
 
--- how many items the section holds; a custom section is one itself, and the start function and the data count are none
+-- The number of items in the section. A custom section is one item; the start function and the
+-- data count are no items.
 abbrev pub item_count : SectionValue → ℕ
 item_count (holds CustomSection c) = 1
 item_count (holds TypeSection ts) = length ts
@@ -59,21 +61,21 @@ item_count (holds DataCountSection n) = 0
 item_count (holds CodeSection bs) = length bs
 item_count (holds DataSection ds) = length ds
 
--- the section holds the type indices of so many functions
+-- The section is a function section with `count` type indices.
 abbrev pub HasCount : ℕ → SectionValue → Type 0
 HasCount count s = (is : List ℕ) × (content_of FunctionSection s ≡ Some is) × (length is ≡ count)
 
--- it holds bodies of which one begins at the place and has too many locals
+-- The section is a code section, and a body at the place has too many locals.
 abbrev pub HasOver : ℕ → SectionValue → Type 0
 HasOver place s = (bs : List (Placed Body)) × (content_of CodeSection s ≡ Some bs) × AnyIsOver place bs
 
--- it holds tables of which the first with an empty initialiser begins at the place
+-- The section is a table section, and its first table with an empty initialiser is at the place.
 abbrev pub HasEmpty : ℕ → SectionValue → Type 0
 HasEmpty place s = (ts : List PlacedTable) × (content_of TableSection s ≡ Some ts) × FirstIsEmpty place ts
 
--- ---- what stands in front of the end of a section
+-- ---- Type indices, before the end of the section is checked
 
--- type indices stand there, more than functions are allowed
+-- The bytes encode a list of type indices, which is longer than the limit on functions.
 pub record AreTooMany (at : Input) (count : ℕ) : Type 0 where
   pub indices : List ℕ
   pub after : Input
@@ -81,7 +83,7 @@ pub record AreTooMany (at : Input) (count : ℕ) : Type 0 where
   pub counted : length indices ≡ count
   pub many : most_functions < count
 
--- the type indices of a function section
+-- The reasons for errors when the type indices of a function section are read.
 abbrev pub indices_reasons : Input → Reasons
 indices_reasons at = record {
   malformed = λ place. ((vec u32).parse at ≡ None) × (place ≤ end_of at);
@@ -92,21 +94,21 @@ indices_reasons at = record {
   memory = CountsItems at;
 }
 
--- no more type indices than are allowed are read, or the refusal is true
+-- Type indices within the limit are read; or the error has its reason.
 abbrev pub TakesIndices : {X : Type 0} → (X → List ℕ) → Input → Result X Error → Input → Type 0
 TakesIndices items old (Ok v) new = ((vec u32).parse old ≡ Some (items v, new)) × (length (items v) ≤ most_functions)
 TakesIndices items old (Err e) new = HasReason (indices_reasons old) e
 
--- ---- all that a section holds
+-- ---- The whole content of a section
 
--- a count stands there, and it is this
+-- The bytes begin with this count.
 pub record CountStands (at : Input) (count : ℕ) : Type 0 where
   pub after : Input
   pub counted : u32.parse at ≡ Some (count, after)
 
--- Why the content of a section may be refused, which is spelled so and makes this section. `items` says whether it is a list of items, and
--- `functions` whether it may be refused for its functions. What is said of the content is true of what stands
--- there, if it is spelled at all.
+-- The reasons why the content of a section may be rejected. `w` is the grammar of the content and `made` the section
+-- with it; `items` says whether it is a list of items, and `functions` whether it may have too many functions. A
+-- reason about the content is a statement about the section that the bytes encode, if they encode one.
 abbrev pub whole_reasons : {C : Type 0} → Remainder C → (C → SectionValue) → Type 0 → Type 0 → Input → Reasons
 whole_reasons {C} w made items functions at = record {
   malformed = λ place. (w.parse at ≡ None) × (place ≤ end_of at);
@@ -118,16 +120,16 @@ whole_reasons {C} w made items functions at = record {
   memory = items × CountsItems at × ((x : C) → w.parse at ≡ Some x → 0 < item_count (made x));
 }
 
--- the content of a section of the kind
+-- The reasons for errors when the content of a section of this kind is read.
 abbrev pub content_reasons : Kind → Input → Reasons
 content_reasons kind at = whole_reasons (content kind) (holds kind) (HoldsItems kind) (kind ≡ FunctionSection) at
 
--- the value takes all bytes, or nothing of the kind does
+-- The bytes encode the value and nothing after it; or, on an error, they do not encode a value.
 abbrev pub ReadsAll : {X A : Type 0} → (X → A) → (Input → Option A) → Input → Result X Malformed → Type 0
 ReadsAll view parse at (Ok x) = parse at ≡ Some (view x)
 ReadsAll view parse at (Err e) = (parse at ≡ None) × (e.place ≤ end_of at)
 
--- content of the kind within the limits takes all bytes, or the refusal is true
+-- The bytes encode content of this kind, which is within the limits; or the error has its reason.
 abbrev pub TakesHeld : (kind : Kind) → {X : Type 0} → (X → Content kind) → Input → Result X Error → Type 0
 TakesHeld kind view at (Ok v) = ((content kind).parse at ≡ Some (view v)) × IsSmall (holds kind (view v))
 TakesHeld kind view at (Err e) = HasReason (content_reasons kind at) e

@@ -1,4 +1,4 @@
--- The program's limits, types of what is imported and defined, and kinds of what is given out, and those of the definitions.
+-- The program's limits, types and kinds of imports and exports, and those of the definitions that they represent.
 use Rattle.std.specs.Prelude.{ℕ, ◌<◌, List, length, Option, Some, None}
 use Rattle.wasmprinter_spec.specs.Grammar.{Placed}
 use Rattle.wasmprinter_spec.specs.Types.{limits_of, memory_type_of, table_type_of, global_type_of, FuncKind, TableKind, MemoryKind, GlobalKind, TagKind, FuncExtern, TableExtern, MemoryExtern, GlobalExtern, TagExtern}
@@ -15,23 +15,23 @@ use Rattle.wasmprinter_entries.specs.declared.exports.ExternKind.TheVariants as 
 use Rattle.wasmprinter_entries.specs.declared.imports.ExternType.{ExternType}
 use Rattle.wasmprinter_entries.specs.declared.imports.ExternType.TheVariants as x
 
--- the limits of the definitions
+-- The limits that limits of the program represent.
 abbrev pub limits_view : Limits → DefinedLimits
 limits_view l = limits_of l.min l.max
 
--- the type of memories of the definitions
+-- The memory type that a memory type of the program represents.
 abbrev pub memory_type_view : MemoryType → DefinedMemory
 memory_type_view m = memory_type_of m.wide m.shared (limits_view m.limits) m.page
 
--- the type of tables of the definitions
+-- The table type that a table type of the program represents.
 abbrev pub table_type_view : TableType → DefinedTable
 table_type_view t = table_type_of t.wide (limits_view t.limits) (ref_view t.element)
 
--- the type of globals of the definitions
+-- The global type that a global type of the program represents.
 abbrev pub global_type_view : GlobalType → DefinedGlobal
 global_type_view g = global_type_of g.mutable (type_view g.ty)
 
--- what is imported, in the definitions
+-- The type of an import that a type of the program represents.
 abbrev pub extern_view : ExternType → DefinedExtern
 extern_view (x.Func i) = FuncExtern i
 extern_view (x.Table t) = TableExtern (table_type_view t)
@@ -39,12 +39,12 @@ extern_view (x.Memory m) = MemoryExtern (memory_type_view m)
 extern_view (x.Global g) = GlobalExtern (global_type_view g)
 extern_view (x.Tag i) = TagExtern i
 
--- the exponent of the size of a page, if it is given, is that of a number of 64 bits
+-- The exponent of the page size, if given, is below 64.
 abbrev pub IsPage : Option ℕ → Type 0
 IsPage None = Unit {0}
 IsPage (Some exponent) = exponent < 64
 
--- the same of a memory that is imported
+-- The same for an imported memory.
 abbrev pub HasPage : ExternType → Type 0
 HasPage (x.Func i) = Unit {0}
 HasPage (x.Table t) = Unit {0}
@@ -52,7 +52,7 @@ HasPage (x.Memory m) = IsPage m.page
 HasPage (x.Global g) = Unit {0}
 HasPage (x.Tag i) = Unit {0}
 
--- the kind of the definitions
+-- The kind that a kind of the program represents.
 abbrev pub kind_view : ExternKind → DefinedKind
 kind_view k.Func = FuncKind
 kind_view k.Table = TableKind
@@ -60,7 +60,7 @@ kind_view k.Memory = MemoryKind
 kind_view k.Global = GlobalKind
 kind_view k.Tag = TagKind
 
--- the kind of what is imported
+-- The kind of an import, by its type.
 abbrev pub kind_of_type : DefinedExtern → DefinedKind
 kind_of_type (FuncExtern i) = FuncKind
 kind_of_type (TableExtern t) = TableKind
@@ -68,7 +68,7 @@ kind_of_type (MemoryExtern t) = MemoryKind
 kind_of_type (GlobalExtern t) = GlobalKind
 kind_of_type (TagExtern i) = TagKind
 
--- how many imports are of a kind
+-- The number of imports of a kind.
 abbrev pub imported_count : DefinedKind → List (Placed Import) → ℕ
 imported_count FuncKind is = length (imported_types func_import (without_places is))
 imported_count TableKind is = length (imported_types table_import (without_places is))

@@ -1,4 +1,4 @@
--- What the contracts of sections without expressions cite.
+-- The definitions that the contracts of sections without expressions use.
 pub mod Externs
 pub mod Refusals
 pub mod Contents

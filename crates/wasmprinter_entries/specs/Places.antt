@@ -1,10 +1,10 @@
--- What custom sections stand behind.
+-- The sections that custom sections follow.
 use Rattle.std.specs.Prelude.{Option, option_map}
 use Rattle.wasmprinter_spec.specs.Kinds.{Kind, TypeSection, ImportSection, FunctionSection, TableSection, MemorySection, TagSection, GlobalSection, ExportSection, StartSection, ElementSection, CodeSection, DataSection}
 use Rattle.wasmprinter_entries.specs.declared.places.SectionKind.{SectionKind}
 use Rattle.wasmprinter_entries.specs.declared.places.SectionKind.TheVariants as k
 
--- the kind of the definitions
+-- The kind of section that a kind of the program represents.
 abbrev pub section_kind_view : SectionKind → Kind
 section_kind_view k.Type = TypeSection
 section_kind_view k.Import = ImportSection

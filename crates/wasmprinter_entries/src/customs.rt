@@ -11,7 +11,8 @@ use wasmprinter_error::Malformed;
 /// The name of name sections.
 const NAME_SECTION: &str = "name";
 
-/// A custom section: a name, and bytes that the standard gives no meaning, with the place of the section's content.
+/// A custom section: a name, and bytes to which the standard gives no meaning, with the place
+/// of the section's content.
 #[derive(Drop)]
 pub struct Custom<'a> {
     place: u64,
@@ -32,11 +33,11 @@ impl<'a> Model for Custom<'a> {
 }
 
 impl<'a> Custom<'a> {
-    /// Reads what a custom section holds.
+    /// Reads the content of a custom section.
     ///
     /// # Errors
     ///
-    /// `Malformed` where no name stands there, with the place of what may not stand there.
+    /// `Malformed` if the content does not begin with a name, with the place of the first unexpected byte or number.
     pub fn read(cursor: &mut Cursor<'a>) -> Result<Self, Malformed>
         ensures { ReadsAll (λ c. c) custom_section.parse cursor.old result }
     {
@@ -49,42 +50,43 @@ impl<'a> Custom<'a> {
         })
     }
 
-    /// The place of its name, with which the section's content begins: a byte offset from the module's start.
+    /// Returns the place of the name, which is the start of the section's content: a byte offset from
+    /// the start of the module.
     pub fn place(&self) -> u64
         ensures { result ≡ self.now.place }
     {
         self.place
     }
 
-    /// Its name.
+    /// Returns the name.
     pub fn name(&self) -> &'a str
         ensures { result.now ≡ self.now.value.name }
     {
         self.name
     }
 
-    /// The place of the first of its bytes: a byte offset from the module's start.
+    /// Returns the place of the first byte after the name: a byte offset from the start of the module.
     pub fn bytes_place(&self) -> u64
         ensures { result ≡ self.now.value.bytes.place }
     {
         self.content.place()
     }
 
-    /// Its bytes, behind the name.
+    /// Returns the bytes after the name.
     pub fn bytes(&self) -> &'a [u8]
         ensures { result.now ≡ self.now.value.bytes.value }
     {
         self.content.rest()
     }
 
-    /// A cursor over its bytes.
+    /// Returns a cursor over the bytes after the name.
     pub fn cursor(&self) -> Cursor<'a>
         ensures { result ≡ record { place = self.now.value.bytes.place; bytes = self.now.value.bytes.value } }
     {
         self.content.fork()
     }
 
-    /// Whether it is a name section.
+    /// Reports whether this is a name section.
     pub fn is_name_section(&self) -> bool
         ensures { result ≡ bytes_eq self.now.value.name name_section }
     {

@@ -1,4 +1,4 @@
-//! What has to stand at a place: one byte and no other, or the end of what a section holds.
+//! Checks for a specific byte, and for the end of a section's content.
 ghost use Rattle.std.specs.Prelude.{◌≡◌, ◌≤◌, [], MatchResult};
 ghost use Rattle.wasmprinter_spec.specs.FirstByte.{only};
 ghost use Rattle.wasmprinter_bytes.specs.Reads.{Reads, IsWithin, end_of};
@@ -6,11 +6,11 @@ ghost use Rattle.wasmprinter_bytes.specs.Reads.{Reads, IsWithin, end_of};
 use wasmprinter_bytes::bytes::Cursor;
 use wasmprinter_error::Malformed;
 
-/// Nothing may be left of what a section holds.
+/// Checks that no byte remains.
 ///
 /// # Errors
 ///
-/// `Malformed` where bytes are left, with the place of the first.
+/// `Malformed` if bytes remain, with the place of the first.
 pub fn expect_end(cursor: &Cursor) -> Result<(), Malformed>
     ensures { MatchResult result (λ _. cursor.now.bytes ≡ []) (λ e. (cursor.now.bytes ≡ [] → ⊥) × (e.place ≤ end_of cursor.now)) }
 {
@@ -23,11 +23,11 @@ pub fn expect_end(cursor: &Cursor) -> Result<(), Malformed>
     }
 }
 
-/// Reads the byte, and no other.
+/// Reads a byte that must equal `wanted`.
 ///
 /// # Errors
 ///
-/// `Malformed` where another byte stands there or none, with the place of it.
+/// `Malformed` if the byte differs or is missing, with its place.
 pub fn read_only(cursor: &mut Cursor, wanted: u8) -> Result<u8, Malformed>
     ensures reads { Reads (λ b. b) (only wanted).parse cursor.old result cursor.new }
     ensures within { IsWithin cursor.old result }

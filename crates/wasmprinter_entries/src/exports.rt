@@ -14,7 +14,7 @@ use wasmprinter_bytes::bytes::Cursor;
 use wasmprinter_bytes::lists::{SpelledIn, read_list};
 use wasmprinter_error::{Error, Malformed};
 
-/// What a module can take in and give out (section 2.3, "External Types").
+/// The kinds of items that a module can import and export (section 2.3, "External Types").
 #[derive(Clone, Copy, Debug, PartialEq, Eq)]
 pub enum ExternKind {
     /// A function.
@@ -23,14 +23,14 @@ pub enum ExternKind {
     Table,
     /// A memory.
     Memory,
-    /// A global variable.
+    /// A global.
     Global,
     /// A tag.
     Tag,
 }
 
 impl ExternKind {
-    /// The kind that is this byte.
+    /// Returns the kind that the byte encodes.
     fn of_byte(byte: u8) -> Option<ExternKind>
         ensures { option_map kind_view result ≡ extern_kind_of byte }
     {
@@ -56,7 +56,7 @@ impl ExternKind {
     }
 }
 
-/// What the module gives out under a name, with the entry's place.
+/// An export, with the place of its entry.
 #[derive(Drop)]
 pub struct Export<'a> {
     place: u64,
@@ -93,28 +93,28 @@ impl<'a> SpelledIn<'a> for Export<'a> {
 }
 
 impl<'a> Export<'a> {
-    /// The place of the entry: a byte offset from the module's start.
+    /// Returns the place of the entry: a byte offset from the start of the module.
     pub fn place(&self) -> u64
         ensures { result ≡ self.now.place }
     {
         self.place
     }
 
-    /// The name under which it is given out.
+    /// Returns the name of the export.
     pub fn name(&self) -> &'a str
         ensures { result.now ≡ self.now.value.name }
     {
         self.name
     }
 
-    /// What is given out.
+    /// Returns the kind of the exported item.
     pub fn kind(&self) -> ExternKind
         ensures { kind_view result ≡ self.now.value.kind }
     {
         self.kind
     }
 
-    /// Its index, among all of its kind.
+    /// Returns the index of the exported item in the index space of its kind.
     pub fn index(&self) -> u32
         ensures { result ≡ self.now.value.index }
     {
@@ -122,12 +122,13 @@ impl<'a> Export<'a> {
     }
 }
 
-/// Reads what an export section holds.
+/// Reads the content of an export section.
 ///
 /// # Errors
 ///
-/// `Malformed` where the bytes don't spell exports, a count in front, up to the end, with the place of
-/// what may not stand there; `Memory` where a growth is refused.
+/// - `Malformed` if the bytes do not encode a list of exports and nothing after it, with the place of the first
+///   unexpected byte or number.
+/// - `Memory` if an allocation fails.
 pub fn read_exports<'a>(alloc: Global, cursor: &mut Cursor<'a>) -> Result<Vec<Export<'a>>, Error>
     ensures { TakesHeld ExportSection (λ v. v.items) cursor.old result }
 {

@@ -1,8 +1,8 @@
-//! Flags: numbers of which each bit says something.
+//! Flags in the bits of a number.
 ghost use Rattle.std.specs.Prelude.{◌≡◌, ◌<◌};
 ghost use Rattle.wasmprinter_spec.specs.Binary.Limits.{has_bit as bit_of};
 
-/// Whether the bit of the flags is set; bit 0 is the lowest.
+/// Reports whether the bit of the flags is set. Bit 0 is the lowest.
 pub fn has_bit(flags: u32, bit: u32) -> bool
     requires { bit < 32 }
     ensures { result ≡ bit_of bit flags }

@@ -10,10 +10,10 @@ use wasmprinter_bytes::bytes::Cursor;
 use wasmprinter_bytes::lists::read_items;
 use wasmprinter_error::Error;
 
-/// The most functions that a module may define.
+/// The greatest number of functions that a module may define.
 const MOST_FUNCTIONS: u32 = 1_000_000;
 
-/// Reads the type indices of a function section, a count in front, which may not be too large.
+/// Reads a list of type indices that has at most `MOST_FUNCTIONS` items.
 fn read_type_indices(alloc: Global, cursor: &mut Cursor) -> Result<Vec<u32>, Error>
     ensures reads { TakesIndices (λ v. v.items) cursor.old result cursor.new }
     ensures end { end_of cursor.new ≡ end_of cursor.old }
@@ -30,13 +30,14 @@ fn read_type_indices(alloc: Global, cursor: &mut Cursor) -> Result<Vec<u32>, Err
     Ok(kept)
 }
 
-/// Reads what a function section holds.
+/// Reads the content of a function section.
 ///
 /// # Errors
 ///
-/// `Malformed` where the bytes don't spell type indices, a count in front, up to the end, with the place of
-/// what may not stand there; `TooManyFunctions` where there are more than 1,000,000;
-/// `Memory` where a growth is refused.
+/// - `Malformed` if the bytes do not encode a list of type indices and nothing after it, with the place of the first
+///   unexpected byte or number.
+/// - `TooManyFunctions` if there are more than 1,000,000.
+/// - `Memory` if an allocation fails.
 pub fn read_functions(alloc: Global, cursor: &mut Cursor) -> Result<Vec<u32>, Error>
     ensures { TakesHeld FunctionSection (λ v. v.items) cursor.old result }
 {

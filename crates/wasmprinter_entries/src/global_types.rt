@@ -1,4 +1,4 @@
-//! Types of globals (section 5.3, "Global Types").
+//! Global types (section 5.3, "Global Types").
 ghost use Rattle.std.specs.Prelude.{◌≡◌};
 ghost use Rattle.wasmprinter_spec.specs.Binary.Globals.{global_type as global_type_grammar};
 ghost use Rattle.wasmprinter_bytes.specs.Reads.{Reads, IsWithin, end_of};
@@ -9,21 +9,21 @@ use wasmprinter_error::Malformed;
 use wasmprinter_types::composite::read_mutability;
 use wasmprinter_types::{ValType, read_type};
 
-/// The type of a global variable (section 2.3, "Global Types").
+/// The type of a global (section 2.3, "Global Types").
 #[derive(Clone, Copy, Debug, PartialEq, Eq)]
 pub struct GlobalType {
-    /// Whether it can be changed.
+    /// Whether the global can be changed.
     pub mutable: bool,
-    /// What it holds.
+    /// The type of its value.
     pub ty: ValType,
 }
 
 impl GlobalType {
-    /// Reads what it holds, and whether it can be changed.
+    /// Reads the type of the value, and whether the global can be changed.
     ///
     /// # Errors
     ///
-    /// `Malformed` where the bytes don't spell the type of a global, with the place of what may not stand there.
+    /// `Malformed` if the bytes do not encode a global type, with the place of the first unexpected byte or number.
     pub fn read(cursor: &mut Cursor) -> Result<GlobalType, Malformed>
         ensures reads { Reads global_type_view global_type_grammar.parse cursor.old result cursor.new }
         ensures within { IsWithin cursor.old result }

@@ -1,4 +1,4 @@
-//! The import section (section 5.5, "Import Section"), with the types of what is imported (section 5.3, "External Types").
+//! The import section (section 5.5, "Import Section"), with the types of imports (section 5.3, "External Types").
 ghost use Rattle.std.specs.Prelude.{◌≡◌, ◌↔◌, IsTrue, IfOk};
 ghost use Rattle.wasmprinter_spec.specs.Grammar.{value_with_place};
 ghost use Rattle.wasmprinter_spec.specs.Binary.Imports.{extern_type as extern_type_grammar, import as import_grammar};
@@ -19,18 +19,18 @@ use wasmprinter_bytes::bytes::Cursor;
 use wasmprinter_bytes::lists::{SpelledIn, read_list};
 use wasmprinter_error::{Error, Malformed};
 
-/// What is imported, with its type (section 2.3, "External Types").
+/// The type of an import (section 2.3, "External Types").
 #[derive(Clone, Copy, Debug, PartialEq, Eq)]
 pub enum ExternType {
-    /// A function, by the index of its type.
+    /// A function, with the index of its type.
     Func(u32),
     /// A table.
     Table(TableType),
     /// A memory.
     Memory(MemoryType),
-    /// A global variable.
+    /// A global.
     Global(GlobalType),
-    /// A tag, by the index of its type.
+    /// A tag, with the index of its type.
     Tag(u32),
 }
 
@@ -53,7 +53,7 @@ impl ExternType {
         }
     }
 
-    /// Of what kind it is.
+    /// Returns the kind.
     pub fn kind(&self) -> ExternKind
         ensures { kind_view result ≡ kind_of_type (extern_view self.now) }
     {
@@ -67,7 +67,7 @@ impl ExternType {
     }
 }
 
-/// An import, with the entry's place (section 2.5, "Imports").
+/// An import, with the place of its entry (section 2.5, "Imports").
 #[derive(Drop)]
 pub struct Import<'a> {
     place: u64,
@@ -106,35 +106,35 @@ impl<'a> SpelledIn<'a> for Import<'a> {
 }
 
 impl<'a> Import<'a> {
-    /// The place of the entry: a byte offset from the module's start.
+    /// Returns the place of the entry: a byte offset from the start of the module.
     pub fn place(&self) -> u64
         ensures { result ≡ self.now.place }
     {
         self.place
     }
 
-    /// The name of the module that it comes from.
+    /// Returns the name of the module that the import comes from.
     pub fn module(&self) -> &'a str
         ensures { result.now ≡ self.now.value.source }
     {
         self.module
     }
 
-    /// Its name there.
+    /// Returns the name of the import in that module.
     pub fn name(&self) -> &'a str
         ensures { result.now ≡ self.now.value.name }
     {
         self.name
     }
 
-    /// Whether what is imported is of the kind.
+    /// Reports whether the import has this kind.
     pub fn is_of(&self, kind: ExternKind) -> bool
         ensures { IsTrue result ↔ (kind_of_type self.now.value.type ≡ kind_view kind) }
     {
         self.ty.kind() == kind
     }
 
-    /// What is imported; the exponent of the size of a memory's page is below 64.
+    /// Returns the type of the import. If it is a memory, the exponent of its page size is below 64.
     pub fn ty(&self) -> ExternType
         ensures is { extern_view result ≡ self.now.value.type }
         ensures page { HasPage result }
@@ -143,12 +143,13 @@ impl<'a> Import<'a> {
     }
 }
 
-/// Reads what an import section holds.
+/// Reads the content of an import section.
 ///
 /// # Errors
 ///
-/// `Malformed` where the bytes don't spell imports, a count in front, up to the end, with the place of
-/// what may not stand there; `Memory` where a growth is refused.
+/// - `Malformed` if the bytes do not encode a list of imports and nothing after it, with the place of the first
+///   unexpected byte or number.
+/// - `Memory` if an allocation fails.
 pub fn read_imports<'a>(alloc: Global, cursor: &mut Cursor<'a>) -> Result<Vec<Import<'a>>, Error>
     ensures { TakesHeld ImportSection (λ v. v.items) cursor.old result }
 {

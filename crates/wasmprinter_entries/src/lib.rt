@@ -1,6 +1,6 @@
-//! What sections hold without expressions (section 5.5 of the WebAssembly Core Specification, "Modules"): types, imports, type indices of
-//! functions, memories, tags, exports, the start function and custom sections, and the types of tables and globals, which imports have
-//! too.
+//! The contents of sections without expressions (section 5.5 of the WebAssembly Core Specification, "Modules"):
+//! types, imports, type indices of functions, memories, tags, exports, the start function and custom sections. Also
+//! the types of tables and globals, which imports have too.
 #![tactic(auto)]
 
 pub mod customs;

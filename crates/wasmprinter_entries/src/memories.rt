@@ -1,5 +1,4 @@
-//! The memory section (section 5.5, "Memory Section"), with types of memories (section 5.3, "Memory
-//! Types").
+//! The memory section (section 5.5, "Memory Section"), with memory types (section 5.3, "Memory Types").
 ghost use Rattle.std.specs.Prelude.{◌≡◌, ◌<◌, IfOk};
 ghost use Rattle.wasmprinter_spec.specs.Grammar.{value_with_place};
 ghost use Rattle.wasmprinter_spec.specs.Binary.Memories.{page as page_grammar, memory_type as memory_type_grammar};
@@ -17,30 +16,29 @@ use wasmprinter_bytes::bytes::Cursor;
 use wasmprinter_bytes::lists::{SpelledIn, read_list};
 use wasmprinter_error::{Error, Malformed};
 
-/// Flags are below this.
+/// The flags are below this.
 const FLAGS_END: u32 = 16;
 
 /// The bit of the flags that says that the memory is shared.
 const SHARED_BIT: u32 = 1;
 
-/// The bit of the flags that says that the size of a page is given.
+/// The bit of the flags that says that the page size is given.
 const PAGE_BIT: u32 = 3;
 
 /// The type of a memory (section 2.3, "Memory Types").
 #[derive(Clone, Copy, Debug, PartialEq, Eq)]
 pub struct MemoryType {
-    /// Whether addresses have 64 bits; if not, they have 32.
+    /// Whether addresses have 64 bits, not 32.
     pub wide: bool,
-    /// Whether threads may share it.
+    /// Whether threads may share the memory.
     pub shared: bool,
-    /// Its size in pages.
+    /// The size in pages.
     pub limits: Limits,
-    /// The exponent of the size of a page in bytes, which is a power of two; `None` where none is
-    /// given, which means 16.
+    /// The exponent of the page size in bytes, a power of two. `None` if it is not given, which means 16.
     pub page: Option<u32>,
 }
 
-/// A memory that the module defines, with the entry's place.
+/// A memory that the module defines, with the place of its entry.
 #[derive(Drop)]
 pub struct Memory {
     place: u64,
@@ -59,7 +57,7 @@ impl Model for Memory {
     ghost invariant = { λ m. IsPage m.ty.page };
 }
 
-/// Reads the exponent of the size of a page, if it is given.
+/// Reads the exponent of the page size, if it is given.
 fn read_page(cursor: &mut Cursor, is_given: bool) -> Result<Option<u32>, Malformed>
     ensures reads { Reads (λ p. p) (page_grammar is_given).parse cursor.old result cursor.new }
     ensures within { IsWithin cursor.old result }
@@ -79,7 +77,7 @@ fn read_page(cursor: &mut Cursor, is_given: bool) -> Result<Option<u32>, Malform
 }
 
 impl MemoryType {
-    /// Reads the flags, the limits and the size of a page.
+    /// Reads the flags, the limits and the page size.
     pub(crate) fn read(cursor: &mut Cursor) -> Result<MemoryType, Malformed>
         ensures reads { Reads memory_type_view memory_type_grammar.parse cursor.old result cursor.new }
         ensures within { IsWithin cursor.old result }
@@ -113,14 +111,14 @@ impl<'a> SpelledIn<'a> for Memory {
 }
 
 impl Memory {
-    /// The place of the entry: a byte offset from the module's start.
+    /// Returns the place of the entry: a byte offset from the start of the module.
     pub fn place(&self) -> u64
         ensures { result ≡ self.now.place }
     {
         self.place
     }
 
-    /// Its type, in which the exponent of the size of a page is below 64.
+    /// Returns the type. The exponent of its page size is below 64.
     pub fn ty(&self) -> MemoryType
         ensures is { memory_type_view result ≡ self.now.value }
         ensures page { IsPage result.page }
@@ -129,12 +127,13 @@ impl Memory {
     }
 }
 
-/// Reads what a memory section holds.
+/// Reads the content of a memory section.
 ///
 /// # Errors
 ///
-/// `Malformed` where the bytes don't spell types of memories, a count in front, up to the end, with the place of
-/// what may not stand there; `Memory` where a growth is refused.
+/// - `Malformed` if the bytes do not encode a list of memory types and nothing after it, with the place of the first
+///   unexpected byte or number.
+/// - `Memory` if an allocation fails.
 pub fn read_memories(alloc: Global, cursor: &mut Cursor) -> Result<Vec<Memory>, Error>
     ensures { TakesHeld MemorySection (λ v. v.items) cursor.old result }
 {

@@ -1,9 +1,9 @@
-//! Custom sections among the others (section 5.5, "Modules").
+//! The places of custom sections among the other sections (section 5.5, "Modules").
 
 use crate::customs::Custom;
 use std::marker::Model;
 
-/// The kind of a section behind which custom sections can stand.
+/// The kind of a section after which custom sections can be placed.
 #[derive(Clone, Copy, Debug, PartialEq, Eq)]
 pub enum SectionKind {
     /// Types.
@@ -18,7 +18,7 @@ pub enum SectionKind {
     Memory,
     /// Tags.
     Tag,
-    /// Global variables.
+    /// Globals.
     Global,
     /// Exports.
     Export,
@@ -32,12 +32,12 @@ pub enum SectionKind {
     Data,
 }
 
-/// A custom section, with the kind of the last section in front of it that holds something.
+/// A custom section, with the kind of the last section before it that is not empty.
 #[derive(Drop)]
 pub struct CustomEntry<'a> {
-    /// What it stands behind, `None` for the beginning of the module.
+    /// The section that it follows, or `None` at the start of the module.
     pub behind: Option<SectionKind>,
-    /// The section.
+    /// The custom section.
     pub section: Custom<'a>,
 }
 

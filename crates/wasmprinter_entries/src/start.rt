@@ -8,7 +8,7 @@ use std::marker::Model;
 use wasmprinter_bytes::bytes::Cursor;
 use wasmprinter_error::Malformed;
 
-/// The function that is called when the module is instantiated (section 2.5, "Start Function"),
+/// The start function, which is called when the module is instantiated (section 2.5, "Start Function"),
 /// with the place of its index.
 #[derive(Clone, Copy)]
 pub struct Start {
@@ -28,14 +28,14 @@ impl Model for Start {
 }
 
 impl Start {
-    /// The place of the function's index: a byte offset from the module's start.
+    /// Returns the place of the function's index: a byte offset from the start of the module.
     pub fn place(&self) -> u64
         ensures { result ≡ self.now.place }
     {
         self.place
     }
 
-    /// The index of the function.
+    /// Returns the index of the function.
     pub fn function(&self) -> u32
         ensures { result ≡ self.now.value }
     {
@@ -43,11 +43,12 @@ impl Start {
     }
 }
 
-/// Reads what a start section holds.
+/// Reads the content of a start section.
 ///
 /// # Errors
 ///
-/// `Malformed` where the bytes don't spell the index of a function and nothing behind it, with the place of what may not stand there.
+/// `Malformed` if the bytes do not encode a function index and nothing after it, with the place of the first
+/// unexpected byte or number.
 pub fn read_start(cursor: &mut Cursor) -> Result<Start, Malformed>
     ensures { ReadsAll (λ s. Some s) start_section.parse cursor.old result }
 {

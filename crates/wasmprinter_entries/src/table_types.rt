@@ -1,4 +1,4 @@
-//! Types of tables (section 5.3, "Table Types").
+//! Table types (section 5.3, "Table Types").
 ghost use Rattle.std.specs.Prelude.{◌≡◌};
 ghost use Rattle.wasmprinter_spec.specs.Binary.Tables.{table_type as table_type_grammar};
 ghost use Rattle.wasmprinter_bytes.specs.Reads.{Reads, IsWithin, end_of};
@@ -10,35 +10,35 @@ use wasmprinter_bytes::bytes::Cursor;
 use wasmprinter_error::Malformed;
 use wasmprinter_types::{RefType, read_ref_type};
 
-/// Flags of a least size alone, with indices of 32 bits.
+/// The flags of limits without a maximum, with 32-bit indices.
 const MIN: u32 = 0x00;
 
-/// Flags of a least and a greatest size, with indices of 32 bits.
+/// The flags of limits with a maximum, with 32-bit indices.
 const MIN_MAX: u32 = 0x01;
 
-/// Flags of a least size alone, with indices of 64 bits.
+/// The flags of limits without a maximum, with 64-bit indices.
 const MIN_WIDE: u32 = 0x04;
 
-/// Flags of a least and a greatest size, with indices of 64 bits.
+/// The flags of limits with a maximum, with 64-bit indices.
 const MIN_MAX_WIDE: u32 = 0x05;
 
 /// The type of a table (section 2.3, "Table Types").
 #[derive(Clone, Copy, Debug, PartialEq, Eq)]
 pub struct TableType {
-    /// Whether indices have 64 bits; if not, they have 32.
+    /// Whether indices have 64 bits, not 32.
     pub wide: bool,
-    /// How many elements it has.
+    /// The size in elements.
     pub limits: Limits,
-    /// What it holds.
+    /// The type of the elements.
     pub element: RefType,
 }
 
 impl TableType {
-    /// Reads what the table holds, the flags, and the limits.
+    /// Reads the type of the elements, the flags, and the limits.
     ///
     /// # Errors
     ///
-    /// `Malformed` where the bytes don't spell the type of a table, with the place of what may not stand there.
+    /// `Malformed` if the bytes do not encode a table type, with the place of the first unexpected byte or number.
     pub fn read(cursor: &mut Cursor) -> Result<TableType, Malformed>
         ensures reads { Reads table_type_view table_type_grammar.parse cursor.old result cursor.new }
         ensures within { IsWithin cursor.old result }

@@ -13,10 +13,10 @@ use wasmprinter_bytes::bytes::Cursor;
 use wasmprinter_bytes::lists::{SpelledIn, read_list};
 use wasmprinter_error::{Error, Malformed};
 
-/// In front of the type index of a tag: it is that of an exception.
+/// The byte before the type index of a tag: the tag is that of an exception.
 const EXCEPTION: u8 = 0x00;
 
-/// A tag that the module defines, with the entry's place (section 2.5, "Tags").
+/// A tag that the module defines, with the place of its entry (section 2.5, "Tags").
 #[derive(Drop)]
 pub struct Tag {
     place: u64,
@@ -32,7 +32,7 @@ impl Model for Tag {
     ghost view = { λ t. record { place = t.place; value = t.type_index } };
 }
 
-/// Reads the byte of exceptions and the index of a type.
+/// Reads the byte of exceptions and a type index.
 pub(crate) fn read_tag_type(cursor: &mut Cursor) -> Result<u32, Malformed>
     ensures reads { Reads (λ n. n) tag_grammar.parse cursor.old result cursor.new }
     ensures within { IsWithin cursor.old result }
@@ -53,14 +53,14 @@ impl<'a> SpelledIn<'a> for Tag {
 }
 
 impl Tag {
-    /// The place of the entry: a byte offset from the module's start.
+    /// Returns the place of the entry: a byte offset from the start of the module.
     pub fn place(&self) -> u64
         ensures { result ≡ self.now.place }
     {
         self.place
     }
 
-    /// The index of its type.
+    /// Returns the index of the type.
     pub fn type_index(&self) -> u32
         ensures { result ≡ self.now.value }
     {
@@ -68,12 +68,13 @@ impl Tag {
     }
 }
 
-/// Reads what a tag section holds.
+/// Reads the content of a tag section.
 ///
 /// # Errors
 ///
-/// `Malformed` where the bytes don't spell tags, a count in front, up to the end, with the place of
-/// what may not stand there; `Memory` where a growth is refused.
+/// - `Malformed` if the bytes do not encode a list of tags and nothing after it, with the place of the first
+///   unexpected byte or number.
+/// - `Memory` if an allocation fails.
 pub fn read_tags(alloc: Global, cursor: &mut Cursor) -> Result<Vec<Tag>, Error>
     ensures { TakesHeld TagSection (λ v. v.items) cursor.old result }
 {

@@ -1,4 +1,4 @@
-//! The type section (section 5.5, "Type Section"): groups of types.
+//! The type section (section 5.5, "Type Section"): recursion groups of types.
 ghost use Rattle.std.specs.Prelude.{◌≡◌, ◌+◌, ◌++◌, ◌<◌, ◌^◌, [], length, true, IfOk, OnOk, OnErr, option_map};
 ghost use Rattle.wasmprinter_spec.specs.Grammar.{value_with_place};
 ghost use Rattle.wasmprinter_spec.specs.Types.{all_types, signature_at, fields_at};
@@ -15,10 +15,10 @@ use wasmprinter_bytes::lists::{SpelledIn, read_list};
 use wasmprinter_error::{Error, Malformed};
 use wasmprinter_types::composite::{CompositeType, FuncType, SubType, SubTypes};
 
-/// In front of types that are written as a group.
+/// The byte before the types of an explicit group.
 const REC: u8 = 0x4e;
 
-/// A group of types, which may refer to one another, with the group's place (section 2.3, "Recursive Types").
+/// A group of types, which may refer to one another, with the place of the group (section 2.3, "Recursive Types").
 #[derive(Drop)]
 pub struct TypeGroup<'a> {
     place: u64,
@@ -59,21 +59,22 @@ impl<'a> SpelledIn<'a> for TypeGroup<'a> {
 }
 
 impl<'a> TypeGroup<'a> {
-    /// The place of the group's first byte: a byte offset from the module's start.
+    /// Returns the place of the group's first byte: a byte offset from the start of the module.
     pub fn place(&self) -> u64
         ensures { result ≡ self.now.place }
     {
         self.place
     }
 
-    /// Whether the types are written as a group; if not, there is one type, which stands by itself.
+    /// Reports whether the group is explicit. If not, it is a single type that is not in a group.
     pub fn is_written(&self) -> bool
         ensures { result ≡ self.now.value.written }
     {
         self.is_written
     }
 
-    /// The place behind the first two bytes of a written group. The lines of all its types begin with it.
+    /// Returns the place after the first two bytes of an explicit group. The lines of all its
+    /// types start with this place.
     pub fn types_place(&self) -> u64
         requires { self.now.value.written ≡ true }
         ensures { result ≡ self.now.place + 2 }
@@ -81,7 +82,7 @@ impl<'a> TypeGroup<'a> {
         self.place + 2
     }
 
-    /// The types of the group.
+    /// Returns the types of the group.
     pub fn types(&self) -> SubTypes<'a>
         ensures { result ≡ self.now.value.types }
     {
@@ -89,7 +90,7 @@ impl<'a> TypeGroup<'a> {
     }
 }
 
-/// Adds the types of a group to others.
+/// Appends the types of a group to `types`.
 fn add_types<'a>(types: &mut Vec<SubType<'a>>, group: &TypeGroup<'a>) -> Result<(), AllocError>
     ensures { OnOk result (types.new.items ≡ types.old.items ++ group.now.value.types) }
 {
@@ -99,7 +100,7 @@ fn add_types<'a>(types: &mut Vec<SubType<'a>>, group: &TypeGroup<'a>) -> Result<
     Ok(())
 }
 
-/// The types of all groups, by their indices.
+/// Returns the types of all groups, by their indices.
 fn types_of_groups<'a>(
     alloc: Global,
     groups: &[TypeGroup<'a>],
@@ -114,7 +115,7 @@ fn types_of_groups<'a>(
     Ok(types)
 }
 
-/// What a type section holds.
+/// The content of a type section.
 #[derive(Drop)]
 pub struct Types<'a> {
     groups: Vec<TypeGroup<'a>>,
@@ -137,7 +138,7 @@ impl<'a> Model for Types<'a> {
 }
 
 impl<'a> Types<'a> {
-    /// No types.
+    /// Returns an empty list of types.
     pub fn new(alloc: Global) -> Self
         ensures { result ≡ [] }
     {
@@ -147,12 +148,13 @@ impl<'a> Types<'a> {
         }
     }
 
-    /// Reads what a type section holds.
+    /// Reads the content of a type section.
     ///
     /// # Errors
     ///
-    /// `Malformed` where the bytes don't spell groups of types, a count in front, up to the end, with the place of
-    /// what may not stand there; `Memory` where a growth is refused.
+    /// - `Malformed` if the bytes do not encode a list of groups and nothing after it, with the place of the first
+    ///   unexpected byte or number.
+    /// - `Memory` if an allocation fails.
     pub fn read(alloc: Global, cursor: &mut Cursor<'a>) -> Result<Self, Error>
         ensures { TakesHeld TypeSection (λ t. t) cursor.old result }
     {
@@ -162,7 +164,7 @@ impl<'a> Types<'a> {
         Ok(Types { groups, types })
     }
 
-    /// Keeps others in place of these.
+    /// Replaces the types by others.
     pub fn replace(&mut self, others: Types<'a>)
         ensures { self.new ≡ others.entry }
     {
@@ -171,7 +173,7 @@ impl<'a> Types<'a> {
         self.types = types;
     }
 
-    /// The groups in order.
+    /// Returns the groups in order.
     pub fn groups(&self) -> &[TypeGroup<'a>]
         ensures all { result.now ≡ self.now }
         ensures few { length (all_types (groups_of self.now)) < 2 ^ 64 }
@@ -179,7 +181,7 @@ impl<'a> Types<'a> {
         &self.groups
     }
 
-    /// The function type with the index, `None` where there is no such type or it is of another kind.
+    /// Returns the function type with the index, or `None` if the index is not that of a function type.
     pub fn signature(&self, index: u32) -> Option<FuncType<'a>>
         ensures { result ≡ signature_at (all_types (groups_of self.now)) index }
     {
@@ -188,7 +190,8 @@ impl<'a> Types<'a> {
             None => None,
         }
     }
-    /// How many fields the structure type with the index has, `None` where there is no such type or it is of another kind.
+    /// Returns the number of fields of the structure type with the index, or `None` if the index is not
+    /// that of a structure type.
     pub fn field_count(&self, index: u32) -> Option<u32>
         ensures { result ≡ option_map length (fields_at (all_types (groups_of self.now)) index) }
     {

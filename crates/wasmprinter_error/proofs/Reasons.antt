@@ -1,10 +1,10 @@
--- Reasons that imply others.
+-- Implication between records of reasons.
 use Rattle.std.proofs.Common.{◌≡◌, ℕ, refl}
 use Rattle.wasmprinter_error.specs.Reasons.{Reasons, HasReason}
 use Rattle.wasmprinter_error.specs.declared.error.Error.{Error}
 use Rattle.wasmprinter_error.specs.declared.error.Error.TheVariants as e
 
--- each reason of the first is one of the second
+-- Each reason of `r` implies the reason of `s` for the same error.
 pub record Implies (r s : Reasons) : Type 0 where
   pub malformed : (place : ℕ) → r.malformed place → s.malformed place
   pub component : r.component → s.component
@@ -13,7 +13,7 @@ pub record Implies (r s : Reasons) : Type 0 where
   pub tables : (place : ℕ) → r.tables place → s.tables place
   pub memory : r.memory → s.memory
 
--- an error that has its reason among the first has it among the second
+-- If `r` implies `s`, an error that has its reason in `r` has its reason in `s`.
 pub reason_implied : (r s : Reasons) → Implies r s → (f : Error) → HasReason r f → HasReason s f
 reason_implied r s i (e.Malformed place) h = i.malformed place h
 reason_implied r s i e.Component h = i.component h
@@ -27,7 +27,7 @@ reason_implied r s i e.Unreadable h = absurd h
 reason_implied r s i (e.Printer x) h = absurd h
 reason_implied r s i e.Memory h = i.memory h
 
--- where every reason but that of memory is out of the question, memory is what was wanting
+-- If no reason except that of `Memory` can hold, the error is `Memory`, and its reason holds.
 pub memory_alone : (r : Reasons) → ((place : ℕ) → r.malformed place → ⊥) → (r.component → ⊥) → ((place : ℕ) → r.locals place → ⊥) → ((count : ℕ) → r.functions count → ⊥)
     → ((place : ℕ) → r.tables place → ⊥) → (f : Error) → HasReason r f → (f ≡ e.Memory) × r.memory
 memory_alone r no_malformed no_component no_locals no_functions no_tables (e.Malformed place) h = absurd (no_malformed place h)

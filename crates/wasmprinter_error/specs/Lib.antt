@@ -1,3 +1,3 @@
--- What contracts say of errors.
+-- The definitions that contracts use for errors.
 pub mod Reasons
 pub mod Messages

@@ -1,14 +1,14 @@
--- The texts of errors. The standard specifies none.
+-- The texts of errors, which the standard does not specify.
 use Rattle.std.specs.Prelude.{ℕ, List, ◌++◌, codes, decimal, false}
 use Rattle.std.specs.Fmt.{digits}
 use Rattle.wasmprinter_error.specs.declared.error.Error.{Error}
 use Rattle.wasmprinter_error.specs.declared.error.Error.TheVariants.{Malformed, Component, TooManyLocals, TooManyFunctions, EmptyTableInit, FoldLegacy, FoldHint, DylinkSubsection, Unreadable, Printer, Memory}
 
--- a place in hexadecimal
+-- A place in hexadecimal, after `0x`.
 abbrev pub place_text : ℕ → List ℕ
 place_text place = codes "0x" ++ digits 16 false place
 
--- the text of an error
+-- The text of an error.
 abbrev pub error_text : Error → List ℕ
 error_text (Malformed place) = codes "malformed module at byte " ++ place_text place
 error_text Component = codes "components are not supported"

@@ -1,9 +1,9 @@
--- Why decoding may be refused: what each error says of the bytes.
+-- The reasons for errors of decoding: what each error says about the bytes.
 use Rattle.std.specs.Prelude.{ℕ}
 use Rattle.wasmprinter_error.specs.declared.error.Error.{Error}
 use Rattle.wasmprinter_error.specs.declared.error.Error.TheVariants.{Malformed, Component, TooManyLocals, TooManyFunctions, EmptyTableInit, FoldLegacy, FoldHint, DylinkSubsection, Unreadable, Printer, Memory}
 
--- The reason for each error that decoding may answer. For one that a reader never answers it is ⊥.
+-- The reason for each error that decoding may return. The reason is ⊥ for an error that the reader never returns.
 pub record Reasons : Type 1 where
   pub malformed : ℕ → Type 0
   pub component : Type 0
@@ -12,7 +12,7 @@ pub record Reasons : Type 1 where
   pub tables : ℕ → Type 0
   pub memory : Type 0
 
--- the error has its reason; those of printing are never answered
+-- The error has its reason. Decoding never returns the errors of printing.
 abbrev pub HasReason : Reasons → Error → Type 0
 HasReason r (Malformed place) = r.malformed place
 HasReason r Component = r.component

@@ -1,4 +1,4 @@
-//! Why printing stopped.
+//! The errors of decoding and printing.
 ghost use Rattle.std.specs.Prelude.{◌≡◌, Some};
 ghost use Rattle.wasmprinter_error.specs.Messages.{error_text};
 ghost use Rattle.wasmprinter_error.specs.declared.error.Error.TheVariants.{Malformed as AtPlace, Memory, Printer};
@@ -6,13 +6,14 @@ ghost use Rattle.wasmprinter_error.specs.declared.error.Error.TheVariants.{Malfo
 use std::alloc::{AllocError, AllocFailed};
 use std::{fmt, io};
 
-/// Why printing stopped. Places are byte offsets from the start of the module.
+/// The error of a decoding or printing call. Places are byte offsets from the start of the module.
 #[derive(Debug, Drop)]
 pub enum Error {
     /// The bytes are not in the binary format.
     Malformed {
-        /// The offset of the first unexpected byte, number or entry, or of bytes whose length reaches too far. If something is missing,
-        /// the end of the section, of the body or of the module. If two sections disagree about a count, the end of the module.
+        /// The offset of the first unexpected byte, number or entry, or of bytes whose encoded length exceeds the
+        /// bytes that remain. If something is missing, the end of the section, of the body or of the module. If two
+        /// sections disagree about a count, the end of the module.
         place: u64,
     },
     /// The bytes are marked as a component.

@@ -1,4 +1,4 @@
-//! Why a module is refused, or printing stopped.
+//! The error type of the printer: why a module is rejected or printing stopped.
 #![tactic(auto)]
 
 mod error;

@@ -1,4 +1,4 @@
--- What a store knows after an entry more.
+-- The effect of one more entry on the store.
 use Rattle.std.proofs.Common.{◌≡◌, ℕ, List, [], ◌∷◌, ◌++◌, refl, sym, ap, ◌∙◌, subst, rules, arith, true≢false}
 use Rattle.std.proofs.lemmas.Grind.{common_steps}
 use Rattle.std.proofs.lemmas.Bool.{eqb-true}
@@ -29,7 +29,7 @@ use Rattle.wasmprinter_names.specs.declared.store.Place.{Place}
 use Rattle.wasmprinter_names.specs.declared.store.StoredName.{StoredName}
 use Rattle.wasmprinter_names.specs.declared.store.NamesBuilder.{NamesBuilder}
 
--- ---- the tests of the set and of the names
+-- ---- The tests of the set and of the names
 
 eq_then : (a b : Ordering) → is_eq (ordering_then a b) ≡ (is_eq a && is_eq b)
 eq_then Less b = refl
@@ -69,7 +69,7 @@ and_right : (a b : Bool) → (a && b) ≡ true → b ≡ true
 and_right true b e = e
 and_right false b e = absurd (true≢false (sym e))
 
--- what a list has is what its items have
+-- The name that the list has at a place is the name that its items have there.
 at_by : (b : Bool) (x : Named) (o r : Option Named) → o ≡ r → (if b then Some x else o) ≡ (if b then Some x else r)
 at_by true x o r e = refl
 at_by false x o r e = e
@@ -88,14 +88,14 @@ name_at-lookup (e ∷ es) p =
         ≡ ((nat_eq e.0.subsection p.subsection && nat_eq e.0.outer p.outer) && nat_eq e.0.index p.index)
     flip = rw (eq_flip p.subsection e.0.subsection, eq_flip p.outer e.0.outer, eq_flip p.index e.0.index) refl
 
--- what they have after an insert
+-- The names of the items after an insertion.
 name_after : (a b : List (Place × StoredName)) (p q : Place) (x : StoredName) → Gains a b p x
     → name_at (items_view b) q.subsection q.outer q.index ≡ (if is_at (place_cmp p) q then Some (stored_view x) else name_at (items_view a) q.subsection q.outer q.index)
 name_after a b p q x names =
     sym (name_at-lookup b q) ∙ ap (λ (r : Option StoredName). option_map stored_view r) (names q) ∙ map_if stored_view (is_at (place_cmp p) q) x (stored_at a q)
     ∙ ap (λ (r : Option Named). if is_at (place_cmp p) q then Some (stored_view x) else r) (name_at-lookup a q)
 
--- names of labels stay what they are
+-- An insertion keeps the property that the identifiers of labels consist of their names and numbers.
 stays_of_labels : (a b : List (Place × StoredName)) (p : Place) (x : StoredName) → Gains a b p x
     → (p.subsection ≡ label_subsection → content_or x.marked x.given.now ≡ label_content p.index x.given.now)
     → AreOfLabels (items_view a) → AreOfLabels (items_view b)
@@ -113,14 +113,14 @@ stays_of_labels a b p x names content old f n y e invents d = by (is_at (place_c
         (ap (λ (t : List ℕ). Some (record { given = Some x.given.now; content = t })) (ap (λ (k : ℕ). label_content k x.given.now) (sym i) ∙ sym (content s)))
     by false t h = old f n y h invents d
 
--- also where the insert is refused
+-- The same if the insertion may fail.
 pub keeps_of_labels : {X E : Type 0} (r : Result X E) (a b : List (Place × StoredName)) (p : Place) (x : StoredName) → OnOk r (Gains a b p x) → OnErr r (b ≡ a)
     → (p.subsection ≡ label_subsection → content_or x.marked x.given.now ≡ label_content p.index x.given.now)
     → AreOfLabels (items_view a) → AreOfLabels (items_view b)
 keeps_of_labels (Ok r) a b p x names same content old = stays_of_labels a b p x names content old
 keeps_of_labels (Err e) a b p x names same content old = subst (λ (es : List (Place × StoredName)). AreOfLabels (items_view es)) (sym same) old
 
--- names that are found alike
+-- Two lists with the same name at each place have items with the same names.
 pub same_name_at : (a b : List (Place × StoredName)) → ((q : Place) → stored_at b q ≡ stored_at a q) → (s outer index : ℕ)
     → name_at (items_view b) s outer index ≡ name_at (items_view a) s outer index
 same_name_at a b same s outer index = sym (name_at-lookup b q) ∙ ap (λ (r : Option StoredName). option_map stored_view r) (same q) ∙ name_at-lookup a q
@@ -135,9 +135,9 @@ or_if : (b c : Bool) → (if b then true else c) ≡ (b || c)
 or_if true c = refl
 or_if false c = refl
 
--- ---- an entry more in a list of entries
+-- ---- One more entry in a list of entries
 
--- the entry, if it is one of the space
+-- The entry, if it belongs to the space.
 abbrev only : Bool → Entry → List Entry
 only b e = if b then e ∷ [] else []
 
@@ -172,14 +172,14 @@ name_by : (s : ℕ) (xs : List Entry) (e : Entry) (i : ℕ) (n : Named) (b : Boo
 name_by s xs e i n true h = ap (λ (m : Named). if nat_eq e.index i then Some m else last_name s [] None xs i) (h refl) ∙ sym (name_more s [] None xs e i)
 name_by s xs e i n false h = ap (λ (l : List Entry). last_name s [] None l i) (sym (append-nil xs))
 
--- an entry of a space has that space's content
+-- If the entry belongs to the space, its content is the same by its own subsection and by that of the space.
 same_space : (entries : List Entry) (e : Entry) (s outer : ℕ) → is_in s outer e ≡ true
     → entry_name e.subsection (names_given [] (entries_in e.subsection e.outer entries)) e ≡ entry_name s (names_given [] (entries_in s outer entries)) e
 same_space entries e s outer h =
     ap (λ (k : ℕ). entry_name k (names_given [] (entries_in k e.outer entries)) e) (eqb-true e.subsection s (and_left (nat_eq e.subsection s) (nat_eq e.outer outer) h))
     ∙ ap (λ (o : ℕ). entry_name s (names_given [] (entries_in s o entries)) e) (eqb-true e.outer outer (and_right (nat_eq e.subsection s) (nat_eq e.outer outer) h))
 
--- ---- an entry more in a store
+-- ---- One more entry in the store
 
 pub Holds-entry : (entries : List Entry) (a b : NamesBuilder) (e : Entry) (g : Given) (p : Place) (x : StoredName)
     → (g.subsection ≡ e.subsection) × (g.outer ≡ e.outer) × (g.name.now ≡ e.name) → (p.subsection ≡ e.subsection) × (p.outer ≡ e.outer) × (p.index ≡ e.index)

@@ -1,4 +1,4 @@
--- The labels that a store lists rise, and it lists one for each name of a label.
+-- The labels that the store lists are in ascending order, and each label with a name is listed.
 use Rattle.std.proofs.Common.{◌≡◌, ℕ, ◌<◌, ◌≤◌, List, [], ◌∷◌, ◌++◌, refl, sym, arith}
 use Rattle.std.proofs.lemmas.Bool.{eqb-true}
 use Rattle.std.specs.Prelude.{Bool, true, false, nat_eq, map, if◌then◌else◌}
@@ -15,13 +15,14 @@ use Rattle.wasmprinter_names.specs.Labels.{NamedLabel, labels_in, IsBefore, Asce
 use Rattle.wasmprinter_names.specs.declared.store.Place.{Place}
 use Rattle.wasmprinter_names.specs.declared.store.StoredName.{StoredName}
 
--- by functions, and then by numbers
+-- Labels are ordered by function, then by number.
 less_then : (f g m n : ℕ) (r : Ordering) → nat_cmp f g ≡ r → ordering_then r (nat_cmp m n) ≡ Less → (f ≤ g) × (f ≡ g → m < n)
 less_then f g m n Less e h = let lt : f < g = ranked f g Less (sym e) in (omega (arith, lt), λ q. absurd (omega (arith, lt, q)))
 less_then f g m n Equal e h = let eq : f ≡ g = ranked f g Equal (sym e) in let lt : m < n = ranked m n Less (sym h) in (omega (arith, eq), λ q. lt)
 less_then f g m n Greater e h = absurd cc
 
--- the places of two labels
+-- If the place of one label is less than that of another, its function is not greater, and in the same
+-- function its number is less.
 less_place : (p q : Place) (x y : NamedLabel) (r : Ordering) → p.subsection ≡ label_subsection → q.subsection ≡ label_subsection → nat_cmp p.subsection q.subsection ≡ r
     → ordering_then r (ordering_then (nat_cmp p.outer q.outer) (nat_cmp p.index q.index)) ≡ Less
     → (p.outer ≤ q.outer) × (p.outer ≡ q.outer → p.index < q.index)
@@ -29,7 +30,7 @@ less_place p q x y Less a b e h = let lt : p.subsection < q.subsection = ranked 
 less_place p q x y Equal a b e h = less_then p.outer q.outer p.index q.index (nat_cmp p.outer q.outer) refl h
 less_place p q x y Greater a b e h = absurd cc
 
--- the label of an item, if it is one
+-- The list with the label of an item prepended, if the item is a label.
 abbrev only : Bool → NamedItem → List NamedLabel → List NamedLabel
 only b x xs = if b then record { function = x.outer; number = x.index; name = x.name } ∷ xs else xs
 
@@ -56,7 +57,7 @@ ascend_labels (e ∷ es) h = by (nat_eq e.0.subsection label_subsection) refl (a
     by true t r = (before_all e es (eqb-true e.0.subsection label_subsection t) h.0, r)
     by false t r = r
 
--- a label is listed
+-- If an item is a label, the list of labels is not empty.
 pub some_label : (p : Place × StoredName) (es rest : List (Place × StoredName)) (out all : List NamedLabel) → nat_eq p.0.subsection label_subsection ≡ true → es ≡ p ∷ rest
     → out ++ labels_in (map item_view es) ≡ all → all ≡ [] → ⊥
 some_label p es rest [] all t e h n = absurd cc

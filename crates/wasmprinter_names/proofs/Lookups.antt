@@ -1,4 +1,4 @@
--- What a list of names by places that ascend has at a place.
+-- The name that a list of names in ascending order has at a place.
 use Rattle.std.proofs.Common.{◌≡◌, ℕ, suc, ◌+◌, ◌<◌, List, [], ◌∷◌, length, get_or, inl, inr, refl, sym, ap, ◌∙◌, subst, arith, true≢false}
 use Rattle.std.proofs.lemmas.Bool.{cases_lt}
 use Rattle.std.proofs.lemmas.Cmp.{then_total, on_total, nat_cmp_total, tied_itself, eq_by_cmp_equiv}
@@ -24,7 +24,7 @@ use Rattle.wasmprinter_names.specs.declared.store.Place.{Place}
 use Rattle.wasmprinter_names.specs.declared.store.StoredName.{StoredName}
 use Rattle.wasmprinter_names.proofs.Adding.{same_place, name_at-lookup}
 
--- ---- the order of places
+-- ---- The order of places
 
 pub place_total : IsTotalOrder place_cmp
 place_total =
@@ -40,13 +40,13 @@ lt_then Equal Equal Greater t = absurd (true≢false (sym t))
 lt_then Equal Greater c t = absurd (true≢false (sym t))
 lt_then Greater b c t = absurd (true≢false (sym t))
 
--- `<`
+-- The program's `<` on places implies that the first place is less.
 pub less_by_lt : (p q : Place) (b : Bool)
     → b ≡ is_some_and is_lt (partial_ordering_then (Some (nat_cmp p.subsection q.subsection)) (partial_ordering_then (Some (nat_cmp p.outer q.outer)) (Some (nat_cmp p.index q.index))))
     → b ≡ true → place_cmp p q ≡ Less
 less_by_lt p q b e t = lt_then (nat_cmp p.subsection q.subsection) (nat_cmp p.outer q.outer) (nat_cmp p.index q.index) (sym e ∙ t)
 
--- `==`
+-- The program's `==` on places implies that the places are equal.
 pub same_by_eq : (p q : Place) (b : Bool) → b ≡ (nat_eq p.subsection q.subsection && (nat_eq p.outer q.outer && nat_eq p.index q.index)) → b ≡ true → eq_by_cmp place_cmp p q ≡ true
 same_by_eq p q b e t = same_place p q ∙ assoc (nat_eq p.subsection q.subsection) (nat_eq p.outer q.outer) (nat_eq p.index q.index) ∙ sym e ∙ t
   where
@@ -57,7 +57,7 @@ same_by_eq p q b e t = same_place p q ∙ assoc (nat_eq p.subsection q.subsectio
 pub turned : (p q : Place) → place_cmp p q ≡ Less → place_cmp q p ≡ Greater
 turned p q less = place_total.antisymm q p ∙ ap ordering_reverse less
 
--- ---- entries that ascend
+-- ---- Entries in ascending order
 
 module _ (es : List (Place × StoredName)) (s : Ascends es) where
   pub rises : (i j : ℕ) (d : Place × StoredName) → i < j → j < length es → place_cmp (get_or es i d).0 (get_or es j d).0 ≡ Less
@@ -67,7 +67,7 @@ module _ (es : List (Place × StoredName)) (s : Ascends es) where
       ∙ ap (λ (p : Place). place_cmp (get_or (keys_of es) i d.0) p) (sym (key j within))
       ∙ Less-from_sorted place_cmp (keys_of es) i j d.0 s lt (omega (arith, length-keys_of es))
 
-  -- an entry of a lower place: those in front of it have lower ones too
+  -- If an entry has a lower place, so have all entries before it.
   pub all_before : (q : Place) (i : ℕ) (e : Place × StoredName) → i < length es → e ≡ get_or es i e → place_cmp e.0 q ≡ Less → AllAreBefore es (i + 1) q
   all_before q i e within at less k d low high =
       let here : place_cmp (get_or es i d).0 q ≡ Less = ap (λ (x : Place × StoredName). place_cmp x.0 q) (get_or_default es i d e within ∙ sym at) ∙ less in
@@ -76,7 +76,7 @@ module _ (es : List (Place × StoredName)) (s : Ascends es) where
         | inr ge ↦ subst (λ (n : ℕ). place_cmp (get_or es n d).0 q ≡ Less) {x = i} {y = k} (omega arith) here
       ]
 
-  -- an entry of a higher place: those behind it have higher ones too
+  -- If an entry has a higher place, so have all entries after it.
   pub all_behind : (q : Place) (i : ℕ) (e : Place × StoredName) → i < length es → e ≡ get_or es i e → place_cmp q e.0 ≡ Less → AllAreBehind es i q
   all_behind q i e within at less k d low high =
       let here : place_cmp q (get_or es i d).0 ≡ Less = ap (λ (x : Place × StoredName). place_cmp q x.0) (get_or_default es i d e within ∙ sym at) ∙ less in
@@ -85,11 +85,11 @@ module _ (es : List (Place × StoredName)) (s : Ascends es) where
         | inr ge ↦ subst (λ (n : ℕ). place_cmp (get_or es n d).0 q ≡ Greater) {x = i} {y = k} (omega arith) (turned q (get_or es i d).0 here)
       ]
 
-  -- a search over them meets lower places, the place, and higher ones
+  -- A binary search can be applied: along the list, places are first lower, then equal, then higher.
   pub searchable : (q : Place) → IsNonDecreasingBy (λ (e : Place × StoredName). ordering_index (place_cmp e.0 q)) es
   searchable q = searchable_from_sorted place_total (λ (e : Place × StoredName). e.0) es q (λ k d low high. ap is_lt (turned (get_or es k d).0 (get_or es (k + 1) d).0 (rises k (k + 1) d (omega arith) high)))
 
-  -- an entry of the place has its name
+  -- The entry at the place has the name of the place.
   pub found : (q : Place) (i : ℕ) (e : Place × StoredName) → i < length es → e ≡ get_or es i e → eq_by_cmp place_cmp e.0 q ≡ true → Some e.1 ≡ stored_at es q
   found q i e within at hit =
       let laws = eq_by_cmp_equiv place_total in
@@ -100,20 +100,20 @@ module _ (es : List (Place × StoredName)) (s : Ascends es) where
   pub found_at : (q : Place) (i : ℕ) (d : Place × StoredName) → i < length es → place_cmp (get_or es i d).0 q ≡ Equal → Some (get_or es i d).1 ≡ stored_at es q
   found_at q i d within equal = found q i (get_or es i d) within (get_or_default es i d (get_or es i d) within) (ap is_eq equal)
 
--- ---- no entry of the place
+-- ---- No entry at the place
 
 pub none_by : (es : List (Place × StoredName)) (q : Place) → ((k : ℕ) (d : Place × StoredName) → k < length es → is_at (place_cmp q) (get_or es k d).0 ≡ false) → NonePasses (is_at (place_cmp q)) es
 none_by [] q h = tt
 none_by (e ∷ es) q h = (h 0 e (omega arith), none_by es q (λ k d low. h (suc k) d (omega arith)))
 
--- those in front of a position have lower places, and the others higher ones
+-- If the entries before a position have lower places and the others have higher places, the place has no name.
 pub none_there : (es : List (Place × StoredName)) (q : Place) (i : ℕ) → AllAreBefore es i q → AllAreBehind es i q → None ≡ stored_at es q
 none_there es q i before behind = sym (lookup-none (is_at (place_cmp q)) es (none_by es q (λ k d low. elim (cases_lt k i) [
   | inl lt ↦ ap is_eq (turned (get_or es k d).0 q (before k d (omega arith) lt))
   | inr ge ↦ ap is_eq (place_total.antisymm q (get_or es k d).0 ∙ ap ordering_reverse (behind k d ge low))
 ])))
 
--- ---- what a binary search returns
+-- ---- The result of a binary search
 
 pub search_at : (es : List (Place × StoredName)) (q : Place) (r : Result ℕ ℕ) → IsBinarySearchResult (λ e. place_cmp e.0 q) es r
     → IfSome (result_ok r) (HoldsAt (λ e. place_cmp e.0 q ≡ Equal) es)
@@ -125,13 +125,13 @@ pub search_none : (es : List (Place × StoredName)) (s : Ascends es) (q : Place)
 search_none es s q (Ok i) h = tt
 search_none es s q (Err i) h = let parted = h (searchable es s q) in sym (none_there es q i parted.0 parted.1)
 
--- ---- no entry at all
+-- ---- An empty list
 
--- an entry has a name
+-- The place of the first entry has a name.
 named : (e : Place × StoredName) (es : List (Place × StoredName)) → name_at (map item_view (e ∷ es)) e.0.subsection e.0.outer e.0.index ≡ Some (stored_view e.1)
 named e es = sym (name_at-lookup (e ∷ es) e.0) ∙ ap (option_map stored_view) (lookup_head (is_at (place_cmp e.0)) e es (ap is_eq (tied_itself place_total e.0)))
 
--- so there is none where no place has one
+-- If no place has a name, the list is empty.
 pub empty_where_none : (es : List (Place × StoredName)) → ((s outer index : ℕ) → name_at (map item_view es) s outer index ≡ None) → es ≡ []
 empty_where_none [] h = refl
 empty_where_none (e ∷ es) h = absurd (none-some (stored_view e.1) (sym (h e.0.subsection e.0.outer e.0.index) ∙ named e es))

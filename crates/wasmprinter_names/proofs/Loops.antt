@@ -1,4 +1,4 @@
--- Loops that add entries to a store.
+-- Loops that add entries to the store.
 use Rattle.std.proofs.Common.{◌≡◌, ◌≢◌, ℕ, zero, suc, ◌<◌, ◌≤◌, List, [], ◌∷◌, ◌++◌, Option, Some, None, refl, sym, ap, ◌∙◌, subst, append_assoc, arith}
 use Rattle.std.proofs.lemmas.List.{append-nil}
 use Rattle.wasmprinter_spec.specs.Grammar.{Input, some_is}
@@ -11,7 +11,7 @@ use Rattle.wasmprinter_names.specs.Holds.{Holds}
 use Rattle.wasmprinter_names.specs.Adds.{Grows, AddsUpTo, AddsBefore}
 use Rattle.wasmprinter_names.specs.declared.store.NamesBuilder.{NamesBuilder}
 
--- ---- a store that grows
+-- ---- A store that grows
 
 pub grows_none : (a : NamesBuilder) → Grows a a []
 grows_none a = λ es h. subst (λ (xs : List Entry). Holds xs a) (sym (append-nil es)) h
@@ -19,7 +19,7 @@ grows_none a = λ es h. subst (λ (xs : List Entry). Holds xs a) (sym (append-ni
 pub grows_more : (a b c : NamesBuilder) (xs ys : List Entry) → Grows a b xs → Grows b c ys → Grows a c (xs ++ ys)
 grows_more a b c xs ys g k = λ es h. subst (λ (zs : List Entry). Holds zs c) (append_assoc es xs ys) (k (es ++ xs) (g es h))
 
--- ---- entries read so many times
+-- ---- Reading entries n times
 
 module _ {E : Type 0} (l : Lenient E) where
   once_by : (ys : List E) (end : Option Input) → continue_with l (ys, end) (λ mid. ([], Some mid)) ≡ (ys, end)
@@ -34,7 +34,7 @@ module _ {E : Type 0} (l : Lenient E) where
   last_by n ys (Some m) mid h e =
       ap (λ (r : List E × Option Input). prepend l ys r) (h m e) ∙ ap (λ (zs : List E). (zs, (l.read mid).1)) (sym (append_assoc ys (repeat_at l n m).0 (l.read mid).0))
 
-  -- one time more
+  -- Reading n + 1 times is reading n times, and then once more.
   repeat_last : (n : ℕ) (at mid : Input) → (repeat_at l n at).1 ≡ Some mid
       → repeat_at l (suc n) at ≡ ((repeat_at l n at).0 ++ (l.read mid).0, (l.read mid).1)
   repeat_last zero at mid e = subst (λ (m : Input). repeat_at l 1 at ≡ ((l.read m).0, (l.read m).1)) (some_is at mid e) (once_by (l.read at).0 (l.read at).1)
@@ -47,13 +47,13 @@ module _ {E : Type 0} (l : Lenient E) where
   stopped_by n m ys None h e = refl
   stopped_by n m ys (Some mid) h e = ap (λ (r : List E × Option Input). prepend l ys r) (h mid e)
 
-  -- behind a fault nothing is read
+  -- After an error nothing more is read.
   repeat_stopped : (n m : ℕ) (at : Input) → n ≤ m → (repeat_at l n at).1 ≡ None → repeat_at l m at ≡ repeat_at l n at
   repeat_stopped zero m at le e = absurd cc
   repeat_stopped (suc n) zero at le e = absurd (omega (arith, le))
   repeat_stopped (suc n) (suc m) at le e = stopped_by n m (l.read at).0 (l.read at).1 (λ mid f. repeat_stopped n m mid (omega (arith, le)) f) e
 
--- ---- entries that are there
+-- ---- Lists that are not empty
 
 pub left-some : {E : Type 0} (xs ys : List E) → xs ≢ [] → (xs ++ ys) ≢ []
 left-some [] ys h e = h refl
@@ -75,7 +75,7 @@ module _ {E : Type 0} (l : Lenient E) where
   some_by n m at ys None h e = absurd cc
   some_by n m at ys (Some mid) h e = right-some ys (repeat_at l m mid).0 (h mid e)
 
-  -- an entry behind those that were read
+  -- If an entry is read after the first n readings, then reading more than n times gives an entry.
   repeat_some : (n m : ℕ) (start at : Input) → n < m → (repeat_at l n start).1 ≡ Some at → (l.read at).0 ≢ [] → (repeat_at l m start).0 ≢ []
   repeat_some n zero start at lt e some = absurd (omega (arith, lt))
   repeat_some zero (suc m) start at lt e some =
@@ -83,7 +83,7 @@ module _ {E : Type 0} (l : Lenient E) where
   repeat_some (suc n) (suc m) start at lt e some =
       some_by n m at (l.read start).0 (l.read start).1 (λ mid f. repeat_some n m mid at (omega (arith, lt)) f some) e
 
--- ---- a loop that adds them
+-- ---- A loop that adds entries
 
 pub record Added (l : Lenient Entry) (n : ℕ) (start : Input) (old : NamesBuilder) (at : Input) (new : NamesBuilder) : Type 0 where
   pub stands : (repeat_at l n start).1 ≡ Some at
@@ -113,13 +113,13 @@ module _ (l : Lenient Entry) (start : Input) (old : NamesBuilder) where
       let s = subst (λ (i : ℕ). Added l i start old at a) e h in
       (s.stands, s.grown)
 
-  -- the same where memory may have run out
+  -- The same for an error, which may be that memory ran out.
   pub added_refused : (n m : ℕ) (at : Input) (a b : NamesBuilder) (e : Error) → n < m → Added l n start old at a → AddsBefore l at a b e → AddsBefore (repeat l m) start old b e
   added_refused n m at a b (Malformed place) lt h k = added_stopped n m at a b lt h k
   added_refused n m at a b Memory lt h k = repeat_some l n m start at lt h.stands k
   added_refused n m at a b _ lt h k = absurd k
 
--- a count and so many
+-- A count, and that many entries.
 module _ (l : Lenient Entry) (old : Input) (start : Input) (count : ℕ) (counted : u32.parse old ≡ Some (count, start)) where
   pub counted_up_to : (a b : NamesBuilder) (end : Option Input) → AddsUpTo (repeat l count) start a b end → AddsUpTo (follow u32 (λ n. repeat l n)) old a b end
   counted_up_to a b end h = rw counted h

@@ -1,4 +1,4 @@
--- Which subsections gave names.
+-- The subsections that give names.
 use Rattle.std.proofs.Common.{◌≡◌, ℕ, zero, suc, ◌+◌, ◌<◌, List, length, get_or, set, take, refl, sym, ap, ◌∙◌, arith, true≢false}
 use Rattle.std.proofs.lemmas.Bool.{eqb-true, eq-eqb, or_right}
 use Rattle.std.proofs.lemmas.Grind.{common_steps}
@@ -15,21 +15,21 @@ use Rattle.wasmprinter_names.specs.declared.store.StoredName.{StoredName}
 use Rattle.wasmprinter_names.proofs.Adding.{same_place, name_at-lookup}
 use Rattle.wasmprinter_names.proofs.Lookups.{none_by}
 
--- whether the entry is of the subsection
+-- Whether the entry belongs to the subsection.
 abbrev pub is_of : ℕ → Place × StoredName → Bool
 is_of s e = nat_eq e.0.subsection s
 
--- Each mark says whether one of the first i entries is of the subsection.
+-- Each mark says whether one of the first i entries belongs to the subsection.
 abbrev pub Marks : List (Place × StoredName) → ℕ → List Bool → Type 0
 Marks es i marks = (s : ℕ) → get_or marks s false ≡ list_any (is_of s) (take i es)
 
--- no entry
+-- Without entries no subsection is marked.
 pub marks_none : (es : List (Place × StoredName)) (n : ℕ) → Marks es 0 (replicate n false)
 marks_none es zero s = refl
 marks_none es (suc n) zero = refl
 marks_none es (suc n) (suc s) = marks_none es n s
 
--- an entry more
+-- One more entry marks its subsection.
 pub marks_more : (es : List (Place × StoredName)) (marks : List Bool) (i n : ℕ) (e : Place × StoredName)
     → i < length es → e ≡ get_or es i e → n ≡ e.0.subsection → n < length marks → Marks es i marks → Marks es (i + 1) (set marks n true)
 marks_more es marks i n e within at is fits before s =
@@ -48,7 +48,7 @@ marks_more es marks i n e within at is fits before s =
         other : get_or (set marks n true) s false ≡ get_or marks s false
         other = grind (arith, common_steps, get_or-set_other)
 
--- all entries
+-- After all entries, a subsection is marked exactly if an entry belongs to it.
 pub marked : (es : List (Place × StoredName)) (marks : List Bool) → Marks es (length es) marks → AreMarked es marks
 marked es marks h s = (λ t. of_subsection (Any-from_list_any (is_of s) es (sym all ∙ t)), λ some. all ∙ list_any-from_Any (is_of s) es (passes some))
   where
@@ -61,7 +61,7 @@ marked es marks h s = (λ t. of_subsection (Any-from_list_any (is_of s) es (sym 
     passes : Any (λ e. e.0.subsection ≡ s) es → Any (λ e. is_of s e ≡ true) es
     passes (k, e, low, at, same) = (k, e, low, at, eq-eqb e.0.subsection s same)
 
--- no entry is at a place of a subsection that isn't marked
+-- An item of a subsection that is not marked has no name.
 pub none_unmarked : (es : List (Place × StoredName)) (marks : List Bool) (q : Place)
     → AreMarked es marks → get_or marks q.subsection false ≡ false
     → None ≡ name_at (map item_view es) q.subsection q.outer q.index

@@ -1,4 +1,4 @@
--- Names of a list and of a tree, whose places ascend, merged into one list.
+-- The names of a list and of a tree, both in ascending order of their places, merged into one list.
 use Rattle.std.proofs.Common.{◌≡◌, ℕ, List, [], ◌∷◌, ◌++◌, length, arith, refl, sym, ap, ◌∙◌, subst, true≢false, append_assoc}
 use Rattle.std.proofs.lemmas.List.{append-nil}
 use Rattle.std.proofs.lemmas.Cmp.{tied_itself}
@@ -20,14 +20,14 @@ use Rattle.wasmprinter_names.specs.declared.store.StoredName.{StoredName}
 use Rattle.wasmprinter_names.proofs.Lookups.{place_total}
 use Rattle.wasmprinter_names.proofs.Placing.{stored_either, same_stored}
 
--- The names of the list es and the tree fs are merged into `all`, except those of es' and fs', which are left.
+-- The names of the list es and the tree fs are merged into `all`, except those of es' and fs', which remain.
 pub record Merging (es fs all es' fs' : List (Place × StoredName)) : Type 0 where
   pub list : Ascends (all ++ es')
   pub tree : Ascends (all ++ fs')
   pub disjoint : AreDisjoint es' fs'
   pub names : (q : Place) → stored_at (all ++ (fs' ++ es')) q ≡ stored_at (fs ++ es) q
 
--- ---- one name between two lists
+-- ---- One name between two lists
 
 abbrev AllBelow : List (Place × StoredName) → Place → Type 0
 AllBelow es p = AllByRecursion (λ k. place_cmp k p ≡ Less) (keys_of es)
@@ -35,17 +35,17 @@ AllBelow es p = AllByRecursion (λ k. place_cmp k p ≡ Less) (keys_of es)
 abbrev AllAbove : List (Place × StoredName) → Place → Type 0
 AllAbove es p = AllByRecursion (λ k. place_cmp p k ≡ Less) (keys_of es)
 
--- entries above a place are above each lower place
+-- Entries above a place are above each lower place.
 above_lower : (es : List (Place × StoredName)) (p q : Place) → place_cmp p q ≡ Less → AllAbove es q → AllAbove es p
 above_lower [] p q less all = tt
 above_lower (e ∷ es) p q less all = (place_total.trans p q e.0 less all.0, above_lower es p q less all.1)
 
--- an entry and those after it are above a lower place
+-- An entry and those after it are above each place that is lower than the entry's.
 head_above : (es : List (Place × StoredName)) (e : Place × StoredName) (p : Place) → place_cmp p e.0 ≡ Less → Ascends (e ∷ es) → AllAbove (e ∷ es) p
 unfolding IsStrictlySortedBy
 head_above es e p less s = (less, above_lower es p e.0 less s.0)
 
--- the last entries of a list that ascends
+-- The last entries of an ascending list are an ascending list.
 back_ascends : (all es : List (Place × StoredName)) → Ascends (all ++ es) → Ascends es
 unfolding IsStrictlySortedBy
 back_ascends [] es s = s
@@ -59,7 +59,7 @@ among_inserted : (P : Place → Type 0) (all es : List (Place × StoredName)) (e
 among_inserted P [] es e at h = (at, h)
 among_inserted P (a ∷ all) es e at h = (h.0, among_inserted P all es e at h.1)
 
--- an entry that ascends with those before it, and is below those after it
+-- An entry that continues an ascending list and is below the entries that follow can be inserted between them.
 between_ascends : (all es fs : List (Place × StoredName)) (e : Place × StoredName) → Ascends (all ++ e ∷ es) → Ascends (all ++ fs) → AllAbove fs e.0 → Ascends (all ++ e ∷ fs)
 unfolding IsStrictlySortedBy
 between_ascends [] es fs e s t above = (above, t)
@@ -68,17 +68,17 @@ between_ascends (a ∷ all) es fs e s t above = (
   between_ascends all es fs e s.1 t.1 above,
 )
 
--- the list is empty, or its first place isn't below this one
+-- The list is empty, or its first place is not below this one.
 abbrev BeginsAfter : List (Place × StoredName) → Place → Type 0
 BeginsAfter [] p = Unit {0}
 BeginsAfter (e ∷ es) p = is_lt (place_cmp e.0 p) ≡ false
 
--- ---- the steps
+-- ---- The steps
 
 pub merging_none : (es fs : List (Place × StoredName)) → Ascends es → Ascends fs → AreDisjoint es fs → Merging es fs [] es fs
 merging_none es fs s t apart = record { list = s; tree = t; disjoint = apart; names = λ q. refl }
 
--- the first name of the tree is below the first one of the list
+-- If the first name of the tree is below the first name of the list, the name of the tree comes next.
 pub merging_late : (es fs all es' fs' rest : List (Place × StoredName)) (e f : Place × StoredName) → fs' ≡ f ∷ rest → place_cmp f.0 e.0 ≡ Less
     → Merging es fs all (e ∷ es') fs' → Merging es fs (all ++ f ∷ []) (e ∷ es') rest
 merging_late es fs all es' fs' rest e f first less m = record {
@@ -101,7 +101,8 @@ merging_late es fs all es' fs' rest e f first less m = record {
         by true h = absurd cc
         by false h = h
 
--- the first name of the tree, if there is one, is above the first one of the list
+-- If the first name of the tree, if there is one, is above the first name of the list,
+-- the name of the list comes next.
 pub merging_next : (es fs all es' fs' : List (Place × StoredName)) (e : Place × StoredName) → BeginsAfter fs' e.0
     → Merging es fs all (e ∷ es') fs' → Merging es fs (all ++ e ∷ []) es' fs'
 merging_next es fs all es' fs' e after m = record {
@@ -136,9 +137,10 @@ merging_next es fs all es' fs' e after m = record {
         by true hit = ap (λ (o : Option StoredName). option_or o (Some e.1)) (sym (same_stored fs' e.0 q hit ∙ none))
         by false hit = stored_either fs' es' q
 
--- ---- the tree, by its next name and the iterator of the others
+-- ---- The tree, by its next name and the iterator over the others
 
--- An iterator that has returned no name has none left.
+-- The state of merging, where `next` is the next name of the tree. An iterator that has
+-- returned `None` has no names left.
 pub record Waiting (es fs all es' : List (Place × StoredName)) (next : Option (Place × StoredName)) (rest : List (Place × StoredName)) : Type 0 where
   pub merging : Merging es fs all es' (option_to_list next ++ rest)
   pub ended : next ≡ None → rest ≡ []
@@ -151,7 +153,7 @@ pub next_ended : (s t : List (Place × StoredName)) (r : Option (Place × Stored
 next_ended s t None h none = h.1
 next_ended s t (Some x) h none = absurd cc
 
--- the iterator's first name
+-- The state at the start, with the iterator's first name.
 pub waiting_none : (es fs s t : List (Place × StoredName)) (r : Option (Place × StoredName)) → Ascends es → Ascends fs → AreDisjoint es fs → s ≡ fs → TakesFirst (λ e. e) s r t
     → Waiting es fs [] es r t
 waiting_none es fs s t r a b apart same h = record {
@@ -159,7 +161,7 @@ waiting_none es fs s t r a b apart same h = record {
   ended = next_ended s t r h;
 }
 
--- a name of the tree, and then the iterator's next one
+-- The step that takes a name of the tree, and then the iterator's next name.
 pub waiting_late : (es fs all es' s t : List (Place × StoredName)) (e f : Place × StoredName) (next r : Option (Place × StoredName)) → next ≡ Some f → place_cmp f.0 e.0 ≡ Less → TakesFirst (λ e. e) s r t
     → Waiting es fs all (e ∷ es') next s → Waiting es fs (all ++ f ∷ []) (e ∷ es') r t
 waiting_late es fs all es' s t e f next r some less h w = record {
@@ -169,7 +171,7 @@ waiting_late es fs all es' s t e f next r some less h w = record {
   ended = next_ended s t r h;
 }
 
--- a name of the list
+-- The step that takes a name of the list.
 pub waiting_next : (es fs all es' s : List (Place × StoredName)) (e : Place × StoredName) (next : Option (Place × StoredName)) → IfSome next (λ f. is_lt (place_cmp f.0 e.0) ≡ false)
     → Waiting es fs all (e ∷ es') next s → Waiting es fs (all ++ e ∷ []) es' next s
 waiting_next es fs all es' s e next after w = record {
@@ -181,7 +183,7 @@ waiting_next es fs all es' s e next after w = record {
     begins None ended after = subst (λ (l : List (Place × StoredName)). BeginsAfter l e.0) (sym (ended refl)) tt
     begins (Some f) ended after = after
 
--- nothing is left of the list: the rest of the tree comes last
+-- If no name of the list remains, the remaining names of the tree come last.
 pub merged : (es fs all es' fs' : List (Place × StoredName)) (n : ℕ) → n ≡ length es' → n ≡ 0 → Merging es fs all es' fs'
     → (q : Place) → stored_at (all ++ fs') q ≡ stored_at (fs ++ es) q
 merged es fs all [] fs' n len none m q = ap (λ (l : List (Place × StoredName)). stored_at (all ++ l) q) (sym (append-nil fs')) ∙ m.names q

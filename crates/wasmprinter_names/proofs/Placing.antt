@@ -1,4 +1,4 @@
--- Names that come in the order of their places, and those that don't.
+-- Names that are added in the order of their places, and names that are not.
 use Rattle.std.proofs.Common.{◌≡◌, ℕ, zero, suc, ◌<◌, List, [], ◌∷◌, ◌++◌, length, get_or, set, IsTrue, refl, sym, ap, ◌∙◌, subst, arith, true≢false}
 use Rattle.std.proofs.lemmas.Cmp.{eq_by_cmp_equiv}
 use Rattle.std.proofs.lemmas.List.{get_or_default}
@@ -19,9 +19,9 @@ use Rattle.wasmprinter_names.specs.declared.store.Place.{Place}
 use Rattle.wasmprinter_names.specs.declared.store.StoredName.{StoredName}
 use Rattle.wasmprinter_names.proofs.Lookups.{place_total, turned, rises, found, none_by, none_there}
 
--- ---- a name behind all others
+-- ---- A name after all others
 
--- the names in front of it, as the program sees them
+-- The names before it, for a list that is equal to the program's.
 pub before_all : (es ds : List (Place × StoredName)) (p : Place) → ds ≡ es → AllAreBefore ds (length ds) p → AllAreBefore es (length es) p
 before_all es ds p same before = subst (λ (xs : List (Place × StoredName)). AllAreBefore xs (length xs) p) same before
 
@@ -37,7 +37,7 @@ pushed_ascends (x ∷ es) e s before = (
   pushed_ascends es e s.1 (λ k d low high. before (suc k) d (omega arith) (omega arith)),
 )
 
--- whether or not memory was there
+-- The list is in ascending order whether the allocation succeeded or not.
 pub pushed_or_not : (b : Bool) (es : List (Place × StoredName)) (e : Place × StoredName) → Ascends es → AllAreBefore es (length es) e.0 → Ascends (if b then es ++ e ∷ [] else es)
 pushed_or_not true es e s before = pushed_ascends es e s before
 pushed_or_not false es e s before = s
@@ -48,9 +48,9 @@ pushed_gains es e before q =
     ∙ lookup-insert (eq_by_cmp_equiv place_total) e.0 e.1 q es (length es)
     (none_by es e.0 (λ k d low. ap is_eq (turned (get_or es k d).0 e.0 (before k d (omega arith) low))))
 
--- ---- names in front of others
+-- ---- Two lists, one before the other
 
--- those in front count
+-- The name in two lists is that of the first list, if it has one, and otherwise that of the second.
 pub stored_either : (es fs : List (Place × StoredName)) (q : Place) → stored_at (es ++ fs) q ≡ option_or (stored_at es q) (stored_at fs q)
 stored_either [] fs q = refl
 stored_either (e ∷ es) fs q = by (is_at (place_cmp q) e.0) (stored_either es fs q)
@@ -60,7 +60,7 @@ stored_either (e ∷ es) fs q = by (is_at (place_cmp q) e.0) (stored_either es f
     by true h = refl
     by false h = h
 
--- a name that comes to them comes to all
+-- A name that the first list gains is gained by both lists together.
 pub gains_front : (es ds fs : List (Place × StoredName)) (p : Place) (x : StoredName) → Gains es ds p x → Gains (es ++ fs) (ds ++ fs) p x
 gains_front es ds fs p x names q =
     stored_either ds fs q ∙ ap (λ (o : Option StoredName). option_or o (stored_at fs q)) (names q) ∙ by (is_at (place_cmp p) q)
@@ -70,14 +70,14 @@ gains_front es ds fs p x names q =
     by true = refl
     by false = refl
 
--- equal places have the same name
+-- Equal places have the same name.
 pub same_stored : (es : List (Place × StoredName)) (p q : Place) → is_at (place_cmp q) p ≡ true → stored_at es q ≡ stored_at es p
 same_stored es p q hit = ap (λ (test : Place → Bool). lookup test es) tests
   where
     tests : is_at (place_cmp q) ≡ is_at (place_cmp p)
     tests = λ j k. (eq_by_cmp_equiv place_total).congr q p k hit j
 
--- a name that the second list gains is gained by both lists together, if its place has no name in the first list
+-- A name that the second list gains is gained by both lists together, if its place has no name in the first list.
 pub gains_back : (es fs gs : List (Place × StoredName)) (p : Place) (x : StoredName) → stored_at es p ≡ None → Gains fs gs p x → Gains (es ++ fs) (es ++ gs) p x
 gains_back es fs gs p x none names q =
     stored_either es gs q ∙ ap (option_or (stored_at es q)) (names q) ∙ by (is_at (place_cmp p) q) refl
@@ -88,9 +88,9 @@ gains_back es fs gs p x none names q =
     by true hit = ap (λ (o : Option StoredName). option_or o (Some x)) (sym (same_stored es q p hit) ∙ none)
     by false hit = refl
 
--- ---- a name that replaces another
+-- ---- A name that replaces another
 
--- the entry at a position is the first entry of its place
+-- The entry at a position is the first entry with its place.
 set_first : (es : List (Place × StoredName)) (i : ℕ) (e : Place × StoredName) (p : Place) (x : StoredName) → Ascends es → i < length es → e ≡ get_or es i e
     → is_at (place_cmp p) e.0 ≡ true → set es i (e.0, x) ≡ set_value (is_at (place_cmp p)) es x
 set_first [] i e p x s within at hit = absurd (omega (arith, within))
@@ -108,7 +108,7 @@ set_first (f ∷ es) (suc i) e p x s within at hit =
     other true h = absurd (true≢false (sym (sym ((eq_by_cmp_equiv place_total).congr p f.0 e.0 h) ∙ hit) ∙ ap is_eq below))
     other false h = refl
 
--- The entry at a position is at this place, so that its name is replaced.
+-- The entry at a position has this place, so that its name is replaced.
 pub record Replaces (es : List (Place × StoredName)) (i : ℕ) (e : Place × StoredName) (p : Place) : Type 0 where
   pub within : i < length es
   pub at : e ≡ get_or es i e
@@ -141,12 +141,12 @@ module _ (es : List (Place × StoredName)) (i : ℕ) (e : Place × StoredName) (
       ap (λ (l : List (Place × StoredName)). stored_at l q) is_set
       ∙ lookup-set_value (eq_by_cmp_equiv place_total) (is_at (place_cmp p)) (λ j k h. (eq_by_cmp_equiv place_total).congr p j k h) q x es replaced_stored
 
--- ---- names of different places
+-- ---- Lists with different places
 
 pub disjoint_alone : (es fs : List (Place × StoredName)) → fs ≡ [] → AreDisjoint es fs
 disjoint_alone es fs none q some = ap (λ (l : List (Place × StoredName)). stored_at l q) none
 
--- a place that has a name gets another
+-- If a place that has a name in the first list gains another name there, the lists stay disjoint.
 disjoint_replaced : (es ds fs : List (Place × StoredName)) (p : Place) (x : StoredName) → AreDisjoint es fs → IsSome (stored_at es p) → Gains es ds p x → AreDisjoint ds fs
 disjoint_replaced es ds fs p x apart has names q some = apart q (by (is_at (place_cmp p) q) refl (ap is_some (sym (names q)) ∙ some))
   where
@@ -154,7 +154,7 @@ disjoint_replaced es ds fs p x apart has names q some = apart q (by (is_at (plac
     by true hit t = ap is_some (sym (same_stored es q p hit)) ∙ has
     by false hit t = t
 
--- the entry at a position gets another name
+-- The same for the entry at a position.
 pub replaced_disjoint : (es fs : List (Place × StoredName)) (i : ℕ) (e : Place × StoredName) (p : Place) (x : StoredName) → Ascends es → AreDisjoint es fs → Replaces es i e p
     → AreDisjoint (set es i (e.0, x)) fs
 replaced_disjoint es fs i e p x s apart r = disjoint_replaced es (set es i (e.0, x)) fs p x apart (replaced_stored es i e p x s r) (replaced_gains es i e p x s r)
@@ -163,7 +163,7 @@ pub replaced_gains_all : (es fs : List (Place × StoredName)) (i : ℕ) (e : Pla
     → Gains (fs ++ es) (fs ++ set es i (e.0, x)) p x
 replaced_gains_all es fs i e p x s apart r = gains_back fs es (set es i (e.0, x)) p x (apart p (replaced_stored es i e p x s r)) (replaced_gains es i e p x s r)
 
--- a place that has no name in the first list gets one in the second
+-- If a place without a name in the first list gains one in the second, the lists stay disjoint.
 pub disjoint_gains : (es fs gs : List (Place × StoredName)) (p : Place) (x : StoredName) → AreDisjoint es fs → stored_at es p ≡ None → Gains fs gs p x → AreDisjoint es gs
 disjoint_gains es fs gs p x apart none names q some = names q ∙ by (is_at (place_cmp p) q) refl
   where
@@ -171,20 +171,20 @@ disjoint_gains es fs gs p x apart none names q some = names q ∙ by (is_at (pla
     by true hit = absurd (true≢false (sym some ∙ ap is_some (sym (same_stored es q p hit) ∙ none)))
     by false hit = apart q some
 
--- a place with no name in both lists has none in their union
+-- A place without a name in both lists has no name in the two lists together.
 pub none_either : (es fs : List (Place × StoredName)) (p : Place) → stored_at es p ≡ None → stored_at fs p ≡ None → is_some (stored_at (es ++ fs) p) ≡ false
 none_either es fs p front back = ap is_some (stored_either es fs p ∙ ap (λ (o : Option StoredName). option_or o (stored_at fs p)) front) ∙ ap is_some back
 
--- a place above all others has no name
+-- A place above all others has no name.
 pub none_above : (es : List (Place × StoredName)) (p : Place) → AllAreBefore es (length es) p → stored_at es p ≡ None
 none_above es p before = sym (none_there es p (length es) before (λ k d low high. absurd (omega (arith, low, high))))
 
--- where there is no name, none stands in front
+-- If both lists together are empty, so is the first list.
 pub none_in_front : {P : Type 0} (es fs : List (Place × StoredName)) (b : Bool) → es ++ fs ≡ [] → (IsTrue b → length es ≡ 0) × (length es ≡ 0 → IsTrue b) → b ≡ false → P
 none_in_front [] fs b none says some = absurd (true≢false (sym (says.1 refl) ∙ some))
 none_in_front (e ∷ es) fs b none says some = absurd cc
 
--- the lists by other terms
+-- `Gains` for lists that are equal to the given ones.
 pub gains_by : (a b c d : List (Place × StoredName)) (p : Place) (x : StoredName) → a ≡ b → d ≡ c → Gains a c p x → Gains b d p x
 gains_by a b c d p x old new h =
     subst (λ (es : List (Place × StoredName)). Gains b es p x) (sym new) (subst (λ (es : List (Place × StoredName)). Gains es c p x) old h)

@@ -1,4 +1,4 @@
--- A loop that adds the entries of subsections to a store.
+-- A loop that adds the entries of subsections to the store.
 use Rattle.std.proofs.Common.{◌≡◌, ◌≢◌, ◌<◌, List, [], ◌∷◌, ◌++◌, length, Option, Some, None, refl, sym, ap, ◌∙◌, subst, arith}
 use Rattle.std.specs.Prelude.{MatchOption}
 use Rattle.std.proofs.lemmas.List.{append-nil}
@@ -12,12 +12,13 @@ use Rattle.wasmprinter_names.specs.Adds.{Grows, AddsUpTo, WantsMemory, AddsBefor
 use Rattle.wasmprinter_names.specs.declared.store.NamesBuilder.{NamesBuilder}
 use Rattle.wasmprinter_names.proofs.Loops.{grows_none, grows_more, left-some, right-some}
 
--- Whatever adds the subsections that are left completes what was added; an entry in them is one of all.
+-- Adding the remaining subsections completes the entries that were added. If the remaining subsections
+-- have an entry, so has the whole.
 pub record Underway (start : Input) (old : NamesBuilder) (at : Input) (now : NamesBuilder) : Type 0 where
   pub completes : (new : NamesBuilder) → AddsAll at now new → AddsAll start old new
   pub some : GivesSome at → GivesSome start
 
--- ---- one subsection more
+-- ---- One more subsection
 
 module _ (at : Input) (a b : NamesBuilder) (some : at.bytes ≢ []) where
   more_by : (mid : Input) (new : NamesBuilder) (xs : List Entry) (groups : List (List Entry)) (end : Option Input) → subsection.read at ≡ (xs, end)
@@ -78,7 +79,7 @@ module _ (at : Input) (a b : NamesBuilder) (some : at.bytes ≢ []) where
   underway_stopped start old Memory u h = u.some (some_here h)
   underway_stopped start old _ u h = absurd h
 
--- ---- no subsection more
+-- ---- No more subsections
 
 all_ended : (at : Input) (a : NamesBuilder) → at.bytes ≡ [] → AddsAll at a a
 all_ended at a none gives ([], n, e) = subst (λ (ys : List Entry). Grows a a ys) (sym e) (grows_none a)

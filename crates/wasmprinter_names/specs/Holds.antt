@@ -1,4 +1,4 @@
--- A store against the entries that were added to it.
+-- The store, and the entries that were added to it.
 use Rattle.std.specs.Prelude.{◌≡◌, ℕ, List, [], ◌∷◌}
 use Rattle.std.specs.BTreeSet.{contains}
 use Rattle.wasmprinter_spec.specs.Names.Section.{Entry}
@@ -7,12 +7,12 @@ use Rattle.wasmprinter_names.specs.Views.{given_cmp, items_view, name_at}
 use Rattle.wasmprinter_names.specs.declared.store.Given.{Given}
 use Rattle.wasmprinter_names.specs.declared.store.NamesBuilder.{NamesBuilder}
 
--- the names of these entries in front of those given before, the last one first
+-- The names of these entries, the last one first, before the names given earlier.
 abbrev pub names_given : List (List ℕ) → List Entry → List (List ℕ)
 names_given given [] = given
 names_given given (e ∷ entries) = names_given (e.name ∷ given) entries
 
--- the store knows which names were given, and for each item the name that its last entry gives
+-- The store records which names were given, and for each item the name that its last entry gives.
 pub record Holds (entries : List Entry) (b : NamesBuilder) : Type 0 where
   pub given : (q : Given) → contains given_cmp b.given q ≡ is_among q.name.now (names_given [] (entries_in q.subsection q.outer entries))
   pub names : (s outer index : ℕ) → name_at (items_view b.names) s outer index ≡ name_of entries s outer index

@@ -1,4 +1,4 @@
--- A label with its name, as the definitions see it.
+-- The label with its name that a value of the program represents.
 use Rattle.wasmprinter_names.specs.Views.{name_view}
 use Rattle.wasmprinter_names.specs.Labels.{NamedLabel}
 use Rattle.wasmprinter_names.specs.declared.store.LabelName.{LabelName}

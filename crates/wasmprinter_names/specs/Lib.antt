@@ -1,4 +1,4 @@
--- What the contracts of names and identifiers cite.
+-- The definitions that the contracts of names and identifiers use.
 pub mod Spaces
 pub mod Views
 pub mod Lookups

@@ -1,4 +1,4 @@
--- Names by their places, in a list.
+-- Names in a list, ordered by their places.
 use Rattle.std.specs.Prelude.{◌≡◌, ◌↔◌, ℕ, List, length, Bool, true, false, slice_index_or, Option, Some, None, IsSome, if◌then◌else◌}
 use Rattle.std.specs.declared.cmp.Ordering.TheVariants.{Less, Greater}
 use Rattle.std.specs.List.{Any, AllWithin}
@@ -9,30 +9,30 @@ use Rattle.wasmprinter_names.specs.Views.{place_cmp}
 use Rattle.wasmprinter_names.specs.declared.store.Place.{Place}
 use Rattle.wasmprinter_names.specs.declared.store.StoredName.{StoredName}
 
--- each place is below those behind it
+-- The places are in strictly ascending order.
 abbrev pub Ascends : List (Place × StoredName) → Type 0
 Ascends entries = IsStrictlySortedBy place_cmp (keys_of entries)
 
--- the name at a place
+-- The name at a place.
 abbrev pub stored_at : List (Place × StoredName) → Place → Option StoredName
 stored_at entries place = lookup (is_at (place_cmp place)) entries
 
--- the name comes to its place, and those at other places stay
+-- The place has the given name in the new list, and every other place has the name that it had before.
 abbrev pub Gains : List (Place × StoredName) → List (Place × StoredName) → Place → StoredName → Type 0
 Gains old new place stored = (q : Place) → stored_at new q ≡ (if is_at (place_cmp place) q then Some stored else stored_at old q)
 
--- the entries in front of a position have lower places than this one
+-- The entries before position i have lower places than this one.
 abbrev pub AllAreBefore : List (Place × StoredName) → ℕ → Place → Type 0
 AllAreBefore entries i place = AllWithin (λ e. place_cmp e.0 place ≡ Less) entries 0 i
 
--- those from a position on have higher places
+-- The entries from position i on have higher places than this one.
 abbrev pub AllAreBehind : List (Place × StoredName) → ℕ → Place → Type 0
 AllAreBehind entries i place = AllWithin (λ e. place_cmp e.0 place ≡ Greater) entries i (length entries)
 
--- no place has a name in both lists
+-- No place has a name in both lists.
 abbrev pub AreDisjoint : List (Place × StoredName) → List (Place × StoredName) → Type 0
 AreDisjoint es fs = (q : Place) → IsSome (stored_at es q) → stored_at fs q ≡ None
 
--- a subsection is marked if and only if an entry is of it
+-- A subsection is marked exactly if an entry belongs to it.
 abbrev pub AreMarked : List (Place × StoredName) → List Bool → Type 0
 AreMarked entries marks = (s : ℕ) → (slice_index_or marks s false ≡ true) ↔ Any (λ e. e.0.subsection ≡ s) entries

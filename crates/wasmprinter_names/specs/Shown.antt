@@ -1,4 +1,4 @@
--- The identifiers of a text, as the definitions see them.
+-- The identifiers that the program's identifiers represent.
 use Rattle.std.specs.Prelude.{ℕ, Bool, true, false, Option, Some, None}
 use Rattle.wasmprinter_spec.specs.Labels.{Named}
 use Rattle.wasmprinter_spec.specs.Names.{Names, names_by}
@@ -9,7 +9,7 @@ use Rattle.wasmprinter_names.specs.declared.identifiers.Identifier.{Identifier}
 use Rattle.wasmprinter_names.specs.declared.identifiers.Identifier.TheVariants.{Given, Invented}
 use Rattle.wasmprinter_names.specs.declared.identifiers.Identifiers.{Identifiers}
 
--- the identifier that is made up for an item of a subsection
+-- The synthesized identifier of an item of a subsection.
 abbrev pub invented_name : ℕ → ℕ → Named
 invented_name s number = record { given = None; content = index_content (group_of s) number }
 
@@ -21,6 +21,6 @@ abbrev pub identifier_view : Identifier → Named
 identifier_view (Given name) = name_view name
 identifier_view (Invented space number) = invented_name (id_of space) number
 
--- the identifiers of a module
+-- The identifiers of a module.
 abbrev pub names_of_identifiers : Identifiers → Names
 names_of_identifiers x = names_by x.invents (name_at x.names.now)

@@ -1,4 +1,4 @@
--- The subsection that gives names for a space.
+-- The subsection that names the items of an index space.
 use Rattle.std.specs.Prelude.{ℕ, if◌then◌else◌}
 use Rattle.wasmprinter_spec.specs.Names.Section.{function_subsection, local_subsection, label_subsection, type_subsection, table_subsection, memory_subsection, global_subsection, elem_subsection, data_subsection, field_subsection, tag_subsection, is_indirect}
 use Rattle.wasmprinter_names.specs.declared.space.Space.{Space}
@@ -17,6 +17,6 @@ id_of Data = data_subsection
 id_of Field = field_subsection
 id_of Tag = tag_subsection
 
--- 0 for what isn't numbered within a function or a type
+-- The function or type in which an item is numbered, and 0 for items that are not numbered within one.
 abbrev pub outer_of : Space → ℕ → ℕ
 outer_of space outer = if is_indirect (id_of space) then outer else 0

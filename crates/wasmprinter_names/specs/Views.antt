@@ -1,4 +1,4 @@
--- The names that a store keeps, as the definitions see them.
+-- The names that the names in the store represent.
 use Rattle.std.specs.Prelude.{ℕ, List, [], ◌∷◌, map, ◌&&◌, ◌==◌, Option, Some, None, if◌then◌else◌}
 use Rattle.std.specs.declared.string.String.{String}
 use Rattle.std.specs.declared.cmp.Ordering.{Ordering}
@@ -18,7 +18,7 @@ given_cmp a b =
 abbrev pub place_cmp : Place → Place → Ordering
 place_cmp a b = ordering_then (nat_cmp a.subsection b.subsection) (ordering_then (nat_cmp a.outer b.outer) (nat_cmp a.index b.index))
 
--- the text, if there is one, and else the name
+-- The text if there is one, and otherwise the name.
 abbrev pub content_or : {Z : Type 0} → Option (String Z) → List ℕ → List ℕ
 content_or (Some text) name = string_bytes text
 content_or None name = name
@@ -29,7 +29,7 @@ stored_view n = record { given = Some n.given.now; content = content_or n.marked
 abbrev pub name_view : Name → Named
 name_view n = record { given = Some n.given.now; content = n.content.now }
 
--- a named item: the id of its subsection, its function or type, its index, and its name
+-- A named item: the id of its subsection, its function or type, its index, and its name.
 pub record NamedItem : Type 0 where
   pub subsection : ℕ
   pub outer : ℕ
@@ -42,7 +42,7 @@ item_view e = record { subsection = e.0.subsection; outer = e.0.outer; index = e
 abbrev pub items_view : List (Place × StoredName) → List NamedItem
 items_view names = map item_view names
 
--- the name of an item
+-- The name of an item.
 abbrev pub name_at : List NamedItem → ℕ → ℕ → ℕ → Option Named
 name_at [] s outer index = None
 name_at (x ∷ xs) s outer index =

@@ -1,24 +1,25 @@
-//! Where items probably stand in the list of those that have names. No answer rests on it: who looks an item up sees whether it stands
-//! there.
+//! The likely positions of items in the list of items with names. A position is only a hint: each lookup verifies it.
 ghost use Rattle.std.specs.Prelude.{◌≡◌, [], IsOk};
 
 use crate::store::{Place, StoredName};
 use std::alloc::{AllocError, Global};
 
-/// Where the items of a subsection stand, by the function or type that they are numbered within.
+/// The positions of the items of a subsection, by the function or type in which they are numbered.
 #[derive(Drop)]
 struct Beginnings {
     /// The first function or type that has items.
     first: u64,
-    /// Where its items begin, those of the next one, and so on. One without items begins where the next ones do.
+    /// The start of its items, of those of the next function or type, and so on. A function or type without items has
+    /// the start of the next items.
     begins: Vec<usize>,
-    /// Where the last items end.
+    /// The end of the last items.
     end: usize,
 }
 
 impl Beginnings {
-    /// Takes in an item that stands behind the ones so far. `limit` is how many functions or types may be told apart: a module may name
-    /// a local of its last function alone, and memory is to grow with the names, not with the functions.
+    /// Adds an item after the items so far. `limit` is the greatest number of functions or types that get a
+    /// start of their own: a module may name a local of its last function only, and memory must grow with the
+    /// names, not with the functions.
     fn add(&mut self, outer: u64, position: usize, limit: usize) -> Result<(), AllocError> {
         let ahead = outer.saturating_sub(self.first) as usize;
         if ahead < limit {
@@ -30,12 +31,13 @@ impl Beginnings {
         Ok(())
     }
 
-    /// Where the items of a function or type begin, which is so many behind the first one.
+    /// Returns the start of the items of a function or type, given its distance from the first one.
     fn begin(&self, ahead: usize) -> usize {
         self.begins.get(ahead).copied().unwrap_or(self.end)
     }
 
-    /// Where an item stands if the indices in its function or type leave none out, and where it would stand if it has no name.
+    /// Returns the position of an item if the indices in its function or type have no gaps, and the position where it
+    /// would be if it has no name.
     fn likely(&self, entries: &[(Place, StoredName<'_>)], place: Place) -> usize {
         let Some(ahead) = place.outer.checked_sub(self.first) else {
             return self.begin(0);
@@ -48,18 +50,18 @@ impl Beginnings {
     }
 }
 
-/// Where items probably stand, by their subsections.
+/// The likely positions of items, by subsection.
 #[derive(Drop)]
 pub struct Guesses {
     subsections: Vec<Beginnings>,
 }
 
 impl Guesses {
-    /// By the items that have names, in the order of their places.
+    /// Returns the hints for items with names, given in the order of their places.
     ///
     /// # Errors
     ///
-    /// Where memory is refused. None is asked for without items.
+    /// If an allocation fails. Without items nothing is allocated.
     pub(crate) fn new(
         alloc: Global,
         entries: &[(Place, StoredName<'_>)],
@@ -75,7 +77,7 @@ impl Guesses {
         Ok(guesses)
     }
 
-    /// Takes in an item that stands behind the ones so far.
+    /// Adds an item after the items so far.
     fn add(
         &mut self,
         alloc: Global,
@@ -96,7 +98,7 @@ impl Guesses {
         }
     }
 
-    /// The position where an item probably stands, or would stand.
+    /// Returns the likely position of an item, or the position where it would be.
     pub(crate) fn likely(&self, entries: &[(Place, StoredName<'_>)], place: Place) -> usize {
         match self.subsections.get(usize::from(place.subsection)) {
             Some(beginnings) => beginnings.likely(entries, place),

@@ -1,4 +1,5 @@
-//! The identifiers that a text has for the items of a module (section 6.3 of the WebAssembly Core Specification, "Identifiers").
+//! The identifiers of a module's items in the text (section 6.3 of the WebAssembly Core
+//! Specification, "Identifiers").
 ghost use Rattle.std.specs.Prelude.{◌≡◌, Some, None, option_map};
 ghost use Rattle.wasmprinter_spec.specs.Names.{name_in};
 ghost use Rattle.wasmprinter_spec.specs.Names.Section.{module_subsection};
@@ -12,22 +13,22 @@ use crate::store::{Name, NameEntries, Names};
 /// The identifier of an item.
 #[derive(Clone, Copy, Debug, PartialEq, Eq)]
 pub enum Identifier<'a> {
-    /// That of a name which a name section gives.
+    /// The identifier for a name that a name section gives.
     Given(Name<'a>),
-    /// Made up of the sign `#`, the word for the items of the space, and the number.
+    /// A synthesized identifier: the sign `#`, the word for the items of the space, and the number.
     Invented { space: Space, number: u64 },
 }
 
-/// The names of a module, and whether identifiers are made up for items without one.
+/// The names of a module, and whether identifiers are synthesized for items without a name.
 #[derive(Clone, Copy)]
 pub struct Identifiers<'n, 'a> {
     /// The names that the module's name sections give.
     pub names: &'n Names<'a>,
-    /// Whether identifiers are made up.
+    /// Whether identifiers are synthesized.
     pub invents: bool,
 }
 
-/// An identifier that is made up, where any are.
+/// Returns a synthesized identifier, or `None` if identifiers are not synthesized.
 fn invented_identifier<'n>(invents: bool, space: Space, number: u64) -> Option<Identifier<'n>>
     ensures { option_map identifier_view result ≡ invented_view invents (id_of space) number }
 {
@@ -35,7 +36,8 @@ fn invented_identifier<'n>(invents: bool, space: Space, number: u64) -> Option<I
 }
 
 impl<'n> Identifiers<'n, '_> {
-    /// The identifier of an item. `outer` is the function of a local and the type of a field, and else ignored.
+    /// Returns the identifier of an item. `outer` is the function of a local or label or the type of a field; for
+    /// other items it is ignored.
     pub fn item(&self, space: Space, outer: u64, number: u64) -> Option<Identifier<'n>>
         ensures { option_map identifier_view result
             ≡ name_in self.now.invents (name_at self.now.names.now) (id_of space) (outer_of space outer) number }
@@ -46,7 +48,7 @@ impl<'n> Identifiers<'n, '_> {
         }
     }
 
-    /// The identifier of the module, which is never made up.
+    /// Returns the identifier of the module, which is never synthesized.
     pub fn module(&self) -> Option<Identifier<'n>>
         ensures { option_map identifier_view result ≡ name_at self.now.names.now module_subsection 0 0 }
     {

@@ -1,5 +1,5 @@
-//! The names that name sections give to the items of a module (appendix "Name Section" of the WebAssembly Core Specification, and the
-//! extended name section proposal).
+//! The names that name sections give to the items of a module (appendix "Name Section" of the WebAssembly Core
+//! Specification, and the extended name section proposal).
 #![tactic(auto)]
 
 mod guesses;

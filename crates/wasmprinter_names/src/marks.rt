@@ -1,12 +1,12 @@
-//! Which subsections gave names.
+//! The subsections that give names.
 ghost use Rattle.wasmprinter_names.specs.Lookups.{AreMarked};
 
 use crate::store::{Place, StoredName};
 
-/// As many as ids that a byte tells.
+/// The number of possible subsection ids.
 pub(crate) const SUBSECTIONS: usize = 256;
 
-/// Of each subsection, by its id, whether any of these items is of it.
+/// Returns for each subsection, by its id, whether one of the items belongs to it.
 pub(crate) fn marks_of(entries: &[(Place, StoredName<'_>)]) -> [bool; SUBSECTIONS]
     ensures { AreMarked entries.now result }
 {

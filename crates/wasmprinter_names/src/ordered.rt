@@ -1,4 +1,4 @@
-//! The names of a module by the places of its items, while they come in.
+//! The names of a module, ordered by the places of its items, while they are added.
 ghost use Rattle.std.specs.Prelude.{◌≡◌, ◌<◌, ◌++◌, ◌∷◌, ◌↔◌, List, [], length, vec_len, vec_capacity, is_some, true};
 ghost use Rattle.std.specs.Prelude.{slice_index_or, slice_set, IfSome, IfOk, OnOk, OnErr, IsOk, IsTrue, MatchOption, Some, None, false};
 ghost use Rattle.std.specs.Ordering.{is_lt};
@@ -14,10 +14,11 @@ use std::alloc::{AllocError, Global};
 use std::collections::BTreeMap;
 use std::marker::Model;
 
-/// Names by their places.
+/// Names, ordered by their places.
 #[derive(Drop)]
 pub(crate) struct NamesInOrder<'a> {
-    /// The names that were added while each place was above all places before it. In nearly every module these are all names.
+    /// The names whose place, when they were added, was above all places before it. In nearly every
+    /// module these are all names.
     ascending: Vec<(Place, StoredName<'a>)>,
     /// The names of all other places. Inserting them in the middle of the list would take linear time.
     late: BTreeMap<Place, StoredName<'a>>,
@@ -33,7 +34,7 @@ impl<'a> Model for NamesInOrder<'a> {
 }
 
 impl<'a> NamesInOrder<'a> {
-    /// No name.
+    /// Returns an empty collection.
     pub(crate) fn new(alloc: Global) -> Self
         ensures { result ≡ [] }
     {
@@ -83,7 +84,7 @@ impl<'a> NamesInOrder<'a> {
     }
 }
 
-/// Returns whether no name came late and this place is above the places of all names.
+/// Reports whether no name was added late and this place is above the places of all names.
 fn in_order(
     ascending: &[(Place, StoredName<'_>)],
     late: &BTreeMap<Place, StoredName<'_>>,
@@ -158,7 +159,7 @@ fn merge<'a>(
     without_spare(all)
 }
 
-/// Takes a name out if its place is below this one.
+/// Takes the name in `next` if its place is below this one.
 fn take_before<'a>(
     next: &mut Option<(Place, StoredName<'a>)>,
     place: Place,

@@ -1,4 +1,4 @@
-//! Reading the data of a name section. Reading stops at the first fault; what stands in front of it counts.
+//! Reads the data of a name section. Reading stops at the first error; the names before it count.
 ghost use Rattle.std.specs.Prelude.{◌≡◌, ◌++◌, List, [], OnOk, IfErr, IsOk};
 ghost use Rattle.wasmprinter_error.specs.declared.error.Error.TheVariants.{Memory};
 ghost use Rattle.wasmprinter_spec.specs.Names.Section.{Entry, entry, module_name, name_map, inner_map, indirect_map, content};
@@ -28,7 +28,7 @@ fn read_entry<'a>(
     Ok(())
 }
 
-/// Adds the names of a map.
+/// Adds the names of a name map.
 fn read_map<'a>(
     alloc: Global,
     builder: &mut NamesBuilder<'a>,
@@ -45,7 +45,7 @@ fn read_map<'a>(
     Ok(())
 }
 
-/// Adds the names of the map of one function or type.
+/// Adds the names of one function or type in an indirect name map.
 fn read_inner_map<'a>(
     alloc: Global,
     builder: &mut NamesBuilder<'a>,
@@ -58,7 +58,7 @@ fn read_inner_map<'a>(
     read_map(alloc, builder, subsection, outer, cursor)
 }
 
-/// Adds the names of a map of maps.
+/// Adds the names of an indirect name map.
 fn read_indirect_map<'a>(
     alloc: Global,
     builder: &mut NamesBuilder<'a>,
@@ -132,11 +132,12 @@ fn read_subsections<'a>(
     Ok(())
 }
 
-/// Adds the names that the data of a name section gives, up to the first fault in it. Several sections are added in their order.
+/// Adds the names that the data of a name section gives, up to the first error in it.
+/// Several sections are added in order.
 ///
 /// # Errors
 ///
-/// `Memory` where a growth is refused, which needs an entry. The builder then holds some of the names.
+/// `Memory` if an allocation fails. The builder then holds some of the names. Without entries nothing is allocated.
 pub fn read_names<'a>(
     alloc: Global,
     builder: &mut NamesBuilder<'a>,
@@ -146,7 +147,7 @@ pub fn read_names<'a>(
         → Holds (entries ++ gives) builder.new) }
     ensures memory { IfErr result (λ e. e ≡ Memory) }
 
-    // Memory is wanted for entries alone.
+    // Only entries need memory.
     ensures needed { GivesNames section.entry [] → IsOk result }
 {
     let mut cursor = section;

@@ -1,4 +1,4 @@
-//! Looking a place up among names whose places ascend.
+//! Lookup of a place in a list of names whose places ascend.
 ghost use Rattle.std.specs.Prelude.{◌≡◌, ◌<◌, ◌≤◌, length, None, IsTrue, IfSome, IfNone, option_copied};
 ghost use Rattle.std.specs.List.{HoldsAt};
 ghost use Rattle.std.specs.declared.cmp.Ordering.TheVariants.{Equal};
@@ -7,7 +7,7 @@ ghost use Rattle.wasmprinter_names.specs.Views.{place_cmp};
 
 use crate::store::{Place, StoredName};
 
-/// Whether the last entry in front of a position shows that all of them have lower places than this one.
+/// Reports whether the last entry before a position shows that all entries before it have lower places than this one.
 pub(crate) fn all_before(entries: &[(Place, StoredName<'_>)], position: usize, place: Place) -> bool
     requires { Ascends entries.now }
     ensures before { IsTrue result → AllAreBefore entries.now position place }
@@ -22,7 +22,7 @@ pub(crate) fn all_before(entries: &[(Place, StoredName<'_>)], position: usize, p
     }
 }
 
-/// Whether the first entry from a position on shows that all of them have higher places than this one.
+/// Reports whether the first entry from a position on shows that all of these have higher places than this one.
 fn all_behind(entries: &[(Place, StoredName<'_>)], position: usize, place: Place) -> bool
     requires { Ascends entries.now }
     ensures { IsTrue result → AllAreBehind entries.now position place }
@@ -55,8 +55,8 @@ fn search<'e, 'a>(
     Some(&entries[position].1)
 }
 
-/// The name at a place. A good guess of the position where it stands, or would stand, makes the answer quick, and any guess leaves it the
-/// same.
+/// Returns the name at a place. `likely` is a hint of the position: a good hint makes the lookup fast,
+/// and no hint changes the result.
 pub(crate) fn find<'e, 'a>(
     entries: &'e [(Place, StoredName<'a>)],
     likely: usize,

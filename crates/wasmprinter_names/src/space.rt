@@ -1,24 +1,24 @@
-//! What names are given for.
+//! The index spaces whose items can have names.
 ghost use Rattle.std.specs.Prelude.{◌≡◌};
 
 use crate::subsection;
 
-/// What names are given for, the module aside.
+/// An index space whose items can have names. The name of the module itself is in none of them.
 #[derive(Clone, Copy, Debug, PartialEq, Eq)]
 pub enum Space {
-    /// Functions, imported ones first.
+    /// Functions, imports first.
     Func,
     /// Parameters and locals of a function.
     Local,
-    /// Blocks of a function, in the order in which they are opened.
+    /// The blocks of a function, in the order in which they are opened.
     Label,
     /// Types.
     Types,
-    /// Tables, imported ones first.
+    /// Tables, imports first.
     Table,
-    /// Memories, imported ones first.
+    /// Memories, imports first.
     Memory,
-    /// Globals, imported ones first.
+    /// Globals, imports first.
     Global,
     /// Element segments.
     Elem,
@@ -26,7 +26,7 @@ pub enum Space {
     Data,
     /// Fields of a structure type.
     Field,
-    /// Tags, imported ones first.
+    /// Tags, imports first.
     Tag,
 }
 
@@ -35,7 +35,7 @@ impl Space {
     ghost use Rattle.wasmprinter_spec.specs.Names.Content.{group_of};
     ghost use Rattle.wasmprinter_names.specs.Spaces.{id_of};
 
-    /// The id of the subsection that gives the names.
+    /// Returns the id of the subsection that names these items.
     pub(crate) fn subsection(self) -> u8
         ensures { result ≡ id_of self }
     {
@@ -54,14 +54,14 @@ impl Space {
         }
     }
 
-    /// Whether the items are numbered within a function or a type.
+    /// Reports whether the items are numbered within a function or a type.
     pub(crate) fn is_indirect(self) -> bool
         ensures { result ≡ is_indirect (id_of self) }
     {
         matches!(self, Space::Local | Space::Label | Space::Field)
     }
 
-    /// The word for the items, which stands in identifiers that are made up.
+    /// Returns the word for the items, which occurs in synthesized identifiers.
     pub fn word(self) -> &'static str
         ensures { result.now ≡ group_of (id_of self) }
     {

@@ -1,4 +1,4 @@
-//! The names of a module, by the items that they are given for.
+//! The names of a module, by item.
 ghost use Rattle.std.specs.Prelude.{◌≡◌, ◌++◌, ◌∷◌, [], ℕ, List, map, not, vec_len, vec_capacity};
 ghost use Rattle.std.specs.Prelude.{IfOk, OnOk, IsOk, option_map, option_copied};
 ghost use Rattle.wasmprinter_spec.specs.LabelNames.{is_clean, label_content};
@@ -20,12 +20,12 @@ use std::alloc::{AllocError, Global};
 use std::collections::BTreeSet;
 use std::marker::Model;
 
-/// A name, and the identifier that the text has for what it names.
+/// A name, and the identifier of the named item in the text.
 #[derive(Clone, Copy, Debug, PartialEq, Eq)]
 pub struct Name<'a> {
     /// The name as a name section gives it.
     pub given: &'a str,
-    /// What stands behind the dollar sign. It begins with `#` where it isn't the name itself.
+    /// The identifier without its dollar sign. It begins with `#` if it is not the name itself.
     pub content: &'a str,
 }
 
@@ -34,45 +34,45 @@ pub struct Name<'a> {
 pub struct LabelName<'a> {
     /// The function whose body has the label.
     pub function: u64,
-    /// Which of the function's blocks has it, in the order in which they are opened.
+    /// The position of its block among the function's blocks, in the order in which they are opened.
     pub number: u64,
-    /// Its name.
+    /// The name of the label.
     pub name: Name<'a>,
 }
 
-/// A name that was given in a space.
+/// A name that was given in an index space.
 #[derive(Clone, Copy, PartialEq, Eq, PartialOrd, Ord)]
 pub struct Given<'a> {
-    /// The id of the subsection that gave it.
+    /// The id of the subsection that gives the name.
     subsection: u8,
-    /// The function of a local or a label, the type of a field, and 0 for all else.
+    /// The function of a local or a label, the type of a field, and 0 for all other items.
     outer: u64,
     /// The name.
     name: &'a str,
 }
 
-/// An item of a space.
+/// An item of an index space.
 #[derive(Clone, Copy, PartialEq, Eq, PartialOrd, Ord)]
 pub struct Place {
     /// The id of the subsection that names items of the space.
     pub(crate) subsection: u8,
-    /// The function of a local or a label, the type of a field, and 0 for all else.
+    /// The function of a local or a label, the type of a field, and 0 for all other items.
     pub(crate) outer: u64,
-    /// The index of the item, of a label its number.
+    /// The index of the item or, for a label, its number.
     pub(crate) index: u64,
 }
 
-/// A name as it is kept.
+/// A stored name.
 #[derive(Drop)]
 pub struct StoredName<'a> {
     /// The name as a name section gives it.
     given: &'a str,
-    /// What stands behind the dollar sign where it isn't the name itself.
+    /// The identifier without its dollar sign, if it is not the name itself.
     marked: Option<String>,
 }
 
 impl StoredName<'_> {
-    /// The name as it was given, and what stands behind the dollar sign for it.
+    /// Returns the name as it was given, with the identifier for it.
     fn name(&self) -> Name<'_>
         ensures { name_view result ≡ stored_view self.now }
     {
@@ -87,15 +87,15 @@ impl StoredName<'_> {
     }
 }
 
-/// Whether a name isn't empty and begins with another character than `#`.
+/// Reports whether a name is not empty and does not begin with `#`.
 fn is_clean(name: &str) -> bool
     ensures { result ≡ is_clean name.now }
 {
     !name.is_empty() && name.as_bytes()[0] != b'#'
 }
 
-/// What stands behind the dollar sign for a name, unless it is the name itself. `is_new` says that the name wasn't given in its space
-/// before.
+/// Returns the identifier for a name, without its dollar sign, or `None` if it is the name itself. `is_new` says that
+/// the name was not given before in its space.
 fn marked_content(
     alloc: Global,
     subsection: u8,
@@ -115,10 +115,10 @@ fn marked_content(
     }
 }
 
-/// The names of a module while its name sections are read.
+/// Collects the names of a module while its name sections are read.
 #[derive(Drop)]
 pub struct NamesBuilder<'a> {
-    /// The names that were given so far, replaced ones too.
+    /// All names that were given so far, including replaced ones.
     given: BTreeSet<Given<'a>>,
     names: NamesInOrder<'a>,
     ghost of_labels: { AreOfLabels (items_view names) },
@@ -127,7 +127,7 @@ pub struct NamesBuilder<'a> {
 impl<'a> NamesBuilder<'a> {
     ghost use Rattle.wasmprinter_names.specs.Holds.{Holds};
 
-    /// No name.
+    /// Returns an empty builder.
     pub fn new(alloc: Global) -> Self
         ensures { Holds [] result }
     {
@@ -137,7 +137,8 @@ impl<'a> NamesBuilder<'a> {
         }
     }
 
-    /// Gives an item a name, in place of one that it has. Fails where memory is refused, and the builder is then of no use.
+    /// Gives an item a name, which replaces the name that the item has. Returns an error if an allocation fails; the
+    /// builder must then not be used any more.
     pub(crate) fn add(
         &mut self,
         alloc: Global,
@@ -191,14 +192,14 @@ impl<'a> NamesBuilder<'a> {
     }
 }
 
-/// The names of a module. They borrow from its bytes.
+/// The names of a module, which borrow from its bytes.
 #[derive(Drop)]
 pub struct Names<'a> {
-    /// The items that have names, by their places, which ascend.
+    /// The items that have names, in ascending order of their places.
     entries: Vec<(Place, StoredName<'a>)>,
-    /// Where an item probably stands among them.
+    /// The likely positions of items in the list.
     guesses: Guesses,
-    /// Whether any of them is of the subsection, by its id.
+    /// For each subsection, by its id, whether one of the items belongs to it.
     named: [bool; SUBSECTIONS],
 }
 
@@ -212,7 +213,8 @@ impl<'a> Model for Names<'a> {
 }
 
 impl Names<'_> {
-    /// The name at a place, at once where its subsection gave none: each use of a local asks, and many modules name functions alone.
+    /// Returns the name at a place. Returns at once if its subsection gives no names: each use of a local looks its
+    /// name up, and many modules name only functions.
     #[inline]
     fn get(&self, place: Place) -> Option<Name<'_>>
         ensures { option_map name_view result ≡ name_at self.now place.subsection place.outer place.index }
@@ -223,7 +225,7 @@ impl Names<'_> {
         self.look_up(place)
     }
 
-    /// The name at a place, by a search.
+    /// Searches for the name at a place.
     #[inline(never)]
     fn look_up(&self, place: Place) -> Option<Name<'_>>
         ensures { option_map name_view result ≡ name_at self.now place.subsection place.outer place.index }
@@ -232,8 +234,8 @@ impl Names<'_> {
         find(&self.entries, likely, place).map(|stored| stored.name())
     }
 
-    /// What stands behind the dollar sign for an item, `None` where no name is given for it. `outer` is the function of a local or a label
-    /// and the type of a field, and else ignored.
+    /// Returns the identifier of an item, without its dollar sign, or `None` if the item has no name. `outer` is the
+    /// function of a local or a label or the type of a field; for other items it is ignored.
     pub fn identifier(&self, space: Space, outer: u32, index: u32) -> Option<&str>
         ensures { option_copied result ≡ option_map (λ n. n.content) (name_at self.now (id_of space) (outer_of space outer) index) }
     {
@@ -241,7 +243,7 @@ impl Names<'_> {
             .map(|name| name.content)
     }
 
-    /// What stands behind the dollar sign for the module.
+    /// Returns the identifier of the module, without its dollar sign, or `None` if the module has no name.
     pub fn module(&self) -> Option<&str>
         ensures { option_copied result ≡ option_map (λ n. n.content) (name_at self.now module_subsection 0 0) }
     {
@@ -249,20 +251,20 @@ impl Names<'_> {
     }
 }
 
-/// The names of a module as they were given, each with the identifier that the text has for it.
+/// The names of a module as they were given, each with its identifier in the text.
 pub trait NameEntries {
-    /// The name of an item, `None` where none is given. `outer` is the function of a local or a label and the type of a field, and else
-    /// ignored.
+    /// Returns the name of an item, or `None` if it has none. `outer` is the function of a local or a label or the
+    /// type of a field; for other items it is ignored.
     fn name(&self, space: Space, outer: u64, index: u64) -> Option<Name<'_>>;
 
-    /// The labels that have names, by function and number.
+    /// Returns the labels that have names, by function and number.
     ///
     /// # Errors
     ///
-    /// Where memory is refused. None is asked for if no label has a name.
+    /// If an allocation fails. Nothing is allocated if no label has a name.
     fn labels(&self, alloc: Global) -> Result<Vec<LabelName<'_>>, AllocError>;
 
-    /// The name of the module.
+    /// Returns the name of the module.
     fn module_name(&self) -> Option<Name<'_>>;
 }
 

@@ -23,7 +23,7 @@ pub(crate) const TABLE: u8 = 5;
 /// The names of memories.
 pub(crate) const MEMORY: u8 = 6;
 
-/// The names of global variables.
+/// The names of globals.
 pub(crate) const GLOBAL: u8 = 7;
 
 /// The names of element segments.
@@ -38,7 +38,7 @@ pub(crate) const FIELD: u8 = 10;
 /// The names of tags.
 pub(crate) const TAG: u8 = 11;
 
-/// The word for the items that a subsection names.
+/// Returns the word for the items that a subsection names.
 pub(crate) fn group(subsection: u8) -> &'static str
     ensures { result.now ≡ group_of subsection }
 {
@@ -58,7 +58,7 @@ pub(crate) fn group(subsection: u8) -> &'static str
     }
 }
 
-/// Whether the names that a subsection gives count as given: no two items of a space may have one of them.
+/// Reports whether names of the subsection count as given: no two items of a space may share such a name.
 pub(crate) fn is_counted(subsection: u8) -> bool
     ensures { result ≡ is_counted subsection }
 {

@@ -9,7 +9,7 @@ use Rattle.wasmprinter_spec.specs.Operator.{Value, OfType}
 use Rattle.wasmprinter_spec.specs.Instructions.{block_type, block_type_by}
 use Rattle.wasmprinter_types.proofs.FirstBytes.{peeked_is, index_takes_byte, announced_takes_byte}
 
--- behind another first byte than those of the other block types stands a type index
+-- If the first byte is not 40 and does not begin a value type, reading the block type reads a type index.
 pub index_read : (at : Input) (first : ℕ) (x : ℕ × Input) → Some first ≡ slice_get at.bytes 0 → first ≢ 0x40 → begins_val_type first ≡ false
     → signed_index.parse at ≡ Some x → block_type.parse at ≡ Some (OfType x.0, x.1)
 index_read at first x f empty value e =
@@ -17,7 +17,7 @@ index_read at first x f empty value e =
     let chosen : (block_type_by first).parse at ≡ Some (OfType x.0, x.1) = rw (not_empty, value, e) refl in
     peeked_is block_type_by at first (OfType x.0, x.1) (sym f) chosen (index_takes_byte at x e)
 
--- behind the first byte of a value type stands one
+-- If the first byte begins a value type, reading the block type reads that value type.
 pub value_read : (at : Input) (first : ℕ) (x : ValType × Input) → Some first ≡ slice_get at.bytes 0 → first ≢ 0x40 → begins_val_type first ≡ true
     → val_type.parse at ≡ Some x → block_type.parse at ≡ Some (Value x.0, x.1)
 value_read at first x f empty value e =

@@ -1,4 +1,4 @@
--- A table by position has what the rows say.
+-- A table by position has the entries that the rows of the definitions list.
 use Rattle.std.proofs.Common.{◌≡◌, ℕ, zero, suc, ◌+◌, ◌<◌, ◌≤◌, ◌≢◌, Bool, true, false, cond, eqb, ltb, ◌&&◌, ◌||◌, List, [], ◌∷◌, length, get_or, map, refl, ap, ◌∙◌, Option, Some, None, arith}
 use Rattle.std.proofs.lemmas.Bool.{and_parts, ltb-true, eqb-true, ne_eqb}
 use Rattle.std.proofs.lemmas.List.{length-map}
@@ -8,7 +8,7 @@ use Rattle.wasmprinter_spec.specs.Table.{table, first, has_opcode, by_opcode, ro
 use Rattle.wasmprinter_ops.specs.ByNumber.{each_from, size_of, entry_of, each_entry, roles_size_of, each_role}
 
 module _ {A : Type 0} (f : ℕ → A) (d : A) where
-  -- at a position within, f of it
+  -- The entry at position k of the values of f from i on is f (i + k).
   get_or-each_from : (i n k : ℕ) → k < n → get_or (each_from f i n) k d ≡ f (i + k)
   get_or-each_from i zero k lt = absurd (omega arith)
   get_or-each_from i (suc n) zero lt = let e : i + 0 ≡ i = omega arith in rw e refl
@@ -16,12 +16,12 @@ module _ {A : Type 0} (f : ℕ → A) (d : A) where
       let e : i + 1 + k ≡ i + suc k = omega arith in
       get_or-each_from (i + 1) n k (omega arith) ∙ ap f e
 
-  -- there are so many of them
+  -- The values of f at n numbers are n values.
   length-each_from : (i n : ℕ) → length (each_from f i n) ≡ n
   length-each_from i zero = refl
   length-each_from i (suc n) = let h = length-each_from (i + 1) n in omega arith
 
--- a mapped list has the same positions
+-- A mapped list has the same positions.
 module _ {A B : Type 0} (f : A → B) (xs : List A) (n : ℕ) where
   pub same_length_lt : n < length xs → n < length (map f xs)
   same_length_lt lt = rw (length-map xs f) lt
@@ -29,17 +29,17 @@ module _ {A B : Type 0} (f : A → B) (xs : List A) (n : ℕ) where
   pub same_length_le : length xs ≤ n → length (map f xs) ≤ n
   same_length_le le = rw (length-map xs f) le
 
--- each row's number is below the size of the program's table for its prefix
+-- Each row's number is below the size of the program's table for its prefix.
 abbrev fits : List Row → Bool
 fits [] = true
 fits (r ∷ rs) = ltb r.number (size_of r.prefix) && fits rs
 
--- the table is so
+-- Every row of the table fits.
 table_fits : fits table ≡ true
 unfolding table
 table_fits = refl
 
--- the row has another opcode than one past the size
+-- A row whose number is below the size for its prefix does not have an opcode whose number is at least that size.
 past_row : (size : ℕ → ℕ) (r : Row) (o : Opcode) → r.number < size r.prefix → size o.prefix ≤ o.number → has_opcode o r ≡ true → ⊥
 past_row size r o lt le e =
     let parts = and_parts (eqb r.prefix o.prefix) (eqb r.number o.number) e in
@@ -48,23 +48,23 @@ past_row size r o lt le e =
     let s : size r.prefix ≡ size o.prefix = ap size p in
     omega arith
 
--- a row that does not pass is passed by
+-- If the test does not hold for the first row, and no later row is found, no row is found.
 no_first : (b : Bool) (r : Row) (x : Option Row) → (b ≡ true → ⊥) → x ≡ None → cond b (Some r) x ≡ None
 no_first true r x h e = absurd (h refl)
 no_first false r x h e = e
 
--- no row of a list that fits has an opcode past the size
+-- In a list of rows that fit, no row has an opcode whose number is at least the size for its prefix.
 past_rows : (rs : List Row) (o : Opcode) → fits rs ≡ true → size_of o.prefix ≤ o.number → first (has_opcode o) rs ≡ None
 past_rows [] o f le = refl
 past_rows (r ∷ rs) o f le =
     let parts = and_parts (ltb r.number (size_of r.prefix)) (fits rs) f in
     no_first (has_opcode o r) r (first (has_opcode o) rs) (past_row size_of r o (ltb-true _ _ parts.0) le) (past_rows rs o parts.1 le)
 
--- no row lists an opcode past the size
+-- The table lists no opcode whose number is at least the size for its prefix.
 pub not_listed : (o : Opcode) → size_of o.prefix ≤ o.number → by_opcode o ≡ None
 not_listed o le = past_rows table o table_fits le
 
--- the role is plain, or the row's number is below the size of the program's table of roles
+-- The role is `Plain`, or the row's number is below the size of the program's table of roles.
 abbrev is_plain : Role → Bool
 is_plain Plain = true
 is_plain _ = false
@@ -91,7 +91,8 @@ plain_is CatchesAll e = absurd cc
 plain_is Delegates e = absurd cc
 plain_is Ends e = absurd cc
 
--- past the size the first row is plain
+-- If the first row either does not have the opcode or has the role `Plain`, and the opcode is `Plain` among the other
+-- rows, then it is `Plain`.
 plain_first : (b : Bool) (r : Row) (x : Option Row) → (b ≡ true → Plain ≡ r.role) → Plain ≡ role_of_row x → Plain ≡ role_of_row (cond b (Some r) x)
 plain_first true r x h e = h refl
 plain_first false r x h e = e
@@ -107,13 +108,13 @@ plain_rows (r ∷ rs) o f le =
     let parts = and_parts (has_role r) (have_roles rs) f in
     plain_first (has_opcode o r) r (first (has_opcode o) rs) (plain_row (is_plain r.role) r o refl parts.0 le) (plain_rows rs o parts.1 le)
 
--- a prefix without a table has no entries
+-- A prefix without a table has no entries.
 pub no_entries : (p : ℕ) → p ≢ 0 → p ≢ 0xfb → p ≢ 0xfc → p ≢ 0xfd → p ≢ 0xfe → [] ≡ each_entry p
 unfolding each_entry
 no_entries p none gc bulk vectors atomics =
     rw (ne_eqb p 0 none, ne_eqb p 0xfb gc, ne_eqb p 0xfc bulk, ne_eqb p 0xfd vectors, ne_eqb p 0xfe atomics) refl
 
--- nor roles
+-- A prefix other than 0 has no table of roles.
 pub no_roles : (p : ℕ) → p ≢ 0 → [] ≡ each_role p
 unfolding each_role
 no_roles p ne = rw (ne_eqb p 0 ne) refl
@@ -129,22 +130,22 @@ module _ {A : Type 0} (f : ℕ → A) (d : A) (size n : ℕ) (xs : List A) (is :
   past_is le = omega (arith, ap length is, length-each_from f d 0 size)
 
 module _ (o : Opcode) where
-  -- the entry at a position of the table
+  -- The entry at a position of the table is the opcode's entry.
   pub entry_within : (xs : List (Option (List ℕ × Shape × Arity))) → xs ≡ each_entry o.prefix → o.number < length xs → get_or xs o.number None ≡ entry_of o
   unfolding each_entry
   entry_within xs is lt = within_is (λ n. entry_of (opcode o.prefix n)) None (size_of o.prefix) o.number xs is lt
 
-  -- past the table there is none
+  -- An opcode past the table has no entry.
   pub entry_past : (xs : List (Option (List ℕ × Shape × Arity))) → xs ≡ each_entry o.prefix → length xs ≤ o.number → None ≡ entry_of o
   unfolding each_entry
   entry_past xs is le = rw (not_listed o (past_is (λ n. entry_of (opcode o.prefix n)) None (size_of o.prefix) o.number xs is le)) refl
 
-  -- the role at a position of the table
+  -- The role at a position of the table is the opcode's role.
   pub role_within : (xs : List Role) → xs ≡ each_role o.prefix → o.number < length xs → get_or xs o.number Plain ≡ role_of o
   unfolding each_role
   role_within xs is lt = within_is (λ n. role_of (opcode o.prefix n)) Plain (roles_size_of o.prefix) o.number xs is lt
 
-  -- past the table all are plain
+  -- An opcode past the table of roles has the role `Plain`.
   pub role_past : (xs : List Role) → xs ≡ each_role o.prefix → length xs ≤ o.number → Plain ≡ role_of o
   unfolding each_role
   role_past xs is le = plain_rows table o table_roles (past_is (λ n. role_of (opcode o.prefix n)) Plain (roles_size_of o.prefix) o.number xs is le)

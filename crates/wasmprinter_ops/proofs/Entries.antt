@@ -1,10 +1,10 @@
--- Items that take all bytes, each at least one.
+-- Items that take all bytes, each at least one byte.
 use Rattle.std.proofs.Common.{◌≡◌, ℕ, ◌+◌, ◌<◌, ◌≤◌, List, [], ◌∷◌, ◌++◌, length, Some, refl, sym, ap, subst, ◌∙◌, arith, append_assoc, append-nil, length-append}
 use Rattle.wasmprinter_spec.specs.Grammar.{Input, input, Spans, Grammar}
 use Rattle.wasmprinter_spec.specs.Repeated.{Entries, until_end}
 
 module _ {A : Type 0} (g : Grammar A) where
-  -- the first item, and the others behind it
+  -- The first item, and the others after it.
   pub record FirstEntry (at : Input) (xs : List A) : Type 0 where
     pub item : A
     pub others : List A
@@ -30,14 +30,14 @@ module _ {A : Type 0} (g : Grammar A) where
   pub first_entry : (at : Input) (xs : List A) → (at.bytes ≡ [] → ⊥) → (until_end g).parse at ≡ Some xs → FirstEntry at xs
   first_entry at xs some e = first_of at xs some ((until_end g).sound at xs e)
 
-  -- there are no more items than bytes
+  -- There are at most as many items as bytes.
   pub entries-few : (p : ℕ) (text : List ℕ) (xs : List A) → Entries g p text xs → length xs ≤ length text
   entries-few p text [] s = omega arith
   entries-few p text (x ∷ xs) s =
       let (first, behind, joined, takes, spelled, all_spelled) = s in
       omega (arith, ap length joined, length-append first behind, takes, entries-few (p + length first) behind xs all_spelled)
 
-  -- one more item at the end
+  -- If the bytes encode items, and the bytes after them one more item, together they encode the longer list.
   entries-push : (xs : List A) (p : ℕ) (t u : List ℕ) (x : A) → Entries g p t xs → 0 < length u → g.spells (p + length t) u x → Entries g p (t ++ u) (xs ++ x ∷ [])
   entries-push [] p t u x s some last =
       let z : p + 0 ≡ p = omega arith in
@@ -51,7 +51,7 @@ module _ {A : Type 0} (g : Grammar A) where
       entries-push ys (p + length first) behind u x all_spelled some (subst (λ (q : ℕ). g.spells q u x) l last) in
       (first, behind ++ u, ap (λ (r : List ℕ). r ++ u) joined ∙ append_assoc first behind u, takes, spelled, more)
 
-  -- the same between two places
+  -- The same for items between two positions.
   pub spans-push : (start mid after : Input) (xs : List A) (x : A) → Spans (Entries g) start (xs, mid) → (s : Spans g.spells mid (x, after)) → 0 < length s.text → Spans (Entries g) start (xs ++ x ∷ [], after)
   spans-push start mid after xs x f s some = record {
     text = f.text ++ s.text;

@@ -1,4 +1,4 @@
--- What is made of a view of immediates is what was seen.
+-- Converting immediates to those of the definitions and back gives the original immediates.
 use Rattle.std.proofs.Common.{◌≡◌, ℕ, zero, suc, ◌<◌, List, [], ◌∷◌, map, refl, ap, ap₂, arith}
 use Rattle.wasmprinter_types.specs.ValTypes.{heap_view, heap_of_view, type_view, type_of_view}
 use Rattle.wasmprinter_types.specs.declared.val_types.HeapType.{HeapType}
@@ -50,7 +50,7 @@ catch_again (catch_clauses.OneRef tag label) = refl
 catch_again (catch_clauses.All label) = refl
 catch_again (catch_clauses.AllRef label) = refl
 
--- a list, item by item
+-- If this holds for each item, it holds for a list.
 all_again : {A B : Type 0} (make : B → A) (see : A → B) → ((x : A) → make (see x) ≡ x) → (xs : List A) → map make (map see xs) ≡ xs
 all_again make see again [] = refl
 all_again make see again (x ∷ xs) = λ i. again x i ∷ all_again make see again xs i

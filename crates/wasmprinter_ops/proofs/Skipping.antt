@@ -1,4 +1,4 @@
--- Operators that are passed by, up to the `end` that closes them.
+-- Operators that are skipped, up to the `end` that closes them.
 use Rattle.std.proofs.Common.{◌≡◌, ℕ, ◌-◌, ◌<◌, ◌≤◌, List, [], ◌∷◌, ◌++◌, length, Option, Some, None, refl, sym, ap, subst, ◌∙◌, arith, append_assoc, length-append, take}
 use Rattle.std.proofs.lemmas.List.{take_at, length-take-le, map-append}
 use Rattle.wasmprinter_spec.specs.Grammar.{Input, input, Spans, ◌>>=◌, Placed, value_with_place, some_is}
@@ -17,36 +17,37 @@ use Rattle.wasmprinter_ops.proofs.Stepping.{stepped-item, takes_byte as item_tak
 use Rattle.wasmprinter_ops.proofs.Walking.{has_operators, operators_are}
 use Rattle.wasmprinter_ops.proofs.Entries.{spans-push}
 
--- what a step says of the blocks
+-- If the program's step continues, so does the step of the definitions, with the same state.
 pub step_on : (m : Move Open) (new : Open) → Steps m steps.On new → m ≡ On new
 step_on (On s) new h = ap (λ (t : Open). On t) h
 step_on Stop new h = absurd h
 step_on Never new h = absurd h
 
--- what reading comes to where these blocks are open
+-- The result of reading on while these blocks are open.
 abbrev reading : Open → Input → Option (Ended (Placed Operator) × Input)
 reading s at = items_by_steps_at (value_with_place operator) advance_by operator_takes s at
 
 abbrev as_closed : Option (Ended (Placed Operator) × Input) → Option (Closed (Placed Operator) × Input)
 as_closed r = r >>= λ a. Some (closed_of_ended a.0, a.1)
 
--- operators that were read stand in front
+-- The result of reading, with the operators that were read before prepended.
 abbrev pub with_front : List (Placed Operator) → Option (Closed (Placed Operator) × Input) → Option (Closed (Placed Operator) × Input)
 with_front ops r = r >>= λ x. Some (record { items = ops ++ x.0.items; end = x.0.end }, x.1)
 
--- operators stand between two places, behind which these blocks are open; what reading an expression comes to hangs on what stands there
+-- The bytes between two positions encode operators, after which these blocks are open. The result of reading the
+-- expression is these operators followed by the result of reading on.
 pub record Skipped (start : Input) (s : Open) (at : Input) : Type 0 where
   pub items : List (Placed Operator)
   pub skipped : Spans (Entries (value_with_place operator)) start (items, at)
   pub goes_on : open_behind at_start (roles items) ≡ Some s
   pub is : expression.parse start ≡ with_front items (as_closed (reading s at))
 
--- no operators in front change nothing
+-- Prepending no operators changes nothing.
 front_nil : (r : Option (Ended (Placed Operator) × Input)) → as_closed r ≡ with_front [] (as_closed r)
 front_nil None = refl
 front_nil (Some x) = refl
 
--- at the start none is passed by
+-- At the start no operator was skipped.
 pub skipped_none : (at : Input) → Skipped at at_start at
 skipped_none at = record {
   items = [];
@@ -55,7 +56,8 @@ skipped_none at = record {
   is = front_nil (reading at_start at);
 }
 
--- one more operator behind others
+-- If the blocks s are open after some operators, then one more operator leads to the blocks
+-- that its role leads to from s.
 one_behind : (m : Move Open) (rs : List Role) (s t : Open) (r : Role) → ((u : Open) → open_behind u rs ≡ Some s → open_behind u (rs ++ r ∷ []) ≡ Some t)
     → by_move m (λ u. open_behind u rs) None None ≡ Some s → by_move m (λ u. open_behind u (rs ++ r ∷ [])) None None ≡ Some t
 one_behind (On u) rs s t r more e = more u e
@@ -68,24 +70,24 @@ opens_on [] first s t r on e =
     ap (λ (u : Open). by_move (advance u r) (λ v. open_behind v []) None None) same ∙ ap (λ (m : Move Open). by_move m (λ v. open_behind v []) None None) on
 opens_on (x ∷ rs) first s t r on e = one_behind (advance first x) rs s t r (λ u. opens_on rs u s t r on) e
 
--- an operator behind those in front is one of them
+-- An operator that is read after some operators is the last of the operators before the rest.
 front_push : (ops : List (Placed Operator)) (o : Placed Operator) (r : Option (Ended (Placed Operator) × Input)) → with_front ops (as_closed (in_front o r)) ≡ with_front (ops ++ o ∷ []) (as_closed r)
 front_push ops o None = refl
 front_push ops o (Some x) = ap (λ (xs : List (Placed Operator)). Some (record { items = xs; end = x.0.last.place }, x.1)) (sym (append_assoc ops (o ∷ []) x.0.items))
 
--- an operator with its place
+-- An operator with its place.
 abbrev placed_as : Input → Operator → Placed Operator
 placed_as at o = record { place = at.place; value = o }
 
 placed_of : (at after : Input) (o : Operator) → operator.parse at ≡ Some (o, after) → (value_with_place operator).parse at ≡ Some (placed_as at o, after)
 placed_of at after o e = rw e refl
 
--- an operator takes a byte
+-- An operator takes at least one byte.
 pub takes_byte : (at after : Input) (o : Operator) → operator.parse at ≡ Some (o, after) → length after.bytes < length at.bytes
 takes_byte at after o e = item_takes_byte (value_with_place operator) advance_by operator_takes at (placed_as at o, after) (placed_of at after o e)
 
 module _ (start : Input) (s : Open) (at after : Input) (o : Operator) (e : operator.parse at ≡ Some (o, after)) (k : Skipped start s at) where
-  -- what reading comes to, by what the operator does to the blocks
+  -- The result of reading the expression, by the effect of the next operator on the open blocks.
   turns : (m : Move Open) → advance s (role_of o.opcode) ≡ m
       → expression.parse start ≡ with_front k.items (as_closed (by_move m (λ t. in_front (placed_as at o) (reading t after)) (Some (list_with_last [] (placed_as at o), after)) None))
   turns m is =
@@ -94,7 +96,7 @@ module _ (start : Input) (s : Open) (at after : Input) (o : Operator) (e : opera
       ∙ ap (λ (r : Option (Ended (Placed Operator) × Input)). with_front k.items (as_closed r)) (stepped-item (value_with_place operator) advance_by operator_takes s at (placed_as at o) after (placed_of at after o e))
       ∙ ap to is
 
-  -- blocks are open behind it
+  -- If blocks are open after the next operator, it is one of the skipped operators.
   pub skipped_more : (t : Open) → advance s (role_of o.opcode) ≡ On t → Skipped start t after
   skipped_more t is =
       let x : Placed Operator = placed_as at o in
@@ -106,34 +108,34 @@ module _ (start : Input) (s : Open) (at after : Input) (o : Operator) (e : opera
         is = turns (On t) is ∙ front_push k.items x (reading t after);
       }
 
--- the same of a step that the program took, with the operator's role
+-- The same for a step of the program, given the operator's role.
 module _ (start : Input) (s : Open) (at after : Input) (o : Operator) (r : Role) (new : Open) (e : operator.parse at ≡ Some (o, after)) (k : Skipped start s at)
     (is_role : role_of o.opcode ≡ r) where
   pub on_more : Steps (advance s r) steps.On new → Skipped start new after
   on_more h = skipped_more start s at after o e k new (ap (advance s) is_role ∙ step_on (advance s r) new h)
 
--- the operators that were passed by, input their bytes alone
+-- The bytes between the two positions, by themselves, encode the skipped operators.
 front_of : (start at : Input) (ops : List (Placed Operator)) → Spans (Entries (value_with_place operator)) start (ops, at) → operators.parse (input start.place (take (at.place - start.place) start.bytes)) ≡ Some ops
 front_of start at ops s =
     let l : at.place - start.place ≡ length s.text = omega (arith, s.ends) in
     let t : take (at.place - start.place) start.bytes ≡ s.text = ap (λ (n : ℕ). take n start.bytes) l ∙ ap (take (length s.text)) s.parts ∙ take_at s.text at.bytes (length s.text) refl in
     ap (λ (bs : List ℕ). operators.parse (input start.place bs)) t ∙ operators.complete (input start.place s.text) ops s.spelled
 
--- operators and the `end` that closes them are read
+-- An expression is read: `part` holds its operators, well nested, and ends at its `end`.
 pub record ReadExpression (old part new : Input) : Type 0 where
   pub has : HasExpression part
   pub reads : expression.parse old ≡ Some (record { items = operators_in part; end = end_of part }, new)
 
--- ops, closed at the place, and where reading goes on
+-- The operators, closed at the place, with the position where reading continues.
 abbrev read_as : List (Placed Operator) → ℕ → Input → Option (Closed (Placed Operator) × Input)
 read_as ops end new = Some (record { items = ops; end = end }, new)
 
 module _ (old part new : Input) (end : ℕ) (s : OperatorsAndEnd old end new) (cut : part ≡ input old.place (take (s.before.place - old.place) old.bytes)) where
-  -- the part that was cut out spells the operators
+  -- The part that was cut out encodes the operators.
   there : operators.parse part ≡ Some s.items
   there = ap operators.parse cut ∙ front_of old s.before s.items s.skipped
 
-  -- it ends where the `end` stands
+  -- The part ends at the place of the `end`.
   part_end : end_of part ≡ end
   part_end =
       let within : s.before.place - old.place ≤ length old.bytes = omega (arith, s.skipped.ends, ap length s.skipped.parts, length-append s.skipped.text s.before.bytes) in
@@ -150,7 +152,7 @@ module _ (old part new : Input) (end : ℕ) (s : OperatorsAndEnd old end new) (c
         reads = s.is ∙ same;
       }
 
--- `start` is `old`, and `p` is its place
+-- The same as `read_cut`, if `start` equals `old` and `p` is its place.
 pub read_expression : (old start part new : Input) (end p : ℕ) → start ≡ old → p ≡ start.place → OperatorsAndEnd old end new → part ≡ input start.place (take (end - p) start.bytes) → ReadExpression old part new
 read_expression old start part new end p same is_p s cut =
     let n : end - p ≡ s.before.place - old.place = omega (arith, s.stands, is_p, ap (λ (x : Input). x.place) same) in

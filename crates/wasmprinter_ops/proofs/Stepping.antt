@@ -3,7 +3,7 @@ use Rattle.std.proofs.Common.{◌≡◌, ℕ, zero, suc, ◌<◌, List, [], leng
 use Rattle.wasmprinter_spec.specs.Grammar.{Input, Grammar, ◌>>=◌}
 use Rattle.wasmprinter_spec.specs.Stepped.{Move, On, Stop, Never, by_move, Ended, list_with_last, in_front, items_by_steps_of, items_by_steps_at}
 
--- what follows a value need only be the same at that value
+-- Two continuations that agree on the value that was read give the same result.
 pub bind_same : {X Y : Type 0} (r : Option X) (f h : X → Option Y) → ((x : X) → r ≡ Some x → f x ≡ h x) → (r >>= f) ≡ (r >>= h)
 bind_same None f h e = refl
 bind_same (Some x) f h e = e x refl
@@ -14,13 +14,13 @@ same_move Stop f h x y e = refl
 same_move Never f h x y e = refl
 
 module _ {A S : Type 0} (g : Grammar A) (step : S → A → Move S) (takes : (p : ℕ) (text : List ℕ) (a : A) → g.spells p text a → 0 < length text) where
-  -- an item takes a byte
+  -- An item takes at least one byte.
   pub takes_byte : (at : Input) (x : A × Input) → g.parse at ≡ Some x → length x.1.bytes < length at.bytes
   takes_byte at x e =
       let s = g.sound at x e in
       omega (arith, ap length s.parts, length-append s.text x.1.bytes, takes at.place s.text x.0 s.spelled)
 
-  -- it doesn't matter how many items are allowed, if there are more than bytes
+  -- The bound on the number of items does not matter if it exceeds the number of bytes.
   enough : (n m : ℕ) (s : S) (at : Input) → length at.bytes < n → length at.bytes < m → items_by_steps_of g step takes n s at ≡ items_by_steps_of g step takes m s at
   enough zero m s at lt lu = absurd (omega arith)
   enough (suc n) zero s at lt lu = absurd (omega arith)
@@ -31,7 +31,7 @@ module _ {A S : Type 0} (g : Grammar A) (step : S → A → Move S) (takes : (p 
       same_move (step s y.0) (λ t. in_front y.0 (items_by_steps_of g step takes n t y.1)) (λ t. in_front y.0 (items_by_steps_of g step takes m t y.1)) (Some (list_with_last [] y.0, y.1)) None
       (λ t. ap (in_front y.0) (enough n m t y.1 (omega arith) (omega arith))))
 
-  -- an item stands in front
+  -- If an item is read first, reading the items is reading on after it, in the state that the item leads to.
   pub stepped-item : (s : S) (at : Input) (x : A) (after : Input) → g.parse at ≡ Some (x, after)
       → items_by_steps_at g step takes s at ≡ by_move (step s x) (λ t. in_front x (items_by_steps_at g step takes t after)) (Some (list_with_last [] x, after)) None
   stepped-item s at x after e =

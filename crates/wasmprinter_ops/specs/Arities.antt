@@ -1,10 +1,10 @@
--- How many operands operators take and how many results they give: the program's arities, and those of the table of operators.
+-- Operand and result counts of operators: the program's arities, and the arities of the table of operators.
 use Rattle.std.specs.Prelude.{Option, Some, None}
 use Rattle.wasmprinter_spec.specs.Row.{Arity, Fixed, OfCall, OfReturnCall, OfIndirectCall, OfReturnIndirectCall, OfThrow, OfReturn, OfBranch, OfBranchIf, OfBranchTable, OfBranchOnNull, OfBranchOnNonNull, OfBranchOnCast, OfBlock, OfStruct, OfCount}
 use Rattle.wasmprinter_ops.specs.declared.opcode.Arity.{Arity as ProgramArity}
 use Rattle.wasmprinter_ops.specs.declared.opcode.Arity.TheVariants as arities
 
--- the arity of the definitions
+-- The arity that an arity of the program represents.
 abbrev pub arity_view : ProgramArity → Arity
 arity_view (arities.Fixed operands results) = Fixed operands results
 arity_view arities.OfCall = OfCall
@@ -23,7 +23,7 @@ arity_view arities.OfBlock = OfBlock
 arity_view arities.OfStruct = OfStruct
 arity_view arities.OfCount = OfCount
 
--- the same of an arity that may be missing
+-- The same for an optional arity.
 abbrev pub optional_arity_view : Option ProgramArity → Option Arity
 optional_arity_view None = None
 optional_arity_view (Some a) = Some (arity_view a)

@@ -1,4 +1,4 @@
--- Immediates as the definitions see them, and the shapes that they have.
+-- The immediates that the program's immediates represent, and their shapes.
 use Rattle.std.specs.Prelude.{◌<◌, IsTrue, MatchOption}
 use Rattle.wasmprinter_spec.specs.Operator.{Opcode, NoImmediates, Block, TryTable, Index, Indices, BranchTable, Types, Heap, Cast, Memory, MemoryLane, Lane, I32, I64, F32, F64, Bytes}
 use Rattle.wasmprinter_spec.specs.Operator.{Immediates as ImmediatesValue}
@@ -11,7 +11,7 @@ use Rattle.wasmprinter_types.specs.ValTypes.{heap_view, types_view}
 use Rattle.wasmprinter_ops.specs.declared.operator.Immediates.{Immediates}
 use Rattle.wasmprinter_ops.specs.declared.operator.Immediates.TheVariants as i
 
--- the immediates of the definitions
+-- The immediates of the definitions.
 abbrev pub immediates_view : Immediates → ImmediatesValue
 immediates_view i.None = NoImmediates
 immediates_view (i.Block t) = Block (block_type_view t)
@@ -31,15 +31,15 @@ immediates_view (i.F32 bits) = F32 bits
 immediates_view (i.F64 bits) = F64 bits
 immediates_view (i.Bytes bs) = Bytes bs
 
--- the immediates have the shape
+-- The immediates have the shape.
 abbrev pub HasShape : Shape → ImmediatesValue → Type 0
 HasShape s i = IsTrue (has_shape s i)
 
--- the table lists the opcode with immediates of this shape
+-- The table lists the opcode, with a shape that the immediates have.
 abbrev pub IsListedAs : Opcode → ImmediatesValue → Type 0
 IsListedAs o i = MatchOption (by_opcode o) ⊥ (λ r. HasShape r.shape i)
 
--- a cast has flags of two bits (section 5.4, "Reference Instructions")
+-- The flags of a cast have two bits (section 5.4, "Reference Instructions").
 abbrev pub HasCastFlags : Immediates → Type 0
 HasCastFlags (i.Cast flags l s t) = flags < 4
 HasCastFlags _ = Unit {0}

@@ -1,4 +1,4 @@
--- What the contracts of opcodes and operators cite.
+-- The definitions that the contracts of opcodes and operators use.
 pub mod Arities
 pub mod Shapes
 pub mod ByNumber

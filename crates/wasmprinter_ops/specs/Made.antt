@@ -1,4 +1,4 @@
--- Immediates as the program has them, made of those of the definitions.
+-- The program's immediates for those of the definitions.
 use Rattle.std.specs.Prelude.{ℕ, Bool, true, false, map}
 use Rattle.wasmprinter_spec.specs.Operator.{NoImmediates, Block, TryTable, Index, Indices, BranchTable, Types, Heap, Cast, Memory, MemoryLane, Lane, I32, I64, F32, F64, Bytes}
 use Rattle.wasmprinter_spec.specs.Operator.{Empty, Value, OfType}
@@ -10,20 +10,20 @@ use Rattle.wasmprinter_ops.specs.declared.blocks.BlockType.TheVariants as block_
 use Rattle.wasmprinter_ops.specs.declared.operator.Immediates.{Immediates}
 use Rattle.wasmprinter_ops.specs.declared.operator.Immediates.TheVariants as i
 
--- the program's block type
+-- The block type of the program for one of the definitions.
 abbrev pub block_type_of_view : DefinedBlockType → BlockType
 block_type_of_view Empty = block_types.Empty
 block_type_of_view (Value t) = block_types.Value (type_of_view t)
 block_type_of_view (OfType index) = block_types.Func index
 
--- the flags of a cast between references that may be null or may not
+-- The flags of a cast, by whether its first and second reference types may be null.
 abbrev pub cast_flags : Bool → Bool → ℕ
 cast_flags false false = 0
 cast_flags true false = 1
 cast_flags false true = 2
 cast_flags true true = 3
 
--- the program's immediates
+-- The immediates of the program for those of the definitions.
 abbrev pub immediates_of_view : DefinedImmediates → Immediates
 immediates_of_view NoImmediates = i.None
 immediates_of_view (Block t) = i.Block (block_type_of_view t)

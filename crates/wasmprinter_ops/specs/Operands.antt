@@ -4,18 +4,18 @@ use Rattle.wasmprinter_spec.specs.Types.{RefType, ref_type}
 use Rattle.wasmprinter_types.specs.ValTypes.{heap_view}
 use Rattle.wasmprinter_types.specs.declared.val_types.HeapType.{HeapType}
 
--- the lowest bit of the flags
+-- Bit 0 of the flags: the first reference type may be null.
 abbrev pub source_null : ℕ → Bool
 source_null flags = flags % 2 == 1
 
--- the bit above it
+-- Bit 1 of the flags: the second reference type may be null.
 abbrev pub target_null : ℕ → Bool
 target_null flags = flags / 2 % 2 == 1
 
--- the first reference type of a cast
+-- The first reference type of a cast.
 abbrev pub source_type : ℕ → HeapType → RefType
 source_type flags heap = ref_type (source_null flags) (heap_view heap)
 
--- the second
+-- The second reference type of a cast.
 abbrev pub target_type : ℕ → HeapType → RefType
 target_type flags heap = ref_type (target_null flags) (heap_view heap)

@@ -1,4 +1,4 @@
--- Operators with their places, as many as bytes hold.
+-- Operators with their places, up to the end of the bytes or the end of an expression.
 use Rattle.std.specs.Prelude.{◌≡◌, ℕ, List, [], map, Option, Some, None, MatchOption, Result, Ok, Err}
 use Rattle.wasmprinter_spec.specs.Grammar.{Input, Spans, Remainder, Placed, value_with_place}
 use Rattle.wasmprinter_spec.specs.Repeated.{some_or, until_end, Entries}
@@ -14,45 +14,45 @@ use Rattle.wasmprinter_ops.specs.Nesting.{OpensBlock, open_behind}
 use Rattle.wasmprinter_ops.specs.Shapes.{role_view}
 use Rattle.wasmprinter_ops.specs.declared.opcode.Role.{Role}
 
--- a place and an operator, as the definitions see them
+-- The program's pair of a place and an operator, as the operator with its place.
 abbrev pub placed_view : ℕ × Operator → Placed Operator
 placed_view x = record { place = x.0; value = x.1 }
 
--- places and operators, as the program gives them
+-- The pairs of places and operators that the program's iterator returns.
 abbrev pub pairs : List (Placed Operator) → List (ℕ × Operator)
 pairs ops = map (λ o. (o.place, o.value)) ops
 
--- a value stands there and is passed by; or nothing of the kind stands there
+-- The bytes encode a value, and the cursor is after it; or, on an error, the bytes do not encode a value.
 abbrev pub Passes : {A : Type 0} → (Input → Option (A × Input)) → Input → Result (Unit {0}) Malformed → Input → Type 0
 Passes {A} parse old (Ok x) new = (value : A) × (parse old ≡ Some (value, new))
 Passes parse old (Err e) new = parse old ≡ None
 
--- an operator of the role stands there and is passed by; or no operator stands there
+-- The bytes encode an operator of the role, and the cursor is after it; or, on an error, they encode no operator.
 abbrev pub PassesOperator : Input → Result Role Malformed → Input → Type 0
 PassesOperator old (Ok role) new = (o : Operator) × (operator.parse old ≡ Some (o, new)) × (role_of o.opcode ≡ role_view role)
 PassesOperator old (Err e) new = operator.parse old ≡ None
 
--- this is so of each place from which the opcode is read up to here
+-- The statement holds at each position from which reading the opcode ends here.
 abbrev pub BehindOpcode : Opcode → Input → (Input → Type 0) → Type 0
 BehindOpcode o here IsSo = (at : Input) → opcode_grammar.parse at ≡ Some (o, here) → IsSo at
 
--- operators up to the end of the bytes, each with its place
+-- Operators up to the end of the bytes, each with its place.
 abbrev pub operators : Remainder (List (Placed Operator))
 operators = until_end (value_with_place operator)
 
--- the operators, none where the bytes spell something else
+-- The operators that the bytes encode; the empty list if the bytes do not encode operators.
 abbrev pub operators_in : Input → List (Placed Operator)
 operators_in at = some_or (operators.parse at) [] (λ ops. ops)
 
--- the bytes spell operators
+-- The bytes encode operators.
 abbrev pub HasOperators : Input → Type 0
 HasOperators at = MatchOption (operators.parse at) ⊥ (λ ops. Unit {0})
 
--- the bytes spell operators that are well nested
+-- The bytes encode well-nested operators.
 abbrev pub HasExpression : Input → Type 0
 HasExpression at = HasOperators at × Nests Sequence (roles (operators_in at))
 
--- operators stand there, up to the `end` that closes them, which lies at the place
+-- The bytes encode operators with the `end` that closes them. `end` is the place of that `end`.
 pub record OperatorsAndEnd (old : Input) (end : ℕ) (new : Input) : Type 0 where
   pub items : List (Placed Operator)
   pub before : Input
@@ -60,7 +60,8 @@ pub record OperatorsAndEnd (old : Input) (end : ℕ) (new : Input) : Type 0 wher
   pub skipped : Spans (Entries (value_with_place operator)) old (items, before)
   pub is : expression.parse old ≡ Some (record { items = items; end = end }, new)
 
--- operators of an expression stand there, none of which closes it, and behind them one that opens a block
+-- The bytes encode operators of an expression up to one that opens a block. No operator before
+-- it closes the expression.
 pub record HasBlock (at : Input) : Type 0 where
   pub items : List (Placed Operator)
   pub before : Input
@@ -72,7 +73,8 @@ pub record HasBlock (at : Input) : Type 0 where
   pub read : operator.parse before ≡ Some (opener, after)
   pub opens : OpensBlock (role_of opener.opcode)
 
--- operators and the `end` that closes them are passed by; or no expression stands there; or a growth was refused, at a block
+-- Operators and the `end` that closes them are skipped. Otherwise the bytes do not encode an expression, or an
+-- allocation failed at an operator that opens a block.
 abbrev pub SkipsOperators : Input → Result ℕ Error → Input → Type 0
 SkipsOperators old (Ok end) new = OperatorsAndEnd old end new
 SkipsOperators old (Err e) new = HasReason (reader_reasons (expression.parse old ≡ None) (HasBlock old) old) e

@@ -1,4 +1,4 @@
--- The program's shapes of immediates and roles, and those of the table of operators.
+-- The program's index spaces, shapes of immediates and roles, and those of the table of operators.
 use Rattle.std.specs.Prelude.{ℕ, List, Option, Some, None}
 use Rattle.std.specs.Borrow.{Bor}
 use Rattle.wasmprinter_spec.specs.Row.{Space, Shape, NoneShape, FenceShape, BlockShape, TryTableShape, IndexShape, DefaultIndexShape, PairShape, FieldShape, CountShape, CallShape, SegmentShape, CopyShape, BranchTableShape, SelectShape, HeapShape, RefShape, CastShape, MemoryShape, MemoryLaneShape, LaneShape, I32Shape, I64Shape, F32Shape, F64Shape, VectorShape, LanesShape, Arity, Role}
@@ -12,7 +12,7 @@ use Rattle.wasmprinter_ops.specs.declared.opcode.Arity.{Arity as ProgramArity}
 use Rattle.wasmprinter_ops.specs.declared.opcode.Role.{Role as ProgramRole}
 use Rattle.wasmprinter_ops.specs.declared.opcode.Role.TheVariants as program_roles
 
--- the index space of the definitions
+-- The index space that an index space of the program represents.
 abbrev pub space_view : ProgramSpace → Space
 space_view spaces.Types = row.Types
 space_view spaces.Func = row.Func
@@ -25,7 +25,7 @@ space_view spaces.Data = row.Data
 space_view spaces.Local = row.Local
 space_view spaces.Label = row.Label
 
--- the shape of the definitions
+-- The shape that a shape of the program represents.
 abbrev pub shape_view : ProgramShape → Shape
 shape_view shapes.None = NoneShape
 shape_view shapes.Fence = FenceShape
@@ -54,17 +54,17 @@ shape_view shapes.F64 = F64Shape
 shape_view shapes.Vector = VectorShape
 shape_view shapes.Lanes = LanesShape
 
--- the same of a shape that may be missing
+-- The same for an optional shape.
 abbrev pub optional_shape_view : Option ProgramShape → Option Shape
 optional_shape_view None = None
 optional_shape_view (Some s) = Some (shape_view s)
 
--- the word, the shape and the arity of an opcode that may be missing
+-- The same for an optional entry: a word, a shape and an arity.
 abbrev pub entry_view : Option (Bor (List ℕ) × ProgramShape × ProgramArity) → Option (List ℕ × Shape × Arity)
 entry_view None = None
 entry_view (Some (word, shape, arity)) = Some (word.now, shape_view shape, arity_view arity)
 
--- the role of the definitions
+-- The role that a role of the program represents.
 abbrev pub role_view : ProgramRole → Role
 role_view program_roles.Plain = row.Plain
 role_view program_roles.Opens = row.Opens

@@ -1,4 +1,4 @@
-//! What operators say of blocks: their types, catch clauses and the labels of `br_table` (sections 2.4 and 5.4).
+//! Block types, catch clauses and the labels of `br_table` (sections 2.4 and 5.4).
 ghost use Rattle.std.specs.Prelude.{◌≡◌};
 ghost use Rattle.wasmprinter_spec.specs.Name.{vec};
 ghost use Rattle.wasmprinter_spec.specs.Instructions.{block_type, catch};
@@ -10,10 +10,10 @@ use wasmprinter_bytes::lists::{Items, Spelled, read_items};
 use wasmprinter_error::Malformed;
 use wasmprinter_types::{ValType, begins_type, read_type, read_type_index};
 
-/// The byte that is the type of a block without parameters and results.
+/// The byte that encodes the type of a block without parameters and results.
 const EMPTY: u8 = 0x40;
 
-/// The type of a block (section 5.4, "Control Instructions").
+/// A block type (section 5.4, "Control Instructions").
 #[derive(Clone, Copy, Debug, PartialEq, Eq)]
 pub enum BlockType {
     /// No parameters and no results.
@@ -24,24 +24,26 @@ pub enum BlockType {
     Func(u32),
 }
 
-/// A catch clause of `try_table` (section 5.4, "Control Instructions"): a tag, if it names one, and the label to which it branches.
+/// A catch clause of `try_table` (section 5.4, "Control Instructions"): a tag, unless it catches all exceptions, and
+/// the label of the branch.
 #[derive(Clone, Copy, Debug, PartialEq, Eq)]
 pub enum Catch {
-    /// `catch`, of the tag, to the label.
+    /// `catch`, with the tag and the label.
     One(u32, u32),
-    /// `catch_ref`, of the tag, to the label.
+    /// `catch_ref`, with the tag and the label.
     OneRef(u32, u32),
-    /// `catch_all`, to the label.
+    /// `catch_all`, with the label.
     All(u32),
-    /// `catch_all_ref`, to the label.
+    /// `catch_all_ref`, with the label.
     AllRef(u32),
 }
 
-/// The labels of a `br_table` (section 5.4, "Control Instructions"), without the one for all other numbers. They are read again as they
-/// are asked for.
+/// The labels of a `br_table` (section 5.4, "Control Instructions"), without the default label. Each label is read
+/// again from the bytes when it is requested.
 pub type Targets<'a> = Items<'a, u32>;
 
-/// The catch clauses of a `try_table` (section 5.4, "Control Instructions"). They are read again as they are asked for.
+/// The catch clauses of a `try_table` (section 5.4, "Control Instructions"). Each clause is read again from
+/// the bytes when it is requested.
 pub type Catches<'a> = Items<'a, Catch>;
 
 impl Spelled for Catch {
@@ -65,7 +67,7 @@ impl Spelled for Catch {
     }
 }
 
-/// Reads a count and so many catch clauses.
+/// Reads a count and that many catch clauses.
 pub(crate) fn read_catches<'a>(cursor: &mut Cursor<'a>) -> Result<Catches<'a>, Malformed>
     ensures reads { Reads catches_view (vec catch).parse cursor.old result cursor.new }
     ensures within { IsWithin cursor.old result }
@@ -74,7 +76,7 @@ pub(crate) fn read_catches<'a>(cursor: &mut Cursor<'a>) -> Result<Catches<'a>, M
     read_items(cursor)
 }
 
-/// Reads the type of a block: the byte 40, a value type, or a type index.
+/// Reads a block type: the byte 40, a value type, or a type index.
 pub(crate) fn read_block_type(cursor: &mut Cursor) -> Result<BlockType, Malformed>
     ensures reads { Reads block_type_view block_type.parse cursor.old result cursor.new }
     ensures within { IsWithin cursor.old result }

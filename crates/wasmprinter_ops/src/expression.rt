@@ -1,5 +1,5 @@
-//! Expressions (section 5.4, "Expressions"): operators up to the `end` that closes them. The operators aren't kept: they are read
-//! again from the bytes as they are asked for.
+//! Expressions (section 5.4, "Expressions"): operators up to the `end` that closes them. The operators are not kept;
+//! each operator is read again from the bytes when it is requested.
 ghost use Rattle.std.specs.Prelude.{◌≡◌, ◌↔◌, ◌<◌, ◌^◌, [], length, IsTrue};
 ghost use Rattle.wasmprinter_spec.specs.Instructions.{expression, roles};
 ghost use Rattle.wasmprinter_spec.specs.Nesting.{Nests, Sequence};
@@ -15,7 +15,7 @@ use wasmprinter_bytes::bytes::Cursor;
 use wasmprinter_bytes::lists::GrownIn;
 use wasmprinter_error::Error;
 
-/// The operators that are left, each with its place.
+/// An iterator over the remaining operators, each with its place.
 #[derive(Drop)]
 pub struct OperatorsReader<'a> {
     cursor: Cursor<'a>,
@@ -55,10 +55,10 @@ impl<'a> Iterator for OperatorsReader<'a> {
     }
 }
 
-/// Operators and the `end` that closes them, as bytes that are known to spell them.
+/// Operators and the `end` that closes them, as bytes whose encoding was checked.
 #[derive(Drop)]
 pub struct Expression<'a> {
-    /// The bytes in front of the last `end`.
+    /// The bytes before the last `end`.
     operators: Cursor<'a>,
 }
 
@@ -76,7 +76,7 @@ impl<'a> Model for Expression<'a> {
     ghost invariant = { λ e. HasExpression e.operators };
 }
 
-/// Reads operators up to the `end` that closes them, and gives the place of that `end`.
+/// Reads operators up to the `end` that closes them, and returns the place of that `end`.
 fn skip_operators(alloc: Global, cursor: &mut Cursor) -> Result<u64, Error>
     ensures reads { SkipsOperators cursor.old result cursor.new }
     ensures end { end_of cursor.new ≡ end_of cursor.old }
@@ -98,8 +98,9 @@ impl<'a> Expression<'a> {
     ///
     /// # Errors
     ///
-    /// `Malformed` where no operators stand there that nest and are closed, with the place of what may not stand there;
-    /// `Memory` where a growth is refused, which needs a block in the expression.
+    /// - `Malformed` if the bytes do not encode well-nested operators with their `end`, with the place of the first
+    ///   unexpected byte, number or operator.
+    /// - `Memory` if an allocation fails. Only an expression that contains a block allocates.
     pub fn read(alloc: Global, cursor: &mut Cursor<'a>) -> Result<Self, Error>
         ensures reads { Takes (λ e. e) expression.parse HasBlock cursor.old result cursor.new }
         ensures end { end_of cursor.new ≡ end_of cursor.old }
@@ -112,7 +113,7 @@ impl<'a> Expression<'a> {
         })
     }
 
-    /// A second view of the same bytes.
+    /// Returns a second view of the same bytes.
     pub fn fork(&self) -> Expression<'a>
         ensures { result ≡ self.now }
     {
@@ -121,7 +122,7 @@ impl<'a> Expression<'a> {
         }
     }
 
-    /// The operators in order, without the last `end`.
+    /// Returns the operators in order, without the last `end`.
     pub fn operators(&self) -> OperatorsReader<'a>
         ensures all { result ≡ self.now.items }
         ensures nested { Nests Sequence (roles self.now.items) }
@@ -132,14 +133,14 @@ impl<'a> Expression<'a> {
         }
     }
 
-    /// Whether there is no operator in front of the last `end`.
+    /// Reports whether there is no operator before the last `end`.
     pub fn is_empty(&self) -> bool
         ensures { IsTrue result ↔ (self.now.items ≡ []) }
     {
         self.operators.is_empty()
     }
 
-    /// The place of the last `end`: a byte offset from the module's start.
+    /// Returns the place of the last `end`: a byte offset from the start of the module.
     pub fn end(&self) -> u64
         ensures { result ≡ self.now.end }
     {

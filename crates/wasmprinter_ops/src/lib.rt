@@ -1,5 +1,5 @@
-//! Operators (section 5.4 of the WebAssembly Core Specification): opcodes with their immediates, and walks over the bytes that
-//! spell them.
+//! Operators (section 5.4 of the WebAssembly Core Specification): opcodes with their immediates, and iterators over
+//! the bytes that encode them.
 #![tactic(auto)]
 
 pub mod blocks;

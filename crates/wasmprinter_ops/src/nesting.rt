@@ -1,4 +1,5 @@
-//! How operators nest (section 5.4, "Control Instructions"): which blocks are open behind the operators that were read.
+//! The nesting of operators (section 5.4, "Control Instructions"): the blocks that are open
+//! after the operators read so far.
 ghost use Rattle.std.specs.Prelude.{◌≡◌, IfOk};
 ghost use Rattle.wasmprinter_spec.specs.Nesting.{Enter, Become, at_start, move_outwards, move_by_turn};
 ghost use Rattle.wasmprinter_ops.specs.Nesting.{frame_view, Steps, Advances};
@@ -8,35 +9,35 @@ use crate::opcode::Role;
 use std::alloc::{AllocError, Global};
 use std::marker::Model;
 
-/// An open block, by what may close it or go on with it.
+/// An open block, by the operators that may close or continue it.
 #[derive(Clone, Copy, Debug, PartialEq, Eq)]
 enum Frame {
-    /// Only `end` closes it.
+    /// A block that only `end` closes.
     Block,
-    /// An `if`, which may get an `else`.
+    /// An `if` that may still have an `else`.
     If,
     /// A `try` before its first handler, which `delegate` may close.
     Try,
-    /// A `catch`, behind which other handlers may stand.
+    /// A `catch`, after which other handlers may follow.
     Catch,
 }
 
-/// What an operator does to the blocks that are open.
+/// The effect of an operator on the open blocks.
 #[derive(Clone, Copy, Debug, PartialEq, Eq)]
 pub(crate) enum Step {
-    /// Blocks are open behind it.
+    /// Blocks are open after the operator.
     On,
-    /// It closes the last of them.
+    /// The operator closes the last open block.
     Stop,
-    /// It can't stand there.
+    /// The operator is not allowed here.
     Refused,
 }
 
-/// The blocks that are open.
+/// The open blocks.
 #[derive(Drop)]
 pub(crate) struct Blocks {
     innermost: Frame,
-    /// Those around the innermost, from the outside on.
+    /// The blocks around the innermost, outermost first.
     outer: Vec<Frame>,
 }
 
@@ -50,7 +51,7 @@ impl Model for Blocks {
 }
 
 impl Blocks {
-    /// An expression of which nothing has been read.
+    /// Returns the state at the start of an expression.
     pub(crate) fn new(alloc: Global) -> Self
         ensures { result ≡ at_start }
     {
@@ -69,7 +70,7 @@ impl Blocks {
         Ok(Step::On)
     }
 
-    /// Goes on with the innermost block.
+    /// Continues the innermost block as `frame`.
     fn go_on(&mut self, frame: Frame) -> Step
         ensures { Steps (move_by_turn (Become (frame_view frame)) self.old) result self.new }
     {
@@ -90,7 +91,7 @@ impl Blocks {
         }
     }
 
-    /// Passes by an operator of the role. Memory is needed for one that opens a block.
+    /// Applies the role of the next operator. Only an operator that opens a block allocates.
     pub(crate) fn advance(&mut self, role: Role) -> Result<Step, AllocError>
         ensures { Advances self.old (role_view role) result self.new }
     {

@@ -1,4 +1,4 @@
-//! Opcodes, and what the table of operators says of them.
+//! Opcodes, and the entries of the table of operators.
 ghost use Rattle.std.specs.Prelude.{◌≡◌, map};
 ghost use Rattle.wasmprinter_spec.specs.Operator.{opcode};
 ghost use Rattle.wasmprinter_spec.specs.Table.{word_of, role_of, shape_of, arity_of};
@@ -15,7 +15,7 @@ use std::marker::Model;
 /// The prefix of operators on structures, arrays and references.
 const GC: u8 = 0xfb;
 
-/// The prefix of saturating truncation, of operators on whole ranges of memories and tables, and of wide arithmetic.
+/// The prefix of saturating truncation, of bulk operators on memories and tables, and of wide arithmetic.
 const BULK: u8 = 0xfc;
 
 /// The prefix of operators on vectors.
@@ -24,10 +24,11 @@ const VECTORS: u8 = 0xfd;
 /// The prefix of atomic memory accesses.
 const ATOMICS: u8 = 0xfe;
 
-/// The index spaces that immediates name (section 2.5, "Indices"). In the spaces that imports may extend, the imported ones come first.
+/// The index spaces that immediates refer to (section 2.5, "Indices"). In an index space that imports may
+/// extend, the imports come first.
 #[derive(Clone, Copy, Debug, PartialEq, Eq)]
 pub enum Space {
-    /// Types, of all recursion groups.
+    /// Types, counted over all recursion groups.
     Types,
     /// Functions.
     Func,
@@ -35,9 +36,9 @@ pub enum Space {
     Table,
     /// Memories.
     Memory,
-    /// Tags of exceptions.
+    /// Exception tags.
     Tag,
-    /// Global variables.
+    /// Globals.
     Global,
     /// Element segments.
     Elem,
@@ -45,130 +46,133 @@ pub enum Space {
     Data,
     /// The parameters and locals of a function.
     Local,
-    /// The blocks around an operator, the innermost first.
+    /// The labels of the blocks around an operator, the innermost first.
     Label,
 }
 
-/// What stands behind an opcode, and how the text writes it (sections 5.4 and 6.5).
+/// The immediates after an opcode, and how the text writes them (sections 5.4 and 6.5).
 #[derive(Clone, Copy, Debug, PartialEq, Eq)]
 pub enum Shape {
-    /// Nothing.
+    /// No immediates.
     None,
-    /// A byte 00, which the text doesn't write.
+    /// A byte 00, which the text omits.
     Fence,
-    /// The type of a block.
+    /// A block type.
     Block,
-    /// The type of a block, and catch clauses.
+    /// A block type and catch clauses.
     TryTable,
-    /// An index of the space.
+    /// An index in the index space.
     Index(Space),
-    /// An index of the space, which the text leaves out where it is 0.
+    /// An index in the index space, which the text omits if it is 0.
     DefaultIndex(Space),
-    /// Two indices, of these spaces.
+    /// Two indices, in these index spaces.
     Pair(Space, Space),
-    /// A structure type, and one of its fields.
+    /// A structure type and the index of one of its fields.
     Field,
-    /// A type and a number.
+    /// A type index and a number.
     Count,
-    /// A function type and a table. The text writes the table first, and leaves it out where it is 0.
+    /// A function type and a table. The text writes the table first, and omits it if its index is 0.
     Call,
-    /// A segment of the first space and an index of the second. The text writes the latter first, and leaves it out where it is 0.
+    /// A segment in the first index space and an index in the second. The text writes the index
+    /// first, and omits it if it is 0.
     Segment(Space, Space),
-    /// Two indices of the space, which the text leaves out where both are 0.
+    /// Two indices in the index space, which the text omits if both are 0.
     Copy(Space),
-    /// Labels, and one more for all other numbers.
+    /// The labels of a `br_table`, and its default label.
     BranchTable,
     /// Value types.
     Select,
     /// A heap type.
     Heap,
-    /// A heap type, which the text writes as the type of references that may be null, or may not.
+    /// A heap type, which the text writes as a reference type. The flag says whether the reference may be null.
     Ref(bool),
     /// A label and two reference types.
     Cast,
-    /// A memory operand; with the exponent of the operator's natural alignment in bytes, a power of two.
+    /// A memory operand. The number is the exponent of the operator's natural alignment in bytes, a power of two.
     Memory(u32),
-    /// The same, and a lane.
+    /// A memory operand as above, and a lane.
     MemoryLane(u32),
     /// A lane.
     Lane,
-    /// A signed number of 32 bits.
+    /// A signed 32-bit integer.
     I32,
-    /// A signed number of 64 bits.
+    /// A signed 64-bit integer.
     I64,
-    /// A floating-point number of 32 bits.
+    /// A 32-bit floating-point number.
     F32,
-    /// A floating-point number of 64 bits.
+    /// A 64-bit floating-point number.
     F64,
-    /// A vector of 128 bits.
+    /// A 128-bit vector.
     Vector,
     /// Sixteen lanes.
     Lanes,
 }
 
-/// How many operands an operator takes and how many results it gives (section 5.4): fixed numbers, or those of a type or label that it
-/// names. P and Q are the numbers of parameters and results of a function's or tag's type, v is how many operands a label wants.
+/// The operand and result counts of an operator (section 5.4): fixed numbers, or those of a type or label that it
+/// names. P and Q are the numbers of parameters and results of the type of the function or tag; v is the number of
+/// operands of a branch to the label.
 #[derive(Clone, Copy, Debug, PartialEq, Eq)]
 pub enum Arity {
-    /// It takes the first number, and gives the second.
+    /// The operator takes the first number of operands, and has the second number of results.
     Fixed(u32, u32),
-    /// It takes P, and gives Q: `call`.
+    /// P operands, Q results: `call`.
     OfCall,
-    /// It takes P: `return_call`.
+    /// P operands: `return_call`.
     OfReturnCall,
-    /// It takes P + 1, and gives Q: `call_indirect`, `call_ref`.
+    /// P + 1 operands, Q results: `call_indirect`, `call_ref`.
     OfIndirectCall,
-    /// It takes P + 1: `return_call_indirect`, `return_call_ref`.
+    /// P + 1 operands: `return_call_indirect`, `return_call_ref`.
     OfReturnIndirectCall,
-    /// It takes P: `throw`.
+    /// P operands: `throw`.
     OfThrow,
-    /// It takes the results of the function around it: `return`.
+    /// As many operands as the enclosing function has results: `return`.
     OfReturn,
-    /// It takes v: `br`.
+    /// v operands: `br`.
     OfBranch,
-    /// It takes v + 1, and gives v: `br_if`.
+    /// v + 1 operands, v results: `br_if`.
     OfBranchIf,
-    /// It takes v + 1, v by the last label: `br_table`.
+    /// v + 1 operands, where v is that of the last label: `br_table`.
     OfBranchTable,
-    /// It takes v + 1, and gives v + 1: `br_on_null`.
+    /// v + 1 operands, v + 1 results: `br_on_null`.
     OfBranchOnNull,
-    /// It takes v, and gives v - 1, nothing where v is 0: `br_on_non_null`.
+    /// v operands, and v - 1 results, or no results if v is 0: `br_on_non_null`.
     OfBranchOnNonNull,
-    /// It takes v, and gives v: `br_on_cast`, `br_on_cast_fail`.
+    /// v operands, v results: `br_on_cast`, `br_on_cast_fail`.
     OfBranchOnCast,
-    /// It opens, ends or parts a block.
+    /// The operator opens, divides or ends a block.
     OfBlock,
-    /// It takes as many as the structure type has fields, and gives 1: `struct.new`.
+    /// As many operands as the structure type has fields, one result: `struct.new`.
     OfStruct,
-    /// It takes as many as its second immediate says, and gives 1: `array.new_fixed`.
+    /// As many operands as the second immediate says, one result: `array.new_fixed`.
     OfCount,
 }
 
-/// How an operator stands to the blocks around it (section 5.4, "Control Instructions", and the older exception operators).
+/// The role of an operator among blocks (section 5.4, "Control Instructions", and legacy exception handling).
 #[derive(Clone, Copy, Debug, PartialEq, Eq)]
 pub enum Role {
-    /// It stands in a block, and neither opens nor closes one.
+    /// The operator neither opens nor closes a block.
     Plain,
-    /// It opens a block that only `end` closes: `block`, `loop`, `try_table`.
+    /// The operator opens a block that only `end` closes: `block`, `loop`, `try_table`.
     Opens,
-    /// It opens a block that may have an `else`: `if`.
+    /// The operator opens a block that may have an `else`: `if`.
     OpensIf,
-    /// It opens a block that may have catches: `try`.
+    /// The operator opens a block that may have handlers: `try`.
     OpensTry,
-    /// It ends the first arm of an `if` and begins the second: `else`.
+    /// The operator ends the first arm of an `if` and starts the second: `else`.
     Turns,
-    /// It begins a catch of a `try`: `catch`.
+    /// The operator starts a handler of a `try`: `catch`.
     Catches,
-    /// It begins the last catch of a `try`: `catch_all`.
+    /// The operator starts the last handler of a `try`: `catch_all`.
     CatchesAll,
-    /// It closes a `try` that has no catches: `delegate`.
+    /// The operator closes a `try` that has no handlers: `delegate`.
     Delegates,
-    /// It closes a block: `end`.
+    /// The operator closes a block: `end`.
     Ends,
 }
 
 impl Role {
-    /// Whether it is that of an operator of the older `try` (exception handling proposal, its first form).
+    /// Reports whether this is the role of a legacy exception handling operator (exception
+    /// handling proposal, its first version).
     pub fn is_of_try(self) -> bool
         ensures { result ≡ is_try (role_view self) }
     {
@@ -179,12 +183,12 @@ impl Role {
     }
 }
 
-/// The prefix byte, 0 where there is none, and the number behind it or the byte itself.
+/// An opcode: a prefix byte and a number, or a single byte.
 #[derive(Clone, Copy, Debug, PartialEq, Eq)]
 pub struct Opcode {
-    /// 0xfb to 0xfe, or 0.
+    /// The prefix, 0xfb to 0xfe, or 0 if there is no prefix.
     pub prefix: u8,
-    /// The number behind the prefix, or without a prefix the byte.
+    /// The number after the prefix or, without a prefix, the byte.
     pub number: u32,
 }
 
@@ -198,49 +202,49 @@ impl Model for Opcode {
     ghost inverse = { λ o. record { prefix = o.prefix; number = o.number } };
 }
 
-/// The table of the opcodes of one byte.
+/// Returns the table of one-byte opcodes.
 fn one_byte() -> &'static [Option<Entry>]
     ensures { map entry_view result.now ≡ each_entry 0 }
 {
     &tables::ONE_BYTE
 }
 
-/// The table behind the prefix `GC`.
+/// Returns the table of the opcodes with the prefix `GC`.
 fn gc() -> &'static [Option<Entry>]
     ensures { map entry_view result.now ≡ each_entry 0xfb }
 {
     &tables::GC
 }
 
-/// The table behind the prefix `BULK`.
+/// Returns the table of the opcodes with the prefix `BULK`.
 fn bulk() -> &'static [Option<Entry>]
     ensures { map entry_view result.now ≡ each_entry 0xfc }
 {
     &tables::BULK
 }
 
-/// The table behind the prefix `VECTORS`.
+/// Returns the table of the opcodes with the prefix `VECTORS`.
 fn vectors() -> &'static [Option<Entry>]
     ensures { map entry_view result.now ≡ each_entry 0xfd }
 {
     &tables::VECTORS
 }
 
-/// The table behind the prefix `ATOMICS`.
+/// Returns the table of the opcodes with the prefix `ATOMICS`.
 fn atomics() -> &'static [Option<Entry>]
     ensures { map entry_view result.now ≡ each_entry 0xfe }
 {
     &tables::ATOMICS
 }
 
-/// The roles of the opcodes of one byte. Those with a prefix are all plain.
+/// Returns the roles of the one-byte opcodes. All opcodes with a prefix have the role `Plain`.
 fn one_byte_roles() -> &'static [Role]
     ensures { map role_view result.now ≡ each_role 0 }
 {
     &tables::ROLES
 }
 
-/// The words of the opcodes with the prefix, the shapes of their immediates and their arities, by their numbers.
+/// Returns the words, immediate shapes and arities of the opcodes with the prefix, by their numbers.
 fn entries_of(prefix: u8) -> &'static [Option<Entry>]
     ensures { map entry_view result.now ≡ each_entry prefix }
 {
@@ -254,7 +258,7 @@ fn entries_of(prefix: u8) -> &'static [Option<Entry>]
     }
 }
 
-/// How the opcodes with the prefix stand to the blocks around them, by their numbers.
+/// Returns the roles of the opcodes with the prefix, by their numbers.
 fn roles_of(prefix: u8) -> &'static [Role]
     ensures { map role_view result.now ≡ each_role prefix }
 {
@@ -264,7 +268,7 @@ fn roles_of(prefix: u8) -> &'static [Role]
     }
 }
 
-/// Whether a number stands behind this byte.
+/// Reports whether the byte is a prefix, which a number follows.
 pub(crate) fn is_prefix(byte: u8) -> bool
     ensures { result ≡ is_prefix_byte byte }
 {
@@ -272,7 +276,7 @@ pub(crate) fn is_prefix(byte: u8) -> bool
 }
 
 impl Opcode {
-    /// The opcode of one byte.
+    /// Returns the opcode of a single byte.
     pub(crate) fn of_byte(byte: u8) -> Opcode
         ensures { result ≡ opcode 0 byte }
     {
@@ -282,14 +286,14 @@ impl Opcode {
         }
     }
 
-    /// The opcode of a prefix and a number.
+    /// Returns the opcode of a prefix and a number.
     pub(crate) fn behind(prefix: u8, number: u32) -> Opcode
         ensures { result ≡ opcode prefix number }
     {
         Opcode { prefix, number }
     }
 
-    /// The word, the shape and the arity, `None` for an opcode that isn't listed.
+    /// Returns the word, the shape and the arity, or `None` for an opcode that the table does not list.
     fn entry(&self) -> Option<Entry>
         ensures { entry_view result ≡ entry_of self.now }
     {
@@ -299,7 +303,7 @@ impl Opcode {
         }
     }
 
-    /// The word in the text, empty for an opcode that isn't listed.
+    /// Returns the word in the text, which is empty for an opcode that the table does not list.
     pub fn word(&self) -> &'static str
         ensures { result.now ≡ word_of self.now }
     {
@@ -310,15 +314,15 @@ impl Opcode {
     }
 }
 
-/// What the table of operators says of an opcode, its word aside.
+/// The entry of an opcode in the table of operators, without its word.
 pub trait Listed {
-    /// The shape of the immediates, `None` for an opcode that isn't listed.
+    /// Returns the shape of the immediates, or `None` for an opcode that the table does not list.
     fn shape(&self) -> Option<Shape>;
 
-    /// How many operands the operator takes and how many results it gives, `None` for an opcode that isn't listed.
+    /// Returns the operand and result counts, or `None` for an opcode that the table does not list.
     fn arity(&self) -> Option<Arity>;
 
-    /// How the operator stands to the blocks around it, `Plain` for an opcode that isn't listed.
+    /// Returns the role among blocks, which is `Plain` for an opcode that the table does not list.
     fn role(&self) -> Role;
 }
 

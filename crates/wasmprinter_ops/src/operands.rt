@@ -1,4 +1,5 @@
-//! Immediates of a few operators: memory operands, the flags of casts, the bits of floating-point numbers (section 5.4).
+//! Immediates of a few operators: memory operands, the flags of casts, the bits of
+//! floating-point numbers (section 5.4).
 ghost use Rattle.std.specs.Prelude.{◌≡◌};
 ghost use Rattle.wasmprinter_spec.specs.Sized.{take_bytes};
 ghost use Rattle.wasmprinter_spec.specs.Instructions.{mem_arg, float_bits};
@@ -18,7 +19,7 @@ pub struct MemArg {
     pub exponent: u32,
     /// The index of the memory.
     pub memory: u32,
-    /// What is added to the address, in bytes.
+    /// The number of bytes that is added to the address.
     pub offset: u64,
 }
 
@@ -35,14 +36,15 @@ impl Model for MemArg {
     ghost invariant = { λ m. m.exponent < 64 };
 }
 
-/// The first number of a memory operand from here on has the index of a memory behind it.
+/// The index of a memory follows the first number of a memory operand if that number is at least this.
 const WITH_MEMORY: u32 = 0x40;
 
-/// No memory operand's first number is this or greater.
+/// The first number of a memory operand is less than this.
 const NO_OPERAND: u32 = 0x80;
 
 impl MemArg {
-    /// Reads a memory operand: the exponent of the alignment, of memory 0; or 64 more, and the memory's index; and an offset.
+    /// Reads a memory operand: the exponent of the alignment, for memory 0; or 64 more, and the
+    /// memory's index; then an offset.
     pub(crate) fn read(cursor: &mut Cursor) -> Result<Self, Malformed>
         ensures reads { Reads (λ m. m) mem_arg.parse cursor.old result cursor.new }
         ensures within { IsWithin cursor.old result }
@@ -64,7 +66,7 @@ impl MemArg {
     }
 }
 
-/// Reads so many bytes.
+/// Reads `N` bytes.
 pub(crate) fn read_bytes<const N: usize>(cursor: &mut Cursor) -> Result<[u8; N], Malformed>
     ensures reads { Reads (λ b. b) (take_bytes N).parse cursor.old result cursor.new }
     ensures within { IsWithin cursor.old result }
@@ -76,7 +78,7 @@ pub(crate) fn read_bytes<const N: usize>(cursor: &mut Cursor) -> Result<[u8; N],
     Ok(bytes)
 }
 
-/// Reads the bits of a floating-point number of 32 bits.
+/// Reads the bits of a 32-bit floating-point number.
 pub(crate) fn read_f32_bits(cursor: &mut Cursor) -> Result<u32, Malformed>
     ensures reads { Reads (λ n. n) (float_bits 4).parse cursor.old result cursor.new }
     ensures within { IsWithin cursor.old result }
@@ -85,7 +87,7 @@ pub(crate) fn read_f32_bits(cursor: &mut Cursor) -> Result<u32, Malformed>
     Ok(u32::from_le_bytes(read_bytes(cursor)?))
 }
 
-/// Reads the bits of a floating-point number of 64 bits.
+/// Reads the bits of a 64-bit floating-point number.
 pub(crate) fn read_f64_bits(cursor: &mut Cursor) -> Result<u64, Malformed>
     ensures reads { Reads (λ n. n) (float_bits 8).parse cursor.old result cursor.new }
     ensures within { IsWithin cursor.old result }
@@ -94,16 +96,16 @@ pub(crate) fn read_f64_bits(cursor: &mut Cursor) -> Result<u64, Malformed>
     Ok(u64::from_le_bytes(read_bytes(cursor)?))
 }
 
-/// The greatest flags of a cast.
+/// The greatest value of the flags of a cast.
 pub(crate) const MOST_FLAGS: u8 = 3;
 
-/// In the flags of a cast: the first reference type may be null.
+/// The flag of a cast whose first reference type may be null.
 const SOURCE_NULL: u8 = 1;
 
-/// In the flags of a cast: the second reference type may be null.
+/// The flag of a cast whose second reference type may be null.
 const TARGET_NULL: u8 = 2;
 
-/// The first reference type of a cast with the flags.
+/// Returns the first reference type of a cast with the flags.
 pub fn cast_source(flags: u8, heap: HeapType) -> RefType
     ensures { ref_view result ≡ source_type flags heap }
 {
@@ -113,7 +115,7 @@ pub fn cast_source(flags: u8, heap: HeapType) -> RefType
     }
 }
 
-/// The second reference type of a cast with the flags.
+/// Returns the second reference type of a cast with the flags.
 pub fn cast_target(flags: u8, heap: HeapType) -> RefType
     ensures { ref_view result ≡ target_type flags heap }
 {

@@ -18,27 +18,27 @@ use wasmprinter_bytes::lists::read_items;
 use wasmprinter_error::Malformed;
 use wasmprinter_types::{HeapType, ValTypes, read_heap_type, read_types};
 
-/// What stands behind an opcode, in the order of the bytes (section 5.4).
+/// The immediates after an opcode, in the order of the bytes (section 5.4).
 #[derive(Debug, PartialEq, Drop)]
 pub enum Immediates<'a> {
-    /// Nothing, or a byte 00 that says nothing.
+    /// No immediates, or a reserved byte 00.
     None,
-    /// The type of a block.
+    /// A block type.
     Block(BlockType),
-    /// The type of a block, and catch clauses.
+    /// A block type and catch clauses.
     TryTable(BlockType, Catches<'a>),
     /// An index.
     Index(u32),
     /// Two indices, or an index and a number.
     Indices(u32, u32),
-    /// Labels for the numbers from 0 on, and one for all other numbers.
+    /// The labels of a `br_table` for the numbers from 0 on, and its default label.
     BrTable(Targets<'a>, u32),
     /// Value types.
     Types(ValTypes<'a>),
     /// A heap type.
     Heap(HeapType),
-    /// Flags 0 to 3, a label, and the heap types of two reference types. Bit 0 of the flags says that the first may be null, bit 1 the same
-    /// of the second.
+    /// Flags 0 to 3, a label, and the heap types of two reference types. The first may be null if bit 0 of the flags
+    /// is set, the second if bit 1 is set.
     Cast(u8, u32, HeapType, HeapType),
     /// A memory operand.
     Memory(MemArg),
@@ -46,24 +46,24 @@ pub enum Immediates<'a> {
     MemoryLane(MemArg, u8),
     /// A lane.
     Lane(u8),
-    /// A number of 32 bits.
+    /// A 32-bit integer.
     I32(i32),
-    /// A number of 64 bits.
+    /// A 64-bit integer.
     I64(i64),
-    /// The bits of a floating-point number.
+    /// The bits of a 32-bit floating-point number.
     F32(u32),
-    /// The bits of a floating-point number.
+    /// The bits of a 64-bit floating-point number.
     F64(u64),
     /// A vector or sixteen lanes, the lowest byte first.
     Bytes([u8; 16]),
 }
 
-/// An opcode of the table with immediates of the shape that the table gives it.
+/// An opcode of the table, with immediates of the shape that the table lists for it.
 #[derive(Clone, Debug, Drop)]
 pub struct Operator<'a> {
-    /// Which operator it is.
+    /// The opcode.
     pub opcode: Opcode,
-    /// What stands behind the opcode.
+    /// The immediates after the opcode.
     pub immediates: Immediates<'a>,
 }
 
@@ -78,8 +78,9 @@ impl<'a> Model for Operator<'a> {
     ghost invariant = { λ o. IsListedAs o.opcode (immediates_view o.immediates) × HasCastFlags o.immediates };
 }
 
-// The lists of a clone are second views of the same bytes, so it takes no memory. A derived `Clone` promises only equal values: it would
-// lose that the flags of a cast are below 4, which the invariant of `Operator` needs.
+// The lists of a clone are second views of the same bytes, so cloning allocates nothing. A derived
+// `Clone` would promise only equal values, and so lose that the flags of a cast are below 4, which the
+// invariant of `Operator` needs.
 impl Clone for Immediates<'_> {
     ghost use Rattle.std.specs.Prelude.{⊤};
 
@@ -116,7 +117,8 @@ impl Clone for Immediates<'_> {
     }
 }
 
-// Operators are equal if their opcodes and immediates are. A derived `PartialEq` would need `Immediates` to have a model.
+// Two operators are equal if their opcodes and immediates are. A derived `PartialEq`
+// would need a model of `Immediates`.
 impl PartialEq for Operator<'_> {
     ghost use Rattle.std.specs.Cmp.{and_per, on_per};
     ghost use Rattle.wasmprinter_ops.specs.contracts.opcode.OpcodePartialEq.TheImpl.Laws.{laws-law as opcodes_compare};
@@ -168,7 +170,7 @@ impl<'a> Immediates<'a> {
     }
 }
 
-/// Passes by immediates of the shape. The most usual ones are told apart, so that no value is made of them.
+/// Skips immediates of the shape. The most frequent shapes have their own arms, so that no value is built for them.
 #[inline(always)]
 fn pass_immediates(cursor: &mut Cursor, shape: Shape) -> Result<(), Malformed>
     ensures reads { Passes (immediates_grammar (shape_view shape)).parse cursor.old result cursor.new }
@@ -196,7 +198,7 @@ fn pass_immediates(cursor: &mut Cursor, shape: Shape) -> Result<(), Malformed>
     }
 }
 
-/// Passes by what stands behind an opcode, which lies at the place, and answers the operator's role.
+/// Skips the immediates of the opcode at `place`, and returns the operator's role.
 #[inline(always)]
 fn pass_behind(cursor: &mut Cursor, place: u64, opcode: Opcode) -> Result<Role, Malformed>
     requires { place ≤ end_of cursor.now }
@@ -211,8 +213,8 @@ fn pass_behind(cursor: &mut Cursor, place: u64, opcode: Opcode) -> Result<Role, 
     Ok(opcode.role())
 }
 
-/// Passes by an opcode that the table lists and its immediates, and answers its role. As [`read_operator`] it tells opcodes of one byte
-/// from others first, since most are.
+/// Skips an opcode that the table lists, with its immediates, and returns its role. As in [`read_operator`], the test
+/// for a prefix comes first, since most opcodes are one byte.
 #[inline]
 pub(crate) fn pass_operator(cursor: &mut Cursor) -> Result<Role, Malformed>
     ensures reads { PassesOperator cursor.old result cursor.new }
@@ -229,7 +231,7 @@ pub(crate) fn pass_operator(cursor: &mut Cursor) -> Result<Role, Malformed>
     }
 }
 
-/// Reads the byte 00 behind a fence.
+/// Reads the reserved byte 00 of `atomic.fence`.
 fn read_fence<'a>(cursor: &mut Cursor<'a>) -> Result<Immediates<'a>, Malformed>
     ensures reads { Reads immediates_view (immediates_grammar FenceShape).parse cursor.old result cursor.new }
     ensures within { IsWithin cursor.old result }
@@ -268,7 +270,7 @@ fn read_indices<'a>(cursor: &mut Cursor<'a>) -> Result<Immediates<'a>, Malformed
     Ok(Immediates::Indices(first, cursor.u32()?))
 }
 
-/// Reads labels, and one more.
+/// Reads the labels of a `br_table` and its default label.
 fn read_branch_table<'a>(cursor: &mut Cursor<'a>) -> Result<Immediates<'a>, Malformed>
     ensures reads { Reads immediates_view (immediates_grammar BranchTableShape).parse cursor.old result cursor.new }
     ensures within { IsWithin cursor.old result }
@@ -312,7 +314,7 @@ fn read_memory_lane<'a>(cursor: &mut Cursor<'a>) -> Result<Immediates<'a>, Malfo
 }
 
 impl<'a> Operator<'a> {
-    /// Reads what stands behind an opcode, which lies at the place.
+    /// Reads the immediates of the opcode at `place`.
     #[inline(always)]
     fn read_behind(cursor: &mut Cursor<'a>, place: u64, opcode: Opcode) -> Result<Self, Malformed>
         requires { place ≤ end_of cursor.now }
@@ -332,7 +334,8 @@ impl<'a> Operator<'a> {
 ///
 /// # Errors
 ///
-/// `Malformed` with the place of the opcode where it isn't listed, else with that of what may not stand there.
+/// `Malformed`, with the place of the opcode if the table does not list it, and otherwise with the place of the first
+/// unexpected byte or number.
 pub fn read_operator<'a>(cursor: &mut Cursor<'a>) -> Result<Operator<'a>, Malformed>
     ensures reads { Reads (λ o. o) operator.parse cursor.old result cursor.new }
     ensures within { IsWithin cursor.old result }
@@ -348,11 +351,11 @@ pub fn read_operator<'a>(cursor: &mut Cursor<'a>) -> Result<Operator<'a>, Malfor
     }
 }
 
-/// Reads an operator, with its place in front.
+/// Reads an operator, and returns its place with it.
 ///
 /// # Errors
 ///
-/// Those of [`read_operator`].
+/// As [`read_operator`].
 pub fn read_placed<'a>(cursor: &mut Cursor<'a>) -> Result<(u64, Operator<'a>), Malformed>
     ensures reads { Reads placed_view (value_with_place operator).parse cursor.old result cursor.new }
     ensures within { IsWithin cursor.old result }

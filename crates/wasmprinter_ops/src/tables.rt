@@ -1,4 +1,4 @@
-//! What is known of each opcode, by its number: tables by prefix.
+//! The tables of opcodes, one for each prefix, by number.
 
 mod atomics;
 mod bulk;

@@ -1,4 +1,4 @@
--- Element segments behind their flags.
+-- Element segments after their flags.
 use Rattle.std.proofs.Common.{◌≡◌, ℕ, zero, suc, ◌<◌, ◌≤◌, Some, None, refl, ◌∙◌, arith}
 use Rattle.std.proofs.lemmas.Bool.{ne_eqb}
 use Rattle.wasmprinter_spec.specs.Grammar.{Input, Placed, value_with_place}
@@ -8,7 +8,7 @@ use Rattle.wasmprinter_spec.specs.Placed.{ElementMode, Items, element_of, entry_
 use Rattle.wasmprinter_spec.specs.Binary.Elements.{segment, element_behind, element}
 use Rattle.wasmprinter_segments.specs.Segments.{names_table, mode_by, items_by}
 
--- the mode and the items apart
+-- For flags below 8, the mode and the items can be read separately.
 in_parts : (flags : ℕ) (at : Input) → flags < 8 → (element_behind flags).parse at ≡ (segment (names_table flags) (mode_by flags) (items_by flags)).parse at
 in_parts zero at lt = refl
 in_parts (suc zero) at lt = refl
@@ -20,9 +20,9 @@ in_parts (suc (suc (suc (suc (suc (suc zero)))))) at lt = refl
 in_parts (suc (suc (suc (suc (suc (suc (suc zero))))))) at lt = refl
 in_parts (suc (suc (suc (suc (suc (suc (suc (suc n)))))))) at lt = absurd (omega arith)
 
--- flags were read
+-- The flags were read.
 module _ (old mid : Input) (flags : ℕ) (read : u32.parse old ≡ Some (flags, mid)) where
-  -- which are too large
+  -- Flags that are too large do not encode a segment.
   pub element_past : 8 ≤ flags → (value_with_place element).parse old ≡ None
   element_past le =
       let none : (element_behind flags).parse mid ≡ None =
@@ -39,7 +39,7 @@ module _ (old mid : Input) (flags : ℕ) (read : u32.parse old ≡ Some (flags, 
       rw (read, none) refl
 
   module _ (lt : flags < 8) where
-    -- no mode stands behind them
+    -- If no mode can be read after the flags, no segment can be read.
     pub element_no_mode : (mode_by flags).parse mid ≡ None → (value_with_place element).parse old ≡ None
     element_no_mode e =
         let parts : (segment (names_table flags) (mode_by flags) (items_by flags)).parse mid ≡ None = rw e refl in
@@ -47,14 +47,14 @@ module _ (old mid : Input) (flags : ℕ) (read : u32.parse old ≡ Some (flags, 
         rw (read, none) refl
 
     module _ (after : Input) (mode : ElementMode (Placed Operator)) (first : (mode_by flags).parse mid ≡ Some (mode, after)) where
-      -- a mode, but no items
+      -- If a mode can be read, but no items, no segment can be read.
       pub element_no_items : (items_by flags).parse after ≡ None → (value_with_place element).parse old ≡ None
       element_no_items e =
           let parts : (segment (names_table flags) (mode_by flags) (items_by flags)).parse mid ≡ None = rw (first, e) refl in
           let none : (element_behind flags).parse mid ≡ None = in_parts flags mid lt ∙ parts in
           rw (read, none) refl
 
-      -- both
+      -- If a mode and items are read, they are those of the segment.
       pub element_read : (new : Input) (items : Items (Placed Operator)) → (items_by flags).parse after ≡ Some (items, new)
           → (value_with_place element).parse old ≡ Some (record { place = old.place; value = entry_of (names_table flags) (element_of mode items) }, new)
       element_read new items e =

@@ -1,4 +1,4 @@
--- Tables with an initialiser without operators.
+-- Tables with an empty initialiser.
 use Rattle.std.proofs.Common.{◌≡◌, ℕ, ◌+◌, ◌<◌, ◌≤◌, get_or, drop, List, [], ◌∷◌, ◌++◌, length, Option, Some, None, refl, sym, ap, subst, ◌∙◌, inl, inr, arith, append_assoc, length-append}
 use Rattle.std.proofs.Math.ListN.{drop_of_length-le}
 use Rattle.std.proofs.lemmas.List.{at_drop_more}
@@ -15,13 +15,13 @@ use Rattle.wasmprinter_segments.specs.Tables.{FindsEmpty}
 use Rattle.wasmprinter_entries.specs.Contents.{content_reasons}
 use Rattle.wasmprinter_entries.proofs.Parts.{alone_some}
 
--- an initialiser without operators is what the definition says
+-- An empty initialiser is `Some []`.
 init_is : (init : Option (List (Placed Operator))) → IsEmptyInit init → init ≡ Some []
 init_is None e = absurd e
 init_is (Some []) e = refl
 init_is (Some (o ∷ os)) e = absurd e
 
--- which a table without an empty one has not
+-- `HasNoEmptyInit` and `IsEmptyInit` exclude each other, and one of them always holds.
 pub not_empty : (init : Option (List (Placed Operator))) → HasNoEmptyInit init → IsEmptyInit init → ⊥
 not_empty None none e = e
 not_empty (Some []) none e = none
@@ -32,14 +32,14 @@ has_none None ne = tt
 has_none (Some []) ne = absurd (ne tt)
 has_none (Some (o ∷ os)) ne = tt
 
--- a table that was spelled at a place, and its initialiser is empty
+-- If a table is encoded at p and its initialiser is empty, its place is p, and the bytes encode an empty initialiser.
 here_of : (p : ℕ) (text behind : List ℕ) (x : PlacedTable) (place : ℕ) → (value_with_place table).spells p text x → IsEmpty place x → (place ≡ p) × table.spells place text (table_of x.value.type (Some []))
 here_of p text behind x place s e =
     let there : place ≡ p = sym e.0 ∙ s.0 in
     let same : x.value ≡ table_of x.value.type (Some []) = ap (table_of x.value.type) (init_is x.value.init e.1) in
     (there, subst (λ (q : ℕ). table.spells q text (table_of x.value.type (Some []))) (sym there) (subst (λ (v : Table (Placed Operator)). table.spells p text v) same s.1))
 
--- it is one of the tables that were spelled
+-- If one of the tables that the bytes encode has an empty initialiser, the bytes contain such a table.
 among : (p : ℕ) (text : List ℕ) (ts : List PlacedTable) (place : ℕ) → AreItems (value_with_place table) p text ts → FirstIsEmpty place ts
     → (at : Input) → (before behind : List ℕ) → at.bytes ≡ before ++ (text ++ behind) → p ≡ at.place + length before → HasEmptyInit at place
 among p text [] place s any at before behind parts starts = absurd any
@@ -63,7 +63,7 @@ among p text (x ∷ xs) place s (inr there) at before behind parts starts =
     (parts ∙ ap (λ (t : List ℕ). before ++ t) split ∙ sym (append_assoc before first (others ++ behind)))
     (omega (arith, starts, length-append before first))
 
--- what is found among tables from one on is found among all of them
+-- The result of a search among the tables from i on is the result for all tables.
 abbrev pub FoundFrom : List PlacedTable → ℕ → Type 0
 FoundFrom ts i = (r : Option ℕ) → FindsEmpty (drop i ts) r → FindsEmpty ts r
 
@@ -73,7 +73,7 @@ module _ (ts : List PlacedTable) (i : ℕ) (x d : PlacedTable) (lt : i < length 
       let there : drop i ts ≡ get_or ts i d ∷ drop (i + 1) ts = at_drop_more (λ (xs : List PlacedTable). xs) ts i d lt in
       subst (λ (xs : List PlacedTable). FindsEmpty xs r) (sym there) (subst (λ (y : PlacedTable). FindsEmpty (y ∷ drop (i + 1) ts) r) same h)
 
-  -- the next is not empty
+  -- If the next table does not have an empty initialiser, the search continues after it.
   passed : (IsEmptyInit x.value.init → ⊥) → (r : Option ℕ) → FindsEmpty (drop (i + 1) ts) r → FindsEmpty (x ∷ drop (i + 1) ts) r
   passed ne None h = (has_none x.value.init ne, h)
   passed ne (Some place) h = inr (has_none x.value.init ne, h)
@@ -81,15 +81,15 @@ module _ (ts : List PlacedTable) (i : ℕ) (x d : PlacedTable) (lt : i < length 
   pub found_more : (IsEmptyInit x.value.init → ⊥) → FoundFrom ts i → FoundFrom ts (i + 1)
   found_more ne h r there = h r (next r (passed ne r there))
 
-  -- it is
+  -- If the next table has an empty initialiser, it is the result.
   pub found_here : IsEmptyInit x.value.init → FoundFrom ts i → FindsEmpty ts (Some x.place)
   found_here e h = h (Some x.place) (next (Some x.place) (inl (refl, e)))
 
--- none was found
+-- If no tables remain, there is no table with an empty initialiser.
 pub found_none : (ts : List PlacedTable) (i : ℕ) → length ts ≤ i → FoundFrom ts i → FindsEmpty ts None
 found_none ts i le h = h None (subst (λ (xs : List PlacedTable). FindsEmpty xs None) (sym (drop_of_length-le ts le)) tt)
 
--- a table section among whose tables one is empty is refused for it
+-- If one of the tables of a section has an empty initialiser, this is a reason for `EmptyTableInit`.
 pub section_empty : (at after : Input) (ts : List PlacedTable) (place : ℕ) → (vec (value_with_place table)).parse at ≡ Some (ts, after) → FirstIsEmpty place ts
     → (content_reasons TableSection at).tables place
 section_empty at after ts place read any =

@@ -1,4 +1,4 @@
--- A loop that reads the bodies of a code section, and the section that they are.
+-- A loop that reads the bodies of a code section, and the section that contains them.
 use Rattle.std.proofs.Common.{◌≡◌, ℕ, suc, ◌+◌, ◌-◌, ◌<◌, List, [], ◌∷◌, ◌++◌, Option, Some, None, refl, sym, ap, subst, ◌∙◌, arith, inl, inr}
 use Rattle.std.specs.List.{AllByRecursion}
 use Rattle.wasmprinter_spec.specs.Grammar.{Input, Grammar, ◌>>=◌, bind_some, some_is, Placed}
@@ -19,58 +19,58 @@ use Rattle.wasmprinter_entries.proofs.Parts.{alone_some, alone_none}
 use Rattle.wasmprinter_entries.proofs.SectionLists.{alone_items}
 use Rattle.wasmprinter_entries.proofs.LaterPlaces.{IsLater, later_none, later_more, many_later}
 
--- one more body has few locals
+-- If a body within the limit on locals is appended to such bodies, all are within the limit.
 pub few-push : (bs : List (Placed Body)) (b : Placed Body) → AllByRecursion HasFew bs → HasFew b → AllByRecursion HasFew (bs ++ b ∷ [])
 few-push [] b all few = (few, tt)
 few-push (x ∷ xs) b all few = (all.0, few-push xs b all.1 few)
 
--- a body with too many locals stands behind others
+-- If a body after others has too many locals, one of all bodies has too many.
 any_behind : (place : ℕ) (front rest : List (Placed Body)) (b : Placed Body) → IsOver place b → AnyIsOver place (front ++ b ∷ rest)
 any_behind place [] rest b over = inl over
 any_behind place (x ∷ xs) rest b over = inr (any_behind place xs rest b over)
 
 module _ {A : Type 0} (g : Grammar A) where
-  -- the count kept beside the items
+  -- The items with their count.
   abbrev with_count : ℕ → Option (List A × Input) → Option ((ℕ × List A) × Input)
   with_count n r = r >>= λ xs. Some ((n, xs.0), xs.1)
 
-  -- the items alone
+  -- The items, after attaching and removing their count.
   abbrev uncounted : ℕ → Option (List A × Input) → Option (List A × Input)
   uncounted n r = with_count n r >>= λ ((_, xs), after). Some (xs, after)
 
-  -- the count changes nothing
+  -- Attaching and removing the count does not change the items.
   uncount : (n : ℕ) (r : Option (List A × Input)) → uncounted n r ≡ r
   uncount n None = refl
   uncount n (Some x) = refl
 
-  -- a vector is read as so many items are
+  -- Reading a vector is reading as many items as its count says.
   pub vec_is : (old start : Input) (count : ℕ) → u32.parse old ≡ Some (count, start) → (vec g).parse old ≡ items_at g.parse count start
   vec_is old start count e = rw e (uncount count (items_at g.parse count start))
 
--- no bodies in front change nothing
+-- Prepending no items changes nothing.
 front_nil : {A : Type 0} (r : Option (List A × Input)) → with_front [] r ≡ r
 front_nil None = refl
 front_nil (Some x) = refl
 
--- before the loop no entry is read
+-- Before the loop, no entry has been read.
 pub front_start : (count : ℕ) (start at : Input) → start ≡ at → with_front [] (items_at code_entry.parse (count - 0) at) ≡ items_at code_entry.parse count start
 front_start count start at e =
     let k : count - 0 ≡ count = omega arith in
     front_nil (items_at code_entry.parse (count - 0) at) ∙ ap (λ (n : ℕ). items_at code_entry.parse n at) k ∙ ap (items_at code_entry.parse count) (sym e)
 
--- reading an entry
+-- The reader of an entry.
 abbrev P : Input → Option (Placed Body × Input)
 P = code_entry.parse
 
 module _ (old start at : Input) (count i : ℕ) (front : List (Placed Body)) (counted : u32.parse old ≡ Some (count, start)) (lt : i < count)
     (so_far : with_front front (items_at P (count - i) at) ≡ items_at P count start) (later : IsLater start at) (ends : end_of at ≡ end_of old) where
-  -- what is read of the entry that comes next
+  -- The list is the items so far, followed by the next item and the others.
   one_more : (vec code_entry).parse old ≡ with_front front (items_at P (suc (count - (i + 1))) at)
   one_more =
       let k : count - i ≡ suc (count - (i + 1)) = omega arith in
       vec_is code_entry old start count counted ∙ sym so_far ∙ ap (λ (n : ℕ). with_front front (items_at P n at)) k
 
-  -- an entry with too many locals is one of all
+  -- If the next entry has too many locals, one of all bodies has too many.
   any_over : (place : ℕ) → ((x : Placed Body × Input) → P at ≡ Some x → IsOver place x.0) → (x : List (Placed Body) × Input) → (vec code_entry).parse old ≡ Some x → AnyIsOver place x.0
   any_over place over x r =
       let m : ℕ = count - (i + 1) in
@@ -86,7 +86,7 @@ module _ (old start at : Input) (count i : ℕ) (front : List (Placed Body)) (co
       let there : AnyIsOver place (front ++ rest) = subst (λ (bs : List (Placed Body)). AnyIsOver place (front ++ bs)) first here in
       subst (λ (bs : List (Placed Body)). AnyIsOver place bs) all there
 
-  -- a fault of an entry is one of all entries
+  -- An error of an entry is an error of the list of bodies.
   pub bodies_fault : (f : Error) → HasReason (body_reasons P (HasEntryBlocks at) at) f → HasReason (bodies_reasons old) f
   bodies_fault = reason_implied (body_reasons P (HasEntryBlocks at) at) (bodies_reasons old) (record {
     malformed = λ place h. (one_more ∙ rw h.0 refl, omega (arith, h.1));
@@ -99,7 +99,7 @@ module _ (old start at : Input) (count i : ℕ) (front : List (Placed Body)) (co
     memory = λ h. record { count = count; after = start; counted = counted; some = omega arith };
   })
 
--- a fault of bodies is one of the code section
+-- An error of the list of bodies is an error of the code section.
 pub code_fault : (at : Input) (f : Error) → HasReason (bodies_reasons at) f → HasReason (content_reasons CodeSection at) f
 code_fault at = reason_implied (bodies_reasons at) (content_reasons CodeSection at) (record {
   malformed = λ place h. (alone_none (vec code_entry) at h.0, h.1);

@@ -20,13 +20,13 @@ use Rattle.wasmprinter_entries.specs.Refusals.{HasManyLocals, IsOver}
 use Rattle.wasmprinter_segments.specs.Growing.{HasBlocks}
 use Rattle.wasmprinter_segments.specs.Bodies.{body_reasons, HasEntryBlocks}
 
--- entries of locals
+-- The entries of locals.
 abbrev Entries : Type 0
 Entries = List (Placed LocalEntry)
 
--- the locals that were read are those of the body, if one stands there
+-- The locals that were read are those of the body, if the bytes encode one.
 module _ (at mid : Input) (locals : Entries) (read : (vec (value_with_place local_entry)).parse at ≡ Some (locals, mid)) where
-  -- the locals of the body
+  -- The locals of the body are those that were read.
   body_locals : (x : Body × Input) → body.parse at ≡ Some x → x.0.locals ≡ locals
   body_locals x e =
       let (read_parts, parsed, given) =
@@ -44,7 +44,7 @@ module _ (at mid : Input) (locals : Entries) (read : (vec (value_with_place loca
       let made : kept ≡ x.0.locals = ap (λ (y : Body × Input). y.0.locals) (some_is (body_from kept closed, after) x given) in
       sym made ∙ sym first ∙ same
 
-  -- the body has too many locals
+  -- If too many locals were read, the body has too many locals.
   is_over : (place : ℕ) → place ≡ at.place → most_locals < local_count locals → (x : Placed Body × Input) → (value_with_place body).parse at ≡ Some x → IsOver place x.0
   is_over place begins many x e =
       let with_place : Body × Input → Placed Body × Input = λ a. (record { place = at.place; value = a.0 }, a.1) in
@@ -53,7 +53,7 @@ module _ (at mid : Input) (locals : Entries) (read : (vec (value_with_place loca
       (sym begins, subst (λ (ls : Entries). most_locals < local_count ls) (sym (body_locals read_body parsed)) many) in
       subst (λ (y : Placed Body × Input). IsOver place y.0) (some_is (with_place read_body) x placed) here
 
-  -- too many locals were read
+  -- If too many locals were read, this is a reason for `TooManyLocals` of the body.
   pub body_over : (place : ℕ) → place ≡ at.place → most_locals < local_count locals → HasManyLocals at place × ((x : Placed Body × Input) → (value_with_place body).parse at ≡ Some x → IsOver place x.0)
   body_over place begins many =
       let s = (vec (value_with_place local_entry)).sound at (locals, mid) read in (
@@ -70,7 +70,7 @@ module _ (at mid : Input) (locals : Entries) (read : (vec (value_with_place loca
         is_over place begins many,
       )
 
-  -- a fault of the expression is one of the body
+  -- An error of the expression is an error of the body.
   pub body_fault : end_of mid ≡ end_of at → (f : Error) → HasReason (reader_reasons (expression.parse mid ≡ None) (HasBlock mid) mid) f → HasReason (body_reasons (value_with_place body).parse (HasBlocks at) at) f
   body_fault ends = reason_implied (reader_reasons (expression.parse mid ≡ None) (HasBlock mid) mid) (body_reasons (value_with_place body).parse (HasBlocks at) at) (record {
     malformed = λ place h. (rw (read, h.0) refl, omega (arith, h.1, ends));
@@ -81,9 +81,9 @@ module _ (at mid : Input) (locals : Entries) (read : (vec (value_with_place loca
     memory = λ h. record { value = locals; after = mid; read = read; holds = h };
   })
 
--- a fault of a body is one of the entry
+-- An error of the body is an error of the entry.
 module _ (old mid part new : Input) (size : ℕ) (size_read : u32.parse old ≡ Some (size, mid)) (cut : front_at size mid ≡ Some (part.bytes, new)) (begins : part.place ≡ mid.place) where
-  -- the body that stands in the entry is read of the part
+  -- If the entry can be read, the body in it can be read from the part.
   entry_body : (x : Placed Body × Input) → code_entry.parse old ≡ Some x → (after : Input) × ((value_with_place body).parse part ≡ Some (x.0, after))
   entry_body x e =
       let (entry, parsed, given) =
@@ -95,20 +95,20 @@ module _ (old mid part new : Input) (size : ℕ) (size_read : u32.parse old ≡ 
       sized_some old mid part new size size_read cut begins (alone (value_with_place body)) entry parsed in
       alone_some (value_with_place body) part x.0 (there ∙ ap (λ (b : Placed Body). Some b) same)
 
-  -- it has too many locals
+  -- A reason for `TooManyLocals` of the body is one of the entry.
   entry_over : (place : ℕ) → (body_reasons (value_with_place body).parse (HasBlocks part) part).locals place → (body_reasons code_entry.parse (HasEntryBlocks old) old).locals place
   entry_over place h =
       let (size_text, split, behind, spelled) = old_parts old mid part new size size_read cut begins in
       (many_in_part old part size_text new.bytes place split behind h.0, λ x f. let b = entry_body x f in h.1 (x.0, b.0) b.1)
 
-  -- none is spelled there
+  -- A reason for `Malformed` of the body is one of the entry.
   entry_malformed : (place : ℕ) → (body_reasons (value_with_place body).parse (HasBlocks part) part).malformed place → (body_reasons code_entry.parse (HasEntryBlocks old) old).malformed place
   entry_malformed place h =
       let none : code_entry.parse old ≡ None = rw (sized_none old mid part new size size_read cut begins (alone (value_with_place body)) (alone_none (value_with_place body) part h.0)) refl in
       let within = part_within old mid part new size size_read cut begins in
       (none, omega (arith, h.1, within))
 
-  -- each fault is one of the entry
+  -- Each error of the body is an error of the entry.
   pub entry_fault : (f : Error) → HasReason (body_reasons (value_with_place body).parse (HasBlocks part) part) f → HasReason (body_reasons code_entry.parse (HasEntryBlocks old) old) f
   entry_fault = reason_implied (body_reasons (value_with_place body).parse (HasBlocks part) part) (body_reasons code_entry.parse (HasEntryBlocks old) old) (record {
     malformed = entry_malformed;

@@ -1,4 +1,4 @@
--- Reading bodies of functions.
+-- Reading the bodies of functions.
 use Rattle.std.specs.List.{AllByRecursion}
 use Rattle.std.specs.Prelude.{◌≡◌, ℕ, ◌≤◌, List, Option, Some, None, Result, Ok, Err}
 use Rattle.wasmprinter_spec.specs.Grammar.{Input, input, Placed, value_with_place}
@@ -15,7 +15,7 @@ use Rattle.wasmprinter_entries.specs.Refusals.{HasManyLocals, IsOver, AnyIsOver}
 use Rattle.wasmprinter_entries.specs.Contents.{HasFew}
 use Rattle.wasmprinter_bytes.specs.Lists.{CountsItems}
 
--- a size stands there, and in so many bytes behind it what HasBlocks says
+-- The bytes begin with a size, and the next `size` bytes are a body for which `HasBlocks` holds.
 pub record HasEntryBlocks (at : Input) : Type 0 where
   pub size : ℕ
   pub behind : Input
@@ -25,8 +25,8 @@ pub record HasEntryBlocks (at : Input) : Type 0 where
   pub cut : front_at size behind ≡ Some (part, rest)
   pub blocks : HasBlocks (input behind.place part)
 
--- nothing of the kind stands there; or there are too many locals, and what stands there, if anything, has them; or a growth was
--- refused, for which this is so
+-- The reasons for errors when a body is read. The bytes do not encode a body; or there are too many locals, and the
+-- body that the bytes encode, if they encode one, has them; or an allocation failed, and `grows` holds.
 abbrev pub body_reasons : (Input → Option (Placed Body × Input)) → Type 0 → Input → Reasons
 body_reasons parse grows at = record {
   malformed = λ place. (parse at ≡ None) × (place ≤ end_of at);
@@ -37,20 +37,20 @@ body_reasons parse grows at = record {
   memory = grows;
 }
 
--- a body of few locals is read, or the refusal is true
+-- A body within the limit on locals is read by the given reader; or the error has its reason.
 abbrev pub TakesBodyBy : (Input → Option (Placed Body × Input)) → (Input → Type 0) → Input → Result (Placed Body) Error → Input → Type 0
 TakesBodyBy parse Grows old (Ok b) new = (parse old ≡ Some (b, new)) × (local_count b.value.locals ≤ most_locals)
 TakesBodyBy parse Grows old (Err e) new = HasReason (body_reasons parse (Grows old) old) e
 
--- a body of few locals is read, or the refusal is true
+-- A body within the limit on locals is read; or the error has its reason.
 abbrev pub TakesBody : Input → Result (Placed Body) Error → Input → Type 0
 TakesBody old r new = TakesBodyBy (value_with_place body).parse HasBlocks old r new
 
--- the same of an entry of a code section
+-- The same for an entry of a code section.
 abbrev pub TakesEntry : Input → Result (Placed Body) Error → Input → Type 0
 TakesEntry old r new = TakesBodyBy code_entry.parse HasEntryBlocks old r new
 
--- the bodies of a code section
+-- The reasons for errors when the bodies of a code section are read.
 abbrev pub bodies_reasons : Input → Reasons
 bodies_reasons at = record {
   malformed = λ place. ((vec code_entry).parse at ≡ None) × (place ≤ end_of at);
@@ -61,7 +61,7 @@ bodies_reasons at = record {
   memory = CountsItems at;
 }
 
--- bodies of few locals are read, or the refusal is true
+-- Bodies within the limit on locals are read; or the error has its reason.
 abbrev pub TakesBodies : {X : Type 0} → (X → List (Placed Body)) → Input → Result X Error → Input → Type 0
 TakesBodies items old (Ok v) new = ((vec code_entry).parse old ≡ Some (items v, new)) × AllByRecursion HasFew (items v)
 TakesBodies items old (Err e) new = HasReason (bodies_reasons old) e

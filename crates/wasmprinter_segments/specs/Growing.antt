@@ -1,4 +1,4 @@
--- Where reading wants memory: at a block of an expression, and for a list of expressions that has some.
+-- Where reading may allocate: at a block of an expression, and for a list of expressions that is not empty.
 use Rattle.std.specs.Prelude.{◌≡◌, ℕ, zero, suc, ◌⊎◌, Bool, true, false, Option, Some}
 use Rattle.wasmprinter_spec.specs.Grammar.{Input, value_with_place}
 use Rattle.wasmprinter_spec.specs.FirstByte.{only}
@@ -11,58 +11,58 @@ use Rattle.wasmprinter_bytes.specs.Lists.{CountsItems}
 use Rattle.wasmprinter_ops.specs.Operators.{HasBlock}
 use Rattle.wasmprinter_segments.specs.Segments.{is_inactive, is_explicit, holds_expressions, omits_kind, mode_by}
 
--- a value stands there, and of it and of where reading stands behind it this is so
+-- The bytes begin with a value, and `Holds` holds of it and of the position after it.
 pub record Behind {A : Type 0} (parse : Input → Option (A × Input)) (Holds : A → Input → Type 0) (at : Input) : Type 0 where
   pub value : A
   pub after : Input
   pub read : parse at ≡ Some (value, after)
   pub holds : Holds value after
 
--- of a body: in the expression behind its locals
+-- Reading a body may allocate in the expression after its locals.
 abbrev pub HasBlocks : Input → Type 0
 HasBlocks at = Behind (vec (value_with_place local_entry)).parse (λ _. HasBlock) at
 
--- of a global: in its initialiser
+-- Reading a global may allocate in its initialiser.
 abbrev pub GlobalGrows : Input → Type 0
 GlobalGrows at = Behind global_type.parse (λ _. HasBlock) at
 
--- of a table: in its initialiser, behind 40 00 and a type
+-- Reading a table may allocate in its initialiser, after 40 00 and a type.
 abbrev pub TableGrows : Input → Type 0
 TableGrows at = Behind (only 0x40).parse (λ _. Behind (only 0x00).parse (λ _. Behind table_type.parse (λ _. HasBlock))) at
 
--- of what becomes of an element segment: in the offset of an active one
+-- Reading the mode of an element segment may allocate in the offset of an active segment.
 abbrev pub OffsetGrows : (inactive explicit : Bool) → Input → Type 0
 OffsetGrows true explicit at = ⊥
 OffsetGrows false true at = Behind u32.parse (λ _. HasBlock) at
 OffsetGrows false false at = HasBlock at
 
--- the same, by the flags
+-- The same, by the flags.
 abbrev pub ModeGrows : ℕ → Input → Type 0
 ModeGrows flags at = OffsetGrows (is_inactive flags) (is_explicit flags) at
 
--- of its items: for a list of expressions
+-- Reading the items of an element segment may allocate for a list of expressions.
 abbrev pub ExpressionsGrow : (expressions omitted : Bool) → Input → Type 0
 ExpressionsGrow false omitted at = ⊥
 ExpressionsGrow true true at = CountsItems at
 ExpressionsGrow true false at = Behind reference_type.parse (λ _. CountsItems) at
 
--- the same, by the flags
+-- The same, by the flags.
 abbrev pub ItemsGrow : ℕ → Input → Type 0
 ItemsGrow flags at = ExpressionsGrow (holds_expressions flags) (omits_kind flags) at
 
--- of the segment, behind its flags
+-- Reading an element segment after its flags may allocate for its mode or its items.
 abbrev pub SegmentGrows : ℕ → Input → Type 0
 SegmentGrows flags at = ModeGrows flags at ⊎ Behind (mode_by flags).parse (λ _. ItemsGrow flags) at
 
 abbrev pub ElementGrows : Input → Type 0
 ElementGrows at = Behind u32.parse SegmentGrows at
 
--- of what becomes of a data segment, behind its flags: in the offset of an active one
+-- Reading the mode of a data segment, after its flags, may allocate in the offset of an active segment.
 abbrev pub DataModeGrows : ℕ → Input → Type 0
 DataModeGrows zero at = HasBlock at
 DataModeGrows (suc zero) at = ⊥
 DataModeGrows (suc (suc n)) at = Behind u32.parse (λ _. HasBlock) at
 
--- of the segment
+-- Reading a data segment may allocate for its mode.
 abbrev pub DataGrows : Input → Type 0
 DataGrows at = Behind u32.parse DataModeGrows at

@@ -1,4 +1,4 @@
--- What the contracts of sections with expressions cite.
+-- The definitions that the contracts of sections with expressions use.
 pub mod Segments
 pub mod Growing
 pub mod Bodies

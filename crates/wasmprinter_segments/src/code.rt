@@ -20,10 +20,10 @@ use wasmprinter_error::{Error, Malformed};
 use wasmprinter_ops::expression::{Expression, OperatorsReader};
 use wasmprinter_types::{ValType, read_type};
 
-/// The most locals that a function may have, parameters not counted.
+/// The greatest number of locals that a function may have, not counting parameters.
 const MOST_LOCALS: u64 = 50_000;
 
-/// So many locals of one type, with the entry's place.
+/// A number of locals of one type, with the place of the entry.
 #[derive(Drop)]
 pub struct LocalEntry {
     place: u64,
@@ -57,21 +57,21 @@ impl Spelled for LocalEntry {
 }
 
 impl LocalEntry {
-    /// The place of the entry: a byte offset from the module's start.
+    /// Returns the place of the entry: a byte offset from the start of the module.
     pub fn place(&self) -> u64
         ensures { result ≡ self.now.place }
     {
         self.place
     }
 
-    /// How many locals there are.
+    /// Returns the number of locals.
     pub fn count(&self) -> u32
         ensures { result ≡ self.now.value.count }
     {
         self.count
     }
 
-    /// Their type.
+    /// Returns the type of the locals.
     pub fn val_type(&self) -> ValType
         ensures { type_view result ≡ self.now.value.type }
     {
@@ -79,10 +79,10 @@ impl LocalEntry {
     }
 }
 
-/// The locals of a function, parameters not among them.
+/// The locals of a function, not including parameters.
 pub type Locals<'a> = Items<'a, LocalEntry>;
 
-/// Whether there are more locals than a function may have.
+/// Reports whether there are more locals than a function may have.
 fn are_too_many(locals: &Locals) -> bool
     ensures { IsTrue result ↔ (most_locals < local_count locals.now) }
 {
@@ -96,7 +96,7 @@ fn are_too_many(locals: &Locals) -> bool
     false
 }
 
-/// The body of a function: its locals and its operators, as bytes that are known to spell them.
+/// The body of a function: its locals and its operators, as bytes whose encoding was checked.
 #[derive(Drop)]
 pub struct Body<'a> {
     place: u64,
@@ -115,7 +115,7 @@ impl<'a> Model for Body<'a> {
 }
 
 impl<'a> Body<'a> {
-    /// Reads locals, which may not be too many, and an expression.
+    /// Reads locals, at most `MOST_LOCALS` of them, and an expression.
     fn read(alloc: Global, cursor: &mut Cursor<'a>) -> Result<Self, Error>
         ensures reads { TakesBody cursor.old result cursor.new }
         ensures end { end_of cursor.new ≡ end_of cursor.old }
@@ -133,7 +133,7 @@ impl<'a> Body<'a> {
         })
     }
 
-    /// Reads an entry of a code section: a size, and a body of exactly so many bytes.
+    /// Reads an entry of a code section: a size, and a body of exactly that many bytes.
     fn read_entry(alloc: Global, cursor: &mut Cursor<'a>) -> Result<Self, Error>
         ensures reads { TakesEntry cursor.old result cursor.new }
         ensures end { end_of cursor.new ≡ end_of cursor.old }
@@ -150,7 +150,7 @@ impl<'a> Body<'a> {
         }
     }
 
-    /// A second view of the same bytes.
+    /// Returns a second view of the same bytes.
     pub fn fork(&self) -> Body<'a>
         ensures { result ≡ self.now }
     {
@@ -161,7 +161,7 @@ impl<'a> Body<'a> {
         }
     }
 
-    /// The operators in order, each with its place, without the last `end`.
+    /// Returns the operators in order, each with its place, without the last `end`.
     pub fn operators(&self) -> OperatorsReader<'a>
         ensures all { result ≡ self.now.value.operators }
         ensures nested { Nests Sequence (roles self.now.value.operators) }
@@ -169,14 +169,14 @@ impl<'a> Body<'a> {
         self.code.operators()
     }
 
-    /// The place of the body's first byte: a byte offset from the module's start.
+    /// Returns the place of the body's first byte: a byte offset from the start of the module.
     pub fn place(&self) -> u64
         ensures { result ≡ self.now.place }
     {
         self.place
     }
 
-    /// The place of the last `end`: a byte offset from the module's start.
+    /// Returns the place of the last `end`: a byte offset from the start of the module.
     pub fn end(&self) -> u64
         ensures { result ≡ self.now.value.end }
     {
@@ -186,10 +186,10 @@ impl<'a> Body<'a> {
 
 /// The parts of a function's body.
 pub trait BodyParts<'a> {
-    /// The locals, parameters not among them.
+    /// Returns the locals, not including parameters.
     fn locals(&self) -> Locals<'a>;
 
-    /// The operators as an expression.
+    /// Returns the operators as an expression.
     fn expression(&self) -> &Expression<'a>;
 }
 
@@ -208,7 +208,7 @@ impl<'a> BodyParts<'a> for Body<'a> {
     }
 }
 
-/// Reads the bodies of a code section, a count in front.
+/// Reads the list of bodies of a code section.
 fn read_bodies<'a>(alloc: Global, cursor: &mut Cursor<'a>) -> Result<Vec<Body<'a>>, Error>
     ensures reads { TakesBodies (λ v. v.items) cursor.old result cursor.new }
     ensures end { end_of cursor.new ≡ end_of cursor.old }
@@ -221,13 +221,15 @@ fn read_bodies<'a>(alloc: Global, cursor: &mut Cursor<'a>) -> Result<Vec<Body<'a
     Ok(bodies)
 }
 
-/// Reads what a code section holds.
+/// Reads the content of a code section.
 ///
 /// # Errors
 ///
-/// `Malformed` where the bytes don't spell bodies, a count in front, up to the end, with the place of
-/// what may not stand there; `TooManyLocals` with the place of the first body that has more than 50,000, parameters not counted;
-/// `Memory` where a growth is refused.
+/// - `Malformed` if the bytes do not encode a list of bodies and nothing after it, with the place of the first
+///   unexpected byte, number or operator.
+/// - `TooManyLocals` if a body has more than 50,000 locals, not counting parameters, with the
+///   place of the first such body.
+/// - `Memory` if an allocation fails.
 pub fn read_code<'a>(alloc: Global, cursor: &mut Cursor<'a>) -> Result<Vec<Body<'a>>, Error>
     ensures { TakesHeld CodeSection (λ v. v.items) cursor.old result }
 {

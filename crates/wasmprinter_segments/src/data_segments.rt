@@ -17,30 +17,30 @@ use wasmprinter_entries::expected::expect_end;
 use wasmprinter_error::{Error, Malformed};
 use wasmprinter_ops::expression::Expression;
 
-/// Flags of a segment that is active in memory 0.
+/// The flags of a segment that is active in memory 0.
 const ACTIVE: u32 = 0;
 
-/// Flags of a passive segment.
+/// The flags of a passive segment.
 const PASSIVE: u32 = 1;
 
-/// Flags are below this; the greatest are those of an active segment whose memory is named.
+/// The flags are below this. The greatest are those of an active segment with an explicit memory index.
 const FLAGS_END: u32 = 3;
 
-/// What becomes of a data segment (section 2.5, "Data Segments").
+/// The mode of a data segment (section 2.5, "Data Segments").
 #[derive(Drop)]
 pub enum DataMode<'a> {
-    /// It waits for operators that use it.
+    /// The segment is used only by operators that refer to it.
     Passive,
-    /// It is copied to a memory when the module is instantiated.
+    /// The segment is copied to a memory when the module is instantiated.
     Active {
         /// The index of the memory.
         memory: u32,
-        /// Where it goes in the memory.
+        /// The offset in the memory.
         offset: Expression<'a>,
     },
 }
 
-/// A data segment, with the entry's place.
+/// A data segment, with the place of its entry.
 #[derive(Drop)]
 pub struct Data<'a> {
     place: u64,
@@ -60,7 +60,7 @@ impl<'a> Model for Data<'a> {
 }
 
 impl<'a> DataMode<'a> {
-    /// Reads the memory and the offset that the flags announce.
+    /// Reads the memory and the offset, as the flags require.
     fn read(alloc: Global, flags: u32, cursor: &mut Cursor<'a>) -> Result<Self, Error>
         requires { flags < 3 }
         ensures reads { Takes data_mode_view (data_mode flags).parse (DataModeGrows flags) cursor.old result cursor.new }
@@ -81,7 +81,7 @@ impl<'a> DataMode<'a> {
     }
 }
 
-/// Reads a count and so many bytes.
+/// Reads a count and that many bytes.
 fn read_bytes<'a>(cursor: &mut Cursor<'a>) -> Result<&'a [u8], Malformed>
     ensures reads { Reads (λ b. b.now) byte_vec.parse cursor.old result cursor.new }
     ensures within { IsWithin cursor.old result }
@@ -109,21 +109,21 @@ impl<'a> GrownIn<'a> for Data<'a> {
 }
 
 impl<'a> Data<'a> {
-    /// The place of the entry: a byte offset from the module's start.
+    /// Returns the place of the entry: a byte offset from the start of the module.
     pub fn place(&self) -> u64
         ensures { result ≡ self.now.place }
     {
         self.place
     }
 
-    /// What becomes of it.
+    /// Returns the mode.
     pub fn mode(&self) -> &DataMode<'a>
         ensures { data_mode_view result.now ≡ self.now.value.mode }
     {
         &self.mode
     }
 
-    /// Its bytes.
+    /// Returns the bytes.
     pub fn bytes(&self) -> &'a [u8]
         ensures { result.now ≡ self.now.value.bytes }
     {
@@ -131,12 +131,13 @@ impl<'a> Data<'a> {
     }
 }
 
-/// Reads what a data section holds.
+/// Reads the content of a data section.
 ///
 /// # Errors
 ///
-/// `Malformed` where the bytes don't spell data segments, a count in front, up to the end, with the place of
-/// what may not stand there; `Memory` where a growth is refused.
+/// - `Malformed` if the bytes do not encode a list of data segments and nothing after it, with the place of the first
+///   unexpected byte, number or operator.
+/// - `Memory` if an allocation fails.
 pub fn read_data<'a>(alloc: Global, cursor: &mut Cursor<'a>) -> Result<Vec<Data<'a>>, Error>
     ensures { TakesHeld DataSection (λ v. v.items) cursor.old result }
 {
@@ -145,11 +146,12 @@ pub fn read_data<'a>(alloc: Global, cursor: &mut Cursor<'a>) -> Result<Vec<Data<
     Ok(segments)
 }
 
-/// Reads what a data count section holds.
+/// Reads the content of a data count section.
 ///
 /// # Errors
 ///
-/// `Malformed` where the bytes don't spell a number and nothing behind it, with the place of what may not stand there.
+/// `Malformed` if the bytes do not encode a number and nothing after it, with the place of the first
+/// unexpected byte or number.
 pub fn read_data_count(cursor: &mut Cursor) -> Result<u32, Malformed>
     ensures { ReadsAll (λ n. Some n) data_count_section.parse cursor.old result }
 {

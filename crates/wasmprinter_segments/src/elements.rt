@@ -20,39 +20,40 @@ use wasmprinter_error::{Error, Malformed};
 use wasmprinter_ops::expression::Expression;
 use wasmprinter_types::{HeapType, RefType, read_ref_type};
 
-/// In front of the indices of functions, where their kind is written.
+/// The byte before function indices, for segments in which the kind of the items is written.
 const FUNCTIONS: u8 = 0x00;
 
-/// Flags are below this.
+/// The flags are below this.
 const FLAGS_END: u32 = 8;
 
-/// The bit of the flags that says that the segment is passive or declarative; if not, it is active.
+/// The bit of the flags that is set if the segment is passive or declarative, and clear if it is active.
 const INACTIVE_BIT: u32 = 0;
 
-/// The bit of the flags that says of an active segment that its table is named, and of another one that it is declarative.
+/// The bit of the flags that is set if an active segment has an explicit table index, or if an
+/// inactive one is declarative.
 const EXPLICIT_BIT: u32 = 1;
 
-/// The bit of the flags that says that the items are expressions; if not, they are indices of functions.
+/// The bit of the flags that is set if the items are expressions, and clear if they are function indices.
 const EXPRESSIONS_BIT: u32 = 2;
 
-/// The type of references to functions that may be null.
+/// The type of nullable references to functions.
 const FUNCREF: RefType = RefType {
     nullable: true,
     heap: HeapType::Func,
 };
 
-/// What becomes of an element segment (section 2.5, "Element Segments").
+/// The mode of an element segment (section 2.5, "Element Segments").
 #[derive(Drop)]
 pub enum ElementMode<'a> {
-    /// It waits for operators that use it.
+    /// The segment is used only by operators that refer to it.
     Passive,
-    /// It only declares functions that are referred to.
+    /// The segment only declares functions that are referred to.
     Declared,
-    /// It is copied to a table when the module is instantiated.
+    /// The segment is copied to a table when the module is instantiated.
     Active {
         /// The index of the table.
         table: u32,
-        /// Where it goes in the table.
+        /// The offset in the table.
         offset: Expression<'a>,
     },
 }
@@ -62,11 +63,11 @@ pub enum ElementMode<'a> {
 pub enum ElementItems<'a> {
     /// References to the functions with these indices.
     Functions(Items<'a, u32>),
-    /// What these expressions give, references of the type.
+    /// The values of these expressions, which are references of this type.
     Expressions(RefType, Vec<Expression<'a>>),
 }
 
-/// An element segment, with the entry's place.
+/// An element segment, with the place of its entry.
 #[derive(Drop)]
 pub struct Element<'a> {
     place: u64,
@@ -89,7 +90,7 @@ impl<'a> Model for Element<'a> {
 }
 
 impl<'a> ElementMode<'a> {
-    /// Reads the table and the offset that the flags announce.
+    /// Reads the table and the offset, as the flags require.
     fn read(alloc: Global, flags: u32, cursor: &mut Cursor<'a>) -> Result<Self, Error>
         ensures reads { Takes element_mode_view (mode_by flags).parse (ModeGrows flags) cursor.old result cursor.new }
         ensures end { end_of cursor.new ≡ end_of cursor.old }
@@ -109,7 +110,7 @@ impl<'a> ElementMode<'a> {
 }
 
 impl<'a> ElementItems<'a> {
-    /// Reads a count and so many indices of functions.
+    /// Reads a count and that many function indices.
     fn read_functions(cursor: &mut Cursor<'a>) -> Result<Self, Malformed>
         ensures reads { Reads element_items_view function_items.parse cursor.old result cursor.new }
         ensures within { IsWithin cursor.old result }
@@ -118,7 +119,7 @@ impl<'a> ElementItems<'a> {
         Ok(ElementItems::Functions(read_items(cursor)?))
     }
 
-    /// Reads a count and so many expressions.
+    /// Reads a count and that many expressions.
     fn read_expressions(alloc: Global, ty: RefType, cursor: &mut Cursor<'a>) -> Result<Self, Error>
         ensures reads { Takes element_items_view (expression_items (ref_view ty)).parse CountsItems cursor.old result cursor.new }
         ensures end { end_of cursor.new ≡ end_of cursor.old }
@@ -127,7 +128,7 @@ impl<'a> ElementItems<'a> {
         Ok(ElementItems::Expressions(ty, expressions))
     }
 
-    /// Reads the items that the flags announce, with their kind or type where it is written.
+    /// Reads the items, with their kind or type if the flags require it.
     fn read(alloc: Global, flags: u32, cursor: &mut Cursor<'a>) -> Result<Self, Error>
         ensures reads { Takes element_items_view (items_by flags).parse (ItemsGrow flags) cursor.old result cursor.new }
         ensures end { end_of cursor.new ≡ end_of cursor.old }
@@ -148,14 +149,15 @@ impl<'a> ElementItems<'a> {
     }
 }
 
-/// Whether a table is named behind the flags.
+/// Reports whether a table index follows the flags.
 fn announce_table(flags: u32) -> bool
     ensures { result ≡ names_table flags }
 {
     !has_bit(flags, INACTIVE_BIT) && has_bit(flags, EXPLICIT_BIT)
 }
 
-/// Whether neither the kind nor the type of the items is written: they are functions, and the segment is active in table 0.
+/// Reports whether neither the kind nor the type of the items is written. The items are then functions, and the
+/// segment is active in table 0.
 fn is_kind_omitted(flags: u32) -> bool
     ensures { result ≡ omits_kind flags }
 {
@@ -185,28 +187,28 @@ impl<'a> GrownIn<'a> for Element<'a> {
 }
 
 impl<'a> Element<'a> {
-    /// The place of the entry: a byte offset from the module's start.
+    /// Returns the place of the entry: a byte offset from the start of the module.
     pub fn place(&self) -> u64
         ensures { result ≡ self.now.place }
     {
         self.place
     }
 
-    /// Whether the bytes name the segment's table; if not, it is table 0 where the segment is active.
+    /// Reports whether the bytes contain the segment's table index. If not, an active segment uses table 0.
     pub fn names_table(&self) -> bool
         ensures { result ≡ self.now.value.names_table }
     {
         self.names_table
     }
 
-    /// What becomes of it.
+    /// Returns the mode.
     pub fn mode(&self) -> &ElementMode<'a>
         ensures { element_mode_view result.now ≡ self.now.value.element.mode }
     {
         &self.mode
     }
 
-    /// Its items.
+    /// Returns the items.
     pub fn items(&self) -> &ElementItems<'a>
         ensures { element_items_view result.now ≡ self.now.value.element.items }
     {
@@ -214,12 +216,13 @@ impl<'a> Element<'a> {
     }
 }
 
-/// Reads what an element section holds.
+/// Reads the content of an element section.
 ///
 /// # Errors
 ///
-/// `Malformed` where the bytes don't spell element segments, a count in front, up to the end, with the place of
-/// what may not stand there; `Memory` where a growth is refused.
+/// - `Malformed` if the bytes do not encode a list of element segments and nothing after it, with the place of the
+///   first unexpected byte, number or operator.
+/// - `Memory` if an allocation fails.
 pub fn read_elements<'a>(alloc: Global, cursor: &mut Cursor<'a>) -> Result<Vec<Element<'a>>, Error>
     ensures { TakesHeld ElementSection (λ v. v.items) cursor.old result }
 {

@@ -16,7 +16,7 @@ use wasmprinter_entries::global_types::GlobalType;
 use wasmprinter_error::Error;
 use wasmprinter_ops::expression::Expression;
 
-/// A global variable that the module defines, with the entry's place (section 2.5, "Globals").
+/// A global that the module defines, with the place of its entry (section 2.5, "Globals").
 #[derive(Drop)]
 pub struct Global<'a> {
     place: u64,
@@ -49,21 +49,21 @@ impl<'a> GrownIn<'a> for Global<'a> {
 }
 
 impl<'a> Global<'a> {
-    /// The place of the entry: a byte offset from the module's start.
+    /// Returns the place of the entry: a byte offset from the start of the module.
     pub fn place(&self) -> u64
         ensures { result ≡ self.now.place }
     {
         self.place
     }
 
-    /// Its type.
+    /// Returns the type.
     pub fn ty(&self) -> GlobalType
         ensures { global_type_view result ≡ self.now.value.type }
     {
         self.ty
     }
 
-    /// What it holds in the beginning.
+    /// Returns the initialiser.
     pub fn init(&self) -> &Expression<'a>
         ensures { result.now.items ≡ self.now.value.init }
     {
@@ -71,12 +71,13 @@ impl<'a> Global<'a> {
     }
 }
 
-/// Reads what a global section holds.
+/// Reads the content of a global section.
 ///
 /// # Errors
 ///
-/// `Malformed` where the bytes don't spell globals, a count in front, up to the end, with the place of
-/// what may not stand there; `Memory` where a growth is refused.
+/// - `Malformed` if the bytes do not encode a list of globals and nothing after it, with the place of the first
+///   unexpected byte, number or operator.
+/// - `Memory` if an allocation fails.
 pub fn read_globals<'a>(alloc: Allocator, cursor: &mut Cursor<'a>) -> Result<Vec<Global<'a>>, Error>
     ensures { TakesHeld GlobalSection (λ v. v.items) cursor.old result }
 {

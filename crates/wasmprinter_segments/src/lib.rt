@@ -1,5 +1,5 @@
-//! What sections hold with expressions (section 5.5 of the WebAssembly Core Specification, "Modules"): tables, globals, element segments,
-//! data segments, and the bodies of functions.
+//! The contents of sections with expressions (section 5.5 of the WebAssembly Core Specification, "Modules"): tables,
+//! globals, element segments, data segments, and the bodies of functions.
 #![tactic(auto)]
 
 pub mod code;

@@ -21,13 +21,13 @@ use wasmprinter_entries::table_types::TableType;
 use wasmprinter_error::Error;
 use wasmprinter_ops::expression::Expression;
 
-/// In front of a table with an initialiser.
+/// The byte before a table with an initialiser.
 const WITH_INIT: u8 = 0x40;
 
-/// The byte behind [`WITH_INIT`], which says nothing.
+/// The reserved byte after [`WITH_INIT`].
 const RESERVED: u8 = 0x00;
 
-/// A table that the module defines, with the entry's place (section 2.5, "Tables").
+/// A table that the module defines, with the place of its entry (section 2.5, "Tables").
 #[derive(Drop)]
 pub struct Table<'a> {
     place: u64,
@@ -67,7 +67,7 @@ impl<'a> GrownIn<'a> for Table<'a> {
 }
 
 impl<'a> Table<'a> {
-    /// Reads two bytes that announce an initialiser, a type, and the initialiser.
+    /// Reads the two bytes before a table with an initialiser, a table type, and the initialiser.
     fn read_initialised(alloc: Global, cursor: &mut Cursor<'a>) -> Result<Self, Error>
         ensures reads { Takes (λ t. t) (value_with_place (table_by 0x40)).parse TableGrows cursor.old result cursor.new }
         ensures end { end_of cursor.new ≡ end_of cursor.old }
@@ -80,21 +80,21 @@ impl<'a> Table<'a> {
         Ok(Table { place, ty, init })
     }
 
-    /// The place of the entry: a byte offset from the module's start.
+    /// Returns the place of the entry: a byte offset from the start of the module.
     pub fn place(&self) -> u64
         ensures { result ≡ self.now.place }
     {
         self.place
     }
 
-    /// Its type.
+    /// Returns the type.
     pub fn ty(&self) -> TableType
         ensures { table_type_view result ≡ self.now.value.type }
     {
         self.ty
     }
 
-    /// What its elements are in the beginning, `None` where that isn't said.
+    /// Returns the initialiser of the elements, or `None` if there is none.
     pub fn init(&self) -> Option<&Expression<'a>>
         ensures { init_view result ≡ self.now.value.init }
     {
@@ -104,7 +104,7 @@ impl<'a> Table<'a> {
         }
     }
 
-    /// Whether there is an initialiser without operators.
+    /// Reports whether there is an empty initialiser.
     fn is_empty(&self) -> bool
         ensures { IsTrue result ↔ IsEmptyInit self.now.value.init }
     {
@@ -115,7 +115,7 @@ impl<'a> Table<'a> {
     }
 }
 
-/// The place of the first table with an initialiser that has no operators.
+/// Returns the place of the first table with an empty initialiser.
 fn empty_table(tables: &[Table]) -> Option<u64>
     ensures { FindsEmpty tables.now result }
 {
@@ -127,13 +127,14 @@ fn empty_table(tables: &[Table]) -> Option<u64>
     None
 }
 
-/// Reads what a table section holds.
+/// Reads the content of a table section.
 ///
 /// # Errors
 ///
-/// `Malformed` where the bytes don't spell tables, a count in front, up to the end, with the place of
-/// what may not stand there; `EmptyTableInit` with the place of the first table whose initialiser has no operators;
-/// `Memory` where a growth is refused.
+/// - `Malformed` if the bytes do not encode a list of tables and nothing after it, with the place of the first
+///   unexpected byte, number or operator.
+/// - `EmptyTableInit` if the initialiser of a table has no operators, with the place of the first such table.
+/// - `Memory` if an allocation fails.
 pub fn read_tables<'a>(alloc: Global, cursor: &mut Cursor<'a>) -> Result<Vec<Table<'a>>, Error>
     ensures { TakesHeld TableSection (λ v. v.items) cursor.old result }
 {

@@ -1,4 +1,4 @@
--- What the program makes of types is seen as they were.
+-- The program's value for a type represents that type.
 use Rattle.std.proofs.Common.{◌≡◌, refl, ap}
 use Rattle.wasmprinter_spec.specs.Types.{HeapType, RefType, ref_type, ValType, StorageType, FieldType, field_type}
 use Rattle.wasmprinter_spec.specs.Types as defined

@@ -1,3 +1,3 @@
--- What the contracts of types cite.
+-- The definitions that the contracts of types use.
 pub mod ValTypes
 pub mod Types

@@ -1,4 +1,4 @@
--- The program's composite types and what they are made of, and those of the definitions.
+-- The program's storage, field and composite types, and the types of the definitions that they represent.
 use Rattle.std.specs.Prelude.{List, map, Option, Some}
 use Rattle.wasmprinter_spec.specs.Grammar.{Input, ◌>>=◌}
 use Rattle.wasmprinter_spec.specs.Binary.Types.{field}
@@ -12,35 +12,35 @@ use Rattle.wasmprinter_types.specs.declared.composite.FieldType.{FieldType}
 use Rattle.wasmprinter_types.specs.declared.composite.CompositeType.{CompositeType}
 use Rattle.wasmprinter_types.specs.declared.composite.CompositeType.TheVariants as c
 
--- the storage type of the definitions
+-- The storage type that a storage type of the program represents.
 abbrev pub storage_view : StorageType → DefinedStorage
 storage_view (s.Val t) = defined.Val (type_view t)
 storage_view s.I8 = defined.I8
 storage_view s.I16 = defined.I16
 
--- the program's storage type
+-- The storage type of the program for one of the definitions.
 abbrev pub storage_of_view : DefinedStorage → StorageType
 storage_of_view (defined.Val t) = s.Val (type_of_view t)
 storage_of_view defined.I8 = s.I8
 storage_of_view defined.I16 = s.I16
 
--- the field type of the definitions
+-- The field type that a field type of the program represents.
 abbrev pub field_view : FieldType → DefinedField
 field_view f = field_type f.mutable (storage_view f.storage)
 
--- the program's field type
+-- The field type of the program for one of the definitions.
 abbrev pub field_of_view : DefinedField → FieldType
 field_of_view f = record { storage = storage_of_view f.storage; mutable = f.mutable }
 
--- reads the program's field type
+-- Reads a field type, as a value of the program.
 abbrev pub field_at : Input → Option (FieldType × Input)
 field_at at = field.parse at >>= λ x. Some (field_of_view x.0, x.1)
 
--- the field types of the definitions
+-- The field types that field types of the program represent.
 abbrev pub fields_view : List FieldType → List DefinedField
 fields_view fs = map field_view fs
 
--- the composite type of the definitions
+-- The composite type that a composite type of the program represents.
 abbrev pub composite_view : CompositeType → DefinedComposite
 composite_view (c.Func t) = FuncComposite t
 composite_view (c.Array f) = ArrayComposite (field_view f)

@@ -1,4 +1,5 @@
-//! Composite types and subtypes (section 5.3 of the WebAssembly Core Specification, "Composite Types" and "Recursive Types").
+//! Composite types and subtypes (section 5.3 of the WebAssembly Core Specification, "Composite
+//! Types" and "Recursive Types").
 ghost use Rattle.std.specs.Prelude.{◌≡◌, ◌≤◌, length, option_map};
 ghost use Rattle.wasmprinter_spec.specs.Name.{vec};
 ghost use Rattle.wasmprinter_spec.specs.Repeated.{items_at};
@@ -15,48 +16,48 @@ use wasmprinter_bytes::bytes::Cursor;
 use wasmprinter_bytes::lists::{Items, Spelled, SpelledIn, no_items, read_items};
 use wasmprinter_error::Malformed;
 
-/// In front of an array's field.
+/// The byte before the field type of an array type.
 const ARRAY: u8 = 0x5e;
 
-/// In front of a structure's fields.
+/// The byte before the field types of a structure type.
 const STRUCT: u8 = 0x5f;
 
-/// In front of a function's parameters and results.
+/// The byte before the parameters and results of a function type.
 const FUNC: u8 = 0x60;
 
-/// In front of a type that other types may have as a supertype.
+/// The byte before a type that other types may have as a supertype.
 const SUB: u8 = 0x50;
 
-/// In front of a final type that says its supertypes.
+/// The byte before a final type that lists its supertypes.
 const SUB_FINAL: u8 = 0x4f;
 
-/// What a field holds (section 2.3, "Composite Types").
+/// A storage type (section 2.3, "Composite Types"): a value type or a packed type.
 #[derive(Clone, Copy, Debug, PartialEq, Eq)]
 pub enum StorageType {
-    /// A value.
+    /// A value type.
     Val(ValType),
-    /// A packed integer of 8 bits.
+    /// `i8`: packed integers of 8 bits.
     I8,
-    /// A packed integer of 16 bits.
+    /// `i16`: packed integers of 16 bits.
     I16,
 }
 
-/// The type of a field of a structure, or of an array's elements (section 2.3, "Composite Types").
+/// The type of a structure's field or of an array's elements (section 2.3, "Composite Types").
 #[derive(Clone, Copy, Debug, PartialEq, Eq)]
 pub struct FieldType {
-    /// What it holds.
+    /// The storage type of the field.
     pub storage: StorageType,
-    /// Whether it can be changed.
+    /// Whether the field can be changed.
     pub mutable: bool,
 }
 
-/// Field types, one after the other.
+/// A list of field types.
 pub type FieldTypes<'a> = Items<'a, FieldType>;
 
-/// Type indices, one after the other.
+/// A list of type indices.
 pub type TypeIndices<'a> = Items<'a, u32>;
 
-/// The type of functions (section 2.3, "Composite Types").
+/// A function type (section 2.3, "Composite Types").
 #[derive(Drop)]
 pub struct FuncType<'a> {
     params: ValTypes<'a>,
@@ -72,18 +73,18 @@ impl<'a> Model for FuncType<'a> {
     ghost view = { λ t. record { params = types_view t.params; results = types_view t.results } };
 }
 
-/// The type of functions, arrays or structures (section 2.3, "Composite Types").
+/// A function type, an array type or a structure type (section 2.3, "Composite Types").
 #[derive(Drop)]
 pub enum CompositeType<'a> {
-    /// Functions.
+    /// A function type.
     Func(FuncType<'a>),
-    /// Arrays whose elements have this type.
+    /// An array type, with the type of its elements.
     Array(FieldType),
-    /// Structures with these fields.
+    /// A structure type, with the types of its fields.
     Struct(FieldTypes<'a>),
 }
 
-/// A type with its supertypes (section 2.3, "Recursive Types").
+/// A composite type with its supertypes (section 2.3, "Recursive Types").
 #[derive(Drop)]
 pub struct SubType<'a> {
     is_final: bool,
@@ -101,7 +102,7 @@ impl<'a> Model for SubType<'a> {
 }
 
 impl StorageType {
-    /// The packed type that is this byte.
+    /// Returns the packed type that the byte encodes.
     fn of_byte(byte: u8) -> Option<StorageType>
         ensures { option_map storage_view result ≡ packed_type_of byte }
     {
@@ -112,7 +113,7 @@ impl StorageType {
         }
     }
 
-    /// Reads a packed type, or a value type.
+    /// Reads a packed type or a value type.
     fn read(cursor: &mut Cursor) -> Result<Self, Malformed>
         ensures reads { Reads storage_view storage_type.parse cursor.old result cursor.new }
         ensures within { IsWithin cursor.old result }
@@ -126,11 +127,11 @@ impl StorageType {
     }
 }
 
-/// Reads whether a field or a global variable can be changed.
+/// Reads whether a field or a global can be changed.
 ///
 /// # Errors
 ///
-/// `Malformed` where the byte is neither 00 nor 01, with its place.
+/// `Malformed` if the byte is neither 00 nor 01, with its place.
 pub fn read_mutability(cursor: &mut Cursor) -> Result<bool, Malformed>
     ensures reads { Reads (λ b. b) mutability.parse cursor.old result cursor.new }
     ensures within { IsWithin cursor.old result }
@@ -145,7 +146,7 @@ pub fn read_mutability(cursor: &mut Cursor) -> Result<bool, Malformed>
 }
 
 impl FieldType {
-    /// Reads what the field holds, and whether it can be changed.
+    /// Reads a storage type, and whether the field can be changed.
     fn read_field(cursor: &mut Cursor) -> Result<Self, Malformed>
         ensures reads { Reads field_view field.parse cursor.old result cursor.new }
         ensures within { IsWithin cursor.old result }
@@ -165,7 +166,7 @@ impl Spelled for FieldType {
     }
 }
 
-/// Reads a count and so many field types.
+/// Reads a count and that many field types.
 fn read_fields<'a>(cursor: &mut Cursor<'a>) -> Result<FieldTypes<'a>, Malformed>
     ensures reads { Reads fields_view (vec field).parse cursor.old result cursor.new }
     ensures within { IsWithin cursor.old result }
@@ -186,7 +187,7 @@ impl<'a> FuncType<'a> {
         Ok(FuncType { params, results })
     }
 
-    /// A second view of the same bytes.
+    /// Returns a second view of the same bytes.
     fn fork(&self) -> FuncType<'a>
         ensures { result ≡ self.now }
     {
@@ -196,14 +197,14 @@ impl<'a> FuncType<'a> {
         }
     }
 
-    /// The types of the parameters.
+    /// Returns the types of the parameters.
     pub fn params(&self) -> ValTypes<'a>
         ensures { types_view result ≡ self.now.params }
     {
         self.params.iter()
     }
 
-    /// The types of the results.
+    /// Returns the types of the results.
     pub fn results(&self) -> ValTypes<'a>
         ensures { types_view result ≡ self.now.results }
     {
@@ -212,7 +213,7 @@ impl<'a> FuncType<'a> {
 }
 
 impl<'a> CompositeType<'a> {
-    /// Reads what stands behind the first byte.
+    /// Reads the rest of a composite type, after its first byte.
     fn read_behind(first: First, cursor: &mut Cursor<'a>) -> Result<Self, Malformed>
         requires { first.place ≤ end_of cursor.now }
         ensures reads { Reads composite_view (composite_behind first.byte).parse cursor.old result cursor.new }
@@ -254,7 +255,7 @@ impl<'a> SubType<'a> {
         })
     }
 
-    /// Reads what stands behind the first byte.
+    /// Reads the rest of a subtype, after its first byte.
     fn read_behind(first: First, cursor: &mut Cursor<'a>) -> Result<Self, Malformed>
         requires { first.place ≤ end_of cursor.now }
         ensures reads { Reads (λ t. t) (sub_type_behind first.byte).parse cursor.old result cursor.new }
@@ -272,28 +273,28 @@ impl<'a> SubType<'a> {
         }
     }
 
-    /// Whether no type may have it as a supertype.
+    /// Reports whether no type may have this type as a supertype.
     pub fn is_final(&self) -> bool
         ensures { result ≡ self.now.final }
     {
         self.is_final
     }
 
-    /// The type indices of its supertypes.
+    /// Returns the type indices of the supertypes.
     pub fn supertypes(&self) -> TypeIndices<'a>
         ensures { result ≡ self.now.supertypes }
     {
         self.supertypes.iter()
     }
 
-    /// The composite type.
+    /// Returns the composite type.
     pub fn composite(&self) -> &CompositeType<'a>
         ensures { composite_view result.now ≡ self.now.composite }
     {
         &self.composite
     }
 
-    /// The function type, `None` of types of other kinds.
+    /// Returns the function type, or `None` if this is a type of another kind.
     pub fn func_type(&self) -> Option<FuncType<'a>>
         ensures { result ≡ func_type_of self.now.composite }
     {
@@ -313,8 +314,8 @@ impl<'a> SpelledIn<'a> for SubType<'a> {
     }
 }
 
-/// So many types that are known to stand one after the other; they are read again as they are asked for. (`Items` does the same for values
-/// that borrow nothing.)
+/// A list of subtypes whose encoding was checked. Each type is read again from the bytes when it is requested.
+/// (`Items` does the same for values that borrow nothing.)
 #[derive(Drop)]
 pub struct SubTypes<'a> {
     left: u32,
@@ -335,7 +336,7 @@ impl<'a> Model for SubTypes<'a> {
 }
 
 impl<'a> SubTypes<'a> {
-    /// Reads so many types.
+    /// Reads `count` subtypes.
     fn read_times(cursor: &mut Cursor<'a>, count: u32) -> Result<Self, Malformed>
         ensures reads { Reads (λ t. t) (items_at subtype.parse count) cursor.old result cursor.new }
         ensures within { IsWithin cursor.old result }
@@ -351,11 +352,11 @@ impl<'a> SubTypes<'a> {
         })
     }
 
-    /// Reads a type that stands by itself.
+    /// Reads a subtype that is not in a group, as a list of one type.
     ///
     /// # Errors
     ///
-    /// `Malformed` where the bytes don't spell a subtype, with the place of what may not stand there.
+    /// `Malformed` if the bytes do not encode a subtype, with the place of the first unexpected byte or number.
     pub fn read_one(cursor: &mut Cursor<'a>) -> Result<Self, Malformed>
         ensures reads { Reads (λ t. t) (items_at subtype.parse 1) cursor.old result cursor.new }
         ensures within { IsWithin cursor.old result }
@@ -364,11 +365,12 @@ impl<'a> SubTypes<'a> {
         SubTypes::read_times(cursor, 1)
     }
 
-    /// Reads a count and so many types.
+    /// Reads a count and that many subtypes.
     ///
     /// # Errors
     ///
-    /// `Malformed` where the bytes don't spell a count and so many subtypes, with the place of what may not stand there.
+    /// `Malformed` if the bytes do not encode the count or one of the types, with the place of the
+    /// first unexpected byte or number.
     pub fn read(cursor: &mut Cursor<'a>) -> Result<Self, Malformed>
         ensures reads { Reads (λ t. t) (vec subtype).parse cursor.old result cursor.new }
         ensures within { IsWithin cursor.old result }
@@ -378,14 +380,14 @@ impl<'a> SubTypes<'a> {
         SubTypes::read_times(cursor, count)
     }
 
-    /// How many types there are.
+    /// Returns the number of types.
     pub fn len(&self) -> u32
         ensures { result ≡ length self.now }
     {
         self.left
     }
 
-    /// The types in order.
+    /// Returns the types in order.
     pub fn iter(&self) -> SubTypes<'a>
         ensures { result ≡ self.now }
     {

@@ -1,5 +1,5 @@
-//! Types (section 5.3 of the WebAssembly Core Specification): heap types, reference types and value types, and the composite types made of
-//! them.
+//! Types (section 5.3 of the WebAssembly Core Specification): heap types, reference types, value types, and the
+//! composite types that consist of them.
 #![tactic(auto)]
 
 pub mod composite;

@@ -1,5 +1,5 @@
-//! Heap types, reference types and value types (section 5.3 of the WebAssembly Core Specification, "Heap Types", "Reference Types" and
-//! "Value Types").
+//! Heap types, reference types and value types (section 5.3 of the WebAssembly Core Specification, "Heap Types",
+//! "Reference Types" and "Value Types").
 ghost use Rattle.std.specs.Prelude.{◌≡◌, ◌≤◌, ◌^◌, ◌<ℤ◌, pos, IfOk, option_map};
 ghost use Rattle.wasmprinter_spec.specs.Grammar.{byte as byte_grammar};
 ghost use Rattle.wasmprinter_spec.specs.Name.{vec};
@@ -12,70 +12,70 @@ use wasmprinter_bytes::bytes::Cursor;
 use wasmprinter_bytes::lists::{Items, Spelled, read_items};
 use wasmprinter_error::Malformed;
 
-/// In front of the heap type of a reference that can't be null.
+/// The byte before the heap type of a reference that can't be null.
 const REF: u8 = 0x64;
 
-/// In front of the heap type of a reference that may be null.
+/// The byte before the heap type of a reference that may be null.
 const REF_NULL: u8 = 0x63;
 
-/// What references refer to (section 2.3, "Heap Types").
+/// A heap type, which classifies what references refer to (section 2.3, "Heap Types").
 #[derive(Clone, Copy, Debug, PartialEq, Eq)]
 pub enum HeapType {
-    /// Exceptions.
+    /// `exn`: exceptions.
     Exn,
-    /// Arrays of all types.
+    /// `array`: arrays of any type.
     Array,
-    /// Structures of all types.
+    /// `struct`: structures of any type.
     Struct,
-    /// Integers of 31 bits.
+    /// `i31`: 31-bit integers.
     I31,
-    /// What can be compared.
+    /// `eq`: values that can be compared.
     Eq,
-    /// All that isn't a function, an exception or external.
+    /// `any`: all values except functions, exceptions and external values.
     Any,
-    /// What is external.
+    /// `extern`: external values.
     Extern,
-    /// Functions of all types.
+    /// `func`: functions of any type.
     Func,
-    /// Nothing, below `Any`; the text writes it `none`.
+    /// `none`: no value; a subtype of `any`.
     NoAny,
-    /// Nothing, below `Extern`.
+    /// `noextern`: no value; a subtype of `extern`.
     NoExtern,
-    /// Nothing, below `Func`.
+    /// `nofunc`: no value; a subtype of `func`.
     NoFunc,
-    /// Nothing, below `Exn`.
+    /// `noexn`: no value; a subtype of `exn`.
     NoExn,
     /// The type with this index.
     Index(u32),
 }
 
-/// The type of references (section 2.3, "Reference Types").
+/// A reference type (section 2.3, "Reference Types").
 #[derive(Clone, Copy, Debug, PartialEq, Eq)]
 pub struct RefType {
-    /// Whether they may be null.
+    /// Whether the reference may be null.
     pub nullable: bool,
-    /// What they refer to.
+    /// The heap type of the reference.
     pub heap: HeapType,
 }
 
-/// The type of a value (section 2.3, "Value Types").
+/// A value type (section 2.3, "Value Types").
 #[derive(Clone, Copy, Debug, PartialEq, Eq)]
 pub enum ValType {
-    /// A whole number of 32 bits.
+    /// `i32`: 32-bit integers.
     I32,
-    /// A whole number of 64 bits.
+    /// `i64`: 64-bit integers.
     I64,
-    /// A floating-point number of 32 bits.
+    /// `f32`: 32-bit floating-point numbers.
     F32,
-    /// A floating-point number of 64 bits.
+    /// `f64`: 64-bit floating-point numbers.
     F64,
-    /// A vector of 128 bits.
+    /// `v128`: vectors of 128 bits.
     V128,
-    /// A reference.
+    /// References.
     Ref(RefType),
 }
 
-/// Value types, one after the other.
+/// A list of value types.
 pub type ValTypes<'a> = Items<'a, ValType>;
 
 /// The first byte of a type, which was read, and its place.
@@ -98,7 +98,7 @@ impl First {
         Ok(First { place, byte })
     }
 
-    /// A refusal of what begins with it.
+    /// Returns the error of a type that can't begin with this byte.
     pub(crate) fn refusal(self) -> Malformed
         ensures { result.place ≡ self.place }
     {
@@ -106,7 +106,7 @@ impl First {
     }
 }
 
-/// The type index that a signed number is.
+/// Returns the type index that a signed number encodes.
 fn index_of(number: i64) -> Option<u32>
     requires { number <ℤ pos (2 ^ 32) }
     ensures { result ≡ non_negative number }
@@ -119,7 +119,7 @@ fn index_of(number: i64) -> Option<u32>
 }
 
 impl HeapType {
-    /// The abstract heap type that is this byte.
+    /// Returns the abstract heap type that the byte encodes.
     fn of_byte(byte: u8) -> Option<HeapType>
         ensures { option_map heap_view result ≡ abstract_heap_of byte }
     {
@@ -141,11 +141,11 @@ impl HeapType {
     }
 }
 
-/// Reads a type index, a signed number of 33 bits that isn't negative.
+/// Reads a type index: a signed 33-bit number that is not negative.
 ///
 /// # Errors
 ///
-/// `Malformed` where the bytes don't spell one, with the place of what may not stand there.
+/// `Malformed` if the bytes do not encode one, with the place of the first unexpected byte or number.
 pub fn read_type_index(cursor: &mut Cursor) -> Result<u32, Malformed>
     ensures reads { Reads (λ n. n) signed_index.parse cursor.old result cursor.new }
     ensures within { IsWithin cursor.old result }
@@ -162,7 +162,7 @@ pub fn read_type_index(cursor: &mut Cursor) -> Result<u32, Malformed>
 ///
 /// # Errors
 ///
-/// `Malformed` where the bytes don't spell a heap type, with the place of what may not stand there.
+/// `Malformed` if the bytes do not encode a heap type, with the place of the first unexpected byte or number.
 pub fn read_heap_type(cursor: &mut Cursor) -> Result<HeapType, Malformed>
     ensures reads { Reads heap_view heap_type.parse cursor.old result cursor.new }
     ensures within { IsWithin cursor.old result }
@@ -183,7 +183,7 @@ pub fn read_heap_type(cursor: &mut Cursor) -> Result<HeapType, Malformed>
 }
 
 impl RefType {
-    /// Reads what stands behind the first byte.
+    /// Reads the rest of a reference type, after its first byte.
     fn read_behind(first: First, cursor: &mut Cursor) -> Result<Self, Malformed>
         requires { first.place ≤ end_of cursor.now }
         ensures reads { Reads ref_view (ref_type_behind first.byte).parse cursor.old result cursor.new }
@@ -206,7 +206,7 @@ impl RefType {
 ///
 /// # Errors
 ///
-/// `Malformed` where the bytes don't spell a reference type, with the place of what may not stand there.
+/// `Malformed` if the bytes do not encode a reference type, with the place of the first unexpected byte or number.
 pub fn read_ref_type(cursor: &mut Cursor) -> Result<RefType, Malformed>
     ensures reads { Reads ref_view reference_type.parse cursor.old result cursor.new }
     ensures within { IsWithin cursor.old result }
@@ -217,7 +217,7 @@ pub fn read_ref_type(cursor: &mut Cursor) -> Result<RefType, Malformed>
 }
 
 impl ValType {
-    /// The number type or vector type that is this byte.
+    /// Returns the number type or vector type that the byte encodes.
     fn of_byte(byte: u8) -> Option<ValType>
         ensures { option_map type_view result ≡ number_type_of byte }
     {
@@ -231,7 +231,7 @@ impl ValType {
         }
     }
 
-    /// Reads what stands behind the first byte.
+    /// Reads the rest of a value type, after its first byte.
     pub(crate) fn read_behind(first: First, cursor: &mut Cursor) -> Result<Self, Malformed>
         requires { first.place ≤ end_of cursor.now }
         ensures reads { Reads type_view (val_type_behind first.byte).parse cursor.old result cursor.new }
@@ -245,7 +245,7 @@ impl ValType {
     }
 }
 
-/// Whether a value type begins with the byte.
+/// Reports whether a value type can begin with the byte.
 pub fn begins_type(byte: u8) -> bool
     ensures { result ≡ begins_val_type byte }
 {
@@ -259,7 +259,7 @@ pub fn begins_type(byte: u8) -> bool
 ///
 /// # Errors
 ///
-/// `Malformed` where the bytes don't spell a value type, with the place of what may not stand there.
+/// `Malformed` if the bytes do not encode a value type, with the place of the first unexpected byte or number.
 pub fn read_type(cursor: &mut Cursor) -> Result<ValType, Malformed>
     ensures reads { Reads type_view val_type.parse cursor.old result cursor.new }
     ensures within { IsWithin cursor.old result }
@@ -277,11 +277,12 @@ impl Spelled for ValType {
     }
 }
 
-/// Reads a count and so many value types.
+/// Reads a count and that many value types.
 ///
 /// # Errors
 ///
-/// `Malformed` where the bytes don't spell value types, a count in front, with the place of what may not stand there.
+/// `Malformed` if the bytes do not encode the count or one of the types, with the place of the
+/// first unexpected byte or number.
 pub fn read_types<'a>(cursor: &mut Cursor<'a>) -> Result<ValTypes<'a>, Malformed>
     ensures reads { Reads types_view (vec val_type).parse cursor.old result cursor.new }
     ensures within { IsWithin cursor.old result }

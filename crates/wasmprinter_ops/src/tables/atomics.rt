@@ -1,8 +1,8 @@
-//! Opcodes behind the prefix FE: atomic memory accesses.
+//! Opcodes with the prefix FE: atomic memory accesses.
 use crate::opcode::{Arity, Shape};
 use crate::tables::Entry;
 
-/// The opcodes behind the prefix FE, by their numbers.
+/// The opcodes with the prefix FE, by their numbers.
 #[rattlefmt::skip]
 pub(crate) static ATOMICS: [Option<Entry>; 0x4f] = [
     Some(("memory.atomic.notify", Shape::Memory(2), Arity::Fixed(2, 1))), // 0x00

@@ -1,8 +1,8 @@
-//! Opcodes behind the prefix FC: saturating truncation, bulk memory and tables, wide arithmetic.
+//! Opcodes with the prefix FC: saturating truncation, bulk operators on memories and tables, wide arithmetic.
 use crate::opcode::{Arity, Shape, Space};
 use crate::tables::Entry;
 
-/// The opcodes behind the prefix FC, by their numbers.
+/// The opcodes with the prefix FC, by their numbers.
 #[rattlefmt::skip]
 pub(crate) static BULK: [Option<Entry>; 23] = [
     Some(("i32.trunc_sat_f32_s", Shape::None, Arity::Fixed(1, 1))), // 0

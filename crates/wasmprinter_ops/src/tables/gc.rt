@@ -1,8 +1,8 @@
-//! Opcodes behind the prefix FB: structures, arrays, casts, references.
+//! Opcodes with the prefix FB: structures, arrays, casts, references.
 use crate::opcode::{Arity, Shape, Space};
 use crate::tables::Entry;
 
-/// The opcodes behind the prefix FB, by their numbers.
+/// The opcodes with the prefix FB, by their numbers.
 #[rattlefmt::skip]
 pub(crate) static GC: [Option<Entry>; 31] = [
     Some(("struct.new", Shape::Index(Space::Types), Arity::OfStruct)), // 0

@@ -210,7 +210,7 @@ pub(crate) static ONE_BYTE: [Option<Entry>; 0xd7] = [
     Some(("br_on_non_null", Shape::Index(Space::Label), Arity::OfBranchOnNonNull)), // 0xd6
 ];
 
-/// How the opcodes without a prefix stand to the blocks around them, by their numbers; those of greater numbers are plain.
+/// The roles of the opcodes without a prefix, by their numbers. Opcodes with greater numbers have the role `Plain`.
 #[rattlefmt::skip]
 pub(crate) static ROLES: [Role; 0x20] = [
     Role::Plain, Role::Plain, // 0x00

@@ -1,8 +1,8 @@
-//! Opcodes behind the prefix FD: vectors.
+//! Opcodes with the prefix FD: vectors.
 use crate::opcode::{Arity, Shape};
 use crate::tables::Entry;
 
-/// The opcodes behind the prefix FD, by their numbers.
+/// The opcodes with the prefix FD, by their numbers.
 #[rattlefmt::skip]
 pub(crate) static VECTORS: [Option<Entry>; 276] = [
     Some(("v128.load", Shape::Memory(4), Arity::Fixed(1, 1))), // 0

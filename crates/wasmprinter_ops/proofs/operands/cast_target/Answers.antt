@@ -4,7 +4,7 @@ use Rattle.wasmprinter_spec.specs.Types.{ref_type}
 use Rattle.wasmprinter_types.specs.ValTypes.{heap_view}
 use Rattle.wasmprinter_ops.proofs.operands.cast_target.Goals as goal
 
--- a bit that is set is 1
+-- For a bit b, 2 b is not 0 exactly if b is 1.
 bit_set : (b : ℕ) → b < 2 → not (eqb (b * 2) 0) ≡ eqb b 1
 bit_set zero lt = refl
 bit_set (suc zero) lt = refl

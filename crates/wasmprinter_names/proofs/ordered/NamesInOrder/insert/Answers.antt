@@ -5,7 +5,7 @@ use Rattle.wasmprinter_names.specs.declared.store.StoredName.{StoredName}
 use Rattle.wasmprinter_names.proofs.Placing.{before_all, pushed_or_not, pushed_gains, gains_front, gains_by, Replaces, replaces_by, replaced_ascends, replaced_disjoint, replaced_gains_all, disjoint_alone, disjoint_gains, none_either, none_above}
 use Rattle.wasmprinter_names.proofs.ordered.NamesInOrder.insert.Goals as goal
 
--- ---- a place above all others
+-- ---- A place above all others
 
 pub invariant_of-self : goal.invariant_of-self
 invariant_of-self c =
@@ -34,7 +34,7 @@ returns-in_err-push-clause-replaces c = λ some.
     (none_above list c.args.place (before_all list _ c.args.place c.deref.ensures.value alone.1)) in
     absurd (true≢false (sym some ∙ ap (λ es. is_some (stored_at es c.args.place)) (sym c.self.view_is) ∙ none))
 
--- ---- a place in the list
+-- ---- A place in the list
 
 pub invariant_of-self-in-Some : goal.invariant_of-self-in-Some
 invariant_of-self-in-Some c =
@@ -61,7 +61,7 @@ returns-in-Some-clause-gains c =
     (ap (λ es. late ++ es) (c.replace.ensures.items d))
     (replaced_gains_all list late c.in-Some.position e c.args.place c.args.stored c.self.invariant.0 c.self.invariant.1 r)
 
--- ---- a place in the tree, or a new one
+-- ---- A place in the tree, or a new one
 
 pub invariant_of-self-in_ok-insert : goal.invariant_of-self-in_ok-insert
 invariant_of-self-in_ok-insert c =
