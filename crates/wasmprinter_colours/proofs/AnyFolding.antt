@@ -1,4 +1,4 @@
--- Folded in any way, with colours or without, and flat, the text of a module reads as the module.
+-- Folded in any way, with or without colors, or flat, the text of a module reads as that module.
 use Rattle.std.proofs.Common.{◌≡◌, Bool, true, false, cond, Option, Some, None, refl, sym, ap, ◌∙◌}
 use Rattle.wasmprinter_spec.specs.Names.{Names}
 use Rattle.wasmprinter_spec.specs.ModuleNames.{module_names}

@@ -1,4 +1,5 @@
--- The calls of pieces with colours in the texts of some nodes: without their sequences they are those of the pieces without colours.
+-- The calls of pieces with colors in the texts of some nodes. After their escape sequences are deleted, they are
+-- the calls of the pieces without colors.
 use Rattle.std.proofs.Common.{◌≡◌, ℕ, List, [], ◌∷◌, ◌++◌, map, codes, refl, ap, ap₂, subst, ◌∙◌}
 use Rattle.wasmprinter_spec.specs.Call.{Call, Text, Newline, Line, Start, Claim, text_of}
 use Rattle.wasmprinter_spec.specs.Coloured.{bare_call}
@@ -25,7 +26,7 @@ bare-append : (cs ds : List Call) → map bare_call (cs ++ ds) ≡ map bare_call
 bare-append [] ds = refl
 bare-append (c ∷ cs) ds = ap (λ (es : List Call). bare_call c ∷ es) (bare-append cs ds)
 
--- those with plain text have no sequence
+-- If the text of calls is plain, then deleting the escape sequences changes none of the calls.
 plain_bare : (cs : List Call) → IsPlainText (text_of cs) → map bare_call cs ≡ cs
 plain_bare [] h = refl
 plain_bare (Text s ∷ cs) h =

@@ -1,4 +1,4 @@
--- The fields of a module whose operators carry colours in their text, and the same fields without them.
+-- The fields of a module whose folded operators have colors in their text, and the same fields without colors.
 use Rattle.std.proofs.Common.{ℕ, ◌+◌, List, [], ◌∷◌, Bool, true, false, Option, Some, None, codes}
 use Rattle.wasmprinter_spec.specs.Grammar.{Placed}
 use Rattle.wasmprinter_spec.specs.Types.{MemoryType, ExternType, FuncExtern, TableExtern, MemoryExtern, GlobalExtern, TagExtern, ExternKind, FuncKind, TableKind, MemoryKind, GlobalKind, TagKind}
@@ -23,7 +23,7 @@ use Rattle.wasmprinter_spec.specs.Layout.Start.{start_pieces}
 use Rattle.wasmprinter_colours.proofs.Painted.{Painted, none, same, same_all, both, behind, closed, in_group_gap, in_line_group_gap}
 use Rattle.wasmprinter_colours.proofs.Nodes.{Bared, constant_so}
 
--- a scope in which operators are laid out in this way
+-- The scope with operators laid out in this way.
 abbrev pub in_way : Scope → Option Folding → Scope
 in_way s x = record s { folding = x }
 
@@ -113,7 +113,7 @@ module _ (x y : Option Folding) (d : Bared x y) (s : Scope) where
       same (in_group_gap 1 (codes "data") (behind (item_declaration s row.Data i)
       (same (both (data_mode_so e.value.mode) (same_all (shown_bytes skeleton e.value.bytes))))))
 
--- Fields without operators are the same.
+-- Fields without operators are the same in both layouts.
 module _ (x y : Option Folding) (s : Scope) where
   extern_same : (n : ℕ) (t : ExternType) → Painted (extern_pieces (in_way s x) n t) (extern_pieces (in_way s y) n t)
   unfolding extern_pieces header_pieces

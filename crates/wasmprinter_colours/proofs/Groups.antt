@@ -1,4 +1,4 @@
--- The groups of folded text with colours are the nodes of its trees.
+-- The groups of folded text with colors are the nodes of its trees.
 use Rattle.std.proofs.Common.{List, false, true, Some, option_map, refl, sym, ap, ◌∙◌}
 use Rattle.std.specs.List.{AllByRecursion}
 use Rattle.wasmprinter_spec.specs.Grammar.{◌>>=◌}

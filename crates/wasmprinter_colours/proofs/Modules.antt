@@ -1,4 +1,4 @@
--- A module whose folded operators carry colours in their text, and the same module without them.
+-- A module whose folded operators have colors in their text, and the same module without colors.
 use Rattle.std.proofs.Common.{◌≡◌, ℕ, ◌+◌, ◌||◌, List, [], ◌∷◌, ◌++◌, Bool, true, false, Option, Some, None, cond, codes, refl, subst}
 use Rattle.std.specs.List.{flat_map}
 use Rattle.wasmprinter_spec.specs.Grammar.{Placed}
@@ -25,7 +25,7 @@ use Rattle.wasmprinter_colours.proofs.Painted.{Painted, none, same, same_all, bo
 use Rattle.wasmprinter_colours.proofs.Nodes.{Bared, flat, folded, body_so}
 use Rattle.wasmprinter_colours.proofs.Fields.{in_way, table_so, global_so, element_so, data_so, imports_same, memory_same, header_same, tag_same, export_same, start_same}
 
--- without colours
+-- The options without colors.
 abbrev pub unpainted : Options → Options
 unpainted o = record o { paints = false }
 
@@ -71,7 +71,8 @@ module _ (x y : Option Folding) (d : Bared x y) where
 
 -- ---- parts
 
--- The parts of a module in order, of some with colours in their text and without.
+-- Two lists of the parts of a module. They are the same, except that parts of the first may have colors in their
+-- text.
 data PaintedParts : List Part → List Part → Type 0 where
   no_parts : PaintedParts [] []
   same_part : {part : Part} {ps qs : List Part} → PaintedParts ps qs → PaintedParts (part ∷ ps) (part ∷ qs)
@@ -81,14 +82,14 @@ same_parts : (ps : List Part) → PaintedParts ps ps
 same_parts [] = no_parts
 same_parts (p ∷ ps) = same_part (same_parts ps)
 
--- parts, and others behind them
+-- If `PaintedParts` holds for two pairs of lists, then it holds for the concatenated lists.
 infixl 65 ◌and_then◌
 ◌and_then◌ : {ps qs rs ts : List Part} → PaintedParts ps qs → PaintedParts rs ts → PaintedParts (ps ++ rs) (qs ++ ts)
 ◌and_then◌ no_parts k = k
 ◌and_then◌ (same_part h) k = same_part (h and_then k)
 ◌and_then◌ (shown e h) k = shown e (h and_then k)
 
--- Their pieces up to a refusal are so too, and the refusal is the same.
+-- `Painted` holds for the pieces of both lists up to a refusal, and the refusal is the same.
 laid_so : {ps qs : List Part} → PaintedParts ps qs →
     Painted (laid_parts ps).pieces (laid_parts qs).pieces × ((laid_parts ps).refused ≡ (laid_parts qs).refused)
 laid_so no_parts = (none, refl)
@@ -99,7 +100,7 @@ laid_so (shown e h) = let rest = laid_so h in (both e rest.0, rest.1)
 -- ---- sections
 
 module _ (o : Options) (answers : Answers) (m : PlacedModule) (x y : Option Folding) (d : Bared x y) (s : Scope) where
-  -- the fields of each section
+  -- `Painted` holds for the fields of each section.
   fields_so : (kind : Kind) → Painted (section_pieces o (in_way s x) m kind) (section_pieces (unpainted o) (in_way s y) m kind)
   fields_so TypeSection = same_all (type_section_pieces s.names 0 m.types)
   fields_so ImportSection = imports_same x y s no_numbers m.imports
@@ -116,7 +117,7 @@ module _ (o : Options) (answers : Answers) (m : PlacedModule) (x y : Option Fold
   fields_so DataSection = numbered_so _ _ (data_so x y d (scope_of_function s _) o.skeleton) 0 m.datas
   fields_so CustomSection = none
 
-  -- The custom sections behind each are the same.
+  -- The custom sections after each section are the same.
   sections_so : (kinds : List Kind) →
       PaintedParts (flat_map (section_parts o (in_way s x) m answers) kinds)
       (flat_map (section_parts (unpainted o) (in_way s y) m answers) kinds)
@@ -146,7 +147,8 @@ pieces_of_so o names size None h =
     same (same (both (closed (Some size) 0 (λ b. o.offsets || b) (behind (leading_mark_pieces names.module_name) h)) (same none)))
 pieces_of_so o names size (Some id) h = same (same (behind (leading_mark_pieces names.module_name) h))
 
--- However operators are folded, the pieces of a module with colours in their text are those without, but for the sequences of some styles.
+-- However operators are folded, the pieces of a module with colors in their text are those without colors, except
+-- for the escape sequences of some styles.
 pub pieces_so : {x y : Option Folding} → Bared x y → (o : Options) (answers : Answers) (names : Names) (m : PlacedModule) →
     Painted (pieces_by x o answers names m) (pieces_by y (unpainted o) answers names m)
 unfolding pieces_by
@@ -158,13 +160,13 @@ pieces_so {x} {y} d o answers names m =
     subst (λ (r : Option ℕ). Painted coloured (module_pieces_of (unpainted o) names m.size b.pieces r)) h.1
     (pieces_of_so o names m.size a.refused h.0)
 
--- where they are folded as the options say
+-- `pieces_so` for operators folded as the options say.
 pub module_so : (o : Options) (answers : Answers) (m : PlacedModule) →
     Painted (module_pieces o answers m) (module_pieces (unpainted o) answers m)
 unfolding module_pieces module_pieces_with module_parts pieces_by
 module_so o answers m = pieces_so (folding_bared o.folds o.paints (signatures_within m)) o answers (module_names o.invents m) m
 
--- A section is refused with colours where it is without.
+-- The same section, if any, is refused with and without colors.
 pub refusal_so : (o : Options) (answers : Answers) (m : PlacedModule) → refusal o answers m ≡ refusal (unpainted o) answers m
 unfolding module_parts
 refusal_so o answers m = (laid_so (parts_so (folding_bared o.folds o.paints (signatures_within m)) o answers (module_names o.invents m) m)).1

@@ -1,4 +1,4 @@
--- Folded operators with colours in their text, and without.
+-- Folded operators with colors in their text, and without.
 use Rattle.std.proofs.Common.{ℕ, ◌+◌, ◌&&◌, List, [], ◌∷◌, Bool, true, false, Option, Some, None, option_map}
 use Rattle.std.specs.Option.{is_none}
 use Rattle.wasmprinter_spec.specs.Grammar.{Placed}
@@ -30,7 +30,7 @@ with_colours o form first nesting (Snoc before head results held) =
     (node (head_calls o head)
     (both (behind (comment_end (is_nil held) (head_text o head) place nesting) (with_colours o form false (nesting + 1) held)) (same_all (Shut ∷ []))))
 
--- with colours or not
+-- `Painted` holds for the pieces of nodes, with or without colors, and their pieces without colors.
 pub nodes_so : (o : Options) (paints : Bool) (form : Form) (first : Bool) (nesting : ℕ) (f : Nodes) →
     Painted (node_pieces o paints form first nesting f) (node_pieces o false form first nesting f)
 nodes_so o true form first nesting f = with_colours o form first nesting f
@@ -44,7 +44,7 @@ code_so : (paints : Bool) (s : Setting) (c : Option NestedCode) →
 code_so paints s None = none
 code_so paints s (Some code) = nodes_so defaults paints s.form true s.nesting (tree code)
 
--- what operators are folded by, without colours
+-- The same way of folding, without colors.
 abbrev pub bare : Folding → Folding
 bare f = record f { paints = false }
 
@@ -53,7 +53,7 @@ list_so : (f : Folding) (own : Option ℕ) (s : Setting) (hs : List (Placed Hint
 unfolding folded_pieces
 list_so f own s hs os = code_so f.paints s (nested_code_of (items s (f.signatures own) hs 0 [] [] os))
 
--- Two ways to lay out operators, of which the second is the first without colours.
+-- Two ways to lay out operators. The second is the first without colors.
 pub data Bared : Option Folding → Option Folding → Type 0 where
   flat : Bared None None
   folded : {f : Folding} → Bared (Some f) (Some (bare f))

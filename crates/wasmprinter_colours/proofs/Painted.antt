@@ -1,4 +1,4 @@
--- Pieces of which the texts of some nodes carry sequences of colours, and the same pieces without them.
+-- Pieces with the escape sequences of colors in the texts of some nodes, and the same pieces without the sequences.
 use Rattle.std.proofs.Common.{◌≡◌, ℕ, ◌+◌, List, [], ◌∷◌, ◌++◌, Bool, true, false, Option, None, cond, codes, refl, sym, ap, ap₂, subst, ◌∙◌, append-nil}
 use Rattle.wasmprinter_spec.specs.Call.{Call, Text, text_of}
 use Rattle.wasmprinter_spec.specs.Coloured.{coloured_text}
@@ -11,14 +11,14 @@ use Rattle.wasmprinter_spec.specs.Layout.Folded.{painted_text}
 use Rattle.wasmprinter_spec.proofs.Texts.{text_of-append, coloured_text-append}
 use Rattle.wasmprinter_writers.proofs.Uncoloured.{colours_keep_text}
 
--- The second list is the first, but for what stands behind the parenthesis of some nodes: there it has the text of some calls, where the
--- first has their text with the sequences of their styles.
+-- The two lists are the same except for the text after the opening parenthesis of some nodes. The second list has
+-- the text of some calls there, and the first has their text with the escape sequences of their styles.
 pub data Painted : List Piece → List Piece → Type 0 where
   none : Painted [] []
   same : {p : Piece} {ps qs : List Piece} → Painted ps qs → Painted (p ∷ ps) (p ∷ qs)
   node : (cs : List Call) {ps qs : List Piece} → Painted ps qs → Painted (OpenPlain (coloured_text cs) ∷ ps) (OpenPlain (text_of cs) ∷ qs)
 
--- ---- what keeps it
+-- ---- what preserves `Painted`
 
 pub same_all : (ps : List Piece) → Painted ps ps
 same_all [] = none
@@ -29,17 +29,17 @@ both none k = k
 both (same h) k = same (both h k)
 both (node cs h) k = node cs (both h k)
 
--- the same pieces in front
+-- `Painted` is preserved if the same pieces are put before both lists.
 pub behind : (front : List Piece) {ps qs : List Piece} → Painted ps qs → Painted (front ++ ps) (front ++ qs)
 behind front h = both (same_all front) h
 
--- lines change where they did
+-- Both lists contain a line break, or neither does.
 pub same_breaks : {ps qs : List Piece} → Painted ps qs → has_break ps ≡ has_break qs
 same_breaks none = refl
 same_breaks (same {p = p} h) = ap (λ (b : Bool). cond (breaks p) true b) (same_breaks h)
 same_breaks (node cs h) = same_breaks h
 
--- so groups close where they did
+-- So both lists close their group in the same way.
 pub closed : {ps qs : List Piece} (place : Option ℕ) (nesting : ℕ) (f : Bool → Bool) → Painted ps qs →
     Painted (ps ++ close place nesting (f (has_break ps))) (qs ++ close place nesting (f (has_break qs)))
 closed {ps} {qs} place nesting f h =
@@ -49,7 +49,7 @@ pub in_group_gap : {ps qs : List Piece} (nesting : ℕ) (w : List ℕ) → Paint
 unfolding group_gap
 in_group_gap nesting w h = same (closed None nesting (λ b. b) h)
 
--- groups within one line
+-- `Painted` is preserved by a group on one line.
 pub in_line_group_gap : {ps qs : List Piece} (w : List ℕ) → Painted ps qs → Painted (line_group_gap w ps) (line_group_gap w qs)
 unfolding line_group_gap
 in_line_group_gap w h = same (both h (same none))
@@ -59,7 +59,7 @@ unfolding numbered_pieces
 numbered_so f g each i [] = none
 numbered_so f g each i (x ∷ xs) = both (each i x) (numbered_so f g each (i + 1) xs)
 
--- ---- the text of both
+-- ---- the texts of both lists
 
 painted_text-append : (b : Bool) (cs ds : List Call) → painted_text b (cs ++ ds) ≡ painted_text b cs ++ painted_text b ds
 painted_text-append true cs ds = coloured_text-append cs ds
@@ -69,7 +69,7 @@ painted_text-text : (b : Bool) (s : List ℕ) (cs : List Call) → painted_text 
 painted_text-text true s cs = refl
 painted_text-text false s cs = refl
 
--- the calls with their styles, or their text alone
+-- The calls with their styles, or one call with their text.
 abbrev own_calls : Bool → List Call → List Call
 own_calls true cs = cs
 own_calls false cs = Text (text_of cs) ∷ []
@@ -82,8 +82,9 @@ plain-own : (b : Bool) (cs : List Call) → text_of (own_calls b cs) ≡ text_of
 plain-own true cs = refl
 plain-own false cs = append-nil (text_of cs)
 
--- One list of calls has both texts: with the sequences of its styles that of the first pieces, which a printer writes with its own colours
--- or without, and without them that of the second.
+-- One list of calls has the texts of both lists of pieces. With the escape sequences of its styles, its text is
+-- that of the first list, as a color printer (if `b`) or another printer writes it. Without the sequences, its
+-- text is that of the second list.
 record Colours (b : Bool) (o : Options) (ps qs : List Piece) : Type 0 where
   calls : List Call
   coloured : coloured_text calls ≡ painted_text b (all_calls o ps)
@@ -121,7 +122,7 @@ colours_of b o none = record { calls = []; coloured = empty b; plain = refl }
 colours_of b o (same {p = p} h) = colours_then b o p (colours_of b o h)
 colours_of b o (node cs h) = colours_node b o cs (colours_of b o h)
 
--- Where the second text is plain, it is what stays of the first when the sequences are deleted.
+-- If the second text is plain, it is what remains of the first after the escape sequences are deleted.
 pub uncoloured : (b : Bool) (o : Options) (ps qs : List Piece) → Painted ps qs → IsPlainText (text_of (all_calls o qs)) →
     uncolour (painted_text b (all_calls o ps)) ≡ text_of (all_calls o qs)
 uncoloured b o ps qs h plain =

@@ -1,4 +1,4 @@
--- The text of a module with colours is its text without them, and sequences.
+-- The text of a module with colors is its text without colors, with escape sequences added.
 use Rattle.std.proofs.Common.{◌≡◌, List, [], ◌∷◌, ◌++◌, map, Bool, true, false, refl, sym, ap, ap₂, subst, ◌∙◌}
 use Rattle.wasmprinter_spec.specs.Placed.{PlacedModule}
 use Rattle.wasmprinter_spec.specs.Call.{Call, text_of}
@@ -15,7 +15,7 @@ use Rattle.wasmprinter_colours.proofs.Painted.{Painted, uncoloured}
 use Rattle.wasmprinter_colours.proofs.Calls.{bare_painted}
 use Rattle.wasmprinter_colours.proofs.Modules.{unpainted, module_so}
 
--- a piece by itself has the same calls with colours and without
+-- A single piece has the same calls under the options with and without colors.
 same_calls : (o : Options) (p : Piece) → calls o p ≡ calls (unpainted o) p
 same_calls o (Begin place) = refl
 same_calls o Feed = refl
@@ -57,7 +57,8 @@ same_all_calls : (o : Options) (ps : List Piece) → all_calls o ps ≡ all_call
 same_all_calls o [] = refl
 same_all_calls o (p ∷ ps) = ap₂ (λ (a b : List Call). a ++ b) (same_calls o p) (same_all_calls o ps)
 
--- with the sequences of every style, or those in the text alone
+-- If the second text is plain, it is what remains of the first after the escape sequences are deleted: those of
+-- every style (if `b`) or only those in the text itself.
 pub text_so : (b : Bool) (o : Options) (ps qs : List Piece) → Painted ps qs → IsPlainText (text_of (all_calls (unpainted o) qs)) →
     uncolour (painted_text b (all_calls o ps)) ≡ text_of (all_calls (unpainted o) qs)
 text_so b o ps qs h plain =
@@ -75,14 +76,15 @@ paints_add_colours_to m o answers plain = layout_so false m o answers plain
 pub coloured_text_keeps_to : ColouredTextKeepsTo
 coloured_text_keeps_to m o answers plain = layout_so true m o answers plain
 
--- at every module that bytes spell, since its text is plain
+-- The law holds for every module that bytes encode, because its text without colors is plain.
 pub paints_add_colours : PrintsPlainText → PaintsAddColours
 paints_add_colours all bytes m o answers spells blank = paints_add_colours_to m o answers (all bytes m (unpainted o) answers spells refl blank)
 
 pub coloured_text_keeps : PrintsPlainText → ColouredTextKeeps
 coloured_text_keeps all bytes m o answers spells blank = coloured_text_keeps_to m o answers (all bytes m (unpainted o) answers spells refl blank)
 
--- call by call
+-- After the escape sequences are deleted from their texts, the calls are those of the layout without colors, one
+-- by one.
 calls_so : (m : PlacedModule) (o : Options) (answers : Answers) → IsPlainText (text_of (layout (unpainted o) answers m)) →
     map bare_call (layout o answers m) ≡ layout (unpainted o) answers m
 unfolding layout

@@ -1,5 +1,5 @@
--- The laws of a module whose operators are folded in any way: by whatever arities, by whatever types of what they name, with colours in
--- their text or not.
+-- The laws of a module whose operators are folded in any way: by any arities, by any types of the items that they
+-- name, with or without colors in their text.
 use Rattle.std.specs.Prelude.{◌≡◌, ℕ, List, [], true, false, Some, None}
 use Rattle.std.specs.List.{AllByRecursion}
 use Rattle.wasmprinter_spec.specs.Binary.{Spells}
@@ -16,14 +16,16 @@ use Rattle.wasmprinter_spec.specs.Layout.Declarations.{Folding}
 use Rattle.wasmprinter_spec.specs.Layout.{layout, layout_folded, refusal}
 use Rattle.wasmprinter_spec.specs.Read.{read}
 
--- Where the options ask for it, operators are folded by the arities of the table and by what they name in the module.
+-- If the options ask for it, operators are folded by the arities of the table and by the items of the module that
+-- they name.
 abbrev pub FoldsByOwnArities : Type 0
 FoldsByOwnArities =
     (m : PlacedModule) (o : Options) (answers : Answers) →
     o.folds ≡ true → layout o answers m ≡ layout_folded (record { paints = o.paints; signatures = signatures_within m }) o answers m
 
--- Folded in any way or flat, the text of a module reads as that module when the sequences of colours are deleted. (As in the reading law,
--- no initialiser of a table is empty, and no `dylink.0` section is refused. No operator of the older `try` stands in what is printed.)
+-- Folded in any way or flat, the text of a module reads as that module after the escape sequences are deleted. (As
+-- in the reading law, no table has an empty initialiser, and no `dylink.0` section is refused. No operator of
+-- legacy exception handling is printed.)
 abbrev pub FoldedAnyhowReadsAsFlat : Type 0
 FoldedAnyhowReadsAsFlat =
     (bytes : List ℕ) (m : PlacedModule) (o : Options) (answers : Answers) (folding : Folding) →

@@ -1,4 +1,4 @@
--- What the laws of colours cite.
+-- Definitions for the laws of colors.
 pub mod PlainLaws
 pub mod NodeLaws
 pub mod AnyFolding

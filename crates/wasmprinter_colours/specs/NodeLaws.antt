@@ -1,4 +1,4 @@
--- The laws of the groups of folded text with colours: they are the nodes of its trees, as they are without.
+-- The laws of the groups of folded text with colors: they are the nodes of its trees, as they are without colors.
 use Rattle.std.specs.Prelude.{◌≡◌, ℕ, List, [], map, Bool, true, false, Some, None, option_map}
 use Rattle.std.specs.List.{AllByRecursion}
 use Rattle.wasmprinter_spec.specs.Grammar.{Placed, ◌>>=◌}
@@ -24,8 +24,8 @@ use Rattle.wasmprinter_reading.specs.FoldedLaws.{without_counts}
 use Rattle.wasmprinter_reading.specs.NodeLaws.{items_in, nodes_in, with_heads}
 use Rattle.wasmprinter_reading.specs.TreeLaws.{HaveTrees}
 
--- With colours in the text of folded operators or without, and with the sequences of all styles or without: what stays when the sequences
--- are deleted has the nodes of the tree.
+-- After the escape sequences are deleted, the text has the nodes of the tree. The text of folded operators has
+-- colors or not, and the sequences of all styles are written or not.
 abbrev pub PaintedGroupsAreNodes : Type 0
 PaintedGroupsAreNodes =
     (s : Setting) → AreNamed s.names → AreSignaturesInRange s.signature →
@@ -37,8 +37,9 @@ PaintedGroupsAreNodes =
     (nodes_in (uncolour (painted_text styles (all_calls o (node_pieces o paints s.form true s.nesting (tree code))))))
     ≡ Some (with_heads (λ h. items_in (head_text o h)) (tree code))
 
--- The text of a module whose operators are folded, with colours or without: in what stays when the sequences are deleted the groups are the
--- nodes of the module's trees, field by field. (All operators can be folded, and no `dylink.0` section is refused.)
+-- After the escape sequences are deleted, the groups of the text of a module with folded operators are the nodes
+-- of the module's trees, field by field. The text has colors or not. (All operators can be folded, and no
+-- `dylink.0` section is refused.)
 abbrev pub PaintedModulesHaveTrees : Type 0
 PaintedModulesHaveTrees =
     (bytes : List ℕ) (m : PlacedModule) (o : Options) (answers : Answers) →

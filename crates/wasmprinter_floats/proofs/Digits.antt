@@ -1,4 +1,4 @@
--- The digits of a fraction, one after another.
+-- The hexadecimal digits of a fraction, one after another.
 use Rattle.std.proofs.Common.{◌≡◌, ℕ, zero, suc, ◌+◌, ◌*◌, ◌/◌, ◌%◌, ◌^◌, ◌-◌, ◌<◌, ◌≤◌, [], ◌∷◌, refl, ap, ◌∙◌, arith, pow_pos, pow-add, mod-lt, mul-le-mul_left, ne_eqb, false}
 use Rattle.std.proofs.Math.Nat.{pow-zero}
 use Rattle.std.proofs.lemmas.Nat.{div_below}
@@ -12,12 +12,12 @@ unfolding digits_behind
 digits_behind-none zero = refl
 digits_behind-none (suc count) = refl
 
--- a number that is not 0 has a digit
+-- If a number below `16 ^ count` is not 0, then `count` is at least 1.
 pub count_some : (count n : ℕ) → 0 < n → n < 16 ^ count → 1 ≤ count
 count_some zero n some h = absurd (omega (arith, pow-zero 16))
 count_some (suc count) n some h = omega arith
 
--- the first digit, and those of the rest
+-- The digits of a number that is not 0 are its first digit, then those of the remainder.
 pub digits_behind-more : (count n : ℕ) → 0 < n → n < 16 ^ count →
     digits_behind count n ≡ digit_glyph false (n / 2 ^ (4 * (count - 1))) ∷ digits_behind (count - 1) (n % 2 ^ (4 * (count - 1)))
 unfolding digits_behind

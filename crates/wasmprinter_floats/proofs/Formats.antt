@@ -1,4 +1,4 @@
--- What fits 64 bits, in either format.
+-- In both formats the padded digits and the fraction fit in 52 bits.
 use Rattle.std.proofs.Common.{◌^◌, ◌≤◌, lit≤}
 use Rattle.wasmprinter_spec.specs.FloatText.{digit_count}
 use Rattle.wasmprinter_floats.specs.declared.format.Format.{Format}

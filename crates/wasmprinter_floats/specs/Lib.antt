@@ -1,2 +1,2 @@
--- What the contracts of floats cite.
+-- Definitions for the contracts of floats.
 pub mod Formats

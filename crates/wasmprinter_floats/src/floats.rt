@@ -1,4 +1,4 @@
-//! Floats, by their bits.
+//! Writing floating-point numbers, given their bits.
 ghost use Rattle.std.specs.Prelude.{◌≡◌, ◌<◌, ◌≤◌, ◌^◌, false, [], ◌∷◌};
 ghost use Rattle.std.specs.Fmt.{digits};
 ghost use Rattle.wasmprinter_spec.specs.Call.{Text};
@@ -17,7 +17,8 @@ use wasmprinter_error::Error;
 use wasmprinter_print::{Fault, Print, Style, put_reset, put_start, put_text};
 use wasmprinter_words::numbers::{power, put_decimal, put_digit, write_hexadecimal};
 
-/// Writes the hexadecimal digits of `n / 16 ^ count`, a number below 1, up to the last that is not 0.
+/// Writes the hexadecimal digits of the number `n / 16 ^ count` after the point, up to the last digit that is not
+/// 0.
 fn put_digits_behind<P: Print>(p: &mut P, fault: &mut Fault, count: u32, n: u64)
     requires count { count ≤ 16 }
     requires below { n < 16 ^ count }
@@ -31,7 +32,7 @@ fn put_digits_behind<P: Print>(p: &mut P, fault: &mut Fault, count: u32, n: u64)
     put_digits_behind(p, fault, count - 1, n % unit);
 }
 
-/// Writes the digits of a fraction.
+/// Writes the hexadecimal digits of a fraction.
 fn put_fraction<P: Print>(p: &mut P, fault: &mut Fault, format: Format, fraction: u64)
     requires { fraction < 2 ^ (width_of format).fraction }
     ensures { Puts P.meaning p.old fault.old p.new fault.new
@@ -45,7 +46,7 @@ fn put_fraction<P: Print>(p: &mut P, fault: &mut Fault, format: Format, fraction
     );
 }
 
-/// Writes the digits of a fraction behind a point, and nothing where there are none.
+/// Writes a point and the digits of a fraction, or nothing if the fraction is 0.
 fn put_behind_point<P: Print>(p: &mut P, fault: &mut Fault, format: Format, fraction: u64)
     requires { fraction < 2 ^ (width_of format).fraction }
     ensures { Puts P.meaning p.old fault.old p.new fault.new
@@ -71,7 +72,7 @@ fn put_exponent<P: Print>(p: &mut P, fault: &mut Fault, up: u64, down: u64)
     }
 }
 
-/// Writes a number with a leading 1.
+/// Writes a normal number, with a leading 1.
 fn put_normal<P: Print>(p: &mut P, fault: &mut Fault, format: Format, exponent: u64, fraction: u64)
     requires { fraction < 2 ^ (width_of format).fraction }
     ensures { Puts P.meaning p.old fault.old p.new fault.new
@@ -82,7 +83,7 @@ fn put_normal<P: Print>(p: &mut P, fault: &mut Fault, format: Format, exponent: 
     put_exponent(p, fault, exponent, format.bias());
 }
 
-/// Writes a number below the normal ones, shifted to a leading 1.
+/// Writes a subnormal number, shifted so that its leading digit is 1.
 fn put_subnormal<P: Print>(p: &mut P, fault: &mut Fault, format: Format, fraction: u64)
     requires some { 0 < fraction }
     requires below { fraction < 2 ^ (width_of format).fraction }
@@ -123,7 +124,7 @@ fn put_payload<P: Print>(p: &mut P, fault: &mut Fault, payload: u64)
     }
 }
 
-/// Writes infinity, or NaN with its payload where that isn't the canonical one.
+/// Writes infinity or a NaN. The payload of a NaN is written unless it is the canonical one.
 fn put_special<P: Print>(p: &mut P, fault: &mut Fault, format: Format, fraction: u64)
     ensures { Puts P.meaning p.old fault.old p.new fault.new
         (Text (special_text (width_of format) fraction) ∷ []) }
@@ -138,7 +139,7 @@ fn put_special<P: Print>(p: &mut P, fault: &mut Fault, format: Format, fraction:
     }
 }
 
-/// What a comment says of infinity and of NaN.
+/// Returns the comment after infinity or a NaN.
 fn remark_on(negative: bool, fraction: u64) -> &'static str
     ensures { result.now ≡ remark negative fraction }
 {
@@ -193,7 +194,7 @@ fn put_float<P: Print>(p: &mut P, fault: &mut Fault, format: Format, bits: u64)
     put_unsigned(p, fault, format, true, rest / one, rest % one);
 }
 
-/// Writes a float of 32 bits from its bits, as a part of a layout.
+/// Writes a 32-bit float, given its bits, as a piece of a layout.
 pub fn put_single<P: Print>(p: &mut P, fault: &mut Fault, bits: u32)
     ensures calls { Puts P.meaning p.old fault.old p.new fault.new (float_calls single bits) }
     ensures pieces { Marks P.meaning p.old fault.old p.new fault.new (Float single bits ∷ []) }
@@ -201,7 +202,7 @@ pub fn put_single<P: Print>(p: &mut P, fault: &mut Fault, bits: u32)
     put_float(p, fault, Format::Single, u64::from(bits));
 }
 
-/// Writes a float of 32 bits from its bits, as a part of a layout.
+/// Writes a 32-bit float, given its bits, as a piece of a layout.
 pub fn write_single<P: Print>(p: &mut P, bits: u32) -> io::Result<()>
     ensures calls { Emits P.meaning p.old p.new result (float_calls single bits) }
     ensures pieces { PrintsAlways P.meaning p.old p.new result (Float single bits ∷ []) }
@@ -211,7 +212,7 @@ pub fn write_single<P: Print>(p: &mut P, bits: u32) -> io::Result<()>
     fault.into_result()
 }
 
-/// Writes a float of 64 bits from its bits, as a part of a layout.
+/// Writes a 64-bit float, given its bits, as a piece of a layout.
 pub fn put_double<P: Print>(p: &mut P, fault: &mut Fault, bits: u64)
     ensures calls { Puts P.meaning p.old fault.old p.new fault.new (float_calls double bits) }
     ensures pieces { Marks P.meaning p.old fault.old p.new fault.new (Float double bits ∷ []) }
@@ -219,7 +220,7 @@ pub fn put_double<P: Print>(p: &mut P, fault: &mut Fault, bits: u64)
     put_float(p, fault, Format::Double, bits);
 }
 
-/// Writes a float of 64 bits from its bits, as a part of a layout.
+/// Writes a 64-bit float, given its bits, as a piece of a layout.
 pub fn write_double<P: Print>(p: &mut P, bits: u64) -> io::Result<()>
     ensures calls { Emits P.meaning p.old p.new result (float_calls double bits) }
     ensures pieces { PrintsAlways P.meaning p.old p.new result (Float double bits ∷ []) }
@@ -229,13 +230,13 @@ pub fn write_double<P: Print>(p: &mut P, bits: u64) -> io::Result<()>
     fault.into_result()
 }
 
-/// Writes a float of 32 bits from its bits, as the text of a module writes it: in hexadecimal, so that it has just their value,
-/// and NaN with its payload where that isn't the canonical one (section 6.3 of the standard, "Floating-Point"). Behind infinity
-/// and NaN stands a comment.
+/// Writes a 32-bit float, given its bits, in the text format (section 6.3 of the standard, "Floating-Point"). A
+/// finite number is written in hexadecimal, so that the text has exactly its value. A NaN is written with its
+/// payload unless that is the canonical one. A comment follows infinity and NaN.
 ///
 /// # Errors
 ///
-/// `Printer` where a call on the printer failed, with that call's error, and no other.
+/// - `Printer` with the error of the call on the printer that failed.
 pub fn write_f32<P: Print>(p: &mut P, bits: u32) -> Result<(), Error>
     ensures { EmitsOrFails P.meaning p.old p.new result (float_calls single bits) }
 {
@@ -243,11 +244,11 @@ pub fn write_f32<P: Print>(p: &mut P, bits: u32) -> Result<(), Error>
     Ok(())
 }
 
-/// Writes a float of 64 bits from its bits, as `write_f32` does one of 32.
+/// Writes a 64-bit float, given its bits, as `write_f32` writes a 32-bit float.
 ///
 /// # Errors
 ///
-/// `Printer` where a call on the printer failed, with that call's error, and no other.
+/// - `Printer` with the error of the call on the printer that failed.
 pub fn write_f64<P: Print>(p: &mut P, bits: u64) -> Result<(), Error>
     ensures { EmitsOrFails P.meaning p.old p.new result (float_calls double bits) }
 {

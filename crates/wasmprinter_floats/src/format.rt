@@ -1,4 +1,4 @@
-//! How the bits of a float are laid out (section 4.3 of the WebAssembly Core Specification, "Representations").
+//! The representation of floats as bits (section 4.3 of the WebAssembly Core Specification, "Representations").
 ghost use Rattle.std.specs.Prelude.{◌≡◌, ◌<◌, ◌≤◌, ◌^◌};
 ghost use Rattle.wasmprinter_spec.specs.Float.{bias, greatest_exponent, sign_bit, canonical_payload};
 ghost use Rattle.wasmprinter_spec.specs.FloatText.{digit_count, filled_fraction, shift, shifted_fraction};
@@ -6,17 +6,17 @@ ghost use Rattle.wasmprinter_floats.specs.Formats.{width_of};
 
 use wasmprinter_words::numbers::power;
 
-/// A format of floats.
+/// A floating-point format.
 #[derive(Clone, Copy)]
 pub enum Format {
-    /// 32 bits: a sign, 8 bits of exponent and 23 of fraction.
+    /// 32 bits: a sign bit, 8 bits of exponent and 23 bits of fraction.
     Single,
-    /// 64 bits: a sign, 11 bits of exponent and 52 of fraction.
+    /// 64 bits: a sign bit, 11 bits of exponent and 52 bits of fraction.
     Double,
 }
 
 impl Format {
-    /// How many bits the fraction has.
+    /// Returns the number of bits of the fraction.
     pub fn fraction_bits(self) -> u32
         ensures is { result ≡ (width_of self).fraction }
         ensures few { result ≤ 52 }
@@ -27,7 +27,7 @@ impl Format {
         }
     }
 
-    /// How many hexadecimal digits hold a fraction.
+    /// Returns the number of hexadecimal digits that hold a fraction.
     pub fn digit_count(self) -> u32
         ensures is { result ≡ digit_count (width_of self) }
         ensures few { result ≤ 13 }
@@ -38,7 +38,7 @@ impl Format {
         }
     }
 
-    /// What is subtracted from the bits of an exponent.
+    /// Returns the bias: the number that is subtracted from the bits of the exponent.
     pub fn bias(self) -> u64
         ensures is { result ≡ bias (width_of self) }
         ensures small { result ≤ 1023 }
@@ -49,7 +49,7 @@ impl Format {
         }
     }
 
-    /// The exponent of infinity and of NaN.
+    /// Returns the greatest exponent, which is that of infinity and of NaN.
     pub fn greatest_exponent(self) -> u64
         ensures { result ≡ greatest_exponent (width_of self) }
     {
@@ -59,7 +59,7 @@ impl Format {
         }
     }
 
-    /// The payload of a canonical NaN.
+    /// Returns the payload of a canonical NaN.
     pub fn canonical_payload(self) -> u64
         ensures { result ≡ canonical_payload (width_of self) }
     {
@@ -69,7 +69,7 @@ impl Format {
         }
     }
 
-    /// The bit of the sign, alone.
+    /// Returns the bits with only the sign bit set.
     pub fn sign_bit(self) -> u64
         ensures { result ≡ sign_bit (width_of self) }
     {
@@ -79,7 +79,7 @@ impl Format {
         }
     }
 
-    /// A fraction, filled up to whole hexadecimal digits at its end.
+    /// Returns the fraction, padded with zero bits at its end to whole hexadecimal digits.
     pub fn filled_fraction(self, fraction: u64) -> u64
         requires { fraction < 2 ^ (width_of self).fraction }
         ensures is { result ≡ filled_fraction (width_of self) fraction }
@@ -88,7 +88,7 @@ impl Format {
         fraction * power(4 * self.digit_count() - self.fraction_bits())
     }
 
-    /// How far a fraction is shifted to a leading 1.
+    /// Returns the number of bits by which a subnormal fraction is shifted to a leading 1.
     pub fn shift(self, fraction: u64) -> u32
         requires some { 0 < fraction }
         requires below { fraction < 2 ^ (width_of self).fraction }
@@ -98,7 +98,7 @@ impl Format {
         self.fraction_bits() - fraction.ilog2()
     }
 
-    /// What then stands behind that 1.
+    /// Returns the fraction after the leading 1 of a shifted subnormal number.
     pub fn shifted_fraction(self, fraction: u64) -> u64
         requires some { 0 < fraction }
         requires below { fraction < 2 ^ (width_of self).fraction }

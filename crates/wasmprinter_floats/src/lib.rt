@@ -1,7 +1,7 @@
-//! Floating point numbers of the text format (section 6.3 of the WebAssembly Core Specification, "Floating-Point"), by their
-//! bits, in their styles, over any printer. All arithmetic is on whole numbers.
+//! Floating-point numbers of the text format (section 6.3 of the WebAssembly Core Specification,
+//! "Floating-Point"), from their bits, in their styles, for any printer. All arithmetic is on integers.
 //!
-//! What answers `io::Result` fails with the error of the call on the printer that failed, and for no other reason.
+//! A function that returns `io::Result` fails only if a call on the printer failed, and returns that call's error.
 #![tactic(auto)]
 
 pub mod floats;

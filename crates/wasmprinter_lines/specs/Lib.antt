@@ -1,2 +1,2 @@
--- What the contracts of lines and options cite.
+-- Definitions for the contracts of lines and options.
 pub mod Indents

@@ -1,6 +1,6 @@
-//! Lines, with their places and indents, and how a module is laid out on them, over any printer.
+//! Lines with their places and indentation, and the print options, for any printer.
 //!
-//! What answers `io::Result` fails with the error of the call on the printer that failed, and for no other reason.
+//! A function that returns `io::Result` fails only if a call on the printer failed, and returns that call's error.
 #![tactic(auto)]
 
 pub mod lines;

@@ -1,4 +1,4 @@
-//! Lines, their places and their indents, and groups that close on a line of their own.
+//! Lines with their places and indentation, and the closing of groups.
 ghost use Rattle.std.specs.Prelude.{◌≤◌, ◌+◌, [], ◌∷◌, ◌++◌, ◌||◌, true, false, None, Some};
 ghost use Rattle.std.specs.Fmt.{digits};
 ghost use Rattle.wasmprinter_spec.specs.Call.{Text};
@@ -16,16 +16,17 @@ use wasmprinter_print::{
 use wasmprinter_words::numbers::{hexadecimal_len, write_hexadecimal};
 use wasmprinter_words::words::put_shut;
 
-/// How many digits a place is filled up to, by blanks.
+/// The number of characters to which a place is padded with spaces.
 const PLACE_WIDTH: usize = 6;
 
-/// The characters of a place filled up, with its parentheses.
+/// The width of a padded place with its comment delimiters.
 const COMMENT_WIDTH: usize = 11;
 
-/// The most levels of nesting that a line is indented by; one that is nested deeper is indented by as many.
+/// The maximum number of levels by which a line is indented. Lines that are nested deeper are indented by this
+/// many levels.
 const MOST_INDENTS: u64 = 50;
 
-/// Writes a text so many times.
+/// Writes a text `count` times.
 fn write_repeated<P: Print>(p: &mut P, s: &str, count: usize) -> io::Result<()>
     ensures { Emits P.meaning p.old p.new result (Text (repetition_of count s.now) ∷ []) }
 {
@@ -35,7 +36,7 @@ fn write_repeated<P: Print>(p: &mut P, s: &str, count: usize) -> io::Result<()>
     Ok(())
 }
 
-/// Writes a place in hexadecimal, filled up with blanks.
+/// Writes a place in hexadecimal, padded with spaces on the right.
 #[tactic(auto, unfolding(wasmprinter_spec::specs::Piece::left_in), using(crate::proofs::Repeats::repeated_blank))]
 fn write_filled<P: Print>(p: &mut P, place: u64) -> io::Result<()>
     ensures { Emits P.meaning p.old p.new result (Text (left_in 6 (digits 16 false place)) ∷ []) }
@@ -44,7 +45,7 @@ fn write_filled<P: Print>(p: &mut P, place: u64) -> io::Result<()>
     write_repeated(p, " ", PLACE_WIDTH.saturating_sub(hexadecimal_len(place)))
 }
 
-/// Writes a place filled up, between two texts.
+/// Writes a padded place between two texts.
 fn write_filled_between<P: Print>(
     p: &mut P,
     before: &str,
@@ -68,7 +69,7 @@ fn write_place<P: Print>(p: &mut P, place: u64) -> io::Result<()>
     reset(p)
 }
 
-/// Writes a place as a comment, or as many blanks where a line stands for no place.
+/// Writes a place as a comment, or the same number of spaces if the line has no place.
 #[tactic(auto, unfolding(wasmprinter_spec::specs::Piece::place_text, wasmprinter_spec::specs::Piece::repetition_of))]
 fn write_offset<P: Print>(p: &mut P, place: Option<u64>) -> io::Result<()>
     ensures { Emits P.meaning p.old p.new result (place_calls true place) }
@@ -79,7 +80,7 @@ fn write_offset<P: Print>(p: &mut P, place: Option<u64>) -> io::Result<()>
     }
 }
 
-/// Writes what stands in front of a line, if lines begin with their places.
+/// Writes the place of a line as a comment if the options ask for places.
 fn put_wanted_offset<P: Print>(
     p: &mut P,
     fault: &mut Fault,
@@ -93,7 +94,7 @@ fn put_wanted_offset<P: Print>(
     }
 }
 
-/// Writes the text of so many levels of nesting.
+/// Writes the indentation of this number of levels.
 fn put_indent<P: Print>(p: &mut P, fault: &mut Fault, options: &PrintOptions, levels: usize)
     requires { levels ≤ most_indents }
     ensures { Puts P.meaning p.old fault.old p.new fault.new (Text (repetition_of levels options.now.indent) ∷ []) }
@@ -108,7 +109,7 @@ fn put_indent<P: Print>(p: &mut P, fault: &mut Fault, options: &PrintOptions, le
     }
 }
 
-/// Begins the first line, at this place.
+/// Starts the first line, at this place.
 pub fn begin<P: Print>(p: &mut P, place: u64) -> io::Result<()>
     ensures { PrintsAlways P.meaning p.old p.new result (Begin place ∷ []) }
 {
@@ -123,7 +124,8 @@ pub fn end<P: Print>(p: &mut P) -> io::Result<()>
     feed(p)
 }
 
-/// Begins a line: what stands on it has this place in the module's bytes, if any, and is nested so deep.
+/// Starts a new line at nesting depth `nesting`. `place` is its place, if it has one: a byte offset from the start
+/// of the module.
 pub(crate) fn put_break_line<P: Print>(
     p: &mut P,
     fault: &mut Fault,
@@ -139,7 +141,8 @@ pub(crate) fn put_break_line<P: Print>(
     put_indent(p, fault, options, nesting.min(MOST_INDENTS) as usize);
 }
 
-/// Begins a line: what stands on it has this place in the module's bytes, if any, and is nested so deep.
+/// Starts a new line at nesting depth `nesting`. `place` is its place, if it has one: a byte offset from the start
+/// of the module.
 pub fn break_line<P: Print>(
     p: &mut P,
     options: &PrintOptions,
@@ -153,7 +156,7 @@ pub fn break_line<P: Print>(
     fault.into_result()
 }
 
-/// Begins a line that is nested so deep, and so many levels deeper.
+/// Starts a new line at nesting depth `nesting + depth`.
 pub fn put_break_inside<P: Print>(
     p: &mut P,
     fault: &mut Fault,
@@ -173,7 +176,7 @@ pub fn put_break_inside<P: Print>(
     );
 }
 
-/// Begins a line that is nested so deep, and so many levels deeper.
+/// Starts a new line at nesting depth `nesting + depth`.
 pub fn break_inside<P: Print>(
     p: &mut P,
     options: &PrintOptions,
@@ -188,7 +191,7 @@ pub fn break_inside<P: Print>(
     fault.into_result()
 }
 
-/// Begins a line, and closes a group on it.
+/// Starts a new line, and closes a group on it.
 fn put_shut_below<P: Print>(
     p: &mut P,
     fault: &mut Fault,
@@ -202,7 +205,7 @@ fn put_shut_below<P: Print>(
     put_shut(p, fault);
 }
 
-/// Closes a group, on a line of its own or on this one.
+/// Closes a group, on a line of its own or on the current line.
 fn shut_if<P: Print>(
     p: &mut P,
     options: &PrintOptions,
@@ -221,7 +224,7 @@ fn shut_if<P: Print>(
     fault.into_result()
 }
 
-/// Closes a group: where the line has changed since the group began, on a line of its own, which stands for no place.
+/// Closes a group. If the group contains a line break, it closes on a line of its own, which has no place.
 pub fn close<P: Print>(
     p: &mut P,
     options: &PrintOptions,
@@ -233,8 +236,8 @@ pub fn close<P: Print>(
     shut_if(p, options, None, nesting, changed)
 }
 
-/// Closes a group at a place: where the line has changed since the group began, or lines begin with their places, on a line of its
-/// own.
+/// Closes a group that ends at a place. If the group contains a line break, or lines begin with their places, it
+/// closes on a line of its own.
 pub fn close_at<P: Print>(
     p: &mut P,
     options: &PrintOptions,

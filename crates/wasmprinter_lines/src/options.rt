@@ -1,31 +1,32 @@
-//! How a module is printed.
+//! The print options.
 use std::marker::Model;
 
-/// The text of one level of nesting. The default of two blanks owns no memory.
+/// The text of one level of indentation. The default of two spaces owns no memory.
 #[derive(Debug, Drop)]
 enum Indent {
-    /// Two blanks.
+    /// Two spaces.
     TwoBlanks,
     /// This text, which may be empty.
     Text(String),
 }
 
-/// The blanks of the most levels that a line is indented by, two for each: 100.
+/// The default indentation of the deepest level: two spaces for each of 50 levels.
 const BLANKS: &str =
     "                                                                                                    ";
 
-/// How a module is printed: what each part of its layout sees.
+/// The options that each part of the layout uses.
 #[derive(Debug, Drop)]
 pub struct PrintOptions {
-    /// Each line begins with the place of what stands on it.
+    /// Whether each line begins with its place as a comment.
     pub offsets: bool,
-    /// Bodies, the items of element segments, and the bytes of data segments and custom sections are left out.
+    /// Whether bodies, the items of element segments, and the bytes of data segments and custom sections are left
+    /// out.
     pub skeleton: bool,
-    /// Items without a name have identifiers made up for them.
+    /// Whether identifiers are synthesized for items without a name.
     pub invents: bool,
-    /// Each operator stands in parentheses with its operands.
+    /// Whether each operator is written in parentheses with its operands.
     pub folds: bool,
-    /// The text that stands once for each level of nesting.
+    /// The text of one level of indentation.
     indent: Indent,
 }
 
@@ -51,7 +52,8 @@ impl PrintOptions {
     ghost use Rattle.wasmprinter_spec.specs.Options.{defaults};
     ghost use Rattle.wasmprinter_spec.specs.Piece.{most_indents, repetition_of};
 
-    /// No places in front of lines, bodies in full, no identifiers made up, nothing folded, and an indent of two blanks. Takes no memory.
+    /// Returns the default options: no places before lines, complete bodies, no synthesized identifiers, no
+    /// folding, and an indentation of two spaces. Allocates no memory.
     pub fn new() -> PrintOptions
         ensures { result ≡ defaults }
     {
@@ -64,14 +66,14 @@ impl PrintOptions {
         }
     }
 
-    /// Sets the text that stands once for each level of nesting. Takes no memory.
+    /// Sets the text of one level of indentation. Allocates no memory.
     pub fn set_indent(&mut self, text: String)
         ensures { self.new ≡ record self.old { indent = string_bytes text } }
     {
         self.indent = Indent::Text(text);
     }
 
-    /// The text that stands once for each level of nesting.
+    /// Returns the text of one level of indentation.
     pub fn indent(&self) -> &str
         ensures { result.now ≡ self.now.indent }
     {
@@ -81,7 +83,7 @@ impl PrintOptions {
         }
     }
 
-    /// The text of so many levels of nesting in one piece, where it is at hand.
+    /// Returns the indentation of `levels` levels as one text, or `None` if it is not stored.
     pub(crate) fn indent_of(&self, levels: usize) -> Option<&str>
         requires { levels ≤ most_indents }
         ensures { IfSome result (λ t. t.now ≡ repetition_of levels self.now.indent) }

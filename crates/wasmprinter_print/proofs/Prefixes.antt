@@ -1,4 +1,4 @@
--- The text of the calls that were made of a layout.
+-- The text of the calls that were made before a failure.
 use Rattle.std.proofs.Common.{◌≡◌, ℕ, List, [], ◌∷◌, ◌++◌, ap, ◌∙◌, append_assoc, append-nil}
 use Rattle.std.specs.declared.io.Error.{Error as IoError}
 use Rattle.wasmprinter_spec.specs.Call.{Call, call_text, text_of}
@@ -6,7 +6,8 @@ use Rattle.wasmprinter_spec.specs.Meaning.{Meaning}
 use Rattle.wasmprinter_spec.proofs.Texts.{text_of-append, prefix_text}
 use Rattle.wasmprinter_print.specs.Emits.{Broken}
 
--- A call failed: the text of the layout is that of the calls before it, that of this call, and a rest.
+-- If a call failed, the text of the layout is the text of the calls before it, then the text of that call, then
+-- more text.
 pub broken_parts : {P : Type 0} (m : Meaning P) (old new : P) (x : IoError) (layout : List Call) (b : Broken m old new x layout) →
     text_of layout ≡ text_of b.calls ++ (call_text b.call ++ text_of b.rest)
 broken_parts m old new x layout b =

@@ -1,4 +1,4 @@
--- What runs of calls make of a printer of text alone.
+-- The effect of runs of calls on a text-only printer.
 use Rattle.std.proofs.Common.{◌≡◌, ℕ, List, [], ◌∷◌, ◌++◌, Ok, sym, ap, ◌∙◌, append_assoc, append-nil}
 use Rattle.wasmprinter_spec.specs.Call.{Call, Text, Newline, Line, Start, Claim, IsUnclaimed, call_text, text_of}
 use Rattle.wasmprinter_print.specs.TextOnly.{Writes, WritesTextOnly, Grows, TextIsGained}
@@ -14,7 +14,7 @@ one_call view writes grows s (Line place) t h = stays view s t h.1
 one_call view writes grows s (Start style) t h = stays view s t h.1
 one_call view writes grows s (Claim name place bytes claimed) t h = stays view s t h.2
 
--- it takes no custom section
+-- A text-only printer claims no custom section.
 pub takes_none : {P : Type 0} (writes : Writes P) (s : P) (c : Call) (t : P) → WritesTextOnly writes s c (Ok tt) t → IsUnclaimed c
 takes_none writes s (Text bytes) t h = tt
 takes_none writes s Newline t h = tt

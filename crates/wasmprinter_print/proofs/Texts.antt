@@ -1,4 +1,4 @@
--- A loop that writes a text in parts.
+-- Lemmas for a loop that writes a text in parts.
 use Rattle.std.specs.Prelude.{◌≡◌, ℕ, List, [], ◌∷◌, ◌++◌, Result, IsErrAnd}
 use Rattle.std.specs.declared.io.Error.{Error as IoError}
 use Rattle.std.proofs.Common.{sym, ap, ◌∙◌}
@@ -7,23 +7,23 @@ use Rattle.wasmprinter_spec.specs.Meaning.{Meaning}
 use Rattle.wasmprinter_print.specs.Emits.{Emits, Made, Through, AtCall, Owes}
 use Rattle.wasmprinter_print.specs.EmitsLaws.{atoms-text, ends, owes_alike, owes_none, pays, settles}
 
--- what is owed of a text, in two parts
+-- A text that is left may be split into two parts.
 parted : {P : Type 0} (m : Meaning P) {a s : P} {whole : List Call} (x y z : List ℕ) → z ≡ x ++ y →
     Owes m a s whole (Text z ∷ []) → Owes m a s whole (Text x ∷ Text y ∷ [])
 parted m x y z e o =
     owes_alike m (Text x ∷ Text y ∷ []) (ap (λ b. atoms (Text b ∷ [])) e ∙ sym (atoms-text x y [])) o
 
--- the first part of what is owed was written
+-- If the first part of the text that is left was written, then only the second part is left.
 pub text_done : {P : Type 0} (m : Meaning P) {a s t : P} {whole : List Call} (x y z : List ℕ) → z ≡ x ++ y →
     Owes m a s whole (Text z ∷ []) → Made m s t Through (Text x ∷ []) → Owes m a t whole (Text y ∷ [])
 text_done m x y z e o v = pays m {l = Text x ∷ []} {k = Text y ∷ []} (parted m x y z e o) v
 
--- writing the first part of what is owed failed
+-- If writing the first part of the text that is left failed, then writing `whole` failed.
 pub text_fails : {P U : Type 0} (m : Meaning P) {a s t : P} {whole : List Call} (x y z : List ℕ) (r : Result U IoError) {e : IoError} → z ≡ x ++ y →
     Owes m a s whole (Text z ∷ []) → Made m s t (AtCall e) (Text x ∷ []) → IsErrAnd r (λ u. u ≡ e) → Emits m a t r whole
 text_fails m x y z r e o v f = settles m (parted m x y z e o) (ends m r (Text y ∷ []) f v)
 
--- all of the text was written
+-- If no text is left, then `whole` was made.
 pub text_whole : {P : Type 0} (m : Meaning P) {a t : P} (whole : List Call) (z : List ℕ) → z ≡ [] →
     Owes m a t whole (Text z ∷ []) → Made m a t Through whole
 text_whole m whole z e o = owes_none m whole (owes_alike m [] (ap (λ b. atoms (Text b ∷ [])) e) o)

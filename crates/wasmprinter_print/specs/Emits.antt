@@ -1,4 +1,5 @@
--- What generic code has made of a layout: all of it, or a beginning of it whose last call failed.
+-- The calls that generic code makes for a layout: all of them, or a prefix up to a failed call or a failed
+-- allocation.
 use Rattle.std.specs.Prelude.{◌≡◌, ℕ, Bool, true, false, List, [], ◌∷◌, ◌++◌, Result, Ok, Err}
 use Rattle.std.specs.declared.io.Error.{Error as IoError}
 use Rattle.wasmprinter_spec.specs.Call.{Call, Claim, atoms}
@@ -6,23 +7,24 @@ use Rattle.wasmprinter_spec.specs.Meaning.{Meaning, Run, Succeeded, Failed}
 use Rattle.wasmprinter_error.specs.declared.error.Error.{Error}
 use Rattle.wasmprinter_error.specs.declared.error.Error.TheVariants.{Malformed, Component, TooManyLocals, TooManyFunctions, EmptyTableInit, FoldLegacy, FoldHint, DylinkSubsection, Unreadable, Printer, Memory}
 
--- one call, with what it answered
+-- One call with its result.
 abbrev pub Does : {P T : Type 0} → Meaning P → P → Call → P → Result T IoError → Type 0
 Does m old call new (Ok x) = Succeeded m old call new
 Does m old call new (Err e) = Failed m old call e new
 
--- the question whether the printer takes a custom section itself, with what it answered
+-- The call that asks whether the printer claims a custom section, with its result.
 abbrev pub Claims : {P : Type 0} → Meaning P → P → List ℕ → ℕ → List ℕ → P → Result Bool IoError → Type 0
 Claims m old name place bytes new (Ok answer) = Succeeded m old (Claim name place bytes answer) new
 Claims m old name place bytes new (Err e) = (answer : Bool) → Failed m old (Claim name place bytes answer) e new
 
--- all calls of the layout were made, up to cutting
+-- All calls of the layout were made and succeeded, up to how text is split into calls.
 pub record Whole {P : Type 0} (m : Meaning P) (old new : P) (layout : List Call) : Type 0 where
   pub calls : List Call
   pub run : Run m old calls new
   pub alike : atoms calls ≡ atoms layout
 
--- the calls before one that failed with this error were made, and with it they are a beginning of the layout, up to cutting
+-- One call failed with this error, and all calls before it succeeded. These calls and the failed one are a prefix
+-- of the layout, up to how text is split into calls.
 pub record Broken {P : Type 0} (m : Meaning P) (old new : P) (error : IoError) (layout : List Call) : Type 0 where
   pub calls : List Call
   pub call : Call
@@ -32,32 +34,32 @@ pub record Broken {P : Type 0} (m : Meaning P) (old new : P) (error : IoError) (
   pub failed : Failed m before call error new
   pub alike : atoms (calls ++ call ∷ []) ++ rest ≡ atoms layout
 
--- all calls that were made succeeded, and they are a beginning of the layout, up to cutting
+-- All calls that were made succeeded. They are a prefix of the layout, up to how text is split into calls.
 pub record Begun {P : Type 0} (m : Meaning P) (old new : P) (layout : List Call) : Type 0 where
   pub calls : List Call
   pub rest : List Call
   pub run : Run m old calls new
   pub alike : atoms calls ++ rest ≡ atoms layout
 
--- How a function over a printer ends: it is through; a call on the printer failed with this error; it stopped between two calls, since a
--- growth was refused; or, which doesn't happen, it refuses by itself.
+-- How a function over a printer ends: it completed; a call on the printer failed with this error; it stopped
+-- between two calls because an allocation failed; or it returned an error of its own, which never happens.
 pub data Ending : Type 0 where
   Through : Ending
   AtCall : IoError → Ending
   Stopped : Ending
   Never : Ending
 
--- the end of a function that answers the printer's own errors alone
+-- The ending of a function that returns only errors of the printer.
 abbrev pub ending : {T : Type 0} → Result T IoError → Ending
 ending (Ok x) = Through
 ending (Err e) = AtCall e
 
--- where something is kept in memory while it is printed, and where nothing is
+-- The ending when an allocation failed. Only a function that allocates while it prints can end in this way.
 abbrev pub at_growth : Bool → Ending
 at_growth true = Stopped
 at_growth false = Never
 
--- when each error comes of a function that may keep something in memory while it prints
+-- The ending that each error means. The flag says whether the function may allocate while it prints.
 abbrev pub halt_of : Bool → Error → Ending
 halt_of keeps (Malformed place) = Never
 halt_of keeps Component = Never
@@ -71,35 +73,37 @@ halt_of keeps Unreadable = Never
 halt_of keeps (Printer e) = AtCall e
 halt_of keeps Memory = at_growth keeps
 
--- the end of such a function
+-- The ending of a function that returns an `Error`.
 abbrev pub halt : {T : Type 0} → Bool → Result T Error → Ending
 halt keeps (Ok x) = Through
 halt keeps (Err e) = halt_of keeps e
 
--- the end of one that keeps nothing in memory
+-- The ending of a function that returns an `Error` and does not allocate.
 abbrev pub outcome : {T : Type 0} → Result T Error → Ending
 outcome r = halt false r
 
+-- The calls that a function with this ending has made.
 abbrev pub Calls : {P : Type 0} → Meaning P → P → P → Ending → List Call → Type 0
 Calls m old new Through layout = Whole m old new layout
 Calls m old new (AtCall e) layout = Broken m old new e layout
 Calls m old new Stopped layout = Begun m old new layout
 Calls m old new Never layout = ⊥
 
--- what a function that ended so has made: the name by which lemmas go
+-- `Calls` as a record. The lemmas use this name.
 pub record Made {P : Type 0} (m : Meaning P) (old new : P) (end : Ending) (layout : List Call) : Type 0 where
   pub made : Calls m old new end layout
 
--- The calls that a function with this result has made are those of the layout, up to cutting. It fails only where a call on the printer
--- failed, with that call's error; the calls before it, followed by it, are then a beginning of the layout.
+-- A function with this result has made the calls of the layout, up to how text is split into calls. It fails only
+-- if a call on the printer failed, and returns that call's error. The calls up to and including the failed one are
+-- then a prefix of the layout.
 abbrev pub Emits : {P T : Type 0} → Meaning P → P → P → Result T IoError → List Call → Type 0
 Emits m old new r layout = Made m old new (ending r) layout
 
--- The same of a function that answers errors of this crate: `Printer` with the failed call's error, and no other.
+-- `Emits` for a function that returns an `Error`: the error is always `Printer` with the error of the failed call.
 abbrev pub EmitsOrFails : {P T : Type 0} → Meaning P → P → P → Result T Error → List Call → Type 0
 EmitsOrFails m old new r layout = Made m old new (outcome r) layout
 
--- so far a function has made the calls of `whole` but for those of `rest`
+-- The calls that were made so far, followed by those of `rest`, are the calls of `whole`.
 pub record Owes {P : Type 0} (m : Meaning P) (old new : P) (whole rest : List Call) : Type 0 where
   pub layout : List Call
   pub made : Made m old new Through layout

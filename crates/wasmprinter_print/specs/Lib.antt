@@ -1,4 +1,4 @@
--- What the contracts of printers, and of all that prints, cite.
+-- Definitions and laws for the contracts of printers and of all printing code.
 pub mod CallLaws
 pub mod Emits
 pub mod EmitsLaws

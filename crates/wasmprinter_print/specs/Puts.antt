@@ -1,4 +1,5 @@
--- What generic code has made of a layout where the first error is kept and passed along, and no call is made behind it.
+-- The calls that generic code makes for a layout if the first error is recorded and passed along. After an error
+-- no call is made.
 use Rattle.std.specs.Prelude.{◌≡◌, ℕ, List, [], ◌∷◌, ◌++◌, Option, Some, None, Result, Ok, Err}
 use Rattle.std.specs.declared.io.Error.{Error as IoError}
 use Rattle.wasmprinter_spec.specs.Call.{Call, Text}
@@ -8,55 +9,57 @@ use Rattle.wasmprinter_spec.specs.Meaning.{Meaning}
 use Rattle.wasmprinter_print.specs.Emits.{Made, Ending, Through, AtCall}
 use Rattle.wasmprinter_print.specs.Prints.{Written}
 
--- how a function has ended that leaves this error, or none
+-- The ending of a function that leaves this recorded error, or none.
 abbrev pub end_behind : Option IoError → Ending
 end_behind None = Through
 end_behind (Some e) = AtCall e
 
--- the answer that stands for the error that was kept
+-- The result that stands for the recorded error, or for none.
 abbrev pub answer_of : Option IoError → Result (Unit {0}) IoError
 answer_of None = Ok tt
 answer_of (Some e) = Err e
 
--- the error that is kept behind an answer: the first
+-- The recorded error after a result: the first one.
 abbrev pub kept : Option IoError → Result (Unit {0}) IoError → Option IoError
 kept None (Ok x) = None
 kept None (Err e) = Some e
 kept (Some e) r = Some e
 
--- by the error before: with none the calls were made, up to the one that failed; with one none was made, and the error is still there
+-- Without an error before, the calls were made, up to the one that failed. With an error before, no call was made,
+-- and the recorded error is the same.
 abbrev pub Puttings : {P : Type 0} → Meaning P → P → Option IoError → P → Option IoError → List Call → Type 0
 Puttings m old None new behind layout = Made m old new (end_behind behind) layout
 Puttings m old (Some e) new behind layout = (new ≡ old) × (behind ≡ Some e)
 
--- what a function has made to which an error is passed along: the name by which lemmas go
+-- `Puttings` as a record: the calls of a function to which a recorded error is passed. The lemmas use this name.
 pub record Puts {P : Type 0} (m : Meaning P) (old : P) (before : Option IoError) (new : P) (behind : Option IoError)
     (layout : List Call) : Type 0 where
   pub put : Puttings m old before new behind layout
 
--- the same of pieces
+-- `Puttings` for pieces.
 abbrev pub Markings : {P : Type 0} → Meaning P → Options → P → Option IoError → P → Option IoError → List Piece → Type 0
 Markings m o old None new behind pieces = Written m o old new (end_behind behind) pieces
 Markings m o old (Some e) new behind pieces = (new ≡ old) × (behind ≡ Some e)
 
--- what such a function has made of pieces under these options: the name by which lemmas go
+-- `Markings` as a record: the pieces that such a function has written under these options. The lemmas use this
+-- name.
 pub record MarksUnder {P : Type 0} (m : Meaning P) (o : Options) (old : P) (before : Option IoError) (new : P)
     (behind : Option IoError) (pieces : List Piece) : Type 0 where
   pub marked : Markings m o old before new behind pieces
 
--- the same under any options, of a function that knows none
+-- `MarksUnder` under any options, for a function that does not know the options.
 pub record Marks {P : Type 0} (m : Meaning P) (old : P) (before : Option IoError) (new : P) (behind : Option IoError)
     (pieces : List Piece) : Type 0 where
   pub under : (o : Options) → MarksUnder m o old before new behind pieces
 
--- of the text `whole` what stands in front of `rest` has been written
+-- The part of the text `whole` before `rest` has been written.
 pub record PutsBut {P : Type 0} (m : Meaning P) (old : P) (before : Option IoError) (new : P) (behind : Option IoError)
     (whole rest : List ℕ) : Type 0 where
   pub front : List ℕ
   pub put : Puts m old before new behind (Text front ∷ [])
   pub joined : front ++ rest ≡ whole
 
--- of the layout `whole` the pieces in front of `rest` have been written, under any options
+-- The pieces of the layout `whole` before `rest` have been written, under any options.
 pub record MarksBut {P : Type 0} (m : Meaning P) (old : P) (before : Option IoError) (new : P) (behind : Option IoError)
     (whole rest : List Piece) : Type 0 where
   pub front : List Piece

@@ -1,5 +1,5 @@
--- What follows from `Puts`, `Marks` and `MarksUnder`, for any printer: how calls and pieces go together where the first error is passed
--- along.
+-- Consequences of `Puts`, `Marks` and `MarksUnder` for any printer: how calls and pieces combine if the first
+-- error is recorded and passed along. Calls that were made, and pieces that were written, end at the first error.
 use Rattle.std.specs.Prelude.{◌≡◌, ℕ, List, [], ◌∷◌, ◌++◌, Option, Some, None, is_some, true, false, Result, Ok, Err}
 use Rattle.std.specs.declared.io.Error.{Error as IoError}
 use Rattle.std.proofs.Common.{refl, sym, ap, ◌∙◌, subst, append_assoc, append-nil}
@@ -13,7 +13,7 @@ use Rattle.wasmprinter_print.specs.Prints.{Written, Prints, PrintsAlways}
 use Rattle.wasmprinter_print.specs.PrintsLaws.{no_piece, one_piece, both_pieces, pieces_end}
 use Rattle.wasmprinter_print.specs.Puts.{Puts, PutsBut, Puttings, MarksUnder, Marks, MarksBut, Markings, end_behind, answer_of, kept}
 
--- the answer with this error
+-- The result with this error.
 abbrev the_error : IoError → Result (Unit {0}) IoError
 the_error e = Err e
 
@@ -29,7 +29,7 @@ puttings_then m a s t (Some x) e f l k v w =
     let h = subst (λ (y : Option IoError). Puttings m s y t f k) v.1 w in
     (h.0 ∙ v.0, h.1)
 
--- calls, and then others
+-- If calls were made, and then others, then both lists were made, one after the other.
 pub both_puts : {P : Type 0} (m : Meaning P) {a s t : P} {d e f : Option IoError} {l k : List Call} →
     Puts m a d s e l → Puts m s e t f k → Puts m a d t f (l ++ k)
 both_puts m {a} {s} {t} {d} {e} {f} {l} {k} v w = record { put = puttings_then m a s t d e f l k v.put w.put }
@@ -39,7 +39,7 @@ puttings_alike : {P : Type 0} (m : Meaning P) (a t : P) (d f : Option IoError) (
 puttings_alike m a t None f l k e v = alike m k e v
 puttings_alike m a t (Some x) f l k e v = v
 
--- the first part of a text, and then the rest
+-- If the first part of a text was written, and then the rest, then the whole text was written.
 pub put_texts : {P : Type 0} (m : Meaning P) {a s t : P} {d e f : Option IoError} {x y : List ℕ} {k : List Call} →
     Puts m a d s e (Text x ∷ []) → Puts m s e t f (Text y ∷ k) → Puts m a d t f (Text (x ++ y) ∷ k)
 put_texts m {a} {s} {t} {d} {e} {f} {x} {y} {k} v w = record {
@@ -52,7 +52,7 @@ puttings_none : {P : Type 0} (m : Meaning P) (a : P) (d : Option IoError) → Pu
 puttings_none m a None = nothing m a
 puttings_none m a (Some x) = (refl, refl)
 
--- no call
+-- Making no call makes the empty layout.
 pub no_put : {P : Type 0} (m : Meaning P) (a : P) (d : Option IoError) → Puts m a d a d []
 no_put m a d = record { put = puttings_none m a d }
 
@@ -61,7 +61,7 @@ puttings_done : {P : Type 0} (m : Meaning P) (a t : P) (d : Option IoError) (c :
 puttings_done m a t None c e s = called m s
 puttings_done m a t (Some x) c e s = cc
 
--- a call on the printer
+-- A call that succeeded is a layout of one call, and records no error.
 pub put_called : {P : Type 0} (m : Meaning P) {a t : P} {d : Option IoError} {c : Call} → is_some d ≡ false → Succeeded m a c t →
     Puts m a d t d (c ∷ [])
 put_called m {a} {t} {d} {c} e s = record { put = puttings_done m a t d c e s }
@@ -71,7 +71,7 @@ puttings_failed : {P : Type 0} (m : Meaning P) (a t : P) (d : Option IoError) (x
 puttings_failed m a t None x c e v = call_fails m (the_error x) x refl v
 puttings_failed m a t (Some y) x c e v = cc
 
--- a call on the printer that failed
+-- A call that failed is a failed layout of one call, and its error is recorded.
 pub put_fails : {P : Type 0} (m : Meaning P) {a t : P} {d : Option IoError} (x : IoError) {c : Call} → is_some d ≡ false →
     Failed m a c x t → Puts m a d t (Some x) (c ∷ [])
 put_fails m {a} {t} {d} x {c} e v = record { put = puttings_failed m a t d x c e v }
@@ -80,13 +80,13 @@ puttings_behind : {P : Type 0} (m : Meaning P) (a : P) (d : Option IoError) (l :
 puttings_behind m a None l e = cc
 puttings_behind m a (Some y) l e = (refl, refl)
 
--- behind an error no call is made
+-- After an error no call is made, and the printer is unchanged.
 pub put_skipped : {P : Type 0} (m : Meaning P) (a : P) (d : Option IoError) (l : List Call) → is_some d ≡ true → Puts m a d a d l
 put_skipped m a d l e = record { put = puttings_behind m a d l e }
 
 -- ---- a text in parts
 
--- nothing of it has been written
+-- Before the first part the whole text is left.
 pub but_all : {P : Type 0} (m : Meaning P) (a : P) (d : Option IoError) (whole rest : List ℕ) → rest ≡ whole → PutsBut m a d a d whole rest
 but_all m a d whole rest e = record {
   front = [];
@@ -94,7 +94,7 @@ but_all m a d whole rest e = record {
   joined = e;
 }
 
--- a part more
+-- If the next part was written, then only the text after it is left.
 pub but_more : {P : Type 0} (m : Meaning P) {a s t : P} {d e f : Option IoError} {whole : List ℕ} (x y z : List ℕ) → z ≡ x ++ y →
     PutsBut m a d s e whole z → Puts m s e t f (Text x ∷ []) → PutsBut m a d t f whole y
 but_more m x y z q v w = record {
@@ -103,7 +103,7 @@ but_more m x y z q v w = record {
   joined = append_assoc v.front x y ∙ ap (λ b. v.front ++ b) (sym q) ∙ v.joined;
 }
 
--- all of it
+-- If no text is left, then the whole text was written.
 pub but_none : {P : Type 0} (m : Meaning P) {a t : P} {d f : Option IoError} (whole z : List ℕ) → z ≡ [] →
     PutsBut m a d t f whole z → Puts m a d t f (Text whole ∷ [])
 but_none m {a} {t} {d} {f} whole z q v =
@@ -116,7 +116,7 @@ markings_one : {P : Type 0} (m : Meaning P) (o : Options) (a t : P) (d f : Optio
 markings_one m o a t None f x v = one_piece m o x v
 markings_one m o a t (Some y) f x v = v
 
--- the calls of a piece are the piece
+-- If the calls of a piece were made, then the piece was written.
 pub one_mark_under : {P : Type 0} (m : Meaning P) (o : Options) {a t : P} {d f : Option IoError} (x : Piece) →
     Puts m a d t f (calls o x) → MarksUnder m o a d t f (x ∷ [])
 one_mark_under m o {a} {t} {d} {f} x v = record { marked = markings_one m o a t d f x v.put }
@@ -131,7 +131,7 @@ markings_then m o a s t (Some x) e f xs ys v w =
     let h = subst (λ (y : Option IoError). Markings m o s y t f ys) v.1 w in
     (h.0 ∙ v.0, h.1)
 
--- pieces, and then others
+-- If pieces were written, and then others, then both lists were written, one after the other.
 pub both_marks_under : {P : Type 0} (m : Meaning P) {o : Options} {a s t : P} {d e f : Option IoError} {xs ys : List Piece} →
     MarksUnder m o a d s e xs → MarksUnder m o s e t f ys → MarksUnder m o a d t f (xs ++ ys)
 both_marks_under m {o} {a} {s} {t} {d} {e} {f} {xs} {ys} v w = record { marked = markings_then m o a s t d e f xs ys v.marked w.marked }
@@ -140,7 +140,7 @@ markings_none : {P : Type 0} (m : Meaning P) (o : Options) (a : P) (d : Option I
 markings_none m o a None = no_piece m o a
 markings_none m o a (Some x) = (refl, refl)
 
--- no piece
+-- Making no call writes the empty list of pieces.
 pub no_mark_under : {P : Type 0} (m : Meaning P) (o : Options) (a : P) (d : Option IoError) → MarksUnder m o a d a d []
 no_mark_under m o a d = record { marked = markings_none m o a d }
 
@@ -149,7 +149,7 @@ markings_behind : {P : Type 0} (m : Meaning P) (o : Options) (a : P) (d : Option
 markings_behind m o a None xs e = cc
 markings_behind m o a (Some y) xs e = (refl, refl)
 
--- behind an error no piece is written
+-- After an error no piece is written, and the printer is unchanged.
 pub mark_skipped_under : {P : Type 0} (m : Meaning P) (o : Options) (a : P) (d : Option IoError) (xs : List Piece) →
     is_some d ≡ true → MarksUnder m o a d a d xs
 mark_skipped_under m o a d xs e = record { marked = markings_behind m o a d xs e }
@@ -172,12 +172,12 @@ mark_skipped m a d xs e = record { under = λ o. mark_skipped_under m o a d xs e
 
 -- ---- a layout in parts
 
--- nothing of it has been written
+-- Before the first part the whole layout is left.
 pub lay_all : {P : Type 0} (m : Meaning P) (a : P) (d : Option IoError) (whole rest : List Piece) → rest ≡ whole →
     MarksBut m a d a d whole rest
 lay_all m a d whole rest e = record { front = []; marks = no_mark m a d; joined = e }
 
--- a part more
+-- If the next pieces were written, then only the pieces after them are left.
 pub lay_more : {P : Type 0} (m : Meaning P) {a s t : P} {d e f : Option IoError} {whole : List Piece} (xs ys zs : List Piece) →
     zs ≡ xs ++ ys →
     MarksBut m a d s e whole zs → Marks m s e t f xs → MarksBut m a d t f whole ys
@@ -187,18 +187,18 @@ lay_more m xs ys zs q v w = record {
   joined = append_assoc v.front xs ys ∙ ap (λ b. v.front ++ b) (sym q) ∙ v.joined;
 }
 
--- all of it
+-- If no piece is left, then the whole layout was written.
 pub lay_none : {P : Type 0} (m : Meaning P) {a t : P} {d f : Option IoError} (whole zs : List Piece) → zs ≡ [] →
     MarksBut m a d t f whole zs → Marks m a d t f whole
 lay_none m {a} {t} {d} {f} whole zs q v =
     subst (λ (b : List Piece). Marks m a d t f b) (sym (append-nil v.front) ∙ ap (λ b. v.front ++ b) (sym q) ∙ v.joined) v.marks
 
--- and the last part of it
+-- If the pieces that are left were written, then the whole layout was written.
 pub lay_last : {P : Type 0} (m : Meaning P) {a s t : P} {d e f : Option IoError} (whole xs : List Piece) →
     MarksBut m a d s e whole xs → Marks m s e t f xs → Marks m a d t f whole
 lay_last m {a} {s} {t} {d} {e} {f} whole xs v w = subst (λ (b : List Piece). Marks m a d t f b) v.joined (both_marks m v.marks w)
 
--- ---- answers
+-- ---- results
 
 emits_of : {P : Type 0} (m : Meaning P) (a t : P) (d f : Option IoError) (l : List Call) → d ≡ None → Puttings m a d t f l →
     Emits m a t (answer_of f) l
@@ -206,7 +206,8 @@ emits_of m a t None None l e v = v
 emits_of m a t None (Some x) l e v = v
 emits_of m a t (Some y) f l e v = cc
 
--- the answer of a function that kept the first error, of which there was none before
+-- If a function starts without an error and returns the error that it recorded, then it has made the calls as
+-- `Emits` says.
 pub puts_answered : {P : Type 0} (m : Meaning P) {a t : P} {d f : Option IoError} (r : Result (Unit {0}) IoError) {l : List Call} →
     Puts m a d t f l → d ≡ None → r ≡ answer_of f → Emits m a t r l
 puts_answered m {a} {t} {d} {f} r {l} v e q =
@@ -230,7 +231,7 @@ keeps_puts m a t None (Ok x) l e v = v
 keeps_puts m a t None (Err x) l e v = v
 keeps_puts m a t (Some y) r l e v = cc
 
--- where there was no error, and that of an answer is kept
+-- If there was no error, and the error of a result was recorded, then the calls of that result were made.
 pub puts_keep : {P : Type 0} (m : Meaning P) {a t : P} {d f : Option IoError} (r : Result (Unit {0}) IoError) {l : List Call} →
     Emits m a t r l → is_some d ≡ false → f ≡ kept d r → Puts m a d t f l
 puts_keep m {a} {t} {d} {f} r {l} v e q =

@@ -1,10 +1,10 @@
--- The styles that code chooses, as calls on a printer know them.
+-- The styles of the code as the styles of calls.
 use Rattle.wasmprinter_spec.specs.Call as call
 use Rattle.wasmprinter_spec.specs.Call.{Style}
 use Rattle.wasmprinter_print.specs.declared.calls.Style.{Style as Chosen}
 use Rattle.wasmprinter_print.specs.declared.calls.Style.TheVariants.{Literal, Name, Keyword, TypeName, Comment}
 
--- the style that is chosen
+-- The style that a value of the code's type `Style` chooses.
 abbrev pub style_of : Chosen → Style
 style_of Literal = call.Literal
 style_of Name = call.Name

@@ -1,15 +1,15 @@
--- What the calls on a printer of text alone make of it.
+-- The meaning of calls on a text-only printer.
 use Rattle.std.specs.Prelude.{◌≡◌, ℕ, List, [], ◌∷◌, ◌++◌, false, None, Result, Ok, Err}
 use Rattle.std.specs.declared.io.Error.{Error as IoError}
 use Rattle.wasmprinter_spec.specs.Call.{Call, Text, Newline, Line, Start, Claim, IsText, text_of}
 use Rattle.wasmprinter_spec.specs.Meaning.{Meaning, Run}
 
--- what a write of bytes may answer, and what it makes of the printer
+-- The results that a write of bytes may have, and the states of the printer after it.
 abbrev pub Writes : Type 0 → Type 1
 Writes P = P → List ℕ → Result (Unit {0}) IoError → P → Type 0
 
--- A text and a line feed are written, in one write each, whose answer is that of the call. A line, a style and a claim succeed and leave
--- the printer as it was, and no claim is taken.
+-- A text and a line feed are each written by one write, and its result is that of the call. The calls for a line,
+-- a style and a claim succeed and leave the printer unchanged. No custom section is claimed.
 abbrev pub WritesTextOnly : {P : Type 0} → Writes P → P → Call → Result (Unit {0}) IoError → P → Type 0
 WritesTextOnly writes old (Text bytes) answer new = writes old bytes answer new
 WritesTextOnly writes old Newline answer new = writes old (10 ∷ []) answer new
@@ -17,7 +17,7 @@ WritesTextOnly writes old (Line place) answer new = (answer ≡ Ok tt) × (new �
 WritesTextOnly writes old (Start style) answer new = (answer ≡ Ok tt) × (new ≡ old)
 WritesTextOnly writes old (Claim name place bytes claimed) answer new = (claimed ≡ false) × (answer ≡ Ok tt) × (new ≡ old)
 
--- the meaning of a printer of text alone: only what writes can fail
+-- The meaning of a text-only printer: only writes can fail.
 abbrev pub text_only : {P : Type 0} → Writes P → Meaning P
 text_only writes = record {
   after = λ old call new. WritesTextOnly writes old call (Ok tt) new;
@@ -26,10 +26,10 @@ text_only writes = record {
   faults = λ old. None;
 }
 
--- where a write that succeeds appends its bytes to what is seen of the printer
+-- Each successful write appends its bytes to this view of the printer.
 abbrev pub Grows : {P : Type 0} → (P → List ℕ) → Writes P → Type 0
 Grows {P} view writes = (old : P) (bytes : List ℕ) (new : P) → writes old bytes (Ok tt) new → view new ≡ view old ++ bytes
 
--- what is seen of the printer grows by the text of the calls
+-- The view of the printer grows by the text of the calls.
 abbrev pub TextIsGained : {P : Type 0} → (P → List ℕ) → Writes P → Type 0
 TextIsGained {P} view writes = (old : P) (calls : List Call) (new : P) → Run (text_only writes) old calls new → view new ≡ view old ++ text_of calls

@@ -1,5 +1,5 @@
-//! The calls of a printer, each with what it makes of a layout. What fails does so with the error of the call on the printer that failed,
-//! and for no other reason.
+//! Calls on a printer, each with the calls of the layout that it makes. A function here fails only if a call on
+//! the printer failed, and returns that call's error.
 ghost use Rattle.std.specs.Prelude.{[], ◌∷◌};
 ghost use Rattle.wasmprinter_spec.specs.Call.{Text, Newline, Start, Reset};
 ghost use Rattle.wasmprinter_print.specs.Emits.{Emits};
@@ -9,12 +9,12 @@ ghost use Rattle.wasmprinter_spec.specs.Piece.{calls_in_style};
 use crate::Print;
 use std::io;
 
-/// What a style call chooses, `reset_color` apart.
+/// The style that a style call chooses. `reset_color` chooses none of them.
 #[derive(Clone, Copy)]
 pub enum Style {
     /// Numbers and strings.
     Literal,
-    /// The name or the number of an item.
+    /// The name or the index of an item.
     Name,
     /// A keyword.
     Keyword,
@@ -54,7 +54,7 @@ pub fn start<P: Print>(p: &mut P, style: Style) -> io::Result<()>
     Ok(())
 }
 
-/// Goes back to text without a style.
+/// Ends the current style: the text after it has none.
 pub fn reset<P: Print>(p: &mut P) -> io::Result<()>
     ensures { Emits P.meaning p.old p.new result (Start Reset ∷ []) }
 {

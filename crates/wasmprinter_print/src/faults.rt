@@ -1,4 +1,4 @@
-//! Calls on a printer where the first error is kept and passed along, and no call is made behind it.
+//! Calls on a printer that record the first error in a `Fault`. After an error no call is made.
 ghost use Rattle.std.specs.Prelude.{◌≡◌, [], ◌∷◌, None, is_some};
 ghost use Rattle.wasmprinter_spec.specs.Call.{Text, Newline, Line, Start, Reset};
 ghost use Rattle.wasmprinter_spec.specs.Piece.{calls_in_style};
@@ -10,7 +10,7 @@ use crate::calls::Style;
 use std::io;
 use std::marker::Model;
 
-/// The error of the first call on the printer that failed, if one did. Behind it no call is made.
+/// The error of the first call on the printer that failed, if one did. After an error no call is made.
 #[derive(Drop)]
 pub struct Fault {
     error: Option<io::Error>,
@@ -26,7 +26,7 @@ impl Model for Fault {
 }
 
 impl Fault {
-    /// No call has failed.
+    /// Returns a `Fault` without an error.
     #[inline(always)]
     pub fn none() -> Fault
         ensures { result ≡ None }
@@ -34,7 +34,7 @@ impl Fault {
         Fault { error: None }
     }
 
-    /// Whether a call has failed.
+    /// Reports whether a call has failed.
     #[inline(always)]
     pub fn is_some(&self) -> bool
         ensures { result ≡ is_some self.now }
@@ -42,7 +42,7 @@ impl Fault {
         self.error.is_some()
     }
 
-    /// The answer of a function whose calls these were.
+    /// Returns the recorded error, or `Ok` if no call has failed.
     #[inline(always)]
     pub fn into_result(self) -> io::Result<()>
         ensures { result ≡ answer_of self }
@@ -53,7 +53,7 @@ impl Fault {
         }
     }
 
-    /// Keeps the error of an answer, if it is the first.
+    /// Records the error of a result, unless an earlier error is recorded.
     #[inline(always)]
     pub fn keep(&mut self, answer: io::Result<()>)
         ensures { self.new ≡ kept self.old answer }
@@ -78,7 +78,7 @@ pub fn put_text<P: Print>(p: &mut P, fault: &mut Fault, s: &str)
     }
 }
 
-/// Writes a piece of text, by a call for each of its characters if the printer knows no better.
+/// Writes a piece of text with [`Print::write_each_char`].
 #[inline(always)]
 pub fn put_each_char<P: Print>(p: &mut P, fault: &mut Fault, s: &str)
     ensures { Puts P.meaning p.old fault.old p.new fault.new (Text s.now ∷ []) }
@@ -100,7 +100,7 @@ pub fn put_feed<P: Print>(p: &mut P, fault: &mut Fault)
     }
 }
 
-/// Begins a line.
+/// Starts a line.
 #[inline(always)]
 pub fn put_line<P: Print>(p: &mut P, fault: &mut Fault, place: Option<u64>)
     ensures { Puts P.meaning p.old fault.old p.new fault.new (Line place ∷ []) }
@@ -130,7 +130,7 @@ pub fn put_start<P: Print>(p: &mut P, fault: &mut Fault, style: Style)
     }
 }
 
-/// Goes back to text without a style.
+/// Ends the current style: the text after it has none.
 #[inline(always)]
 pub fn put_reset<P: Print>(p: &mut P, fault: &mut Fault)
     ensures { Puts P.meaning p.old fault.old p.new fault.new (Start Reset ∷ []) }

@@ -1,4 +1,4 @@
-//! A printer over a writer of text.
+//! A printer that writes to a [`fmt::Write`].
 ghost use Rattle.std.specs.Prelude.{◌≡◌, OnOk};
 ghost use Rattle.std.specs.IoError.{error_kind};
 ghost use Rattle.std.specs.declared.io.ErrorKind.TheVariants.{Other};
@@ -8,10 +8,11 @@ use crate::PrintText;
 use std::io::ErrorKind;
 use std::{fmt, io};
 
-/// A writer of text, as [`PrintFmtWrite`] calls it. Each [`fmt::Write`] is one.
+/// A text writer as [`PrintFmtWrite`] uses it. Every [`fmt::Write`] is one.
 ///
-/// The contract of a failed `fmt::Write::write_str` says nothing. Here a contract names each call and its result, so it can say which calls
-/// were made, that none was made after a failed one, and that nothing fails unless the writer does.
+/// The contract of `fmt::Write::write_str` says nothing about a call that fails. The contract of `write_text`
+/// relates each call to its result. So it can say which calls were made, that none was made after a failed one,
+/// and that printing fails only if the writer does.
 pub trait WriteText: fmt::Write {
     ghost use Rattle.std.specs.Prelude.{ℕ, List, Result};
     ghost use Rattle.std.specs.declared.fmt.Error.{Error as FmtError};
@@ -19,13 +20,16 @@ pub trait WriteText: fmt::Write {
     // The results that a write of this text may have, and the states of the writer after it.
     ghost takes: { Self → List ℕ → Result (Unit {0}) FmtError → Self → Type 0 };
 
-    /// Writes a text, or fails.
+    /// Writes `text`.
+    ///
+    /// # Errors
+    /// - [`fmt::Error`] if the writer failed.
     fn write_text(&mut self, text: &str) -> fmt::Result
         ensures exact { takes self.old text.now result self.new }
         ensures text { OnOk result (Self.write_str_gives self.old text.now self.new) };
 }
 
-// Of a failed write nothing is known.
+// `fmt::Write` promises nothing about a write that fails.
 impl<W: fmt::Write> WriteText for W {
     ghost takes = { λ old text result new. OnOk result (W.write_str_gives old text new) };
 
@@ -35,11 +39,12 @@ impl<W: fmt::Write> WriteText for W {
     }
 }
 
-/// A printer over a writer of text, which gets each piece and each line feed. Styles and lines leave no trace.
+/// A printer that writes each piece of text and each line feed to a [`WriteText`]. Styles and line starts write
+/// nothing.
 #[derive(Drop)]
 pub struct PrintFmtWrite<T>(pub T);
 
-/// The error of a writer that failed: it tells no cause, and so is of the kind `Other`.
+/// Converts the error of a writer. [`fmt::Error`] carries no cause, so the kind is `Other`.
 fn error_of_refusal(_e: fmt::Error) -> io::Error
     ensures { error_kind result ≡ Other }
 {

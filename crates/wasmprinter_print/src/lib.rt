@@ -1,4 +1,4 @@
-//! Printers: what a layout hands its text, lines and styles to.
+//! The trait [`Print`]: the destination for text, lines and styles.
 ghost use Rattle.std.specs.Prelude.{◌≡◌, Bool, [], ◌∷◌};
 ghost use Rattle.wasmprinter_spec.specs.Call.{Text, Newline, Line, Start, Literal, Name, Keyword, TypeName, Comment, Reset};
 ghost use Rattle.wasmprinter_spec.specs.Meaning.{Meaning, Succeeded};
@@ -38,21 +38,28 @@ use std::io;
 
 /// A destination for the text of a module. A printer that needs only the text implements [`PrintText`] instead.
 ///
-/// An implementation states what its calls mean: the state that each leaves, when it may fail, and what a failed call leaves.
-/// All that prints is proved against this meaning. It stops at the first call that fails, and hands that call's error on.
+/// An implementation states the meaning of its calls: the state that each call leaves, when it may fail, and the
+/// state after a failure. All printing code is proved against this meaning. Printing stops at the first call that
+/// fails, and returns that call's error.
 pub trait Print {
-    /// What each call makes of the printer, when it may fail, and what is left then.
+    /// The meaning of the calls: the state that each call leaves, when it may fail, and the state after a failure.
     ghost meaning: { Meaning Self };
 
-    /// Whether colours can be written to it as text.
+    /// Whether colors can be written to this printer as text.
     ghost colors: { Self → Bool };
 
     /// Writes a piece of text.
+    ///
+    /// # Errors
+    /// - The printer's error. Printing stops and returns it.
     fn write_str(&mut self, s: &str) -> io::Result<()>
         ensures { Does meaning self.old (Text s.now) self.new result };
 
-    /// Writes a piece of text, by a call for each of its characters if a printer knows no better. Quoted strings call it only if
-    /// [`Print::takes_runs`] returns `true`.
+    /// Writes a piece of text. By default it calls [`Print::write_str`] once for each character. Quoted strings
+    /// use it only if [`Print::takes_runs`] returns `true`.
+    ///
+    /// # Errors
+    /// - The printer's error. Printing stops and returns it.
     fn write_each_char(&mut self, s: &str) -> io::Result<()>
         ensures { Emits meaning self.old self.new result (Text s.now ∷ []) }
     {
@@ -62,24 +69,32 @@ pub trait Print {
         Ok(())
     }
 
-    /// Returns whether the printer takes a run of several characters of a quoted string in one call of [`Print::write_each_char`]. By
-    /// default it does not: a plain character is then written by one call, an escape by a call for each of its parts. The value is the
-    /// same for each call. It decides how text is split into calls, never the text.
+    /// Reports whether several characters of a quoted string may be passed to one call of
+    /// [`Print::write_each_char`]. By default they may not: a plain character is then written by one call, and an
+    /// escape by one call for each of its parts. Every call returns the same value. It decides how text is split
+    /// into calls, never the text itself.
     #[inline(always)]
     fn takes_runs(&self) -> bool {
         false
     }
 
-    /// Ends a line.
+    /// Ends the current line.
+    ///
+    /// # Errors
+    /// - The printer's error. Printing stops and returns it.
     fn newline(&mut self) -> io::Result<()>
         ensures { Does meaning self.old Newline self.new result };
 
-    /// Begins a line, which stands for what lies at this place of the module's bytes, if for anything.
+    /// Starts a line. `binary_offset` is the place of the line: a byte offset from the start of the module, or
+    /// `None` if the line shows nothing of the module.
     fn start_line(&mut self, binary_offset: Option<u64>)
         ensures { Succeeded meaning self.old (Line binary_offset) self.new };
 
-    /// Asks whether the printer takes a custom section itself, which is then not printed: its name, the place of its data in the
-    /// module's bytes, and the data.
+    /// Reports whether the printer claims a custom section. A claimed section is not printed. `name` and `bytes`
+    /// are its name and its data, `binary_offset` is the byte offset of the data from the start of the module.
+    ///
+    /// # Errors
+    /// - The printer's error. Printing stops and returns it.
     fn print_custom_section(
         &mut self,
         name: &str,
@@ -88,179 +103,198 @@ pub trait Print {
     ) -> io::Result<bool>
         ensures { Claims meaning self.old name.now binary_offset bytes.now self.new result };
 
-    /// Numbers and strings follow.
+    /// Starts the style of numbers and strings.
+    ///
+    /// # Errors
+    /// - The printer's error. Printing stops and returns it.
     fn start_literal(&mut self) -> io::Result<()>
         ensures { Does meaning self.old (Start Literal) self.new result };
 
-    /// The name or the number of an item follows.
+    /// Starts the style of the names and indices of items.
+    ///
+    /// # Errors
+    /// - The printer's error. Printing stops and returns it.
     fn start_name(&mut self) -> io::Result<()>
         ensures { Does meaning self.old (Start Name) self.new result };
 
-    /// A keyword follows.
+    /// Starts the style of keywords.
+    ///
+    /// # Errors
+    /// - The printer's error. Printing stops and returns it.
     fn start_keyword(&mut self) -> io::Result<()>
         ensures { Does meaning self.old (Start Keyword) self.new result };
 
-    /// The word of a type follows.
+    /// Starts the style of types.
+    ///
+    /// # Errors
+    /// - The printer's error. Printing stops and returns it.
     fn start_type(&mut self) -> io::Result<()>
         ensures { Does meaning self.old (Start TypeName) self.new result };
 
-    /// A comment follows.
+    /// Starts the style of comments.
+    ///
+    /// # Errors
+    /// - The printer's error. Printing stops and returns it.
     fn start_comment(&mut self) -> io::Result<()>
         ensures { Does meaning self.old (Start Comment) self.new result };
 
-    /// Text without a style follows.
+    /// Ends the current style: the text after it has none.
+    ///
+    /// # Errors
+    /// - The printer's error. Printing stops and returns it.
     fn reset_color(&mut self) -> io::Result<()>
         ensures { Does meaning self.old (Start Reset) self.new result };
 
-    /// Whether colours can be written as text, later than they were chosen.
+    /// Reports whether colors can be written as text, at a later time than the call that chose the style.
     fn supports_async_color(&self) -> bool
         ensures { result ≡ colors self.now };
 
-    // The laws follow from `meaning` alone. They stand here so that the proofs of generic code find them.
+    // The laws follow from `meaning` alone. They are fields of the trait so that the proofs of generic code find
+    // them.
 
-    // a part of a layout, and then the rest
+    // A part of a layout, then the rest
     ghost goes_on: { GoesOn meaning } = { λ a s t r l k x y. then meaning x y };
 
-    // a part that failed, whatever would have come after it
+    // A part that failed, with any rest
     ghost breaks_off: { BreaksOff meaning } = { λ a t r e l k x f. ends meaning r k f x };
 
-    // the last part failed
+    // The last part, which failed
     ghost fails_at_last: { FailsAtLast meaning } = { λ a t r e l x f. fails meaning r f x };
 
-    // one call, and then the rest
+    // One call, then the rest
     ghost call_then: { CallThen meaning } = { λ a s t r c k x y. then meaning x y };
 
-    // one call that failed, whatever would have come after it
+    // One call that failed, with any rest
     ghost call_breaks_off: { CallBreaksOff meaning } = { λ a t r e c k x f. ends meaning r k f x };
 
-    // the first part of a text, and then the rest
+    // The first part of a text, then the rest
     ghost text_then: { TextThen meaning } = { λ a s t r x y k v w. then_text meaning v w };
 
-    // the first part of a text that failed, whatever would have come after it
+    // The first part of a text, which failed, with any rest
     ghost text_breaks_off: { TextBreaksOff meaning } = { λ a t r e x y k v f. ends_text meaning r y k f v };
 
-    // the first byte of a text, and then the rest
+    // The first byte of a text, then the rest
     ghost byte_then: { ByteThen meaning } = { λ a s t r x y k v w. then_text meaning v w };
 
-    // the first byte of a text that failed, whatever would have come after it
+    // The first byte of a text, which failed, with any rest
     ghost byte_breaks_off: { ByteBreaksOff meaning } = { λ a t r e x y k v f. ends_text meaning r y k f v };
 
-    // a call on the printer
+    // One call that succeeded
     ghost call_done: { CallDone meaning } = { λ a t c s. called meaning s };
 
-    // a call on the printer that failed
+    // One call that failed
     ghost call_failed: { CallFailed meaning } = { λ a t r e c v f. call_fails meaning r e f v };
 
-    // no call
+    // No call
     ghost idle: { Idle meaning } = { λ a. nothing meaning a };
 
-    // a piece, and then the rest
+    // One piece, then the rest
     ghost piece_then: { PieceThen meaning } = { λ o a s t r x xs v w. both_pieces meaning v w };
 
-    // a piece that failed, whatever would have come after it
+    // One piece that failed, with any rest
     ghost piece_breaks_off: { PieceBreaksOff meaning } = { λ o a t r e x xs v f. pieces_end meaning r xs f v };
 
-    // the last piece
+    // The last piece
     ghost piece_done: { PieceDone meaning } = { λ o a t r x v. one_piece meaning o x v };
 
-    // pieces, and then the rest
+    // Pieces, then the rest
     ghost pieces_then: { PiecesThen meaning } = { λ o a s t r xs ys v w. both_pieces meaning v w };
 
-    // pieces of which one failed, whatever would have come after them
+    // Pieces, one of which failed, with any rest
     ghost pieces_break_off: { PiecesBreakOff meaning } = { λ o a t r e xs ys v f. pieces_end meaning r ys f v };
 
-    // the last pieces, of which one failed
+    // The last pieces, one of which failed
     ghost pieces_fail_at_last: { PiecesFailAtLast meaning } = { λ o a t r e xs v f. last_pieces_end meaning r f v };
 
     ghost no_pieces: { NoPieces meaning } = { λ o a. no_piece meaning o a };
 
-    // a piece that failed, where more is kept in memory
+    // One piece that failed, with any rest, in a function that returns an `Error`
     ghost piece_hands_on: { PieceHandsOn meaning } = { λ o a t b r e x xs v f. pieces_halt meaning b r (Printer e) xs f v };
 
-    // pieces of which one failed, whatever would have come after them
+    // Pieces, one of which failed, with any rest, in such a function
     ghost pieces_hand_on: { PiecesHandOn meaning } = { λ o a t b r e xs ys v f. pieces_halt meaning b r (Printer e) ys f v };
 
-    // the last pieces, of which one failed
+    // The last pieces, one of which failed, in such a function
     ghost pieces_hand_on_at_last: { PiecesHandOnAtLast meaning } = { λ o a t b r e xs v f. last_pieces_halt meaning b r (Printer e) f v };
 
-    // pieces at which a function ended, whatever would have come after them
+    // Pieces at which a function ended with an error, with any rest
     ghost pieces_halt_before: { PiecesHalt meaning } = { λ o a t b r e xs ys v f. pieces_halt meaning b r e ys f v };
 
-    // the last pieces, at which it ended
+    // The last pieces, at which a function ended with an error
     ghost pieces_halt_at_last: { PiecesHaltAtLast meaning } = { λ o a t b r e xs v f. last_pieces_halt meaning b r e f v };
 
-    // ---- where the first error is passed along
+    // ---- functions that record the first error
 
-    // a call on the printer
+    // One call that succeeded
     ghost put_done: { PutDone meaning } = { λ a t d c v e. put_called meaning e v };
 
-    // a call on the printer that failed
+    // One call that failed
     ghost put_failed: { PutFailed meaning } = { λ a t d x c v e. put_fails meaning x e v };
 
-    // no call is made behind an error
+    // After an error no call is made.
     ghost put_behind: { PutBehind meaning } = { λ a d l e. put_skipped meaning a d l e };
 
-    // calls, and then others
+    // Calls, then more calls
     ghost puts_then: { PutsThen meaning } = { λ a s t d e f l k v w. both_puts meaning v w };
 
-    // a call, and then others
+    // One call, then more calls
     ghost put_then: { PutThen meaning } = { λ a s t d e f c k v w. both_puts meaning v w };
 
-    // the first part of a text, and then the rest
+    // The first part of a text, then the rest
     ghost put_text_then: { PutTextThen meaning } = { λ a s t d e f x y k v w. put_texts meaning v w };
 
-    // the first byte of a text, and then the rest
+    // The first byte of a text, then the rest
     ghost put_byte_then: { PutByteThen meaning } = { λ a s t d e f x y k v w. put_texts meaning v w };
 
-    // no call
+    // No call
     ghost put_none: { PutNone meaning } = { λ a d. no_put meaning a d };
 
-    // the calls of a piece
+    // The calls of one piece
     ghost mark_done: { MarkDone meaning } = { λ a t d f x v. one_mark meaning x v };
 
-    // a piece, and then others
+    // One piece, then more pieces
     ghost mark_then: { MarkThen meaning } = { λ a s t d e f x xs v w. both_marks meaning v w };
 
-    // pieces, and then others
+    // Pieces, then more pieces
     ghost marks_then: { MarksThen meaning } = { λ a s t d e f xs ys v w. both_marks meaning v w };
 
-    // no piece
+    // No piece
     ghost mark_none: { MarkNone meaning } = { λ a d. no_mark meaning a d };
 
-    // no piece is written behind an error
+    // After an error no piece is written.
     ghost mark_behind: { MarkBehind meaning } = { λ a d xs e. mark_skipped meaning a d xs e };
 
-    // under these options: the calls of a piece
+    // The calls of one piece, under given options
     ghost mark_done_under: { MarkDoneUnder meaning } = { λ o a t d f x v. one_mark_under meaning o x v };
 
-    // a piece, and then others
+    // One piece, then more pieces, under given options
     ghost mark_then_under: { MarkThenUnder meaning } = { λ o a s t d e f x xs v w. both_marks_under meaning v w };
 
-    // pieces, and then others
+    // Pieces, then more pieces, under given options
     ghost marks_then_under: { MarksThenUnder meaning } = { λ o a s t d e f xs ys v w. both_marks_under meaning v w };
 
-    // no piece
+    // No piece, under given options
     ghost mark_none_under: { MarkNoneUnder meaning } = { λ o a d. no_mark_under meaning o a d };
 
-    // no piece is written behind an error
+    // After an error no piece is written, under given options.
     ghost mark_behind_under: { MarkBehindUnder meaning } = { λ o a d xs e. mark_skipped_under meaning o a d xs e };
 
-    // the same where the first hold under any options
+    // The first piece under any options, more pieces under given options
     ghost mark_then_mixed: { MarkThenMixed meaning } = { λ o a s t d e f x xs v w. both_marks_under meaning (v.under o) w };
 
     ghost marks_then_mixed: { MarksThenMixed meaning } = { λ o a s t d e f xs ys v w. both_marks_under meaning (v.under o) w };
 
-    // what holds under any options
+    // A claim that holds under any options holds under given options.
     ghost mark_under: { MarkUnder meaning } = { λ o a t d f xs v. v.under o };
 
-    // the answer of a function that kept the first error
+    // The result of a function that recorded the first error
     ghost puts_answer: { PutsAnswer meaning } = { λ a t d f r l v e q. puts_answered meaning r v e q };
 
     ghost marks_answer: { MarksAnswer meaning } = { λ o a t d f r xs v e q. marks_answered meaning o r v e q };
 
     ghost marks_answer_under: { MarksAnswerUnder meaning } = { λ o a t d f r xs v e q. marks_answered_under meaning r v e q };
 
-    // the error of an answer that is kept
+    // A result whose error is recorded
     ghost puts_kept: { PutsKept meaning } = { λ a t d f r l v q e. puts_keep meaning r v e q };
 
     ghost marks_kept: { MarksKept meaning } = { λ a t d f r xs v q e. marks_keep meaning r v e q };

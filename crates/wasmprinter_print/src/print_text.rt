@@ -1,27 +1,31 @@
-//! Printers of text alone.
+//! Text-only printers.
 ghost use Rattle.std.specs.Prelude.{ℕ, List, false};
 ghost use Rattle.wasmprinter_print.specs.TextOnly.{text_only, Grows, TextIsGained};
 
 use crate::Print;
 use std::io;
 
-/// A printer that writes text and nothing else. Each `PrintText` is a [`Print`] too.
+/// A printer that uses only the text. Every `PrintText` is a [`Print`] too.
 ///
-/// Calls for lines and styles do nothing and succeed. It claims no custom section. A line feed is written as text. A printer that needs
-/// more than the text implements `Print` itself.
+/// Calls for lines and styles do nothing and succeed. The printer claims no custom section. A line feed is written
+/// as text. A printer that needs more than the text implements `Print` itself.
 pub trait PrintText {
     ghost use Rattle.std.specs.Prelude.{ℕ, List, Result};
     ghost use Rattle.std.specs.declared.io.Error.{Error as IoError};
 
-    // The results that a write of these bytes may have, and the states of the printer after it. The default allows all.
+    // The results that a write of these bytes may have, and the states of the printer after it. The default allows
+    // every result and state.
     ghost writes: { Self → List ℕ → Result (Unit {0}) IoError → Self → Type 0 } = { λ _ _ _ _. Unit {0} };
 
-    /// Writes a piece of text. Printing stops at an error and returns it.
+    /// Writes a piece of text.
+    ///
+    /// # Errors
+    /// - The printer's error. Printing stops and returns it.
     fn write_str(&mut self, s: &str) -> io::Result<()>
         ensures { writes self.old s.now result self.new };
 
-    /// Returns whether several characters of a quoted string may be written in one call, as [`Print::takes_runs`]. By default each
-    /// character is written in a call of its own.
+    /// Reports whether several characters of a quoted string may be written in one call, as [`Print::takes_runs`]
+    /// does. By default each character is written in a call of its own.
     #[inline(always)]
     fn takes_runs(&self) -> bool {
         false
@@ -101,7 +105,8 @@ impl<T: PrintText> Print for T {
     }
 }
 
-/// A law: if each write that succeeds appends its bytes to a view of the printer, then calls that all succeed append their text to it.
+/// A law: if each successful write appends its bytes to a view of the printer, then calls that all succeed append
+/// their text to it.
 pub fn text_is_gained<T: PrintText>()
     ensures { (view : T → List ℕ) → Grows view T.writes → TextIsGained view T.writes }
 {}

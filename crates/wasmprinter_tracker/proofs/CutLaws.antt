@@ -1,4 +1,4 @@
--- How the lines of a text change as text and lines are added at its end.
+-- How the lines of a text change when text and lines are added at its end.
 use Rattle.std.proofs.Common.{◌≡◌, ℕ, ◌-◌, ◌≤◌, List, [], ◌∷◌, ◌++◌, length, take, drop, refl, sym, ap, ap₂, ◌∙◌, append-nil, arith, length-append, length-drop, true≢false}
 use Rattle.std.proofs.Math.Seq.{take-length, take-nil, drop-length}
 use Rattle.std.specs.Prelude.{Option, Some, None, Bool, is_some, true, false}
@@ -10,7 +10,7 @@ use Rattle.wasmprinter_tracker.specs.Cuts.{lines_at_starts, first_at, IsCuttable
 use Rattle.wasmprinter_tracker.specs.Tracked.{Tracked, waiting_start, extend_last, tracked_of, with_line, with_text}
 use Rattle.wasmprinter_tracker.specs.declared.lines.LineStart.{LineStart}
 
--- a place where a text may be cut stays one
+-- A character boundary of a text is one of a longer text.
 pub IsCharBoundary-longer : (t s : List ℕ) (i : ℕ) → IsUtf8 t → IsUtf8 s → IsCharBoundary t i → IsCharBoundary (t ++ s) i
 IsCharBoundary-longer t s i v u b =
     let le : i ≤ length t = b.0 in
@@ -27,18 +27,18 @@ IsCuttable-longer (x ∷ []) t s v u h = (IsCharBoundary-longer t s x.at v u h.0
 IsCuttable-longer (x ∷ y ∷ starts) t s v u (boundary, before, others) =
     (IsCharBoundary-longer t s x.at v u boundary, before, IsCuttable-longer (y ∷ starts) t s v u others)
 
--- a line that begins at the end
+-- If the line starts are valid, then so are they with one more at the end of the text.
 pub IsCuttable-more : (starts : List LineStart) (t : List ℕ) (p : Option ℕ) → IsCuttable starts t →
     IsCuttable (starts ++ record { place = p; at = length t } ∷ []) t
 IsCuttable-more [] t p h = (IsCharBoundary-end t, omega arith, tt)
 IsCuttable-more (x ∷ []) t p h = (h.0, h.1, IsCuttable-more [] t p tt)
 IsCuttable-more (x ∷ y ∷ starts) t p (boundary, before, others) = (boundary, before, IsCuttable-more (y ∷ starts) t p others)
 
--- all of a text behind a place
+-- Taking `length t - i` bytes from place `i` on takes all bytes from there on.
 whole : (i : ℕ) (t : List ℕ) → take (length t - i) (drop i t) ≡ drop i t
 whole i t = rw (← length-drop i t) (take-length (drop i t))
 
--- a part of a text that is made longer
+-- A part of a text is the same part of a longer text.
 part-longer : (i j : ℕ) (t s : List ℕ) → i ≤ length t → j ≤ length t → take (j - i) (drop i (t ++ s)) ≡ take (j - i) (drop i t)
 part-longer i j t s le within =
     let short : j - i ≤ length (drop i t) = omega (arith, length-drop i t) in
@@ -61,20 +61,20 @@ lines_at_starts-more (x ∷ []) t p h = ap (λ (l : List TextLine). (x.place, ta
 lines_at_starts-more (x ∷ y ∷ starts) t p (boundary, before, others) =
     ap (λ (l : List TextLine). (x.place, take (y.at - x.at) (drop x.at t)) ∷ l) (lines_at_starts-more (y ∷ starts) t p others)
 
--- what a tracker keeps where a line begins
+-- If no line waits, then the line starts are still valid after one more line starts.
 pub IsCuttable-begun : (starts : List LineStart) (w : Option (Option ℕ)) (t : List ℕ) (p : Option ℕ) → is_some w ≡ false →
     IsCuttable (starts ++ waiting_start w (length t)) t → IsCuttable (starts ++ record { place = p; at = length t } ∷ []) t
 IsCuttable-begun starts None t p e h = IsCuttable-more starts t p (rw append-nil at h)
 IsCuttable-begun starts (Some q) t p e h = absurd (true≢false e)
 
--- what a tracker keeps where text is added, and no line waits
+-- If no line waits, then the line starts are still valid after text is appended.
 pub IsCuttable-pushed : (starts : List LineStart) (w : Option (Option ℕ)) (t s u : List ℕ) → IsUtf8 t → IsUtf8 s → is_some w ≡ false → u ≡ t ++ s →
     IsCuttable (starts ++ waiting_start w (length t)) t → IsCuttable (starts ++ waiting_start w (length u)) u
 IsCuttable-pushed starts None t s u v x e f h =
     rw (append-nil, f) (IsCuttable-longer starts t s v x (rw append-nil at h))
 IsCuttable-pushed starts (Some q) t s u v x e f h = absurd (true≢false e)
 
--- a line that begins, as the tracker shows it
+-- If no line waits, then the view after a line start is that of `with_line`.
 pub tracked_of-begun : (t : List ℕ) (starts : List LineStart) (w : Option (Option ℕ)) (lost : Bool) (p : Option ℕ) → is_some w ≡ false →
     IsCuttable (starts ++ waiting_start w (length t)) t → tracked_of t starts (Some p) lost ≡ with_line (tracked_of t starts w lost) p
 tracked_of-begun t starts None lost p e h =
@@ -84,7 +84,7 @@ tracked_of-begun t starts None lost p e h =
     ap show same
 tracked_of-begun t starts (Some q) lost p e h = absurd (true≢false e)
 
--- text that is added, as the tracker shows it
+-- If no line waits, then the view after text is appended is that of `with_text`.
 pub tracked_of-pushed : (t s u : List ℕ) (starts : List LineStart) (w : Option (Option ℕ)) (lost : Bool) → is_some w ≡ false → u ≡ t ++ s →
     IsCuttable (starts ++ waiting_start w (length t)) t → tracked_of u starts w lost ≡ with_text (tracked_of t starts w lost) s
 tracked_of-pushed t s u starts None lost e f h =

@@ -1,4 +1,4 @@
--- A tracker loses no line on calls that are a beginning of a module's.
+-- A tracker loses no line on a prefix of the calls of a module.
 use Rattle.std.proofs.Common.{◌≡◌, ℕ, List, [], ◌∷◌, ◌++◌, map, refl, sym, ap, ◌∙◌, subst, true≢false}
 use Rattle.std.specs.Prelude.{Option, Bool, true, false}
 use Rattle.wasmprinter_spec.specs.Call.{Call, Text, Newline, Line, Start, Claim, calls_of_bytes, atoms}
@@ -9,18 +9,19 @@ use Rattle.wasmprinter_tracker.specs.Tracked.{Tracked, without_lines, with_line_
 use Rattle.wasmprinter_tracker.specs.Tracking.{tracked_after, tracked_meaning}
 use Rattle.wasmprinter_tracker.specs.NoLineLost.{NoLineLost}
 
--- ---- calls with their texts cut
+-- ---- calls with text split into bytes
 
--- the bytes of a text, each as a text of its own, and calls behind them
+-- One call for each byte of a text, then more calls.
 abbrev texts_and : List ℕ → List Call → List Call
 texts_and s cs = map (λ b. Text (b ∷ [])) s ++ cs
 
--- text in front of calls that may stand behind anything
+-- If calls may follow anything, then so may a text followed by these calls.
 texts_fed : (s : List ℕ) (cs : List Call) → ((behind : Bool) → Fed behind cs) → (fed : Bool) → Fed fed (texts_and s cs)
 texts_fed [] cs h fed = h fed
 texts_fed (b ∷ s) cs h fed = texts_fed s cs h false
 
--- An empty text has no atom. So in front of the atoms a line feed may stand where none stood in front of the calls.
+-- If each line start in the calls comes directly after a line feed, then so does each line start in their atoms.
+-- An empty text has no atom, so the atoms may follow a line feed that the calls do not follow.
 atoms_fed : (fed now : Bool) → (fed ≡ true → now ≡ true) → (cs : List Call) → Fed fed cs → Fed now (atoms cs)
 atoms_fed fed now le [] h = tt
 atoms_fed fed now le (Text s ∷ cs) h = texts_fed s (atoms cs) (λ behind. atoms_fed false behind (λ e. absurd (true≢false (sym e))) cs h) now
@@ -29,26 +30,27 @@ atoms_fed fed now le (Line place ∷ cs) h = (le h.0, atoms_fed false false (λ 
 atoms_fed fed now le (Start style ∷ cs) h = atoms_fed false false (λ e. e) cs h
 atoms_fed fed now le (Claim name place bytes answer ∷ cs) h = atoms_fed false false (λ e. e) cs h
 
--- a beginning of calls
+-- If `Fed` holds for calls, then it holds for a prefix of them.
 first_fed : (fed : Bool) (k l : List Call) → Fed fed (k ++ l) → Fed fed k
 first_fed fed [] l h = tt
 first_fed fed (Newline ∷ k) l h = first_fed true k l h
 first_fed fed (Line place ∷ k) l h = (h.0, first_fed false k l h.1)
 first_fed fed (c ∷ k) l h = first_fed false k l h
 
--- Calls behind a text: a line feed stands in front of them only where the text is empty.
+-- If `Fed` holds for a text followed by calls, then it holds for the calls. They directly follow a line feed only
+-- if the text is empty.
 behind_texts : (fed : Bool) (s : List ℕ) (cs : List Call) → Fed fed (texts_and s cs) → (behind : Bool) × Fed behind cs
 behind_texts fed [] cs h = (fed, h)
 behind_texts fed (b ∷ s) cs h = behind_texts false s cs h
 
 -- ---- a run
 
--- A line that begins behind no other beginning is kept.
+-- If no other line has just started, then a line start loses no line.
 kept_if : (b : Bool) (t : Tracked) (place : Option ℕ) → b ≡ false → t.lost ≡ false → (with_line_if b t place).lost ≡ false
 kept_if true t place e kept = absurd (true≢false e)
 kept_if false t place e kept = kept
 
--- No line was lost, and none will be by these calls: where a line may begin, none has just begun.
+-- No line was lost, and these calls lose none: wherever a line may start, no other line has just started.
 record Keeps (t : Tracked) (cs : List Call) : Type 0 where
   fed : Bool
   ready : fed ≡ true → t.new_line ≡ false

@@ -1,4 +1,4 @@
--- What a run of calls makes of a tracker: its text and its lines are those of the calls.
+-- The effect of a run of calls on a tracker: its text and its lines are those of the calls.
 use Rattle.std.proofs.Common.{◌≡◌, ℕ, List, [], ◌∷◌, ◌++◌, refl, sym, ap, ◌∙◌, subst, append_assoc, append-nil, true≢false}
 use Rattle.std.specs.Prelude.{Option, Bool, true, false}
 use Rattle.std.specs.declared.io.Error.{Error as IoError}
@@ -11,7 +11,7 @@ use Rattle.wasmprinter_tracker.specs.Tracked.{Tracked, without_lines, extend_las
 use Rattle.wasmprinter_tracker.specs.Tracking.{tracked_after, tracked_meaning, Tracks}
 use Rattle.wasmprinter_tracker.proofs.LineLaws.{lines_of-text, lines_of-line}
 
--- a line that begins adds no text, and is there unless it is lost
+-- A line start adds no text. It adds a line, unless that line is lost.
 line-text : (b : Bool) (t : Tracked) (p : Option ℕ) → (with_line_if b t p).text ≡ t.text
 line-text true t p = refl
 line-text false t p = refl
@@ -21,7 +21,7 @@ line-lines : (b : Bool) (t : Tracked) (p : Option ℕ) → (with_line_if b t p).
 line-lines true t p e = absurd (true≢false e)
 line-lines false t p e = (e, refl)
 
--- no text added to the last line
+-- Appending no text to the last line changes nothing.
 extend_last-nil : (lines : List TextLine) → extend_last lines [] ≡ lines
 extend_last-nil [] = refl
 extend_last-nil (x ∷ []) = ap (λ (t : List ℕ). (x.0, t) ∷ []) (append-nil x.1)
@@ -36,7 +36,7 @@ tracked_after-text t (Line p) = line-text t.new_line t p ∙ sym (append-nil t.t
 tracked_after-text t (Start style) = sym (append-nil t.text)
 tracked_after-text t (Claim name place bytes answer) = sym (append-nil t.text)
 
--- no text more
+-- If a call adds no text and starts no line, then the lines are unchanged.
 idle-lines : (k : List Call) (c : Call) (lines : List TextLine) → lines ≡ lines_of k → lines_of (k ++ c ∷ []) ≡ extend_last (lines_of k) [] →
     lines ≡ lines_of (k ++ c ∷ [])
 idle-lines k c lines e more = e ∙ sym (extend_last-nil (lines_of k)) ∙ sym more
@@ -53,7 +53,7 @@ tracked_after-lines k (Start style) t h kept = idle-lines k (Start style) t.line
 tracked_after-lines k (Claim name place bytes answer) t h kept =
     idle-lines k (Claim name place bytes answer) t.lines (h kept) (lines_of-text k (Claim name place bytes answer ∷ []) refl)
 
--- a call more
+-- If the tracker has the text and lines of `k`, then after one more call it has those of `k` and that call.
 Tracks-tracked_after : (base : List ℕ) (k : List Call) (c : Call) (t : Tracked) → Tracks base k t → Tracks base (k ++ c ∷ []) (tracked_after t c)
 Tracks-tracked_after base k c t h = record {
   text = tracked_after-text t c ∙ ap (λ x. x ++ call_text c) h.text ∙ append_assoc base (text_of k) (call_text c)
@@ -71,12 +71,13 @@ tracks_more base k (c ∷ cs) s t h (between, called, rest) =
     subst (λ (u : Tracked). Tracks base (k ++ c ∷ []) u) (sym called.step.0) (Tracks-tracked_after base k c s h) in
     subst (λ (l : List Call). Tracks base l t) (append_assoc k (c ∷ []) cs) (tracks_more base (k ++ c ∷ []) cs between t more rest)
 
--- A tracker in which no line had begun has the text of the calls behind its old text, and their lines, unless one was lost.
+-- After a run of calls, a tracker that had no lines has its old text followed by that of the calls, and their
+-- lines, unless one was lost.
 pub run_tracks : (base : List ℕ) (calls : List Call) (t : Tracked) → Run tracked_meaning (without_lines base) calls t → Tracks base calls t
 run_tracks base calls t r =
     tracks_more base [] calls (without_lines base) t (record { text = sym (append-nil base); lines = λ kept. refl }) r
 
--- the text of a tracker grows by that of the calls
+-- The text of a tracker grows by the text of the calls.
 pub run_text : (s : Tracked) (calls : List Call) (t : Tracked) → Run tracked_meaning s calls t → t.text ≡ s.text ++ text_of calls
 run_text s [] t r = sym (ap (λ (u : Tracked). u.text) r) ∙ sym (append-nil s.text)
 run_text s (c ∷ cs) t (between, called, rest) =
@@ -84,7 +85,7 @@ run_text s (c ∷ cs) t (between, called, rest) =
     ∙ ap (λ x. x ++ text_of cs) (tracked_after-text s c)
     ∙ append_assoc s.text (call_text c) (text_of cs)
 
--- a tracker takes no custom section
+-- A tracker claims no custom section.
 pub claims_never : (s : Tracked) (c : Call) (t : Tracked) → tracked_meaning.after s c t → IsUnclaimed c
 claims_never s (Text bytes) t h = tt
 claims_never s Newline t h = tt
@@ -92,6 +93,6 @@ claims_never s (Line place) t h = tt
 claims_never s (Start style) t h = tt
 claims_never s (Claim name place bytes answer) t h = h.1
 
--- Where a call failed, the old text is there with that of the calls before it.
+-- If a call failed, then the text is the old text followed by that of the calls before the failed one.
 pub broken_text : (s t : Tracked) (e : IoError) (layout : List Call) (b : Broken tracked_meaning s t e layout) → t.text ≡ s.text ++ text_of b.calls
 broken_text s t e layout b = b.failed.left.1 ∙ run_text s b.calls b.before b.run

@@ -1,4 +1,4 @@
--- What the contracts of the tracker, of the iterator over its lines and of the laws cite.
+-- Definitions for the contracts of the tracker, of the iterator over its lines, and of the laws.
 pub mod Lined
 pub mod Cuts
 pub mod Tracked

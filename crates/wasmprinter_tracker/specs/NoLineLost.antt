@@ -1,4 +1,4 @@
--- Which calls make a tracker lose no line.
+-- The calls on which a tracker loses no line.
 use Rattle.std.specs.Prelude.{◌≡◌, ℕ, List, ◌++◌, false}
 use Rattle.wasmprinter_spec.specs.Placed.{PlacedModule}
 use Rattle.wasmprinter_spec.specs.Call.{Call, atoms}
@@ -8,8 +8,9 @@ use Rattle.wasmprinter_spec.specs.Meaning.{Run}
 use Rattle.wasmprinter_tracker.specs.Tracked.{Tracked, without_lines}
 use Rattle.wasmprinter_tracker.specs.Tracking.{tracked_meaning}
 
--- A tracker in which no line had begun loses no line on calls that are a beginning of those of a module, or all of them, up to how text is
--- cut into pieces. This is so for all options, answers and modules, and up to a refusal too.
+-- If the calls on a tracker without lines are those of a module, or a prefix of them, up to how text is split into
+-- calls, then no line is lost. This holds for all options, answers and modules, and also if the calls end where an
+-- allocation failed.
 abbrev pub NoLineLost : Type 0
 NoLineLost =
     (o : Options) (answers : Answers) (m : PlacedModule) (base : List ℕ) (calls rest : List Call) (t : Tracked) →

@@ -1,4 +1,4 @@
--- What the calls on a tracker make of it.
+-- The meaning of calls on a tracker.
 use Rattle.std.specs.Prelude.{◌≡◌, ℕ, List, [], ◌∷◌, ◌++◌, false, None}
 use Rattle.std.specs.IoError.{error_kind}
 use Rattle.std.specs.declared.io.ErrorKind.TheVariants.{OutOfMemory}
@@ -7,7 +7,7 @@ use Rattle.wasmprinter_spec.specs.Lines.{lines_of}
 use Rattle.wasmprinter_spec.specs.Meaning.{Meaning}
 use Rattle.wasmprinter_tracker.specs.Tracked.{Tracked, with_text, with_line}
 
--- what a call makes of a tracker
+-- The tracker after a call.
 abbrev pub tracked_after : Tracked → Call → Tracked
 tracked_after t (Text bytes) = with_text t bytes
 tracked_after t Newline = with_text t (10 ∷ [])
@@ -15,7 +15,7 @@ tracked_after t (Line place) = with_line t place
 tracked_after t (Start style) = t
 tracked_after t (Claim name place bytes answer) = t
 
--- what a call that succeeded promises besides: where text was written no line was lost, and no custom section is taken
+-- A successful call that writes text leaves no line lost, and no custom section is claimed.
 abbrev pub KeepsAll : Call → Tracked → Type 0
 KeepsAll (Text bytes) new = new.lost ≡ false
 KeepsAll Newline new = new.lost ≡ false
@@ -23,8 +23,8 @@ KeepsAll (Line place) new = Unit {0}
 KeepsAll (Start style) new = Unit {0}
 KeepsAll (Claim name place bytes answer) new = answer ≡ false
 
--- the meaning of a tracker: only what writes text can fail, and a call that fails wants memory, and leaves the text and its lines as they
--- were
+-- The meaning of a tracker: only calls that write text can fail. A call that fails returns an error of the kind
+-- `OutOfMemory`, and leaves the text and its lines unchanged.
 abbrev pub tracked_meaning : Meaning Tracked
 tracked_meaning = record {
   after = λ old call new. (new ≡ tracked_after old call) × KeepsAll call new;
@@ -33,7 +33,7 @@ tracked_meaning = record {
   faults = λ t. None;
 }
 
--- a tracker has the text and the lines of these calls, behind the text that stood there, unless a line was lost
+-- The tracker has the text of these calls after the text `base`, and their lines, unless a line was lost.
 pub record Tracks (base : List ℕ) (calls : List Call) (t : Tracked) : Type 0 where
   pub text : t.text ≡ base ++ text_of calls
   pub lines : t.lost ≡ false → t.lines ≡ lines_of calls

@@ -1,8 +1,8 @@
-//! What a tracker keeps of the calls of a module, as a law over runs of calls. It is the contract of a function with an empty body.
+//! The law that a tracker loses no line of a module. It is the contract of a function with an empty body.
 ghost use Rattle.wasmprinter_tracker.specs.NoLineLost.{NoLineLost};
 
-/// A new tracker loses no line on calls that are a beginning of those of a module, or all of them, whatever the options, the answers and
-/// the module. How text is cut into pieces makes no difference.
+/// A new tracker loses no line if the calls on it are those of a module, or a prefix of them. This holds for all
+/// options, answers and modules, and however the text is split into calls.
 pub fn no_line_is_lost()
     ensures { NoLineLost }
 {}

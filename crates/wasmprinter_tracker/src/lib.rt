@@ -1,5 +1,5 @@
-//! A printer that keeps its text and where the lines of it begin, the iterator over these lines, and the law that it loses none of a
-//! module's.
+//! A printer that keeps its text and the starts of its lines, the iterator over these lines, and the law that no
+//! line of a module is lost.
 #![tactic(auto)]
 
 mod laws;

@@ -3,10 +3,11 @@ ghost use Rattle.std.specs.Prelude.{◌≡◌};
 
 use std::marker::Model;
 
-/// Where a line begins.
+/// The start of a line.
 #[derive(Clone, Copy, Debug, PartialEq, Eq)]
 pub struct LineStart {
-    /// The place of the line, a byte offset from the start of the module, or `None` if the line is for nothing in the module.
+    /// The place of the line: a byte offset from the start of the module, or `None` if the line shows nothing of
+    /// the module.
     pub place: Option<u64>,
     /// The byte offset of the line's first byte from the start of the text.
     pub at: usize,
@@ -14,8 +15,8 @@ pub struct LineStart {
 
 /// An iterator over the lines of a printed text.
 ///
-/// Each line comes with the place of what stands on it, as a byte offset from the module's start, or `None` where it stands for nothing
-/// in the module. Its text has the line feed at its end. No line comes of text in front of the first place where a line begins.
+/// Each line comes with its place: a byte offset from the start of the module, or `None` if the line shows nothing
+/// of the module. Its text includes the line feed at its end. Text before the first line start is on no line.
 #[derive(Drop)]
 pub struct OffsetsAndLines<'a> {
     text: &'a str,
@@ -40,7 +41,7 @@ impl<'a> OffsetsAndLines<'a> {
     ghost use Rattle.std.specs.Prelude.{◌≡◌};
     ghost use Rattle.wasmprinter_tracker.specs.Cuts.{lines_at_starts, IsCuttable};
 
-    /// The lines of `text` that begin at `starts`. Takes no memory.
+    /// Returns an iterator over the lines of `text` that start at `starts`. Allocates no memory.
     pub fn new(text: &'a str, starts: Vec<LineStart>) -> OffsetsAndLines<'a>
         requires { IsCuttable starts.items text.now }
         ensures { result ≡ record { storage = text.now; lines = lines_at_starts starts.items text.now } }

@@ -1,4 +1,4 @@
-//! A printer that keeps its text and where its lines begin.
+//! A printer that keeps its text and the starts of its lines.
 ghost use Rattle.std.specs.Prelude.{◌≡◌, ◌+◌, ◌≤◌, ◌↔◌, false, IsTrue, length};
 ghost use Rattle.std.specs.String.{string_len, string_capacity};
 ghost use Rattle.wasmprinter_tracker.specs.Tracking.{tracked_meaning};
@@ -9,20 +9,20 @@ use std::io;
 use std::marker::Model;
 use wasmprinter_print::Print;
 
-/// A printer that appends to a text of its own, and keeps where the lines begin that are printed to it.
+/// A printer that appends to its own text, and records where each printed line starts.
 ///
-/// It leaves no trace of styles and takes no custom section itself. A call that writes text fails where memory is refused, with an error
-/// of the kind `OutOfMemory`, and then leaves the text and its lines as they were. The beginning of a line takes no memory: it waits for
-/// its entry until the next call that may fail. A line that begins before then is lost, and from there on those calls fail as if memory
-/// were refused.
+/// Styles write nothing, and no custom section is claimed. If an allocation fails, a call that writes text returns
+/// an error of the kind `OutOfMemory`, and leaves the text and its lines unchanged. `start_line` allocates
+/// nothing: the line waits for its entry until the next call that writes text. If another line starts before then,
+/// that line is lost, and all later calls that write text fail as if out of memory.
 #[derive(Drop)]
 pub struct Tracker {
     text: String,
-    /// The lines that have their entries, in order.
+    /// The lines that have entries, in order.
     starts: Vec<LineStart>,
-    /// The place of the line that waits for its entry, if one does; the line may have no place.
+    /// The place of the line that waits for its entry, if one does. The line itself may have no place.
     waiting: Option<Option<u64>>,
-    /// Whether a line began while one waited.
+    /// Whether a line started while another one waited.
     lost: bool,
 }
 
@@ -39,7 +39,7 @@ impl Model for Tracker {
     ghost invariant = { λ t. IsCuttable (t.starts.items ++ waiting_start t.waiting (length (string_bytes t.text))) (string_bytes t.text) };
 }
 
-/// Returns whether a piece fits into the remaining capacity of a text: appending it then needs no allocation.
+/// Reports whether a piece fits into the remaining capacity of a text, so that appending it needs no allocation.
 fn has_room(text: &String, piece: &str) -> bool
     ensures { IsTrue result ↔ (string_len text.now + length piece.now ≤ string_capacity text.now) }
 {
@@ -54,7 +54,7 @@ impl Tracker {
     ghost use Rattle.wasmprinter_tracker.specs.Tracked.{without_lines, with_text};
     ghost use Rattle.wasmprinter_tracker.specs.Cuts.{lines_at_starts, IsCuttable};
 
-    /// A tracker that appends to `text`, in which no line has begun. Takes no memory.
+    /// Returns a tracker that appends to `text`, without lines. Allocates no memory.
     pub fn new(alloc: Global, text: String) -> Tracker
         ensures { result ≡ without_lines (string_bytes text) }
     {
@@ -66,7 +66,8 @@ impl Tracker {
         }
     }
 
-    /// Gives the line that waits its entry. Fails where memory for it is refused or a line was lost, and then changes nothing.
+    /// Adds the entry of the line that waits. Returns an error and changes nothing if an allocation fails or a
+    /// line was lost.
     fn enter(&mut self) -> Result<(), AllocError>
         ensures ok { OnOk result (self.new ≡ record self.old { new_line = false }) }
         ensures kept { OnOk result (self.new.lost ≡ false) }
@@ -83,8 +84,8 @@ impl Tracker {
         Ok(())
     }
 
-    /// Appends a piece of text, behind the entry of the line that waits. Fails where memory is refused or a line was lost; the text and
-    /// its lines are then as they were.
+    /// Appends a piece of text, after the entry of the line that waits. Returns an error if an allocation fails or
+    /// a line was lost. The text and its lines are then unchanged.
     fn push_str(&mut self, piece: &str) -> Result<(), AllocError>
         ensures ok { OnOk result (self.new ≡ with_text self.old piece.now) }
         ensures kept { OnOk result (self.new.lost ≡ false) }
@@ -96,7 +97,8 @@ impl Tracker {
         Ok(())
     }
 
-    /// Appends a piece of text character by character: where memory is refused, those in front have been appended.
+    /// Appends a piece of text character by character. If an allocation fails, the characters before it have been
+    /// appended.
     fn write_by_chars(&mut self, piece: &str) -> io::Result<()>
         ensures { Emits tracked_meaning self.old self.new result (Text piece.now ∷ []) }
     {
@@ -106,11 +108,11 @@ impl Tracker {
         Ok(())
     }
 
-    /// The text, and where its lines begin.
+    /// Returns the text and the starts of its lines. The text is returned even if the line starts are not.
     ///
     /// # Errors
     ///
-    /// Where memory is refused to the last beginning of a line, or a line was lost before. The text is given back all the same.
+    /// - [`AllocError`] if an allocation for the last line start failed, or a line was lost before.
     pub fn finish(mut self) -> (String, Result<Vec<LineStart>, AllocError>)
         ensures text { string_bytes result.0 ≡ self.text }
         ensures lines { IfOk result.1 (λ starts. lines_at_starts starts.items self.text ≡ self.lines) }

@@ -1,4 +1,4 @@
--- A module is put together from its sections.
+-- Assembling a module from its sections.
 use Rattle.std.proofs.Common.{◌≡◌, ℕ, ◌+◌, ◌<◌, ◌≤◌, true, List, [], ◌∷◌, length, Option, Some, refl, sym, ap, ap₂, subst, ◌∙◌, arith, inl, inr, lit≤}
 use Rattle.std.specs.Prelude.{Bool, ◌&&◌, Result, Ok, Err, IsOk, IsOkUnless}
 use Rattle.std.proofs.lemmas.Bool.{and_parts}
@@ -33,8 +33,8 @@ use Rattle.wasmprinter_wasm.proofs.Pairing.{Paired, Pairs, paired_of, paired_len
 use Rattle.wasmprinter_wasm.proofs.OrderedSections.{HoldsFew, few_held}
 use Rattle.wasmprinter_wasm.proofs.Listed.{sections_listed, items_held}
 
--- what the bytes of a module are: a preamble, and sections in order with as many type indices as bodies, and as
--- many data segments as are counted
+-- The bytes after the preamble are sections in order, with as many type indices as bodies and as many data
+-- segments as the data count says. The module is assembled from them.
 record Spelled (at : Input) (m : PlacedModule) (size : ℕ) : Type 0 where
   sections : List Section
   read : sections_at at ≡ Some sections
@@ -44,7 +44,7 @@ record Spelled (at : Input) (m : PlacedModule) (size : ℕ) : Type 0 where
   pairs : function_pairs (type_indices_in sections) (bodies_in sections) ≡ Some functions
   is : module_from size sections functions ≡ m
 
--- modules of the same parts
+-- Modules with equal parts are equal.
 alike : {ts ts' : List (Placed TypeGroup)}
     {is is' : List (Placed Import)}
     {us us' : List PlacedTable}
@@ -64,17 +64,17 @@ alike : {ts ts' : List (Placed TypeGroup)}
     (record { types = ts'; imports = is'; tables = us'; memories = ms'; tags = gs'; globals = vs'; exports = es'; start = f'; elements = ss'; functions = fs'; datas = ds'; customs = cs'; size = n' })
 alike a b c d h i j k l m n o p = rw (a, b, c, d, h, i, j, k, l, m, n, o, p) refl
 
--- functions whose bodies have few locals have few
+-- If the number of locals in each body is within the limit, then so is that in each function.
 few_functions : (fs : List PlacedFunction) → AllByRecursion HasFew (bodies_of fs) → AllByRecursion HasFewLocals fs
 few_functions [] all = tt
 few_functions (f ∷ fs) all = (all.0, few_functions fs all.1)
 
 module _ (bytes pre : List ℕ) (at : Input) (first : preamble.parse (input 0 bytes) ≡ Some (pre, at)) where
-  -- the number of bytes, as the definitions count it
+  -- The number of bytes, as the definitions compute it.
   abbrev size : ℕ
   size = 0 + length bytes
 
-  -- what was put together
+  -- If the definitions assemble a module from sections, then these sections are as `Spelled` says.
   assembled_of : (ss : List Section) (m : PlacedModule) → sections_at at ≡ Some ss → module_of_sections size ss ≡ Some m → Spelled at m size
   assembled_of ss m read e =
       let up : Bool = are_above 0 ss in
@@ -92,7 +92,7 @@ module _ (bytes pre : List ℕ) (at : Input) (first : preamble.parse (input 0 by
         is = some_is (module_from size ss fs) m made;
       }
 
-  -- what the bytes of a module are
+  -- If the bytes encode a module, then its sections are as `Spelled` says.
   spelled_of : (m : PlacedModule) → Spells bytes m → Spelled at m size
   spelled_of m s =
       let read = binary.complete (input 0 bytes) m s.spelled in
@@ -105,16 +105,16 @@ module _ (bytes pre : List ℕ) (at : Input) (first : preamble.parse (input 0 by
       let same : ss ≡ all = ap (λ (x : List ℕ × List Section). x.1) (some_is (begun, ss) (front, all) whole) in
       assembled_of ss m (ap sections_at (sym there) ∙ ss_parsed) (ap (module_of_sections size) same ∙ made)
 
-  -- the sections stand behind the preamble
+  -- The sections come after the preamble.
   later : IsLater (input 0 bytes) at
   later = later_more preamble (input 0 bytes) (input 0 bytes) at pre first (later_none (input 0 bytes))
 
-  -- the functions are those of its sections
+  -- The functions of the module are formed by the type indices and bodies of its sections.
   functions_are : (m : PlacedModule) (s : Spelled at m size) → Paired (type_indices_in s.sections) (bodies_in s.sections) m.functions
   functions_are m s = subst (Paired (type_indices_in s.sections) (bodies_in s.sections)) (ap (λ (x : PlacedModule). x.functions) s.is)
       (paired_of (type_indices_in s.sections) (bodies_in s.sections) s.functions s.pairs)
 
-  -- what its sections hold it holds
+  -- If its sections have an item, then the module has one.
   holds_some : (m : PlacedModule) (s : Spelled at m size) → 0 < item_count_in s.sections → HoldsSome m
   holds_some m s some =
       let types : length m.types ≡ length (types_in s.sections) = ap (λ (x : PlacedModule). length x.types) (sym s.is) in
@@ -130,11 +130,11 @@ module _ (bytes pre : List ℕ) (at : Input) (first : preamble.parse (input 0 by
       let bodies = paired_length (type_indices_in s.sections) (bodies_in s.sections) s.functions s.pairs in
       omega (arith, (functions_are m s).count)
 
-  -- its tables are those of its sections
+  -- The tables of the module are those of its sections.
   tables_are : (m : PlacedModule) (s : Spelled at m size) → tables_in s.sections ≡ m.tables
   tables_are m s = ap (λ (x : PlacedModule). x.tables) s.is
 
-  -- sections were refused
+  -- A true reason for an error of the sections is a true reason for that error of the module.
   pub module_fault : end_of at ≡ length bytes → (f : Error) → HasReason (sections_reasons at) f → IsFaultOf bytes f
   module_fault ends = reason_implied (sections_reasons at) (module_reasons bytes ⊥) (record {
     malformed = λ place h. (λ m s. let p = spelled_of m s in h.0 p.sections p.read p.rise, omega (arith, h.1, ends));
@@ -157,17 +157,18 @@ module _ (bytes pre : List ℕ) (at : Input) (first : preamble.parse (input 0 by
     memory = λ h. (kept_later (input 0 bytes) at later h.0, λ m s. let p = spelled_of m s in holds_some m p (h.1 p.sections p.read p.rise));
   })
 
-  -- the sections stand there
+  -- The sections were read.
   module _ (g : Gathered) (h : HoldsSections at g) where
-    -- what was gathered keeps the limits
+    -- The gathered contents are within the limits.
     few : HoldsFew g
     few = few_held g h.sections h.small h.held
 
-    -- the sections of a module that is spelled are these
+    -- If the bytes encode a module, then its sections are the ones that were read.
     those : (m : PlacedModule) (p : Spelled at m size) → p.sections ≡ h.sections
     those m p = some_is p.sections h.sections (sym p.read ∙ h.read)
 
-    -- but the numbers of type indices and bodies differ, or the data count is wrong
+    -- If the numbers of type indices and bodies differ, or the data count is wrong, then the bytes are malformed
+    -- at their end.
     pub module_unpaired : (IsWhole g → ⊥) → IsFaultOf bytes (e.Malformed (length bytes))
     module_unpaired ne = (
       λ m s.
@@ -185,16 +186,16 @@ module _ (bytes pre : List ℕ) (at : Input) (first : preamble.parse (input 0 by
       omega arith,
     )
 
-    -- and the numbers of type indices and bodies are the same, and the data count is right
+    -- The numbers of type indices and bodies are equal, and the data count is right.
     module _ (whole : IsWhole g) where
-      -- so they can be paired, and of bytes are read no more items than their counts can say
+      -- The type indices and bodies can be paired, and no list is longer than its count can say.
       pub module_kept : AreBytes bytes → IsPaired g.type_indices g.bodies × HasFewItems g.imports g.tables g.memories g.tags g.globals
       module_kept all =
           let s = preamble.sound (input 0 bytes) (pre, at) first in
           let rest : AreBytes at.bytes = (all_parts (λ b. b < 256) s.text at.bytes (subst AreBytes s.parts all)).1 in
           (record { same = whole.as_many; few = few.functions }, items_held g h.sections (sections_listed at h.sections h.read rest) h.held)
 
-      -- the module that is put together
+      -- The assembled module.
       abbrev module_of_gathered : PlacedModule
       module_of_gathered = record {
         types = g.types;
@@ -212,34 +213,34 @@ module _ (bytes pre : List ℕ) (at : Input) (first : preamble.parse (input 0 by
         size = length bytes;
       }
 
-      -- the functions that are paired
+      -- The gathered type indices and bodies form functions.
       made : Pairs g.type_indices g.bodies
       made = pairs_of g.type_indices g.bodies whole.as_many
 
-      -- they are those of the module
+      -- These functions are those of the assembled module.
       functions_made : functions_of g.type_indices g.bodies ≡ made.functions
       functions_made = rw made.are refl
 
-      -- and those of the sections
+      -- The type indices and bodies of the sections form the same functions.
       pairs : function_pairs (type_indices_in h.sections) (bodies_in h.sections) ≡ Some made.functions
       pairs = ap (λ (is : List ℕ). function_pairs is (bodies_in h.sections)) (sym (h.held FunctionSection)) ∙ ap (function_pairs g.type_indices) (sym (h.held CodeSection)) ∙ made.are
 
-      -- the data count of the sections is right
+      -- The data count of the sections is right.
       counts : counts_data (data_count_in h.sections) (length (datas_in h.sections)) ≡ true
       counts = ap₂ (λ (n : Option ℕ) (ds : List (Placed (Data (Placed Operator)))). counts_data n (length ds)) (sym (h.held DataCountSection)) (sym (h.held DataSection)) ∙ whole.counted
 
-      -- the definitions read a module of them
+      -- The definitions read the module of these sections and functions from the bytes.
       read : binary.parse (input 0 bytes) ≡ Some (module_from size h.sections made.functions)
       read = rw (first, h.read, h.rise, counts, pairs) refl
 
-      -- the bytes spell the module
+      -- The bytes encode the assembled module.
       pub module_spelled : AreBytes bytes → Spells bytes module_of_gathered
       module_spelled all =
           let same_module : module_from size h.sections made.functions ≡ module_of_gathered =
           alike (sym (h.held TypeSection)) (sym (h.held ImportSection)) (sym (h.held TableSection)) (sym (h.held MemorySection)) (sym (h.held TagSection)) (sym (h.held GlobalSection)) (sym (h.held ExportSection)) (sym (h.held StartSection)) (sym (h.held ElementSection)) (sym functions_made) (sym (h.held DataSection)) (sym (h.held CustomSection)) (omega arith) in
           record { are_bytes = all; spelled = binary.sound (input 0 bytes) module_of_gathered (read ∙ ap (λ (m : PlacedModule). Some m) same_module) }
 
-      -- the module is within the limits
+      -- The assembled module is within the limits.
       pub module_within : IsWithinLimits module_of_gathered
       module_within =
           let p = paired_of g.type_indices g.bodies made.functions made.are in
@@ -250,19 +251,20 @@ module _ (bytes pre : List ℕ) (at : Input) (first : preamble.parse (input 0 by
             functions = omega (arith, ap length functions_made, p.count, few.functions);
           }
 
--- a function of too many locals is not among functions of few
+-- If every function is within the limit of locals, then no function exceeds it.
 over_few : (place : ℕ) (fs : List PlacedFunction) → AllByRecursion HasFewLocals fs → AnyIsOver place (bodies_of fs) → ⊥
 over_few place [] few over = over
 over_few place (f ∷ fs) few (inl here) = absurd (omega (arith, here.1, few.0))
 over_few place (f ∷ fs) few (inr there) = over_few place fs few.1 there
 
--- nor is a table with an empty initialiser among tables without one
+-- If no table has an empty initialiser, then there is no first one that has.
 empty_none : (place : ℕ) (ts : List PlacedTable) → AllByRecursion HasNoEmpty ts → FirstIsEmpty place ts → ⊥
 empty_none place [] none any = any
 empty_none place (t ∷ ts) none (inl here) = not_empty t.value.init none.0 here.1
 empty_none place (t ∷ ts) none (inr there) = empty_none place ts none.1 there.1
 
--- where a module within the limits is spelled, and no component, memory was what was wanting, and it holds something
+-- If the bytes encode a module within the limits, and an error other than `Component` has a true reason, then the
+-- error is `Memory`, and the module has an item.
 pub within_fault : (bytes : List ℕ) (f : Error) → IsFaultOf bytes f → (m : PlacedModule) → Spells bytes m → IsWithinLimits m → (f ≡ e.Memory) × HoldsSome m
 within_fault bytes f h m s w =
     let (is, (stands, some)) =
@@ -271,12 +273,12 @@ within_fault bytes f h m s w =
     (λ place r. empty_none place m.tables w.tables (r.1 m s)) f h in
     (is, some m s)
 
--- the same of a result
+-- If the bytes encode a module within the limits, then the result is a module or the error `Memory`.
 pub within_alone : (bytes : List ℕ) (r : Result PlacedModule Error) → TakesModule bytes r → (m : PlacedModule) → Spells bytes m → IsWithinLimits m → IsOkUnless r e.Memory
 within_alone bytes (Ok x) h m s w = tt
 within_alone bytes (Err f) h m s w = (within_fault bytes f h m s w).0
 
--- a module that holds nothing is within the limits
+-- A module without items is within the limits.
 nothing_within : (m : PlacedModule) → HoldsNothing m → IsWithinLimits m
 nothing_within m none =
     let nil : m.functions ≡ [] = nil_from_length m.functions (omega arith) in
@@ -284,7 +286,7 @@ nothing_within m none =
     let least : 0 ≤ most_functions = lit≤ tt in
     record { tables = subst (AllByRecursion HasNoEmpty) (sym no_tables) tt; locals = subst (AllByRecursion HasFewLocals) (sym nil) tt; functions = omega (arith, least) }
 
--- bytes that spell such a module are never refused
+-- If the bytes encode a module without items, then the result is a module.
 pub nothing_decoded : (bytes : List ℕ) (r : Result PlacedModule Error) → TakesModule bytes r → (m : PlacedModule) → Spells bytes m → HoldsNothing m → IsOk r
 nothing_decoded bytes (Ok x) h m s none = refl
 nothing_decoded bytes (Err f) h m s none =

@@ -1,4 +1,4 @@
--- Faults of what a section holds are faults of the section.
+-- The reasons for errors of a section's content are reasons for errors of the section.
 use Rattle.std.proofs.Common.{◌≡◌, ℕ, ◌<◌, ◌≤◌, List, [], ◌∷◌, ◌++◌, length, Option, Some, None, refl, sym, ap, subst, ◌∙◌, arith, length-append, append_assoc}
 use Rattle.std.specs.Prelude.{Result, Ok, Err}
 use Rattle.wasmprinter_spec.specs.Grammar.{Input, ◌>>=◌, bind_some, some_is, byte}
@@ -17,51 +17,51 @@ use Rattle.wasmprinter_entries.specs.Contents.{HasOver, HasEmpty, HasCount, item
 use Rattle.wasmprinter_entries.proofs.Parts.{sized, sized_is, sized_none, sized_some, old_parts, part_within}
 use Rattle.wasmprinter_entries.proofs.LaterPlaces.{many_in_part, IsLater, later_none, later_more, many_later, empty_later, empty_in_part}
 
--- an id and a size were read, and so many bytes cut out
+-- An id and a size were read, and that many bytes cut out.
 module _ (old behind mid part new : Input) (id size : ℕ) (id_read : byte.parse old ≡ Some (id, behind)) (size_read : u32.parse behind ≡ Some (size, mid))
     (cut : front_at size mid ≡ Some (part.bytes, new)) (begins : part.place ≡ mid.place) where
-  -- the size stands behind the id
+  -- The size comes after the id.
   later : IsLater old behind
   later = later_more byte old old behind id id_read (later_none old)
 
-  -- a place in the part is one in the whole
+  -- A place that is not after the end of the part is not after the end of the whole.
   within : (place : ℕ) → place ≤ end_of part → place ≤ end_of old
   within place le =
       let p = part_within behind mid part new size size_read cut begins in
       omega (arith, ap length later.parts, later.begins, length-append later.text behind.bytes)
 
-  -- there are no sections with the id
+  -- If no kind has the id, then no section is read.
   no_section : kind_of id ≡ None → section.parse old ≡ None
   no_section none = rw (id_read, none) refl
 
-  -- the id is that of a kind
+  -- The id is that of a kind.
   module _ (kind : Kind) (is : kind_of id ≡ Some kind) where
-    -- the section with what was read
+    -- The section with the content that was read.
     abbrev made : Option ((ℕ × Content kind) × Input) → Option (Section × Input)
     made r = r >>= λ ((_, c), rest). Some (holds kind c, rest)
 
-    -- the kind in front of the section
+    -- The section, paired with its kind.
     abbrev with_kind : Option (Section × Input) → Option ((Kind × Section) × Input)
     with_kind r = r >>= λ b. Some ((kind, b.0), b.1)
 
-    -- the section alone
+    -- The section, paired with its kind and then without it.
     abbrev behind_kind : Option (Section × Input) → Option (Section × Input)
     behind_kind r = with_kind r >>= λ ((_, s), rest). Some (s, rest)
 
-    -- to put the kind in front and to take it off is nothing
+    -- Pairing a section with its kind and dropping the kind again changes nothing.
     regroup : (r : Option (Section × Input)) → behind_kind r ≡ r
     regroup None = refl
     regroup (Some a) = refl
 
-    -- a section is read as its part is
+    -- Reading a section is reading its sized content.
     into : section.parse old ≡ made ((sized behind mid part new size size_read cut begins (content kind)).parse behind)
     into = rw (id_read, is) (regroup (made ((sized behind mid part new size size_read cut begins (content kind)).parse behind)))
 
-    -- what is read of the part is the section
+    -- If the part is read as content, then the section with this content is read.
     section_read : (c : Content kind) → (content kind).parse part ≡ Some c → section.parse old ≡ Some (holds kind c, new)
     section_read c e = into ∙ ap made (sized_is behind mid part new size size_read cut begins (content kind)) ∙ rw e refl
 
-    -- the section that stands there is read of the part
+    -- If a section is read, then its content is read from the part.
     section_content : (x : Section × Input) → section.parse old ≡ Some x → (c : Content kind) × ((content kind).parse part ≡ Some c) × (holds kind c ≡ x.0)
     section_content x r =
         let (((front, c), after), parsed, given) =
@@ -72,11 +72,11 @@ module _ (old behind mid part new : Input) (id size : ℕ) (id_read : byte.parse
           ap (λ (y : Section × Input). y.0) (some_is (holds kind c, after) x given),
         )
 
-    -- what is so of the section, if the part spells one, is so of the section that stands there
+    -- If `P` holds for the section with the content of the part, then it holds for the section that is read.
     of_section : (P : Section → Type 0) → ((c : Content kind) → (content kind).parse part ≡ Some c → P (holds kind c)) → (x : Section × Input) → section.parse old ≡ Some x → P x.0
     of_section P h x r = let (c, parsed, is) = section_content x r in subst P is (h c parsed)
 
-    -- a section of the kind and a count begins there
+    -- A section of the kind begins here, with the count.
     begun : (count : ℕ) → CountStands part count → BeginsSection old kind count
     begun count c =
         let first = byte.sound old (id, behind) id_read in
@@ -97,7 +97,7 @@ module _ (old behind mid part new : Input) (id size : ℕ) (id_read : byte.parse
           counted = n.spelled;
         }
 
-    -- a fault of the content is one of the section
+    -- A true reason for an error of the content is a true reason for that error of the section.
     kind_fault : (f : Error) → HasReason (content_reasons kind part) f → HasReason (section_reasons old) f
     kind_fault = reason_implied (content_reasons kind part) (section_reasons old) (record {
       malformed = λ place h. (into ∙ ap made (sized_none behind mid part new size size_read cut begins (content kind) h.0), within place h.1);
@@ -124,11 +124,11 @@ module _ (old behind mid part new : Input) (id size : ℕ) (id_read : byte.parse
       );
     })
 
-  -- no section with the id is spelled
+  -- If no kind has the id, then the section is malformed at the id.
   none_fault : kind_of id ≡ None → (f : Error) → f ≡ AtPlace old.place → HasReason (section_reasons old) f
   none_fault none f e = rw e (no_section none, omega arith)
 
-  -- what was taken of the part is taken of the whole
+  -- The result of reading the part is a result of reading the section.
   section_taken : (o : Option Kind) → kind_of id ≡ o → (r : Result SectionRead Error) → TakesContent old.place o part r → TakesSection old r new
   section_taken (Some kind) is (Ok s) h =
       let (c, parsed, given) = bind_some ((content kind).parse part) (λ x. Some (holds kind x)) (section_view s) h.0 in

@@ -1,4 +1,4 @@
--- A function with a number, from the list of type indices and that of bodies.
+-- The function with a given number, from the list of type indices and the list of bodies.
 use Rattle.std.proofs.Common.{◌≡◌, ℕ, zero, suc, ◌<◌, get_or, List, [], ◌∷◌, length, Some, refl, ap, ◌∙◌, arith}
 use Rattle.std.specs.Prelude.{slice_get}
 use Rattle.wasmprinter_spec.specs.Grammar.{Placed}
@@ -6,12 +6,12 @@ use Rattle.wasmprinter_spec.specs.Placed.{Body}
 use Rattle.wasmprinter_wasm.specs.Modules.{functions_of}
 use Rattle.wasmprinter_wasm.proofs.Pairing.{pairs_of}
 
--- the first function, and the others
+-- The functions of two nonempty lists are the first type index with the first body, then those of the tails.
 functions-cons : (i : ℕ) (is : List ℕ) (b : Placed Body) (bs : List (Placed Body)) → length is ≡ length bs →
     functions_of (i ∷ is) (b ∷ bs) ≡ record { type_index = i; body = b } ∷ functions_of is bs
 functions-cons i is b bs e = let p = pairs_of is bs e in rw p.are refl
 
--- the function with a number has the type index and the body with that number
+-- The function with number `n` has the type index and the body with number `n`.
 pub function-at : (is : List ℕ) (bs : List (Placed Body)) (n d : ℕ) (c : Placed Body) → length is ≡ length bs → n < length is →
     slice_get (functions_of is bs) n ≡ Some (record { type_index = get_or is n d; body = get_or bs n c })
 function-at [] bs n d c e h = absurd (omega arith)

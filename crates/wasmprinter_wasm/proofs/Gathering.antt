@@ -17,14 +17,14 @@ use Rattle.wasmprinter_entries.proofs.LaterPlaces.{IsLater, later_none, later_mo
 use Rattle.wasmprinter_wasm.proofs.ItemsToEnd.{in_front, until_item, until_fault, until_done}
 use Rattle.wasmprinter_wasm.proofs.OrderedSections.{custom_kind, last_place, last_place_push, kept_none, kept_with, kept_push, kept_added, some_midst, count_midst, over_midst, empty_midst}
 
--- a section takes a byte
+-- A section has at least one byte.
 pub takes_byte : (at : Input) (x : Section × Input) → section.parse at ≡ Some x → length x.1.bytes < length at.bytes
 takes_byte at x r =
     let s = section.sound at x r in
     let (pair, kept, (front, behind, joined, (id, of_kind, id_spelled), spelled)) = s.spelled in
     omega (arith, ap length s.parts, length-append s.text x.1.bytes, ap length joined, length-append front behind, ap length id_spelled)
 
--- sections that were read, from the start to a place
+-- The invariant of the loop: the sections from `start` to `at` were read, and `g` has their contents.
 pub record Gathering (start at : Input) (g : Gathered) : Type 0 where
   pub sections : List Section
   pub is : sections_at start ≡ in_front sections (sections_at at)
@@ -36,12 +36,12 @@ pub record Gathering (start at : Input) (g : Gathered) : Type 0 where
   pub later : IsLater start at
   pub ends : end_of at ≡ end_of start
 
--- no sections in front change nothing
+-- Putting no sections before a result leaves it unchanged.
 front_nil : (r : Option (List Section)) → r ≡ in_front [] r
 front_nil None = refl
 front_nil (Some ss) = refl
 
--- before the loop none was read
+-- Before the loop no section was read.
 pub gathering_none : (at : Input) (g : Gathered) → g ≡ none_gathered → Gathering at at g
 gathering_none at g same = record {
   sections = [];
@@ -55,23 +55,23 @@ gathering_none at g same = record {
   ends = refl;
 }
 
--- a section behind those in front is one of them
+-- Putting one section and then others before a result is the same as putting all of them before it.
 front_front : (xs : List Section) (s : Section) (r : Option (List Section)) → in_front xs (in_front (s ∷ []) r) ≡ in_front (xs ++ s ∷ []) r
 front_front xs s None = refl
 front_front xs s (Some ss) = ap (λ (ys : List Section). Some ys) (sym (append_assoc xs (s ∷ []) ss))
 
--- one more section within the limits
+-- If all sections and one more are within the limits, then so is the longer list.
 small-push : (ss : List Section) (s : Section) → AllByRecursion IsSmall ss → IsSmall s → AllByRecursion IsSmall (ss ++ s ∷ [])
 small-push [] s all small = (small, tt)
 small-push (x ∷ xs) s all small = (all.0, small-push xs s all.1 small)
 
--- a section was read
+-- A section was read.
 module _ (start at after : Input) (g : Gathered) (s : Section) (read : section.parse at ≡ Some (s, after)) (k : Gathering start at g) where
-  -- what is read behind it
+  -- The sections from `start` are those read so far, this one, and those read after it.
   one_more : sections_at start ≡ in_front (k.sections ++ s ∷ []) (sections_at after)
   one_more = k.is ∙ ap (in_front k.sections) (until_item section takes_byte at after s read) ∙ front_front k.sections s (sections_at after)
 
-  -- it stands in order
+  -- If the section is in order, then the invariant holds after it.
   pub gathering_more : IsSmall s → follows g.rank (rank (section_kind s)) ≡ true → end_of after ≡ end_of at → (next : Gathered) → next ≡ with_section g s → Gathering start after next
   gathering_more small on ends next same = record {
     sections = k.sections ++ s ∷ [];
@@ -87,7 +87,7 @@ module _ (start at after : Input) (g : Gathered) (s : Section) (read : section.p
     ends = ends ∙ k.ends;
   }
 
-  -- it doesn't
+  -- If the section is out of order, then the bytes from `start` are not sections in order.
   pub gathering_unordered : follows g.rank (rank (section_kind s)) ≡ false → (ss : List Section) → sections_at start ≡ Some ss → are_above 0 ss ≡ true → ⊥
   gathering_unordered off ss r up =
       let (rest, parsed, whole) = bind_some (sections_at after) (λ ys. Some ((k.sections ++ s ∷ []) ++ ys)) ss (sym one_more ∙ r) in
@@ -98,9 +98,9 @@ module _ (start at after : Input) (g : Gathered) (s : Section) (read : section.p
       ap (λ (r : ℕ). follows r (rank (section_kind s))) k.rank ∙ above_midst 0 k.sections s rest rise in
       absurd (let clash : false ≡ true = sym off ∙ on in cc)
 
--- a section was refused
+-- Reading a section returned an error.
 module _ (start at : Input) (g : Gathered) (some : at.bytes ≡ [] → ⊥) (k : Gathering start at g) where
-  -- the section that stands there, if sections up to the end do
+  -- The section at `at`, as one of the sections `ss`.
   record Next (ss : List Section) : Type 0 where
     item : Section
     after : Input
@@ -108,7 +108,7 @@ module _ (start at : Input) (g : Gathered) (some : at.bytes ≡ [] → ⊥) (k :
     first : section.parse at ≡ Some (item, after)
     all : k.sections ++ item ∷ rest ≡ ss
 
-  -- there is one where sections up to the end were read
+  -- If sections up to the end are read, then there is a section at `at`.
   next_of : (r : Option (Section × Input)) → section.parse at ≡ r → (ss : List Section) → sections_at start ≡ Some ss → Next ss
   next_of None e ss read =
       let none : sections_at start ≡ None = k.is ∙ ap (in_front k.sections) (until_fault section takes_byte at some e) in
@@ -124,7 +124,7 @@ module _ (start at : Input) (g : Gathered) (some : at.bytes ≡ [] → ⊥) (k :
         all = sym (append_assoc k.sections (s ∷ []) rest) ∙ some_is ((k.sections ++ s ∷ []) ++ rest) ss whole;
       }
 
-  -- what is so of the section, if one stands there, is so of sections in order, if they do
+  -- If `P` holds for the section at `at`, if there is one, then `Q` holds for all sections, if they are in order.
   of_sections : (P : Section → Type 0) (Q : List Section → Type 0) → ((xs : List Section) (s : Section) (ys : List Section) → are_above 0 (xs ++ s ∷ ys) ≡ true → P s → Q (xs ++ s ∷ ys))
       → ((x : Section × Input) → section.parse at ≡ Some x → P x.0) → (ss : List Section) → sections_at start ≡ Some ss → are_above 0 ss ≡ true → Q ss
   of_sections P Q midst h ss read up =
@@ -132,7 +132,7 @@ module _ (start at : Input) (g : Gathered) (some : at.bytes ≡ [] → ⊥) (k :
       let rise : are_above 0 (k.sections ++ n.item ∷ n.rest) ≡ true = ap (are_above 0) n.all ∙ up in
       subst Q n.all (midst k.sections n.item n.rest rise (h (n.item, n.after) n.first))
 
-  -- none is spelled there
+  -- If there is no section at `at`, then the bytes from `start` are not sections in order.
   malformed_fault : (place : ℕ) → (section_reasons at).malformed place → (sections_reasons start).malformed place
   malformed_fault place h = (
     λ ss read up.
@@ -142,7 +142,7 @@ module _ (start at : Input) (g : Gathered) (some : at.bytes ≡ [] → ⊥) (k :
     omega (arith, h.1, k.ends),
   )
 
-  -- a fault of a section is one of all sections
+  -- A true reason for an error of one section is a true reason for that error of all sections.
   pub gathering_fault : (f : Error) → HasReason (section_reasons at) f → HasReason (sections_reasons start) f
   gathering_fault = reason_implied (section_reasons at) (sections_reasons start) (record {
     malformed = malformed_fault;
@@ -157,7 +157,8 @@ module _ (start at : Input) (g : Gathered) (some : at.bytes ≡ [] → ⊥) (k :
     memory = λ h. (kept_later start at k.later (inl h.0), of_sections (λ (s : Section). 0 < item_count s) (λ (ss : List Section). 0 < item_count_in ss) some_midst h.1);
   })
 
-  -- memory was wanting to keep a section, which is a custom one
+  -- If an allocation failed when a section was stored, then the section is a custom one, and `Memory` has a true
+  -- reason.
   pub gathering_unkept : (s : Section) (after : Input) → section.parse at ≡ Some (s, after) → section_kind s ≡ CustomSection → (sections_reasons start).memory
   gathering_unkept s after read is =
       let c = custom_kind s is in
@@ -169,7 +170,7 @@ module _ (start at : Input) (g : Gathered) (some : at.bytes ≡ [] → ⊥) (k :
         of_sections (λ (s : Section). 0 < item_count s) (λ (ss : List Section). 0 < item_count_in ss) some_midst one,
       )
 
--- nothing is left
+-- If no byte is left, then all sections were read.
 pub gathering_done : (start at : Input) (g : Gathered) → at.bytes ≡ [] → Gathering start at g → HoldsSections start g
 gathering_done start at g none k = record {
   sections = k.sections;

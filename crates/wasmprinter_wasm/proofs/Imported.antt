@@ -1,4 +1,4 @@
--- How many imports are of a kind.
+-- The number of imports of a kind.
 use Rattle.std.proofs.Common.{◌≡◌, ℕ, suc, ◌+◌, ◌<◌, ◌≤◌, get_or, drop, List, [], ◌∷◌, length, refl, sym, ap, subst, ◌∙◌}
 use Rattle.std.proofs.Math.ListN.{drop_of_length-le}
 use Rattle.std.proofs.lemmas.List.{at_drop_more}
@@ -7,7 +7,7 @@ use Rattle.wasmprinter_spec.specs.Types.{ExternKind, FuncKind, TableKind, Memory
 use Rattle.wasmprinter_spec.specs.Placed.{Import}
 use Rattle.wasmprinter_entries.specs.Externs.{kind_of_type, imported_count}
 
--- an import of the kind in front is one more
+-- An import of the kind at the front increases the count by one.
 one_of : (t : ExternType) (x : Placed Import) (xs : List (Placed Import)) → x.value.type ≡ t → imported_count (kind_of_type t) (x ∷ xs) ≡ suc (imported_count (kind_of_type t) xs)
 one_of (FuncExtern i) x xs e = rw e refl
 one_of (TableExtern i) x xs e = rw e refl
@@ -15,7 +15,7 @@ one_of (MemoryExtern i) x xs e = rw e refl
 one_of (GlobalExtern i) x xs e = rw e refl
 one_of (TagExtern i) x xs e = rw e refl
 
--- one of another kind is not
+-- An import of another kind at the front leaves the count unchanged.
 none_of : (k : ExternKind) (t : ExternType) (x : Placed Import) (xs : List (Placed Import)) → x.value.type ≡ t → (kind_of_type t ≡ k → ⊥)
     → imported_count k (x ∷ xs) ≡ imported_count k xs
 none_of FuncKind (FuncExtern i) x xs e ne = absurd (ne refl)
@@ -44,7 +44,7 @@ none_of TagKind (MemoryExtern i) x xs e ne = rw e refl
 none_of TagKind (GlobalExtern i) x xs e ne = rw e refl
 none_of TagKind (TagExtern i) x xs e ne = absurd (ne refl)
 
--- imports from one on
+-- The number of imports of the kind from number `i` on.
 abbrev pub count_from : ExternKind → List (Placed Import) → ℕ → ℕ
 count_from k is i = imported_count k (drop i is)
 
@@ -52,15 +52,15 @@ module _ (k : ExternKind) (is : List (Placed Import)) (i : ℕ) (x d : Placed Im
   next : count_from k is i ≡ imported_count k (x ∷ drop (i + 1) is)
   next = at_drop_more (imported_count k) is i d lt ∙ ap (λ (y : Placed Import). imported_count k (y ∷ drop (i + 1) is)) (sym same)
 
-  -- the next is of the kind
+  -- If the next import is of the kind, then the count from it on is one more than the count after it.
   pub count_one : kind_of_type x.value.type ≡ k → count_from k is i ≡ suc (count_from k is (i + 1))
   count_one e = next ∙ subst (λ (l : ExternKind). imported_count l (x ∷ drop (i + 1) is) ≡ suc (imported_count l (drop (i + 1) is))) e (one_of x.value.type x (drop (i + 1) is) refl)
 
-  -- it is of another
+  -- If the next import is of another kind, then both counts are equal.
   pub count_other : (kind_of_type x.value.type ≡ k → ⊥) → count_from k is i ≡ count_from k is (i + 1)
   count_other ne = next ∙ none_of k x.value.type x (drop (i + 1) is) refl ne
 
--- none is left
+-- Among no imports the count is 0.
 nothing : (k : ExternKind) → imported_count k [] ≡ 0
 nothing FuncKind = refl
 nothing TableKind = refl

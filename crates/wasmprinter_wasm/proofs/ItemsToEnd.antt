@@ -5,20 +5,20 @@ use Rattle.wasmprinter_spec.specs.Grammar.{Input, Grammar, ◌>>=◌}
 use Rattle.wasmprinter_spec.specs.Repeated.{entries_at, until_end}
 use Rattle.wasmprinter_ops.proofs.Stepping.{bind_same}
 
--- what is read, behind other items
+-- The result of reading, with other items before it.
 abbrev pub in_front : {A : Type 0} → List A → Option (List A) → Option (List A)
 in_front xs r = r >>= λ ys. Some (xs ++ ys)
 
 module _ {A : Type 0} (g : Grammar A) (takes_byte : (at : Input) (x : A × Input) → g.parse at ≡ Some x → length x.1.bytes < length at.bytes) where
-  -- items up to the end
+  -- Reads items up to the end of the bytes.
   abbrev items : Input → Option (List A)
   items at = (until_end g).parse at
 
-  -- the item in front, and what `rest` reads behind it
+  -- The first item, then what `rest` reads after it.
   abbrev item_and : (Input → Option (List A)) → Input → A × Input → Option (List A)
   item_and rest at x = cond (ltb (length x.1.bytes) (length at.bytes)) (in_front (x.0 ∷ []) (rest x.1)) None
 
-  -- it doesn't matter how many items are allowed, if there are as many as bytes
+  -- Two limits on the number of items, both at least the number of bytes, give the same result.
   enough : (n m : ℕ) (at : Input) → length at.bytes ≤ n → length at.bytes ≤ m → entries_at g n at ≡ entries_at g m at
   enough zero zero at le lf = refl
   enough zero (suc m) at le lf = let none : length at.bytes ≡ 0 = omega arith in rw (eq-eqb (length at.bytes) 0 none) refl
@@ -29,7 +29,7 @@ module _ {A : Type 0} (g : Grammar A) (takes_byte : (at : Input) (x : A × Input
       let lt : length x.1.bytes < length at.bytes = takes_byte at x e in
       ap (λ (r : Option (List A)). cond (ltb (length x.1.bytes) (length at.bytes)) (in_front (x.0 ∷ []) r) None) (enough n m x.1 (omega arith) (omega arith))))
 
-  -- where a byte is left an item is read
+  -- If a byte is left, then an item is read, and then the items after it.
   more : (n : ℕ) (at : Input) → length at.bytes ≡ suc n → items at ≡ (g.parse at >>= λ x. item_and items at x)
   more n at l =
       ap (λ (k : ℕ). entries_at g k at) l
@@ -38,22 +38,22 @@ module _ {A : Type 0} (g : Grammar A) (takes_byte : (at : Input) (x : A × Input
       let lt : length x.1.bytes < length at.bytes = takes_byte at x e in
       ap (λ (r : Option (List A)). cond (ltb (length x.1.bytes) (length at.bytes)) (in_front (x.0 ∷ []) r) None) (enough n (length x.1.bytes) x.1 (omega arith) (omega arith))))
 
-  -- some bytes have a length above 0
+  -- A list that is not empty has a length above 0.
   some_length : (bytes : List ℕ) → (bytes ≡ [] → ⊥) → (n : ℕ) × (length bytes ≡ suc n)
   some_length [] some = absurd (some refl)
   some_length (b ∷ bs) some = (length bs, omega arith)
 
-  -- an item stands in front
+  -- If an item is read first, then the items are this one and those after it.
   pub until_item : (at after : Input) (x : A) → g.parse at ≡ Some (x, after) → items at ≡ in_front (x ∷ []) (items after)
   until_item at after x e =
       let lt : length after.bytes < length at.bytes = takes_byte at (x, after) e in
       let n = some_length at.bytes (λ z. omega (arith, ap length z)) in
       more n.0 at n.1 ∙ rw (e, lt-ltb (length after.bytes) (length at.bytes) lt) refl
 
-  -- no item stands in front
+  -- If bytes are left but no item is read, then reading the items fails.
   pub until_fault : (at : Input) → (at.bytes ≡ [] → ⊥) → g.parse at ≡ None → items at ≡ None
   until_fault at some e = let n = some_length at.bytes some in more n.0 at n.1 ∙ rw e refl
 
-  -- nothing is left
+  -- If no byte is left, then there are no items.
   pub until_done : (at : Input) → at.bytes ≡ [] → items at ≡ Some []
   until_done at e = ap (λ (k : ℕ). entries_at g k at) (ap length e) ∙ rw (eq-eqb (length at.bytes) 0 (ap length e)) refl

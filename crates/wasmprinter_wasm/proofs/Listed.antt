@@ -1,4 +1,4 @@
--- Lists have fewer than 2 ^ 32 items, since a count of 32 bits stands in front of them.
+-- Lists have fewer than 2 ^ 32 items, because a count of 32 bits comes before them.
 use Rattle.std.proofs.Common.{◌≡◌, ℕ, ◌+◌, ◌-◌, ◌^◌, ◌<◌, lit≤, List, [], ◌∷◌, length, Some, sym, ap, subst, ◌∙◌, inl, inr, arith}
 use Rattle.std.specs.List.{AllByRecursion}
 use Rattle.wasmprinter_spec.specs.Grammar.{Input, Grammar, some_is, value_with_place}
@@ -26,7 +26,7 @@ use Rattle.wasmprinter_entries.specs.Contents.{item_count}
 use Rattle.wasmprinter_wasm.specs.Modules.{HasFewItems}
 use Rattle.wasmprinter_wasm.specs.Gathering.{Gathered, IsHeld, sections_at}
 
--- what bytes spell in so many bits fits in them
+-- A number that bytes encode in `bits` bits is below 2 ^ `bits`.
 unsigned_below : (text : List ℕ) (bits n : ℕ) → AreBytes text → IsUnsigned bits text n → n < 2 ^ bits
 unsigned_below [] bits n all s = absurd s
 unsigned_below (b ∷ bs) bits n all (inl (last, fits, none_behind, is)) = omega (arith, fits, is)
@@ -34,7 +34,7 @@ unsigned_below (b ∷ bs) bits n all (inr (more, has_room, high, joined, spelled
     let below : high < 2 ^ (bits - 7) = unsigned_below bs (bits - 7) high all.1 spelled in
     omega (arith, joined_fits bits b high has_room all.0 below, joined)
 
--- a list has as many items as its count says
+-- A list has as many items as its count says, so fewer than 2 ^ 32.
 vec_listed : {A : Type 0} (g : Grammar A) (p : ℕ) (text : List ℕ) (xs : List A) → AreBytes text → (vec g).spells p text xs → length xs < 2 ^ 32
 vec_listed g p text xs all s =
     let ((count, items), kept, (front, behind, joined, count_spelled, (many, spelled))) = s in
@@ -42,11 +42,11 @@ vec_listed g p text xs all s =
     let same : length xs ≡ count = ap length (sym (some_is items xs kept)) ∙ many in
     omega (arith, same, unsigned_below front 32 count apart.0 count_spelled)
 
--- the section holds so many items
+-- The section has fewer than 2 ^ 32 items.
 abbrev IsListed : Section → Type 0
 IsListed s = item_count s < 2 ^ 32
 
--- what a section of each kind holds
+-- The content of a section of each kind has fewer than 2 ^ 32 items.
 content_listed : (kind : Kind) (p : ℕ) (text : List ℕ) (c : Content kind) → AreBytes text → (content kind).spells p text c → IsListed (holds kind c)
 content_listed CustomSection p text c all s = lit≤ tt
 content_listed TypeSection p text c all s = vec_listed (value_with_place group) p text c all s
@@ -63,7 +63,7 @@ content_listed DataCountSection p text c all s = lit≤ tt
 content_listed CodeSection p text c all s = vec_listed code_entry p text c all s
 content_listed DataSection p text c all s = vec_listed (value_with_place segment) p text c all s
 
--- a section
+-- A section has fewer than 2 ^ 32 items.
 section_listed : (p : ℕ) (text : List ℕ) (s : Section) → AreBytes text → section.spells p text s → IsListed s
 section_listed p text s all spelled =
     let ((kind, own), kept, (id_text, behind_id, joined, kind_spelled, sized)) = spelled in
@@ -73,7 +73,7 @@ section_listed p text s all spelled =
     let is : holds kind value ≡ s = some_is (holds kind value) own made ∙ some_is own s kept in
     subst IsListed is (content_listed kind (p + length id_text + length size_text) behind_size value size_apart.1 value_spelled)
 
--- sections one after the other
+-- Each of several consecutive sections has fewer than 2 ^ 32 items.
 entries_listed : (p : ℕ) (text : List ℕ) (ss : List Section) → AreBytes text → Entries section p text ss → AllByRecursion IsListed ss
 entries_listed p text [] all spelled = tt
 entries_listed p text (s ∷ ss) all spelled =
@@ -81,11 +81,11 @@ entries_listed p text (s ∷ ss) all spelled =
     let apart = all_parts (λ b. b < 256) front behind (subst AreBytes joined all) in
     (section_listed p front s apart.0 first_spelled, entries_listed (p + length front) behind ss apart.1 others_spelled)
 
--- all sections up to the end of the bytes
+-- Each section up to the end of the bytes has fewer than 2 ^ 32 items.
 pub sections_listed : (at : Input) (ss : List Section) → sections_at at ≡ Some ss → AreBytes at.bytes → AllByRecursion IsListed ss
 sections_listed at ss read all = entries_listed at.place at.bytes ss all ((until_end section).sound at ss read)
 
--- what they hold together
+-- The gathered contents have fewer than 2 ^ 32 imports, tables, memories, tags and globals each.
 pub items_held : (g : Gathered) (ss : List Section) → AllByRecursion IsListed ss → IsHeld g ss → HasFewItems g.imports g.tables g.memories g.tags g.globals
 items_held g ss all held = record {
   imports = omega (arith, ap length (held ImportSection), held_each ImportSection IsListed [] ss all (lit≤ tt));

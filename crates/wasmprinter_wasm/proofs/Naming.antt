@@ -1,4 +1,4 @@
--- The loop over the custom sections of a module, for the names that they give.
+-- The loop over the custom sections of a module that collects the names.
 use Rattle.std.proofs.Common.{◌≡◌, ℕ, ◌+◌, ◌<◌, true, false, get_or, drop, List, [], ◌∷◌, ◌++◌, length, refl, sym, ap, subst, ◌∙◌, append_assoc, append-nil}
 use Rattle.std.specs.Prelude.{bytes_eq}
 use Rattle.std.proofs.lemmas.List.{at_drop_more}
@@ -11,33 +11,33 @@ use Rattle.wasmprinter_spec.proofs.NameSections.{gives_some}
 use Rattle.wasmprinter_names.specs.declared.store.NamesBuilder.{NamesBuilder}
 use Rattle.wasmprinter_names.specs.Holds.{Holds}
 
--- the builder holds the entries of the custom sections in front of the one with the number
+-- The invariant of the loop: the builder holds the entries of the custom sections before number `i`.
 pub record Naming (customs : List CustomEntry) (i : ℕ) (b : NamesBuilder) : Type 0 where
   pub entries : List Entry
   pub kept : Holds entries b
   pub all : entries ++ name_entries (drop i customs) ≡ name_entries customs
 
--- before the loop it holds none
+-- Before the loop the builder holds no entries.
 pub naming_none : (customs : List CustomEntry) (b : NamesBuilder) → Holds [] b → Naming customs 0 b
 naming_none customs b h = record { entries = []; kept = h; all = refl }
 
--- no entries in front of others are none
+-- If two lists together are empty, then the first is empty.
 front_nil : (xs ys : List Entry) → xs ++ ys ≡ [] → xs ≡ []
 front_nil [] ys e = refl
 front_nil (x ∷ xs) ys e = absurd cc
 
--- nor are any behind others
+-- If two lists together are empty, then the second is empty.
 behind_nil : (xs ys : List Entry) → xs ++ ys ≡ [] → ys ≡ []
 behind_nil [] ys e = e
 behind_nil (x ∷ xs) ys e = absurd cc
 
--- the next custom section
+-- The next custom section.
 module _ (customs : List CustomEntry) (i : ℕ) (b : NamesBuilder) (c : CustomEntry) (lt : i < length customs) (same : c ≡ get_or customs i c) (k : Naming customs i b) where
-  -- its entries stand in front of those of the others
+  -- Its entries come before those of the following sections.
   split : name_entries (drop i customs) ≡ custom_entries c.section.value ++ name_entries (drop (i + 1) customs)
   split = at_drop_more name_entries customs i c lt ∙ ap (λ (x : CustomEntry). name_entries (x ∷ drop (i + 1) customs)) (sym same)
 
-  -- they were added
+  -- If its entries were added to the builder, then the invariant holds after it.
   naming_more : (next : NamesBuilder) (gives : List Entry) → custom_entries c.section.value ≡ gives → Holds (k.entries ++ gives) next → Naming customs (i + 1) next
   naming_more next gives e h = record {
     entries = k.entries ++ gives;
@@ -47,13 +47,13 @@ module _ (customs : List CustomEntry) (i : ℕ) (b : NamesBuilder) (c : CustomEn
         ∙ ap (λ (xs : List Entry). k.entries ++ xs) (sym split) ∙ k.all;
   }
 
-  -- it is no name section
+  -- If it is not a name section, then the invariant holds after it without a change.
   pub naming_other : bytes_eq c.section.value.name name_section ≡ false → Naming customs (i + 1) b
   naming_other other =
       let none : custom_entries c.section.value ≡ [] = rw other refl in
       naming_more b [] none (subst (λ (xs : List Entry). Holds xs b) (sym (append-nil k.entries)) k.kept)
 
-  -- it is one
+  -- It is a name section.
   module _ (section : Input) (is : bytes_eq c.section.value.name name_section ≡ true) (stands : section ≡ input c.section.value.bytes.place c.section.value.bytes.value) where
     its : custom_entries c.section.value ≡ entries_given c.section.value.bytes
     its = rw is refl
@@ -61,18 +61,18 @@ module _ (customs : List CustomEntry) (i : ℕ) (b : NamesBuilder) (c : CustomEn
     given : GivesNames section (entries_given c.section.value.bytes)
     given = subst (λ (at : Input). GivesNames at (entries_given c.section.value.bytes)) (sym stands) (gives_some (input c.section.value.bytes.place c.section.value.bytes.value))
 
-    -- which was read
+    -- If reading it added its entries to the builder, then the invariant holds after it.
     pub naming_read : (next : NamesBuilder) → ((entries gives : List Entry) → GivesNames section gives → Holds entries b → Holds (entries ++ gives) next) → Naming customs (i + 1) next
     naming_read next h = naming_more next (entries_given c.section.value.bytes) its (h k.entries (entries_given c.section.value.bytes) given k.kept)
 
-    -- where there is no entry at all, it gives none
+    -- If the module has no entries, then this section gives none.
     pub naming_nothing : name_entries customs ≡ [] → GivesNames section []
     naming_nothing none =
         let rest : name_entries (drop i customs) ≡ [] = behind_nil k.entries (name_entries (drop i customs)) (k.all ∙ none) in
         let nil : custom_entries c.section.value ≡ [] = front_nil (custom_entries c.section.value) (name_entries (drop (i + 1) customs)) (sym split ∙ rest) in
         subst (GivesNames section) (sym its ∙ nil) given
 
--- no section is left
+-- If no section is left, then the builder holds the entries of all custom sections.
 pub naming_done : (customs : List CustomEntry) (i : ℕ) (b : NamesBuilder) → drop i customs ≡ [] → Naming customs i b → Holds (name_entries customs) b
 naming_done customs i b past k =
     subst (λ (xs : List Entry). Holds xs b) (sym (append-nil k.entries) ∙ ap (λ (cs : List CustomEntry). k.entries ++ name_entries cs) (sym past) ∙ k.all) k.kept

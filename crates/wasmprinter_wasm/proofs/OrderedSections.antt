@@ -1,4 +1,4 @@
--- What sections in order hold together.
+-- The combined contents of sections in order.
 use Rattle.std.proofs.Common.{◌≡◌, ℕ, ◌<◌, ◌≤◌, lit≤, true, List, [], ◌∷◌, ◌++◌, length, Option, Some, None, refl, sym, ap, subst, ◌∙◌, arith, append-nil}
 use Rattle.std.specs.Prelude.{Bool, false, if◌then◌else◌}
 use Rattle.std.specs.Option.{option_or}
@@ -19,23 +19,23 @@ use Rattle.wasmprinter_wasm.specs.Gathering.{Gathered, none_gathered, Kept, gath
 
 -- ---- custom sections
 
--- the place of a section, before what the sections in front of it stand behind
+-- If a section gives a place, then it replaces the place that the sections before it give.
 joined : (b : Bool) (kind : Kind) (last r : Option SectionKind) → place_view r ≡ (if b then Some kind else None) → place_view (option_or r last) ≡ (if b then Some kind else place_view last)
 joined true kind last None e = absurd cc
 joined true kind last (Some k) e = e
 joined false kind last None e = refl
 joined false kind last (Some k) e = absurd cc
 
--- is what custom sections behind it stand behind
+-- The place of custom sections after a section is the one that it gives, or else the one given before it.
 pub place_joined : (last r : Option SectionKind) (s : Section) → place_view r ≡ place_behind None s → place_view (option_or r last) ≡ place_behind (place_view last) s
 place_joined last r (holds kind x) e = joined (is_place kind x) kind last r e
 
--- what custom sections stand behind that follow the sections, if those in front of these stand behind this
+-- The place of custom sections that follow the sections, if `last` is the place of custom sections before them.
 abbrev pub last_place : Option Kind → List Section → Option Kind
 last_place last [] = last
 last_place last (s ∷ ss) = last_place (place_behind last s) ss
 
--- with one more section behind them
+-- The place after the sections and one more is the place that this one gives after theirs.
 pub last_place_push : (last : Option Kind) (ss : List Section) (s : Section) → last_place last (ss ++ s ∷ []) ≡ place_behind (last_place last ss) s
 last_place_push last [] s = refl
 last_place_push last (x ∷ xs) s = last_place_push (place_behind last x) xs s
@@ -48,43 +48,44 @@ front_length : (last : Option Kind) (o : Option (Placed Custom)) (cs : List Cust
 front_length last None cs = omega arith
 front_length last (Some c) cs = omega arith
 
--- one more section behind others
+-- The custom sections of a list and one more section are those of the list and that of the section.
 customs_push : (last : Option Kind) (ss : List Section) (s : Section) → customs_behind last (ss ++ s ∷ []) ≡ customs_behind last ss ++ customs_behind (last_place last ss) (s ∷ [])
 customs_push last [] s = refl
 customs_push last (x ∷ xs) s =
     let next : Option Kind = place_behind last x in
     front_push last (content_of CustomSection x) (customs_behind next xs) (customs_behind next (xs ++ s ∷ [])) (customs_behind (last_place next xs) (s ∷ [])) (customs_push next xs s)
 
--- one among others
+-- If a list of sections contains a custom section, then the list of its custom sections is not empty.
 customs_midst : (last : Option Kind) (xs : List Section) (c : Placed Custom) (ys : List Section) → 0 < length (customs_behind last (xs ++ holds CustomSection c ∷ ys))
 customs_midst last [] c ys = omega arith
 customs_midst last (x ∷ xs) c ys =
     let rest : List CustomEntry = customs_behind (place_behind last x) (xs ++ holds CustomSection c ∷ ys) in
     omega (arith, customs_midst (place_behind last x) xs c ys, front_length last (content_of CustomSection x) rest)
 
--- a section that is a custom one
+-- A section of the kind of custom sections is a custom section.
 pub custom_kind : (s : Section) → section_kind s ≡ CustomSection → (c : Placed Custom) × (s ≡ holds CustomSection c)
 custom_kind (holds CustomSection c) e = (c, refl)
 custom_kind (holds _ x) e = absurd cc
 
--- ---- of each kind
+-- ---- contents of each kind
 
--- before any section nothing is kept
+-- Before the first section the kept contents are those of no sections.
 pub kept_none : (kind : Kind) → gathered_items kind none_gathered ≡ section_items kind []
 kept_none CustomSection = refl
 kept_none _ = refl
 
--- what is kept of a kind, with one more section, in front of which custom sections stand behind this
+-- The contents that are kept for a kind after one more section. `last` is the place of custom sections before it.
 abbrev pub kept_with : (kind : Kind) → Option Kind → Kept kind → Section → Kept kind
 kept_with CustomSection last cs s = cs ++ customs_behind last (s ∷ [])
 kept_with kind last c s = with_one kind c s
 
--- it is what sections hold with one more behind them
+-- The contents of a list of sections and one more section are those of the list, changed by that section.
 pub kept_push : (kind : Kind) (ss : List Section) (s : Section) → section_items kind (ss ++ s ∷ []) ≡ kept_with kind (last_place None ss) (section_items kind ss) s
 kept_push CustomSection ss s = customs_push None ss s
 kept_push kind ss s = held_push kind (gathered_items kind none_gathered) ss s
 
--- a section sets what is kept of its kind, or adds to it, and leaves the rest
+-- A section replaces the content that is kept for its kind. A custom section is appended to the custom sections.
+-- Other kinds are unchanged.
 pub kept_added : (kind : Kind) (g : Gathered) (s : Section) → gathered_items kind (with_section g s) ≡ kept_with kind g.behind (gathered_items kind g) s
 kept_added CustomSection g (holds CustomSection x) = refl
 kept_added CustomSection g (holds _ x) = sym (append-nil g.customs)
@@ -103,7 +104,7 @@ kept_added CodeSection g (holds CodeSection x) = refl
 kept_added DataSection g (holds DataSection x) = refl
 kept_added _ g _ = refl
 
--- sections in order among which one holds an item hold one
+-- If one of the sections in order has an item, then together they have one.
 pub some_midst : (xs : List Section) (s : Section) (ys : List Section) → are_above 0 (xs ++ s ∷ ys) ≡ true → 0 < item_count s → 0 < item_count_in (xs ++ s ∷ ys)
 some_midst xs (holds CustomSection x) ys up some = omega (arith, customs_midst None xs x ys)
 some_midst xs (holds TypeSection x) ys up some = omega (arith, ap length (held_midst TypeSection 1 refl [] 0 xs x ys up))
@@ -122,29 +123,29 @@ some_midst xs (holds DataSection x) ys up some = omega (arith, ap length (held_m
 
 -- ---- limits
 
--- all type indices are those of the one function section
+-- The type indices of sections in order are those of the only function section.
 pub count_midst : (count : ℕ) (xs : List Section) (s : Section) (ys : List Section) → are_above 0 (xs ++ s ∷ ys) ≡ true → HasCount count s → length (type_indices_in (xs ++ s ∷ ys)) ≡ count
 count_midst count xs s ys up (indices, held, counted) =
     ap length (held_picked FunctionSection 3 refl [] 0 xs s indices ys held up) ∙ counted
 
--- all bodies are those of the one code section
+-- The bodies of sections in order are those of the only code section.
 pub over_midst : (place : ℕ) (xs : List Section) (s : Section) (ys : List Section) → are_above 0 (xs ++ s ∷ ys) ≡ true → HasOver place s → AnyIsOver place (bodies_in (xs ++ s ∷ ys))
 over_midst place xs s ys up (bodies, held, over) =
     subst (AnyIsOver place) (sym (held_picked CodeSection 12 refl [] 0 xs s bodies ys held up)) over
 
--- all tables are those of the one table section
+-- The tables of sections in order are those of the only table section.
 pub empty_midst : (place : ℕ) (xs : List Section) (s : Section) (ys : List Section) → are_above 0 (xs ++ s ∷ ys) ≡ true → HasEmpty place s
     → FirstIsEmpty place (tables_in (xs ++ s ∷ ys))
 empty_midst place xs s ys up (tables, held, empty) =
     subst (FirstIsEmpty place) (sym (held_picked TableSection 4 refl [] 0 xs s tables ys held up)) empty
 
--- no function has too many locals, there aren't too many functions, and no table has an empty initialiser
+-- The numbers of locals in each body and of functions are within the limits, and no table has an empty initialiser.
 pub record HoldsFew (g : Gathered) : Type 0 where
   pub functions : length g.type_indices ≤ most_functions
   pub tables : AllByRecursion HasNoEmpty g.tables
   pub locals : AllByRecursion HasFew g.bodies
 
--- sections within the limits hold no more together
+-- If all sections are within the limits, then so are the gathered contents.
 pub few_held : (g : Gathered) (ss : List Section) → AllByRecursion IsSmall ss → IsHeld g ss → HoldsFew g
 few_held g ss small held = record {
   functions = subst (λ (is : List ℕ). length is ≤ most_functions) (sym (held FunctionSection)) (held_each FunctionSection IsSmall [] ss small (lit≤ tt));

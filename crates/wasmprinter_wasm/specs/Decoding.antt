@@ -1,4 +1,4 @@
--- Why a module is refused.
+-- The errors of decoding, each with its reason in the bytes.
 use Rattle.std.specs.Prelude.{◌≡◌, ℕ, ◌+◌, ◌<◌, ◌≤◌, List, length, Result, Ok, Err}
 use Rattle.wasmprinter_spec.specs.Grammar.{input}
 use Rattle.wasmprinter_spec.specs.Placed.{PlacedModule}
@@ -10,25 +10,26 @@ use Rattle.wasmprinter_error.specs.Reasons.{Reasons, HasReason}
 use Rattle.wasmprinter_entries.specs.Refusals.{HasManyLocals, HasEmptyInit, BeginsSection, KeepsSome, AnyIsOver, FirstIsEmpty}
 use Rattle.wasmprinter_wasm.specs.Modules.{bodies_of}
 
--- how many groups of types, imports, functions, tables, memories, tags, globals, exports, element segments, data
--- segments and custom sections it has
+-- The number of items of a module: groups of types, imports, functions, tables, memories, tags, globals, exports,
+-- element segments, data segments and custom sections.
 abbrev pub items_held : PlacedModule → ℕ
 items_held m =
     length m.types + length m.imports + length m.functions + length m.tables + length m.memories + length m.tags + length m.globals
     + length m.exports + length m.elements + length m.datas + length m.customs
 
--- it has one of these
+-- The module has at least one item.
 abbrev pub HoldsSome : PlacedModule → Type 0
 HoldsSome m = 0 < items_held m
 
--- it has none
+-- The module has no item.
 abbrev pub HoldsNothing : PlacedModule → Type 0
 HoldsNothing m = items_held m ≡ 0
 
--- Why decoding may be refused: the bytes are a component; or no module is spelled; or there are too many locals in a function whose body
--- lies at the place; or too many functions; or the table at the place has an empty initialiser; or a growth was refused, and then something
--- stands among the bytes that is kept, and a module that is spelled holds something. `component` says when the
--- bytes are refused as a component.
+-- The reason for each error of decoding: the bytes are a component; they encode no module; the function whose body
+-- is at the place has too many locals; there are too many functions; the table at the place has an empty
+-- initialiser; or an allocation failed. An allocation can fail only if the bytes contain a section of items with a
+-- count above zero or a custom section, and if every module that they encode has an item. `component` says when
+-- the bytes are refused as a component.
 abbrev pub module_reasons : List ℕ → Type 0 → Reasons
 module_reasons bytes component = record {
   malformed = λ place. ((m : PlacedModule) → Spells bytes m → ⊥) × (place ≤ length bytes);
@@ -41,15 +42,15 @@ module_reasons bytes component = record {
   memory = KeepsSome (input 0 bytes) × ((m : PlacedModule) → Spells bytes m → HoldsSome m);
 }
 
--- the refusal is true of the bytes, if they are no component
+-- The error has a true reason, and is not `Component`.
 abbrev pub IsFaultOf : List ℕ → Error → Type 0
 IsFaultOf bytes e = HasReason (module_reasons bytes ⊥) e
 
--- the refusal is true of the bytes
+-- The error has a true reason.
 abbrev pub IsRefusal : List ℕ → Error → Type 0
 IsRefusal bytes e = HasReason (module_reasons bytes (IsComponent bytes)) e
 
--- the module that the bytes spell, within the limits, or a true refusal
+-- On success the bytes encode the module, and it is within the limits. An error has a true reason.
 abbrev pub TakesModule : List ℕ → Result PlacedModule Error → Type 0
 TakesModule bytes (Ok m) = Spells bytes m × IsWithinLimits m
 TakesModule bytes (Err e) = IsFaultOf bytes e

@@ -1,4 +1,4 @@
--- What sections hold together.
+-- The contents of the sections of a module, gathered by kind.
 use Rattle.std.specs.Prelude.{◌≡◌, ℕ, ◌+◌, ◌<◌, ◌≤◌, List, [], ◌∷◌, ◌++◌, length, true, Option, Some, None, Result, Ok, Err}
 use Rattle.std.specs.List.{AllByRecursion}
 use Rattle.wasmprinter_spec.specs.Grammar.{Input, Placed}
@@ -17,7 +17,8 @@ use Rattle.wasmprinter_error.specs.Reasons.{Reasons, HasReason}
 use Rattle.wasmprinter_entries.specs.Refusals.{HasManyLocals, HasEmptyInit, BeginsSection, KeepsSome, AnyIsOver, FirstIsEmpty}
 use Rattle.wasmprinter_entries.specs.Contents.{IsSmall}
 
--- what the sections hold, the rank of the last, and what a custom section stands behind that follows them
+-- The contents of the sections read so far, the rank of the last one, and the place of a custom section that
+-- follows them.
 pub record Gathered : Type 0 where
   pub rank : ℕ
   pub behind : Option Kind
@@ -36,7 +37,7 @@ pub record Gathered : Type 0 where
   pub datas : List (Placed (Data (Placed Operator)))
   pub customs : List CustomEntry
 
--- before any section
+-- The state before the first section.
 abbrev pub none_gathered : Gathered
 none_gathered = record {
   rank = 0;
@@ -57,11 +58,13 @@ none_gathered = record {
   customs = [];
 }
 
--- what is kept of each kind: all custom sections, and of all others what the only one holds
+-- The contents that are kept for each kind: all custom sections, and for every other kind the content of its only
+-- section.
 abbrev pub Kept : Kind → Type 0
 Kept CustomSection = List CustomEntry
 Kept kind = Content kind
 
+-- The gathered contents of a kind.
 abbrev pub gathered_items : (kind : Kind) → Gathered → Kept kind
 gathered_items CustomSection g = g.customs
 gathered_items TypeSection g = g.types
@@ -78,7 +81,7 @@ gathered_items DataCountSection g = g.data_count
 gathered_items CodeSection g = g.bodies
 gathered_items DataSection g = g.datas
 
--- what sections hold of each kind
+-- The contents of a kind in a list of sections.
 abbrev pub section_items : (kind : Kind) → List Section → Kept kind
 section_items CustomSection ss = customs_in ss
 section_items TypeSection ss = types_in ss
@@ -95,7 +98,8 @@ section_items DataCountSection ss = data_count_in ss
 section_items CodeSection ss = bodies_in ss
 section_items DataSection ss = datas_in ss
 
--- with what one more section holds, in place of what one of its kind held; a custom section stands behind those that were kept
+-- Replaces the content of the section's kind. A custom section is appended, with the place that the sections
+-- before it give.
 abbrev pub with_content : Gathered → Section → Gathered
 with_content g (holds CustomSection c) = record g { customs = g.customs ++ customs_behind g.behind (holds CustomSection c ∷ []) }
 with_content g (holds TypeSection ts) = record g { types = ts }
@@ -112,24 +116,24 @@ with_content g (holds DataCountSection n) = record g { data_count = n }
 with_content g (holds CodeSection bs) = record g { bodies = bs }
 with_content g (holds DataSection ds) = record g { datas = ds }
 
--- with one more section
+-- The state after one more section.
 abbrev pub with_section : Gathered → Section → Gathered
 with_section g s = record (with_content g s) { rank = rank_behind g.rank (rank (section_kind s)); behind = place_behind g.behind s }
 
--- what is gathered is what the sections hold of each kind
+-- For each kind, the gathered contents are those of the sections.
 abbrev pub IsHeld : Gathered → List Section → Type 0
 IsHeld g ss = (kind : Kind) → gathered_items kind g ≡ section_items kind ss
 
--- there are as many bodies as type indices, and as many data segments as are counted
+-- There are as many bodies as type indices, and as many data segments as the data count says.
 pub record IsWhole (g : Gathered) : Type 0 where
   pub as_many : length g.type_indices ≡ length g.bodies
   pub counted : counts_data g.data_count (length g.datas) ≡ true
 
--- sections up to the end of the bytes
+-- Reads sections up to the end of the bytes.
 abbrev pub sections_at : Input → Option (List Section)
 sections_at at = (until_end section).parse at
 
--- sections in order stand there up to the end of the bytes, and hold this
+-- The bytes are sections in order and within the limits, up to the end, and these are their contents.
 pub record HoldsSections (at : Input) (g : Gathered) : Type 0 where
   pub sections : List Section
   pub read : sections_at at ≡ Some sections
@@ -137,14 +141,14 @@ pub record HoldsSections (at : Input) (g : Gathered) : Type 0 where
   pub small : AllByRecursion IsSmall sections
   pub held : IsHeld g sections
 
--- how many items the sections hold, custom sections among them
+-- The number of items in all sections, custom sections included.
 abbrev pub item_count_in : List Section → ℕ
 item_count_in ss =
     length (types_in ss) + length (imports_in ss) + length (type_indices_in ss) + length (tables_in ss) + length (memories_in ss)
     + length (tags_in ss) + length (globals_in ss) + length (exports_in ss) + length (elements_in ss) + length (bodies_in ss)
     + length (datas_in ss) + length (customs_in ss)
 
--- why sections up to the end of the bytes may be refused
+-- The reason for each error of reading sections up to the end of the bytes.
 abbrev pub sections_reasons : Input → Reasons
 sections_reasons at = record {
   malformed = λ place. ((ss : List Section) → sections_at at ≡ Some ss → are_above 0 ss ≡ true → ⊥) × (place ≤ end_of at);
@@ -161,7 +165,7 @@ sections_reasons at = record {
   memory = KeepsSome at × ((ss : List Section) → sections_at at ≡ Some ss → are_above 0 ss ≡ true → 0 < item_count_in ss);
 }
 
--- sections in order and within the limits are read, or the refusal is true
+-- On success the bytes are sections in order and within the limits. An error has a true reason.
 abbrev pub TakesSections : Input → Result Gathered Error → Type 0
 TakesSections at (Ok g) = HoldsSections at g
 TakesSections at (Err e) = HasReason (sections_reasons at) e

@@ -1,4 +1,4 @@
--- What the contracts of decoding and of a decoded module cite.
+-- Definitions for the contracts of decoding and of a decoded module.
 pub mod Sections
 pub mod Modules
 pub mod Gathering

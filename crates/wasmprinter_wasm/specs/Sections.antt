@@ -1,4 +1,4 @@
--- Reading sections.
+-- Reading one section.
 use Rattle.std.specs.Prelude.{◌≡◌, ℕ, ◌<◌, ◌≤◌, Option, Some, None, Result, Ok, Err}
 use Rattle.wasmprinter_spec.specs.Grammar.{Input, ◌>>=◌}
 use Rattle.wasmprinter_spec.specs.Sections.{CustomSection, TypeSection, ImportSection, FunctionSection, TableSection, MemorySection, TagSection, GlobalSection}
@@ -14,7 +14,7 @@ use Rattle.wasmprinter_wasm.specs.declared.sections.Section.TheVariants as s
 use Rattle.wasmprinter_entries.specs.Contents.{HasOver, HasEmpty, HasCount, IsSmall, item_count, content_reasons}
 use Rattle.wasmprinter_entries.specs.Refusals.{HasManyLocals, HasEmptyInit, BeginsSection, BeginsItems}
 
--- the section of the definitions
+-- The section as a value of the definitions.
 abbrev pub section_view : Section → SectionValue
 section_view (s.Custom c) = holds CustomSection c
 section_view (s.Types ts) = holds TypeSection ts
@@ -31,7 +31,8 @@ section_view (s.DataCount n) = holds DataCountSection (Some n)
 section_view (s.Code bs) = holds CodeSection bs.items
 section_view (s.Data ds) = holds DataSection ds.items
 
--- the content of a section of the kind; or there is no such kind, and the place is blamed
+-- The result of reading the content of a section of this kind. Without a kind the result is `Malformed` at the
+-- place.
 abbrev pub TakesContent : ℕ → Option Kind → Input → Result Section Error → Type 0
 TakesContent place (Some kind) at (Ok s) =
     (((content kind).parse at >>= λ x. Some (holds kind x)) ≡ Some (section_view s)) × IsSmall (section_view s)
@@ -39,7 +40,7 @@ TakesContent place (Some kind) at (Err e) = HasReason (content_reasons kind at) 
 TakesContent place None at (Ok s) = ⊥
 TakesContent place None at (Err e) = e ≡ AtPlace place
 
--- a section
+-- The reason for each error of reading a section.
 abbrev pub section_reasons : Input → Reasons
 section_reasons at = record {
   malformed = λ place. (section.parse at ≡ None) × (place ≤ end_of at);
@@ -52,7 +53,7 @@ section_reasons at = record {
   memory = BeginsItems at × ((x : SectionValue × Input) → section.parse at ≡ Some x → 0 < item_count x.0);
 }
 
--- a section within the limits is read, or the refusal is true
+-- On success a section within the limits was read. An error has a true reason.
 abbrev pub TakesSection : Input → Result Section Error → Input → Type 0
 TakesSection old (Ok s) new = (section.parse old ≡ Some (section_view s, new)) × IsSmall (section_view s)
 TakesSection old (Err e) new = HasReason (section_reasons old) e

@@ -1,4 +1,4 @@
-//! Decoding: a preamble, and sections up to the end (section 5.5, "Modules").
+//! Decoding a module: a preamble, then sections up to the end of the bytes (section 5.5, "Modules").
 ghost use Rattle.std.specs.Prelude.{◌≡◌, ◌↔◌, length, IsTrue, IsOk, IfOk, IfErr, OnOk, IsErrOf, IsOkUnless};
 ghost use Rattle.wasmprinter_spec.specs.Placed.{PlacedModule};
 ghost use Rattle.wasmprinter_spec.specs.Binary.{Spells, IsComponent, preamble, preamble_bytes, counts_data};
@@ -28,17 +28,17 @@ use wasmprinter_segments::elements::Element;
 use wasmprinter_segments::globals::Global as GlobalVariable;
 use wasmprinter_segments::tables::Table;
 
-/// The magic and the version.
+/// The preamble: the magic number and the version.
 const PREAMBLE: [u8; 8] = [0x00, 0x61, 0x73, 0x6d, 0x01, 0x00, 0x00, 0x00];
 
-/// Whether the bytes are marked as a component.
+/// Reports whether the bytes are marked as a component.
 fn is_component(wasm: &[u8]) -> bool
     ensures { IsTrue result ↔ IsComponent wasm.now }
 {
     matches!(wasm, [0x00, 0x61, 0x73, 0x6d, _, _, 0x01, 0x00, ..])
 }
 
-/// Reads the magic and the version.
+/// Reads the preamble. Any other bytes are malformed at their first byte.
 fn read_preamble(cursor: &mut Cursor) -> Result<(), Malformed>
     ensures reads { Reads (λ _. preamble_bytes) preamble.parse cursor.old result cursor.new }
     ensures within { IsWithin cursor.old result }
@@ -53,12 +53,13 @@ fn read_preamble(cursor: &mut Cursor) -> Result<(), Malformed>
     }
 }
 
-/// What the sections read so far hold.
+/// The contents of the sections read so far.
 #[derive(Drop)]
 struct Gathered<'a> {
-    /// Where the last section stands in the order of sections.
+    /// The rank of the last section that is not a custom section, 0 before the first.
     rank: u8,
-    /// What the next custom section stands behind.
+    /// The place of the next custom section: the kind of the last section before it that holds an item or the
+    /// start function.
     behind: Option<SectionKind>,
     types: Types<'a>,
     imports: Vec<Import<'a>>,
@@ -103,7 +104,7 @@ impl<'a> Model for Gathered<'a> {
 }
 
 impl<'a> Gathered<'a> {
-    /// Before any section is read.
+    /// Returns the state before the first section.
     fn new(alloc: Global) -> Self
         ensures { result ≡ none_gathered }
     {
@@ -127,7 +128,7 @@ impl<'a> Gathered<'a> {
         }
     }
 
-    /// Whether the section may stand behind those that were read.
+    /// Reports whether the section may follow the sections read so far.
     fn may_precede(&self, section: &Section) -> bool
         ensures { result ≡ follows self.now.rank (rank (section_kind (section_view section.now))) }
     {
@@ -137,7 +138,7 @@ impl<'a> Gathered<'a> {
         }
     }
 
-    /// Keeps what a section holds. Memory is wanted for custom sections alone.
+    /// Stores the content of a section. Only a custom section needs an allocation.
     #[tactic(auto, using(crate::proofs::OrderedSections::place_joined))]
     fn add(&mut self, section: Section<'a>) -> Result<(), AllocError>
         ensures added { OnOk result (self.new ≡ with_section self.old (section_view section.entry)) }
@@ -167,7 +168,7 @@ impl<'a> Gathered<'a> {
         Ok(())
     }
 
-    /// Whether the data count, if there is one, is the number of data segments.
+    /// Reports whether the data count, if there is one, is the number of data segments.
     fn counts_data(&self) -> bool
         ensures { result ≡ counts_data self.now.data_count (length self.now.datas) }
     {
@@ -177,7 +178,7 @@ impl<'a> Gathered<'a> {
         }
     }
 
-    /// Whether there are as many bodies as type indices, and as many data segments as are counted.
+    /// Reports whether there are as many bodies as type indices, and as many data segments as the data count says.
     fn is_whole(&self) -> bool
         ensures { IsTrue result ↔ IsWhole self.now }
     {
@@ -201,7 +202,7 @@ impl<'a> Gathered<'a> {
     }
 }
 
-/// Reads the preamble and the sections, and puts a module together.
+/// Reads the preamble and the sections, and assembles the module.
 fn read_module<'a>(alloc: Global, wasm: &'a [u8]) -> Result<Module<'a>, Error>
     ensures { TakesModule wasm.now result }
 {
@@ -234,20 +235,23 @@ fn read_module<'a>(alloc: Global, wasm: &'a [u8]) -> Result<Module<'a>, Error>
 ///
 /// # Errors
 ///
-/// `Component` where the bytes are marked as a component; `Malformed` where they are outside the binary format;
-/// `TooManyLocals` and `TooManyFunctions` where a limit of this printer is passed; `EmptyTableInit` where a
-/// table has an initialiser without operators, with the place of the first; `Memory` where a growth is refused, which needs a section of
-/// items with a count above zero or a custom section. `Component` goes before the others; where several of these hold, any may be
-/// answered.
+/// - `Component` if the bytes are marked as a component. This error takes precedence over the others.
+/// - `Malformed` if the bytes do not encode a module.
+/// - `TooManyLocals` or `TooManyFunctions` if a limit of this printer is exceeded.
+/// - `EmptyTableInit` if a table has an empty initialiser. The place is that of the first such table.
+/// - `Memory` if an allocation failed. This can happen only if the bytes contain a section of items with a count
+///   above zero, or a custom section.
+///
+/// If several of the other errors apply, any of them may be returned.
 pub fn decode<'a>(alloc: Global, wasm: &'a [u8]) -> Result<Module<'a>, Error>
     ensures ok { IfOk result (λ m. Spells wasm.now m × IsWithinLimits m) }
     ensures refused { IfErr result (IsRefusal wasm.now) }
     ensures component { IsErrOf result Error.Component ↔ IsComponent wasm.now }
 
-    // Bytes that spell a module within the limits are refused for memory alone.
+    // If the bytes encode a module within the limits, the only possible error is `Memory`.
     ensures within { (m : PlacedModule) → Spells wasm.now m → IsWithinLimits m → IsOkUnless result Error.Memory }
 
-    // Bytes that spell a module without items and custom sections are never refused.
+    // If the bytes encode a module without items and custom sections, decoding succeeds.
     ensures empty { (m : PlacedModule) → Spells wasm.now m → HoldsNothing m → IsOk result }
 {
     if is_component(wasm) {

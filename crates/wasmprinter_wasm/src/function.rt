@@ -1,4 +1,4 @@
-//! A function that a module defines.
+//! Functions that a module defines.
 ghost use Rattle.std.specs.Prelude.{◌≡◌};
 
 use std::marker::Model;
@@ -20,14 +20,14 @@ impl<'a> Model for Function<'a> {
 }
 
 impl<'a> Function<'a> {
-    /// The index of its type.
+    /// Returns the index of the function's type.
     pub fn type_index(&self) -> u32
         ensures { result ≡ self.now.type_index }
     {
         self.type_index
     }
 
-    /// Its locals and operators.
+    /// Returns the function's body: its locals and operators.
     pub fn body(&self) -> &Body<'a>
         ensures { result.now ≡ self.now.body }
     {

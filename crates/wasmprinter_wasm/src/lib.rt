@@ -1,4 +1,5 @@
-//! Modules in the binary format (chapter 5 of the WebAssembly Core Specification): decoding, and what a decoded module holds.
+//! Modules in the binary format (chapter 5 of the WebAssembly Core Specification): `decode`, and the decoded
+//! [`Module`] with its items.
 #![tactic(auto)]
 
 mod decoder;

@@ -1,4 +1,4 @@
-//! A module that was decoded, and what it holds, for those that print it.
+//! A decoded module, with access to its items for code that prints it.
 ghost use Rattle.std.specs.Prelude.{◌≡◌, ◌<◌, ◌^◌, length, Some, option_map, slice_get};
 ghost use Rattle.wasmprinter_spec.specs.Types.{all_types, signature_at, fields_at};
 ghost use Rattle.wasmprinter_spec.specs.Module.{groups_of};
@@ -21,7 +21,7 @@ use wasmprinter_segments::globals::Global;
 use wasmprinter_segments::tables::Table;
 use wasmprinter_types::composite::FuncType;
 
-/// A module; names, expressions and data are slices of the bytes that were decoded.
+/// A decoded module. Its names, expressions and data are slices of the bytes that were decoded.
 #[derive(Drop)]
 pub struct Module<'a> {
     pub(crate) types: Types<'a>,
@@ -68,14 +68,15 @@ impl<'a> Model for Module<'a> {
 }
 
 impl<'a> Module<'a> {
-    /// How many functions the module defines, imported ones not among them.
+    /// Returns the number of functions that the module defines. Imported functions are not counted.
     pub fn function_count(&self) -> u32
         ensures { result ≡ length self.now.functions }
     {
         self.bodies.len() as u32
     }
 
-    /// The body of the defined function with the number, `None` past the last.
+    /// Returns the body of the defined function `i`, or `None` if there are no more than `i` defined functions.
+    /// Imported functions are not counted.
     pub fn body(&self, i: u32) -> Option<Body<'a>>
         ensures { result ≡ body_at self.now.functions i }
     {
@@ -86,64 +87,66 @@ impl<'a> Module<'a> {
     }
 }
 
-/// What a module holds, for those that print it.
+/// The items of a module, for code that prints it.
 pub trait Fields<'a> {
     ghost use Rattle.std.specs.Prelude.{ℕ};
 
-    // Whether the module defines a function with the number.
+    // The module defines a function with this number.
     ghost defines: { Self → ℕ → Type 0 };
 
-    /// The defined function with the number.
+    /// Returns the defined function with this number. Imported functions are not counted.
     fn function(&self, number: u32) -> Function<'a>
         requires { defines self.now number };
 
-    /// The types, in their groups.
+    /// Returns the groups of types.
     fn types(&self) -> &[TypeGroup<'a>];
 
-    /// The function type with the index, `None` where there is no such type or it is of another kind.
+    /// Returns the function type with this index, or `None` if there is no such type or it is not a function type.
     ///
-    /// Type indices count the types of all groups. It takes the same time for each index.
+    /// Type indices count the types of all groups. The time is the same for every index.
     fn signature(&self, index: u32) -> Option<FuncType<'a>>;
 
-    /// How many fields the structure type with the index has, `None` where there is no such type or it is of another kind.
+    /// Returns the number of fields of the structure type with this index, or `None` if there is no such type or
+    /// it is not a structure type.
     ///
-    /// Type indices count the types of all groups. It takes the same time for each index.
+    /// Type indices count the types of all groups. The time is the same for every index.
     fn field_count(&self, index: u32) -> Option<u32>;
 
-    /// The imports.
+    /// Returns the imports.
     fn imports(&self) -> &[Import<'a>];
 
-    /// How many imports are of the kind. It takes time in proportion to the number of imports.
+    /// Returns the number of imports of this kind, in time linear in the number of imports.
     fn imported_count(&self, kind: ExternKind) -> u64;
 
-    /// The tables that the module defines.
+    /// Returns the tables that the module defines.
     fn tables(&self) -> &[Table<'a>];
 
-    /// The memories that the module defines.
+    /// Returns the memories that the module defines.
     fn memories(&self) -> &[Memory];
 
-    /// The tags that the module defines.
+    /// Returns the tags that the module defines.
     fn tags(&self) -> &[Tag];
 
-    /// The global variables that the module defines.
+    /// Returns the global variables that the module defines.
     fn globals(&self) -> &[Global<'a>];
 
-    /// The exports.
+    /// Returns the exports.
     fn exports(&self) -> &[Export<'a>];
 
-    /// The start function, `None` where there is no start section.
+    /// Returns the start function, or `None` if there is no start section.
     fn start(&self) -> Option<Start>;
 
-    /// The element segments.
+    /// Returns the element segments.
     fn elements(&self) -> &[Element<'a>];
 
-    /// The data segments.
+    /// Returns the data segments.
     fn datas(&self) -> &[Data<'a>];
 
-    /// The custom sections, in their order, each with the kind of the last section in front of it that holds something.
+    /// Returns the custom sections in order, each with its place: the kind of the last section before it that
+    /// holds an item or the start function, if there is one.
     fn customs(&self) -> &[CustomEntry<'a>];
 
-    /// How many bytes the module has.
+    /// Returns the size of the module in bytes.
     fn size(&self) -> u64;
 }
 

@@ -1,4 +1,4 @@
-//! The names that the name sections of a module give.
+//! The names in the name sections of a module.
 ghost use Rattle.std.specs.Prelude.{◌≡◌, ℕ, [], IsOk, IfOk, IfErr};
 ghost use Rattle.wasmprinter_error.specs.declared.error.Error.TheVariants.{Memory};
 ghost use Rattle.wasmprinter_spec.specs.Names.Content.{name_of};
@@ -11,17 +11,17 @@ use wasmprinter_error::Error;
 use wasmprinter_names::{Names, NamesBuilder, read_names};
 
 impl<'a> Module<'a> {
-    /// The names that its name sections give, in their order: of several names for an item the last counts.
+    /// Returns the names in the module's name sections. If they give several names to an item, the last one counts.
     ///
     /// # Errors
     ///
-    /// `Memory` where a growth is refused, which needs a name.
+    /// - `Memory` if an allocation failed. This can happen only if a name section gives a name.
     pub fn names(&self, alloc: Global) -> Result<Names<'a>, Error>
         ensures names { IfOk result (λ names. (s outer index : ℕ) → name_at names s outer index
             ≡ name_of (name_entries self.now.customs) s outer index) }
         ensures memory { IfErr result (λ e. e ≡ Memory) }
 
-        // Memory is wanted for names alone.
+        // Without a name no allocation is needed.
         ensures needed { name_entries self.now.customs ≡ [] → IsOk result }
     {
         let mut builder = NamesBuilder::new(alloc);

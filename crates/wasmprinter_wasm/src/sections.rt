@@ -1,4 +1,4 @@
-//! Sections (section 5.5, "Sections"): an id, a size, and content of exactly so many bytes.
+//! Sections (section 5.5, "Sections"): an id, a size, and content of exactly that many bytes.
 ghost use Rattle.std.specs.Prelude.{◌≡◌, None};
 ghost use Rattle.wasmprinter_spec.specs.Sections.{kind_of, section_kind, rank, place_behind};
 ghost use Rattle.wasmprinter_bytes.specs.Reads.{end_of};
@@ -59,13 +59,13 @@ const CODE: u8 = 10;
 /// The id of the data section.
 const DATA: u8 = 11;
 
-/// The id of the data count section, which stands in front of the code section.
+/// The id of the data count section, which comes before the code section.
 const DATA_COUNT: u8 = 12;
 
-/// The id of the tag section, which stands behind the memory section.
+/// The id of the tag section, which comes after the memory section.
 const TAG: u8 = 13;
 
-/// What a section holds.
+/// A section with its content.
 #[derive(Drop)]
 pub(crate) enum Section<'a> {
     /// A custom section.
@@ -90,7 +90,7 @@ pub(crate) enum Section<'a> {
     Start(Start),
     /// Element segments.
     Elements(Vec<Element<'a>>),
-    /// How many data segments there are.
+    /// The number of data segments.
     DataCount(u32),
     /// The bodies of the defined functions.
     Code(Vec<Body<'a>>),
@@ -98,7 +98,7 @@ pub(crate) enum Section<'a> {
     Data(Vec<Data<'a>>),
 }
 
-/// Reads what a section holds whose id stands at the place.
+/// Reads the content of a section with this id. An unknown id is malformed at `place`, the byte offset of the id.
 fn read_content<'a>(
     alloc: Global,
     place: u64,
@@ -139,7 +139,8 @@ impl<'a> Section<'a> {
         read_content(alloc, place, id, &mut part)
     }
 
-    /// Where sections of this kind stand in the order that a module keeps, `None` for those that may stand anywhere.
+    /// Returns the rank of this kind of section in the prescribed order, or `None` for custom sections, which may
+    /// occur anywhere.
     pub(crate) fn rank(&self) -> Option<u8>
         ensures { result ≡ rank (section_kind (section_view self.now)) }
     {
@@ -161,7 +162,8 @@ impl<'a> Section<'a> {
         }
     }
 
-    /// What custom sections behind this section stand behind, if it holds something: a list with items, or a start function.
+    /// Returns the place of custom sections that follow this section: its kind, if it has items or is a start
+    /// section.
     pub(crate) fn place(&self) -> Option<SectionKind>
         ensures { place_view result ≡ place_behind None (section_view self.now) }
     {

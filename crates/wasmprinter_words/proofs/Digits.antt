@@ -7,7 +7,7 @@ use Rattle.std.proofs.lemmas.Nat.{div_below, le-div}
 use Rattle.std.proofs.Math.Logic.{⊎_elim}
 use Rattle.std.proofs.Math.Nat.{div-eq_of_lt, mod-eq_of_lt, pow-suc, pow-zero}
 
--- the digits that stand before others
+-- Digits before other digits are the digits alone, then the others.
 onto-append : (k base n : ℕ) (acc : List ℕ) → digits_onto k base false n acc ≡ digits_onto k base false n [] ++ acc
 onto-append zero base n acc = refl
 onto-append (suc k) base n acc =
@@ -20,11 +20,11 @@ onto-append (suc k) base n acc =
     by false e f =
         e ∙ sym (append_assoc (digits_onto k base false (n / base) []) (digit_glyph false (n % base) ∷ []) acc) ∙ ap (λ x. x ++ acc) (sym f)
 
--- a number of one digit
+-- A number below the base has one digit.
 onto-one : (k base n : ℕ) (acc : List ℕ) → n < base → digits_onto (suc k) base false n acc ≡ digit_glyph false n ∷ acc
 onto-one k base n acc h = rw (div-eq_of_lt h, mod-eq_of_lt h) refl
 
--- a number of more digits
+-- The digits of a number that is not below the base are those of its quotient by the base, then its last digit.
 onto-more : (k base n : ℕ) (acc : List ℕ) → 0 < base → base ≤ n →
     digits_onto (suc k) base false n acc ≡ digits_onto k base false (n / base) (digit_glyph false (n % base) ∷ acc)
 onto-more k base n acc p h =
@@ -34,7 +34,7 @@ onto-more k base n acc p h =
 pow_one : (base : ℕ) → base ^ 1 ≡ base
 pow_one base = pow-suc base 0 ∙ ap (λ x. x * base) (pow-zero base) ∙ omega arith
 
--- more places than there are digits change nothing
+-- If there are places for all digits, then one more place changes nothing.
 onto-enough : (k base n : ℕ) (acc : List ℕ) → 0 < base → n < base ^ suc k → digits_onto (suc (suc k)) base false n acc ≡ digits_onto (suc k) base false n acc
 onto-enough zero base n acc p h =
     let one : n < base = subst (λ (b : ℕ). n < b) (pow_one base) h in onto-one 1 base n acc one ∙ sym (onto-one 0 base n acc one)
@@ -43,12 +43,12 @@ onto-enough (suc k) base n acc p h = ⊎_elim
     (λ l. onto-more (suc (suc k)) base n acc p l ∙ onto-enough k base (n / base) _ p (div_below n base (base ^ suc k) p (rw (pow-suc base (suc k)) at h)) ∙ sym (onto-more (suc k) base n acc p l))
     (cases_lt n base)
 
--- a number of one digit
+-- A number below the base has one digit.
 pub digits-one : (base n : ℕ) → n < base → digits base false n ≡ digit_glyph false n ∷ []
 unfolding digits
 digits-one base n h = onto-one 63 base n [] h
 
--- a number of more digits: those of all but the last, and the last
+-- The digits of a number that is not below the base are those of its quotient by the base, then its last digit.
 pub digits-more : (base n : ℕ) → 0 < base → base ≤ n → n < base ^ 64 → digits base false n ≡ digits base false (n / base) ++ (digit_glyph false (n % base) ∷ [])
 unfolding digits
 digits-more base n p h small =
@@ -62,7 +62,7 @@ onto-length (suc k) base n acc = by (n / base == 0) (onto-length k base (n / bas
     by true h = omega arith
     by false h = omega arith
 
--- there are at most 64 digits
+-- A number has at most 64 digits.
 pub digits-length : (base n : ℕ) → length (digits base false n) ≤ 64
 unfolding digits
 digits-length base n = onto-length 64 base n []

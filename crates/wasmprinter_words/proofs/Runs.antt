@@ -1,4 +1,4 @@
--- Characters that stand in identifiers.
+-- Identifier characters.
 use Rattle.std.specs.Prelude.{◌≡◌, ℕ, ◌<◌, ◌^◌, Bool, true, false, List, [], ◌∷◌, length, IsUtf8, chars, decimal, if◌then◌else◌, encode_utf8_all}
 use Rattle.std.specs.Str.{IsAscii}
 use Rattle.std.proofs.Common.{refl, sym, ap, ◌∙◌, arith, true≢false, ltb, cond, suc, zero}
@@ -18,17 +18,17 @@ low c h = by (ltb c 128) refl
     by true e = ltb-true c 128 e
     by false e = absurd (true≢false (sym h ∙ ap runs (foreign c (ltb-false c 128 e))))
 
--- characters of identifiers are ASCII
+-- Identifier characters are ASCII.
 ascii_at : (cs : List ℕ) → all_run cs ≡ true → IsAscii cs
 ascii_at [] h i = omega arith
 ascii_at (c ∷ cs) h zero = low c (and_parts (runs (class c)) (all_run cs) h).0
 ascii_at (c ∷ cs) h (suc i) = ascii_at cs (and_parts (runs (class c)) (all_run cs) h).1 i
 
--- a text of characters of identifiers
+-- The characters of a text of identifier characters are its bytes.
 pub run-chars : (bs : List ℕ) → IsUtf8 bs → all_run (chars bs) ≡ true → chars bs ≡ bs
 run-chars bs u h = sym (encodes-IsAscii (chars bs) (ascii_at (chars bs) h)) ∙ encodes-chars bs u
 
--- a text's characters stand in an identifier where its bytes do
+-- All characters of a text are identifier characters if and only if all of its bytes are.
 pub bytes-run : (bs : List ℕ) → IsUtf8 bs → all_run bs ≡ all_run (chars bs)
 bytes-run bs u = by (all_run bs) (all_run (chars bs)) refl refl
   where
@@ -41,16 +41,16 @@ is_run-all : (cs : List ℕ) → is_run cs ≡ true → all_run cs ≡ true
 is_run-all [] h = absurd (true≢false (sym h))
 is_run-all (c ∷ cs) h = h
 
--- the rest of an identifier without quotes
+-- The characters of a text that needs no quotes in an identifier are its bytes.
 pub plain-chars : (bs : List ℕ) → IsUtf8 bs → is_run (chars bs) ≡ true → chars bs ≡ bs
 plain-chars bs u h = run-chars bs u (is_run-all (chars bs) h)
 
--- no text is no character
+-- The empty text needs quotes in an identifier.
 pub run-empty : (bs : List ℕ) → IsUtf8 bs → length bs ≡ 0 → is_run (chars bs) ≡ false
 run-empty [] u e = ap is_run (chars-IsAscii [] (λ i. omega arith))
 run-empty (b ∷ bs) u e = absurd cc
 
--- a text is some characters
+-- A nonempty text needs no quotes in an identifier if and only if all of its characters are identifier characters.
 pub run-some : (bs : List ℕ) → IsUtf8 bs → (length bs ≡ 0 → ⊥) → is_run (chars bs) ≡ all_run (chars bs)
 run-some bs u n = by (chars bs) refl
   where
@@ -58,7 +58,7 @@ run-some bs u n = by (chars bs) refl
     by [] e = absurd (n (ap length (sym (encodes-chars bs u) ∙ ap encode_utf8_all e)))
     by (c ∷ cs) e = refl
 
--- ---- made up identifiers
+-- ---- synthesized identifiers
 
 made_up-runs : (group : List ℕ) (n : ℕ) → n < 2 ^ 64 → all_run group ≡ true → all_run (index_content group n) ≡ true
 unfolding class
@@ -66,7 +66,7 @@ made_up-runs group n h g =
     let ((some, digits), value) = decimal_is_IsNumeral n h in
     all_run-append group (decimal n) g (all_run-digits (decimal n) digits)
 
--- it stands without quotes
+-- A synthesized identifier is written without quotes.
 pub made_up-text : (group : List ℕ) (n : ℕ) → n < 2 ^ 64 → all_run group ≡ true →
     identifier_text (chars (index_content group n)) ≡ 36 ∷ index_content group n
 unfolding identifier_text

@@ -1,4 +1,4 @@
--- Tables of bytes, and bytes in quotes as they are shown by them.
+-- Tables of bytes, and the text of bytes in a quoted string.
 use Rattle.std.specs.Prelude.{◌≡◌, ℕ, zero, suc, ◌<◌, ◌≤◌, ◌+◌, ◌/◌, ◌%◌, Bool, true, false, cond, List, [], ◌∷◌, ◌++◌, length, take, set, flat_map, if◌then◌else◌}
 use Rattle.std.specs.Str.{IsAscii}
 use Rattle.std.specs.Fmt.{digit_glyph}
@@ -17,7 +17,7 @@ agrees_at f g b = eqb (f b) (g b)
 unfoldable pub always : ℕ → Bool
 always b = true
 
--- two functions give the same below a number
+-- Two functions have the same values below `n`.
 unfoldable pub equal_below : (ℕ → ℕ) → (ℕ → ℕ) → ℕ → Bool
 equal_below f g n = agree_below (agrees_at f g) always n
 
@@ -25,11 +25,11 @@ pub equal_at : (f g : ℕ → ℕ) (n b : ℕ) → equal_below f g n ≡ true �
 unfolding equal_below agrees_at always
 equal_at f g n b h k = eqb-true (f b) (g b) (agree_below_at (agrees_at f g) always n b h k)
 
--- what a byte begins with in quotes
+-- The first byte of the text of a byte in a quoted string.
 abbrev pub beginning : ℕ → ℕ
 beginning b = if is_plain b then b else 92
 
--- a byte that begins with the backslash isn't plain
+-- If the text of a byte begins with a backslash, then it is the backslash and two hexadecimal digits.
 pub in_digits : (b : ℕ) → beginning b ≡ 92 → byte_text b ≡ beginning b ∷ (digit_glyph false (b / 16) ∷ (digit_glyph false (b % 16) ∷ []))
 unfolding byte_text
 in_digits b h = by (is_plain b) refl h
@@ -41,7 +41,7 @@ in_digits b h = by (is_plain b) refl h
     by true e k = absurd (true≢false (sym e ∙ ap is_plain k))
     by false e k = refl
 
--- any other is
+-- If the text of a byte does not begin with a backslash, then it is that first byte alone.
 pub as_itself : (b : ℕ) → (beginning b ≡ 92 → ⊥) → byte_text b ≡ beginning b ∷ []
 unfolding byte_text
 as_itself b h = by (is_plain b) h
@@ -52,7 +52,8 @@ as_itself b h = by (is_plain b) h
 
 -- ---- stores
 
--- three elements are stored one behind another, and so is what stands in front of their end
+-- After three elements are stored one after another from `i` on, the first `i + 3` elements are the old first `i`
+-- and these three.
 pub three_stored : (xs : List ℕ) (i a b c : ℕ) → i + 3 ≤ length xs →
     take (i + 3) (set (set (set xs i a) (i + 1) b) (i + 2) c) ≡ take i xs ++ (a ∷ (b ∷ (c ∷ [])))
 three_stored xs i a b c h =
@@ -64,7 +65,7 @@ three_stored xs i a b c h =
     ∙ ap (λ t. t ++ (c ∷ [])) (take-set_at ys (i + 1) (i + 2) b (omega arith) (omega arith) ∙ ap (λ t. t ++ (b ∷ [])) (take-set_at xs i (i + 1) a refl (omega arith)))
     ∙ append_assoc (take i xs ++ (a ∷ [])) (b ∷ []) (c ∷ []) ∙ append_assoc (take i xs) (a ∷ []) (b ∷ (c ∷ []))
 
--- and so the first of them
+-- The first `i + 1` elements are then the old first `i` and the first stored element.
 pub first_stored : (xs : List ℕ) (i a b c : ℕ) → i + 3 ≤ length xs →
     take (i + 1) (set (set (set xs i a) (i + 1) b) (i + 2) c) ≡ take i xs ++ (a ∷ [])
 first_stored xs i a b c h =

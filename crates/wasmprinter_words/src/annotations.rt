@@ -1,5 +1,5 @@
-//! Annotations (section 6.2 of the WebAssembly Core Specification, "Annotations"), and the line that tells of a custom section with a
-//! fault.
+//! Annotations (section 6.2 of the WebAssembly Core Specification, "Annotations"), and the comment line that
+//! reports an error in a custom section.
 ghost use Rattle.std.specs.Prelude.{[], ◌∷◌, ◌++◌};
 ghost use Rattle.wasmprinter_spec.specs.Piece.{OpenNote, OpenNoteGap, OpenRun, PlainEnding};
 ghost use Rattle.wasmprinter_print.specs.Prints.{PrintsAlways};
@@ -17,7 +17,7 @@ pub fn open_note<P: Print>(p: &mut P, name: &str) -> io::Result<()>
     two_texts_in_style(p, Style::Keyword, "@", name)
 }
 
-/// Opens an annotation with a blank behind its name.
+/// Opens an annotation, and writes a space after its name.
 pub fn open_note_gap<P: Print>(p: &mut P, name: &str) -> io::Result<()>
     ensures { PrintsAlways P.meaning p.old p.new result (OpenNoteGap name.now ∷ []) }
 {
@@ -27,7 +27,7 @@ pub fn open_note_gap<P: Print>(p: &mut P, name: &str) -> io::Result<()>
     reset(p)
 }
 
-/// Opens a group of an annotation: a parenthesis and a run of identifier characters, which needn't be a keyword.
+/// Opens a group of an annotation: a parenthesis and a run of identifier characters, which need not be a keyword.
 pub fn open_run<P: Print>(p: &mut P, word: &str) -> io::Result<()>
     ensures { PrintsAlways P.meaning p.old p.new result (OpenRun word.now ∷ []) }
 {
@@ -35,7 +35,7 @@ pub fn open_run<P: Print>(p: &mut P, word: &str) -> io::Result<()>
     text_in_style(p, Style::Keyword, word)
 }
 
-/// Writes a text between two others as a comment up to the end of the line, without a style.
+/// Writes a comment to the end of the line, without a style. Its text is `before`, `s` and `after`.
 pub fn plain_ending<P: Print>(p: &mut P, before: &str, s: &str, after: &str) -> io::Result<()>
     ensures { PrintsAlways P.meaning p.old p.new result (PlainEnding (before.now ++ (s.now ++ after.now)) ∷ []) }
 {

@@ -33,28 +33,28 @@ pub(crate) fn write_between<P: Print>(
     text(p, after)
 }
 
-/// Writes a blank and a comment without a style.
+/// Writes a space and a comment without a style.
 pub fn put_unstyled_remark<P: Print>(p: &mut P, fault: &mut Fault, content: &str)
     ensures { Marks P.meaning p.old fault.old p.new fault.new (Remark false content.now ∷ []) }
 {
     put_between(p, fault, " (;", content, ";)");
 }
 
-/// Writes a blank and a comment without a style.
+/// Writes a space and a comment without a style.
 pub fn unstyled_remark<P: Print>(p: &mut P, content: &str) -> io::Result<()>
     ensures { PrintsAlways P.meaning p.old p.new result (Remark false content.now ∷ []) }
 {
     write_between(p, " (;", content, ";)")
 }
 
-/// Writes the number of a declaration, as a comment without a style.
+/// Writes the number of a declaration as a comment without a style.
 pub fn put_number_remark<P: Print>(p: &mut P, fault: &mut Fault, n: u64)
     ensures { Marks P.meaning p.old fault.old p.new fault.new (NumberRemark n ∷ []) }
 {
     put_decimal_between(p, fault, "(;", n, ";)");
 }
 
-/// Writes the number of a declaration, as a comment without a style.
+/// Writes the number of a declaration as a comment without a style.
 pub fn number_remark<P: Print>(p: &mut P, n: u64) -> io::Result<()>
     ensures { PrintsAlways P.meaning p.old p.new result (NumberRemark n ∷ []) }
 {
@@ -72,14 +72,14 @@ fn put_number_comment<P: Print>(p: &mut P, fault: &mut Fault, before: &str, n: u
     put_reset(p, fault);
 }
 
-/// Writes a blank and a comment that names a block by its number.
+/// Writes a space and a comment with the number of a block.
 pub fn put_block_remark<P: Print>(p: &mut P, fault: &mut Fault, block: u64)
     ensures { Marks P.meaning p.old fault.old p.new fault.new (Remark true (64 ∷ decimal block) ∷ []) }
 {
     put_number_comment(p, fault, " (;@", block, ";)");
 }
 
-/// Writes a blank and a comment that names a block by its number.
+/// Writes a space and a comment with the number of a block.
 pub fn block_remark<P: Print>(p: &mut P, block: u64) -> io::Result<()>
     ensures { PrintsAlways P.meaning p.old p.new result (Remark true (64 ∷ decimal block) ∷ []) }
 {
@@ -88,7 +88,7 @@ pub fn block_remark<P: Print>(p: &mut P, block: u64) -> io::Result<()>
     fault.into_result()
 }
 
-/// Writes a blank and a comment that names the label of a block.
+/// Writes a space and a comment with the label of a block.
 pub fn put_label_remark<P: Print>(p: &mut P, fault: &mut Fault, block: u64)
     ensures { Marks P.meaning p.old fault.old p.new fault.new
         (Remark true (codes " label = @" ++ (decimal block ++ codes " ")) ∷ []) }
@@ -96,7 +96,7 @@ pub fn put_label_remark<P: Print>(p: &mut P, fault: &mut Fault, block: u64)
     put_number_comment(p, fault, " (; label = @", block, " ;)");
 }
 
-/// Writes a blank and a comment that names the label of a block.
+/// Writes a space and a comment with the label of a block.
 pub fn label_remark<P: Print>(p: &mut P, block: u64) -> io::Result<()>
     ensures { PrintsAlways P.meaning p.old p.new result
         (Remark true (codes " label = @" ++ (decimal block ++ codes " ")) ∷ []) }
@@ -106,14 +106,14 @@ pub fn label_remark<P: Print>(p: &mut P, block: u64) -> io::Result<()>
     fault.into_result()
 }
 
-/// Writes a comment up to the end of the line that names the label of a block.
+/// Writes a comment to the end of the line with the label of a block.
 pub fn put_label_ending<P: Print>(p: &mut P, fault: &mut Fault, block: u64)
     ensures { Marks P.meaning p.old fault.old p.new fault.new (Ending (codes "label = @" ++ decimal block) ∷ []) }
 {
     put_number_comment(p, fault, ";; label = @", block, "");
 }
 
-/// Writes a comment up to the end of the line that names the label of a block.
+/// Writes a comment to the end of the line with the label of a block.
 pub fn label_ending<P: Print>(p: &mut P, block: u64) -> io::Result<()>
     ensures { PrintsAlways P.meaning p.old p.new result (Ending (codes "label = @" ++ decimal block) ∷ []) }
 {

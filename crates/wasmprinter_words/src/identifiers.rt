@@ -1,5 +1,5 @@
-//! Identifiers and the annotations with names (section 6.3 of the WebAssembly Core Specification, "Identifiers", and the custom annotations
-//! proposal).
+//! Identifiers, and the annotations with names (section 6.3 of the WebAssembly Core Specification, "Identifiers",
+//! and the custom annotations proposal).
 ghost use Rattle.std.specs.Prelude.{◌≡◌, [], ◌∷◌, ◌++◌, true, chars, decimal, if◌then◌else◌};
 ghost use Rattle.wasmprinter_spec.specs.Call.{Text};
 ghost use Rattle.wasmprinter_spec.specs.Character.{class};
@@ -15,7 +15,7 @@ use crate::strings::{put_chars, write_chars};
 use std::io;
 use wasmprinter_print::{Fault, Print, Style, put_text, text, text_in_style};
 
-/// Each byte that stands in an identifier, at the place of its number, and a full stop at the place of any other byte.
+/// The bytes of identifier characters, each at its own index. All other entries are a full stop.
 static IDENTIFIER_BYTES: [u8; 256] = *b"\
     ................................\
     .!.#$%&'..*+.-./0123456789:.<=>?\
@@ -26,7 +26,7 @@ static IDENTIFIER_BYTES: [u8; 256] = *b"\
     ................................\
     ................................";
 
-/// Whether a byte stands in an identifier: an ASCII character that does. A byte of any other character doesn't.
+/// Reports whether a byte is an ASCII character that may occur in an identifier.
 #[inline(always)]
 fn is_identifier_byte(byte: u8) -> bool
     ensures { result ≡ runs (class byte) }
@@ -34,7 +34,8 @@ fn is_identifier_byte(byte: u8) -> bool
     IDENTIFIER_BYTES[usize::from(byte)] == byte
 }
 
-/// Whether all characters of a text stand in an identifier: whether all of its bytes do, since a character beyond ASCII has none that does.
+/// Reports whether all characters of a text may occur in an identifier. Only ASCII characters may, so checking its
+/// bytes is enough.
 fn all_run(s: &str) -> bool
     ensures { result ≡ all_run (chars s.now) }
 {
@@ -46,14 +47,14 @@ fn all_run(s: &str) -> bool
     true
 }
 
-/// Whether a text is the rest of an identifier without quotes.
+/// Reports whether a text may follow the dollar sign of an identifier without quotes.
 fn is_run(s: &str) -> bool
     ensures { result ≡ is_run (chars s.now) }
 {
     !s.is_empty() && all_run(s)
 }
 
-/// Writes a text in quotes without a style.
+/// Writes a quoted string without a style.
 #[tactic(auto, unfolding(wasmprinter_spec::specs::Quoted::quoted_text))]
 fn put_in_quotes<P: Print>(p: &mut P, fault: &mut Fault, s: &str)
     ensures { Puts P.meaning p.old fault.old p.new fault.new (Text (quoted_text (chars s.now)) ∷ []) }
@@ -63,7 +64,7 @@ fn put_in_quotes<P: Print>(p: &mut P, fault: &mut Fault, s: &str)
     put_text(p, fault, "\"");
 }
 
-/// Writes what stands behind the dollar sign of an identifier.
+/// Writes the part of an identifier after its dollar sign.
 fn put_content<P: Print>(p: &mut P, fault: &mut Fault, content: &str)
     ensures { Puts P.meaning p.old fault.old p.new fault.new
         (Text (if is_run (chars content.now) then chars content.now else quoted_text (chars content.now)) ∷ []) }
@@ -78,7 +79,8 @@ fn put_content<P: Print>(p: &mut P, fault: &mut Fault, content: &str)
     }
 }
 
-/// Writes an identifier, by what stands behind its dollar sign: in quotes where a character doesn't stand in an identifier.
+/// Writes an identifier, given the part after its dollar sign. It is a quoted string if it is empty or has other
+/// than identifier characters.
 #[tactic(auto, unfolding(wasmprinter_spec::specs::Quoted::identifier_text))]
 pub fn put_identifier<P: Print>(p: &mut P, fault: &mut Fault, content: &str)
     ensures { Marks P.meaning p.old fault.old p.new fault.new (Identifier (chars content.now) ∷ []) }
@@ -87,7 +89,8 @@ pub fn put_identifier<P: Print>(p: &mut P, fault: &mut Fault, content: &str)
     put_content(p, fault, content);
 }
 
-/// Writes an identifier, by what stands behind its dollar sign: in quotes where a character doesn't stand in an identifier.
+/// Writes an identifier, given the part after its dollar sign. It is a quoted string if it is empty or has other
+/// than identifier characters.
 pub fn identifier<P: Print>(p: &mut P, content: &str) -> io::Result<()>
     ensures { PrintsAlways P.meaning p.old p.new result (Identifier (chars content.now) ∷ []) }
 {
@@ -96,7 +99,7 @@ pub fn identifier<P: Print>(p: &mut P, content: &str) -> io::Result<()>
     fault.into_result()
 }
 
-/// Writes a word and a number behind a text.
+/// Writes a text, a word and a number.
 fn put_numbered<P: Print>(p: &mut P, fault: &mut Fault, before: &str, word: &str, number: u64)
     ensures { Puts P.meaning p.old fault.old p.new fault.new (Text (before.now ++ (word.now ++ decimal number)) ∷ []) }
 {
@@ -105,8 +108,8 @@ fn put_numbered<P: Print>(p: &mut P, fault: &mut Fault, before: &str, word: &str
     put_decimal(p, fault, number);
 }
 
-/// Writes the identifier that is made up of the sign `#`, the word for a kind of items, and a number. It stands without quotes, so that the
-/// characters of the word must be those of identifiers.
+/// Writes the synthesized identifier of an item: the sign `#`, the word of its kind, and its number. It is written
+/// without quotes, so the word must consist of identifier characters.
 pub fn put_made_up_identifier<P: Print>(p: &mut P, fault: &mut Fault, group: &str, number: u64)
     ensures calls { Puts P.meaning p.old fault.old p.new fault.new (Text (36 ∷ index_content group.now number) ∷ []) }
     ensures pieces { all_run group.now ≡ true
@@ -115,8 +118,8 @@ pub fn put_made_up_identifier<P: Print>(p: &mut P, fault: &mut Fault, group: &st
     put_numbered(p, fault, "$#", group, number);
 }
 
-/// Writes the identifier that is made up of the sign `#`, the word for a kind of items, and a number. It stands without quotes, so that the
-/// characters of the word must be those of identifiers.
+/// Writes the synthesized identifier of an item: the sign `#`, the word of its kind, and its number. It is written
+/// without quotes, so the word must consist of identifier characters.
 pub fn made_up_identifier<P: Print>(p: &mut P, group: &str, number: u64) -> io::Result<()>
     ensures calls { Emits P.meaning p.old p.new result (Text (36 ∷ index_content group.now number) ∷ []) }
     ensures pieces { all_run group.now ≡ true
@@ -127,7 +130,7 @@ pub fn made_up_identifier<P: Print>(p: &mut P, group: &str, number: u64) -> io::
     fault.into_result()
 }
 
-/// Writes the annotation with the name that was given to an item.
+/// Writes the annotation with the name of an item.
 pub fn name_note<P: Print>(p: &mut P, name: &str) -> io::Result<()>
     ensures { PrintsAlways P.meaning p.old p.new result (NameNote (chars name.now) ∷ []) }
 {

@@ -1,7 +1,8 @@
-//! Words, numbers, strings and comments of the text format (sections 6.2 and 6.3 of the WebAssembly Core Specification), each in its style,
-//! over any printer.
+//! Words, numbers, strings and comments of the text format (sections 6.2 and 6.3 of the WebAssembly Core
+//! Specification), each in its style, for any printer.
 //!
-//! What answers `io::Result` fails with the error of the call on the printer that failed, and for no other reason.
+//! A function that returns `io::Result` fails only if a call on the printer failed, and returns that call's error.
+//! The functions `put_..` record the first error in a `Fault` instead.
 #![tactic(auto)]
 
 pub mod annotations;

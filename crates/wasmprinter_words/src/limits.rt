@@ -1,4 +1,5 @@
-//! Limits and sizes of pages (section 6.4 of the WebAssembly Core Specification, "Limits", with the sizes of pages of a proposal).
+//! Limits and page sizes (section 6.4 of the WebAssembly Core Specification, "Limits"; page sizes are from a
+//! proposal).
 ghost use Rattle.std.specs.Prelude.{◌<◌, ◌^◌, false, [], ◌∷◌, ◌++◌, codes};
 ghost use Rattle.std.specs.Fmt.{digits};
 ghost use Rattle.wasmprinter_spec.specs.Call.{Text};
@@ -12,7 +13,7 @@ use crate::numbers::{power, write_decimal, write_decimal_between, write_hexadeci
 use std::io;
 use wasmprinter_print::{Print, Style, reset, start};
 
-/// Writes a blank and the greatest size, and nothing where there is none.
+/// Writes a space and the maximum, or nothing if there is none.
 fn write_max<P: Print>(p: &mut P, max: Option<u64>) -> io::Result<()>
     ensures { Emits P.meaning p.old p.new result (Text (behind_blanks (max_words max)) ∷ []) }
 {
@@ -22,7 +23,7 @@ fn write_max<P: Print>(p: &mut P, max: Option<u64>) -> io::Result<()>
     }
 }
 
-/// Writes the least and, if there is one, the greatest size, in one literal.
+/// Writes the minimum and, if there is one, the maximum, as one literal.
 #[tactic(auto, unfolding(wasmprinter_spec::specs::Layout::Limits::limits_pieces))]
 pub fn write_limits<P: Print>(p: &mut P, min: u64, max: Option<u64>) -> io::Result<()>
     ensures { PrintsAlways P.meaning p.old p.new result (limits_pieces (limits_of min max)) }
@@ -33,7 +34,7 @@ pub fn write_limits<P: Print>(p: &mut P, min: u64, max: Option<u64>) -> io::Resu
     reset(p)
 }
 
-/// Writes the size of a page in bytes, a power of two by its exponent, in hexadecimal.
+/// Writes a page size in bytes in hexadecimal, given its exponent as a power of two.
 pub fn page_size<P: Print>(p: &mut P, exponent: u32) -> io::Result<()>
     requires { exponent < 64 }
     ensures { PrintsAlways P.meaning p.old p.new result (Word (codes "0x" ++ digits 16 false (2 ^ exponent)) ∷ []) }

@@ -1,4 +1,4 @@
-//! Whole numbers (section 6.3 of the WebAssembly Core Specification, "Integers").
+//! Integers (section 6.3 of the WebAssembly Core Specification, "Integers").
 ghost use Rattle.std.specs.Prelude.{◌≡◌, ◌<◌, ◌/◌, ◌%◌, ◌^◌, false, [], ◌∷◌, ◌++◌, decimal, length};
 ghost use Rattle.std.specs.Fmt.{digits, digit_glyph};
 ghost use Rattle.wasmprinter_spec.specs.Call.{Text};
@@ -15,7 +15,7 @@ use wasmprinter_print::{Fault, Print, Style, put_reset, put_start, put_text, res
 /// The base of hexadecimal numbers.
 pub const HEXADECIMAL: u64 = 16;
 
-/// A power of two.
+/// Returns a power of two.
 pub fn power(exponent: u32) -> u64
     requires { exponent < 64 }
     ensures { result ≡ 2 ^ exponent }
@@ -23,10 +23,10 @@ pub fn power(exponent: u32) -> u64
     1 << exponent
 }
 
-/// The characters of the digits.
+/// The hexadecimal digits.
 static GLYPHS: [u8; 16] = *b"0123456789abcdef";
 
-/// The character of a digit.
+/// Returns the character of a hexadecimal digit.
 pub(crate) fn glyph_of(digit: u8) -> u8
     requires { digit < 16 }
     ensures { result ≡ digit_glyph false digit }
@@ -34,7 +34,7 @@ pub(crate) fn glyph_of(digit: u8) -> u8
     GLYPHS[usize::from(digit)]
 }
 
-/// Writes a digit, with the letters from a to f for those from ten on.
+/// Writes a hexadecimal digit, in lower case.
 pub fn put_digit<P: Print>(p: &mut P, fault: &mut Fault, digit: u8)
     requires { digit < 16 }
     ensures { Puts P.meaning p.old fault.old p.new fault.new (Text (digit_glyph false digit ∷ []) ∷ []) }
@@ -46,7 +46,7 @@ pub fn put_digit<P: Print>(p: &mut P, fault: &mut Fault, digit: u8)
     );
 }
 
-/// Writes a digit, with the letters from a to f for those from ten on.
+/// Writes a hexadecimal digit, in lower case.
 pub fn write_digit<P: Print>(p: &mut P, digit: u8) -> io::Result<()>
     requires { digit < 16 }
     ensures { Emits P.meaning p.old p.new result (Text (digit_glyph false digit ∷ []) ∷ []) }
@@ -54,7 +54,7 @@ pub fn write_digit<P: Print>(p: &mut P, digit: u8) -> io::Result<()>
     text(p, char::from(glyph_of(digit)).encode_utf8(&mut [0; 4]))
 }
 
-/// Writes a number in hexadecimal, each digit by a call of its own.
+/// Writes a number in hexadecimal, each digit in a call of its own.
 pub(crate) fn put_hexadecimal<P: Print>(p: &mut P, fault: &mut Fault, n: u64)
     ensures { Puts P.meaning p.old fault.old p.new fault.new (Text (digits 16 false n) ∷ []) }
 {
@@ -109,7 +109,7 @@ pub fn write_byte_digits<P: Print>(p: &mut P, byte: u8) -> io::Result<()>
     write_digit(p, byte % 16)
 }
 
-/// How many digits a number has in hexadecimal.
+/// Returns the number of hexadecimal digits of a number.
 pub fn hexadecimal_len(n: u64) -> usize
     ensures { result ≡ length (digits 16 false n) }
 {
@@ -167,7 +167,7 @@ pub fn number<P: Print>(p: &mut P, n: u64) -> io::Result<()>
     reset(p)
 }
 
-/// Writes a blank and an index.
+/// Writes a space and an index.
 pub fn put_gap_index<P: Print>(p: &mut P, fault: &mut Fault, index: u32)
     ensures { Marks P.meaning p.old fault.old p.new fault.new (Gap ∷ (Number index ∷ [])) }
 {
@@ -175,7 +175,7 @@ pub fn put_gap_index<P: Print>(p: &mut P, fault: &mut Fault, index: u32)
     put_number(p, fault, u64::from(index));
 }
 
-/// Writes a blank and an index.
+/// Writes a space and an index.
 pub fn gap_index<P: Print>(p: &mut P, index: u32) -> io::Result<()>
     ensures { PrintsAlways P.meaning p.old p.new result (Gap ∷ (Number index ∷ [])) }
 {
@@ -231,7 +231,7 @@ pub fn numbered_word<P: Print>(p: &mut P, word: &str, n: u64) -> io::Result<()>
     fault.into_result()
 }
 
-/// Writes a blank and a number with its sign.
+/// Writes a space and a signed number.
 pub fn put_constant<P: Print>(p: &mut P, fault: &mut Fault, n: i64)
     ensures { Marks P.meaning p.old fault.old p.new fault.new (Constant n ∷ []) }
 {
@@ -241,7 +241,7 @@ pub fn put_constant<P: Print>(p: &mut P, fault: &mut Fault, n: i64)
     put_reset(p, fault);
 }
 
-/// Writes a blank and a number with its sign.
+/// Writes a space and a signed number.
 pub fn constant<P: Print>(p: &mut P, n: i64) -> io::Result<()>
     ensures { PrintsAlways P.meaning p.old p.new result (Constant n ∷ []) }
 {

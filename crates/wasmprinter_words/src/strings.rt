@@ -1,4 +1,5 @@
-//! Texts in quotes (section 6.3 of the WebAssembly Core Specification, "Strings").
+//! Quoted strings (section 6.3 of the WebAssembly Core Specification, "Strings"). A plain character is one that a
+//! quoted string contains unescaped: printable ASCII except `"` and `\`.
 ghost use Rattle.std.specs.Prelude.{◌≡◌, ◌+◌, ◌<◌, ◌≤◌, true, false, [], ◌∷◌, ◌++◌, flat_map, chars, length};
 ghost use Rattle.std.specs.Prelude.{take, drop, slice_index, if◌then◌else◌};
 ghost use Rattle.std.specs.Str.{IsAscii, IsCharBoundary};
@@ -14,16 +15,18 @@ use std::io;
 use wasmprinter_error::Error;
 use wasmprinter_print::{Fault, Print, Style, put_each_char, put_text, reset, start, text};
 
-/// The most bytes of a quoted string that one call writes.
+/// The maximum number of bytes of a quoted string that one call writes.
 const BUFFER_LEN: usize = 256;
 
-/// The most bytes that a byte takes in quotes.
+/// The maximum number of bytes that one byte takes in a quoted string.
 const WIDEST: usize = 3;
 
-/// The most bytes of a byte string that one call writes: as a quoted string contains them, they take at most `BUFFER_LEN` bytes.
+/// The maximum number of bytes of a byte string that one call writes. In a quoted string they take at most
+/// `BUFFER_LEN` bytes.
 const CHUNK_LEN: usize = BUFFER_LEN / WIDEST;
 
-/// What each byte begins with in quotes: with itself where it stands for itself, and else with the backslash in front of its digits.
+/// The first byte that each byte is written as in a quoted string: the byte itself if it is plain, else the
+/// backslash before its digits.
 static BEGINNINGS: [u8; 256] = *b"\
     \\\\\\\\\\\\\\\\\\\\\\\\\\\\\\\\\\\\\\\\\\\\\\\\\\\\\\\\\\\\\\\\ !\\#$%&'()*+,-./0123456789:;<=>?\
     @ABCDEFGHIJKLMNOPQRSTUVWXYZ[\\]^_\
@@ -33,14 +36,14 @@ static BEGINNINGS: [u8; 256] = *b"\
     \\\\\\\\\\\\\\\\\\\\\\\\\\\\\\\\\\\\\\\\\\\\\\\\\\\\\\\\\\\\\\\\\
     \\\\\\\\\\\\\\\\\\\\\\\\\\\\\\\\\\\\\\\\\\\\\\\\\\\\\\\\\\\\\\\\";
 
-/// Whether a character stands for itself in quotes.
+/// Reports whether a quoted string contains a character unescaped.
 fn is_plain(c: char) -> bool
     ensures { result ≡ is_plain c }
 {
     matches!(c, ' '..='~') && c != '"' && c != '\\'
 }
 
-/// Writes a character of a quoted string by its number in hexadecimal, as `\u{..}`.
+/// Writes a character of a quoted string as `\u{..}`, with its number in hexadecimal.
 fn put_escape<P: Print>(p: &mut P, fault: &mut Fault, c: char)
     requires { is_plain c ≡ false }
     ensures { Puts P.meaning p.old fault.old p.new fault.new (Text (char_text c) ∷ []) }
@@ -50,7 +53,8 @@ fn put_escape<P: Print>(p: &mut P, fault: &mut Fault, c: char)
     put_text(p, fault, "}");
 }
 
-/// Returns the length in bytes of a run of plain characters at the start of a text whose first character is plain: at most `BUFFER_LEN`.
+/// Returns the length in bytes of a run of plain characters at the start of a text, at most `BUFFER_LEN`. The
+/// first character must be plain.
 fn plain_len(s: &str) -> usize
     requires some { 0 < length s.now }
     requires plain { is_plain (slice_index s.now 0) ≡ true }
@@ -69,7 +73,8 @@ fn plain_len(s: &str) -> usize
     most
 }
 
-/// Writes the characters of a text as a quoted string contains them: plain characters in runs, each by one call.
+/// Writes the characters of a text as a quoted string contains them, plain characters in runs, each run in one
+/// call.
 fn put_chars_in_runs<P: Print>(p: &mut P, fault: &mut Fault, s: &str)
     ensures { Puts P.meaning p.old fault.old p.new fault.new (Text (flat_map char_text (chars s.now)) ∷ []) }
 {
@@ -93,7 +98,7 @@ fn put_chars_in_runs<P: Print>(p: &mut P, fault: &mut Fault, s: &str)
     }
 }
 
-/// Writes a character of a quoted string by its number in hexadecimal, as `\u{..}`.
+/// Writes a character of a quoted string as `\u{..}`, with its number in hexadecimal.
 fn write_escape<P: Print>(p: &mut P, c: char) -> io::Result<()>
     requires { is_plain c ≡ false }
     ensures { Emits P.meaning p.old p.new result (Text (char_text c) ∷ []) }
@@ -103,7 +108,7 @@ fn write_escape<P: Print>(p: &mut P, c: char) -> io::Result<()>
     fault.into_result()
 }
 
-/// Writes the characters of a text as a quoted string contains them, each plain character by a call of its own.
+/// Writes the characters of a text as a quoted string contains them, each plain character in a call of its own.
 fn write_chars_one_by_one<P: Print>(p: &mut P, s: &str) -> io::Result<()>
     ensures { Emits P.meaning p.old p.new result (Text (flat_map char_text (chars s.now)) ∷ []) }
 {
@@ -138,7 +143,7 @@ pub(crate) fn put_chars<P: Print>(p: &mut P, fault: &mut Fault, s: &str)
     }
 }
 
-/// Writes a text in quotes, with what isn't printable by its number.
+/// Writes a text as a quoted string.
 #[tactic(auto, unfolding(wasmprinter_spec::specs::Quoted::quoted_text))]
 pub fn write_string<P: Print>(p: &mut P, s: &str) -> io::Result<()>
     ensures calls { Emits P.meaning p.old p.new result (calls_in_style Literal (quoted_text (chars s.now))) }
@@ -151,12 +156,12 @@ pub fn write_string<P: Print>(p: &mut P, s: &str) -> io::Result<()>
     reset(p)
 }
 
-/// Writes a text in quotes, as the text of a module writes it: printable ASCII as it is but for `"` and `\`, any other character as
-/// `\u{..}` with its number in hexadecimal (section 6.3 of the standard, "Strings").
+/// Writes a text as a quoted string: printable ASCII characters except `"` and `\` unescaped, any other character
+/// as `\u{..}` with its number in hexadecimal (section 6.3 of the standard, "Strings").
 ///
 /// # Errors
 ///
-/// `Printer` where a call on the printer failed, with that call's error, and no other.
+/// - `Printer` with the error of the call on the printer that failed.
 pub fn write_quoted<P: Print>(p: &mut P, s: &str) -> Result<(), Error>
     ensures { EmitsOrFails P.meaning p.old p.new result (calls_in_style Literal (quoted_text (chars s.now))) }
 {
@@ -164,15 +169,16 @@ pub fn write_quoted<P: Print>(p: &mut P, s: &str) -> Result<(), Error>
     Ok(())
 }
 
-/// What a byte begins with in quotes.
+/// Returns the first byte that a byte is written as in a quoted string.
 fn beginning_of(byte: u8) -> u8
     ensures { result ≡ (if is_plain byte then byte else 92) }
 {
     BEGINNINGS[usize::from(byte)]
 }
 
-/// Shows a byte as it stands in quotes, behind so many bytes of a text, and answers how many there are then: the ASCII character, or `\hh`
-/// with its two hexadecimal digits. All three places are written, since a branch would cost more.
+/// Appends a byte, as a quoted string contains it, to the first `len` bytes of `shown`, and returns the new
+/// length. The byte is an ASCII character, or `\hh` with its two hexadecimal digits. All three bytes are stored in
+/// both cases, because a branch would be slower.
 fn show_byte(shown: &mut [u8; BUFFER_LEN], len: usize, byte: u8) -> usize
     requires { len + 3 ≤ 256 }
     ensures text { take result shown.new ≡ take len shown.old ++ byte_text byte }
@@ -189,7 +195,7 @@ fn show_byte(shown: &mut [u8; BUFFER_LEN], len: usize, byte: u8) -> usize
     }
 }
 
-/// Shows bytes as they stand in quotes, and answers how many bytes that takes.
+/// Stores bytes in `shown` as a quoted string contains them, and returns the number of bytes that they take.
 fn show_bytes(shown: &mut [u8; BUFFER_LEN], bytes: &[u8]) -> usize
     requires { length bytes.now ≤ 85 }
     ensures text { take result shown.new ≡ flat_map byte_text bytes.now }
@@ -214,7 +220,7 @@ fn put_ascii<P: Print>(p: &mut P, fault: &mut Fault, bytes: &[u8])
     put_each_char(p, fault, s);
 }
 
-/// Writes bytes as a quoted string contains them, `CHUNK_LEN` by one call.
+/// Writes bytes as a quoted string contains them, `CHUNK_LEN` bytes in each call.
 fn put_bytes_in_runs<P: Print>(p: &mut P, fault: &mut Fault, bytes: &[u8])
     ensures { Puts P.meaning p.old fault.old p.new fault.new (Text (flat_map byte_text bytes.now) ∷ []) }
 {
@@ -228,7 +234,7 @@ fn put_bytes_in_runs<P: Print>(p: &mut P, fault: &mut Fault, bytes: &[u8])
     }
 }
 
-/// Writes a byte of a quoted string as `\hh` with its two hexadecimal digits.
+/// Writes a byte of a quoted string as `\hh`, with its two hexadecimal digits.
 #[inline(always)]
 #[tactic(auto, unfolding(wasmprinter_spec::specs::Quoted::byte_text))]
 fn write_byte_escape<P: Print>(p: &mut P, byte: u8) -> io::Result<()>
@@ -240,7 +246,7 @@ fn write_byte_escape<P: Print>(p: &mut P, byte: u8) -> io::Result<()>
     text(p, char::from(glyph_of(byte % 16)).encode_utf8(&mut [0; 4]))
 }
 
-/// Writes bytes as a quoted string contains them, each plain byte by a call of its own.
+/// Writes bytes as a quoted string contains them, each plain byte in a call of its own.
 fn write_bytes_one_by_one<P: Print>(p: &mut P, bytes: &[u8]) -> io::Result<()>
     ensures { Emits P.meaning p.old p.new result (Text (flat_map byte_text bytes.now) ∷ []) }
 {
@@ -267,7 +273,7 @@ fn write_each_byte<P: Print>(p: &mut P, bytes: &[u8]) -> io::Result<()>
     fault.into_result()
 }
 
-/// Writes bytes in quotes, with what isn't printable by its hexadecimal digits.
+/// Writes bytes as a quoted string.
 #[tactic(auto, unfolding(wasmprinter_spec::specs::Quoted::quoted_bytes))]
 pub fn write_byte_string<P: Print>(p: &mut P, bytes: &[u8]) -> io::Result<()>
     ensures calls { Emits P.meaning p.old p.new result (calls_in_style Literal (quoted_bytes bytes.now)) }
@@ -280,12 +286,12 @@ pub fn write_byte_string<P: Print>(p: &mut P, bytes: &[u8]) -> io::Result<()>
     reset(p)
 }
 
-/// Writes bytes in quotes, as the text of a module writes them: those of printable ASCII as they are but for `"` and `\`, any
-/// other byte as `\hh` with its two hexadecimal digits (section 6.3 of the standard, "Strings").
+/// Writes bytes as a quoted string: printable ASCII except `"` and `\` unescaped, any other byte as `\hh` with its
+/// two hexadecimal digits (section 6.3 of the standard, "Strings").
 ///
 /// # Errors
 ///
-/// `Printer` where a call on the printer failed, with that call's error, and no other.
+/// - `Printer` with the error of the call on the printer that failed.
 pub fn write_bytes<P: Print>(p: &mut P, bytes: &[u8]) -> Result<(), Error>
     ensures { EmitsOrFails P.meaning p.old p.new result (calls_in_style Literal (quoted_bytes bytes.now)) }
 {

@@ -1,4 +1,4 @@
-//! Parentheses, blanks and words.
+//! Parentheses, spaces and words.
 ghost use Rattle.std.specs.Prelude.{[], ◌∷◌, ◌++◌};
 ghost use Rattle.wasmprinter_spec.specs.Piece.{Gap, Open, OpenBare, OpenGap, OpenPlain, OpenTypeGap, Shut, BeginName, EndStyle};
 ghost use Rattle.wasmprinter_spec.specs.Piece.{Word, TypeWord, TypeWordGap, GapTypeWord, calls_in_style as in_style};
@@ -13,7 +13,7 @@ use wasmprinter_print::{
     text_in_style,
 };
 
-/// Writes two texts as one in a style.
+/// Writes two texts in one style.
 pub(crate) fn put_two_texts_in_style<P: Print>(
     p: &mut P,
     fault: &mut Fault,
@@ -29,7 +29,7 @@ pub(crate) fn put_two_texts_in_style<P: Print>(
     put_reset(p, fault);
 }
 
-/// Writes two texts as one in a style.
+/// Writes two texts in one style.
 pub(crate) fn two_texts_in_style<P: Print>(
     p: &mut P,
     style: Style,
@@ -60,7 +60,7 @@ pub fn open<P: Print>(p: &mut P, keyword: &str) -> io::Result<()>
     text_in_style(p, Style::Keyword, keyword)
 }
 
-/// Opens a group with a blank behind its keyword.
+/// Opens a group, and writes a space after its keyword.
 pub fn put_open_gap<P: Print>(p: &mut P, fault: &mut Fault, keyword: &str)
     ensures { Marks P.meaning p.old fault.old p.new fault.new (OpenGap keyword.now ∷ []) }
 {
@@ -68,7 +68,7 @@ pub fn put_open_gap<P: Print>(p: &mut P, fault: &mut Fault, keyword: &str)
     put_two_texts_in_style(p, fault, Style::Keyword, keyword, " ");
 }
 
-/// Opens a group with a blank behind its keyword.
+/// Opens a group, and writes a space after its keyword.
 pub fn open_gap<P: Print>(p: &mut P, keyword: &str) -> io::Result<()>
     ensures { PrintsAlways P.meaning p.old p.new result (OpenGap keyword.now ∷ []) }
 {
@@ -92,7 +92,7 @@ pub fn open_plain<P: Print>(p: &mut P, unstyled: &str) -> io::Result<()>
     text(p, unstyled)
 }
 
-/// Opens a group whose keyword is the word of a type, with a blank behind it.
+/// Opens a group whose keyword is the word of a type, and writes a space after it.
 pub fn open_type_gap<P: Print>(p: &mut P, word: &str) -> io::Result<()>
     ensures { PrintsAlways P.meaning p.old p.new result (OpenTypeGap word.now ∷ []) }
 {
@@ -108,28 +108,28 @@ pub fn open_bare<P: Print>(p: &mut P) -> io::Result<()>
     text_in_style(p, Style::Keyword, "")
 }
 
-/// Closes a group on the line where it ends.
+/// Closes a group on the current line.
 pub fn put_shut<P: Print>(p: &mut P, fault: &mut Fault)
     ensures { Marks P.meaning p.old fault.old p.new fault.new (Shut ∷ []) }
 {
     put_text(p, fault, ")");
 }
 
-/// Closes a group on the line where it ends.
+/// Closes a group on the current line.
 pub fn shut<P: Print>(p: &mut P) -> io::Result<()>
     ensures { PrintsAlways P.meaning p.old p.new result (Shut ∷ []) }
 {
     text(p, ")")
 }
 
-/// Writes a blank.
+/// Writes a space.
 pub fn put_gap<P: Print>(p: &mut P, fault: &mut Fault)
     ensures { Marks P.meaning p.old fault.old p.new fault.new (Gap ∷ []) }
 {
     put_text(p, fault, " ");
 }
 
-/// Writes a blank.
+/// Writes a space.
 pub fn gap<P: Print>(p: &mut P) -> io::Result<()>
     ensures { PrintsAlways P.meaning p.old p.new result (Gap ∷ []) }
 {
@@ -164,49 +164,49 @@ pub fn type_word<P: Print>(p: &mut P, word: &str) -> io::Result<()>
     text_in_style(p, Style::TypeName, word)
 }
 
-/// Writes the word of a type and a blank.
+/// Writes the word of a type and a space.
 pub fn type_word_gap<P: Print>(p: &mut P, word: &str) -> io::Result<()>
     ensures { PrintsAlways P.meaning p.old p.new result (TypeWordGap word.now ∷ []) }
 {
     two_texts_in_style(p, Style::TypeName, word, " ")
 }
 
-/// Writes a blank and the word of a type.
+/// Writes a space and the word of a type.
 pub fn put_gap_type_word<P: Print>(p: &mut P, fault: &mut Fault, word: &str)
     ensures { Marks P.meaning p.old fault.old p.new fault.new (GapTypeWord word.now ∷ []) }
 {
     put_two_texts_in_style(p, fault, Style::TypeName, " ", word);
 }
 
-/// Writes a blank and the word of a type.
+/// Writes a space and the word of a type.
 pub fn gap_type_word<P: Print>(p: &mut P, word: &str) -> io::Result<()>
     ensures { PrintsAlways P.meaning p.old p.new result (GapTypeWord word.now ∷ []) }
 {
     two_texts_in_style(p, Style::TypeName, " ", word)
 }
 
-/// Text in the style of names follows.
+/// Starts the style of names.
 pub fn put_begin_name<P: Print>(p: &mut P, fault: &mut Fault)
     ensures { Marks P.meaning p.old fault.old p.new fault.new (BeginName ∷ []) }
 {
     put_start(p, fault, Style::Name);
 }
 
-/// Text in the style of names follows.
+/// Starts the style of names.
 pub fn begin_name<P: Print>(p: &mut P) -> io::Result<()>
     ensures { PrintsAlways P.meaning p.old p.new result (BeginName ∷ []) }
 {
     start(p, Style::Name)
 }
 
-/// Text without a style follows.
+/// Ends the current style: the text after it has none.
 pub fn put_end_style<P: Print>(p: &mut P, fault: &mut Fault)
     ensures { Marks P.meaning p.old fault.old p.new fault.new (EndStyle ∷ []) }
 {
     put_reset(p, fault);
 }
 
-/// Text without a style follows.
+/// Ends the current style: the text after it has none.
 pub fn end_style<P: Print>(p: &mut P) -> io::Result<()>
     ensures { PrintsAlways P.meaning p.old p.new result (EndStyle ∷ []) }
 {

@@ -1,4 +1,4 @@
--- The decimal digits of the colours' numbers.
+-- The decimal digits of the numbers of colors.
 use Rattle.std.specs.Prelude.{◌≡◌, [], ◌∷◌, decimal, refl}
 use Rattle.std.specs.Fmt.{digits}
 

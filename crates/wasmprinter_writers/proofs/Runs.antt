@@ -1,4 +1,4 @@
--- What runs of calls make of the bytes that a writer tells.
+-- The effect of runs of calls on the contents that a writer reports.
 use Rattle.std.specs.Prelude.{◌≡◌, ℕ, List, [], ◌∷◌, ◌++◌, Option, Some, None, Ok, refl}
 use Rattle.std.specs.List.{concat}
 use Rattle.std.specs.Io.KnownBytes.{Appends}
@@ -21,15 +21,15 @@ appends_both (Some xs) None c x y h k = absurd h
 appends_both (Some xs) (Some ys) None x y h k = absurd k
 appends_both (Some xs) (Some ys) (Some zs) x y h k = k ∙ ap (λ l. l ++ y) h ∙ append_assoc xs x y
 
--- a writer that stays as it is
+-- If nothing is written, then the contents grow by no bytes.
 stays : {T : Type 0} (view : T → Option (List ℕ)) (s t : T) → WritesNothing s (Ok tt) t → Appends (view s) (view t) []
 stays view s t h = rw h.1 (appends_nothing (view s))
 
--- what a writer tells grows by what it takes
+-- Each successful write appends its bytes to the contents.
 abbrev Grows : {T : Type 0} → (T → Option (List ℕ)) → Writing T → Type 0
 Grows {T} view takes = (s : T) (bytes : List ℕ) (t : T) → takes s bytes (Ok tt) t → Appends (view s) (view t) bytes
 
--- byte strings that were all written
+-- If all byte strings were written, then the contents grow by their concatenation.
 each_appended : {T : Type 0} (view : T → Option (List ℕ)) (takes : Writing T) → Grows view takes →
     (all : List (List ℕ)) (s t : T) → WritesEach takes s all (Ok tt) t → Appends (view s) (view t) (concat all)
 each_appended view takes grows [] s t h = stays view s t h
@@ -63,7 +63,7 @@ uncoloured_call view takes paints grows idle s (Line place) t h = stays view s t
 uncoloured_call view takes paints grows idle s (Start style) t h = stays view s t (idle s (look_of style) t h)
 uncoloured_call view takes paints grows idle s (Claim name place bytes claimed) t h = stays view s t h.1
 
--- a view that grows by the bytes of each call grows by those of a run
+-- If a view grows by the bytes of each call, then it grows by the bytes of a run.
 run_appends : {P : Type 0} (m : Meaning P) (view : P → Option (List ℕ)) (bytes_of : Call → List ℕ) (all : List Call → List ℕ) → all [] ≡ [] →
     ((c : Call) (cs : List Call) → all (c ∷ cs) ≡ bytes_of c ++ all cs) →
     ((s : P) (c : Call) (t : P) → m.after s c t → Appends (view s) (view t) (bytes_of c)) →
@@ -72,19 +72,19 @@ run_appends m view bytes_of all none more grows s t [] r = rw (none, sym r) (app
 run_appends m view bytes_of all none more grows s t (c ∷ calls) r =
     rw (more c calls) (appends_both (view s) (view r.0) (view t) (bytes_of c) (all calls) (grows s c r.0 r.1.step) (run_appends m view bytes_of all none more grows r.0 t calls r.2))
 
--- a printer of text alone that tells its bytes
+-- The contents of a text-only printer grow by the text of the calls.
 pub text_run : {P : Type 0} (view : P → Option (List ℕ)) (s t : P) (calls : List Call) → Run (text_only (TakesWhole view)) s calls t → Appends (view s) (view t) (text_of calls)
 text_run view =
     run_appends (text_only (TakesWhole view)) view call_text text_of refl (λ c cs. refl) (λ s c t h. text_call view (TakesWhole view) (λ a b z k. k) s c t h)
 
--- a printer in colours over a writer that leaves no trace of them
+-- The contents of a writer that writes nothing for colors grow by the text of the calls.
 pub uncoloured_run : {P T : Type 0} (writer_of : P → T) (contents : T → Option (List ℕ)) (s t : P) (calls : List Call) →
     Run (coloured_meaning writer_of (TakesWhole contents) PaintsNothing) s calls t → Appends (contents (writer_of s)) (contents (writer_of t)) (text_of calls)
 uncoloured_run writer_of contents =
     run_appends (coloured_meaning writer_of (TakesWhole contents) PaintsNothing) (λ p. contents (writer_of p)) call_text text_of refl (λ c cs. refl)
     (λ s c t h. uncoloured_call contents (TakesWhole contents) PaintsNothing (λ a b z k. k) (λ a look z k. k) (writer_of s) c (writer_of t) h)
 
--- a printer in colours over a writer that writes their sequences to one that tells its bytes
+-- The contents of a writer that writes colors as escape sequences grow by the text of the calls with the sequences.
 pub coloured_run : {P T U : Type 0} (writer_of : P → T) (inner_of : T → U) (contents : U → Option (List ℕ)) (s t : P) (calls : List Call) →
     Run (coloured_meaning writer_of (TakesWhole (λ w. contents (inner_of w))) (PaintsBySequences inner_of (TakesWhole contents))) s calls t →
     Appends (contents (inner_of (writer_of s))) (contents (inner_of (writer_of t))) (coloured_text calls)

@@ -1,4 +1,4 @@
--- Worked rows of the sequences that a printer in colours writes, typed by hand.
+-- Worked rows of the escape sequences that a color printer writes, typed by hand.
 use Rattle.std.specs.Prelude.{◌≡◌, [], ◌∷◌, ◌++◌, true, false, Some, None, codes, refl}
 use Rattle.std.specs.Fmt.{digits}
 use Rattle.wasmprinter_spec.specs.Call.{Text, Newline, Line, Start, Claim, Keyword, Reset}
@@ -6,17 +6,17 @@ use Rattle.wasmprinter_spec.specs.Looks.{sequences_of}
 use Rattle.wasmprinter_spec.specs.Coloured.{coloured_text}
 use Rattle.wasmprinter_spec.proofs.Sequences.{escape}
 
--- the module without fields
+-- The text of an empty module
 empty_module : coloured_text (Line (Some 0) ∷ Text (codes "(") ∷ Start Keyword ∷ Text (codes "module") ∷ Start Reset ∷ Text (codes ")") ∷ Newline ∷ [])
     ≡ codes "(" ++ escape (codes "0m") ++ escape (codes "1m") ++ escape (codes "38;5;11m") ++ codes "module" ++ escape (codes "0m") ++ codes ")\n"
 unfolding digits
 empty_module = refl
 
--- questions leave no trace
+-- A claim, which writes nothing
 questions : coloured_text (Text (codes "a") ∷ Claim (codes "name") 8 (0 ∷ []) false ∷ Text (codes "b") ∷ []) ≡ codes "ab"
 questions = refl
 
--- bold without a colour; an intense look without a colour; a colour that isn't bold but intense
+-- Bold without a color, intense without a color, and an intense color that is not bold
 bold_alone : sequences_of (Some (record { colour = None; bold = true; intense = false })) ≡ escape (codes "0m") ∷ escape (codes "1m") ∷ []
 bold_alone = refl
 

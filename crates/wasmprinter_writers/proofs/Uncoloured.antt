@@ -1,4 +1,4 @@
--- The sequences that a printer in colours adds are those that `uncolour` deletes.
+-- The escape sequences that a color printer adds are those that `uncolour` deletes.
 use Rattle.std.specs.Prelude.{◌≡◌, ℕ, List, [], ◌∷◌, ◌++◌, refl}
 use Rattle.std.specs.List.{concat}
 use Rattle.std.specs.Fmt.{digits}
@@ -12,12 +12,12 @@ use Rattle.wasmprinter_lexical.proofs.Plain.{uncolour-byte}
 use Rattle.wasmprinter_spec.proofs.Each.{all_parts}
 use Rattle.wasmprinter_writers.specs.Sequences.{ColoursKeepText}
 
--- plain text in front stays
+-- Plain text at the front is kept.
 front_stays : (text rest : List ℕ) → IsPlainText (text ++ rest) → (more : List ℕ) → uncolour (text ++ more) ≡ text ++ uncolour more
 front_stays [] rest h more = refl
 front_stays (b ∷ bs) rest h more = uncolour-byte b (bs ++ more) h.0 ∙ ap (λ t. b ∷ t) (front_stays bs rest h.1 more)
 
--- the sequences of a style go
+-- The sequences of a style are deleted.
 style_goes : (style : Style) (more : List ℕ) → uncolour (concat (sequences_of (look_of style)) ++ more) ≡ uncolour more
 unfolding digits
 style_goes Literal more = refl

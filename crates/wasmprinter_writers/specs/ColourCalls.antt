@@ -1,4 +1,4 @@
--- What the calls on a printer in colours make of the writer that it stands over.
+-- The meaning of calls on a color printer, as calls on its writer.
 use Rattle.std.specs.Prelude.{◌≡◌, [], ◌∷◌, false, Option, None, Result, Ok, Err}
 use Rattle.std.specs.declared.io.Error.{Error as IoError}
 use Rattle.wasmprinter_spec.specs.Call.{Call, Text, Newline, Line, Start, Claim, IsTextOrStyle}
@@ -7,20 +7,21 @@ use Rattle.wasmprinter_spec.specs.Looks.{Look, sequences_of}
 use Rattle.wasmprinter_spec.specs.Coloured.{look_of}
 use Rattle.wasmprinter_writers.specs.Writing.{Writing, WritesNothing, WritesEach}
 
--- what a call that asks for a look may answer, and what it makes of the writer
+-- The results that a call for a look may have, and the states of the writer after it.
 abbrev pub Painting : Type 0 → Type 1
 Painting T = T → Option Look → Result (Unit {0}) IoError → T → Type 0
 
--- a look is written as its sequences to the writer that `inner_of` gives
+-- A look is written as its escape sequences to the writer that `inner_of` returns.
 abbrev pub PaintsBySequences : {T U : Type 0} → (T → U) → Writing U → Painting T
 PaintsBySequences inner_of takes old look answer new = WritesEach takes (inner_of old) (sequences_of look) answer (inner_of new)
 
--- looks leave no trace
+-- A look writes nothing.
 abbrev pub PaintsNothing : {T : Type 0} → Painting T
 PaintsNothing old look answer new = WritesNothing old answer new
 
--- A text and a line feed are written, in one write each, and a style asks for its look, once; the answer is that of the call. A line and a
--- claim write nothing, and no claim is taken.
+-- A text and a line feed are each written by one write. A style is one call for its look. The result of the call
+-- is that of the write or of the call for the look. A line and a claim write nothing, and no custom section is
+-- claimed.
 abbrev pub WritesInColour : {T : Type 0} → Writing T → Painting T → T → Call → Result (Unit {0}) IoError → T → Type 0
 WritesInColour takes paints old (Text bytes) answer new = takes old bytes answer new
 WritesInColour takes paints old Newline answer new = takes old (10 ∷ []) answer new
@@ -28,7 +29,8 @@ WritesInColour takes paints old (Line place) answer new = WritesNothing old answ
 WritesInColour takes paints old (Start style) answer new = paints old (look_of style) answer new
 WritesInColour takes paints old (Claim name place bytes claimed) answer new = (claimed ≡ false) × WritesNothing old answer new
 
--- the meaning of a printer in colours over the writer that `writer_of` gives: only what writes or asks for a look can fail
+-- The meaning of a color printer over the writer that `writer_of` returns: only writes and calls for a look can
+-- fail.
 abbrev pub coloured_meaning : {P T : Type 0} → (P → T) → Writing T → Painting T → Meaning P
 coloured_meaning writer_of takes paints = record {
   after = λ old call new. WritesInColour takes paints (writer_of old) call (Ok tt) (writer_of new);

@@ -1,4 +1,4 @@
--- What the contracts of printers over writers of bytes cite.
+-- Definitions for the contracts of printers over byte writers.
 pub mod Writing
 pub mod Numbers
 pub mod ColourCalls

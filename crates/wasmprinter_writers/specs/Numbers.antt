@@ -1,9 +1,9 @@
--- The numbers of the colours that code names.
+-- The numbers of the colors in the code.
 use Rattle.std.specs.Prelude.{ℕ, Option, Some, None}
 use Rattle.wasmprinter_writers.specs.declared.color.Color.{Color}
 use Rattle.wasmprinter_writers.specs.declared.color.Color.TheVariants.{Red, Green, Yellow, Magenta, Cyan}
 
--- the number that the standard gives a colour
+-- The number of a color in ECMA-48.
 abbrev pub number_of : Color → ℕ
 number_of Red = 1
 number_of Green = 2

@@ -1,22 +1,22 @@
--- What writes of bytes come to.
+-- The meaning of writes of bytes.
 use Rattle.std.specs.Prelude.{◌≡◌, ℕ, ◌⊎◌, List, [], ◌∷◌, Option, Result, Ok, Err, OnOk, IsErrAnd}
 use Rattle.std.specs.Io.KnownBytes.{Appends}
 use Rattle.std.specs.declared.io.Error.{Error as IoError}
 
--- what a write of bytes may answer, and what it makes of the writer
+-- The results that a write of bytes may have, and the states of the writer after it.
 abbrev pub Writing : Type 0 → Type 1
 Writing T = T → List ℕ → Result (Unit {0}) IoError → T → Type 0
 
--- where the bytes are taken, what the writer tells of its bytes grows by them; nothing is known of a write that failed
+-- On success the writer's contents, if it reports them, grow by the bytes. Nothing is known of a write that failed.
 abbrev pub TakesWhole : {T : Type 0} → (T → Option (List ℕ)) → Writing T
 TakesWhole contents old bytes answer new = OnOk answer (Appends (contents old) (contents new) bytes)
 
--- nothing is written, and this succeeds
+-- Nothing is written, and the result is `Ok`.
 abbrev pub WritesNothing : {T : Type 0} → T → Result (Unit {0}) IoError → T → Type 0
 WritesNothing old answer new = (answer ≡ Ok tt) × (new ≡ old)
 
--- Each of the byte strings is written, in order, up to the first write that fails: its error is the answer, and
--- nothing is written behind it.
+-- The byte strings are written in order, up to the first write that fails. The result is the error of that write,
+-- and nothing is written after it.
 abbrev pub WritesEach : {T : Type 0} → Writing T → T → List (List ℕ) → Result (Unit {0}) IoError → T → Type 0
 WritesEach takes old [] answer new = WritesNothing old answer new
 WritesEach {T} takes old (bytes ∷ rest) answer new =

@@ -1,4 +1,4 @@
-//! A writer that shows colours by the sequences of a terminal.
+//! A writer that shows colors as ANSI escape sequences.
 ghost use Rattle.std.specs.Prelude.{◌≡◌, true, false, OnOk};
 ghost use Rattle.std.specs.Io.KnownBytes.{Appends};
 ghost use Rattle.wasmprinter_writers.specs.Writing.{WritesEach};
@@ -10,13 +10,14 @@ use crate::{Color, ColorSpec, WriteBytes, WriteColor};
 use std::io;
 use std::io::Write;
 
-/// Text without colours follows, and not bold.
+/// The sequence that ends all colors and bold text.
 const RESET: &str = "\x1b[0m";
 
-/// Bold text follows.
+/// The sequence that starts bold text.
 const BOLD: &str = "\x1b[1m";
 
-/// A writer that passes its bytes on, and writes colours as sequences of a terminal (Select Graphic Rendition of ECMA-48).
+/// A writer that forwards its bytes, and writes colors as ANSI escape sequences (Select Graphic Rendition of
+/// ECMA-48).
 #[derive(Debug, Drop)]
 pub struct Ansi<W> {
     inner: W,
@@ -30,7 +31,7 @@ impl<W> Ansi<W> {
         Ansi { inner }
     }
 
-    /// Returns the writer.
+    /// Returns the wrapped writer.
     pub fn into_inner(self) -> W
         ensures { result ≡ self.inner }
     {
@@ -83,7 +84,7 @@ impl<W: WriteBytes> WriteColor for Ansi<W> {
     }
 }
 
-/// Makes the text that follows bold, if it is to be.
+/// Writes the sequence for bold text if `is_bold` is set.
 fn write_bold<W: WriteBytes>(w: &mut W, is_bold: bool) -> io::Result<()>
     ensures { WritesEach W.takes w.old (bold_sequences is_bold) result w.new }
 {
@@ -94,7 +95,7 @@ fn write_bold<W: WriteBytes>(w: &mut W, is_bold: bool) -> io::Result<()>
     }
 }
 
-/// Gives the text that follows its colour, if it has one.
+/// Writes the sequence of the color, if there is one.
 fn write_color<W: WriteBytes>(w: &mut W, fg: Option<Color>, is_intense: bool) -> io::Result<()>
     ensures { WritesEach W.takes w.old (colour_sequences (colour_of fg) is_intense) result w.new }
 {
@@ -104,7 +105,8 @@ fn write_color<W: WriteBytes>(w: &mut W, fg: Option<Color>, is_intense: bool) ->
     }
 }
 
-/// The sequence of a colour: 3 and its number for one of the first eight; intense ones go by their numbers among the palette's 256.
+/// Returns the escape sequence of a color. A normal color is one of the first eight, an intense color one of the
+/// 256-color palette.
 #[tactic(auto, using(crate::proofs::Decimals::decimals))]
 fn sequence(color: Color, is_intense: bool) -> &'static str
     ensures { result.now ≡ foreground (number_of color) is_intense }

@@ -1,4 +1,4 @@
-//! Writers that take bytes whole.
+//! Byte writers that write all bytes in one call.
 ghost use Rattle.std.specs.Prelude.{Result, OnOk};
 ghost use Rattle.std.specs.Io.KnownBytes.{Appends};
 ghost use Rattle.wasmprinter_writers.specs.Writing.{Writing, TakesWhole};
@@ -6,21 +6,22 @@ ghost use Rattle.wasmprinter_writers.specs.Writing.{Writing, TakesWhole};
 use std::io;
 use std::io::Write;
 
-/// A writer of bytes as the printers of this crate ask it: for all the bytes at once. Each `Write` is one.
+/// A byte writer as the printers of this crate use it: each call writes all of its bytes. Every `Write` is one.
 ///
-/// The contract of a failed `write_all` says nothing. Here a contract names each call with its answer, so that it can say which calls
-/// were made, that none was made behind a failed one, and that the error is that of the failed one.
+/// The contract of `write_all` says nothing about a call that fails. The contract of `write_bytes` relates each
+/// call to its result. So it can say which calls were made, that none was made after a failed one, and that the
+/// error is that of the failed call.
 pub trait WriteBytes: Write {
-    // What a write of these bytes may answer, and what it makes of the writer.
+    // The results that a write of these bytes may have, and the states of the writer after it.
     ghost takes: { Writing Self };
 
-    /// Writes all the bytes, or fails.
+    /// Writes all bytes, or returns the writer's error.
     fn write_bytes(&mut self, bytes: &[u8]) -> io::Result<()>
         ensures exact { takes self.old bytes.now result self.new }
         ensures bytes { OnOk result (Appends (Self.contents self.old) (Self.contents self.new) bytes.now) };
 }
 
-// What a writer tells of its bytes grows by these, where it takes them.
+// On success the writer's contents, if it reports them, grow by these bytes.
 impl<W: Write> WriteBytes for W {
     ghost takes = { TakesWhole W.contents };
 

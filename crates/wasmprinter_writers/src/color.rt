@@ -1,6 +1,7 @@
-//! Colours of a terminal.
+//! Terminal colors.
 
-/// A colour that text is printed in. With each stands its number among a terminal's 256 colours, and that of its intense shade.
+/// The color of text. Each variant lists its number in the 256-color palette of a terminal, and that of its
+/// intense shade.
 #[derive(Debug, Clone, Copy, PartialEq, Eq)]
 pub enum Color {
     /// 1, intense 9.

@@ -1,9 +1,9 @@
-//! How text looks on a terminal.
+//! The look of text on a terminal.
 
 use crate::Color;
 use std::marker::Model;
 
-/// How text looks: its colour, if it has one of its own, whether it is bold, and whether the colour is the intense one.
+/// The look of text: its color, if it has one, whether it is bold, and whether the color is the intense one.
 #[derive(Debug, Drop)]
 pub struct ColorSpec {
     fg: Option<Color>,
@@ -30,7 +30,7 @@ impl ColorSpec {
     ghost use Rattle.wasmprinter_spec.specs.Looks.{bare_look};
     ghost use Rattle.wasmprinter_writers.specs.Numbers.{colour_of};
 
-    /// Text without a colour, neither bold nor intense.
+    /// Returns the look of plain text: no color, not bold, not intense.
     pub fn new() -> ColorSpec
         ensures { result ≡ bare_look }
     {
@@ -41,7 +41,7 @@ impl ColorSpec {
         }
     }
 
-    /// Sets the colour, or takes it away.
+    /// Sets the color, or removes it.
     pub fn set_fg(&mut self, fg: Option<Color>) -> &mut ColorSpec
         ensures same_reference { result.ghost_name ≡ self.entry.ghost_name }
         ensures set { result.now ≡ record self.old { colour = colour_of fg } }
@@ -59,7 +59,7 @@ impl ColorSpec {
         self
     }
 
-    /// Sets whether the colour is the intense one.
+    /// Sets whether the color is the intense one.
     pub fn set_intense(&mut self, intense: bool) -> &mut ColorSpec
         ensures same_reference { result.ghost_name ≡ self.entry.ghost_name }
         ensures set { result.now ≡ record self.old { intense = intense } }
@@ -68,21 +68,21 @@ impl ColorSpec {
         self
     }
 
-    /// The colour, if there is one.
+    /// Returns the color, if there is one.
     pub fn fg(&self) -> Option<Color>
         ensures { colour_of result ≡ self.now.colour }
     {
         self.fg
     }
 
-    /// Whether text is bold.
+    /// Reports whether text is bold.
     pub fn bold(&self) -> bool
         ensures { result ≡ self.now.bold }
     {
         self.is_bold
     }
 
-    /// Whether the colour is the intense one.
+    /// Reports whether the color is the intense one.
     pub fn intense(&self) -> bool
         ensures { result ≡ self.now.intense }
     {

@@ -1,9 +1,10 @@
-//! A printer over a writer of bytes.
+//! A printer that writes to a byte writer.
 use crate::WriteBytes;
 use std::io;
 use wasmprinter_print::PrintText;
 
-/// A printer over a writer of bytes, which gets the bytes of each piece and of each line feed. Styles and lines leave no trace.
+/// A printer that writes the bytes of each piece and of each line feed to a byte writer. Styles and line starts
+/// write nothing.
 #[derive(Drop)]
 pub struct PrintIoWrite<T>(pub T);
 

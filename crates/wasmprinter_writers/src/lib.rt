@@ -1,4 +1,4 @@
-//! Printers over writers of bytes, with and without colours.
+//! Printers over byte writers, with and without colors.
 #![tactic(auto)]
 
 mod ansi;

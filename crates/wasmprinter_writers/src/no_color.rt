@@ -1,4 +1,4 @@
-//! A writer that shows no colours.
+//! A writer that shows no colors.
 ghost use Rattle.std.specs.Prelude.{◌≡◌, false, OnOk};
 ghost use Rattle.std.specs.Io.KnownBytes.{Appends};
 ghost use Rattle.wasmprinter_writers.specs.ColourCalls.{PaintsNothing};
@@ -7,7 +7,7 @@ use crate::{ColorSpec, WriteBytes, WriteColor};
 use std::io;
 use std::io::Write;
 
-/// A writer that passes its bytes on, and writes nothing for colours.
+/// A writer that forwards its bytes, and writes nothing for colors.
 #[derive(Debug, Drop)]
 pub struct NoColor<W> {
     inner: W,
@@ -21,7 +21,7 @@ impl<W> NoColor<W> {
         NoColor { inner }
     }
 
-    /// Returns the writer.
+    /// Returns the wrapped writer.
     pub fn into_inner(self) -> W
         ensures { result ≡ self.inner }
     {

@@ -1,4 +1,4 @@
-//! A printer in colours.
+//! A printer of colored text.
 ghost use Rattle.std.specs.Prelude.{◌≡◌, ◌&&◌, not};
 ghost use Rattle.wasmprinter_spec.specs.Coloured.{colour_look, strong_look};
 ghost use Rattle.wasmprinter_writers.specs.ColourCalls.{coloured_meaning};
@@ -8,11 +8,12 @@ use crate::{Color, ColorSpec, WriteBytes, WriteColor};
 use std::io;
 use wasmprinter_print::Print;
 
-/// A printer over a writer that knows colours. The writer gets the bytes of each piece and of each line feed, and a colour for each style.
+/// A printer over a writer with colors. It writes the bytes of each piece and of each line feed, and sets a color
+/// for each style.
 #[derive(Drop)]
 pub struct PrintTermcolor<T>(pub T);
 
-/// Text in a colour.
+/// Returns the look of text in a color, neither bold nor intense.
 fn spec_of_color(color: Color) -> ColorSpec
     ensures { result ≡ colour_look (number_of color) }
 {
@@ -21,7 +22,7 @@ fn spec_of_color(color: Color) -> ColorSpec
     spec
 }
 
-/// Bold text in the intense shade of a colour.
+/// Returns the look of bold text in the intense shade of a color.
 fn strong(color: Color) -> ColorSpec
     ensures { result ≡ strong_look (number_of color) }
 {

@@ -1,4 +1,4 @@
-//! Writers that know colours.
+//! Writers with colors.
 ghost use Rattle.std.specs.Prelude.{◌≡◌, Bool, Some, None};
 ghost use Rattle.wasmprinter_writers.specs.ColourCalls.{Painting};
 
@@ -6,30 +6,31 @@ use crate::ColorSpec;
 use std::io;
 use std::io::Write;
 
-/// A writer that can be told how the text that follows looks.
+/// A writer that can set the look of the text after a call.
 pub trait WriteColor: Write {
-    // What a call that asks for this look, or with `None` for text without colours, may answer, and what it makes of the writer.
+    // The results that a call for this look may have, and the states of the writer after it. `None` is the look of
+    // text without colors.
     ghost paints: { Painting Self };
 
-    // Whether it heeds such calls.
+    // Whether such calls have an effect.
     ghost is_colored: { Self → Bool };
 
-    // Whether such calls take effect on a console at once, so that they can't be written down as text.
+    // Whether such calls take effect on a console immediately, so that they cannot be written as text.
     ghost is_immediate: { Self → Bool };
 
-    /// Whether colours are shown.
+    /// Reports whether the writer shows colors.
     fn supports_color(&self) -> bool
         ensures { result ≡ is_colored self.now };
 
-    /// Sets how the text that follows looks, whatever was set before.
+    /// Sets the look of the text after this call. It replaces the look that was set before.
     fn set_color(&mut self, spec: &ColorSpec) -> io::Result<()>
         ensures { paints self.old (Some spec.now) result self.new };
 
-    /// Text without colours follows.
+    /// Ends all colors: the text after this call has none.
     fn reset(&mut self) -> io::Result<()>
         ensures { paints self.old None result self.new };
 
-    /// Whether colours take effect on a console at once, so that they can't be written down as text.
+    /// Reports whether colors take effect on a console immediately, so that they cannot be written as text.
     fn is_synchronous(&self) -> bool
         ensures { result ≡ is_immediate self.now };
 }

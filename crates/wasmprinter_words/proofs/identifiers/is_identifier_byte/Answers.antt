@@ -11,7 +11,7 @@ stands b = eqb (get_or IDENTIFIER_BYTES b 0) b
 runs_bytes : ℕ → Bool
 runs_bytes b = runs (class b)
 
--- the table, against the classes of bytes
+-- For every byte the table agrees with the byte's class.
 table : agree_below stands runs_bytes 256 ≡ true
 unfolding stands runs_bytes class
 table = refl

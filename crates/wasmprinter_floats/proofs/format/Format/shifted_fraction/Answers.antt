@@ -5,7 +5,7 @@ use Rattle.wasmprinter_floats.specs.Formats.{width_of}
 use Rattle.wasmprinter_floats.proofs.Formats.{fraction_fits}
 use Rattle.wasmprinter_floats.proofs.format.Format.shifted_fraction.Goals as goal
 
--- the fraction times a power is the fraction shifted
+-- If a power is `2 ^ k` and `k` is `s`, then a number times that power is the number shifted by `s`.
 times_power : (n power k s : ℕ) → power ≡ 2 ^ k → k ≡ s → n * power ≡ n * 2 ^ s
 times_power n power k s p e = ap (λ t. n * t) (p ∙ ap (λ t. 2 ^ t) e)
 
