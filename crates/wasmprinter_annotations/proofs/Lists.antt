@@ -1,4 +1,4 @@
--- Lists within annotations, item by item, and whether their lines change.
+-- Lists within annotations, item by item, and whether lines begin in them.
 use Rattle.std.specs.Prelude.{◌≡◌, ℕ, ◌==◌, not, List, [], ◌∷◌, ◌++◌, Bool, true, false, ◌||◌, length, codes, chars, Some, refl}
 use Rattle.std.proofs.Common.{sym, ap, ◌∙◌, append_assoc}
 use Rattle.std.proofs.Math.Dec.{eqb-suc-zero}
@@ -12,7 +12,7 @@ use Rattle.wasmprinter_spec.specs.Layout.Customs.{gap_quoted, gap_quoted_list, v
 use Rattle.wasmprinter_customs.specs.FlagPieces.{words_pieces}
 use Rattle.wasmprinter_lines.proofs.Groups.{has_break-append}
 
--- ---- names
+-- ---- Names
 
 pub names-none : (ns : List (List ℕ)) → ns ≡ [] → gap_quoted_list ns ≡ []
 unfolding gap_quoted_list
@@ -22,7 +22,7 @@ pub names-next : (ns rest : List (List ℕ)) (n : List ℕ) → ns ≡ n ∷ res
 unfolding gap_quoted_list
 names-next ns rest n e = ap gap_quoted_list e
 
--- ---- words of flags
+-- ---- Words of flags
 
 pub words-none : (ws : List (List ℕ)) → ws ≡ [] → words_pieces ws ≡ []
 unfolding words_pieces
@@ -43,7 +43,7 @@ module _ (field : List ℕ) where
   unfolding values_pieces
   values-next vs rest v e = ap (values_pieces field) e
 
-  -- each value begins a line
+  -- A line begins exactly if there is a value.
   values-break : (vs : List (Placed Value)) → has_break (values_pieces field vs) ≡ not (length vs == 0)
   unfolding values_pieces
   values-break [] = refl
@@ -57,7 +57,7 @@ pub fields-next : (fs rest : List Field) (f : Field) → fs ≡ f ∷ rest → f
 unfolding fields_pieces
 fields-next fs rest f e = ap fields_pieces e
 
--- for the first field, and the others
+-- A line begins in the first field if it has a value, or in the others.
 fields-break : (fs rest : List Field) (f : Field) → fs ≡ f ∷ rest → has_break (fields_pieces fs) ≡ (not (length f.values == 0) || has_break (fields_pieces rest))
 fields-break fs rest f e =
     ap has_break (fields-next fs rest f e) ∙ has_break-append (values_pieces f.name f.values) (fields_pieces rest)
@@ -86,7 +86,7 @@ module _ (place : ℕ) where
       ∙ ap (λ (ps : List Piece). Break (Some place) 2 ∷ (OpenGap (codes "export-info") ∷ (Quoted (chars x.name) ∷ ps)))
       (sym (append_assoc (flags_pieces x.flags) (Shut ∷ []) (exports_pieces place rest)))
 
-  -- each export begins a line
+  -- A line begins exactly if there is an export.
   exports-break : (es : List ExportInfo) → has_break (exports_pieces place es) ≡ not (length es == 0)
   unfolding exports_pieces
   exports-break [] = refl
@@ -104,13 +104,13 @@ module _ (place : ℕ) where
       ∙ ap (λ (ps : List Piece). Break (Some place) 2 ∷ (OpenGap (codes "import-info") ∷ (Quoted (chars x.source) ∷ (gap_quoted x.name ++ ps))))
       (sym (append_assoc (flags_pieces x.flags) (Shut ∷ []) (import_infos_pieces place rest)))
 
-  -- each import begins a line
+  -- A line begins exactly if there is an import.
   imports-break : (is : List ImportInfo) → has_break (import_infos_pieces place is) ≡ not (length is == 0)
   unfolding import_infos_pieces
   imports-break [] = refl
   imports-break (x ∷ is) = sym (ap not (eqb-suc-zero (length is)))
 
-  -- a subsection has a line but for lists without items
+  -- Whether a subsection has lines: all have, except lists without items and subsections with an unknown id.
   abbrev pub has_content_lines : SubsectionContent → Bool
   has_content_lines (Exports es) = not (length es == 0)
   has_content_lines (Imports is) = not (length is == 0)
@@ -134,12 +134,12 @@ pub subsections-next : (ss rest : List Subsection) (s : Subsection) → ss ≡ s
 unfolding subsections_pieces
 subsections-next ss rest s e = ap subsections_pieces e
 
--- for the first subsection, and the others
+-- A line begins in the first subsection or in the others.
 subsections-break : (ss rest : List Subsection) (s : Subsection) → ss ≡ s ∷ rest →
     has_break (subsections_pieces ss) ≡ (has_break (content_pieces s.place s.value) || has_break (subsections_pieces rest))
 subsections-break ss rest s e = ap has_break (subsections-next ss rest s e) ∙ has_break-append (content_pieces s.place s.value) (subsections_pieces rest)
 
--- by a test of the first one, as it is shown
+-- The same, where the program's test says whether a line begins in the first subsection.
 module _ (ss rest : List Subsection) (s : Subsection) (shown : SubsectionContent) (test : Bool) (next : ss ≡ s ∷ rest) (is : shown ≡ s.value)
     (tells : (place : ℕ) → test ≡ has_break (content_pieces place shown)) where
   first-break : has_break (content_pieces s.place s.value) ≡ test

@@ -1,4 +1,4 @@
--- Parts of a layout at which it may end: what was made of one part, and of those behind it.
+-- Parts of a layout at which it may end: the calls made for one part, and for those after it.
 use Rattle.std.specs.Prelude.{◌≡◌, List, [], ◌∷◌, ◌++◌, Bool, false, ◌||◌, Option, Some, None, Result, Ok, Err, IsErrAnd, IfOk, refl}
 use Rattle.std.proofs.Common.{ℕ, sym, ap, ◌∙◌, subst, append_assoc}
 use Rattle.std.specs.declared.io.Error.{Error as IoError}
@@ -16,9 +16,9 @@ use Rattle.wasmprinter_lines.proofs.Groups.{has_break-append}
 use Rattle.wasmprinter_annotations.specs.Parts.{PrintsLaid, PrintsParts, stop_of}
 use Rattle.wasmprinter_annotations.specs.Lines.{PrintsPartLines}
 
--- ---- layouts, one behind the other
+-- ---- Layouts, one after another
 
--- pieces that end so, and what stands behind them unless they end
+-- The layout that consists of pieces and then, unless they end in a refusal, of another layout.
 abbrev pub laid_behind : List Piece → Option ℕ → Laid → Laid
 laid_behind ps None l = before_laid ps l
 laid_behind ps (Some id) l = record { pieces = ps; refused = Some id }
@@ -27,32 +27,32 @@ before-behind : (ps qs : List Piece) (refused : Option ℕ) (l : Laid) → befor
 before-behind ps qs None l = ap (λ (xs : List Piece). record l { pieces = xs }) (sym (append_assoc ps qs l.pieces))
 before-behind ps qs (Some id) l = refl
 
--- parts in two lists
+-- The layout of two lists of parts, joined, is that of the first and, unless that is refused, that of the second.
 pub joined-append : (xs ys : List Part) → laid_parts (xs ++ ys) ≡ laid_behind (laid_parts xs).pieces (laid_parts xs).refused (laid_parts ys)
 joined-append [] ys = refl
 joined-append (Shown ps ∷ xs) ys = ap (before_laid ps) (joined-append xs ys) ∙ before-behind ps (laid_parts xs).pieces (laid_parts xs).refused (laid_parts ys)
 joined-append (Stops ps id ∷ xs) ys = refl
 
--- parts that go through, and others
+-- If the first list of parts is not refused, its pieces are followed by the layout of the second.
 pub joined-through : (xs ys : List Part) → (laid_parts xs).refused ≡ None → laid_parts (xs ++ ys) ≡ before_laid (laid_parts xs).pieces (laid_parts ys)
 joined-through xs ys e = joined-append xs ys ∙ ap (λ (q : Option ℕ). laid_behind (laid_parts xs).pieces q (laid_parts ys)) e
 
--- ---- what was made of them
+-- ---- The calls made for them
 
 never : {P : Type 0} (m : Meaning P) {o : Options} {a t : P} {ps : List Piece} → Written m o a t Never ps → ⊥
 never m v = (written m v).made
 
 module _ {P : Type 0} (m : Meaning P) {o : Options} {keeps : Bool} where
-  -- no part
+  -- For no parts, no call is made.
   pub no_parts : {T : Type 0} {a : P} {x : T} → PrintsParts m o a a keeps (Ok x) []
   no_parts {a = a} = record { written = no_piece m o a; refused = refl }
 
-  -- pieces, and then what stands behind them
+  -- Writing pieces and then a layout writes the layout with these pieces before it.
   pub laid_then : {T : Type 0} {a s t : P} {r : Result T Error} {ps : List Piece} {l : Laid} →
       Written m o a s Through ps → PrintsLaid m o s t keeps r l → PrintsLaid m o a t keeps r (before_laid ps l)
   laid_then v w = record { written = both_pieces m v w.written; refused = w.refused }
 
-  -- shown pieces, and then other parts
+  -- Writing the pieces of a part and then other parts writes all these parts.
   pub shown_then : {T : Type 0} {a s t : P} {r : Result T Error} {ps : List Piece} (parts : List Part) →
       Written m o a s Through ps → PrintsParts m o s t keeps r parts → PrintsParts m o a t keeps r (Shown ps ∷ parts)
   shown_then parts v w = laid_then v w
@@ -62,20 +62,20 @@ module _ {P : Type 0} (m : Meaning P) {o : Options} {keeps : Bool} where
       let failed : Result (Unit {0}) IoError = Err e in
       record { written = pieces_end m failed l.pieces refl v; refused = tt }
 
-  -- pieces of which one failed, whatever parts would have come after them
+  -- If a call of a part fails, the function may return its error, whatever parts would have come after it.
   pub shown_fails : {T : Type 0} {a t : P} (r : Result T Error) {e : IoError} {ps : List Piece} (parts : List Part) →
       IsErrAnd r (λ y. y ≡ Printer e) → Written m o a t (AtCall e) ps → PrintsParts m o a t keeps r (Shown ps ∷ parts)
   shown_fails (Ok x) parts f v = absurd f
   shown_fails {T} {a} {t} (Err y) {ps = ps} parts f v =
       subst (λ (z : Error). PrintsParts {T = T} m o a t keeps (Err z) (Shown ps ∷ parts)) (sym f) (shown_ends (laid_parts parts) v)
 
-  -- parts, and then other parts
+  -- Writing parts and then other parts writes both.
   pub parts_then : {T U : Type 0} {a s t : P} {x : T} {r : Result U Error} (xs ys : List Part) →
       PrintsParts m o a s keeps (Ok x) xs → PrintsParts m o s t keeps r ys → PrintsParts m o a t keeps r (xs ++ ys)
   parts_then {a = a} {t = t} {r = r} xs ys v w =
       subst (λ (l : Laid). PrintsLaid m o a t keeps r l) (sym (joined-through xs ys v.refused)) (laid_then v.written w)
 
-  -- the value of a function that went through doesn't matter
+  -- The value that a successful function returns does not matter.
   answered : {T U : Type 0} {a t : P} {x : T} {y : U} {l : Laid} → PrintsLaid m o a t keeps (Ok x) l → PrintsLaid m o a t keeps (Ok y) l
   answered v = record { written = v.written; refused = v.refused }
 
@@ -106,7 +106,7 @@ module _ {P : Type 0} (m : Meaning P) {o : Options} {keeps : Bool} where
   laid_ends (Printer e) l k v = call_ends l.pieces l.refused k v.written
   laid_ends Memory l k v = stop_ends l.pieces l.refused k v.written
 
-  -- parts at which it ended, whatever parts would have come after them
+  -- If writing parts ends in an error, the function may return it, whatever parts would have come after them.
   pub parts_end : {T U : Type 0} {a t : P} (r : Result U Error) {e : Error} (xs ys : List Part) →
       IsErrAnd r (λ y. y ≡ e) → PrintsParts {T = T} m o a t keeps (Err e) xs → PrintsParts m o a t keeps r (xs ++ ys)
   parts_end (Ok x) xs ys f v = absurd f
@@ -114,13 +114,13 @@ module _ {P : Type 0} (m : Meaning P) {o : Options} {keeps : Bool} where
       subst (λ (l : Laid). PrintsLaid {T = U} m o a t keeps (Err y) l) (sym (joined-append xs ys))
       (laid_ends y (laid_parts xs) (laid_parts ys) (subst (λ (z : Error). PrintsParts {T = T} m o a t keeps (Err z) xs) (sym f) v))
 
-  -- ---- with an answer whether lines were written
+  -- ---- With the result whether lines were written
 
-  -- no part
+  -- For no parts, no line is written.
   pub no_part_lines : {a : P} → PrintsPartLines m o a a keeps (Ok false) []
   no_part_lines = record { prints = no_parts; lines = refl }
 
-  -- parts, and then other parts
+  -- Writing parts and then other parts writes both, and a line begins in the first or in the second.
   pub part_lines_then : {a s t : P} {b c : Bool} {xs ys : List Part} →
       PrintsPartLines m o a s keeps (Ok b) xs → PrintsPartLines m o s t keeps (Ok c) ys → PrintsPartLines m o a t keeps (Ok (b || c)) (xs ++ ys)
   part_lines_then {b = b} {c} {xs} {ys} v w = record {
@@ -130,21 +130,22 @@ module _ {P : Type 0} (m : Meaning P) {o : Options} {keeps : Bool} where
         ∙ sym (ap (λ (l : Laid). has_break l.pieces) (joined-through xs ys v.prints.refused) ∙ has_break-append (laid_parts xs).pieces (laid_parts ys).pieces);
   }
 
-  -- parts, and then parts at which it ended, whatever would have come after them
+  -- If parts were written and writing others ends in an error, the function may return it, whatever parts would have
+  -- come after them.
   pub part_lines_end : {a s t : P} {b : Bool} (r : Result Bool Error) {e : Error} {xs ys : List Part} (zs : List Part) → IsErrAnd r (λ y. y ≡ e) →
       PrintsPartLines m o a s keeps (Ok b) xs → PrintsPartLines m o s t keeps (Err e) ys → PrintsPartLines m o a t keeps r (xs ++ (ys ++ zs))
   part_lines_end (Ok x) zs f v w = absurd f
   part_lines_end (Err y) {xs = xs} {ys} zs f v w =
       record { prints = parts_then xs (ys ++ zs) v.prints (parts_end (Err y) ys zs f w.prints); lines = tt }
 
-  -- parts with the same layout
+  -- Parts with equal layouts can replace one another.
   pub same_part_lines : {a t : P} {r : Result Bool Error} (xs ys : List Part) → laid_parts xs ≡ laid_parts ys → PrintsPartLines m o a t keeps r xs → PrintsPartLines m o a t keeps r ys
   same_part_lines {a} {t} {r} xs ys e v = record {
     prints = subst (λ (l : Laid). PrintsLaid m o a t keeps r l) e v.prints;
     lines = subst (λ (l : Laid). IfOk r (λ lines. lines ≡ has_break l.pieces)) e v.lines;
   }
 
-  -- pieces on the line, and then parts
+  -- Writing pieces in which no line begins, and then parts, has the result of the parts.
   pub part_lines_behind : {a s t : P} (r : Result Bool Error) {ps : List Piece} (parts : List Part) → has_break ps ≡ false →
       Written m o a s Through ps → PrintsPartLines m o s t keeps r parts → PrintsPartLines m o a t keeps r (Shown ps ∷ parts)
   part_lines_behind (Ok b) {ps} parts e v w = record {
@@ -153,7 +154,7 @@ module _ {P : Type 0} (m : Meaning P) {o : Options} {keeps : Bool} where
   }
   part_lines_behind (Err y) parts e v w = record { prints = shown_then parts v w.prints; lines = tt }
 
--- what keeps nothing does what something may do that keeps
+-- A function that keeps nothing meets the contract of one that may keep something.
 pub may_keep : {P : Type 0} (m : Meaning P) {o : Options} {a t : P} (keeps : Bool) (r : Result Bool Error) {parts : List Part} →
     PrintsPartLines m o a t false r parts → PrintsPartLines m o a t keeps r parts
 may_keep m keeps (Ok x) v = record { prints = record { written = v.prints.written; refused = v.prints.refused }; lines = v.lines }

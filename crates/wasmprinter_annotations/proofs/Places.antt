@@ -1,4 +1,4 @@
--- Custom sections at one place: which answers decide what is made of them.
+-- Custom sections at one place: only the answers to their claims decide what is printed of them.
 use Rattle.std.specs.Prelude.{◌≡◌, ℕ, suc, ◌+◌, ◌==◌, List, [], ◌∷◌, Bool, true, false, Option, Some, None, slice_get, cond, refl}
 use Rattle.std.proofs.Common.{sym, ap, ap₂, ◌∙◌, arith}
 use Rattle.std.proofs.lemmas.Bool.{eq-eqb, ne_eqb}
@@ -8,9 +8,9 @@ use Rattle.wasmprinter_spec.specs.Options.{Answers}
 use Rattle.wasmprinter_spec.specs.Layout.Customs.{Part, custom_part, same_place, parts_at}
 use Rattle.wasmprinter_spec.proofs.SameKinds.{same_kind-is, same_kind-refl}
 
--- ---- one place
+-- ---- One place
 
--- two places that are the same
+-- If two places are the same by the test, they are equal.
 pub same_place-is : (a b : Option Kind) → same_place a b ≡ true → a ≡ b
 same_place-is None None e = refl
 same_place-is (Some j) (Some k) e = ap (λ (x : Kind). Some x) (same_kind-is j k e)
@@ -31,10 +31,10 @@ place-other a b other = by (same_place a b) refl
     by true e = absurd (other (same_place-is a b e))
     by false e = refl
 
--- ---- answers
+-- ---- Answers
 
 module _ (skeleton : Bool) (place : Option Kind) where
-  -- only the answers to sections at the place are looked at
+  -- The parts at a place depend only on the answers to the sections at that place.
   pub parts_at-agree : (a b : Answers) (n : ℕ) (cs : List CustomEntry) →
       ((i : ℕ) (c : CustomEntry) → slice_get cs i ≡ Some c → same_place c.behind place ≡ true → a (n + i) ≡ b (n + i)) →
       parts_at skeleton a place n cs ≡ parts_at skeleton b place n cs
@@ -54,21 +54,21 @@ module _ (skeleton : Bool) (place : Option Kind) where
           rw (e, first, others) refl
       by false e others = rw (e, others) refl
 
-  -- ---- one section, and those behind it
+  -- ---- One section, and those after it
 
-  -- a section that stands elsewhere
+  -- A section at another place is skipped.
   pub parts_at-passed : (a : Answers) (n : ℕ) (c : CustomEntry) (cs : List CustomEntry) → (c.behind ≡ place → ⊥) →
       parts_at skeleton a place n (c ∷ cs) ≡ parts_at skeleton a place (n + 1) cs
   parts_at-passed a n c cs other = rw (place-other c.behind place other) refl
 
-  -- one that stands here
+  -- A section at this place is the first part.
   pub parts_at-here : (a : Answers) (n : ℕ) (c : CustomEntry) (cs : List CustomEntry) → c.behind ≡ place →
       parts_at skeleton a place n (c ∷ cs) ≡ custom_part skeleton (a n) c ∷ parts_at skeleton a place (n + 1) cs
   parts_at-here a n c cs here = rw (place-same c.behind place here) refl
 
--- ---- answers that are given one by one
+-- ---- Answers that are given one by one
 
--- this answer to the section with the number, and those to the others
+-- The answers with this answer to section n.
 abbrev pub with_answer : ℕ → Bool → Answers → Answers
 with_answer n answer others = λ k. cond (k == n) answer (others k)
 
@@ -78,7 +78,7 @@ with_answer-at n answer others = rw (eq-eqb n n refl) refl
 with_answer-behind : (n i : ℕ) (answer : Bool) (others : Answers) → with_answer n answer others ((n + 1) + i) ≡ others ((n + 1) + i)
 with_answer-behind n i answer others = rw (ne_eqb ((n + 1) + i) n (λ e. omega (arith, e))) refl
 
--- a section at the place, by its own answer, and those behind it
+-- The parts from a section at the place on are that section's, by its own answer, and those after it.
 pub parts_at-answered : (skeleton : Bool) (place : Option Kind) (answer : Bool) (others : Answers) (n : ℕ) (c : CustomEntry) (cs : List CustomEntry) → c.behind ≡ place →
     parts_at skeleton (with_answer n answer others) place n (c ∷ cs) ≡ custom_part skeleton answer c ∷ parts_at skeleton others place (n + 1) cs
 parts_at-answered skeleton place answer others n c cs here =
@@ -86,13 +86,13 @@ parts_at-answered skeleton place answer others n c cs here =
     parts_at-here skeleton place (with_answer n answer others) n c cs here
     ∙ ap₂ (λ (x : Bool) (ps : List Part). custom_part skeleton x c ∷ ps) (with_answer-at n answer others) agree
 
--- ---- one table of answers for all places
+-- ---- One table of answers for all places
 
 abbrev answer_of : (Option Kind → Answers) → ℕ → Option CustomEntry → Bool
 answer_of table n None = false
 answer_of table n (Some c) = table c.behind n
 
--- for each place some answers to its sections, and so answers to all sections
+-- If each place has answers to its sections, there are answers to all sections that agree with them at each place.
 pub one_table : (skeleton : Bool) (table : Option Kind → Answers) (cs : List CustomEntry) →
     (answers : Answers) × ((place : Option Kind) → parts_at skeleton answers place 0 cs ≡ parts_at skeleton (table place) place 0 cs)
 one_table skeleton table cs =

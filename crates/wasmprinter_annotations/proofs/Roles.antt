@@ -1,4 +1,4 @@
--- One custom section: its claim, and what stands behind it.
+-- One custom section: its claim, and its part after the claim.
 use Rattle.std.specs.Prelude.{◌≡◌, ℕ, List, [], ◌∷◌, Bool, true, false, Result, Ok, Err, IsErrAnd, IfOk, refl}
 use Rattle.std.proofs.Common.{sym, ap, ◌∙◌, subst, append-nil}
 use Rattle.std.specs.declared.io.Error.{Error as IoError}
@@ -21,11 +21,11 @@ use Rattle.wasmprinter_annotations.specs.Lines.{PrintsPart, lines_answer}
 use Rattle.wasmprinter_annotations.specs.Unclaimed.{unclaimed_part}
 use Rattle.wasmprinter_annotations.proofs.Parts.{no_parts, laid_then, shown_then, shown_fails}
 
--- the question for a section, with its answer
+-- The claim of a section, with the printer's answer.
 abbrev pub claim_of : Custom → Bool → Piece
 claim_of s answer = Claimed s.name s.bytes.place s.bytes.value answer
 
--- what stands behind the claim, by the section's role
+-- The part of an unclaimed section is its claim and then the part after the claim.
 behind_claim : (skeleton : Bool) (claim : Piece) (c : CustomEntry) (r : CustomRole) →
     laid_parts (role_part skeleton claim c r ∷ []) ≡ before_laid (claim ∷ []) (laid_parts (unclaimed_part skeleton c r ∷ []))
 behind_claim skeleton claim c Silent = refl
@@ -35,7 +35,7 @@ behind_claim skeleton claim c (Refused id) = refl
 behind_claim skeleton claim c Raw = refl
 behind_claim skeleton claim c Faulted = refl
 
--- a section as it stands begins a line
+-- A raw section begins a line.
 pub raw-break : (skeleton : Bool) (c : CustomEntry) → has_break (raw_pieces skeleton c) ≡ true
 unfolding raw_pieces
 raw-break skeleton c = refl
@@ -45,9 +45,9 @@ unfolding faulted_pieces
 faulted-break skeleton c = refl
 
 module _ {P : Type 0} (m : Meaning P) (o : Options) where
-  -- ---- behind the claim
+  -- ---- After the claim
 
-  -- pieces that begin a line
+  -- A function that writes pieces in which a line begins writes the part that shows them.
   pub wrote_part : {a t : P} (answer : Result Bool Error) (r : Result (Unit {0}) IoError) {ps : List Piece} → answer ≡ lines_answer r →
       has_break ps ≡ true → Prints m o a t r ps → PrintsPart m o a t false answer (Shown ps)
   wrote_part {a} {t} answer r {ps} e breaks v = subst (λ (q : Result Bool Error). PrintsPart m o a t false q (Shown ps)) (sym e) (by r v)
@@ -56,27 +56,27 @@ module _ {P : Type 0} (m : Meaning P) (o : Options) where
       by (Ok x) v = record { prints = shown_then m [] v (no_parts m); lines = sym (ap has_break (append-nil ps) ∙ breaks) }
       by (Err e) v = record { prints = shown_fails m (Err (Printer e)) [] refl v; lines = tt }
 
-  -- nothing
+  -- A function that writes nothing writes the part without pieces.
   pub silent_part : (a : P) → PrintsPart m o a a false (Ok false) (Shown [])
   silent_part a = record { prints = record { written = no_piece m o a; refused = refl }; lines = refl }
 
-  -- a refusal
+  -- A function that returns the refusal writes the part that ends there.
   pub refused_part : (a : P) (id : ℕ) → PrintsPart m o a a false (Err (DylinkSubsection id)) (Stops [] id)
   refused_part a id = record { prints = record { written = no_piece m o a; refused = refl }; lines = tt }
 
-  -- ---- the claim
+  -- ---- The claim
 
   module _ (skeleton : Bool) (c : CustomEntry) where
     claimed : {a t : P} (answer : Bool) → let s : Custom = c.section.value in
         Succeeded m a (Claim s.name s.bytes.place s.bytes.value answer) t → Written m o a t Through (claim_of s answer ∷ [])
     claimed answer v = one_piece m o (claim_of c.section.value answer) (called m v)
 
-    -- the printer takes the section
+    -- If the printer claims the section, its part is written.
     pub taken : {a t : P} → let s : Custom = c.section.value in
         Succeeded m a (Claim s.name s.bytes.place s.bytes.value true) t → PrintsPart m o a t false (Ok false) (custom_part skeleton true c)
     taken v = record { prints = shown_then m [] (claimed true v) (no_parts m); lines = refl }
 
-    -- it doesn't
+    -- If the printer does not claim the section and the part after the claim is written, its part is written.
     pub left_to_us : {a s t : P} {r : Result Bool Error} → let x : Custom = c.section.value in
         Succeeded m a (Claim x.name x.bytes.place x.bytes.value false) s → PrintsPart m o s t false r (unclaimed_part skeleton c (custom_role_of x)) →
         PrintsPart m o a t false r (custom_part skeleton false c)
@@ -88,7 +88,7 @@ module _ {P : Type 0} (m : Meaning P) (o : Options) where
           lines = subst (λ (l : Laid). IfOk r (λ lines. lines ≡ has_break l.pieces)) (sym same) w.lines;
         }
 
-    -- the question failed
+    -- If the claim fails, the function may return its error.
     pub unanswered : {a t : P} (r : Result Bool Error) {e : IoError} → let s : Custom = c.section.value in
         IsErrAnd r (λ y. y ≡ Printer e) → Failed m a (Claim s.name s.bytes.place s.bytes.value true) e t → PrintsPart m o a t false r (custom_part skeleton true c)
     unanswered (Ok x) f v = absurd f

@@ -1,4 +1,5 @@
--- What a function has made of parts of a layout, at one of which the layout may end: it answers the refusal then.
+-- The calls made by functions that print parts of a layout. The layout may end at one of the parts: the refusal is
+-- then returned.
 use Rattle.std.specs.Prelude.{◌≡◌, ℕ, List, Bool, Option, Some, None, Result, Ok, Err}
 use Rattle.wasmprinter_error.specs.declared.error.Error.{Error}
 use Rattle.wasmprinter_error.specs.declared.error.Error.TheVariants.{Malformed, Component, TooManyLocals, TooManyFunctions, EmptyTableInit, FoldLegacy, FoldHint, DylinkSubsection, Unreadable, Printer, Memory}
@@ -8,9 +9,9 @@ use Rattle.wasmprinter_spec.specs.Layout.Customs.{Part, Laid, laid_parts}
 use Rattle.wasmprinter_print.specs.Emits.{Ending, Through, AtCall, Never, at_growth}
 use Rattle.wasmprinter_print.specs.Prints.{Written}
 
--- How the calls of a function end that answers this error: a refusal comes behind all calls up to it, the printer's own error at the call
--- that failed, want of memory only where something is kept, and no other error comes. (But for the refusal it is as of a function that
--- refuses nothing.)
+-- How the calls of a function that returns this error end. A refusal comes after all calls before it, and the
+-- printer's error at the call that failed. Memory can run out only if the function keeps something. No other error
+-- is returned. (Except for the refusal, this is as for a function that refuses nothing.)
 abbrev pub stop_of : Bool → Error → Ending
 stop_of keeps (Malformed place) = Never
 stop_of keeps Component = Never
@@ -28,8 +29,8 @@ abbrev pub stop : {T : Type 0} → Bool → Result T Error → Ending
 stop keeps (Ok x) = Through
 stop keeps (Err e) = stop_of keeps e
 
--- Whether the layout ends at a refusal: it does exactly where that is answered. (A failed call may stand in front of one, and so may a
--- growth that is refused.)
+-- The layout ends at a refusal exactly if the refusal is returned. (A failed call or a failed allocation may come
+-- before a refusal.)
 abbrev pub IsRefusedAs : Error → Option ℕ → Type 0
 IsRefusedAs (Malformed place) refused = ⊥
 IsRefusedAs Component refused = ⊥
@@ -47,8 +48,9 @@ abbrev pub IsRefused : {T : Type 0} → Result T Error → Option ℕ → Type 0
 IsRefused (Ok x) refused = refused ≡ None
 IsRefused (Err e) refused = IsRefusedAs e refused
 
--- The calls made are those of the pieces, or a beginning of them where a call failed, whose error is then answered, or where something is
--- kept in memory and a growth was refused; behind them the refusal is answered, if there is one. Nothing else is.
+-- The calls that were made are those of the pieces. They are a prefix if a call failed, whose error is then
+-- returned, or if an allocation failed in a function that keeps something. A refusal, if there is one, is returned
+-- after all calls. Nothing else is returned as an error.
 pub record PrintsLaid {P T : Type 0} (m : Meaning P) (o : Options) (old new : P) (keeps : Bool) (r : Result T Error)
     (l : Laid) : Type 0 where
   pub written : Written m o old new (stop keeps r) l.pieces

@@ -1,11 +1,11 @@
--- What stands behind the claim of a custom section that the printer doesn't take.
+-- The part of a custom section after its claim, if the printer does not claim it.
 use Rattle.std.specs.Prelude.{[], ◌∷◌, Bool, codes, Some}
 use Rattle.wasmprinter_spec.specs.Placed.{CustomEntry}
 use Rattle.wasmprinter_spec.specs.Customs.{CustomRole, Silent, Listed, Linked, Refused, Raw, Faulted}
 use Rattle.wasmprinter_spec.specs.Piece.{Break}
 use Rattle.wasmprinter_spec.specs.Layout.Customs.{Part, Shown, Stops, note, fields_pieces, subsections_pieces, raw_pieces, faulted_pieces}
 
--- by the section's role
+-- The part after the claim, by the section's role.
 abbrev pub unclaimed_part : Bool → CustomEntry → CustomRole → Part
 unclaimed_part skeleton c Silent = Shown []
 unclaimed_part skeleton c (Listed fields) = Shown (Break (Some c.section.place) 1 ∷ note (codes "producers") (fields_pieces fields))

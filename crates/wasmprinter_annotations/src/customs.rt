@@ -1,4 +1,4 @@
-//! Custom sections in their places among the others: each is first offered to the printer.
+//! Custom sections at their places among the other sections. The printer is first asked whether it claims each one.
 ghost use Rattle.std.specs.Prelude.{◌≡◌, ◌↔◌, Bool, false, IsTrue};
 ghost use Rattle.wasmprinter_spec.specs.Options.{Answers};
 ghost use Rattle.wasmprinter_spec.specs.Customs.{custom_role_of};
@@ -19,7 +19,7 @@ use wasmprinter_error::Error;
 use wasmprinter_lines::options::PrintOptions;
 use wasmprinter_print::Print;
 
-/// What a section is to the text.
+/// Returns the role of a section in the text.
 fn role_of<'a>(section: &Custom<'a>) -> CustomRole<'a>
     ensures { role_view result ≡ custom_role_of section.now.value }
 {
@@ -28,7 +28,7 @@ fn role_of<'a>(section: &Custom<'a>) -> CustomRole<'a>
     custom_role(section.name(), content.place(), content.rest())
 }
 
-/// The answer of a function that has written lines.
+/// Returns the result of a function that has written lines.
 fn with_lines(written: io::Result<()>) -> Result<bool, Error>
     ensures { result ≡ lines_answer written }
 {
@@ -36,7 +36,7 @@ fn with_lines(written: io::Result<()>) -> Result<bool, Error>
     Ok(true)
 }
 
-/// Writes a section of this role that the printer doesn't take. Answers whether lines were written.
+/// Writes a section with the role that the printer does not claim. Returns whether lines were written.
 fn write_role<P: Print>(
     p: &mut P,
     options: &PrintOptions,
@@ -57,12 +57,13 @@ fn write_role<P: Print>(
     }
 }
 
-/// Asks the printer whether it takes the section itself, and writes it where it doesn't. Answers whether lines were written.
+/// Asks the printer whether it claims the section, and writes the section if it does not. Returns whether lines
+/// were written.
 ///
 /// # Errors
 ///
-/// `DylinkSubsection` for a section `dylink.0` with a subsection that isn't known, unless the printer takes it, and `Printer` where a call
-/// on the printer failed, with that call's error. No other.
+/// - `DylinkSubsection` for a `dylink.0` section with an unknown subsection, unless the printer claims it.
+/// - `Printer` with the error of the call on the printer that failed.
 pub fn write_custom<P: Print>(
     p: &mut P,
     options: &PrintOptions,
@@ -78,18 +79,19 @@ pub fn write_custom<P: Print>(
     write_role(p, options, entry, role_of(section))
 }
 
-/// Whether a section stands behind one of the kind, or in front of all others.
+/// Reports whether a section comes after one of the kind or, for `None`, before all others.
 fn stands_at(entry: &CustomEntry<'_>, behind: Option<SectionKind>) -> bool
     ensures { IsTrue result ↔ (entry.now.behind ≡ place_view behind) }
 {
     entry.behind == behind
 }
 
-/// Writes the custom sections that stand behind a section of the kind, or in front of all others. Answers whether lines were written.
+/// Writes the custom sections that come after a section of the kind or, for `None`, before all others. Returns
+/// whether lines were written.
 ///
 /// # Errors
 ///
-/// Those of [`write_custom`], for the first section that has one.
+/// Returns the error of [`write_custom`] for the first section that has one.
 pub fn write_customs<P: Print>(
     p: &mut P,
     options: &PrintOptions,

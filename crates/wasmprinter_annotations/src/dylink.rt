@@ -1,4 +1,4 @@
-//! The lines of a section `dylink.0` (tool conventions, "Dynamic Linking").
+//! The lines of a `dylink.0` section (tool conventions, "Dynamic Linking").
 ghost use Rattle.std.specs.Prelude.{◌≡◌, ℕ, [], ◌∷◌, codes, Some};
 ghost use Rattle.wasmprinter_spec.specs.Piece.{Break};
 ghost use Rattle.wasmprinter_spec.specs.Layout.Customs.{note, sizes_group, sizes_pieces, names_pieces, exports_pieces, import_infos_pieces};
@@ -19,7 +19,7 @@ use wasmprinter_words::numbers::number_word;
 use wasmprinter_words::strings::write_string;
 use wasmprinter_words::words::{gap, open, open_gap, open_plain, shut};
 
-/// Writes a blank and a size with its alignment as a group, and nothing where both are 0.
+/// Writes a space and a group of a word, a size and an alignment. Writes nothing if both numbers are 0.
 #[tactic(auto, unfolding(wasmprinter_spec::specs::Layout::Customs::sizes_group))]
 fn write_sizes_group<P: Print>(p: &mut P, word: &str, size: u32, alignment: u32) -> io::Result<()>
     ensures { PrintsAlways P.meaning p.old p.new result (sizes_group word.now size alignment) }
@@ -36,7 +36,7 @@ fn write_sizes_group<P: Print>(p: &mut P, word: &str, size: u32, alignment: u32)
     shut(p)
 }
 
-/// Writes what a module wants of memory and of the table.
+/// Writes the sizes and alignments of memory and table space that a module needs.
 #[tactic(auto, unfolding(wasmprinter_spec::specs::Layout::Customs::sizes_pieces))]
 fn write_sizes<P: Print>(
     p: &mut P,
@@ -53,7 +53,7 @@ fn write_sizes<P: Print>(
     shut(p)
 }
 
-/// Writes names behind a keyword.
+/// Writes a line with a keyword and names.
 #[tactic(auto, unfolding(wasmprinter_spec::specs::Layout::Customs::names_pieces))]
 fn write_names<P: Print>(
     p: &mut P,
@@ -70,7 +70,7 @@ fn write_names<P: Print>(
     shut(p)
 }
 
-/// Writes an export and its flags.
+/// Writes a line with an export and its flags.
 #[tactic(auto, unfolding(wasmprinter_spec::specs::Layout::Customs::exports_pieces))]
 fn write_export<P: Print>(
     p: &mut P,
@@ -102,7 +102,7 @@ fn write_exports<P: Print>(
     Ok(())
 }
 
-/// Writes an import and its flags.
+/// Writes a line with an import and its flags.
 #[tactic(auto, unfolding(wasmprinter_spec::specs::Layout::Customs::import_infos_pieces))]
 fn write_import<P: Print>(
     p: &mut P,
@@ -136,7 +136,7 @@ fn write_imports<P: Print>(
     Ok(())
 }
 
-/// Writes the lines of the subsection whose id lies at the place.
+/// Writes the lines of a subsection. `place` is the place of its id.
 fn write_content<P: Print>(
     p: &mut P,
     options: &PrintOptions,
@@ -168,7 +168,7 @@ fn write_subsections<P: Print>(
     Ok(())
 }
 
-/// Whether a subsection has lines.
+/// Reports whether a subsection has lines.
 fn has_content_lines(content: &Content<'_>) -> bool
     ensures { (place : ℕ) → result ≡ has_break (content_pieces place (content_view content.now)) }
 {
@@ -179,7 +179,7 @@ fn has_content_lines(content: &Content<'_>) -> bool
     }
 }
 
-/// Whether one of the subsections has lines.
+/// Reports whether one of the subsections has lines.
 fn has_lines(subsections: &Dylink<'_>) -> bool
     ensures { result ≡ has_break (subsections_pieces subsections.now) }
 {
@@ -191,7 +191,7 @@ fn has_lines(subsections: &Dylink<'_>) -> bool
     false
 }
 
-/// Writes the section that begins at the place.
+/// Writes the section that starts at `place`.
 pub(crate) fn write_dylink<P: Print>(
     p: &mut P,
     options: &PrintOptions,

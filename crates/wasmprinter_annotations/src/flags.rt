@@ -13,7 +13,7 @@ use wasmprinter_print::{Print, text};
 use wasmprinter_words::numbers::write_hexadecimal;
 use wasmprinter_words::words::{gap, word};
 
-/// Writes a blank and a word.
+/// Writes a space and a word.
 fn gap_word<P: Print>(p: &mut P, flag: &str) -> io::Result<()>
     ensures { PrintsAlways P.meaning p.old p.new result (Gap ∷ (Word flag.now ∷ [])) }
 {
@@ -21,7 +21,7 @@ fn gap_word<P: Print>(p: &mut P, flag: &str) -> io::Result<()>
     word(p, flag)
 }
 
-/// Writes the words of the flags that are set, a blank before each.
+/// Writes the words of the flags that are set, with a space before each.
 fn write_words<P: Print>(p: &mut P, flags: SymbolFlags) -> io::Result<()>
     ensures { PrintsAlways P.meaning p.old p.new result (words_pieces (words_by flag_words (bits_of flags))) }
 {
@@ -31,7 +31,7 @@ fn write_words<P: Print>(p: &mut P, flags: SymbolFlags) -> io::Result<()>
     Ok(())
 }
 
-/// Writes a number as a word in hexadecimal.
+/// Writes a number in hexadecimal, as one word.
 fn write_bits<P: Print>(p: &mut P, bits: u32) -> io::Result<()>
     ensures { PrintsAlways P.meaning p.old p.new result (Word (codes "0x" ++ digits 16 false bits) ∷ []) }
 {
@@ -39,7 +39,7 @@ fn write_bits<P: Print>(p: &mut P, bits: u32) -> io::Result<()>
     write_hexadecimal(p, u64::from(bits))
 }
 
-/// Writes a blank and bits in hexadecimal, and nothing where there are none.
+/// Writes a space and bits in hexadecimal. Writes nothing if no bit is set.
 #[tactic(auto, unfolding(wasmprinter_customs::specs::FlagPieces::others_pieces))]
 fn write_others<P: Print>(p: &mut P, bits: u32) -> io::Result<()>
     ensures { PrintsAlways P.meaning p.old p.new result (others_pieces bits) }
@@ -51,7 +51,7 @@ fn write_others<P: Print>(p: &mut P, bits: u32) -> io::Result<()>
     write_bits(p, bits)
 }
 
-/// Writes the words of the flags that are set, and then all other bits, a blank before each.
+/// Writes the words of the flags that are set and then all other bits, with a space before each.
 #[tactic(auto, using(wasmprinter_customs::proofs::FlagPieces::flags_pieces_are))]
 pub(crate) fn write_flags<P: Print>(p: &mut P, flags: SymbolFlags) -> io::Result<()>
     ensures { PrintsAlways P.meaning p.old p.new result (flags_pieces (bits_of flags)) }

@@ -1,7 +1,7 @@
-//! Custom sections as text: annotations for raw ones (appendix "Custom Annotations" of the WebAssembly Core Specification), and lines of
-//! their own for `producers` and `dylink.0` (tool conventions).
+//! Writes custom sections as text: annotations for raw sections (appendix "Custom Annotations" of the WebAssembly
+//! Core Specification), and lines of their own for `producers` and `dylink.0` (tool conventions).
 //!
-//! What answers `io::Result` fails with the error of the call on the printer that failed, and for no other reason.
+//! A function that returns `io::Result` fails only with the error of the call on the printer that failed.
 #![tactic(auto)]
 
 mod customs;

@@ -1,4 +1,4 @@
-//! The lines of a section `producers` (tool conventions, "Producers Section").
+//! The lines of a `producers` section (tool conventions, "Producers Section").
 ghost use Rattle.std.specs.Prelude.{◌≡◌, [], ◌∷◌, codes, Some};
 ghost use Rattle.wasmprinter_spec.specs.Piece.{Break};
 ghost use Rattle.wasmprinter_spec.specs.Layout.Customs.{note, values_pieces, fields_pieces};
@@ -62,7 +62,7 @@ fn write_fields<P: Print>(
     Ok(())
 }
 
-/// Whether a field has a value, each of which begins a line.
+/// Reports whether a field has a value. Each value begins a line.
 fn has_lines(fields: &Producers<'_>) -> bool
     ensures { result ≡ has_break (fields_pieces fields.now) }
 {
@@ -74,7 +74,7 @@ fn has_lines(fields: &Producers<'_>) -> bool
     false
 }
 
-/// Writes the section that begins at the place.
+/// Writes the section that starts at `place`.
 pub(crate) fn write_producers<P: Print>(
     p: &mut P,
     options: &PrintOptions,

@@ -1,4 +1,4 @@
-//! Texts in quotes within annotations, and how deep annotations are nested.
+//! Quoted strings within annotations, and the nesting depths of annotations.
 ghost use Rattle.wasmprinter_spec.specs.Layout.Customs.{gap_quoted, gap_quoted_list};
 ghost use Rattle.wasmprinter_print.specs.Prints.{PrintsAlways};
 
@@ -8,13 +8,13 @@ use wasmprinter_print::Print;
 use wasmprinter_words::strings::write_string;
 use wasmprinter_words::words::gap;
 
-/// How deep the annotation of a section is nested.
+/// The nesting depth of the annotation of a section.
 pub(crate) const SECTION_NESTING: u64 = 1;
 
-/// How deep the lines within an annotation are nested.
+/// The nesting depth of the lines within an annotation.
 pub(crate) const LINE_NESTING: u64 = 2;
 
-/// Writes a blank and a text in quotes.
+/// Writes a space and a quoted string.
 fn gap_string<P: Print>(p: &mut P, s: &str) -> io::Result<()>
     ensures { PrintsAlways P.meaning p.old p.new result (gap_quoted s.now) }
 {
@@ -22,7 +22,7 @@ fn gap_string<P: Print>(p: &mut P, s: &str) -> io::Result<()>
     write_string(p, s)
 }
 
-/// Writes names in quotes, a blank before each.
+/// Writes names as quoted strings, with a space before each.
 pub(crate) fn gap_strings<P: Print>(p: &mut P, names: &DylinkNames<'_>) -> io::Result<()>
     ensures { PrintsAlways P.meaning p.old p.new result (gap_quoted_list names.now) }
 {

@@ -15,7 +15,7 @@ use wasmprinter_words::annotations::{open_note_gap, plain_ending};
 use wasmprinter_words::strings::write_string;
 use wasmprinter_words::words::{gap, open_plain, shut, word};
 
-/// The word for a kind of section behind which another stands.
+/// Returns the word for the kind of section that a custom section follows.
 fn place_word(kind: SectionKind) -> &'static str
     ensures { result.now ≡ word_of_place (section_kind_view kind) }
 {
@@ -45,7 +45,7 @@ fn write_two_words<P: Print>(p: &mut P, first: &str, second: &str) -> io::Result
     shut(p)
 }
 
-/// Writes where a section stands among the others.
+/// Writes the place of a section among the other sections.
 #[tactic(auto, unfolding(wasmprinter_spec::specs::Layout::Customs::place_pieces))]
 fn write_place<P: Print>(p: &mut P, behind: Option<SectionKind>) -> io::Result<()>
     ensures { PrintsAlways P.meaning p.old p.new result (place_pieces (place_view behind)) }
@@ -56,7 +56,7 @@ fn write_place<P: Print>(p: &mut P, behind: Option<SectionKind>) -> io::Result<(
     }
 }
 
-/// Writes a section as it stands.
+/// Writes a section as a raw annotation `(@custom ..)`.
 #[tactic(auto, unfolding(wasmprinter_spec::specs::Layout::Customs::raw_pieces))]
 pub(crate) fn write_raw<P: Print>(
     p: &mut P,
@@ -75,7 +75,7 @@ pub(crate) fn write_raw<P: Print>(
     shut(p)
 }
 
-/// Writes a line that tells of the fault of a section, and the section as it stands.
+/// Writes a line that says that the section is malformed, and then the section as a raw annotation.
 #[tactic(auto, unfolding(wasmprinter_spec::specs::Layout::Customs::faulted_pieces))]
 pub(crate) fn write_faulted<P: Print>(
     p: &mut P,

@@ -1,4 +1,4 @@
--- The label that an operator opens, by its immediates.
+-- The number of values that the label of an operator's block expects, by the operator's immediates.
 use Rattle.std.proofs.Common.{◌≡◌, List, Bool, sym, ap, ◌∙◌}
 use Rattle.wasmprinter_spec.specs.Operator.{Opcode, BlockType, Catch, Immediates, Block, TryTable, Operator}
 use Rattle.wasmprinter_spec.specs.Folding.Arities.{Signatures, is_loop, block_gives, label_of_type, label_of_block}

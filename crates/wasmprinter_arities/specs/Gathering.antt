@@ -1,9 +1,9 @@
--- When what operators name is kept in memory.
+-- When gathering the types of imports allocates memory.
 use Rattle.std.specs.Prelude.{◌<◌, ◌⊎◌, length}
 use Rattle.wasmprinter_spec.specs.Placed.{PlacedModule}
 use Rattle.wasmprinter_spec.specs.Module.{without_places, imported_types, func_import, tag_import}
 
--- a function or a tag is imported
+-- A function or a tag is imported.
 abbrev pub ImportsSome : PlacedModule → Type 0
 ImportsSome m =
     (0 < length (imported_types func_import (without_places m.imports)))

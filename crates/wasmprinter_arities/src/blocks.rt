@@ -1,5 +1,5 @@
-//! Blocks: how many values they take and give, and how many their labels take (section 3.2 of the WebAssembly Core Specification, "Block
-//! Types", and section 3.4, "Control Instructions").
+//! Operands and results of blocks, and the number of values that their labels expect (section 3.2 of the
+//! WebAssembly Core Specification, "Block Types", and section 3.4, "Control Instructions").
 ghost use Rattle.std.specs.Prelude.{◌≡◌, ℕ, Option, length, option_map};
 ghost use Rattle.wasmprinter_spec.specs.Types.{signature_at};
 ghost use Rattle.wasmprinter_spec.specs.Folding.Arities.{types_of, signatures_within};
@@ -13,10 +13,11 @@ use wasmprinter_ops::blocks::BlockType;
 use wasmprinter_ops::opcode::Opcode;
 use wasmprinter_ops::operator::{Immediates, Operator};
 
-/// The number of `loop`.
+/// The opcode of `loop`.
 const LOOP: u32 = 0x03;
 
-/// How many parameters the function type with the index has, `None` where there is no such type or it is of another kind.
+/// Returns the number of parameters of the function type with the index, or `None` if there is no such function
+/// type.
 fn parameter_count(callees: &Callees, type_index: u32) -> Option<u32>
     ensures { result ≡ option_map (λ t. length t.params)
         (signature_at (types_of callees.now) type_index) }
@@ -27,7 +28,7 @@ fn parameter_count(callees: &Callees, type_index: u32) -> Option<u32>
     }
 }
 
-/// How many results the function type with the index has, `None` where there is no such type or it is of another kind.
+/// Returns the number of results of the function type with the index, or `None` if there is no such function type.
 fn result_count(callees: &Callees, type_index: u32) -> Option<u32>
     ensures { result ≡ option_map (λ t. length t.results)
         (signature_at (types_of callees.now) type_index) }
@@ -38,9 +39,9 @@ fn result_count(callees: &Callees, type_index: u32) -> Option<u32>
     }
 }
 
-/// How many values a block of the type takes.
+/// Returns the number of parameters of a block with the type.
 fn block_takes(callees: &Callees, block_type: BlockType) -> Option<u32>
-    // The function around makes no difference.
+    // The enclosing function does not matter.
     ensures { (own : Option ℕ) →
         result ≡ block_takes (signatures_within callees.now own) (block_type_view block_type) }
 {
@@ -50,9 +51,9 @@ fn block_takes(callees: &Callees, block_type: BlockType) -> Option<u32>
     }
 }
 
-/// How many values a block of the type gives.
+/// Returns the number of results of a block with the type.
 pub(crate) fn block_gives(callees: &Callees, block_type: BlockType) -> Option<u32>
-    // The function around makes no difference.
+    // The enclosing function does not matter.
     ensures { (own : Option ℕ) →
         result ≡ block_gives (signatures_within callees.now own) (block_type_view block_type) }
 {
@@ -63,16 +64,17 @@ pub(crate) fn block_gives(callees: &Callees, block_type: BlockType) -> Option<u3
     }
 }
 
-/// Whether it is `loop`.
+/// Reports whether the opcode is that of `loop`.
 fn is_loop(opcode: Opcode) -> bool
     ensures { result ≡ is_loop opcode }
 {
     opcode.prefix == 0 && opcode.number == LOOP
 }
 
-/// How many values the label of a block of the type takes. A branch to the label of a loop goes to its beginning.
+/// Returns the number of values that the label of a block with the type expects. A branch to the label of a loop
+/// goes to the start of the loop, so it passes the loop's parameters.
 fn label_of_type(callees: &Callees, is_loop: bool, block_type: BlockType) -> Option<u32>
-    // The function around makes no difference.
+    // The enclosing function does not matter.
     ensures { (own : Option ℕ) → result
         ≡ label_of_type (signatures_within callees.now own) is_loop (block_type_view block_type) }
 {
@@ -83,10 +85,11 @@ fn label_of_type(callees: &Callees, is_loop: bool, block_type: BlockType) -> Opt
     }
 }
 
-/// How many values the label takes that an operator opens: as many as a loop takes, and as many as another block gives. `None` where
-/// nothing is known of the block's type, and for an operator that opens no block.
+/// Returns the number of values that the label of an operator's block expects: the parameters of a loop, the
+/// results of any other block. Returns `None` if the block's type is unknown, and for an operator that opens no
+/// block.
 pub fn label_of_block(callees: &Callees, operator: &Operator<'_>) -> Option<u32>
-    // The function around makes no difference.
+    // The enclosing function does not matter.
     ensures { (own : Option ℕ) →
         result ≡ label_of_block (signatures_within callees.now own) operator.now }
 {

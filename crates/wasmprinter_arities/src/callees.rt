@@ -1,5 +1,5 @@
-//! What operators name by an index: functions, tags and types, by the types that they have (section 2.5 of the WebAssembly Core
-//! Specification, "Indices").
+//! The functions, tags and types that operators refer to by index, and their types (section 2.5 of the WebAssembly
+//! Core Specification, "Indices").
 ghost use Rattle.std.specs.Prelude.{◌≡◌, ◌<◌, length, IfOk, OnErr, slice_get, option_map};
 ghost use Rattle.wasmprinter_spec.specs.Types.{signature_at, fields_at};
 ghost use Rattle.wasmprinter_arities.specs.Gathering.{ImportsSome};
@@ -10,13 +10,13 @@ use std::marker::Model;
 use wasmprinter_types::composite::FuncType;
 use wasmprinter_wasm::{ExternType, Fields, Module};
 
-/// The types of what operators of a module name.
+/// The types of the items that a module's operators refer to.
 #[derive(Drop)]
 pub struct Callees<'m, 'a> {
     module: &'m Module<'a>,
-    /// The indices of the types of imported functions.
+    /// The type indices of imported functions.
     functions: Vec<u32>,
-    /// The indices of the types of imported tags.
+    /// The type indices of imported tags.
     tags: Vec<u32>,
 }
 
@@ -35,11 +35,12 @@ impl<'m, 'a> Model for Callees<'m, 'a> {
 }
 
 impl<'m, 'a> Callees<'m, 'a> {
-    /// Gathers what is imported, in time in proportion to the number of imports. A look-up then takes the same time for each index.
+    /// Gathers the types of imports in time proportional to the number of imports. Each look-up then takes constant
+    /// time.
     ///
     /// # Errors
     ///
-    /// Where a growth is refused, which is wanted only where a function or a tag is imported.
+    /// Returns an error if an allocation fails. Memory is needed only if a function or a tag is imported.
     pub fn new(alloc: Global, module: &'m Module<'a>) -> Result<Self, AllocError>
         ensures ok { IfOk result (λ c. c ≡ «module».now) }
         ensures memory { OnErr result (ImportsSome «module».now) }
@@ -60,7 +61,7 @@ impl<'m, 'a> Callees<'m, 'a> {
         })
     }
 
-    /// The index of the type of a function.
+    /// Returns the type index of a function, if there is such a function.
     fn type_of_function(&self, index: u32) -> Option<u32>
         ensures { result ≡ slice_get (functions_of self.now) index }
     {
@@ -77,7 +78,7 @@ impl<'m, 'a> Callees<'m, 'a> {
         }
     }
 
-    /// The index of the type of a tag.
+    /// Returns the type index of a tag, if there is such a tag.
     fn type_of_tag(&self, index: u32) -> Option<u32>
         ensures { result ≡ slice_get (tags_of self.now) index }
     {
@@ -93,28 +94,29 @@ impl<'m, 'a> Callees<'m, 'a> {
         }
     }
 
-    /// The function type with the index, `None` where there is no such type or it is of another kind.
+    /// Returns the function type with the index, or `None` if there is no such function type.
     pub(crate) fn signature(&self, index: u32) -> Option<FuncType<'a>>
         ensures { result ≡ signature_at (types_of self.now) index }
     {
         self.module.signature(index)
     }
 
-    /// The type of the function with the index, `None` where nothing is known of it.
+    /// Returns the type of the function with the index, or `None` if there is no such function or it has no function
+    /// type.
     pub(crate) fn function_type(&self, index: u32) -> Option<FuncType<'a>>
         ensures { result ≡ function_type self.now index }
     {
         self.signature(self.type_of_function(index)?)
     }
 
-    /// The type of the tag with the index, `None` where nothing is known of it.
+    /// Returns the type of the tag with the index, or `None` if there is no such tag or it has no function type.
     pub(crate) fn tag_type(&self, index: u32) -> Option<FuncType<'a>>
         ensures { result ≡ tag_type self.now index }
     {
         self.signature(self.type_of_tag(index)?)
     }
 
-    /// How many fields the structure type with the index has, `None` where there is no such type or it is of another kind.
+    /// Returns the number of fields of the structure type with the index, or `None` if there is no such structure type.
     pub(crate) fn field_count(&self, index: u32) -> Option<u32>
         ensures { result ≡ option_map length (fields_at (types_of self.now) index) }
     {

@@ -5,7 +5,7 @@ ghost use Rattle.wasmprinter_arities.specs.Counted.{counts_view};
 
 use wasmprinter_types::composite::FuncType;
 
-/// How many operands an operator takes, and how many results it gives.
+/// The number of operands that an operator takes and of results that it gives.
 #[derive(Clone, Copy, Debug, PartialEq, Eq)]
 pub struct Counts {
     /// The number of operands.
@@ -14,38 +14,38 @@ pub struct Counts {
     pub gives: u32,
 }
 
-/// Nothing is taken, and nothing given.
+/// No operands and no results.
 pub(crate) const NOTHING: Counts = Counts { takes: 0, gives: 0 };
 
-/// So many are taken, and so many given.
+/// Returns the counts with these numbers of operands and results.
 pub(crate) fn takes_and_gives(takes: u32, gives: u32) -> Counts
     ensures { counts_view result ≡ takes_and_gives takes gives }
 {
     Counts { takes, gives }
 }
 
-/// One more, unless 32 bits can't hold it.
+/// Returns `count + 1`, or the greatest 32-bit number if that overflows.
 pub(crate) fn one_more(count: u32) -> u32
     ensures { result ≡ saturating_sum count 1 }
 {
     count.saturating_add(1)
 }
 
-/// How many parameters a function type has.
+/// Returns the number of parameters of a function type.
 pub(crate) fn parameter_count_of(func_type: &FuncType<'_>) -> u32
     ensures { result ≡ length func_type.now.params }
 {
     func_type.params().len()
 }
 
-/// How many results a function type has.
+/// Returns the number of results of a function type.
 pub(crate) fn result_count_of(func_type: &FuncType<'_>) -> u32
     ensures { result ≡ length func_type.now.results }
 {
     func_type.results().len()
 }
 
-/// What a call of a function of the type takes and gives.
+/// Returns the operands and results of a call of a function with the type.
 pub(crate) fn counts_of_call(func_type: Option<FuncType<'_>>) -> Option<Counts>
     ensures { option_map counts_view result
         ≡ option_map (λ t. takes_and_gives (length t.params) (length t.results)) func_type.entry }

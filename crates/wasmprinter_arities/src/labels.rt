@@ -1,4 +1,5 @@
-//! How many values the labels of open blocks take (section 3.4 of the WebAssembly Core Specification, "Control Instructions").
+//! The number of values that the labels of open blocks expect (section 3.4 of the WebAssembly Core Specification,
+//! "Control Instructions").
 ghost use Rattle.std.specs.Prelude.{◌≡◌, [], OnOk, OnErr};
 ghost use Rattle.wasmprinter_spec.specs.Labels.{labels_after};
 ghost use Rattle.wasmprinter_spec.specs.Folding.Arities.{label_count};
@@ -10,10 +11,10 @@ use std::alloc::{AllocError, Global};
 use std::marker::Model;
 use wasmprinter_ops::opcode::Role;
 
-/// How many values the labels of the open blocks take.
+/// The number of values that the label of each open block expects.
 #[derive(Drop)]
 pub struct LabelCounts {
-    /// The innermost last; `None` where nothing is known of the block's type.
+    /// The innermost block is the last. `None` if the block's type is unknown.
     counts: Vec<Option<u32>>,
 }
 
@@ -26,7 +27,7 @@ impl Model for LabelCounts {
 }
 
 impl LabelCounts {
-    /// No block is open.
+    /// Creates the state without open blocks.
     pub fn new(alloc: Global) -> Self
         ensures { result ≡ [] }
     {
@@ -42,11 +43,12 @@ impl LabelCounts {
         self.counts.clear();
     }
 
-    /// Goes on behind an operator of the role. If it opens a block, the block's label takes `opened` values.
+    /// Moves past an operator with the role. If it opens a block, the block's label expects `opened` values.
     ///
     /// # Errors
     ///
-    /// Where a growth is refused, which only an operator wants that opens a block. Nothing has changed then.
+    /// Returns an error if an allocation fails, which is possible only for an operator that opens a block. Nothing has
+    /// changed then.
     pub fn advance(&mut self, role: Role, opened: Option<u32>) -> Result<(), AllocError>
         ensures ok { OnOk result (self.new ≡ labels_after (role_view role) opened self.old) }
         ensures memory { OnErr result (OpensBlock (role_view role)) }
@@ -62,8 +64,9 @@ impl LabelCounts {
         Ok(())
     }
 
-    /// How many values a label takes, the innermost block's being 0. Behind those of the blocks is the label of the body, which takes `own`
-    /// values. `None` where nothing is known of the block's type, and for a label of nothing.
+    /// Returns the number of values that a label expects. Label 0 is that of the innermost block. The label after those
+    /// of all open blocks is that of the body, which expects `own` values. Returns `None` if the block's type is
+    /// unknown or there is no such label.
     pub fn find(&self, own: Option<u32>, label: u32) -> Option<u32>
         ensures { result ≡ label_count self.now own label }
     {
@@ -78,7 +81,7 @@ impl LabelCounts {
         }
     }
 
-    /// The same of a label that may be missing.
+    /// Returns the number of values that a label expects, or `None` if there is no label.
     pub(crate) fn find_if_any(&self, own: Option<u32>, label: Option<u32>) -> Option<u32>
         ensures { result ≡ count_if_any self.now own label }
     {

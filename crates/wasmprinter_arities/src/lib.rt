@@ -1,5 +1,5 @@
-//! How many operands an operator takes from the stack and how many results it gives, where it stands in a module (section 3.4 of the
-//! WebAssembly Core Specification, "Instructions").
+//! The number of operands that an operator takes from the stack and of results that it gives, at its position in a
+//! module (section 3.4 of the WebAssembly Core Specification, "Instructions").
 #![tactic(auto)]
 
 pub mod blocks;

@@ -1,4 +1,5 @@
-//! What an operator names by its immediates (section 5.4 of the WebAssembly Core Specification, "Instructions").
+//! The items that an operator's immediates refer to (section 5.4 of the WebAssembly Core Specification,
+//! "Instructions").
 ghost use Rattle.std.specs.Prelude.{◌≡◌, ℕ, Option};
 ghost use Rattle.wasmprinter_spec.specs.Folding.Arities.{signatures_within};
 ghost use Rattle.wasmprinter_ops.specs.Immediates.{immediates_view};
@@ -11,7 +12,7 @@ use crate::callees::Callees;
 use wasmprinter_ops::operator::Immediates;
 use wasmprinter_types::composite::FuncType;
 
-/// The index, where there is nothing but one.
+/// Returns the index, if it is the only immediate.
 pub(crate) fn index_in(immediates: &Immediates<'_>) -> Option<u32>
     ensures { result ≡ index_in (immediates_view immediates.now) }
 {
@@ -21,7 +22,7 @@ pub(crate) fn index_in(immediates: &Immediates<'_>) -> Option<u32>
     }
 }
 
-/// The index of a type, by itself or in front of another index.
+/// Returns the index of a type, alone or before another index.
 fn type_in(immediates: &Immediates<'_>) -> Option<u32>
     ensures { result ≡ type_in (immediates_view immediates.now) }
 {
@@ -32,7 +33,7 @@ fn type_in(immediates: &Immediates<'_>) -> Option<u32>
     }
 }
 
-/// The last label of `br_table`, for all other numbers.
+/// Returns the default label of a `br_table`.
 pub(crate) fn last_label_in(immediates: &Immediates<'_>) -> Option<u32>
     ensures { result ≡ last_label_in (immediates_view immediates.now) }
 {
@@ -42,7 +43,7 @@ pub(crate) fn last_label_in(immediates: &Immediates<'_>) -> Option<u32>
     }
 }
 
-/// The label of a branch that depends on a cast.
+/// Returns the label of a branch that depends on a cast.
 pub(crate) fn cast_label_in(immediates: &Immediates<'_>) -> Option<u32>
     ensures { result ≡ cast_label_in (immediates_view immediates.now) }
 {
@@ -52,7 +53,7 @@ pub(crate) fn cast_label_in(immediates: &Immediates<'_>) -> Option<u32>
     }
 }
 
-/// The number behind the index of a type.
+/// Returns the number after the index of a type.
 pub(crate) fn count_in(immediates: &Immediates<'_>) -> Option<u32>
     ensures { result ≡ count_in (immediates_view immediates.now) }
 {
@@ -62,7 +63,7 @@ pub(crate) fn count_in(immediates: &Immediates<'_>) -> Option<u32>
     }
 }
 
-/// The type of the function that is named.
+/// Returns the type of the function that the index refers to.
 pub(crate) fn function_named<'a>(
     callees: &Callees<'_, 'a>,
     immediates: &Immediates<'_>,
@@ -72,7 +73,7 @@ pub(crate) fn function_named<'a>(
     callees.function_type(index_in(immediates)?)
 }
 
-/// The type of the tag that is named.
+/// Returns the type of the tag that the index refers to.
 pub(crate) fn tag_named<'a>(
     callees: &Callees<'_, 'a>,
     immediates: &Immediates<'_>,
@@ -82,7 +83,7 @@ pub(crate) fn tag_named<'a>(
     callees.tag_type(index_in(immediates)?)
 }
 
-/// The function type that is named, by itself or with a table.
+/// Returns the function type that the index refers to, alone or with a table.
 pub(crate) fn type_named<'a>(
     callees: &Callees<'_, 'a>,
     immediates: &Immediates<'_>,
@@ -92,16 +93,16 @@ pub(crate) fn type_named<'a>(
     callees.signature(type_in(immediates)?)
 }
 
-/// How many fields the structure type has that is named.
+/// Returns the number of fields of the structure type that the index refers to.
 pub(crate) fn field_count_named(callees: &Callees, immediates: &Immediates<'_>) -> Option<u32>
     ensures { result ≡ field_count_named callees.now (immediates_view immediates.now) }
 {
     callees.field_count(index_in(immediates)?)
 }
 
-/// How many values the block gives whose type is named.
+/// Returns the number of results of a block with the block type in the immediates.
 pub(crate) fn block_gives_in(callees: &Callees, immediates: &Immediates<'_>) -> Option<u32>
-    // The function around makes no difference.
+    // The enclosing function does not matter.
     ensures { (own : Option ℕ) → result
         ≡ block_gives_in (signatures_within callees.now own) (immediates_view immediates.now) }
 {

@@ -1,5 +1,6 @@
-//! What an operator takes and gives, by the column of the table of operators that says it; if it names a type, a function, a tag or a
-//! label, by what that is in the module (section 3.4 of the WebAssembly Core Specification, "Instructions").
+//! The operands and results of an operator, by its arity in the table of operators. If the operator refers to a
+//! type, a function, a tag or a label, they depend on that item of the module (section 3.4 of the WebAssembly Core
+//! Specification, "Instructions").
 ghost use Rattle.std.specs.Prelude.{◌≡◌};
 ghost use Rattle.wasmprinter_spec.specs.Folding.Arities.{counts as counts_by_arity, counts_of};
 ghost use Rattle.wasmprinter_spec.specs.Folding.Arities.{signatures_within};
@@ -17,7 +18,8 @@ use crate::named::{
 use wasmprinter_ops::opcode::{Arity, Listed};
 use wasmprinter_ops::operator::{Immediates, Operator};
 
-/// What an operator of the arity takes and gives, `None` where nothing is known of what it names.
+/// Returns the operands and results of an operator with the arity, or `None` if the item that it refers to is
+/// unknown.
 fn counts_by_arity(
     callees: &Callees,
     own: Option<u32>,
@@ -55,11 +57,12 @@ fn counts_by_arity(
     }
 }
 
-/// How many operands an operator takes and how many results it gives, where these labels are open and the function around it has `own`
-/// results (0 in a constant expression, `None` where nothing is known of the function's type).
+/// Returns the number of operands that an operator takes and of results that it gives. `labels` are those open
+/// before it. `own` is the number of results of the enclosing function: 0 in a constant expression, `None` if the
+/// function's type is unknown.
 ///
-/// A number that 32 bits can't hold is the greatest that they can. An operator takes and gives nothing where nothing is known of what it
-/// names. A block takes nothing, whatever its parameters are.
+/// Counts saturate at the greatest 32-bit number. An operator takes and gives nothing if the item that it refers to
+/// is unknown. A block takes nothing, whatever its parameters are.
 pub fn counts(
     callees: &Callees,
     own: Option<u32>,

@@ -18,14 +18,14 @@ use Rattle.wasmprinter_text.proofs.Walks.{walk-line}
 use Rattle.wasmprinter_bodies.specs.declared.locals.Position.{Position}
 use Rattle.wasmprinter_bodies.specs.LocalWalk.{behind_one, behind_all, local_parts, locals_parts}
 
--- ---- one after the other
+-- ---- Locals, one after another
 
--- a walk over locals of the function f, from a position on
+-- The pieces of the pass over locals of the function f, from a position on.
 abbrev pub walk_from : Names → ℕ → Position → List ValType → List Piece
 walk_from names f x ts = walk_pieces names (codes "local") (names.locals f) x.before x.number ts
 
 module _ (names : Names) (f : ℕ) where
-  -- some locals, and the others
+  -- The pass over two lists of locals writes the first and passes over the second from the position after the first.
   walk-append : (x : Position) (ts us : List ValType) →
       walk_from names f x (ts ++ us) ≡ locals_parts names f x ts ++ walk_from names f (behind_all (names.locals f) x ts) us
   walk-append x [] us = refl
@@ -33,28 +33,28 @@ module _ (names : Names) (f : ℕ) where
       ap (λ ps. local_parts names f x t ++ ps) (walk-append (behind_one (names.locals f) x) ts us)
       ∙ sym (append_assoc (local_parts names f x t) (locals_parts names f (behind_one (names.locals f) x) ts) (walk_from names f (behind_all (names.locals f) x (t ∷ ts)) us))
 
-  -- the locals of the next entry, and those of the others
+  -- The pass over entries writes the locals of the first entry and passes over those of the others.
   pub entries-next : (x : Position) (es rest : List (Placed LocalEntry)) (e : Placed LocalEntry) → es ≡ e ∷ rest →
       walk_from names f x (locals_of es) ≡ locals_parts names f x (replicate e.value.count e.value.type)
       ++ walk_from names f (behind_all (names.locals f) x (replicate e.value.count e.value.type)) (locals_of rest)
   entries-next x es rest e p =
       ap (λ xs. walk_from names f x (locals_of xs)) p ∙ walk-append x (replicate e.value.count e.value.type) (locals_of rest)
 
-  -- no entry is left
+  -- The pass over no entries writes the end of the open group, if there is one.
   pub entries-none : (x : Position) (es : List (Placed LocalEntry)) → es ≡ [] → walk_from names f x (locals_of es) ≡ end_pieces x.before
   entries-none x es p = ap (λ xs. walk_from names f x (locals_of xs)) p
 
-  -- what is left of a local so many times: the next time, and the others
+  -- If some of n locals with one type are left, their pieces are those of the next one and of the others.
   pub times-next : (x : Position) (n i : ℕ) (t : ValType) → i < n →
       locals_parts names f x (replicate (n - i) t) ≡ local_parts names f x t ++ locals_parts names f (behind_one (names.locals f) x) (replicate (n - (i + 1)) t)
   times-next x n i t h = let e : n - i ≡ suc (n - (i + 1)) = omega arith in ap (λ m. locals_parts names f x (replicate m t)) e
 
-  -- nothing is left
+  -- If none of n locals with one type is left, there are no pieces.
   pub times-none : (x : Position) (n i : ℕ) (t : ValType) → n ≤ i → locals_parts names f x (replicate (n - i) t) ≡ []
   times-none x n i t h = let e : n - i ≡ 0 = omega arith in ap (λ m. locals_parts names f x (replicate m t)) e
 
 module _ (named : ℕ → Option Named) where
-  -- behind what is left of a local so many times
+  -- The position after the rest of n locals is that after the next one and the others.
   pub behind_times-next : (x : Position) (n i : ℕ) (t : ValType) → i < n →
       behind_all named x (replicate (n - i) t) ≡ behind_all named (behind_one named x) (replicate (n - (i + 1)) t)
   behind_times-next x n i t h = let e : n - i ≡ suc (n - (i + 1)) = omega arith in ap (λ m. behind_all named x (replicate m t)) e
@@ -62,14 +62,14 @@ module _ (named : ℕ → Option Named) where
   pub behind_times-none : (x : Position) (n i : ℕ) (t : ValType) → n ≤ i → behind_all named x (replicate (n - i) t) ≡ x
   behind_times-none x n i t h = let e : n - i ≡ 0 = omega arith in ap (λ m. behind_all named x (replicate m t)) e
 
-  -- the number behind so many locals
+  -- The number after n locals is the number before them plus n.
   pub behind_times-number : (x : Position) (n : ℕ) (t : ValType) → (behind_all named x (replicate n t)).number ≡ x.number + n
   behind_times-number x zero t = omega arith
   behind_times-number x (suc n) t = let others = behind_times-number (behind_one named x) n t in omega (arith, others)
 
--- ---- their line
+-- ---- The line of locals
 
--- where no entry declares a local there is none
+-- If no entry declares a local, there are no locals.
 pub declares-none : (es : List (Placed LocalEntry)) → locals_place es ≡ None → locals_of es ≡ []
 declares-none [] h = refl
 declares-none (e ∷ es) h = by (e.value.count == 0) refl h (declares-none es)
@@ -78,7 +78,7 @@ declares-none (e ∷ es) h = by (e.value.count == 0) refl h (declares-none es)
     by true z g others = ap (λ n. replicate n e.value.type ++ locals_of es) (eqb-true e.value.count 0 z) ∙ others g
     by false z g others = absurd cc
 
--- there are locals
+-- There is at least one local.
 pub record HasLocals (es : List (Placed LocalEntry)) : Type 0 where
   pub first : ValType
   pub others : List ValType
@@ -99,7 +99,7 @@ later e es z d = record {
   types = ap (λ m. replicate m e.value.type ++ locals_of es) (eqb-true e.value.count 0 z) ∙ d.types;
 }
 
--- where an entry declares a local
+-- If an entry declares a local, there is at least one local.
 pub declares-some : (es : List (Placed LocalEntry)) (place : ℕ) → locals_place es ≡ Some place → HasLocals es
 declares-some [] place h = absurd cc
 declares-some (e ∷ es) place h = by (e.value.count == 0) refl h (declares-some es place)
@@ -109,12 +109,12 @@ declares-some (e ∷ es) place h = by (e.value.count == 0) refl h (declares-some
     by false z g others = some_here e es e.value.count z refl
 
 module _ (names : Names) (f count : ℕ) where
-  -- no line of locals
+  -- If no entry declares a local, there is no line of locals.
   pub locals-none : (es : List (Placed LocalEntry)) → locals_place es ≡ None → local_pieces names f count es ≡ []
   unfolding local_pieces local_line
   locals-none es h = ap (λ ts. local_line names (locals_place es) (variable_groups (names.locals f) count ts)) (declares-none es h)
 
-  -- the line of locals, written out
+  -- If an entry declares a local, the line of locals is a line break and the pass over the locals.
   pub locals-some : (es : List (Placed LocalEntry)) (place : ℕ) → locals_place es ≡ Some place →
       local_pieces names f count es ≡ Break (Some place) 2 ∷ walk_pieces names (codes "local") (names.locals f) before.Line count (locals_of es)
   unfolding local_pieces
@@ -124,7 +124,7 @@ module _ (names : Names) (f count : ℕ) where
       ∙ sym (walk-line names (Some place) (names.locals f) count d.first d.others)
       ∙ sym (ap (λ ts. Break (Some place) 2 ∷ walk_pieces names (codes "local") (names.locals f) before.Line count ts) d.types)
 
-  -- whether the line changes for locals
+  -- A line begins for locals exactly if an entry declares one.
   pub locals-break : (es : List (Placed LocalEntry)) → has_break (local_pieces names f count es) ≡ is_some (locals_place es)
   locals-break es = by (locals_place es) refl
     where

@@ -1,3 +1,3 @@
--- What the contracts of functions and their locals cite.
+-- The definitions that the contracts of functions and their locals cite.
 pub mod Functions
 pub mod LocalWalk

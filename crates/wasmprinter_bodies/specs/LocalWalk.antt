@@ -1,4 +1,4 @@
--- Locals in one walk over their types: what some of them write, by where the walk stands.
+-- Locals in one pass over their types: the pieces of some of them from a position on.
 use Rattle.std.specs.Prelude.{ℕ, ◌+◌, List, [], ◌∷◌, ◌++◌, codes, Option}
 use Rattle.wasmprinter_spec.specs.Types.{ValType}
 use Rattle.wasmprinter_spec.specs.Labels.{Named}
@@ -7,20 +7,20 @@ use Rattle.wasmprinter_spec.specs.Piece.{Piece}
 use Rattle.wasmprinter_text.specs.Variables.{before_next, variable_pieces}
 use Rattle.wasmprinter_bodies.specs.declared.locals.Position.{Position}
 
--- behind the next local
+-- The position after the next local.
 abbrev pub behind_one : (ℕ → Option Named) → Position → Position
 behind_one named x = record { before = before_next (named x.number); number = x.number + 1 }
 
--- behind so many locals
+-- The position after locals with these types.
 abbrev pub behind_all : (ℕ → Option Named) → Position → List ValType → Position
 behind_all named x [] = x
 behind_all named x (t ∷ ts) = behind_all named (behind_one named x) ts
 
--- the next local of the function f
+-- The pieces of the next local of the function f.
 abbrev pub local_parts : Names → ℕ → Position → ValType → List Piece
 local_parts names f x t = variable_pieces names (codes "local") x.before (names.locals f x.number) t
 
--- the next locals, with the last group left open
+-- The pieces of the next locals. The last group is left open.
 abbrev pub locals_parts : Names → ℕ → Position → List ValType → List Piece
 locals_parts names f x [] = []
 locals_parts names f x (t ∷ ts) = local_parts names f x t ++ locals_parts names f (behind_one (names.locals f) x) ts

@@ -20,10 +20,10 @@ use wasmprinter_text::signature::Signatures;
 use wasmprinter_wasm::{Body, BodyParts, Function};
 use wasmprinter_words::words::{gap, open_gap, shut, word};
 
-/// How deep the operators of a body are nested.
+/// The nesting depth of the operators of a body.
 const BODY_NESTING: u64 = 2;
 
-/// Writes what stands for a function without its body.
+/// Writes the content of a function's group in a skeleton: its header and `...`.
 #[tactic(auto, unfolding(wasmprinter_spec::specs::Layout::Functions::header_pieces))]
 fn write_outline<P: Print>(
     p: &mut P,
@@ -55,7 +55,7 @@ fn write_outline_group<P: Print>(
     shut(p)
 }
 
-/// How many parameters a function of the type has: none unless it is a function type.
+/// Returns the number of parameters of a function with the type, or 0 if it is not a function type.
 fn parameter_count(scope: &Scope<'_, '_>, type_index: u32) -> u32
     ensures { result ≡ parameter_count_of (scope_view scope.now).types type_index }
 {
@@ -65,7 +65,7 @@ fn parameter_count(scope: &Scope<'_, '_>, type_index: u32) -> u32
     }
 }
 
-/// How many results a function of the type has, if it is a function type.
+/// Returns the number of results of a function with the type, if it is a function type.
 fn result_count(scope: &Scope<'_, '_>, type_index: u32) -> Option<u32>
     ensures { result ≡ result_count (scope_view scope.now) type_index }
 {
@@ -75,8 +75,8 @@ fn result_count(scope: &Scope<'_, '_>, type_index: u32) -> Option<u32>
     }
 }
 
-/// Writes the operators of a body, of a function of the type, behind their hints: each on a line of its own, or folded.
-/// Answers whether a line began.
+/// Writes the operators of a body, each after its hint: one a line, or folded. The function has the type with index
+/// `type_index`. Returns whether a line began.
 fn write_body<P: Print>(
     p: &mut P,
     options: &PrintOptions,
@@ -110,7 +110,7 @@ fn write_body<P: Print>(
     }
 }
 
-/// Writes what a function holds behind its type. Answers whether a line began.
+/// Writes the locals and operators of a function, which follow its type use. Returns whether a line began.
 #[tactic(auto, unfolding(wasmprinter_spec::specs::Layout::Functions::inner_pieces))]
 fn write_inner<P: Print>(
     p: &mut P,
@@ -133,7 +133,7 @@ fn write_inner<P: Print>(
     Ok(has_locals(&body.locals()) || lines)
 }
 
-/// Writes what stands for a function with its body. Answers whether a line began.
+/// Writes the content of a function's group: its header, locals and operators. Returns whether a line began.
 #[tactic(auto, unfolding(wasmprinter_spec::specs::Layout::Functions::header_pieces))]
 fn write_definition<P: Print>(
     p: &mut P,
@@ -174,7 +174,7 @@ fn write_definition_group<P: Print>(
     Ok(())
 }
 
-/// Writes a function as a group, in a skeleton without its body.
+/// Writes a function as a group, without its body in a skeleton.
 fn write_function_group<P: Print>(
     p: &mut P,
     options: &PrintOptions,
@@ -199,7 +199,8 @@ fn write_function_group<P: Print>(
 ///
 /// # Errors
 ///
-/// `Memory` where a growth was refused, `Printer` where a call on the printer failed, with that call's error. No other.
+/// - `Memory` if an allocation fails.
+/// - `Printer` with the error of the call on the printer that failed.
 #[tactic(auto, unfolding(wasmprinter_spec::specs::Layout::Functions::function_pieces))]
 pub fn write_function<P: Print>(
     p: &mut P,

@@ -1,7 +1,7 @@
-//! The functions of a module as text (section 6.6 of the WebAssembly Core Specification, "Functions"), with their locals and operators,
-//! over any printer.
+//! Writes the functions of a module with their locals and operators (section 6.6 of the WebAssembly Core
+//! Specification, "Functions") to any printer.
 //!
-//! What answers `io::Result` fails with the error of the call on the printer that failed, and for no other reason.
+//! A function that returns `io::Result` fails only with the error of the call on the printer that failed.
 #![tactic(auto)]
 
 pub mod functions;

@@ -20,17 +20,17 @@ use wasmprinter_text::types::variables::{Before, end_variables, write_variable};
 use wasmprinter_types::ValType;
 use wasmprinter_wasm::{LocalEntry, Locals};
 
-/// How deep the locals of a function are nested.
+/// The nesting depth of the locals of a function.
 const LOCALS_NESTING: u64 = 2;
 
-/// In front of a local: what stands there, and its number.
+/// The position before a local: the state of the text, and the number of the local.
 #[derive(Clone, Copy)]
 struct Position {
     before: Before,
     number: u64,
 }
 
-/// The place of the first entry that declares a local.
+/// Returns the place of the first entry that declares a local, if there is one.
 fn locals_place(locals: &Locals<'_>) -> Option<u64>
     ensures { result ≡ locals_place locals.now }
 {
@@ -42,14 +42,14 @@ fn locals_place(locals: &Locals<'_>) -> Option<u64>
     None
 }
 
-/// Whether there are locals, which begin a line.
+/// Reports whether there are locals. Exactly then, a line begins for them.
 pub(crate) fn has_locals(locals: &Locals<'_>) -> bool
     ensures { (names : Names) (f count : ℕ) → result ≡ has_break (local_pieces names f count locals.now) }
 {
     locals_place(locals).is_some()
 }
 
-/// Writes a local of the function, and gives the position behind it.
+/// Writes a local of the function and returns the position after it.
 fn write_local<P: Print>(
     p: &mut P,
     scope: &Scope<'_, '_>,
@@ -78,7 +78,7 @@ fn write_local<P: Print>(
     })
 }
 
-/// Writes the locals of an entry.
+/// Writes the locals of an entry and returns the position after them.
 fn write_entry<P: Print>(
     p: &mut P,
     scope: &Scope<'_, '_>,
@@ -99,7 +99,7 @@ fn write_entry<P: Print>(
     Ok(position)
 }
 
-/// Writes all locals in their groups, at the beginning of a line. So many parameters come before them.
+/// Writes all locals in their groups, at the start of a line. They are numbered after `parameters` parameters.
 fn write_entries<P: Print>(
     p: &mut P,
     scope: &Scope<'_, '_>,
@@ -123,7 +123,8 @@ fn write_entries<P: Print>(
     end_variables(p, position.before)
 }
 
-/// Writes all locals of the function on one line, and nothing where there are none. So many parameters come before them.
+/// Writes all locals of the function on one line, numbered after `parameters` parameters. Writes nothing if there
+/// are no locals.
 pub(crate) fn write_locals<P: Print>(
     p: &mut P,
     options: &PrintOptions,

@@ -1,10 +1,10 @@
--- How many blocks are open.
+-- The number of open blocks.
 use Rattle.std.specs.Prelude.{◌≡◌, ℕ, suc, ◌-◌, ◌≤◌, List, [], ◌∷◌, length}
 use Rattle.std.proofs.Common.{arith}
 use Rattle.wasmprinter_spec.specs.Row.{Role, Plain, Opens, OpensIf, OpensTry, Turns, Catches, CatchesAll, Delegates, Ends}
 use Rattle.wasmprinter_spec.specs.Labels.{Label, labels_after, count_after, labels_outside}
 
--- an operator opens one block at most
+-- An operator opens at most one block.
 pub after-length : (r : Role) (x : Label) (xs : List Label) → length (labels_after r x xs) ≤ suc (length xs)
 after-length Plain x xs = omega arith
 after-length Opens x xs = omega arith
@@ -29,12 +29,12 @@ after-count CatchesAll n = omega arith
 after-count Delegates n = omega arith
 after-count Ends n = omega arith
 
--- `delegate` means no label of its own block
+-- The labels that `delegate` may refer to are those of all open blocks except its own.
 pub labels_outside-own : (xs : List Label) → length (labels_outside Delegates xs) ≡ length xs - 1
 labels_outside-own [] = omega arith
 labels_outside-own (y ∷ ys) = omega arith
 
--- no operator means more labels than are open
+-- An operator cannot refer to more labels than are open.
 pub labels_outside-length : (r : Role) (xs : List Label) → length (labels_outside r xs) ≤ length xs
 labels_outside-length Plain xs = omega arith
 labels_outside-length Opens xs = omega arith

@@ -1,4 +1,4 @@
--- Immediates that have their shape.
+-- Immediates that have the shape of their opcode.
 use Rattle.std.specs.Prelude.{◌≡◌, ℕ, ℤ, suc, List, [], ◌∷◌, ◌++◌, length, Option, Some, None, MatchOption, refl}
 use Rattle.std.proofs.Common.{subst}
 use Rattle.wasmprinter_spec.specs.Grammar.{some_is}
@@ -77,7 +77,7 @@ module _ (s : Setting) (inner xs : List Label) (own : Label) where
   f64-out F64Shape bits h = refl
   f64-out _ bits h = absurd cc
 
--- a listed opcode has immediates of the shape that the table gives it
+-- The immediates of a listed opcode have the shape that the table gives it.
 row-fits : (r : Option Row) (s : Shape) (i : Immediates) → MatchOption r ⊥ (λ x. HasShape x.shape i) → shape_of_row r ≡ Some s → HasShape s i
 row-fits None s i h e = absurd h
 row-fits (Some r) s i h e = subst (λ (x : Shape). HasShape x i) (some_is r.shape s e) h

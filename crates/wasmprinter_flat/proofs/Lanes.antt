@@ -7,22 +7,23 @@ use Rattle.std.proofs.lemmas.List.{reverse-append}
 use Rattle.wasmprinter_spec.specs.Piece.{behind_blanks}
 use Rattle.wasmprinter_spec.specs.Layout.Operators.{lane_pieces, lanes_pieces, hex_digits, hex_word, hex_words}
 
--- the next lane, and the others
+-- The pieces of a list of lanes are those of the first lane and those of the others.
 pub lanes-next : (ks rest : List ℕ) (k : ℕ) → ks ≡ k ∷ rest → lanes_pieces ks ≡ lane_pieces k ++ lanes_pieces rest
 unfolding lanes_pieces
 lanes-next ks rest k e = ap lanes_pieces e
 
--- no lane is left
+-- An empty list of lanes has no pieces.
 pub lanes-none : (ks : List ℕ) → ks ≡ [] → lanes_pieces ks ≡ []
 unfolding lanes_pieces
 lanes-none ks e = ap lanes_pieces e
 
--- the digits of the last byte come first
+-- In the digits of the reversed bytes, those of the last byte come first.
 pub digits-last : (bs rest : List ℕ) (b : ℕ) → bs ≡ push rest b →
     hex_digits (reverse bs) ≡ (digit_glyph false (b / 16) ∷ (digit_glyph false (b % 16) ∷ [])) ++ hex_digits (reverse rest)
 digits-last bs rest b e = ap (λ xs. hex_digits (reverse xs)) e ∙ ap hex_digits (reverse-append rest (b ∷ []))
 
--- four bytes, and the others
+-- The words of bytes, each with a space before it, are the word of the first four bytes and the words of the
+-- others.
 pub words-next : (bs word rest : List ℕ) → bs ≡ word ++ rest → length word ≡ 4 →
     behind_blanks (hex_words bs) ≡ (32 ∷ hex_word word) ++ behind_blanks (hex_words rest)
 unfolding hex_words
@@ -33,7 +34,7 @@ words-next bs (a ∷ (b ∷ [])) rest e n = absurd (omega (arith, n))
 words-next bs (a ∷ (b ∷ (c ∷ []))) rest e n = absurd (omega (arith, n))
 words-next bs (a ∷ (b ∷ (c ∷ (d ∷ (x ∷ xs))))) rest e n = absurd (omega (arith, n))
 
--- fewer than four are left
+-- Fewer than four bytes have no words.
 pub words-none : (bs : List ℕ) → length bs < 4 → behind_blanks (hex_words bs) ≡ []
 unfolding hex_words
 words-none [] h = refl

@@ -1,4 +1,4 @@
--- The identifiers of what operators mean by indices.
+-- The identifiers of the items that operators refer to by index.
 use Rattle.std.specs.Prelude.{◌≡◌, ℕ, Bool, Some, None, if◌then◌else◌, refl}
 use Rattle.wasmprinter_spec.specs.Grammar.{◌>>=◌}
 use Rattle.wasmprinter_spec.specs.Row.{Space, Types, Func, Table, Memory, Tag, Global, Elem, Data, Local, Label}
@@ -11,7 +11,8 @@ use Rattle.wasmprinter_names.specs.declared.identifiers.Identifiers.{Identifiers
 use Rattle.wasmprinter_names.specs.declared.space.Space.{Space as NamedSpace}
 use Rattle.wasmprinter_flat.specs.Contexts.{operand_subsection}
 
--- the identifier that the subsection gives, where the space has one
+-- An item has the identifier that the name subsection of its space gives it. If the space has no subsection, the
+-- item has no identifier.
 item-by : (invents : Bool) (named : Naming) (f : ℕ) (space : Space) (n : ℕ) →
     in_function (names_by invents named) f space n ≡ operand_subsection space >>= λ s. name_in invents named s (if is_indirect s then f else 0) n
 item-by invents named f Types n = refl
@@ -26,12 +27,12 @@ item-by invents named f Local n = refl
 item-by invents named f Label n = refl
 
 module _ (x : Identifiers) (names : Names) (same : names_of_identifiers x ≡ names) (f : ℕ) (space : Space) (n : ℕ) where
-  -- what the space is named by
+  -- If the program's space of names has that subsection, looking the item up there gives its identifier.
   pub item-named : (named : NamedSpace) → Some (id_of named) ≡ operand_subsection space →
       name_in x.invents (name_at x.names.now) (id_of named) (outer_of named f) n ≡ in_function names f space n
   item-named named e = rw (← same, item-by x.invents (name_at x.names.now) f space n, ← e) refl
 
--- labels have no identifier by this rule
+-- A label has no identifier by this rule.
 pub item-unnamed : (invents : Bool) (named : Naming) (f : ℕ) (space : Space) (n : ℕ) → None ≡ operand_subsection space →
     None ≡ in_function (names_by invents named) f space n
 item-unnamed invents named f space n e = rw (item-by invents named f space n, ← e) refl

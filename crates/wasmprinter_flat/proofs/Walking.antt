@@ -24,7 +24,8 @@ use Rattle.wasmprinter_labels.specs.Scan.{Scan, names_of, own_label, at_start_ag
 use Rattle.wasmprinter_flat.specs.Settings.{word_pieces, over_lines}
 use Rattle.wasmprinter_flat.proofs.Depths.{after-length, after-count}
 
--- an operator in front of which so many blocks are open
+-- The pieces of an operator are those that start it, at the level of its role, and those of its word and
+-- immediates.
 pub operator-out : (s : Setting) (first : Bool) (own : Label) (xs : List Label) (place : ℕ) (o : Operator) (role : Role) (depth : ℕ) →
     role ≡ role_of o.opcode → depth ≡ level role (length xs) →
     operator_pieces s first own xs (record { place = place; value = o })
@@ -46,25 +47,25 @@ operators-nil : (s : Setting) (hs : List (Placed Hint)) (first : Bool) (n : ℕ)
 unfolding operators_pieces
 operators-nil s hs first n xs os e = ap (λ ps. operators_pieces s hs first n xs ps) e
 
--- the identifiers of the module are those that are printed, and the function is that of the setting
+-- The identifiers and the function of the state are those of the setting.
 pub record Fits (s : Setting) (l : Scan) : Type 0 where
   pub names : names_of l ≡ s.names
   pub function : l.function ≡ s.function
 
--- the label that the next operator may open
+-- The label of the block that the next operator may open is the one of the setting.
 pub own-fits : (s : Setting) (l : Scan) → Fits s l → own_label l ≡ s.names.labels s.function l.count (length l.labels)
 own-fits s l f =
     ap (λ (names : Names). names.labels l.function l.count (length l.labels)) f.names ∙ ap (λ function. s.names.labels function l.count (length l.labels)) f.function
 
--- the next operator, by the labels in front of it
+-- The pieces of the next operator under the identifiers of the state are those under the setting.
 pub operator-fits : (s : Setting) (l : Scan) (first : Bool) (o : Placed Operator) → Fits s l →
     operator_pieces (record s { names = names_of l }) first (own_label l) l.labels o
     ≡ operator_pieces s first (s.names.labels s.function l.count (length l.labels)) l.labels o
 operator-fits s l first o f =
     ap₂ (λ (names : Names) (own : Label). operator_pieces (record s { names = names }) first own l.labels o) f.names (own-fits s l f)
 
--- So far all operators have been written but for the rest, for which the hints `left` wait. There is room for
--- as many labels as there may be.
+-- The loop invariant: all operators before `rest` were written, and `left` are the hints still to be printed. Even
+-- if each remaining operator opens a block, the number of open blocks stays below 2^64.
 pub record Progress {P : Type 0} (m : Meaning P) (o : Options) (old new : P) (s : Setting) (start : Scan) (hints : List (Placed Hint)) (all rest : List (Placed Operator)) (left : List (Placed Hint)) (first : Bool) (l : Scan) : Type 0 where
   pub lacks : Lacks m o old new (operators_pieces s hints true 0 [] all) (operators_pieces s left first l.count l.labels rest)
   pub named : l.named ≡ start.named
@@ -73,7 +74,7 @@ pub record Progress {P : Type 0} (m : Meaning P) (o : Options) (old new : P) (s 
   pub counted : l.count + length rest < 2 ^ 64
   pub nested : length l.labels + length rest < 2 ^ 64
 
--- nothing is written yet
+-- The invariant holds at the start, before anything is written.
 pub starts : {P : Type 0} (m : Meaning P) (o : Options) (a : P) (s : Setting) (start l : Scan) (hints : List (Placed Hint)) (all os : List (Placed Operator)) →
     l ≡ at_start_again s.function start → names_of start ≡ s.names → os ≡ all → length all < 2 ^ 64 → Progress m o a a s start hints all os hints true l
 starts m o a s start l hints all os b n e h = rw b (record {
@@ -86,14 +87,14 @@ starts m o a s start l hints all os b n e h = rw b (record {
 })
 
 module _ {P : Type 0} (m : Meaning P) {o : Options} {a t : P} {s : Setting} {start : Scan} {hints : List (Placed Hint)} {all os : List (Placed Operator)} {left : List (Placed Hint)} {first : Bool} {l : Scan} (p : Progress m o a t s start hints all os left first l) where
-  -- an operator is left, so there is room for one more block
+  -- If an operator is left, the number of open blocks plus 1 is below 2^64.
   pub has_room : (rest : List (Placed Operator)) (x : ℕ × Operator) → pairs os ≡ x ∷ pairs rest → length l.labels + 1 < 2 ^ 64
   has_room rest x e = omega (arith, p.nested, ap length (first-pair os rest x e))
 
   pub has_count : (rest : List (Placed Operator)) (x : ℕ × Operator) → pairs os ≡ x ∷ pairs rest → l.count + 1 < 2 ^ 64
   has_count rest x e = omega (arith, p.counted, ap length (first-pair os rest x e))
 
-  -- what is lacking: the hint of the next operator, the operator, and the others
+  -- If an operator is left, its hint, the operator and the others are still to be written.
   pub lacks_hint : (rest : List (Placed Operator)) (x : ℕ × Operator) → pairs os ≡ x ∷ pairs rest →
       Lacks m o a t (operators_pieces s hints true 0 [] all)
       (hint_pieces (s.nesting + length l.labels) (next_hint (x.0 - s.body) left)
@@ -104,7 +105,7 @@ module _ {P : Type 0} (m : Meaning P) {o : Options} {a t : P} {s : Setting} {sta
       rw (operator-fits s l first (placed_view x) p.fits, own-fits s l p.fits)
       (rw (operators-of s left first l.count l.labels os rest (placed_view x) (first-pair os rest x e)) at p.lacks)
 
-  -- the hint of the next operator was written: the operator is lacking, and the others
+  -- After the hint of the next operator, that operator and the others are still to be written.
   pub lacks_next : {u : P} (rest : List (Placed Operator)) (x : ℕ × Operator) → pairs os ≡ x ∷ pairs rest →
       Written m o t u Through (hint_pieces (s.nesting + length l.labels) (next_hint (x.0 - s.body) left)) →
       Lacks m o a u (operators_pieces s hints true 0 [] all)
@@ -113,7 +114,7 @@ module _ {P : Type 0} (m : Meaning P) {o : Options} {a t : P} {s : Setting} {sta
       (labels_after (role_of x.1.opcode) (own_label l) l.labels) rest)
   lacks_next rest x e v = next_written m _ _ (lacks_hint rest x e) v
 
-  -- the hint of the next operator was written, and the operator
+  -- After the hint and the next operator are written, the invariant holds for the others.
   pub goes_on : {u w : P} (rest : List (Placed Operator)) (x : ℕ × Operator) (role : Role) (k : Scan) (behind : List (Placed Hint)) → pairs os ≡ x ∷ pairs rest →
       role ≡ role_of x.1.opcode → k ≡ behind_operator role l → behind ≡ hint_behind (x.0 - s.body) left →
       Written m o t u Through (hint_pieces (s.nesting + length l.labels) (next_hint (x.0 - s.body) left)) →
@@ -128,11 +129,11 @@ module _ {P : Type 0} (m : Meaning P) {o : Options} {a t : P} {s : Setting} {sta
     nested = omega (arith, p.nested, ap length (first-pair os rest x e), after-length (role_of x.1.opcode) (own_label l) l.labels);
   })
 
-  -- no operator is left
+  -- If no operator is left, all were written.
   pub all_written : pairs os ≡ [] → Written m o a t Through (operators_pieces s hints true 0 [] all)
   all_written e = lacks_none m _ (rw (operators-nil s left first l.count l.labels os (no-pair os e)) at p.lacks)
 
--- ---- whether there is an operator
+-- ---- Whether there is an operator
 
 module _ (signature : ℕ → Option FuncType) (nesting : ℕ) (names : Names) (function body : ℕ) (hints : List (Placed Hint)) where
   breaks-of : (os rest : List (Placed Operator)) (o : Placed Operator) → os ≡ o ∷ rest →
@@ -145,7 +146,7 @@ module _ (signature : ℕ → Option FuncType) (nesting : ℕ) (names : Names) (
   unfolding operators_pieces
   breaks-nil os e = ap (λ ps. has_break (over_lines signature nesting names function body hints ps)) e
 
-  -- over lines, whether lines change for operators is whether a first one is given
+  -- Printed one a line, operators contain a line break exactly if an iterator over them yields a first one.
   pub operators-break : (os rest : List (Placed Operator)) (r : Option (ℕ × Operator)) → YieldsFirst pairs os r rest →
       has_break (over_lines signature nesting names function body hints os) ≡ is_some r
   operators-break os rest None y = breaks-nil os (no-pair os y.0)

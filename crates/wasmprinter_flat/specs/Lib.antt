@@ -1,3 +1,3 @@
--- What the contracts of flat operators cite.
+-- The definitions that the contracts of flat operators cite.
 pub mod Settings
 pub mod Contexts

@@ -1,5 +1,5 @@
-//! What opens a block (section 6.5 of the WebAssembly Core Specification, "Control Instructions"): its type, catch clauses, and the
-//! comment of its label.
+//! The immediates of operators that open a block (section 6.5 of the WebAssembly Core Specification, "Control
+//! Instructions"): the block type, catch clauses, and the comment of the label.
 ghost use Rattle.std.specs.Prelude.{◌∷◌, ◌++◌, None, option_map};
 ghost use Rattle.wasmprinter_spec.specs.Piece.{Gap};
 ghost use Rattle.wasmprinter_spec.specs.Row as row;
@@ -24,7 +24,7 @@ use wasmprinter_text::signature::{Signatures, put_type_use};
 use wasmprinter_words::comments::{put_label_ending, put_label_remark};
 use wasmprinter_words::words::{put_gap, put_open, put_shut};
 
-/// Writes a comment that names the label of a block, which is counted from 1.
+/// Writes a space and the comment for the label of a block, by the block's number. Blocks are counted from 1.
 #[tactic(auto, unfolding(wasmprinter_spec::specs::Layout::Operators::ending_pieces))]
 fn put_label_comment<P: Print>(p: &mut P, fault: &mut Fault, form: Form, block: u64)
     ensures { Marks P.meaning p.old fault.old p.new fault.new
@@ -42,7 +42,7 @@ fn put_label_comment<P: Print>(p: &mut P, fault: &mut Fault, form: Form, block: 
     }
 }
 
-/// Writes the comment of a block's label, and nothing where the label has an identifier.
+/// Writes a space and the comment for the label of a block. Writes nothing if the label has an identifier.
 #[tactic(auto, unfolding(wasmprinter_spec::specs::Layout::Operators::ending_pieces))]
 pub(crate) fn put_ending<P: Print>(
     p: &mut P,
@@ -60,7 +60,7 @@ pub(crate) fn put_ending<P: Print>(
     }
 }
 
-/// Writes the type of a block, a blank in front: nothing, one result, or a type use.
+/// Writes the type of a block with a space before it: nothing, one result, or a type use.
 #[tactic(auto, unfolding(wasmprinter_spec::specs::Layout::Operators::block_pieces))]
 pub(crate) fn put_block_type<P: Print, S: Signatures>(
     p: &mut P,
@@ -81,7 +81,7 @@ pub(crate) fn put_block_type<P: Print, S: Signatures>(
     }
 }
 
-/// Writes a tag and a label.
+/// Writes a tag and a label, with a space before each.
 fn put_tag_and_label<P: Print, S: Signatures>(
     p: &mut P,
     fault: &mut Fault,
@@ -133,7 +133,7 @@ fn put_untagged<P: Print, S: Signatures>(
     put_shut(p, fault);
 }
 
-/// Writes a catch clause. Its label is none of the block that the `try_table` opens.
+/// Writes a catch clause. Its label cannot be that of the block that the `try_table` opens.
 #[tactic(auto, unfolding(wasmprinter_spec::specs::Layout::Operators::catch_pieces))]
 fn put_catch<P: Print, S: Signatures>(
     p: &mut P,
@@ -152,7 +152,7 @@ fn put_catch<P: Print, S: Signatures>(
     }
 }
 
-/// Writes a blank and a catch clause.
+/// Writes a space and a catch clause.
 fn put_clause<P: Print, S: Signatures>(
     p: &mut P,
     fault: &mut Fault,
@@ -166,7 +166,7 @@ fn put_clause<P: Print, S: Signatures>(
     put_catch(p, fault, context, clause);
 }
 
-/// Writes the catch clauses of a `try_table`.
+/// Writes the catch clauses of a `try_table`, with a space before each.
 pub(crate) fn put_catches<P: Print, S: Signatures>(
     p: &mut P,
     fault: &mut Fault,

@@ -1,5 +1,4 @@
-//! Floats behind an operator's word (section 6.5 of the WebAssembly Core Specification, "Numeric
-//! Instructions"), by their bits.
+//! Float immediates, by their bits (section 6.5 of the WebAssembly Core Specification, "Numeric Instructions").
 ghost use Rattle.std.specs.Prelude.{[], ◌∷◌};
 ghost use Rattle.wasmprinter_spec.specs.Float.{single, double};
 ghost use Rattle.wasmprinter_spec.specs.Piece.{Gap, Float};
@@ -9,7 +8,7 @@ use wasmprinter_floats::floats::{put_double, put_single};
 use wasmprinter_print::{Fault, Print};
 use wasmprinter_words::words::put_gap;
 
-/// Writes a blank and a float of 32 bits.
+/// Writes a space and a 32-bit float.
 pub(crate) fn put_f32_immediate<P: Print>(p: &mut P, fault: &mut Fault, bits: u32)
     ensures { Marks P.meaning p.old fault.old p.new fault.new
         (Gap ∷ (Float single bits ∷ [])) }
@@ -18,7 +17,7 @@ pub(crate) fn put_f32_immediate<P: Print>(p: &mut P, fault: &mut Fault, bits: u3
     put_single(p, fault, bits);
 }
 
-/// Writes a blank and a float of 64 bits.
+/// Writes a space and a 64-bit float.
 pub(crate) fn put_f64_immediate<P: Print>(p: &mut P, fault: &mut Fault, bits: u64)
     ensures { Marks P.meaning p.old fault.old p.new fault.new
         (Gap ∷ (Float double bits ∷ [])) }

@@ -1,5 +1,5 @@
-//! What an operator's immediates are printed by, and the identifiers of indices (section 6.3 of the WebAssembly Core Specification,
-//! "Identifiers").
+//! The context in which an operator's immediates are printed, and the identifiers of indices (section 6.3 of the
+//! WebAssembly Core Specification, "Identifiers").
 ghost use Rattle.std.specs.Prelude.{◌≡◌, ◌+◌, ◌<◌, ◌^◌, suc, List, length, option_map};
 ghost use Rattle.wasmprinter_spec.specs.Labels.{Label, labels_outside};
 ghost use Rattle.wasmprinter_spec.specs.Names.{in_function};
@@ -14,18 +14,18 @@ use wasmprinter_names::{Identifier, Identifiers, Space as NamedSpace};
 use wasmprinter_ops::opcode::{Role, Space};
 use wasmprinter_text::signature::Signatures;
 
-/// What an operator's immediates are printed by.
+/// The context in which an operator's immediates are printed.
 #[derive(Drop)]
 pub(crate) struct Context<'c, 's, 'n, 'a, S: Signatures> {
-    /// What every operator of the list is printed by.
+    /// The settings shared by all operators of the list.
     pub(crate) setting: &'c Setting<'s, S>,
-    /// The labels that are open in front of the operator.
+    /// The labels that are open before the operator.
     pub(crate) labels: &'c OpenLabels<'n, 'a>,
     /// The role of the operator.
     pub(crate) role: Role,
 }
 
-/// What names are given for in an index space, `None` for labels, whose identifiers go by another rule.
+/// Returns the space of names for an index space, or `None` for labels, whose identifiers follow another rule.
 fn named_space(space: Space) -> Option<NamedSpace>
     ensures { option_map id_of result ≡ operand_subsection (space_view space) }
 {
@@ -43,7 +43,8 @@ fn named_space(space: Space) -> Option<NamedSpace>
     }
 }
 
-/// How many blocks are open whose labels an operator may mean: for `delegate` those outside its own.
+/// Returns the number of open blocks whose labels an operator may refer to. `delegate` cannot refer to its own
+/// block.
 fn depth_outside(role: Role, depth: u64) -> u64
     ensures { (labels : List Label) → depth ≡ length labels → result ≡ length (labels_outside (role_view role) labels) }
 {
@@ -54,14 +55,14 @@ fn depth_outside(role: Role, depth: u64) -> u64
 }
 
 impl<'n, 'a, S: Signatures> Context<'_, '_, 'n, 'a, S> {
-    /// The identifiers of the module.
+    /// Returns the identifiers of the module.
     pub(crate) fn identifiers(&self) -> Identifiers<'n, 'a>
         ensures { names_of_identifiers result ≡ names_in self.now }
     {
         self.labels.identifiers()
     }
 
-    /// The identifier of what an index means, if it has one. Labels go by another rule.
+    /// Returns the identifier of the item with an index, if it has one. Labels follow another rule.
     pub(crate) fn identifier(&self, space: Space, index: u32) -> Option<Identifier<'n>>
         ensures { option_map identifier_view result
             ≡ in_function (names_in self.now) self.now.setting.now.function (space_view space) index }
@@ -74,7 +75,7 @@ impl<'n, 'a, S: Signatures> Context<'_, '_, 'n, 'a, S> {
         }
     }
 
-    /// The identifier of a field of a structure type, if it has one.
+    /// Returns the identifier of a field of a structure type, if it has one.
     pub(crate) fn field(&self, type_index: u32, field: u32) -> Option<Identifier<'n>>
         ensures { option_map identifier_view result ≡ (names_in self.now).fields type_index field }
     {
@@ -82,7 +83,7 @@ impl<'n, 'a, S: Signatures> Context<'_, '_, 'n, 'a, S> {
             .item(NamedSpace::Field, u64::from(type_index), u64::from(field))
     }
 
-    /// The number of the block that the operator opens, if it opens one. Blocks are counted from 1.
+    /// Returns the number of the block that the operator opens, if it opens one. Blocks are counted from 1.
     pub(crate) fn block(&self) -> u64
         requires { length self.now.labels.now.labels + 1 < 2 ^ 64 }
         ensures { result ≡ suc (length (labels_around self.now)) }

@@ -1,4 +1,4 @@
-//! What stands behind an operator's word, by the shape of its immediates (section 6.5 of the WebAssembly Core Specification).
+//! Immediates of operators, by their shape (section 6.5 of the WebAssembly Core Specification).
 ghost use Rattle.std.specs.Prelude.{suc, ◌+◌, ◌<◌, ◌^◌, ◌++◌, List, length};
 ghost use Rattle.wasmprinter_spec.specs.Labels.{Label};
 ghost use Rattle.wasmprinter_spec.specs.Operator.{Index, Indices, Heap, Memory, MemoryLane, Bytes};
@@ -34,7 +34,7 @@ use wasmprinter_text::signature::Signatures;
 use wasmprinter_types::{HeapType, RefType};
 use wasmprinter_words::numbers::put_constant;
 
-/// Writes what opens a block: its label and its type.
+/// Writes the immediates of an operator that opens a block: its label, its type, and the label's comment.
 fn put_block<P: Print, S: Signatures>(
     p: &mut P,
     fault: &mut Fault,
@@ -53,7 +53,7 @@ fn put_block<P: Print, S: Signatures>(
     put_ending(p, fault, context.setting.form, own, context.block());
 }
 
-/// Writes what opens a `try_table`: its label, its type and catch clauses.
+/// Writes the immediates of a `try_table`: its label, its type, its catch clauses, and the label's comment.
 fn put_try_table<P: Print, S: Signatures>(
     p: &mut P,
     fault: &mut Fault,
@@ -75,7 +75,7 @@ fn put_try_table<P: Print, S: Signatures>(
     put_ending(p, fault, context.setting.form, own, context.block());
 }
 
-/// Writes an index: a label, or one of another space.
+/// Writes an index: a label, or an index into another space.
 #[tactic(auto, unfolding(wasmprinter_spec::specs::Layout::Operators::operand_pieces))]
 fn put_index_of<P: Print, S: Signatures>(
     p: &mut P,
@@ -138,7 +138,7 @@ fn put_indices<P: Print, S: Signatures>(
     }
 }
 
-/// Writes a heap type by its shape: as it is, or as the type of references to it.
+/// Writes a heap type by its shape: as a heap type, or as the type of references to it.
 fn put_heap_by<P: Print, S: Signatures>(
     p: &mut P,
     fault: &mut Fault,

@@ -1,4 +1,4 @@
-//! Indices behind an operator's word (section 6.5 of the WebAssembly Core Specification), each with a blank in front.
+//! Index immediates (section 6.5 of the WebAssembly Core Specification), each with a space before it.
 ghost use Rattle.std.specs.Prelude.{[], ◌∷◌, ◌++◌, codes, cond, ◌&&◌, ◌==◌};
 ghost use Rattle.wasmprinter_spec.specs.Piece.{Gap};
 ghost use Rattle.wasmprinter_spec.specs.Row as row;
@@ -34,7 +34,7 @@ pub(crate) fn put_operand<P: Print, S: Signatures>(
     put_index(p, fault, context.identifier(space, index), u64::from(index));
 }
 
-/// Writes an index, and nothing for 0.
+/// Writes an index. Writes nothing for index 0.
 #[tactic(auto, unfolding(wasmprinter_spec::specs::Layout::Operators::default_index_pieces))]
 pub(crate) fn put_default_index<P: Print, S: Signatures>(
     p: &mut P,
@@ -51,7 +51,7 @@ pub(crate) fn put_default_index<P: Print, S: Signatures>(
     }
 }
 
-/// Writes an index of each of two spaces.
+/// Writes two indices, one into each of two spaces.
 pub(crate) fn put_two<P: Print, S: Signatures>(
     p: &mut P,
     fault: &mut Fault,
@@ -82,7 +82,7 @@ fn put_field_index<P: Print, S: Signatures>(
     put_index(p, fault, context.field(type_index, field), u64::from(field));
 }
 
-/// Writes a structure type and one of its fields.
+/// Writes the index of a structure type and the index of one of its fields.
 pub(crate) fn put_field<P: Print, S: Signatures>(
     p: &mut P,
     fault: &mut Fault,
@@ -97,7 +97,7 @@ pub(crate) fn put_field<P: Print, S: Signatures>(
     put_field_index(p, fault, context, type_index, field);
 }
 
-/// Writes a number that is no index: in decimal, without a style.
+/// Writes a number that is not an index: in decimal, without a style.
 #[tactic(auto, unfolding(wasmprinter_spec::specs::Layout::Operators::lane_pieces))]
 pub(crate) fn put_count<P: Print>(p: &mut P, fault: &mut Fault, count: u32)
     ensures { Marks P.meaning p.old fault.old p.new fault.new (lane_pieces count) }
@@ -106,7 +106,7 @@ pub(crate) fn put_count<P: Print>(p: &mut P, fault: &mut Fault, count: u32)
     put_number_word(p, fault, u64::from(count));
 }
 
-/// Writes an array type and how many elements the array has.
+/// Writes the index of an array type and the number of elements of the array.
 pub(crate) fn put_index_and_count<P: Print, S: Signatures>(
     p: &mut P,
     fault: &mut Fault,
@@ -121,7 +121,7 @@ pub(crate) fn put_index_and_count<P: Print, S: Signatures>(
     put_count(p, fault, count);
 }
 
-/// Writes what an indirect call names: its table unless that is 0, and its type.
+/// Writes the immediates of an indirect call: its table, unless that is 0, and its type.
 pub(crate) fn put_call<P: Print, S: Signatures>(
     p: &mut P,
     fault: &mut Fault,
@@ -137,7 +137,7 @@ pub(crate) fn put_call<P: Print, S: Signatures>(
     put_type_index(p, fault, &context.identifiers(), type_index);
 }
 
-/// Writes a segment of elements or data, in front of it the table or memory that it is copied to, unless that is 0.
+/// Writes the table or memory that a segment is copied to, unless that is 0, and then the element or data segment.
 pub(crate) fn put_segment<P: Print, S: Signatures>(
     p: &mut P,
     fault: &mut Fault,

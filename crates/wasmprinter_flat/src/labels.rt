@@ -1,5 +1,5 @@
-//! Labels (section 6.5 of the WebAssembly Core Specification, "Labels"): blocks by their identifiers, or by numbers that are counted from
-//! the innermost out.
+//! Labels (section 6.5 of the WebAssembly Core Specification, "Labels"), each with a space before it: an
+//! identifier, or an index that counts the enclosing blocks from the innermost outward.
 ghost use Rattle.std.specs.Prelude.{[], ◌∷◌, codes, decimal, true, false};
 ghost use Rattle.wasmprinter_spec.specs.Piece.{Gap, Word, Number, Remark};
 ghost use Rattle.wasmprinter_spec.specs.Layout.Operators.{label_name_pieces, label_pieces, labels_pieces};
@@ -18,7 +18,7 @@ use wasmprinter_words::comments::{put_block_remark, put_unstyled_remark};
 use wasmprinter_words::numbers::{put_gap_index, put_number, put_number_word};
 use wasmprinter_words::words::put_gap;
 
-/// Writes a label by its identifier: with its name, if it has one, and else as an index.
+/// Writes a label by its identifier: a given one with its name annotation, a synthesized one as an index.
 fn put_by_name<P: Print>(p: &mut P, fault: &mut Fault, identifier: Identifier<'_>, label: u32)
     ensures { Marks P.meaning p.old fault.old p.new fault.new
         (Gap ∷ label_name_pieces (identifier_view identifier.entry).given label (identifier_view identifier.entry)) }
@@ -30,7 +30,7 @@ fn put_by_name<P: Print>(p: &mut P, fault: &mut Fault, identifier: Identifier<'_
     }
 }
 
-/// Writes the label of a block around an operator, with the number of the block.
+/// Writes the index of a label, with the number of its block in a comment.
 fn put_around<P: Print>(p: &mut P, fault: &mut Fault, label: u64, block: u64)
     ensures { Marks P.meaning p.old fault.old p.new fault.new
         (Gap ∷ (Number label ∷ (Remark true (64 ∷ decimal block) ∷ []))) }
@@ -40,7 +40,7 @@ fn put_around<P: Print>(p: &mut P, fault: &mut Fault, label: u64, block: u64)
     put_block_remark(p, fault, block);
 }
 
-/// Writes a number that is no label.
+/// Writes a number that does not refer to a label.
 fn put_invalid<P: Print>(p: &mut P, fault: &mut Fault, label: u64)
     ensures { Marks P.meaning p.old fault.old p.new fault.new
         (Gap ∷ (Word (decimal label) ∷ (Remark false (codes " INVALID ") ∷ []))) }
@@ -68,7 +68,7 @@ pub(crate) fn put_label<P: Print, S: Signatures>(
     }
 }
 
-/// Writes the labels of a `br_table`, the one for all other numbers last.
+/// Writes the labels of a `br_table`, the default label last.
 pub(crate) fn put_labels<P: Print, S: Signatures>(
     p: &mut P,
     fault: &mut Fault,

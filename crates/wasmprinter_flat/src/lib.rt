@@ -1,6 +1,7 @@
-//! Operators as flat text (section 6.5 of the WebAssembly Core Specification), with their branch hints, over any printer.
+//! Writes operators as flat text (section 6.5 of the WebAssembly Core Specification), with their branch hints, to
+//! any printer.
 //!
-//! What answers `io::Result` fails with the error of the call on the printer that failed, and for no other reason.
+//! A function that returns `io::Result` fails only with the error of the call on the printer that failed.
 #![tactic(auto)]
 
 mod blocks;

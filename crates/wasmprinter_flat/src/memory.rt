@@ -1,5 +1,5 @@
-//! Memory operands (section 6.5 of the WebAssembly Core Specification, "Memory Instructions"), with
-//! a blank in front of each part.
+//! Memory operands (section 6.5 of the WebAssembly Core Specification, "Memory Instructions"), with a space before
+//! each part.
 ghost use Rattle.std.specs.Prelude.{◌<◌, [], ◌∷◌, ◌++◌, decimal};
 ghost use Rattle.wasmprinter_spec.specs.Piece.{Gap, Word};
 ghost use Rattle.wasmprinter_spec.specs.Layout.Operators.{offset_pieces, align_pieces, mem_arg_pieces};
@@ -15,7 +15,7 @@ use wasmprinter_text::signature::Signatures;
 use wasmprinter_words::numbers::{power, put_numbered_word};
 use wasmprinter_words::words::put_gap;
 
-/// Writes a word that ends in a number.
+/// Writes a space and a word that ends in a number.
 fn put_numbered<P: Print>(p: &mut P, fault: &mut Fault, word: &str, n: u64)
     ensures { Marks P.meaning p.old fault.old p.new fault.new
         (Gap ∷ (Word (word.now ++ decimal n) ∷ [])) }
@@ -24,7 +24,7 @@ fn put_numbered<P: Print>(p: &mut P, fault: &mut Fault, word: &str, n: u64)
     put_numbered_word(p, fault, word, n);
 }
 
-/// Writes an offset, and nothing for 0.
+/// Writes an offset. Writes nothing for offset 0.
 #[tactic(auto, unfolding(wasmprinter_spec::specs::Layout::Operators::offset_pieces))]
 fn put_offset<P: Print>(p: &mut P, fault: &mut Fault, offset: u64)
     ensures { Marks P.meaning p.old fault.old p.new fault.new (offset_pieces offset) }
@@ -34,7 +34,7 @@ fn put_offset<P: Print>(p: &mut P, fault: &mut Fault, offset: u64)
     }
 }
 
-/// Writes an alignment by its exponent, and nothing for the natural one.
+/// Writes an alignment, given its exponent. Writes nothing for the natural alignment.
 #[tactic(auto, unfolding(wasmprinter_spec::specs::Layout::Operators::align_pieces))]
 fn put_align<P: Print>(p: &mut P, fault: &mut Fault, natural: u32, exponent: u32)
     requires { exponent < 64 }
@@ -46,7 +46,7 @@ fn put_align<P: Print>(p: &mut P, fault: &mut Fault, natural: u32, exponent: u32
     }
 }
 
-/// Writes a memory operand of an operator with this exponent of its natural alignment.
+/// Writes a memory operand. `natural` is the exponent of the operator's natural alignment.
 #[tactic(auto, unfolding(wasmprinter_spec::specs::Layout::Operators::mem_arg_pieces))]
 pub(crate) fn put_mem_arg<P: Print, S: Signatures>(
     p: &mut P,

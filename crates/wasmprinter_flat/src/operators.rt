@@ -1,5 +1,4 @@
-//! Operators (section 6.5 of the WebAssembly Core Specification), each on a line of its own or all
-//! in one line.
+//! Operators (section 6.5 of the WebAssembly Core Specification), each on a line of its own or all in one line.
 ghost use Rattle.std.specs.Prelude.{◌≡◌, ◌+◌, ◌-◌, ◌<◌, ◌^◌, [], ℕ, List, length, true, Option, Some};
 ghost use Rattle.wasmprinter_spec.specs.Grammar.{Placed};
 ghost use Rattle.wasmprinter_spec.specs.Table.{shape_of};
@@ -31,32 +30,32 @@ use wasmprinter_text::signature::Signatures;
 use wasmprinter_words::hints::hint_note;
 use wasmprinter_words::words::{put_gap, put_word};
 
-/// How operators stand.
+/// The arrangement of operators.
 #[derive(Clone, Copy, Debug, PartialEq, Eq)]
 pub enum Form {
     /// Each on a line of its own.
     OverLines,
-    /// All in one line, a blank between two.
+    /// All in one line, separated by spaces.
     InLine,
 }
 
-/// What every operator of a list is printed by.
+/// The settings shared by all operators of a list.
 #[derive(Drop)]
 pub struct Setting<'s, S: Signatures> {
-    /// How the operators stand.
+    /// The arrangement of the operators.
     pub form: Form,
-    /// The types that blocks may have.
+    /// The types that block types may refer to.
     pub types: &'s S,
-    /// How deep the list is nested.
+    /// The nesting depth of the list.
     pub nesting: u64,
     /// The function whose locals and labels the operators use.
     pub function: u64,
-    /// The place of the body's first byte, from which hints are counted.
+    /// The place of the body's first byte, from which the offsets of hints count.
     pub body: u64,
 }
 
-/// How deep an operator stands in so many blocks: what ends a block or a part of it stands further
-/// out.
+/// Returns the level of an operator at nesting depth `depth`. An operator that ends a block or a part of one is one
+/// level further out.
 fn level(role: Role, depth: u64) -> u64
     ensures { result ≡ level_of (role_view role) depth }
 {
@@ -68,8 +67,8 @@ fn level(role: Role, depth: u64) -> u64
     }
 }
 
-/// Writes what stands before an operator's word, the first of its list or a later one: a line that is nested so deep, and so many levels
-/// deeper, or a blank.
+/// Starts an operator. Over lines, begins a line at `place`, indented by `nesting + depth` levels. In one line,
+/// writes a space unless the operator is the first of its list.
 pub fn put_before<P: Print>(
     p: &mut P,
     fault: &mut Fault,
@@ -93,8 +92,8 @@ pub fn put_before<P: Print>(
     }
 }
 
-/// Writes what stands before an operator's word, the first of its list or a later one: a line that is nested so deep, and so many levels
-/// deeper, or a blank.
+/// Starts an operator. Over lines, begins a line at `place`, indented by `nesting + depth` levels. In one line,
+/// writes a space unless the operator is the first of its list.
 pub fn write_before<P: Print>(
     p: &mut P,
     options: &PrintOptions,
@@ -111,7 +110,7 @@ pub fn write_before<P: Print>(
     fault.into_result()
 }
 
-/// Writes what stands behind an operator's word.
+/// Writes the immediates of an operator.
 fn put_behind<P: Print, S: Signatures>(
     p: &mut P,
     fault: &mut Fault,
@@ -128,7 +127,7 @@ fn put_behind<P: Print, S: Signatures>(
     }
 }
 
-/// Writes the word of an operator and its immediates, where these labels are open in front of it.
+/// Writes the word of an operator and its immediates. `labels` are those that are open before it.
 pub fn put_operator_word<P: Print, S: Signatures>(
     p: &mut P,
     fault: &mut Fault,
@@ -150,7 +149,7 @@ pub fn put_operator_word<P: Print, S: Signatures>(
     put_behind(p, fault, &context, operator);
 }
 
-/// Writes the word of an operator and its immediates, where these labels are open in front of it.
+/// Writes the word of an operator and its immediates. `labels` are those that are open before it.
 #[inline(never)]
 pub fn write_word<P: Print, S: Signatures>(
     p: &mut P,
@@ -167,7 +166,8 @@ pub fn write_word<P: Print, S: Signatures>(
     fault.into_result()
 }
 
-/// Writes an operator, in front of which these labels are open: the first of its list or a later one.
+/// Writes an operator. `labels` are those that are open before it; `first` says whether it is the first of its
+/// list.
 #[inline(never)]
 fn put_operator<P: Print, S: Signatures>(
     p: &mut P,
@@ -198,7 +198,7 @@ fn put_operator<P: Print, S: Signatures>(
     put_operator_word(p, fault, setting, labels, operator);
 }
 
-/// Writes a hint on a line of its own, nested as deep as the operators of the block.
+/// Writes a hint on a line of its own, indented like the operators of the block.
 fn write_hint<P: Print, S: Signatures>(
     p: &mut P,
     options: &PrintOptions,
@@ -213,7 +213,7 @@ fn write_hint<P: Print, S: Signatures>(
     hint_note(p, hint.is_taken())
 }
 
-/// Writes the hint of the operator at the place, where the next hint is that operator's, and takes it.
+/// Writes the next hint and removes it from `hints` if it is for the operator at `place`. Otherwise writes nothing.
 fn put_next_hint<P: Print, S: Signatures>(
     p: &mut P,
     fault: &mut Fault,
@@ -234,7 +234,7 @@ fn put_next_hint<P: Print, S: Signatures>(
     }
 }
 
-/// Whether an expression has operators, which begin lines where they stand over lines.
+/// Reports whether an expression has operators. Exactly then, a line begins if they are printed one a line.
 pub fn has_operators(expression: &Expression<'_>) -> bool
     ensures { (signature : ℕ → Option FuncType) (nesting : ℕ) (names : Names) (function body : ℕ) (hints : List (Placed HintValue)) →
         result ≡ has_break (over_lines signature nesting names function body hints expression.now.items) }
@@ -242,8 +242,8 @@ pub fn has_operators(expression: &Expression<'_>) -> bool
     expression.operators().next().is_some()
 }
 
-/// Writes the operators of an expression, each behind its hint if it has one. `labels` may be anywhere before; its identifiers are those
-/// that are printed.
+/// Writes the operators of an expression, each after its hint if it has one. `labels` may be in any state; the
+/// identifiers that it was created with are printed.
 pub fn write_operators<P: Print, S: Signatures>(
     p: &mut P,
     options: &PrintOptions,

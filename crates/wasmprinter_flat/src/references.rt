@@ -1,5 +1,4 @@
-//! Types behind an operator's word (section 6.5 of the WebAssembly Core Specification), each with a
-//! blank in front.
+//! Type immediates (section 6.5 of the WebAssembly Core Specification), each with a space before it.
 ghost use Rattle.std.specs.Prelude.{◌≡◌, ◌∷◌, ◌++◌, codes};
 ghost use Rattle.wasmprinter_spec.specs.Piece.{Gap};
 ghost use Rattle.wasmprinter_spec.specs.Layout.Groups.{line_group_gap};
@@ -22,7 +21,7 @@ use wasmprinter_text::types::{put_group, put_heap_type, put_ref_type, put_val_ty
 use wasmprinter_types::{HeapType, RefType, ValType, ValTypes};
 use wasmprinter_words::words::{put_gap, put_open_gap, put_shut};
 
-/// Writes one type as a result.
+/// Writes one type as a result group.
 #[tactic(auto, unfolding(wasmprinter_spec::specs::Layout::Groups::line_group_gap))]
 pub(crate) fn put_result<P: Print>(
     p: &mut P,
@@ -39,7 +38,7 @@ pub(crate) fn put_result<P: Print>(
     put_shut(p, fault);
 }
 
-/// The type, where there is just one.
+/// Returns the type if there is exactly one.
 fn only_type(types: &ValTypes<'_>) -> Option<ValType>
     ensures { result ≡ the_only types.now }
 {
@@ -50,7 +49,7 @@ fn only_type(types: &ValTypes<'_>) -> Option<ValType>
     }
 }
 
-/// Writes the types that `select` names.
+/// Writes the types of a `select`.
 pub(crate) fn put_select<P: Print>(
     p: &mut P,
     fault: &mut Fault,
@@ -110,7 +109,8 @@ fn put_refs<P: Print>(
     put_ref(p, fault, identifiers, target);
 }
 
-/// Writes a label, the type of what is cast, and the type that is wanted, by the flags of the cast.
+/// Writes the label, the source type and the target type of a cast. The flags of the cast say which types are
+/// nullable.
 pub(crate) fn put_cast<P: Print, S: Signatures>(
     p: &mut P,
     fault: &mut Fault,

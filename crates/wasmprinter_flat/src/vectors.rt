@@ -10,17 +10,17 @@ use wasmprinter_print::{Fault, Print, Style, put_reset, put_start, put_text};
 use wasmprinter_words::numbers::put_byte_digits;
 use wasmprinter_words::words::put_gap_type_word;
 
-/// How many bytes a number of a vector has.
+/// The size in bytes of each number of a vector.
 const BYTES: usize = 4;
 
-/// Writes the number of a lane.
+/// Writes a space and the number of a lane.
 pub(crate) fn put_lane<P: Print>(p: &mut P, fault: &mut Fault, lane: u8)
     ensures { Marks P.meaning p.old fault.old p.new fault.new (lane_pieces lane) }
 {
     put_count(p, fault, u32::from(lane));
 }
 
-/// Writes the numbers of lanes in order.
+/// Writes the numbers of lanes in order, with a space before each.
 pub(crate) fn put_lanes<P: Print>(p: &mut P, fault: &mut Fault, lanes: &[u8])
     ensures { Marks P.meaning p.old fault.old p.new fault.new (lanes_pieces lanes.now) }
 {
@@ -29,7 +29,7 @@ pub(crate) fn put_lanes<P: Print>(p: &mut P, fault: &mut Fault, lanes: &[u8])
     }
 }
 
-/// Writes the hexadecimal digits of a number from its bytes, the lowest of which is the first.
+/// Writes the hexadecimal digits of a number from its bytes in little-endian order.
 fn put_hex_digits<P: Print>(p: &mut P, fault: &mut Fault, bytes: &[u8])
     ensures { Puts P.meaning p.old fault.old p.new fault.new (Text (hex_digits (reverse bytes.now)) ∷ []) }
 {
@@ -38,7 +38,7 @@ fn put_hex_digits<P: Print>(p: &mut P, fault: &mut Fault, bytes: &[u8])
     }
 }
 
-/// Writes a blank and a number in hexadecimal, from its bytes.
+/// Writes a space and a number in hexadecimal, from its bytes in little-endian order.
 fn put_hex_word<P: Print>(p: &mut P, fault: &mut Fault, bytes: &[u8])
     ensures { Puts P.meaning p.old fault.old p.new fault.new (Text (32 ∷ hex_word bytes.now) ∷ []) }
 {
@@ -46,7 +46,7 @@ fn put_hex_word<P: Print>(p: &mut P, fault: &mut Fault, bytes: &[u8])
     put_hex_digits(p, fault, bytes);
 }
 
-/// Writes numbers of 32 bits in hexadecimal, from their bytes.
+/// Writes 32-bit numbers in hexadecimal, from their bytes, with a space before each.
 fn put_hex_words<P: Print>(p: &mut P, fault: &mut Fault, bytes: &[u8])
     ensures { Puts P.meaning p.old fault.old p.new fault.new (Text (behind_blanks (hex_words bytes.now)) ∷ []) }
 {
@@ -55,7 +55,7 @@ fn put_hex_words<P: Print>(p: &mut P, fault: &mut Fault, bytes: &[u8])
     }
 }
 
-/// Writes numbers of 32 bits in the style of literals.
+/// Writes 32-bit numbers in the style of literals, from their bytes, with a space before each.
 fn put_hex_literals<P: Print>(p: &mut P, fault: &mut Fault, bytes: &[u8])
     ensures { Marks P.meaning p.old fault.old p.new fault.new
         (GapLiterals (hex_words bytes.now) ∷ []) }
@@ -65,7 +65,7 @@ fn put_hex_literals<P: Print>(p: &mut P, fault: &mut Fault, bytes: &[u8])
     put_reset(p, fault);
 }
 
-/// Writes a vector from its bytes, the lowest first: as four numbers of 32 bits.
+/// Writes a vector from its bytes in little-endian order, as four 32-bit numbers.
 #[tactic(auto, unfolding(wasmprinter_spec::specs::Layout::Operators::vector_pieces))]
 pub(crate) fn put_vector<P: Print>(p: &mut P, fault: &mut Fault, bytes: &[u8])
     ensures { Marks P.meaning p.old fault.old p.new fault.new (vector_pieces bytes.now) }

@@ -24,7 +24,7 @@ use Rattle.wasmprinter_fold.specs.declared.tree.GrowingTree.{GrowingTree}
 use Rattle.wasmprinter_fold.specs.Growing.{ShowsIn, GrowsByStep, shown_step}
 use Rattle.wasmprinter_node_text.proofs.NodeTexts.{in_grown, shown_grown}
 
--- what is printed stays the same where the buffer grows
+-- The printed texts stay the same when the buffer grows.
 pub shows-more : (old new : List ℕ) (b : Builder) (s : StateOf Shown) → GrowsText old new → ShowsIn old b s → ShowsIn new b s
 shows-more old new b s g h = record {
   state = h.state;
@@ -36,7 +36,7 @@ shows-more old new b s g h = record {
       ∙ h.shows;
 }
 
--- one step more
+-- A step of the builder is a step of the printed texts.
 pub shows-step : (buffer : List ℕ) (b c : Builder) (x : Step NodeText) (y : Step Shown) (s : StateOf Shown) →
     AllStep (IsIn buffer) x → map_step (shown_of_head buffer) x ≡ y → ((t : State) → Stands b t → Stands c (step t x)) → ShowsIn buffer b s → ShowsIn buffer c (step s y)
 shows-step buffer b c x y s i e f h = record {
@@ -46,11 +46,11 @@ shows-step buffer b c x y s i e f h = record {
   shows = step-map (shown_of_head buffer) h.state x ∙ rw (h.shows, e) refl;
 }
 
--- no nodes
+-- A builder without nodes has no texts.
 pub shows-none : (buffer : List ℕ) (b : Builder) → Stands b start → ShowsIn buffer b start
 shows-none buffer b h = record { state = start; stands = h; inside = (tt, tt); shows = refl }
 
--- ---- at the end
+-- ---- The end of a list
 
 only_top : {H K : Type 0} (v : H → K) (o : OpenNodes H) → map_open v o ≡ Top → o ≡ Top
 only_top v Top e = refl
@@ -58,7 +58,7 @@ only_top v (InBlock o b x q) e = absurd cc
 only_top v (InThen o b d x y q) e = absurd cc
 only_top v (InElse o b d x y q) e = absurd cc
 
--- what is printed of nodes around which no block is open
+-- The printed texts of nodes, when no block is open.
 pub record IsWholeTree (buffer : List ℕ) (nodes : List Node) (f : NodesOf Shown) : Type 0 where
   pub row : IsPostorder nodes
   pub inside : AreIn buffer (forest_of nodes)
@@ -75,16 +75,16 @@ whole buffer b nodes f p q h =
       shows = rw e (ap (λ (s : StateOf Shown). s.groups) h.shows);
     }
 
--- ---- by role
+-- ---- Roles
 
 pub same_step : {T E : Type 0} (r : Result T E) (old new : GrowingTree) (a b : Step Shown) → a ≡ b → OnOk r (GrowsByStep old new a) → OnOk r (GrowsByStep old new b)
 same_step r old new a b e h = subst (λ (x : Step Shown). OnOk r (GrowsByStep old new x)) e h
 
--- the step by the operator's role
+-- Equal roles have equal steps.
 pub by_role : (r s : Role) (x then otherwise : Shown) (counts : OperandCounts) → r ≡ s → shown_step r x then otherwise counts ≡ shown_step s x then otherwise counts
 by_role r s x then otherwise counts e = ap (λ (q : Role). shown_step q x then otherwise counts) e
 
--- what is of no other role ends a block
+-- The step of an operator with any other role is that of an `end`.
 pub ends_role : (r : OpsRole) (s : Role) (x then otherwise : Shown) (counts : OperandCounts) →
     (r ≡ ops.OpensTry) ⊎ ((r ≡ ops.Catches) ⊎ ((r ≡ ops.CatchesAll) ⊎ ((r ≡ ops.Delegates) ⊎ (r ≡ ops.Ends)))) → role_view r ≡ s →
     Ends ≡ shown_step s x then otherwise counts
@@ -95,6 +95,6 @@ ends_role r s x then otherwise counts h e =
     ⊎_elim (λ q. by_role row.Delegates s x then otherwise counts (ap role_view (sym q) ∙ e))
     (λ q. by_role row.Ends s x then otherwise counts (ap role_view (sym q) ∙ e)) h) h) h) h
 
--- the same counts of labels
+-- Equal roles and counts lead to equal counts of labels.
 pub same_counts : (a b : Role) (x y : Option ℕ) (k l : List (Option ℕ)) → a ≡ b → x ≡ y → k ≡ l → labels_after a x k ≡ labels_after b y l
 same_counts a b x y k l p q r = rw (p, q, r) refl

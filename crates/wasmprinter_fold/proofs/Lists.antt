@@ -1,4 +1,4 @@
--- A list that was folded, and its layout.
+-- A folded list and its layout.
 use Rattle.std.specs.Prelude.{◌≡◌, ℕ, List, [], Bool, true, false, Option}
 use Rattle.std.proofs.Common.{sym, ap, ◌∙◌, subst}
 use Rattle.wasmprinter_spec.specs.Grammar.{Placed}
@@ -23,7 +23,7 @@ use Rattle.wasmprinter_fold.proofs.Growing.{whole}
 use Rattle.wasmprinter_fold.proofs.Walks.{folded-pieces, no-pieces}
 
 module _ (paints : Bool) (m : PlacedModule) (v : FolderView) (is : record { paints = paints; operators_of = m } ≡ v) (own : Option ℕ) (s : Setting) (hints : List (Placed Hint)) (os : List (Placed Operator)) where
-  -- nothing is written of a list that isn't folded
+  -- The layout of a list that is not folded is empty.
   pub nothing_of : (t : GrowingTree) (r : Bool) → r ≡ false → IsGrown paints t r (nested_code_of (items s (signatures_within m own) hints 0 [] [] os)) →
       folded_list (folding_view v) own s hints os ≡ []
   nothing_of t true e h = absurd cc
@@ -34,11 +34,11 @@ module _ (paints : Bool) (m : PlacedModule) (v : FolderView) (is : record { pain
     there : IsGrown paints t true (nested_code_of (items s (signatures_within m own) hints 0 [] [] os))
     there = subst (λ (b : Bool). IsGrown paints t b (nested_code_of (items s (signatures_within m own) hints 0 [] [] os))) e grown
 
-    -- the texts of its nodes lie in the buffer
+    -- The texts of its nodes are in the buffer.
     pub texts_there : AreIn text (forest_of nodes)
     texts_there = subst (λ (b : List ℕ). AreIn b (forest_of nodes)) (sym buffer) (whole t.texts.bytes t.builder nodes _ rows closed there.2).inside
 
-    -- what is written of its nodes is its layout
+    -- The pieces of its nodes are its layout.
     pub layout_of : row_pieces s.form true s.nesting (map_nodes (shown_of_head text) (forest_of nodes)) ≡ folded_list (folding_view v) own s hints os
     layout_of =
         ap (λ (b : List ℕ). row_pieces s.form true s.nesting (map_nodes (shown_of_head b) (forest_of nodes))) buffer

@@ -32,11 +32,11 @@ use Rattle.wasmprinter_fold.specs.declared.tree.GrowingTree.{GrowingTree}
 use Rattle.wasmprinter_fold.specs.Growing.{Shows, GrowsByStep, shown_step, shown_operator, shown_keyword, operator_step, IsGrown}
 use Rattle.wasmprinter_node_text.proofs.RowLaws.{rows_shown}
 
--- ---- places and operators
+-- ---- Places and operators
 
--- ---- the step of an operator
+-- ---- The step of an operator
 
--- what is printed of an operator, by its role
+-- The step of an item is that of the printed text of its operator, by its role.
 step-shown : (paints : Bool) (s : Setting) (t : Signatures) (hint : Option (Placed Hint)) (l : Scan) (ls : List (Option ℕ)) (o : Placed Operator) (r : Role) →
     let counts : OperandCounts = counts_of t ls o.value in
     step_of (shown_head paints) r (item s t hint (own_label l) l.labels ls o)
@@ -52,7 +52,7 @@ step-shown paints s t hint l ls o row.CatchesAll = refl
 step-shown paints s t hint l ls o row.Delegates = refl
 step-shown paints s t hint l ls o row.Ends = refl
 
--- the same of what equals these
+-- The step of an item is that of the program's operator, whose settings, identifiers and hint are equal.
 step-next : (paints other : Bool) (s : Setting) (t : Signatures) (next : Option (Placed Hint)) (hint : Option Bool) (names : Names) (l : Scan) (ls : List (Option ℕ)) (o : Placed Operator) (r : Role) →
     other ≡ paints → names ≡ s.names → hint ≡ option_map (λ h. h.value.taken) next →
     step_of (shown_head paints) r (item s t next (own_label l) l.labels ls o)
@@ -65,9 +65,9 @@ step-next paints other s t next hint names l ls o r e n q =
     (shown_keyword paints o.place (codes "then")) (shown_keyword paints o.place (codes "else")) counts) (sym n)
     ∙ rw (e, q) refl)
 
--- ---- a list of operators
+-- ---- A list of operators
 
--- the operators of a list are taken one by one
+-- The items of a list are the item of its first operator and those of the others.
 items-of : (s : Setting) (t : Signatures) (hs : List (Placed Hint)) (n : ℕ) (xs : List Label) (ls : List (Option ℕ)) (os rest : List (Placed Operator)) (o : Placed Operator) → os ≡ o ∷ rest →
     items s t hs n xs ls os
     ≡ item s t (next_hint (o.place - s.body) hs) (s.names.labels s.function n (length xs)) xs ls o
@@ -81,12 +81,14 @@ items-nil : (s : Setting) (t : Signatures) (hs : List (Placed Hint)) (n : ℕ) (
 unfolding items
 items-nil s t hs n xs ls os e = ap (λ os. items s t hs n xs ls os) e
 
--- the operators of the list, folded one after another
+-- The state after the operators of a list, folded one after another.
 abbrev pub run_items : Bool → Setting → Signatures → List (Placed Hint) → Scan → List (Option ℕ) → StateOf Shown → List (Placed Operator) → StateOf Shown
 run_items paints s t hs l ls u os = run_all u (steps (shown_head paints) (items s t hs l.count l.labels ls os))
 
--- So far all operators have been folded but for the rest, for which the hints `left` wait: the rest leads from here where all lead from the
--- beginning. None of them is of the older `try`. There is room for as many labels as there may be.
+-- The loop invariant: all operators before `rest` were folded, and `left` are the hints still to be used. Folding
+-- `rest` from here gives the result of folding all operators from the start. None of the folded operators belongs
+-- to legacy exception handling. Even if each remaining operator opens a block, the number of blocks stays below
+-- 2^64.
 pub record Progress (paints : Bool) (s : Setting) (t : Signatures) (from : Scan) (hints : List (Placed Hint)) (all rest : List (Placed Operator)) (left : List (Placed Hint)) (l : Scan) (g : GrowingTree) : Type 0 where
   pub state : StateOf Shown
   pub shows : Shows g state
@@ -100,7 +102,7 @@ pub record Progress (paints : Bool) (s : Setting) (t : Signatures) (from : Scan)
   pub counted : l.count + length rest < 2 ^ 64
   pub nested : length l.labels + length rest < 2 ^ 64
 
--- nothing is folded yet
+-- The invariant holds at the start, before anything is folded.
 pub starts : (paints : Bool) (s : Setting) (t : Signatures) (from l : Scan) (hints : List (Placed Hint)) (all os : List (Placed Operator)) (g : GrowingTree) →
     l ≡ at_start_again s.function from → names_of from ≡ s.names → os ≡ all → length all < 2 ^ 64 → Shows g start → g.texts.paints ≡ paints → g.labels ≡ [] →
     Progress paints s t from hints all os hints l g
@@ -119,19 +121,19 @@ starts paints s t from l hints all os g b n e h w p c = rw (b) (record {
 })
 
 module _ {paints : Bool} {s : Setting} {t : Signatures} {from : Scan} {hints : List (Placed Hint)} {all os : List (Placed Operator)} {left : List (Placed Hint)} {l : Scan} {g : GrowingTree} (p : Progress paints s t from hints all os left l g) where
-  -- an operator is left, so there is room for one more block
+  -- If an operator is left, the number of open blocks plus 1 is below 2^64.
   pub has_room : (rest : List (Placed Operator)) (x : ℕ × Operator) → pairs os ≡ x ∷ pairs rest → length l.labels + 1 < 2 ^ 64
   has_room rest x e = omega (arith, p.nested, ap length (first-pair os rest x e))
 
   pub has_count : (rest : List (Placed Operator)) (x : ℕ × Operator) → pairs os ≡ x ∷ pairs rest → l.count + 1 < 2 ^ 64
   has_count rest x e = omega (arith, p.counted, ap length (first-pair os rest x e))
 
-  -- an operator of the older `try`: the list has no tree
+  -- A list with an operator of legacy exception handling has no tree.
   pub refuses : (rest : List (Placed Operator)) (x : ℕ × Operator) → pairs os ≡ x ∷ pairs rest → is_try (role_of x.1.opcode) ≡ true →
       nested_code_of (items s t hints 0 [] [] all) ≡ None
   refuses rest x e h = by_code (nested_code_of (items s t hints 0 [] [] all)) refl
     where
-      -- where it had one, no operator would be of the older `try`
+      -- If the list had a tree, none of its operators would belong to legacy exception handling.
       by_code : (c : Option NestedCode) → nested_code_of (items s t hints 0 [] [] all) ≡ c → c ≡ None
       by_code None q = refl
       by_code (Some code) q =
@@ -141,7 +143,7 @@ module _ {paints : Bool} {s : Setting} {t : Signatures} {from : Scan} {hints : L
           subst (λ (y : List (Placed Operator)). AreWithoutTry (roles y)) (first-pair os rest x e) (p.none_behind w) in
           absurd (cc (sym h ∙ v.0))
 
-  -- the next operator was folded
+  -- After the next operator is folded, the invariant holds for the others.
   pub goes_on : (rest : List (Placed Operator)) (x : ℕ × Operator) (role : Role) (k : Scan) (behind : List (Placed Hint)) (n : GrowingTree) (hint : Option Bool) →
       pairs os ≡ x ∷ pairs rest → role ≡ role_of x.1.opcode → is_try role ≡ false → k ≡ behind_operator role l → behind ≡ hint_behind (x.0 - s.body) left →
       hint ≡ option_map (λ h. h.value.taken) (next_hint (x.0 - s.body) left) → n.texts.paints ≡ g.texts.paints →
@@ -177,7 +179,7 @@ module _ {paints : Bool} {s : Setting} {t : Signatures} {from : Scan} {hints : L
         nested = omega (arith, p.nested, ap length (first-pair os rest x e), after-length (role_of x.1.opcode) (own_label l) l.labels);
       })
 
-  -- no operator is left
+  -- If no operator is left, the tree is that of the whole list.
   pub all_folded : Nests Sequence (roles all) → pairs os ≡ [] → IsGrown paints g true (nested_code_of (items s t hints 0 [] [] all))
   all_folded n e =
       let xs : List Item = items s t hints 0 [] [] all in
@@ -192,16 +194,16 @@ module _ {paints : Bool} {s : Setting} {t : Signatures} {from : Scan} {hints : L
       ∙ (p.leads ∙ (ap (λ (is : List Item). run_all start (steps v is)) (sym d.0) ∙ run-tree v c.0 d.1)) in
       (c.0, c.1, subst (λ (u : StateOf Shown). Shows g u) state p.shows)
 
--- ---- what is printed
+-- ---- The layout
 
--- the layout of a list that is folded
+-- The layout of a list with a tree is that of its nodes.
 pub folded-pieces : (paints : Bool) (s : Setting) (t : Signatures) (hints : List (Placed Hint)) (os : List (Placed Operator)) (code : NestedCode) →
     nested_code_of (items s t hints 0 [] [] os) ≡ Some code →
     if_folded (folded_pieces defaults paints s t hints os) ≡ row_pieces s.form true s.nesting (map_nodes (shown_head paints) (tree code))
 unfolding folded_pieces
 folded-pieces paints s t hints os code e = rw (e) (rows_shown paints s.form true s.nesting (tree code))
 
--- that of another
+-- The layout of a list without a tree is empty.
 pub no-pieces : (paints : Bool) (s : Setting) (t : Signatures) (hints : List (Placed Hint)) (os : List (Placed Operator)) →
     nested_code_of (items s t hints 0 [] [] os) ≡ None → if_folded (folded_pieces defaults paints s t hints os) ≡ []
 unfolding folded_pieces

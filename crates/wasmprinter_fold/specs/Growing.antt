@@ -1,4 +1,4 @@
--- A tree of nodes that grows with each operator, by what is printed of its nodes.
+-- A tree of nodes that grows with each operator, in terms of the texts of its nodes.
 use Rattle.std.specs.Prelude.{◌≡◌, ℕ, List, [], ◌∷◌, Bool, true, false, Option, Some, None, codes}
 use Rattle.wasmprinter_spec.specs.Call.{Text}
 use Rattle.wasmprinter_spec.specs.Operator.{Operator}
@@ -21,7 +21,8 @@ use Rattle.wasmprinter_nodes.specs.Heads.{AllState}
 use Rattle.wasmprinter_node_text.specs.Shown.{Shown, shown_of_calls, shown_head, shown_of_head, IsIn}
 use Rattle.wasmprinter_fold.specs.declared.tree.GrowingTree.{GrowingTree}
 
--- The builder holds open blocks and nodes whose texts lie in the buffer, and this is what is printed of them.
+-- The builder has open blocks and nodes whose texts are in the buffer, and `s` has the printed texts of these
+-- nodes.
 pub record ShowsIn (buffer : List ℕ) (b : Builder) (s : StateOf Shown) : Type 0 where
   pub state : State
   pub stands : Stands b state
@@ -31,19 +32,20 @@ pub record ShowsIn (buffer : List ℕ) (b : Builder) (s : StateOf Shown) : Type 
 abbrev pub Shows : GrowingTree → StateOf Shown → Type 0
 Shows t s = ShowsIn t.texts.bytes t.builder s
 
--- the tree has grown by one step
+-- The tree has grown by one step.
 abbrev pub GrowsByStep : GrowingTree → GrowingTree → Step Shown → Type 0
 GrowsByStep old new x = (s : StateOf Shown) → Shows old s → Shows new (step s x)
 
--- what is printed of an operator, where these labels are open in front of it
+-- The printed text of an operator, given the state of the labels before it.
 abbrev pub shown_operator : Bool → Setting → Scan → ℕ → Option Bool → Operator → Shown
 shown_operator paints s l place hint o = shown_of_calls place hint paints (all_calls defaults (word_pieces s (own_label l) l.labels o))
 
--- what is printed of a case of an `if`
+-- The printed text of a case of an `if`.
 abbrev pub shown_keyword : Bool → ℕ → List ℕ → Shown
 shown_keyword paints place keyword = shown_of_calls place None paints (Text keyword ∷ [])
 
--- a step by its role: by what is printed of the operator, of a `then` and of an `else`, and by the numbers of its operands and results
+-- The step of an operator with the role, given the texts of the operator, of a `then` and of an `else`, and the
+-- numbers of its operands and results.
 abbrev pub shown_step : Role → Shown → Shown → Shown → OperandCounts → Step Shown
 shown_step row.Plain x then otherwise counts = Plain x counts.takes counts.gives
 shown_step row.Opens x then otherwise counts = Opens x counts.gives
@@ -51,13 +53,13 @@ shown_step row.OpensIf x then otherwise counts = OpensIf x then counts.gives
 shown_step row.Turns x then otherwise counts = Turns otherwise
 shown_step _ x then otherwise counts = Ends
 
--- the step of an operator, where these labels are open in front of it
+-- The step of an operator, given the state of the labels before it.
 abbrev pub operator_step : Bool → Setting → Scan → ℕ → Option Bool → Operator → OperandCounts → Step Shown
 operator_step paints s l place hint o counts =
     shown_step (role_of o.opcode) (shown_operator paints s l place hint o) (shown_keyword paints place (codes "then"))
     (shown_keyword paints place (codes "else")) counts
 
--- the tree is that of the code, if there is code
+-- The tree is that of the code; if folding was refused, there is no code.
 abbrev pub IsGrown : Bool → GrowingTree → Bool → Option NestedCode → Type 0
 IsGrown paints t true c = (code : NestedCode) × (c ≡ Some code) × Shows t (state_at Top (map_nodes (shown_head paints) (tree code)))
 IsGrown paints t false c = c ≡ None

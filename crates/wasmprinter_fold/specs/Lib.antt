@@ -1,3 +1,3 @@
--- What the contracts of folded operators cite.
+-- The definitions that the contracts of folded operators cite.
 pub mod Growing
 pub mod Views

@@ -1,4 +1,4 @@
-//! What folds the operators of a module, list by list.
+//! The folder, which folds and prints the operators of a module, list by list.
 ghost use Rattle.std.specs.Prelude.{◌≡◌, true, IfOk, OnErr};
 ghost use Rattle.wasmprinter_spec.specs.Layout.Folded.{folded_list};
 ghost use Rattle.wasmprinter_print.specs.Prints.{PrintsOrStops, TellsLines};
@@ -21,7 +21,7 @@ use wasmprinter_print::Print;
 use wasmprinter_text::signature::Signatures;
 use wasmprinter_wasm::Module;
 
-/// What folds the operators of a module, list by list. Its nodes and their texts take the room of those of the lists before.
+/// Folds and prints the operators of a module, list by list. Nodes and texts reuse the memory of earlier lists.
 #[derive(Drop)]
 pub struct Folder<'m, 'a> {
     alloc: Global,
@@ -38,11 +38,12 @@ impl<'m, 'a> Model for Folder<'m, 'a> {
 }
 
 impl<'m, 'a> Folder<'m, 'a> {
-    /// Gathers what operators of the module may name. Texts carry the sequences of colours if it paints.
+    /// Gathers the types of the items that the module's operators refer to. `paints` says whether texts of folded
+    /// operators contain ANSI escape sequences.
     ///
     /// # Errors
     ///
-    /// Where memory for that is refused, which is wanted only where a function or a tag is imported.
+    /// Returns an error if an allocation fails. Memory is needed only if a function or a tag is imported.
     pub fn new(alloc: Global, module: &'m Module<'a>, paints: bool) -> Result<Self, AllocError>
         ensures ok { IfOk result (λ f. f ≡ record { paints = paints; operators_of = «module».now }) }
         ensures memory { OnErr result (ImportsSome «module».now) }
@@ -56,15 +57,16 @@ impl<'m, 'a> Folder<'m, 'a> {
         })
     }
 
-    /// Writes the operators of an expression, folded. The function around has `own` results: 0 in a constant expression,
-    /// `None` where nothing is known of its type. `labels` may be anywhere before; its identifiers are those that are printed.
-    /// Answers whether a line began.
+    /// Writes the operators of an expression, folded, and returns whether a line began. `own` is the number of results
+    /// of the enclosing function: 0 in a constant expression, `None` if the function's type is unknown. `labels` may be
+    /// in any state; the identifiers that it was created with are printed.
     ///
-    /// Nothing is written of a list with an operator of the older `try`, which isn't folded.
+    /// Writes nothing if the list has an operator of legacy exception handling, which cannot be folded.
     ///
     /// # Errors
     ///
-    /// `Memory` where a growth was refused, and `Printer` where a call on the printer failed, with that call's error. No other.
+    /// - `Memory` if an allocation fails.
+    /// - `Printer` with the error of the call on the printer that failed.
     pub fn write<P: Print, S: Signatures>(
         &mut self,
         p: &mut P,
@@ -85,7 +87,8 @@ impl<'m, 'a> Folder<'m, 'a> {
         ensures named { labels.new.named ≡ labels.old.named }
         ensures invents { labels.new.invents ≡ labels.old.invents }
     {
-        // A module with an operator of the older `try` is refused before anything is printed of it, so each list that comes here is folded.
+        // A module with an operator of legacy exception handling is refused before anything is printed,
+        // so every list that arrives here is folded.
         if !self
             .tree
             .fold(&self.callees, setting, labels, own, hints, expression)?

@@ -1,4 +1,5 @@
-//! Operators folded (section 6.5 of the WebAssembly Core Specification, "Folded Instructions"): each in parentheses, with its operands.
+//! Folded operators (section 6.5 of the WebAssembly Core Specification, "Folded Instructions"): each in
+//! parentheses, with its operands.
 #![tactic(auto)]
 
 mod folder;

@@ -1,4 +1,4 @@
-//! The tree of a list of operators, which grows with each of them.
+//! The tree of a list of operators, which grows with each operator.
 ghost use Rattle.std.specs.Prelude.{◌≡◌, ◌+◌, ◌-◌, ◌<◌, ◌^◌, [], length, option_map, codes, IfOk, OnOk};
 ghost use Rattle.wasmprinter_spec.specs.Table.{role_of};
 ghost use Rattle.wasmprinter_spec.specs.Customs.Hints.{next_hint, hint_behind};
@@ -28,18 +28,20 @@ use wasmprinter_ops::opcode::{Listed, Role};
 use wasmprinter_ops::operator::Operator;
 use wasmprinter_text::signature::Signatures;
 
-/// The nodes of the operators so far, their texts, and what the labels of the open blocks take.
+/// The nodes of the operators so far, their texts, and the number of values that the labels of the open blocks
+/// expect.
 #[derive(Drop)]
 pub struct GrowingTree {
     /// The texts of the nodes, in one buffer.
     pub texts: Texts,
-    /// The nodes, and the blocks that are open.
+    /// The nodes and the open blocks.
     pub builder: Builder,
-    /// How many operands the head of each open block takes.
+    /// The number of values that the label of each open block expects.
     pub labels: LabelCounts,
 }
 
-/// Takes the hint of the operator that stands so far behind the body's first byte, if it is the next: whether its branch is taken.
+/// Removes the next hint if it is for the operator at `offset` bytes from the body's first byte. Returns whether
+/// that operator's branch is hinted as taken.
 fn take_hint(hints: &mut FunctionHints<'_>, offset: u64) -> Option<bool>
     ensures gives { result ≡ option_map (λ h. h.value.taken) (next_hint offset hints.old) }
     ensures behind { hints.new ≡ hint_behind offset hints.old }
@@ -51,7 +53,7 @@ fn take_hint(hints: &mut FunctionHints<'_>, offset: u64) -> Option<bool>
 }
 
 impl GrowingTree {
-    /// No nodes. This takes no memory.
+    /// Creates a tree without nodes. This allocates no memory.
     pub fn new(alloc: Global, paints: bool) -> GrowingTree
         ensures { result.texts.paints ≡ paints }
     {
@@ -62,7 +64,7 @@ impl GrowingTree {
         }
     }
 
-    /// Removes all nodes, and keeps the room for others.
+    /// Removes all nodes and keeps the capacity.
     fn clear(&mut self)
         ensures shows { Shows self.new start }
         ensures texts { self.new.texts.bytes ≡ [] }
@@ -74,7 +76,7 @@ impl GrowingTree {
         self.labels.clear();
     }
 
-    /// A plain operator more.
+    /// Adds a plain operator.
     fn plain<S: Signatures>(
         &mut self,
         setting: &Setting<'_, S>,
@@ -98,7 +100,7 @@ impl GrowingTree {
         self.builder.plain(head, counts.takes, counts.gives)
     }
 
-    /// A block more, which is open.
+    /// Opens a block.
     fn open<S: Signatures>(
         &mut self,
         setting: &Setting<'_, S>,
@@ -122,7 +124,7 @@ impl GrowingTree {
         self.builder.open(head, counts.gives)
     }
 
-    /// An `if` more, whose first case is open.
+    /// Opens an `if` and its first case.
     fn open_if<S: Signatures>(
         &mut self,
         setting: &Setting<'_, S>,
@@ -147,7 +149,7 @@ impl GrowingTree {
         self.builder.open_if(head, then, counts.gives)
     }
 
-    /// An `else`: the second case of the innermost `if` is open.
+    /// Opens the second case of the innermost `if`, at an `else`.
     fn turn(&mut self, place: u64) -> Result<(), AllocError>
         requires { (s : StateOf Shown) × Shows self.old s }
         ensures paints { self.new.texts.paints ≡ self.old.texts.paints }
@@ -159,7 +161,7 @@ impl GrowingTree {
         self.builder.turn(head)
     }
 
-    /// An `end`: the innermost block is closed.
+    /// Closes the innermost block, at an `end`.
     fn end(&mut self) -> Result<(), AllocError>
         requires { (s : StateOf Shown) × Shows self.old s }
         ensures paints { self.new.texts.paints ≡ self.old.texts.paints }
@@ -169,8 +171,9 @@ impl GrowingTree {
         self.builder.end()
     }
 
-    /// An operator more, which takes and gives so many values. Those of the older `try` are taken as ends: no list with one of them is
-    /// folded. A hint in front of an `else` or an `end` goes nowhere: a module with one is refused before anything is printed of it.
+    /// Adds an operator with these numbers of operands and results. Operators of legacy exception handling count as
+    /// `end`: no list with one of them is folded. A hint before an `else` or an `end` is dropped: a module with such a
+    /// hint is refused before anything is printed.
     fn add<S: Signatures>(
         &mut self,
         setting: &Setting<'_, S>,
@@ -198,7 +201,7 @@ impl GrowingTree {
         }
     }
 
-    /// The next operator, in front of which these labels are open.
+    /// Adds the next operator. `labels` are those that are open before it.
     fn fold_next<S: Signatures>(
         &mut self,
         callees: &Callees<'_, '_>,
@@ -224,12 +227,13 @@ impl GrowingTree {
             .advance(operator.opcode.role(), label_of_block(callees, operator))
     }
 
-    /// Folds the operators of an expression, where the function around has `own` results: 0 in a constant expression, `None` where nothing
-    /// is known of its type. Answers whether they are folded: they aren't where one of them is of the older `try`.
+    /// Folds the operators of an expression. `own` is the number of results of the enclosing function: 0 in a constant
+    /// expression, `None` if the function's type is unknown. Returns whether the operators are folded: they are not if
+    /// one of them belongs to legacy exception handling.
     ///
     /// # Errors
     ///
-    /// Where memory is refused: the nodes are of no use then, until the next list is folded.
+    /// Returns an error if an allocation fails. The nodes are then unusable until the next list is folded.
     pub fn fold<S: Signatures>(
         &mut self,
         callees: &Callees<'_, '_>,

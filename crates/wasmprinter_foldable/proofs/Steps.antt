@@ -1,4 +1,4 @@
--- The first place of a list in parts.
+-- The first place of a list that consists of parts.
 use Rattle.std.specs.Prelude.{◌≡◌, ℕ, suc, ◌+◌, ◌-◌, List, [], ◌∷◌, ◌++◌, map, drop, cond, Bool, true, false, if◌then◌else◌, get_or, length, ◌<◌, codes, bytes_eq, is_some, Option, Result, Ok, Err, None, Some, slice_get}
 use Rattle.std.specs.List.{flat_map}
 use Rattle.std.specs.Result.{IsErrAnd}
@@ -22,56 +22,58 @@ use Rattle.wasmprinter_ops.specs.Operators.{pairs}
 use Rattle.wasmprinter_ops.proofs.Pairs.{first-pair, no-pair}
 use Rattle.wasmprinter_foldable.specs.Refused.{error_of_first}
 
--- ---- lists of places
+-- ---- Lists of places
 
--- a list whose front has a place: the error is that of the front
+-- If the first part of a list has a place, the error is that of the first part.
 pub front_refused : (f : ℕ → Error) (all front rest : List ℕ) (e : Error) → all ≡ front ++ rest → error_of_first f front ≡ Err e → error_of_first f all ≡ Err e
 front_refused f all [] rest e is r = cc
 front_refused f all (x ∷ xs) rest e is r = rw is r
 
--- a list whose front has none: what is behind it counts
+-- If the first part of a list has no place, the error is that of the rest.
 pub front_passed : (f : ℕ → Error) (all front rest : List ℕ) → all ≡ front ++ rest → error_of_first f front ≡ Ok tt → error_of_first f rest ≡ error_of_first f all
 front_passed f all [] rest is r = ap (error_of_first f) (sym is)
 front_passed f all (x ∷ xs) rest is r = cc
 
--- the error that is handed on
+-- An error that is forwarded is the error of the call.
 pub handed_on : (r : Result (Unit {0}) Error) (e : Error) → IsErrAnd r (λ y. y ≡ e) → r ≡ Err e
 handed_on (Ok x) e h = absurd h
 handed_on (Err y) e h = ap Err h
 
--- ---- operators one by one
+-- ---- Operators, one by one
 
--- the next operator, and the others
+-- The places of legacy operators in a list are that of the first operator, if it is one, and those in the rest.
 pub legacy_next : (os rest : Operators) (place : ℕ) (o : Operator) → pairs os ≡ (place, o) ∷ pairs rest →
     legacy_places_in os ≡ cond (is_try (role_of o.opcode)) (place ∷ legacy_places_in rest) (legacy_places_in rest)
 legacy_next os rest place o e = ap legacy_places_in (first-pair os rest (place, o) e)
 
--- no operator is left
+-- An empty list has no legacy operators.
 pub legacy_none : (os : Operators) → pairs os ≡ [] → legacy_places_in os ≡ []
 legacy_none os e = ap legacy_places_in (no-pair os e)
 
--- the next operator with its hint, and the others
+-- The places of misplaced hints in a list are that of the first operator's hint, if it is misplaced, and those in
+-- the rest.
 pub misplaced_next : (body : ℕ) (hs : List (Placed Hint)) (os rest : Operators) (place : ℕ) (o : Operator) → pairs os ≡ (place, o) ∷ pairs rest →
     misplaced_hints_in body hs os ≡ place_if_misplaced (role_of o.opcode) (next_hint (place - body) hs) ++ misplaced_hints_in body (hint_behind (place - body) hs) rest
 misplaced_next body hs os rest place o e = ap (misplaced_hints_in body hs) (first-pair os rest (place, o) e)
 
--- no operator is left
+-- An empty list has no misplaced hints.
 pub misplaced_none : (body : ℕ) (hs : List (Placed Hint)) (os : Operators) → pairs os ≡ [] → misplaced_hints_in body hs os ≡ []
 misplaced_none body hs os e = ap (misplaced_hints_in body hs) (no-pair os e)
 
--- ---- functions one by one
+-- ---- Functions, one by one
 
--- behind i the next, and the others
+-- The functions from index i on are the function with index i and the others.
 function_next : (i : ℕ) (fs : List PlacedFunction) (f : PlacedFunction) → slice_get fs i ≡ Some f → drop i fs ≡ f ∷ drop (i + 1) fs
 function_next i fs f e = rw (add-one, drop-cons fs i f (slice_get_within fs i f e)) (ap (λ y. y ∷ drop (suc i) fs) (get_or_from_slice_get fs i f f e))
 
--- the same of operators of the older `try`
+-- The places of legacy operators in the functions from index i on are those in function i and those in the others.
 pub bodies_next : (i : ℕ) (fs : List PlacedFunction) (f : PlacedFunction) → slice_get fs i ≡ Some f →
     flat_map legacy_places_in (map (λ f. f.body.value.operators) (drop i fs))
     ≡ legacy_places_in f.body.value.operators ++ flat_map legacy_places_in (map (λ f. f.body.value.operators) (drop (i + 1) fs))
 bodies_next i fs f e = ap (λ (gs : List PlacedFunction). flat_map legacy_places_in (map (λ f. f.body.value.operators) gs)) (function_next i fs f e)
 
--- the same of hints, where the functions are numbered from k on
+-- The places of misplaced hints in the functions from index i on, whose numbers start at k + i, are those in the
+-- first and those in the others.
 pub hints_next : (es : List FunctionHints) (k i : ℕ) (fs : List PlacedFunction) (f : PlacedFunction) → slice_get fs i ≡ Some f →
     misplaced_hints_from es (k + i) (drop i fs)
     ≡ misplaced_hints_in f.body.place (next_hints (k + i) es) f.body.value.operators
@@ -81,19 +83,19 @@ hints_next es k i fs f e =
     ap (misplaced_hints_from es (k + i)) (function_next i fs f e)
     ∙ ap (λ n. misplaced_hints_in f.body.place (next_hints (k + i) es) f.body.value.operators ++ misplaced_hints_from (hints_behind (k + i) es) n (drop (i + 1) fs)) number
 
--- ---- sections that give hints
+-- ---- Hint sections
 
--- a section of the name, or the one before it
+-- If a section was found before, one is still found after the next section.
 either_named : (b : Bool) (x : Custom) (last : Option Custom) → is_some last ≡ true → is_some (if b then Some x else last) ≡ true
 either_named true x last h = refl
 either_named false x last h = h
 
--- what was found stays found
+-- If a section was found before, one is still found after all others.
 still_named : (n : List ℕ) (last : Option Custom) (customs : List CustomEntry) → is_some last ≡ true → is_some (last_named n last customs) ≡ true
 still_named n last [] h = h
 still_named n last (c ∷ customs) h = still_named n (if bytes_eq c.section.value.name n then Some c.section.value else last) customs (either_named (bytes_eq c.section.value.name n) c.section.value last h)
 
--- a section of the name is found
+-- If a section has the name, a section with that name is found.
 pub one_named : (n : List ℕ) (customs : List CustomEntry) (i : ℕ) (c : CustomEntry) → i < length customs → c ≡ get_or customs i c → bytes_eq c.section.value.name n ≡ true →
     is_some (last_named n None (drop i customs)) ≡ true
 one_named n customs i c lt is named =
@@ -101,9 +103,9 @@ one_named n customs i c lt is named =
     ap (λ l. is_some (last_named n None l)) next
     ∙ still_named n (if bytes_eq c.section.value.name n then Some c.section.value else None) (drop (suc i) customs) (ap (λ b. is_some (if b then Some c.section.value else None)) named)
 
--- ---- no hints
+-- ---- No hints
 
--- where no section gives hints, there are none
+-- Without a hint section there are no hints.
 none_given : (section : Option Custom) → is_some section ≡ false → hints_by section ≡ []
 none_given None e = refl
 none_given (Some x) e = absurd (true≢false e)
@@ -111,23 +113,23 @@ none_given (Some x) e = absurd (true≢false e)
 pub unhinted : (customs : List CustomEntry) → is_some (last_named (codes "metadata.code.branch_hint") None customs) ≡ false → hints_of customs ≡ []
 unhinted customs none = none_given (last_named (codes "metadata.code.branch_hint") None customs) none
 
--- a body that is given none has none out of place
+-- A body without hints has no misplaced hints.
 body_hintless : (body : ℕ) (os : Operators) → misplaced_hints_in body [] os ≡ []
 body_hintless body [] = refl
 body_hintless body (o ∷ os) = body_hintless body os
 
--- nor do functions
+-- Functions without hints have no misplaced hints.
 pub hintless : (k : ℕ) (fs : List PlacedFunction) → misplaced_hints_from [] k fs ≡ []
 hintless k [] = refl
 hintless k (f ∷ fs) = rw (body_hintless f.body.place f.body.value.operators) (hintless (k + 1) fs)
 
--- ---- constant expressions
+-- ---- Constant expressions
 
--- a list of each
+-- Each item that is an expression has one list.
 pub items_single : (es : List (Closed (Placed Operator))) → flat_map (λ (e : Closed (Placed Operator)). e.items ∷ []) es ≡ constants_of es
 items_single es = flat_map_single (λ (e : Closed (Placed Operator)). e.items) es
 
--- those of tables, globals, element segments and data segments
+-- The places in constant expressions are those in tables, globals, element segments and data segments.
 pub constants_parts : (o : Options) (m : PlacedModule) →
     flat_map legacy_places_in (constant_lists o m)
     ≡ flat_map legacy_places_in (flat_map init_list m.tables)

@@ -1,2 +1,2 @@
--- What the contracts of what can't be folded cite.
+-- The definitions that the contracts of the folding check cite.
 pub mod Refused

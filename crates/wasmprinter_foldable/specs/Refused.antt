@@ -1,4 +1,4 @@
--- Why a module can't be folded: what each error says of it.
+-- Why a module cannot be folded: the reason for each error.
 use Rattle.std.specs.Prelude.{ℕ, List, [], ◌∷◌, Result, Ok, Err}
 use Rattle.std.specs.List.{Contains}
 use Rattle.wasmprinter_error.specs.declared.error.Error.{Error}
@@ -7,12 +7,13 @@ use Rattle.wasmprinter_spec.specs.Placed.{PlacedModule}
 use Rattle.wasmprinter_spec.specs.Options.{Options}
 use Rattle.wasmprinter_spec.specs.Folding.Refusals.{legacy_places, misplaced_hints}
 
--- the error of the first place, if there is one
+-- The error with the first place, if there is one.
 abbrev pub error_of_first : (ℕ → Error) → List ℕ → Result (Unit {0}) Error
 error_of_first error [] = Ok tt
 error_of_first error (place ∷ places) = Err (error place)
 
--- The error has its reason: at its place stands what can't be folded. Errors that have none aren't answered.
+-- The reason for an error: at its place is an operator or a hint that cannot be folded. Errors without a reason
+-- are not returned.
 abbrev pub HasFoldReason : Options → PlacedModule → Error → Type 0
 HasFoldReason o m (Malformed place) = ⊥
 HasFoldReason o m Component = ⊥

@@ -1,4 +1,4 @@
-//! Whether what is printed of a module can be folded.
+//! Checks whether the printed parts of a module can be folded.
 ghost use Rattle.std.specs.Prelude.{◌≡◌, [], IfOk};
 ghost use Rattle.std.specs.List.{flat_map};
 ghost use Rattle.std.specs.Result.{IfErr};
@@ -12,7 +12,7 @@ use wasmprinter_error::Error;
 use wasmprinter_lines::options::PrintOptions;
 use wasmprinter_wasm::{Fields, Module};
 
-/// Refuses the first operator of the older `try` in constant expressions.
+/// Returns an error for the first operator of legacy exception handling in constant expressions that are printed.
 #[tactic(auto, using(crate::proofs::Steps::constants_parts, crate::proofs::Steps::front_refused, crate::proofs::Steps::front_passed))]
 fn check_constants(options: &PrintOptions, module: &Module<'_>) -> Result<(), Error>
     ensures { result ≡ error_of_first FoldLegacy (flat_map legacy_places_in (constant_lists options.now module.now)) }
@@ -24,7 +24,7 @@ fn check_constants(options: &PrintOptions, module: &Module<'_>) -> Result<(), Er
     check_each(module.datas(), skeleton)
 }
 
-/// Refuses the first operator of the older `try`.
+/// Returns an error for the first operator of legacy exception handling that is printed.
 fn check_legacy(options: &PrintOptions, module: &Module<'_>) -> Result<(), Error>
     ensures { result ≡ error_of_first FoldLegacy (legacy_places options.now module.now) }
 {
@@ -35,7 +35,7 @@ fn check_legacy(options: &PrintOptions, module: &Module<'_>) -> Result<(), Error
     check_bodies(module)
 }
 
-/// Refuses the first hint on an operator that can't have one.
+/// Returns an error for the first printed hint on an operator whose folded text has no place for it.
 fn check_printed_hints(options: &PrintOptions, module: &Module<'_>) -> Result<(), Error>
     ensures { result ≡ error_of_first FoldHint (misplaced_hints options.now module.now) }
 {
@@ -45,12 +45,15 @@ fn check_printed_hints(options: &PrintOptions, module: &Module<'_>) -> Result<()
     check_hints(module)
 }
 
-/// Refuses what can't be folded of what the options let print of a module, before anything of it is printed.
+/// Checks, before anything is printed, that everything that the options print of a module can be folded. Allocates
+/// no memory.
 ///
 /// # Errors
 ///
-/// `FoldLegacy` with the place of a `try`, `catch`, `catch_all` or `delegate` in a list of operators that is printed; `FoldHint` with the
-/// place of a branch hint on a `block`, `loop`, `try_table`, `else` or `end` of a body that is printed. No other. Takes no memory.
+/// - `FoldLegacy` with the place of a `try`, `catch`, `catch_all` or `delegate` in a list of operators that is
+///   printed.
+/// - `FoldHint` with the place of a branch hint on a `block`, `loop`, `try_table`, `else` or `end` of a body that
+///   is printed.
 pub fn check_folding(options: &PrintOptions, module: &Module<'_>) -> Result<(), Error>
     ensures legacy { IfOk result (λ _. legacy_places options.now module.now ≡ []) }
     ensures hints { IfOk result (λ _. misplaced_hints options.now module.now ≡ []) }

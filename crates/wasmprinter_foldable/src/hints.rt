@@ -1,4 +1,5 @@
-//! Branch hints on operators whose node has no place for one (Code Metadata, a document beside the standard).
+//! Branch hints on operators whose folded text has no place for them (Code Metadata, a document beside the
+//! standard).
 ghost use Rattle.std.specs.Prelude.{◌≡◌, None, is_some, codes};
 ghost use Rattle.wasmprinter_error.specs.declared.error.Error.TheVariants.{FoldHint};
 ghost use Rattle.wasmprinter_spec.specs.Types.{FuncKind};
@@ -13,7 +14,7 @@ use wasmprinter_error::Error;
 use wasmprinter_ops::opcode::{Listed, Role};
 use wasmprinter_wasm::{Body, CustomEntry, ExternKind, Fields, Module};
 
-/// The branch hints that custom sections give: those of the last section that has some.
+/// Returns the branch hints of a module's custom sections: those of the last hint section.
 pub fn hints_of<'a>(customs: &[CustomEntry<'a>]) -> Hints<'a>
     ensures { result ≡ hints_of customs.now }
 {
@@ -33,7 +34,7 @@ pub fn hints_of<'a>(customs: &[CustomEntry<'a>]) -> Hints<'a>
     }
 }
 
-/// Whether a custom section gives branch hints.
+/// Reports whether there is a hint section among the custom sections.
 fn has_hints(customs: &[CustomEntry<'_>]) -> bool
     ensures { result ≡ is_some (last_named (codes "metadata.code.branch_hint") None customs.now) }
 {
@@ -45,8 +46,8 @@ fn has_hints(customs: &[CustomEntry<'_>]) -> bool
     false
 }
 
-/// Whether the operator's node has no place for a hint: it would stand before a node that holds what is before
-/// the operator, or before none.
+/// Reports whether folded text has no place for a hint on this operator. An `end` has no node, and this printer
+/// puts no hint before the node of a `block`, `loop`, `try_table` or `else`.
 fn is_hintless(role: Role) -> bool
     ensures { result ≡ is_hintless (role_view role) }
 {
@@ -57,7 +58,7 @@ fn is_hintless(role: Role) -> bool
     }
 }
 
-/// Refuses the hint of an operator that can't have one.
+/// Returns an error for a hint on an operator whose folded text has no place for it.
 fn check_hint(role: Role, hint: Option<Hint>) -> Result<(), Error>
     ensures { result ≡ error_of_first FoldHint (place_if_misplaced (role_view role) hint) }
 {
@@ -69,7 +70,7 @@ fn check_hint(role: Role, hint: Option<Hint>) -> Result<(), Error>
     }
 }
 
-/// Refuses the first hint of a body on an operator that can't have one.
+/// Returns an error for the first hint of a body on an operator whose folded text has no place for it.
 #[tactic(auto, using(crate::proofs::Steps::misplaced_none))]
 fn check_body(hints: FunctionHints<'_>, body: &Body<'_>) -> Result<(), Error>
     ensures { result ≡ error_of_first FoldHint (misplaced_hints_in body.now.place hints.entry body.now.value.operators) }
@@ -82,8 +83,8 @@ fn check_body(hints: FunctionHints<'_>, body: &Body<'_>) -> Result<(), Error>
     Ok(())
 }
 
-/// Refuses the first hint of a module on an operator that can't have one: `FoldHint` with the place of the hint. Functions are numbered
-/// behind the imported ones.
+/// Returns `FoldHint`, with the place of the hint, for the first hint of a module on an operator whose folded text
+/// has no place for it. Function indices count imported functions first.
 pub(crate) fn check_hints(module: &Module<'_>) -> Result<(), Error>
     ensures { result ≡ error_of_first FoldHint
         (misplaced_hints_from (hints_of module.now.customs) (imported_count FuncKind module.now.imports) module.now.functions) }

@@ -1,4 +1,5 @@
-//! Operators of the older `try` (exception handling proposal, its first form): they have no folded text.
+//! Operators of legacy exception handling (the first form of the exception handling proposal), which have no folded
+//! text.
 ghost use Rattle.std.specs.Prelude.{◌≡◌};
 ghost use Rattle.wasmprinter_error.specs.declared.error.Error.TheVariants.{FoldLegacy};
 ghost use Rattle.wasmprinter_spec.specs.Folding.Refusals.{legacy_places_in};
@@ -8,7 +9,7 @@ use wasmprinter_error::Error;
 use wasmprinter_ops::expression::Expression;
 use wasmprinter_ops::opcode::Listed;
 
-/// Refuses the first operator of the older `try`: `FoldLegacy` with its place.
+/// Returns `FoldLegacy`, with its place, for the first operator of legacy exception handling.
 #[tactic(auto, using(crate::proofs::Steps::legacy_none))]
 pub(crate) fn check_expression(expression: &Expression<'_>) -> Result<(), Error>
     ensures { result ≡ error_of_first FoldLegacy (legacy_places_in expression.now.items) }

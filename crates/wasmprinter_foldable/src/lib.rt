@@ -1,5 +1,5 @@
-//! Which modules can be folded: those without operators of the older `try`, and without branch hints on operators whose node has no
-//! place for one, in what is printed of them.
+//! Checks which modules can be folded: the printed parts must have no operators of legacy exception handling, and
+//! no branch hints on operators whose folded text has no place for them.
 #![tactic(auto)]
 
 mod check;

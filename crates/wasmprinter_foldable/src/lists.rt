@@ -1,4 +1,4 @@
-//! The lists of operators that what a module defines holds (section 2.5 of the WebAssembly Core Specification, "Modules").
+//! The lists of operators in a module's definitions (section 2.5 of the WebAssembly Core Specification, "Modules").
 ghost use Rattle.std.specs.Prelude.{◌≡◌, ◌∷◌, [], map};
 ghost use Rattle.std.specs.List.{flat_map};
 ghost use Rattle.wasmprinter_error.specs.declared.error.Error.TheVariants.{FoldLegacy};
@@ -13,15 +13,15 @@ use wasmprinter_wasm::{
     BodyParts, Data, DataMode, Element, ElementItems, ElementMode, Fields, Global, Module, Table,
 };
 
-/// What holds lists of operators.
+/// An item that contains lists of operators.
 pub(crate) trait Holder {
     ghost use Rattle.std.specs.Prelude.{List, Bool};
     ghost use Rattle.wasmprinter_spec.specs.Folding.Refusals.{Operators};
 
-    /// Those that are printed, in a skeleton or in the whole text.
+    /// The lists that are printed, in a skeleton or in the full text.
     ghost lists: { Bool → Self → List Operators };
 
-    /// Refuses the first operator of the older `try` in them.
+    /// Returns an error for the first operator of legacy exception handling in these lists.
     fn check_legacy(&self, skeleton: bool) -> Result<(), Error>
         ensures { result ≡ error_of_first FoldLegacy (flat_map legacy_places_in (lists skeleton self.now)) };
 }
@@ -64,7 +64,7 @@ impl<'a> Holder for Data<'a> {
     }
 }
 
-/// Refuses the first operator of the older `try` in an offset.
+/// Returns an error for the first operator of legacy exception handling in the offset of an element segment.
 fn check_offset(mode: &ElementMode<'_>) -> Result<(), Error>
     ensures { result ≡ error_of_first FoldLegacy (flat_map legacy_places_in (offset_list (element_mode_view mode.now))) }
 {
@@ -74,7 +74,7 @@ fn check_offset(mode: &ElementMode<'_>) -> Result<(), Error>
     }
 }
 
-/// Refuses the first operator of the older `try` in items that are expressions.
+/// Returns an error for the first operator of legacy exception handling in items that are expressions.
 #[tactic(auto, using(crate::proofs::Steps::items_single))]
 fn check_items(items: &ElementItems<'_>) -> Result<(), Error>
     ensures { result ≡ error_of_first FoldLegacy (flat_map legacy_places_in (item_lists (element_items_view items.now))) }
@@ -97,7 +97,8 @@ impl<'a> Holder for Element<'a> {
     }
 }
 
-/// Refuses the first operator of the older `try` in lists that are printed of what a slice holds: `FoldLegacy` with its place.
+/// Returns `FoldLegacy`, with its place, for the first operator of legacy exception handling in the printed lists
+/// of the items.
 pub(crate) fn check_each<T: Holder>(items: &[T], skeleton: bool) -> Result<(), Error>
     ensures { result ≡ error_of_first FoldLegacy (flat_map legacy_places_in (flat_map (T.lists skeleton) items.now)) }
 {
@@ -107,7 +108,8 @@ pub(crate) fn check_each<T: Holder>(items: &[T], skeleton: bool) -> Result<(), E
     Ok(())
 }
 
-/// Refuses the first operator of the older `try` in the bodies of functions: `FoldLegacy` with its place.
+/// Returns `FoldLegacy`, with its place, for the first operator of legacy exception handling in the bodies of
+/// functions.
 pub(crate) fn check_bodies(module: &Module<'_>) -> Result<(), Error>
     ensures { result ≡ error_of_first FoldLegacy (flat_map legacy_places_in (map (λ f. f.body.value.operators) module.now.functions)) }
 {

@@ -1,4 +1,4 @@
--- The label of the next block, by where a scan stands among the labels with names.
+-- The label of the next block, found by a cursor into the list of labels with names.
 use Rattle.std.proofs.Common.{◌≡◌, ◌≢◌, ℕ, zero, suc, ◌<◌, ◌≤◌, List, [], ◌∷◌, length, refl, sym, ap, ◌∙◌, subst, arith, true≢false}
 use Rattle.std.proofs.lemmas.Bool.{eqb-true, eqb-false}
 use Rattle.std.specs.Prelude.{Bool, true, false, ◌&&◌, nat_eq, map, Option, Some, None, option_map, if◌then◌else◌, slice_get, Contains}
@@ -15,7 +15,7 @@ use Rattle.wasmprinter_labels.specs.Stack.{unnamed_label}
 use Rattle.wasmprinter_labels.specs.Inside.{IsAhead, IsCursor, label_of}
 use Rattle.wasmprinter_labels.specs.declared.numbers.NumberedLabel.{NumberedLabel}
 
--- the label is that of block n of function f
+-- The label is that of block n of function f.
 abbrev is_at : ℕ → ℕ → NamedLabel → Bool
 is_at f n x = nat_eq x.function f && nat_eq x.number n
 
@@ -48,16 +48,16 @@ other_at f n x e a b = absurd (true≢false (sym both ∙ e))
     both : is_at f n x ≡ true
     both = rw (same x.function f a, same x.number n b) refl
 
--- ---- look-ups
+-- ---- Look-ups
 
--- behind a label that isn't in front of the block nor its own, there is none
+-- If a label is that of block n of function f or of a later block, no label after it is that of block n.
 none_behind : (f n : ℕ) (x : NamedLabel) (xs : List NamedLabel) → f ≤ x.function → (f ≡ x.function → n ≤ x.number) → AllByRecursion (IsBefore x) xs → label_at xs f n ≡ None
 none_behind f n x [] le lt h = refl
 none_behind f n x (y ∷ xs) le lt ((rise, less), later) =
     let miss = not_at f n y (λ a b. absurd (omega (arith, a, b, le, lt, rise, less))) in
     rw miss (none_behind f n x xs le lt later)
 
--- the label with the index, if it is the block's
+-- The name of the label, if it is that of block n of function f.
 abbrev picked : ℕ → ℕ → Option NamedLabel → Option Named
 picked f n None = None
 picked f n (Some x) = if is_at f n x then Some x.name else None
@@ -74,7 +74,7 @@ at_cursor f n (suc k) (x ∷ xs) ((le, lt), behind) a =
     let miss = not_at f n x (λ p q. absurd (omega (arith, p, q, le, lt))) in
     at_cursor f n k xs behind a.1 ∙ sym (ap (λ (b : Bool). if b then Some x.name else label_at xs f n) miss)
 
--- ---- one block more
+-- ---- The cursor after one more block
 
 ahead_hit : (f n : ℕ) (x : NamedLabel) (xs : List NamedLabel) → x.function ≡ f → x.number ≡ n → AllByRecursion (IsBefore x) xs → IsAhead f (suc n) xs
 ahead_hit f n x [] p q h = tt
@@ -96,7 +96,7 @@ cursor_miss f n (suc k) [] c h = absurd c
 cursor_miss f n (suc k) (x ∷ xs) ((le, less), behind) h =
     ((le, λ e. let lt = less e in omega (arith, lt)), cursor_miss f n k xs behind h)
 
--- ---- by the program's labels
+-- ---- The labels as the program keeps them
 
 abbrev view : NumberedLabel → NamedLabel
 view x = label_view x.label
@@ -124,7 +124,7 @@ name_in (x ∷ named) f n = by (nat_eq x.subsection label_subsection) (name_in n
     by true h = ap (λ (o : Option Named). if nat_eq x.outer f && nat_eq x.index n then Some x.name else o) h
     by false h = h
 
--- the identifier by the label that is next
+-- The identifier of the next block, given the name of its label, if there is one.
 abbrev pub own_by : Bool → ℕ → Option Named → Option Named
 own_by invents d None = unnamed_label invents d
 own_by invents d (Some y) = Some y
@@ -158,7 +158,7 @@ module _ (named : List NamedItem) (xs : List NumberedLabel) (invents : Bool) (f 
       → label_named invents n d (name_at named label_subsection f n >>= λ y. y.given) ≡ unnamed_label invents d
   own_none zs same e = own_of zs same None e
 
--- the cursor behind the block
+-- If `label_of` returns a label, it is the label with that index and that of the block.
 picked_view : (f n k : ℕ) (xs : List NumberedLabel) (x : NumberedLabel) → label_of xs k f n ≡ Some x → (slice_get (map view xs) k ≡ Some (view x)) × (is_at f n (view x) ≡ true) × (slice_get xs k ≡ Some x)
 picked_view f n zero [] x e = absurd cc
 picked_view f n zero (y ∷ xs) x e = by (is_at f n (view y)) refl e
@@ -187,7 +187,7 @@ cursor_named f n k xs ls x lists a e c =
 pub cursor_unnamed : (f n k : ℕ) (xs : List NumberedLabel) (ls : List NamedLabel) → map view xs ≡ ls → label_of xs k f n ≡ None → IsCursor f n k ls → IsCursor f (suc n) k ls
 cursor_unnamed f n k xs ls lists e c = cursor_miss f n k ls c (λ x h. not_picked f n k xs x e (ap (λ l. slice_get l k) lists ∙ h))
 
--- the label that is next is one of all
+-- If `label_of` returns a label, it is one of the list and its index is within the list.
 pub next_is_one : (f n k : ℕ) (xs : List NumberedLabel) (x : NumberedLabel) → label_of xs k f n ≡ Some x → Contains xs x × (k < length xs)
 next_is_one f n k xs x e =
     let (seen, hit, found) = picked_view f n k xs x e in

@@ -1,4 +1,4 @@
--- The innermost block of each number, as blocks are opened and closed, and which block it hides.
+-- The innermost block of each number and the block that it hides, as blocks are opened and closed.
 use Rattle.std.proofs.Common.{◌≡◌, ◌≢◌, ℕ, zero, suc, ◌+◌, ◌-◌, ◌<◌, ◌≤◌, List, [], ◌∷◌, ◌++◌, length, get_or, take, drop, refl, sym, ap, ◌∙◌, subst, append_assoc, arith, length-append}
 use Rattle.std.proofs.Math.Seq.{drop-cons}
 use Rattle.std.proofs.lemmas.List.{reverse-append, length-reverse, length-take, length-map, length-set, map-append, take-append-drop, get_or-set_same, get_or-set_other, get_or-map, get_or-reverse}
@@ -28,7 +28,7 @@ nat_eq-same a = by (nat_eq a a) refl
     by true e = refl
     by false e = absurd (eqb-false a a e refl)
 
--- ---- a block more, and one less
+-- ---- Opening and closing a block
 
 kept_push : (bs : List NamedBlock) (b : NamedBlock) (last : List (Option ℕ)) (old new : ℕ) → AreKept bs last old → AreBelow b.depth (depths (map block_view bs)) → b.alike < length last
     → b.hides ≡ innermost_of b.alike bs → old ≤ new → AreKept (b ∷ bs) (slice_set last b.alike (Some (length bs))) new
@@ -63,7 +63,7 @@ kept_pop bs b last room k =
         rw (← eqb-true b.alike a e) (get_or-set_same last b.alike b.hides o few ∙ hides)
     by a o lt false e h = get_or-set_other last b.alike a b.hides o (nat_eq-other b.alike a e) ∙ h
 
--- the same of the list that is kept, from the outside on
+-- Adding a block at the end of the stored list, which has the outermost block first, keeps the invariant.
 pub pushed : (xs ys : List NamedBlock) (b : NamedBlock) (last : List (Option ℕ)) (old new : ℕ) → ys ≡ xs ++ b ∷ [] → AreKept (reverse xs) last old
     → AreBelow b.depth (depths (blocks_view xs)) → b.alike < length last → b.hides ≡ innermost_of b.alike (reverse xs) → old ≤ new
     → AreKept (reverse ys) (slice_set last b.alike (Some (length xs))) new
@@ -77,13 +77,13 @@ popped xs ys b last old new e k le =
     let n = kept_pop (reverse ys) b last old (subst (λ (zs : List NamedBlock). AreKept zs last old) (ap reverse e ∙ reverse-append ys (b ∷ [])) k) in
     record { descend = n.descend; hide = n.hide; innermost = n.innermost; room = omega (arith, n.room, le) }
 
--- ---- a block among others
+-- ---- A block among others
 
 hide_at : (limit : ℕ) (front rest : List NamedBlock) (b : NamedBlock) → Hide limit (front ++ b ∷ rest) → b.alike < limit
 hide_at limit [] rest b (hides, few, others) = few
 hide_at limit (x ∷ front) rest b (hides, few, others) = hide_at limit front rest b others
 
--- the innermost one of its number stands there
+-- If the innermost block of b's number is at b's position, no block further in has that number.
 shown_at : (front rest : List NamedBlock) (b : NamedBlock) → innermost_of b.alike (front ++ b ∷ rest) ≡ Some (length rest) → list_any (λ x. nat_eq x.alike b.alike) (map block_view front) ≡ false
 shown_at [] rest b e = refl
 shown_at (x ∷ front) rest b e = by (nat_eq x.alike b.alike) refl e (shown_at front rest b)
@@ -94,7 +94,7 @@ shown_at (x ∷ front) rest b e = by (nat_eq x.alike b.alike) refl e (shown_at f
     by true t h r = let n = some_is (length (front ++ b ∷ rest)) (length rest) h in absurd (omega (arith, n, length-append front (b ∷ rest)))
     by false t h r = rw t (r h)
 
--- it stands further in
+-- If the innermost block of b's number is not at b's position, a block further in has that number.
 hidden_at : (front rest : List NamedBlock) (b : NamedBlock) → innermost_of b.alike (front ++ b ∷ rest) ≢ Some (length rest) → list_any (λ x. nat_eq x.alike b.alike) (map block_view front) ≡ true
 hidden_at [] rest b e = absurd (e (rw (nat_eq-same b.alike) refl))
 hidden_at (x ∷ front) rest b e = by (nat_eq x.alike b.alike) refl e (hidden_at front rest b)
@@ -150,7 +150,7 @@ pub is_other_place : (o : Option ℕ) (p : ℕ) → option_eq nat_eq o (Some p) 
 is_other_place None p e h = absurd cc
 is_other_place (Some q) p e h = eqb-false q p e (some_is q p h)
 
--- ---- no block at a depth
+-- ---- No block at a depth
 
 below_at : (d : ℕ) (xs : List ℕ) (i e : ℕ) → AreBelow d xs → i < length xs → get_or xs i e < d
 below_at d [] i e h lt = absurd (omega (arith, lt))
@@ -180,7 +180,7 @@ depth_at xs i k e h =
     get_or-map (λ (b : Block). b.depth) (blocks_view xs) k (block_view e) 0 le ∙ ap (λ (b : Block). b.depth) (get_or-map block_view (reverse xs) k e (block_view e) lt)
     ∙ ap (λ (b : NamedBlock). b.depth) (get_or-reverse xs k e (omega (arith, h)) ∙ ap (λ n. get_or xs n e) is)
 
--- depths rise from the outside on
+-- From the outermost block inward, depths do not decrease.
 rise : (xs : List NamedBlock) (i j : ℕ) (e : NamedBlock) → Descend (depths (blocks_view xs)) → i ≤ j → j < length xs → (get_or xs i e).depth ≤ (get_or xs j e).depth
 rise xs i j e h le lt = by (nat_eq i j) refl
   where

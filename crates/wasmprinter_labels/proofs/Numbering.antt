@@ -10,12 +10,12 @@ use Rattle.wasmprinter_spec.specs.Grammar.{some_is}
 use Rattle.wasmprinter_labels.specs.Numbers.{given_of, number_of, IsNumbering, AreNumbered}
 use Rattle.wasmprinter_labels.specs.declared.numbers.NumberedLabel.{NumberedLabel}
 
--- the number that a name has, or the next one, is one of those below
+-- If all known numbers are below `size`, the number of a name, known or `size` itself, is below `size + 1`.
 few_by : (size : ℕ) (a : ℕ) (o : Option ℕ) → a ≡ unwrap_or o size → ((n : ℕ) → o ≡ Some n → n < size) → a < size + 1
 few_by size a None e h = omega (arith, e)
 few_by size a (Some n) e h = let lt = h n refl in omega (arith, e, lt)
 
--- no other name has the number
+-- A name that has the number of the given name is the given name.
 taken : (numbers : BTreeMap (Bor (List ℕ)) ℕ) (xs : List NumberedLabel) (g r : List ℕ) (a : ℕ) (o : Option ℕ) → IsNumbering numbers xs → number_of numbers g ≡ o → a ≡ unwrap_or o (length xs)
     → number_of numbers r ≡ Some a → g ≡ r
 taken numbers xs g r a None k e is h = let lt = k.few r a h in absurd (omega (arith, lt, is))

@@ -1,4 +1,4 @@
--- A scan in front of an expression.
+-- The state at the start of an expression.
 use Rattle.std.proofs.Common.{◌≡◌, ℕ, zero, suc, ◌<◌, ◌≤◌, List, [], ◌∷◌, length, get_or, refl, sym, ap, ◌∙◌, subst, arith}
 use Rattle.std.proofs.lemmas.Bool.{eqb-false, ltb-true, ltb-false}
 use Rattle.std.proofs.lemmas.List.Sorted.{IsPartitionedBy-ltb}
@@ -22,7 +22,7 @@ function_of x = x.label.function
 abbrev view : NumberedLabel → NamedLabel
 view x = label_view x.label
 
--- ---- the labels of a function stand behind those of the functions in front of it
+-- ---- Labels are sorted by function
 
 rises_from : (x : NumberedLabel) (xs : List NumberedLabel) (j : ℕ) (e : NumberedLabel) → AllByRecursion (IsBefore (view x)) (map view xs) → j < length xs → function_of x ≤ function_of (get_or xs j e)
 rises_from x [] j e h lt = absurd (omega (arith, lt))
@@ -72,7 +72,7 @@ kept_begun named xs next f n d limit k g s h c e = record {
   shallow = omega arith;
 }
 
--- ---- the first one
+-- ---- A new state
 
 map_map : (xs : List NumberedLabel) → map view xs ≡ map label_view (map (λ (x : NumberedLabel). x.label) xs)
 map_map [] = refl
@@ -97,7 +97,7 @@ kept_new named xs ys limit e lists a o m size = record {
   shallow = omega arith;
 }
 
--- ---- no label has a name
+-- ---- Modules in which no label has a name
 
 none_of : (ls : List NamedLabel) → ((f n : ℕ) → label_at ls f n ≡ None) → ls ≡ []
 none_of [] h = refl

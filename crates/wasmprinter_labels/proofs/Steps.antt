@@ -1,4 +1,4 @@
--- A scan goes on behind an operator.
+-- The state after an operator.
 use Rattle.std.proofs.Common.{◌≡◌, ◌≢◌, ℕ, zero, suc, ◌-◌, ◌<◌, List, [], ◌∷◌, ◌++◌, length, refl, sym, ap, ◌∙◌, subst, arith}
 use Rattle.std.proofs.lemmas.List.Elements.{All-contains}
 use Rattle.std.specs.Prelude.{Bool, nat_eq, bytes_eq, Some, None}
@@ -21,7 +21,7 @@ abbrev pub block_of : ℕ → NumberedLabel → Block
 block_of d x = record { depth = d; alike = x.alike; name = name_view x.label.name }
 
 module _ (named : List NamedItem) (xs zs : List NumberedLabel) (invents : Bool) (next f n d : ℕ) (s : Stack) (k : IsKept named xs next f n d s) (same : zs ≡ xs) where
-  -- ---- an operator that opens a block without a name
+  -- ---- An operator that opens a block whose label has no name
 
   module _ (e : label_of zs next f n ≡ None) where
     none : label_of xs next f n ≡ None
@@ -47,7 +47,7 @@ module _ (named : List NamedItem) (xs zs : List NumberedLabel) (invents : Bool) 
         (own_none named xs invents f n next (length (labels_from invents s.blocks d)) k.lists k.ascend k.of_labels k.cursor zs same e
         ∙ ap (unnamed_label invents) (labels_length invents s.blocks d))))
 
-  -- ---- one with a name
+  -- ---- An operator that opens a block whose label has a name
 
   module _ (x : NumberedLabel) (e : label_of zs next f n ≡ Some x) where
     some : label_of xs next f n ≡ Some x
@@ -84,7 +84,7 @@ module _ (named : List NamedItem) (xs zs : List NumberedLabel) (invents : Bool) 
         ap (scan named invents f (suc n)) (labels_named invents (block_of d x) s.blocks d refl ∙ ap (λ (y : Label). y ∷ labels_from invents s.blocks d) (sym
         (own_some named xs invents f n next (length (labels_from invents s.blocks d)) k.lists k.ascend k.of_labels k.cursor zs same x e)))
 
--- ---- an operator that closes a block
+-- ---- An operator that closes a block
 
 pub kept_closed : (named : List NamedItem) (xs : List NumberedLabel) (next f n d e : ℕ) (s : Stack) → IsKept named xs next f n e s → e ≡ suc d → Descend (depths s.blocks)
     → IsKept named xs next f n d (record { blocks = without_block_at d s.blocks; limit = s.limit })
@@ -105,9 +105,9 @@ pub scan_closed : (named : List NamedItem) (invents : Bool) (f n d e : ℕ) (bs 
     → scan named invents f n (labels_from invents (without_block_at d bs) d) ≡ behind_closing (scan named invents f n (labels_from invents bs e))
 scan_closed named invents f n d e bs is = ap (λ m. behind_closing (scan named invents f n (labels_from invents bs m))) (sym is)
 
--- ---- given names
+-- ---- Given names
 
--- two blocks have one number if they have one given name
+-- Two blocks have the same number exactly if their labels have the same given name.
 same_numbers : (xs : List NumberedLabel) (a b : Block) → AreNumbered xs → IsOf xs a → IsOf xs b → nat_eq a.alike b.alike ≡ same_name a.name.given b.name.given
 same_numbers xs a b m p q =
     let h = All-contains (λ (y : NumberedLabel). nat_eq p.label.alike y.alike ≡ bytes_eq (given_of p.label) (given_of y)) xs q.label
@@ -125,7 +125,7 @@ hidden_alike xs b (x ∷ front) rest m h =
     let e = same_numbers xs x b m h.0 (all_behind (IsOf xs) front rest b h.1) in
     rw (e, hidden_alike xs b front rest m h.1) refl
 
--- ---- what is found
+-- ---- The result of looking up a label
 
 named_at : (invents : Bool) (d l e : ℕ) (bs : List Block) (b : Block) (hidden : Bool) (s : StandsAtDepth bs e b hidden) → Descend (depths bs) → AreBelow d (depths bs) → l < d → e ≡ d - 1 - l
     → list_any (λ x. same_name x.name.given b.name.given) s.front ≡ hidden → found_among [] (labels_from invents bs d) l ≡ found_named b.name hidden

@@ -1,4 +1,4 @@
--- What a label means, by the open blocks whose labels have names.
+-- The meaning of a label, computed from the open blocks whose labels have names.
 use Rattle.std.proofs.Common.{◌≡◌, ◌≢◌, ℕ, zero, suc, ◌+◌, ◌-◌, ◌<◌, ◌≤◌, List, [], ◌∷◌, ◌++◌, length, refl, sym, ap, ◌∙◌, subst, arith}
 use Rattle.std.proofs.lemmas.Bool.{eqb-true, eqb-false}
 use Rattle.std.specs.Prelude.{Bool, true, false, ◌||◌, nat_eq, Option, Some, None, if◌then◌else◌, codes, decimal}
@@ -25,7 +25,7 @@ pub labels_length : (invents : Bool) (bs : List Block) (d : ℕ) → length (lab
 labels_length invents bs zero = refl
 labels_length invents bs (suc d) = ap suc (labels_length invents (without_block_at d bs) d)
 
--- ---- a block more
+-- ---- Opening a block
 
 pub labels_named : (invents : Bool) (b : Block) (bs : List Block) (d : ℕ) → b.depth ≡ d → labels_from invents (b ∷ bs) (suc d) ≡ Some b.name ∷ labels_from invents bs d
 labels_named invents b bs d e = rw (nat_eq-is b.depth d e) refl
@@ -39,7 +39,7 @@ labels_unnamed invents bs d h =
     let p = here_none invents bs d h in
     ap (λ (x : Label). x ∷ labels_from invents (without_block_at d bs) d) p.0 ∙ ap (λ (cs : List Block). unnamed_label invents d ∷ labels_from invents cs d) p.1
 
--- ---- a block less
+-- ---- Closing a block
 
 below_weaker : (c d : ℕ) (xs : List ℕ) → c ≤ d → AreBelow c xs → AreBelow d xs
 below_weaker c d [] le h = tt
@@ -48,7 +48,7 @@ below_weaker c d (x ∷ xs) le h = (omega (arith, le, h.0), below_weaker c d xs 
 pub below_more : (d : ℕ) (xs : List ℕ) → AreBelow d xs → AreBelow (suc d) xs
 below_more d xs h = below_weaker d (suc d) xs (omega arith) h
 
--- the innermost block with a named label stands there, or is further out
+-- If all depths are at most d, then after a block at depth d is removed, all depths are below d.
 at_end : (d : ℕ) (b : Block) (bs : List Block) → AreBelow (suc d) (depths (b ∷ bs)) → Descend (depths (b ∷ bs)) → (hit : Bool) → nat_eq b.depth d ≡ hit
     → AreBelow d (depths (if hit then bs else b ∷ bs))
 at_end d b bs h s true e = subst (λ n. AreBelow n (depths bs)) (eqb-true b.depth d e) s.0
@@ -74,9 +74,9 @@ all_closed P d (b ∷ bs) h = by (nat_eq b.depth d)
     by true = h.1
     by false = h
 
--- ---- targets
+-- ---- Targets
 
--- the number means a block around with this label
+-- The label index l means an enclosing block with the label y.
 record Means (l : ℕ) (xs : List Label) (y : Label) : Type 0 where
   further : List Label
   is : target l xs ≡ Around y further
@@ -84,7 +84,8 @@ record Means (l : ℕ) (xs : List Label) (y : Label) : Type 0 where
 abbrev same_given : Named → Block → Bool
 same_given n x = same_name x.name.given n.given
 
--- the same, with the blocks whose names may hide this one
+-- The label index l means an enclosing block with the name n; `front` are the named blocks further in, which may
+-- shadow it.
 record MeansNamed (l : ℕ) (xs : List Label) (n : Named) (front : List Block) : Type 0 where
   further : List Label
   is : target l xs ≡ Around (Some n) further
@@ -94,7 +95,7 @@ unnamed_hides : (n : Named) (invents : Bool) (d : ℕ) → hides n (unnamed_labe
 unnamed_hides n true d = refl
 unnamed_hides n false d = refl
 
--- a label further in
+-- If l means a block with the name n, then l + 1 means that block after one more block is opened.
 further_in : (l : ℕ) (x : Label) (xs : List Label) (n : Named) (front new : List Block) → (hides n x || list_any (same_given n) front) ≡ list_any (same_given n) new
     → MeansNamed l xs n front → MeansNamed (suc l) (x ∷ xs) n new
 further_in l x xs n front new e m = record {
@@ -156,7 +157,7 @@ means_unnamed invents (suc l) (suc d) e bs h is =
     let m = means_unnamed invents l d e (without_block_at (suc d) bs) (all_closed (λ (b : Block). b.depth ≢ e) (suc d) bs h) (omega (arith, is)) in
     record { further = label_here invents (suc d) bs ∷ m.further; is = ap (behind (label_here invents (suc d) bs)) m.is }
 
--- ---- what is found
+-- ---- The result of looking up a label
 
 target_own : (xs : List Label) → target (length xs) xs ≡ Own
 target_own [] = refl
@@ -200,7 +201,7 @@ none_hides n (x ∷ xs) e = ap (λ (b : Bool). b || is_hidden n xs) (one x) ∙ 
 abbrev made_up : ℕ → Named
 made_up d = record { given = None; content = codes "#label" ++ decimal d }
 
--- the identifier of a label that has no name, or the block's number
+-- The result for a label without a name: its synthesized identifier, or the number of the block.
 abbrev pub unnamed_found : Label → ℕ → Found
 unnamed_found None n = ToBlock n
 unnamed_found (Some y) n = ByName y

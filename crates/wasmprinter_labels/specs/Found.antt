@@ -1,24 +1,24 @@
--- What the number of a label means to a printer.
+-- The meaning of a label index to a printer.
 use Rattle.std.specs.Prelude.{ℕ, ◌-◌, List, Bool, true, false, ◌||◌, length, Some, None}
 use Rattle.wasmprinter_spec.specs.Labels.{Label, Named, is_hidden, Target, Around, Own, Nothing, target}
 
 pub data Found : Type 0 where
-  ByName : Named → Found  -- a block around, whose identifier means it
-  ByNumber : Found  -- a block around whose identifier means another one; or the body
-  ToBlock : ℕ → Found  -- a block around without an identifier, by its number, which is counted from 1, the outermost first
+  ByName : Named → Found  -- an enclosing block that this identifier refers to
+  ByNumber : Found  -- an enclosing block whose identifier an inner block shadows, or the body
+  ToBlock : ℕ → Found  -- an enclosing block without an identifier, by its number, counted from 1, outermost first
   ToNothing : Found
 
 abbrev pub found_named : Named → Bool → Found
 found_named n true = ByNumber
 found_named n false = ByName n
 
--- with so many blocks around it
+-- The meaning of the target of the label index l, with d enclosing blocks and the labels `inner` further in.
 abbrev pub found_by : List Label → ℕ → ℕ → Target → Found
 found_by inner d l (Around (Some n) further) = found_named n (is_hidden n further || is_hidden n inner)
 found_by inner d l (Around None further) = ToBlock (d - l)
 found_by inner d l Own = ByNumber
 found_by inner d l Nothing = ToNothing
 
--- the label l among these, where those of `inner` stand further in
+-- The meaning of the label index l among the labels `xs`, with the labels `inner` further in.
 abbrev pub found_among : List Label → List Label → ℕ → Found
 found_among inner xs l = found_by inner (length xs) l (target l xs)

@@ -1,4 +1,4 @@
--- What is kept between two operators.
+-- The invariant between two operators.
 use Rattle.std.specs.Prelude.{◌≡◌, ℕ, zero, suc, ◌<◌, ◌≤◌, ◌==◌, ◌&&◌, List, [], ◌∷◌, length, map, Option, Some, None, if◌then◌else◌, slice_get, Contains}
 use Rattle.std.specs.List.{AllByRecursion}
 use Rattle.wasmprinter_spec.specs.Grammar.{◌>>=◌}
@@ -9,38 +9,39 @@ use Rattle.wasmprinter_labels.specs.Stack.{Block, Stack, depths, AreBelow}
 use Rattle.wasmprinter_labels.specs.Numbers.{AreNumbered}
 use Rattle.wasmprinter_labels.specs.declared.numbers.NumberedLabel.{NumberedLabel}
 
--- ---- where a scan stands among the labels with names
+-- ---- The cursor into the labels with names
 
--- the label is one of a block in front of block n of the function
+-- The label is that of a block before block n of function f.
 abbrev pub IsPast : ℕ → ℕ → NamedLabel → Type 0
 IsPast f n x = (x.function ≤ f) × (x.function ≡ f → x.number < n)
 
--- the first of these labels isn't
+-- The first of these labels, if there is one, is that of block n of function f or of a later block.
 abbrev pub IsAhead : ℕ → ℕ → List NamedLabel → Type 0
 IsAhead f n [] = Unit {0}
 IsAhead f n (x ∷ xs) = (f ≤ x.function) × (f ≡ x.function → n ≤ x.number)
 
--- so many labels are
+-- The first k labels are those of blocks before block n of function f, and the next label is not.
 abbrev pub IsCursor : ℕ → ℕ → ℕ → List NamedLabel → Type 0
 IsCursor f n zero xs = IsAhead f n xs
 IsCursor f n (suc k) [] = ⊥
 IsCursor f n (suc k) (x ∷ xs) = IsPast f n x × IsCursor f n k xs
 
--- the label with the index, if it is the one of block n of the function
+-- The label with index k, if it is that of block n of function f.
 abbrev pub label_of : List NumberedLabel → ℕ → ℕ → ℕ → Option NumberedLabel
 label_of xs k f n = slice_get xs k >>= λ x. if x.label.function == f && x.label.number == n then Some x else None
 
--- ---- blocks and labels
+-- ---- Blocks and labels
 
--- the label is the block's
+-- One of the labels is that of the block.
 pub record IsOf (xs : List NumberedLabel) (b : Block) : Type 0 where
   pub label : NumberedLabel
   pub is_one : Contains xs label
   pub alike : b.alike ≡ label.alike
   pub name : b.name ≡ name_view label.label.name
 
--- the names of the module; the labels that have names, and how many of them were passed; the function, how many of its blocks were opened
--- and how many are open; those of them that have names
+-- The invariant. `named` are the names of the module, `xs` the labels that have names, and `next` the number of
+-- those that were passed. `opened` is the number of blocks opened in the function, `depth` the number of open
+-- blocks, and `stack` has the open blocks whose labels have names.
 pub record IsKept (named : List NamedItem) (xs : List NumberedLabel) (next function opened depth : ℕ) (stack : Stack) : Type 0 where
   pub lists : map (λ x. label_view x.label) xs ≡ labels_in named
   pub ascend : Ascend (labels_in named)

@@ -1,4 +1,4 @@
--- What the contracts of the labels of open blocks cite.
+-- The definitions that the contracts of the labels of open blocks cite.
 pub mod Found
 pub mod Scan
 pub mod Stack

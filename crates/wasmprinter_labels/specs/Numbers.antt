@@ -1,4 +1,4 @@
--- Labels with names, each with a number that labels of one given name share.
+-- Labels with names, each with a number that is the same for equal given names.
 use Rattle.std.specs.Prelude.{◌≡◌, ℕ, ◌<◌, ◌==◌, List, length, bytes_eq, Option, Some}
 use Rattle.std.specs.List.{All}
 use Rattle.std.specs.Borrow.{Bor}
@@ -10,11 +10,12 @@ use Rattle.wasmprinter_labels.specs.declared.numbers.NumberedLabel.{NumberedLabe
 abbrev pub given_of : NumberedLabel → List ℕ
 given_of x = x.label.name.given.now
 
--- the number of a given name
+-- The number of a given name, if it has one.
 abbrev pub number_of : BTreeMap (Bor (List ℕ)) ℕ → List ℕ → Option ℕ
 number_of numbers name = get_by (λ k. slice_cmp nat_cmp name k.now) numbers
 
--- each label has the number of its given name, no two names share one, and all are below how many labels there are
+-- Each label has the number of its given name, no two names share a number, and all numbers are below the number
+-- of labels.
 pub record IsNumbering (numbers : BTreeMap (Bor (List ℕ)) ℕ) (xs : List NumberedLabel) : Type 0 where
   pub known : All (λ x. number_of numbers (given_of x) ≡ Some x.alike) xs
   pub apart : (q r : List ℕ) (n : ℕ) → number_of numbers q ≡ Some n → number_of numbers r ≡ Some n → q ≡ r

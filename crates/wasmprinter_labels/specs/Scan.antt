@@ -1,4 +1,4 @@
--- What is known of the labels between two operators of an expression.
+-- The state of the labels between two operators of an expression.
 use Rattle.std.specs.Prelude.{ℕ, suc, List, [], ◌∷◌, length, Bool}
 use Rattle.wasmprinter_spec.specs.Row.{Role}
 use Rattle.wasmprinter_spec.specs.Labels.{Label, labels_after, count_after, labels_outside, labels_inside}
@@ -7,8 +7,8 @@ use Rattle.wasmprinter_names.specs.Views.{NamedItem, name_at}
 use Rattle.wasmprinter_names.specs.declared.identifiers.Identifiers.{Identifiers}
 use Rattle.wasmprinter_labels.specs.Found.{Found, found_among}
 
--- The names of the module, and whether identifiers are made up; then the function, how many blocks were opened in the expression, and the
--- labels of those that are open, the innermost first.
+-- The names of the module and whether identifiers are synthesized; the function, the number of blocks opened in
+-- the expression, and the labels of the open blocks, innermost first.
 pub record Scan : Type 0 where
   pub named : List NamedItem
   pub invents : Bool
@@ -16,27 +16,27 @@ pub record Scan : Type 0 where
   pub count : ℕ
   pub labels : List Label
 
--- the identifiers of the module
+-- The identifiers of the module.
 abbrev pub names_of : Scan → Names
 names_of s = names_by s.invents (name_at s.named)
 
--- the identifier of the block that would be opened next
+-- The identifier of the block that would be opened next.
 abbrev pub own_label : Scan → Label
 own_label s = (names_of s).labels s.function s.count (length s.labels)
 
--- with these names, in front of an expression of the function
+-- The state at the start of an expression of function f, with these names.
 abbrev pub scan_from : List NamedItem → Bool → ℕ → Scan
 scan_from named invents f = record { named = named; invents = invents; function = f; count = 0; labels = [] }
 
--- the same with those of identifiers
+-- The state at the start of an expression of function f, with the names of these identifiers.
 abbrev pub at_start : Identifiers → ℕ → Scan
 at_start x f = scan_from x.names.now x.invents f
 
--- the same for an expression of another function
+-- The state at the start of an expression of function f, with the names of a given state.
 abbrev pub at_start_again : ℕ → Scan → Scan
 at_start_again f s = scan_from s.named s.invents f
 
--- behind an operator that opens a block
+-- The state after an operator that opens a block.
 abbrev pub behind_opening : Scan → Scan
 behind_opening s =
     record { named = s.named; invents = s.invents; function = s.function; count = suc s.count; labels = own_label s ∷ s.labels }
@@ -45,11 +45,11 @@ abbrev pub without_first : List Label → List Label
 without_first [] = []
 without_first (x ∷ xs) = xs
 
--- behind one that closes a block
+-- The state after an operator that closes a block.
 abbrev pub behind_closing : Scan → Scan
 behind_closing s = record { named = s.named; invents = s.invents; function = s.function; count = s.count; labels = without_first s.labels }
 
--- behind an operator of the role
+-- The state after an operator with the role.
 abbrev pub behind_operator : Role → Scan → Scan
 behind_operator role s = record {
   named = s.named;
@@ -59,6 +59,6 @@ behind_operator role s = record {
   labels = labels_after role (own_label s) s.labels;
 }
 
--- what a label means in an operator of the role
+-- The meaning of a label index in an operator with the role.
 abbrev pub found_at : Role → Scan → ℕ → Found
 found_at role s l = found_among (labels_inside role s.labels) (labels_outside role s.labels) l

@@ -1,4 +1,4 @@
--- What a label means, as the definitions see it.
+-- The program's meaning of a label as the value of the definitions.
 use Rattle.wasmprinter_names.specs.Shown.{identifier_view}
 use Rattle.wasmprinter_labels.specs.Found.{Found, ByName, ByNumber, ToBlock, ToNothing}
 use Rattle.wasmprinter_labels.specs.declared.open.Meant.{Meant}

@@ -1,4 +1,4 @@
-//! Open blocks whose labels have names, and which of them no block further in hides.
+//! Open blocks whose labels have names, and which of those names an inner block shadows.
 ghost use Rattle.std.specs.Prelude.{◌≡◌, ◌<◌, ◌∷◌, [], length, IfOk, IsOk, replicate, None};
 ghost use Rattle.wasmprinter_names.specs.Views.{name_view};
 ghost use Rattle.wasmprinter_labels.specs.Stack.{depths, AreBelow, Descend, Pops, without_block_at};
@@ -10,32 +10,32 @@ use wasmprinter_names::Name;
 /// An open block whose label has a name.
 #[derive(Clone, Copy)]
 pub(crate) struct NamedBlock<'n> {
-    /// How many blocks are around it.
+    /// The number of blocks around it.
     depth: u64,
     name: Name<'n>,
-    /// The number that labels of one given name share.
+    /// A number that is the same for labels with equal given names.
     alike: usize,
-    /// Where the innermost block of that number stands among those around it.
+    /// The position in `NamedBlocks::blocks` of the innermost enclosing block with the same number.
     hides: Option<usize>,
 }
 
-/// The label of a block by its depth.
+/// The label of the block at a depth.
 #[derive(Clone, Copy)]
 pub(crate) enum NameAt<'n> {
-    /// It has a name, which means it.
+    /// The label has a name that means this block.
     Shown(Name<'n>),
-    /// It has the name of a block further in.
+    /// The label has a name that an inner block shadows.
     Hidden,
-    /// It has no name.
+    /// The label has no name.
     Unnamed,
 }
 
 /// The open blocks whose labels have names.
 #[derive(Drop)]
 pub(crate) struct NamedBlocks<'n> {
-    /// From the outside on.
+    /// The blocks, outermost first.
     blocks: Vec<NamedBlock<'n>>,
-    /// For each number where the innermost block of that number stands.
+    /// The position in `blocks` of the innermost block with each number.
     innermost: Vec<Option<usize>>,
 }
 
@@ -52,7 +52,7 @@ impl<'n> Model for NamedBlocks<'n> {
     ghost invariant = { λ s. AreKept (reverse s.blocks.items) s.innermost.items (vec_capacity s.blocks) };
 }
 
-/// No block for each number.
+/// Returns a table without a block for each number below `limit`.
 fn no_blocks(alloc: Global, limit: usize) -> Result<Vec<Option<usize>>, AllocError>
     ensures none { IfOk result (λ v. v.items ≡ replicate limit None) }
     ensures needed { limit ≡ 0 → IsOk result }
@@ -67,7 +67,7 @@ fn no_blocks(alloc: Global, limit: usize) -> Result<Vec<Option<usize>>, AllocErr
 impl<'n> NamedBlocks<'n> {
     ghost use Rattle.wasmprinter_labels.specs.Blocks.{IsNameAt};
 
-    /// No block, with room for so many, whose numbers are below that.
+    /// Creates an empty stack with room for `limit` blocks, whose numbers must be below `limit`.
     pub(crate) fn new(alloc: Global, limit: usize) -> Result<Self, AllocError>
         ensures none { IfOk result (λ s. s ≡ record { blocks = []; limit = limit }) }
         ensures needed { limit ≡ 0 → IsOk result }
@@ -78,7 +78,7 @@ impl<'n> NamedBlocks<'n> {
         })
     }
 
-    /// Adds the innermost block.
+    /// Adds a block as the innermost.
     pub(crate) fn push(&mut self, depth: u64, name: Name<'n>, alike: usize)
         requires room { length self.old.blocks < self.old.limit }
         requires number { alike < self.old.limit }
@@ -101,7 +101,7 @@ impl<'n> NamedBlocks<'n> {
         }
     }
 
-    /// Takes the innermost block away, if there is one.
+    /// Removes the innermost block. Returns whether there was one.
     fn pop(&mut self) -> bool
         ensures { Pops self.old result self.new }
     {
@@ -114,14 +114,14 @@ impl<'n> NamedBlocks<'n> {
         }
     }
 
-    /// Takes all blocks away.
+    /// Removes all blocks.
     pub(crate) fn clear(&mut self)
         ensures { self.new ≡ record { blocks = []; limit = self.old.limit } }
     {
         'pops: while self.pop() {}
     }
 
-    /// Takes the innermost block away if it is at this depth.
+    /// Removes the innermost block if it is at this depth.
     pub(crate) fn close(&mut self, depth: u64)
         ensures closed { self.new ≡ record { blocks = without_block_at depth self.old.blocks; limit = self.old.limit } }
         ensures descend { Descend (depths self.old.blocks) }
@@ -131,7 +131,7 @@ impl<'n> NamedBlocks<'n> {
         }
     }
 
-    /// What stands at a depth.
+    /// Returns the label of the block at a depth.
     pub(crate) fn find(&self, depth: u64) -> NameAt<'n>
         ensures name { IsNameAt self.now.blocks depth result }
         ensures descend { Descend (depths self.now.blocks) }

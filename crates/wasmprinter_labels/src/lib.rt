@@ -1,4 +1,5 @@
-//! The labels of open blocks, and which of them an operator may call by name (section 6.5 of the WebAssembly Core Specification, "Labels").
+//! The labels of open blocks, and which of them an operator may refer to by name (section 6.5 of the WebAssembly
+//! Core Specification, "Labels").
 #![tactic(auto)]
 
 mod blocks;

@@ -1,4 +1,4 @@
-//! Labels with names, each with a number that labels of one given name share.
+//! Labels with names, each with a number that is the same for equal given names.
 ghost use Rattle.std.specs.Prelude.{◌≡◌, List, [], ℕ, bytes_eq, unwrap_or, if◌then◌else◌, Some, map, IfOk, IsOk};
 ghost use Rattle.wasmprinter_labels.specs.Numbers.{number_of, AreNumbered};
 
@@ -10,11 +10,11 @@ use wasmprinter_names::LabelName;
 #[derive(Clone, Copy)]
 pub(crate) struct NumberedLabel<'n> {
     pub(crate) label: LabelName<'n>,
-    /// The number that labels of one given name share.
+    /// A number that is the same for labels with equal given names.
     pub(crate) alike: usize,
 }
 
-/// The number of a given name, which is the next one if it had none.
+/// Returns the number of a given name. A name without a number gets `next`.
 fn number<'n>(
     numbers: &mut BTreeMap<&'n str, usize>,
     given: &'n str,
@@ -31,7 +31,7 @@ fn number<'n>(
     Ok(next)
 }
 
-/// Numbers labels by their given names.
+/// Returns the labels, each with the number of its given name.
 pub(crate) fn numbered_labels<'n>(
     alloc: Global,
     labels: &[LabelName<'n>],

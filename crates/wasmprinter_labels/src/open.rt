@@ -1,4 +1,4 @@
-//! The labels of open blocks, and what an operator's label means among them.
+//! The labels of open blocks, and the meaning of an operator's label among them.
 ghost use Rattle.std.specs.Prelude.{◌≡◌, ℕ, ◌+◌, ◌<◌, ◌^◌, [], length, None, option_map, IsOk, IfOk};
 ghost use Rattle.wasmprinter_spec.specs.Names.Section.{label_subsection};
 ghost use Rattle.wasmprinter_ops.specs.Shapes.{role_view};
@@ -18,14 +18,14 @@ use std::marker::Model;
 use wasmprinter_names::{Identifier, Identifiers, NameEntries, Space};
 use wasmprinter_ops::opcode::Role;
 
-/// What a label means to a printer.
+/// The meaning of a label index to a printer.
 #[derive(Clone, Copy, Debug, PartialEq, Eq)]
 pub enum Meant<'n> {
-    /// A block around, which this identifier means.
+    /// An enclosing block that this identifier refers to.
     ByName(Identifier<'n>),
-    /// A block around whose identifier means another one further in; or the body.
+    /// An enclosing block whose identifier an inner block shadows, or the body.
     ByNumber,
-    /// A block around without an identifier, by its number, which is counted from 1, the outermost first.
+    /// An enclosing block without an identifier, by its number. Enclosing blocks are counted from 1, outermost first.
     ToBlock(u64),
     /// No block.
     ToNothing,
@@ -35,16 +35,16 @@ pub enum Meant<'n> {
 #[derive(Drop)]
 pub struct OpenLabels<'n, 'a> {
     identifiers: Identifiers<'n, 'a>,
-    /// The labels that have names, by function and number.
+    /// The labels that have names, sorted by function and number.
     labels: Vec<NumberedLabel<'n>>,
-    /// How many of them belong to blocks in front of the next one.
+    /// The number of those labels that belong to blocks before the next one.
     next: usize,
     function: u64,
-    /// How many blocks were opened.
+    /// The number of blocks opened so far.
     opened: u64,
-    /// How many blocks are open.
+    /// The number of open blocks.
     depth: u64,
-    /// Those of them whose labels have names.
+    /// The open blocks whose labels have names.
     named: NamedBlocks<'n>,
 }
 
@@ -66,7 +66,7 @@ impl<'n, 'a> Model for OpenLabels<'n, 'a> {
     ghost invariant = { λ x. IsKept x.identifiers.names.now x.labels.items x.next x.function x.opened x.depth x.named };
 }
 
-/// The label with the index, if it is the one of the block of the function.
+/// Returns the label with the index if it is that of the given block of the function.
 fn label_of<'n>(
     labels: &[NumberedLabel<'n>],
     index: usize,
@@ -79,7 +79,8 @@ fn label_of<'n>(
     (label.label.function == function && label.label.number == block).then_some(label)
 }
 
-/// The identifier of a label without a name, by how many blocks are around its block.
+/// Returns the synthesized identifier of a label without a name, from the number of blocks around its block, or
+/// `None` if identifiers are not synthesized.
 fn unnamed_identifier<'n>(invents: bool, depth: u64) -> Option<Identifier<'n>>
     ensures { option_map identifier_view result ≡ unnamed_label invents depth }
 {
@@ -90,11 +91,11 @@ fn unnamed_identifier<'n>(invents: bool, depth: u64) -> Option<Identifier<'n>>
 }
 
 impl<'n, 'a> OpenLabels<'n, 'a> {
-    /// In front of an expression of function 0, with room for all labels that have names.
+    /// Creates the state at the start of an expression of function 0, with room for all labels that have names.
     ///
     /// # Errors
     ///
-    /// Where memory for that room is refused. None is asked for if no label has a name.
+    /// Returns an error if an allocation fails. If no label has a name, nothing is allocated.
     pub fn new(alloc: Global, identifiers: Identifiers<'n, 'a>) -> Result<Self, AllocError>
         ensures start { IfOk result (λ labels. labels ≡ at_start identifiers.entry 0) }
         ensures needed { ((f n : ℕ) → name_at identifiers.entry.names.now label_subsection f n ≡ None) → IsOk result }
@@ -112,7 +113,7 @@ impl<'n, 'a> OpenLabels<'n, 'a> {
         })
     }
 
-    /// The identifiers that it was made with.
+    /// Returns the identifiers that were passed to [`OpenLabels::new`].
     pub fn identifiers(&self) -> Identifiers<'n, 'a>
         ensures named { result.names.now ≡ self.now.named }
         ensures invents { result.invents ≡ self.now.invents }
@@ -120,7 +121,7 @@ impl<'n, 'a> OpenLabels<'n, 'a> {
         self.identifiers
     }
 
-    /// Goes to the front of an expression of the function: no block is open, and none was opened.
+    /// Moves to the start of an expression of the function: no block is open, and none was opened.
     pub fn begin(&mut self, function: u64)
         ensures { self.new ≡ at_start_again function self.old }
     {
@@ -133,14 +134,14 @@ impl<'n, 'a> OpenLabels<'n, 'a> {
         self.named.clear();
     }
 
-    /// How many blocks are open.
+    /// Returns the number of open blocks.
     pub fn depth(&self) -> u64
         ensures { result ≡ length self.now.labels }
     {
         self.depth
     }
 
-    /// The identifier of the block that would be opened next.
+    /// Returns the identifier of the block that would be opened next, if it has one.
     pub fn own(&self) -> Option<Identifier<'n>>
         ensures { option_map identifier_view result ≡ own_label self.now }
     {
@@ -150,7 +151,7 @@ impl<'n, 'a> OpenLabels<'n, 'a> {
         }
     }
 
-    /// Goes on behind an operator that opens a block.
+    /// Moves past an operator that opens a block.
     fn open(&mut self)
         requires { self.old.count + 1 < 2 ^ 64 }
         ensures { self.new ≡ behind_opening self.old }
@@ -166,7 +167,7 @@ impl<'n, 'a> OpenLabels<'n, 'a> {
         self.next += 1;
     }
 
-    /// Goes on behind an operator that closes a block.
+    /// Moves past an operator that closes a block.
     fn close(&mut self)
         ensures { self.new ≡ behind_closing self.old }
     {
@@ -176,7 +177,7 @@ impl<'n, 'a> OpenLabels<'n, 'a> {
         }
     }
 
-    /// Goes on behind an operator of the role.
+    /// Moves past an operator with the role.
     pub fn advance(&mut self, role: Role)
         requires { self.old.count + 1 < 2 ^ 64 }
         ensures { self.new ≡ behind_operator (role_view role) self.old }
@@ -188,7 +189,7 @@ impl<'n, 'a> OpenLabels<'n, 'a> {
         }
     }
 
-    /// What a label means among all that are open.
+    /// Returns the meaning of a label index among all open blocks.
     fn meaning(&self, label: u64) -> Meant<'n>
         ensures { found_view result ≡ found_among [] self.now.labels label }
     {
@@ -209,7 +210,8 @@ impl<'n, 'a> OpenLabels<'n, 'a> {
         }
     }
 
-    /// What a label means in an operator of the role. For `delegate` the innermost block isn't counted, but its label still hides others.
+    /// Returns the meaning of a label index in an operator with the role. For `delegate` the innermost block is not
+    /// counted, but its label still shadows others.
     pub fn find(&self, role: Role, label: u32) -> Meant<'n>
         ensures { found_view result ≡ found_at (role_view role) self.now label }
     {

@@ -1,4 +1,5 @@
--- Heads of nodes: their texts in a buffer, also in one that grew, and whether these hold a comment up to the end of the line.
+-- Heads of nodes: their texts in a buffer, also after the buffer has grown, and whether these contain two
+-- consecutive semicolons.
 use Rattle.std.proofs.Common.{◌≡◌, ℕ, ◌-◌, ◌==◌, ◌&&◌, ◌||◌, Bool, true, false, List, [], ◌∷◌, ◌++◌, length, take, drop, refl, sym, ◌∙◌, ap, ap₂, subst, append_assoc, arith, length-append}
 use Rattle.std.proofs.lemmas.List.{take_at, drop_at, append-nil}
 use Rattle.std.proofs.lemmas.Str.{IsCharBoundary-at_seam, IsUtf8-append, IsUtf8-nil}
@@ -15,7 +16,7 @@ use Rattle.wasmprinter_node_text.specs.Shown.{Shown, shown_of_calls, shown_of_he
 use Rattle.wasmprinter_node_text.specs.Buffers.{View, no_semicolons, see, see_all, with_text_begun, GrowsText}
 use Rattle.wasmprinter_node_text.proofs.TextLaws.{Adds}
 
--- ---- where a text lies
+-- ---- The position of a text
 
 module _ (buffer : List ℕ) (l : NodeText) (h : IsIn buffer l) where
   pub start_boundary : IsCharBoundary buffer l.start
@@ -29,7 +30,7 @@ module _ (buffer : List ℕ) (l : NodeText) (h : IsIn buffer l) where
       subst (IsCharBoundary buffer) at
       (IsCharBoundary-at_seam buffer (h.before ++ h.text) h.after (h.parts ∙ sym (append_assoc h.before h.text h.after)) h.is_rest)
 
-  -- what lies there is the text
+  -- The bytes at the position of a head are its text.
   pub text_there : take (l.stop - l.start) (drop l.start buffer) ≡ h.text
   text_there =
       let size : length h.text ≡ l.stop - l.start = omega (arith, h.stops) in
@@ -44,7 +45,7 @@ module _ (buffer : List ℕ) (l : NodeText) (h : IsIn buffer l) where
       ∙ (append_assoc h.before (h.text ++ h.after) more
       ∙ ap (λ (b : List ℕ). h.before ++ b) (append_assoc h.text h.after more)))
 
-  -- text behind the buffer changes nothing
+  -- A text in a buffer is also in a longer buffer that begins with that buffer.
   pub in_longer : (more new : List ℕ) → IsUtf8 more → new ≡ buffer ++ more → IsIn new l
   in_longer more new u e =
       record {
@@ -58,7 +59,7 @@ module _ (buffer : List ℕ) (l : NodeText) (h : IsIn buffer l) where
         is_rest = IsUtf8-append h.after more h.is_rest u;
       }
 
-  -- and the text is there in the longer one
+  -- The bytes at its position in the longer buffer are the text.
   pub text_there_longer : (more new : List ℕ) → new ≡ buffer ++ more → take (l.stop - l.start) (drop l.start new) ≡ h.text
   text_there_longer more new e =
       let size : length h.text ≡ l.stop - l.start = omega (arith, h.stops) in
@@ -69,16 +70,16 @@ module _ (buffer : List ℕ) (l : NodeText) (h : IsIn buffer l) where
 abbrev shown_by : NodeText → List ℕ → Shown
 shown_by l text = record { place = l.place; hint = l.hint; text = text; comment = l.comment }
 
--- A text stays where it lies when the buffer grows,
+-- A text keeps its position when the buffer grows.
 pub in_grown : (old new : List ℕ) (l : NodeText) → GrowsText old new → IsIn old l → IsIn new l
 in_grown old new l g h = in_longer old l h g.more new g.is_text g.parts
 
--- and what is printed of its node stays the same.
+-- The printed text of a node stays the same when the buffer grows.
 pub shown_grown : (old new : List ℕ) (l : NodeText) → GrowsText old new → IsIn old l → shown_of_head new l ≡ shown_of_head old l
 shown_grown old new l g h =
     ap (shown_by l) (text_there_longer old l h g.more new g.parts ∙ sym (text_there old l h))
 
--- The same of all heads of nodes.
+-- The texts of all heads keep their positions when the buffer grows.
 pub are_grown : (old new : List ℕ) (f : NodesOf NodeText) → GrowsText old new → AreIn old f → AreIn new f
 are_grown old new Nil g h = tt
 are_grown old new (Snoc before l results held) g h =
@@ -89,7 +90,7 @@ all_shown_grown old new Nil g h = refl
 all_shown_grown old new (Snoc before l results held) g h =
     rw (all_shown_grown old new before g h.0, all_shown_grown old new held g h.2, shown_grown old new l g h.1) refl
 
--- ---- semicolons
+-- ---- Semicolons
 
 abbrev comment_behind : Bool → List ℕ → Bool
 comment_behind true bs = has_line_comment (59 ∷ bs)
@@ -111,7 +112,7 @@ by_first : (b : ℕ) (bs : List ℕ) (l : Bool) → (b == 59) ≡ l → has_line
 by_first b bs true e = ap (λ c. has_line_comment (c ∷ bs)) (eqb-true b 59 e)
 by_first b bs false e = no_semicolon b bs e
 
--- one byte more
+-- Reading the first byte into the state does not change whether two consecutive semicolons are found.
 behind_first : (d l s : Bool) (b : ℕ) (bs : List ℕ) → (b == 59) ≡ s → ((d || (l && s)) || comment_behind s bs) ≡ (d || comment_behind l (b ∷ bs))
 behind_first true l s b bs e = refl
 behind_first false false s b bs e = sym (by_first b bs s e)
@@ -121,13 +122,13 @@ seen_behind : (s : Semicolons) (bs : List ℕ) → (see_all s bs).double ≡ (s.
 seen_behind s [] = or_none s.double ∙ ap (λ x. s.double || x) (sym (behind_none s.last))
 seen_behind s (b ∷ bs) = seen_behind (see s b) bs ∙ behind_first s.double s.last (b == 59) b bs refl
 
--- What was seen of a text from its first byte on tells whether it holds a comment up to the end of the line.
+-- The state after all bytes of a text says whether the text contains two consecutive semicolons.
 pub seen_comment : (bs : List ℕ) → (see_all no_semicolons bs).double ≡ has_line_comment bs
 seen_comment bs = seen_behind no_semicolons bs
 
--- ---- a new text
+-- ---- A new text
 
--- the head of the last text
+-- The head of the last text.
 abbrev pub head_of : View → ℕ → ℕ → Option Bool → NodeText
 head_of new place start hint = record { place = place; hint = hint; start = start; stop = length new.bytes; comment = new.seen.double }
 
@@ -148,7 +149,7 @@ module _ (old middle new : View) (place start : ℕ) (hint : Option Bool) (layou
         is_rest = IsUtf8-nil;
       }
 
-  -- its head says where it lies,
+  -- The text of the new head is in the buffer.
   pub entered_in : (l : NodeText) → l ≡ head_of new place start hint → IsIn new.bytes l
   entered_in l e = subst (IsIn new.bytes) (sym e) last_in
 
@@ -160,7 +161,7 @@ module _ (old middle new : View) (place start : ℕ) (hint : Option Bool) (layou
       ∙ (ap (take (length new.bytes - start)) (sym (append-nil (painted_text old.paints layout)))
       ∙ take_at (painted_text old.paints layout) [] (length new.bytes - start) size))
 
-  -- and shows what was written
+  -- The text of the new head is the one that was written.
   pub entered_shown : (l : NodeText) → l ≡ head_of new place start hint → shown_of_head new.bytes l ≡ shown_of_calls place hint old.paints layout
   entered_shown l e =
       ap (shown_of_head new.bytes) e

@@ -1,4 +1,4 @@
--- The layout of nodes: by what is printed of each, and by the last one of a row.
+-- The layout of nodes, in terms of the text of each node and of the last node of a row.
 use Rattle.std.proofs.Common.{◌≡◌, ℕ, ◌+◌, ◌&&◌, Bool, true, false, List, [], ◌∷◌, ◌++◌, refl, append_assoc}
 use Rattle.std.specs.Prelude.{Option, Some, None, option_map, cond}
 use Rattle.std.specs.Option.{is_none}
@@ -38,7 +38,7 @@ same_parts : (a a2 h h2 b b2 c c2 k k2 : List Piece) (x : Piece) → a ≡ a2 �
     ((a ++ h) ++ b) ++ (x ∷ ((c ++ k) ++ (Shut ∷ []))) ≡ a2 ++ ((h2 ++ (b2 ++ (x ∷ c2))) ++ (k2 ++ (Shut ∷ [])))
 same_parts a a2 h h2 b b2 c c2 k k2 x p q r s t = rw (p, q, r, s, t) (simp append_assoc)
 
--- The layout of nodes is that of what is printed of each.
+-- The layout of nodes is that of their texts.
 pub rows_shown : (paints : Bool) (form : Form) (first : Bool) (nesting : ℕ) (f : Nodes) →
     node_pieces defaults paints form first nesting f ≡ row_pieces form first nesting (map_nodes (shown_head paints) f)
 unfolding node_pieces row_pieces
@@ -63,7 +63,7 @@ rows_shown paints form first nesting (Snoc before head results held) =
     (rw (nil_mapped (shown_head paints) held) (break_same (is_nil held) (head_text defaults head) (head_place head) nesting))
     (rows_shown paints form false (nesting + 1) held)
 
--- the last node of a row
+-- The pieces of a row are those of the nodes before the last and those of the last node.
 pub row_last : (form : Form) (first : Bool) (nesting : ℕ) (before : NodesOf Shown) (s : Shown) (results : ℕ) (held : NodesOf Shown) →
     row_pieces form first nesting (Snoc before s results held)
     ≡ row_pieces form first nesting before ++ (node_front form (first && is_nil before) (is_nil held) nesting s ++ (row_pieces form false (nesting + 1) held ++ (Shut ∷ [])))
@@ -74,7 +74,7 @@ pub row_none : (form : Form) (first : Bool) (nesting : ℕ) → row_pieces form 
 unfolding row_pieces
 row_none form first nesting = refl
 
--- ---- lines
+-- ---- Lines
 
 break_breaks : (leaf comment : Bool) (place nesting : ℕ) → has_break (comment_break leaf comment place nesting) ≡ (leaf && comment)
 break_breaks true true place nesting = refl
@@ -90,6 +90,7 @@ front_by InLine false leaf nesting place None text comment = break_breaks leaf c
 front_by InLine true leaf nesting place (Some taken) text comment = break_breaks leaf comment place nesting
 front_by InLine false leaf nesting place (Some taken) text comment = break_breaks leaf comment place nesting
 
--- a line begins in the front of each node that stands over lines, and in a line behind a comment
+-- Over lines, a line begins in the front of each node. In one line, a line begins only after the text of a node
+-- that holds no nodes and has two consecutive semicolons.
 pub front_breaks : (form : Form) (leads leaf : Bool) (nesting : ℕ) (s : Shown) → has_break (node_front form leads leaf nesting s) ≡ begins_line form leaf s.comment
 front_breaks form leads leaf nesting s = front_by form leads leaf nesting s.place s.hint s.text s.comment

@@ -1,4 +1,4 @@
--- Tasks that are put on top of others, and taken from there.
+-- Pushing tasks on the stack and taking them from it.
 use Rattle.std.proofs.Common.{◌≡◌, ℕ, ◌+◌, ◌*◌, ◌≤◌, ◌<◌, ◌&&◌, Bool, false, List, [], ◌∷◌, ◌++◌, length, refl, sym, ◌∙◌, ap, subst, arith, append_assoc, eqb, Result, Ok, Err, OnOk}
 use Rattle.std.proofs.lemmas.List.{append-nil}
 use Rattle.std.proofs.lemmas.Bool.{ne_eqb}
@@ -18,7 +18,7 @@ use Rattle.wasmprinter_node_text.specs.declared.tasks.Task.{Task}
 use Rattle.wasmprinter_node_text.specs.declared.tasks.Task.TheVariants as task
 use Rattle.wasmprinter_node_text.proofs.RowLaws.{nil_mapped, row_last, row_none}
 
--- ---- one list of tasks behind another
+-- ---- Two lists of tasks, joined
 
 pub pieces_left-append : (form : Form) (nesting : ℕ) (buffer : List ℕ) (a b : List Task) →
     pieces_left form nesting buffer (a ++ b) ≡ pieces_left form nesting buffer b ++ pieces_left form nesting buffer a
@@ -43,13 +43,13 @@ IsSound-last : (buffer : List ℕ) (bound : ℕ) (a : List Task) (t : Task) → 
 IsSound-last buffer bound [] t x = x.0
 IsSound-last buffer bound (s ∷ a) t x = IsSound-last buffer bound a t x.1
 
--- ---- rows
+-- ---- Rows
 
 none_by_count : (f : NodesOf NodeText) → eqb (count f) 0 ≡ is_nil f
 none_by_count Nil = refl
 none_by_count (Snoc before h r held) = ne_eqb _ _ (λ e. omega (arith, e))
 
--- a row is empty where it has no node
+-- A row is empty exactly if it has no node.
 pub none_in_row : (row : List Node) → IsPostorder row → eqb (length row) 0 ≡ is_nil (forest_of row)
 none_in_row row h = ap (λ n. eqb n 0) (length-row row h) ∙ none_by_count (forest_of row)
 
@@ -72,12 +72,12 @@ module _ (nodes before : List Node) (node : Node) (parts : List Node) (is : IsLa
   texts_last : (buffer : List ℕ) → AreIn buffer (forest_of nodes) → AreIn buffer (forest_of before) × IsIn buffer node.head × AreIn buffer (forest_of parts)
   texts_last buffer h = subst (AreIn buffer) is.whole h
 
--- what holds on success
+-- A property on success implies a weaker one.
 pub on_ok : {T E P Q : Type 0} (r : Result T E) → (P → Q) → OnOk r P → OnOk r Q
 on_ok (Ok x) f h = f h
 on_ok (Err e) f h = tt
 
--- the task of a row
+-- The task of a row was pushed.
 module _ (new old : List Task) (nodes : Bor (List Node)) (first : Bool) (depth : ℕ) (e : new ≡ old ++ task.Row nodes first depth ∷ []) where
   pub pieces_pushed : StacksRow nodes.now first depth old new
   pieces_pushed form nesting buffer = ap (pieces_left form nesting buffer) e ∙ pieces_left-append form nesting buffer old (task.Row nodes first depth ∷ [])
@@ -89,7 +89,7 @@ module _ (new old : List Task) (nodes : Bor (List Node)) (first : Bool) (depth :
   sound_pushed buffer bound row h =
       subst (AllSound buffer bound) (sym e) (AllSound-append buffer bound old (task.Row nodes first depth ∷ []) h (row, tt))
 
--- so far the tasks of a row were put on top of old ones: those of the nodes before are still to come
+-- The loop invariant: the tasks of a row were pushed up to those of the nodes `rest`, which are still to come.
 pub record IsPut (tasks old : List Task) (nodes rest : List Node) (first : Bool) (depth : ℕ) : Type 0 where
   pub row : IsPostorder rest
   pub pieces : (form : Form) (nesting : ℕ) (buffer : List ℕ) →
@@ -99,7 +99,7 @@ pub record IsPut (tasks old : List Task) (nodes rest : List Node) (first : Bool)
   pub sound : (buffer : List ℕ) (bound : ℕ) → IsSoundRow buffer bound nodes depth → AllSound buffer bound old →
       IsSoundRow buffer bound rest depth × AllSound buffer bound tasks
 
--- the task of one node more
+-- The task of one more node was pushed.
 module _ (new mid old : List Task) (nodes rest : List Node) (before : Bor (List Node)) (node : Node) (parts : Bor (List Node)) (first : Bool) (depth : ℕ) (leads : Bool)
     (is : IsLast rest before.now node parts.now) (e : new ≡ mid ++ task.One node.head parts leads depth ∷ []) where
   pieces_put : leads ≡ (first && eqb (length before.now) 0) → (form : Form) (nesting : ℕ) (buffer : List ℕ) →
@@ -133,7 +133,7 @@ module _ (new mid old : List Task) (nodes rest : List Node) (before : Bor (List 
         sound = λ buffer bound row h. let s = so.sound buffer bound row h in sound_put buffer bound s.0 s.1;
       }
 
--- once no node is left
+-- If no node is left, the tasks of the whole row were pushed.
 module _ (tasks old : List Task) (nodes rest : List Node) (first : Bool) (depth : ℕ) (none : rest ≡ []) (so : IsPut tasks old nodes rest first depth) where
   pub pieces_all_put : StacksRow nodes first depth old tasks
   pieces_all_put form nesting buffer =
@@ -143,7 +143,7 @@ module _ (tasks old : List Task) (nodes rest : List Node) (first : Bool) (depth 
   pub sound_all_put : KeepsSoundRow nodes depth old tasks
   sound_all_put buffer bound row h = (so.sound buffer bound row h).1
 
--- the tasks of what a node holds: those of the row are put on top of the closing one
+-- The tasks of the nodes that a node holds were pushed after the task that closes the node.
 module _ (new mid old : List Task) (head : NodeText) (held : Bor (List Node)) (leads : Bool) (depth : ℕ) (e : mid ≡ old ++ task.Close ∷ []) where
   pub pieces_one : StacksRow held.now false (depth + 1) mid new → StacksRest (task.One head held leads depth) old new
   pieces_one row form nesting buffer =
@@ -159,7 +159,7 @@ module _ (new mid old : List Task) (head : NodeText) (held : Bor (List Node)) (l
   sound_one put buffer bound is h =
       put buffer bound is.1 (subst (AllSound buffer bound) (sym e) (AllSound-append buffer bound old (task.Close ∷ []) h (tt, tt)))
 
--- ---- the top of a stack
+-- ---- The top of a stack
 
 module _ (all rest : List Task) (t : Task) (e : all ≡ rest ++ t ∷ []) where
   pub pieces_top : (form : Form) (nesting : ℕ) (buffer : List ℕ) →

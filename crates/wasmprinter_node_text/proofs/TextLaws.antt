@@ -1,4 +1,4 @@
--- What calls make of a buffer of texts: it grows by their text, with the sequences of their styles where they are wanted.
+-- The effect of calls on a buffer of texts: it grows by their text, with escape sequences if texts contain them.
 use Rattle.std.proofs.Common.{◌≡◌, ℕ, Bool, true, false, List, [], ◌∷◌, ◌++◌, refl, sym, ◌∙◌, ap, ap₂, subst, append_assoc, ltb, ◌<◌, true≢false, if◌then◌else◌}
 use Rattle.std.proofs.lemmas.List.{append-nil}
 use Rattle.std.proofs.lemmas.Str.{IsUtf8-append, IsUtf8-nil, IsUtf8-from_ascii}
@@ -21,16 +21,16 @@ use Rattle.wasmprinter_spec.specs.Piece.{Piece, all_calls}
 use Rattle.wasmprinter_node_text.specs.declared.semicolons.Semicolons.{Semicolons}
 use Rattle.wasmprinter_node_text.specs.Buffers.{View, see, see_all, with_text, with_sequences, view_after, IsTextual, texts_meaning, GrowsText}
 
--- ---- text of lists of calls
+-- ---- The text of lists of calls
 
--- calls that differ only in how text is cut have one text, also with the sequences of their styles
+-- Calls that differ only in how text is cut have the same text, with and without escape sequences.
 pub painted_alike : (paints : Bool) (k l : List Call) → atoms k ≡ atoms l → painted_text paints k ≡ painted_text paints l
 painted_alike true k l e = alike_coloured k l e
 painted_alike false k l e = alike_texts k l e
 
--- ---- one call
+-- ---- One call
 
--- what one call adds
+-- The bytes that one call adds.
 abbrev written : Bool → Call → List ℕ
 written true c = coloured_bytes c
 written false c = call_text c
@@ -96,7 +96,7 @@ see_all-append : (x y : List ℕ) (s : Semicolons) → see_all s (x ++ y) ≡ se
 see_all-append [] y s = refl
 see_all-append (b ∷ x) y s = see_all-append x y (see s b)
 
--- whether each byte is ASCII
+-- Whether each byte is ASCII.
 abbrev all_low : List ℕ → Bool
 all_low [] = true
 all_low (b ∷ bs) = if ltb b 128 then all_low bs else false
@@ -136,9 +136,9 @@ written_text false (Line place) h = IsUtf8-nil
 written_text false (Start style) h = IsUtf8-nil
 written_text false (Claim name place bytes answer) h = IsUtf8-nil
 
--- ---- calls one after the other
+-- ---- Several calls
 
--- what calls add to a buffer
+-- The effect of calls on a buffer.
 pub record Adds (old : View) (calls : List Call) (new : View) : Type 0 where
   pub bytes : new.bytes ≡ old.bytes ++ painted_text old.paints calls
   pub paints : new.paints ≡ old.paints
@@ -169,7 +169,7 @@ run_adds : (s : View) (calls : List Call) (t : View) → Run texts_meaning s cal
 run_adds s [] t r = subst (λ (u : View). Adds s [] u) r (adds_none s)
 run_adds s (c ∷ cs) t r = adds_first s t c cs r.1.step.1 (run_adds (view_after s c) cs t (subst (λ (u : View). Run texts_meaning u cs t) r.1.step.0 r.2))
 
--- a layout whose calls were made
+-- The calls of a layout that were all made add their text.
 pub made_adds : (s t : View) (layout : List Call) → Made texts_meaning s t Through layout → Adds s layout t
 made_adds s t layout m =
     let a = run_adds s m.made.calls t m.made.run in
@@ -181,13 +181,13 @@ made_adds s t layout m =
       is_text = subst IsUtf8 same a.is_text;
     }
 
--- a text
+-- A piece of text that was written adds that text.
 pub text_adds : (s t : View) (text : List ℕ) → IsUtf8 text → t ≡ with_text s text → Adds s (Text text ∷ []) t
 text_adds s t text u e = run_adds s (Text text ∷ []) t (t, record { step = (e, u); kept = refl }, refl)
 
--- ---- what stays, whether the calls succeeded or not
+-- ---- What is kept, whether or not the calls succeed
 
--- bytes are added alone, and with or without sequences as before
+-- The buffer only gained UTF-8, and the choice of escape sequences is unchanged.
 pub record Keeps (old new : View) : Type 0 where
   pub paints : new.paints ≡ old.paints
   pub grows : GrowsText old.bytes new.bytes
@@ -200,9 +200,9 @@ made_keeps s t layout (Ok x) m = adds_keeps s t m.made.calls (run_adds s m.made.
 made_keeps s t layout (Err e) m =
     subst (λ (u : View). Keeps s u) (sym m.made.failed.left.1) (adds_keeps s m.made.before m.made.calls (run_adds s m.made.calls m.made.before m.made.run))
 
--- ---- pieces, where the first error is passed along
+-- ---- Pieces, where the first error is recorded and passed along
 
--- what was put at a text that had no error, whether or not it has one then
+-- Without an error before, the calls of the pieces were made, up to a call that failed, if one did.
 put_so : (a t : View) (d f : Option IoError) (ps : List Piece) → Marks texts_meaning a d t f ps → d ≡ None → Made texts_meaning a t (end_behind f) (all_calls defaults ps)
 put_so a t None f ps v n = written_calls texts_meaning (v.under defaults).marked
 put_so a t (Some x) f ps v n = cc
@@ -215,7 +215,7 @@ pub put_keeps : (a t : View) (d f : Option IoError) (ps : List Piece) → Marks 
 put_keeps a t d f ps v n =
     made_keeps a t (all_calls defaults ps) (answer_of f) (subst (λ (e : Ending). Made texts_meaning a t e (all_calls defaults ps)) (ending_of f) (put_so a t d f ps v n))
 
--- all of it
+-- Without an error before or after, all calls of the pieces were made.
 pub put_whole : (a t : View) (d f : Option IoError) (ps : List Piece) → Marks texts_meaning a d t f ps → d ≡ None → is_some f ≡ false → Made texts_meaning a t Through (all_calls defaults ps)
 put_whole a t d None ps v n h = put_so a t d None ps v n
 put_whole a t d (Some x) ps v n h = absurd (true≢false h)

@@ -1,4 +1,4 @@
--- The texts of nodes in one buffer, as a printer: what calls make of it.
+-- The texts of nodes in one buffer, as a printer: the effect of calls on it.
 use Rattle.std.specs.Prelude.{◌≡◌, ℕ, ◌==◌, ◌&&◌, ◌||◌, List, [], ◌∷◌, ◌++◌, Bool, true, false, None, IsUtf8}
 use Rattle.std.specs.IoError.{error_kind}
 use Rattle.std.specs.declared.io.ErrorKind.TheVariants.{OutOfMemory}
@@ -7,39 +7,40 @@ use Rattle.wasmprinter_spec.specs.Coloured.{coloured_bytes}
 use Rattle.wasmprinter_spec.specs.Meaning.{Meaning}
 use Rattle.wasmprinter_node_text.specs.declared.semicolons.Semicolons.{Semicolons}
 
--- the texts, whether the sequences of styles are among them, and what was seen of semicolons since the last text began, sequences left out
+-- The texts; whether they contain escape sequences; and the semicolons seen since the last text began, without
+-- escape sequences.
 pub record View : Type 0 where
   pub bytes : List ℕ
   pub paints : Bool
   pub seen : Semicolons
 
--- nothing was read
+-- The state before any text.
 abbrev pub no_semicolons : Semicolons
 no_semicolons = record { last = false; double = false }
 
--- one byte more
+-- The state after one more byte.
 abbrev pub see : Semicolons → ℕ → Semicolons
 see s b = record { last = b == 59; double = s.double || (s.last && (b == 59)) }
 
--- bytes, one after the other
+-- The state after bytes.
 abbrev pub see_all : Semicolons → List ℕ → Semicolons
 see_all s [] = s
 see_all s (b ∷ bs) = see_all (see s b) bs
 
--- a buffer in which the next text begins
+-- The buffer at the start of the next text.
 abbrev pub with_text_begun : View → View
 with_text_begun v = record { bytes = v.bytes; paints = v.paints; seen = no_semicolons }
 
--- a piece of text is added
+-- The buffer with one more piece of text.
 abbrev pub with_text : View → List ℕ → View
 with_text v s = record { bytes = v.bytes ++ s; paints = v.paints; seen = see_all v.seen s }
 
--- sequences are added, where they are wanted
+-- The buffer with escape sequences added, if texts contain them.
 abbrev pub with_sequences : Bool → View → List ℕ → View
 with_sequences true v s = record { bytes = v.bytes ++ s; paints = v.paints; seen = v.seen }
 with_sequences false v s = v
 
--- what a call makes of a buffer
+-- The buffer after a call.
 abbrev pub view_after : View → Call → View
 view_after v (Text s) = with_text v s
 view_after v Newline = with_text v (10 ∷ [])
@@ -47,7 +48,7 @@ view_after v (Line place) = v
 view_after v (Start style) = with_sequences v.paints v (coloured_bytes (Start style))
 view_after v (Claim name place bytes answer) = v
 
--- what a call hands over is text, and no custom section is taken
+-- Bytes that a call passes are UTF-8, and a custom section is not claimed.
 abbrev pub IsTextual : Call → Type 0
 IsTextual (Text s) = IsUtf8 s
 IsTextual Newline = Unit {0}
@@ -55,7 +56,8 @@ IsTextual (Line place) = Unit {0}
 IsTextual (Start style) = Unit {0}
 IsTextual (Claim name place bytes answer) = answer ≡ false
 
--- the meaning of a buffer: only what may write text can fail, and a call that fails wants memory, and leaves it as it was
+-- The meaning of a buffer: only calls that may write text can fail. A call that fails reports that memory ran out
+-- and leaves the buffer as it was.
 abbrev pub texts_meaning : Meaning View
 texts_meaning = record {
   after = λ old call new. (new ≡ view_after old call) × IsTextual call;
@@ -64,7 +66,7 @@ texts_meaning = record {
   faults = λ v. None;
 }
 
--- new bytes are old ones and text behind them
+-- The new bytes are the old ones followed by UTF-8.
 pub record GrowsText (old new : List ℕ) : Type 0 where
   pub more : List ℕ
   pub parts : new ≡ old ++ more

@@ -1,4 +1,4 @@
--- What is printed of a node in front of the nodes that it holds, and the layout of nodes by it.
+-- The text of a node before the nodes that it holds, and the layout of nodes in terms of it.
 use Rattle.std.specs.Prelude.{◌≡◌, ℕ, ◌+◌, ◌-◌, ◌&&◌, List, [], ◌∷◌, ◌++◌, length, take, drop, Bool, true, false, Option, Some, None, option_map, IsUtf8}
 use Rattle.std.specs.Option.{is_none}
 use Rattle.wasmprinter_spec.specs.Call.{Call, text_of}
@@ -10,30 +10,32 @@ use Rattle.wasmprinter_spec.specs.Folding.Tree.{Head, NodesOf, Nil, Snoc, is_nil
 use Rattle.wasmprinter_nodes.specs.declared.NodeText.{NodeText}
 use Rattle.wasmprinter_nodes.specs.Heads.{AllNodes}
 
--- its place, whether its branch is hinted as taken, its text, and whether that holds a comment up to the end of the line
+-- The place of a node, whether its branch is hinted as taken, its text, and whether that contains two consecutive
+-- semicolons, which may begin a line comment.
 pub record Shown : Type 0 where
   pub place : ℕ
   pub hint : Option Bool
   pub text : List ℕ
   pub comment : Bool
 
--- by its place, its hint, whether styles are in the text, and the calls of its text
+-- The text of a node, given its place, its hint, whether texts contain escape sequences, and the calls of its
+-- text.
 abbrev pub shown_of_calls : ℕ → Option Bool → Bool → List Call → Shown
 shown_of_calls place hint paints cs =
     record { place = place; hint = hint; text = painted_text paints cs; comment = has_line_comment (text_of cs) }
 
--- what is printed of a node with this head
+-- The text of a node with this head of the definitions.
 abbrev pub shown_head : Bool → Head → Shown
 shown_head paints h = shown_of_calls (head_place h) (option_map (λ x. x.value.taken) (head_hint h)) paints (head_calls defaults h)
 
--- what is printed of a node with this head, its text taken from the buffer of texts
+-- The text of a node with this head of the program, taken from the buffer of texts.
 abbrev pub shown_of_head : List ℕ → NodeText → Shown
 shown_of_head buffer l =
     record { place = l.place; hint = l.hint; text = take (l.stop - l.start) (drop l.start buffer); comment = l.comment }
 
--- ---- where the texts lie
+-- ---- The positions of the texts
 
--- the text of a head lies in the buffer, between whole characters
+-- The text of a head is in the buffer, between whole characters.
 pub record IsIn (buffer : List ℕ) (l : NodeText) : Type 0 where
   pub before : List ℕ
   pub text : List ℕ
@@ -44,34 +46,35 @@ pub record IsIn (buffer : List ℕ) (l : NodeText) : Type 0 where
   pub is_text : IsUtf8 text
   pub is_rest : IsUtf8 after
 
--- the same of the head of each node
+-- The text of each node's head is in the buffer, between whole characters.
 abbrev pub AreIn : List ℕ → NodesOf NodeText → Type 0
 AreIn buffer f = AllNodes (IsIn buffer) f
 
--- ---- the layout
+-- ---- The layout
 
--- a hint stands in front of its node as a node would, and in its place
+-- The pieces of a hint, which comes directly before its node, with the same line break or space before it and the
+-- same place.
 abbrev pub shown_hint : Form → Bool → ℕ → ℕ → Option Bool → List Piece
 shown_hint form first place nesting None = []
 shown_hint form first place nesting (Some taken) = before_word form first place nesting ++ Word (text defaults (HintNote taken)) ∷ []
 
--- The parenthesis that closes a node must not stand in a comment that goes up to the end of the line.
+-- The closing parenthesis of a node must not be part of a line comment.
 abbrev pub comment_break : Bool → Bool → ℕ → ℕ → List Piece
 comment_break true true place nesting = Break (Some place) nesting ∷ []
 comment_break _ _ place nesting = []
 
--- what is printed of a node before the nodes that it holds
+-- The pieces of a node before the nodes that it holds.
 abbrev pub node_front : Form → Bool → Bool → ℕ → Shown → List Piece
 node_front form leads leaf nesting s =
     shown_hint form leads s.place nesting s.hint
     ++ (before_word form (leads && is_none s.hint) s.place nesting ++ (OpenPlain s.text ∷ comment_break leaf s.comment s.place nesting))
 
--- whether a line begins there
+-- Whether a line begins in the pieces of a node before the nodes that it holds.
 abbrev pub begins_line : Form → Bool → Bool → Bool
 begins_line OverLines leaf comment = true
 begins_line InLine leaf comment = leaf && comment
 
--- nodes in a row, nested so deep, as the first of their line or behind something
+-- The pieces of a row of nodes at a nesting depth. `first` says whether the row is the first of its line.
 unfoldable pub row_pieces : Form → Bool → ℕ → NodesOf Shown → List Piece
 row_pieces form first nesting Nil = []
 row_pieces form first nesting (Snoc before s results held) =

@@ -1,4 +1,4 @@
-//! The texts of nodes in one buffer, and nodes written to any printer without recursion.
+//! The texts of nodes in one buffer, and a function that writes nodes to any printer without recursion.
 #![tactic(auto)]
 
 pub mod rows;

@@ -1,4 +1,4 @@
-//! Nodes written to any printer, without recursion.
+//! Writing nodes to any printer without recursion.
 ghost use Rattle.std.specs.Prelude.{◌≡◌, ◌+◌, ◌&&◌, ◌||◌, [], ◌∷◌, ℕ, true, Some};
 ghost use Rattle.std.specs.Option.{is_none};
 ghost use Rattle.wasmprinter_spec.specs.Options.{defaults};
@@ -25,7 +25,7 @@ use wasmprinter_print::{Fault, Print};
 use wasmprinter_words::hints::hint_text;
 use wasmprinter_words::words::{put_open_plain, put_shut, put_word};
 
-/// The text of a head.
+/// Returns the text of a head.
 fn text_of_head<'t>(text: &'t str, head: &NodeText) -> &'t str
     requires { IsIn text.now head.now }
     ensures { result.now ≡ (shown_of_head text.now head.now).text }
@@ -33,20 +33,20 @@ fn text_of_head<'t>(text: &'t str, head: &NodeText) -> &'t str
     &text[head.start..head.stop]
 }
 
-/// Where a node stands.
+/// The position of a node in the text.
 #[derive(Clone, Copy)]
 struct Spot {
-    /// Over lines or in one line.
+    /// Whether nodes are written over lines or in one line.
     form: Form,
-    /// The place of what it stands for.
+    /// The place of the node: a byte offset from the start of the module.
     place: u64,
-    /// How deep the nodes are nested among which it stands.
+    /// The nesting depth of the list of nodes.
     nesting: u64,
-    /// By how many nodes it is nested deeper.
+    /// The number of nodes of the list around this one.
     depth: u64,
 }
 
-/// Writes what stands before a node or its hint.
+/// Writes the line break or space before a node or its hint.
 fn put_before_node<P: Print>(
     p: &mut P,
     fault: &mut Fault,
@@ -76,7 +76,7 @@ fn put_note<P: Print>(p: &mut P, fault: &mut Fault, taken: bool)
     put_word(p, fault, hint_text(taken));
 }
 
-/// Writes the hint of a node in front of it, if there is one.
+/// Writes the hint of a node, if there is one.
 fn put_hint<P: Print>(
     p: &mut P,
     fault: &mut Fault,
@@ -94,7 +94,7 @@ fn put_hint<P: Print>(
     }
 }
 
-/// Writes the parenthesis and the text of a node.
+/// Writes the opening parenthesis and the text of a node.
 fn put_node_text<P: Print>(p: &mut P, fault: &mut Fault, text: &str, head: &NodeText)
     requires { IsIn text.now head.now }
     ensures { Marks P.meaning p.old fault.old p.new fault.new (OpenPlain (shown_of_head text.now head.now).text ∷ []) }
@@ -102,7 +102,7 @@ fn put_node_text<P: Print>(p: &mut P, fault: &mut Fault, text: &str, head: &Node
     put_open_plain(p, fault, text_of_head(text, head));
 }
 
-/// Ends the line behind a text with a comment up to the end of the line, where a parenthesis would follow.
+/// Ends the line after a text that may contain a line comment if the closing parenthesis would follow directly.
 fn put_comment_end<P: Print>(
     p: &mut P,
     fault: &mut Fault,
@@ -119,7 +119,7 @@ fn put_comment_end<P: Print>(
     }
 }
 
-/// Whether a node stands first, with no hint before it.
+/// Reports whether a node comes first and has no hint before it.
 fn leads_unhinted(leads: bool, hint: Option<bool>) -> bool
     ensures { result ≡ (leads && is_none hint) }
 {
@@ -149,7 +149,7 @@ fn put_node<P: Print>(
     put_comment_end(p, fault, options, spot, leaf, head.comment);
 }
 
-/// Whether a line begins in a node before the nodes that it holds.
+/// Reports whether a line begins in a node before the nodes that it holds.
 fn begins_line(form: Form, leaf: bool, comment: bool) -> bool
     ensures { result ≡ begins (form_view form) leaf comment }
 {
@@ -159,7 +159,7 @@ fn begins_line(form: Form, leaf: bool, comment: bool) -> bool
     }
 }
 
-/// Writes what comes first of a task, and tells whether a line began.
+/// Writes the front of a task and returns whether a line began.
 fn put_front<P: Print>(
     p: &mut P,
     fault: &mut Fault,
@@ -194,18 +194,18 @@ fn put_front<P: Print>(
     }
 }
 
-/// Whether a line began before or just now.
+/// Reports whether a line began before or just now.
 fn either(before: bool, now: bool) -> bool
     ensures { result ≡ (before || now) }
 {
     before || now
 }
 
-/// Writes nodes, nested so deep, with their texts from `text`, and tells whether a line began.
+/// Writes nodes at nesting depth `nesting`, with their texts from `text`, and returns whether a line began.
 ///
 /// # Errors
 ///
-/// Those of the printer, and where memory is refused to what is still to be written.
+/// Returns the printer's error if a call failed, or an error if an allocation fails.
 pub fn write_nodes<P: Print>(
     alloc: Global,
     p: &mut P,

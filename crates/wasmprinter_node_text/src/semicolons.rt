@@ -1,24 +1,24 @@
-//! Whether two semicolons follow one another in a text, which comes in pieces: they begin a comment up to the end of the line (section 6.2,
+//! Detects two consecutive semicolons in a text that arrives in pieces. They may begin a line comment (section 6.2,
 //! "Comments").
 ghost use Rattle.std.specs.Prelude.{◌≡◌};
 ghost use Rattle.wasmprinter_node_text.specs.Buffers.{see_all};
 
-/// What was seen of semicolons in a text so far.
+/// The semicolons seen in a text so far.
 #[derive(Clone, Copy, Debug)]
 pub struct Semicolons {
-    /// The last byte is one.
+    /// Whether the last byte is a semicolon.
     pub last: bool,
-    /// Two have followed one another.
+    /// Whether two consecutive semicolons occurred.
     pub double: bool,
 }
 
-/// Nothing was read.
+/// The state before any text.
 pub const UNSEEN: Semicolons = Semicolons {
     last: false,
     double: false,
 };
 
-/// A piece of text more.
+/// Returns the state after one more piece of text.
 pub fn see_text(seen: Semicolons, text: &str) -> Semicolons
     ensures { result ≡ see_all seen text.now }
 {

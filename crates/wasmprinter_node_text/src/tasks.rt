@@ -1,4 +1,4 @@
-//! What is still to be written of nodes.
+//! The stack of tasks: the parts of nodes that are still to be written.
 ghost use Rattle.std.specs.Prelude.{◌≡◌, ℕ, ◌+◌, ◌*◌, ◌≤◌, ◌<◌, ◌^◌, ◌&&◌, ◌==◌, List, length, IsOk, OnOk, OnErr, false};
 ghost use Rattle.std.specs.Vec.{vec_len, vec_capacity};
 ghost use Rattle.wasmprinter_nodes.specs.Postorder.{IsPostorder};
@@ -7,29 +7,30 @@ ghost use Rattle.wasmprinter_node_text.specs.Tasks.{StacksRow, StacksRest, Keeps
 use std::alloc::AllocError;
 use wasmprinter_nodes::{Node, NodeText, last_group};
 
-/// A task.
+/// A part of nodes that is still to be written.
 #[derive(Clone, Copy, Debug, Drop)]
 pub enum Task<'a> {
-    /// A row of nodes, nested so much deeper: the first of their line or behind something.
+    /// A row of nodes, whether it is the first of its line, and the number of nodes around it.
     Row(&'a [Node], bool, u64),
-    /// One node, with the nodes that it holds: the first of its line or behind something.
+    /// One node by its head and the nodes that it holds, whether it is the first of its line, and the number of nodes
+    /// around it.
     One(NodeText, &'a [Node], bool, u64),
     /// The parenthesis that closes a node.
     Close,
 }
 
-/// Whether a node behind these is the first of its line.
+/// Reports whether a node after `before` is the first of its line.
 fn leads(first: bool, before: &[Node]) -> bool
     ensures { result ≡ (first && (length before.now == 0)) }
 {
     first && before.is_empty()
 }
 
-/// Puts the tasks of a row of nodes on top of the others: one for each node that stands in no other of the row.
+/// Pushes the tasks of a row of nodes: one for each node that is not inside another node of the row.
 ///
 /// # Errors
 ///
-/// If an allocation fails; no memory is allocated if the tasks have room for all nodes of the row.
+/// Returns an error if an allocation fails. No memory is allocated if the stack has room for all nodes of the row.
 fn put_row<'a>(
     tasks: &mut Vec<Task<'a>>,
     nodes: &'a [Node],
@@ -51,12 +52,13 @@ fn put_row<'a>(
     Ok(())
 }
 
-/// Puts the tasks of the nodes that a node holds on top of the others: one for each where there is room for all that it holds, and else
-/// one for their row, so that more memory is asked for only when the row's turn comes.
+/// Pushes the tasks of the nodes that a node holds. If the stack has room for all of them, pushes one task for
+/// each; otherwise pushes one task for their row, so that memory is allocated only when that task is processed.
 ///
 /// # Errors
 ///
-/// If an allocation fails. Memory is allocated only if the tasks are full and the node holds any.
+/// Returns an error if an allocation fails. Memory is allocated only if the stack is full and the node holds any
+/// nodes.
 fn put_held<'a>(tasks: &mut Vec<Task<'a>>, held: &'a [Node], depth: u64) -> Result<(), AllocError>
     requires row { IsPostorder held.now }
     ensures pieces { OnOk result (StacksRow held.now false depth tasks.old.items tasks.new.items) }
@@ -73,11 +75,12 @@ fn put_held<'a>(tasks: &mut Vec<Task<'a>>, held: &'a [Node], depth: u64) -> Resu
     }
 }
 
-/// Puts what is left of a task, once its front is written, on top of the others.
+/// Pushes the rest of a task whose front was written.
 ///
 /// # Errors
 ///
-/// If an allocation fails: some of it may be among the tasks then. Memory is allocated only if the tasks have no room for all of it.
+/// Returns an error if an allocation fails; some of the tasks may then have been pushed. Memory is allocated only
+/// if the stack has no room for all of them.
 pub fn put_rest<'a>(tasks: &mut Vec<Task<'a>>, task: &Task<'a>) -> Result<(), AllocError>
     requires sound { (buffer : List ℕ) × (bound : ℕ) × IsSound buffer bound task.now × (bound < 2 ^ 64) }
     ensures pieces { OnOk result (StacksRest task.now tasks.old.items tasks.new.items) }

@@ -1,4 +1,4 @@
-//! The texts of nodes, one behind the other in one buffer.
+//! The texts of nodes, one after another in one buffer.
 ghost use Rattle.std.specs.Prelude.{◌≡◌, false};
 ghost use Rattle.wasmprinter_node_text.specs.Buffers.{texts_meaning};
 
@@ -17,10 +17,10 @@ use wasmprinter_ops::operator::Operator;
 use wasmprinter_print::{Fault, Print};
 use wasmprinter_text::signature::Signatures;
 
-/// The texts of nodes, one behind the other in one buffer, with the sequences of their styles or without styles.
+/// The texts of nodes, one after another in one buffer, with or without the ANSI escape sequences of their styles.
 ///
-/// As a printer it appends to the last text. It takes no custom section itself. A call that wants memory and gets none fails, and leaves
-/// the buffer as it was.
+/// As a printer it appends to the last text and claims no custom section. A call fails only if an allocation fails,
+/// and then leaves the buffer as it was.
 #[derive(Drop)]
 pub struct Texts {
     text: String,
@@ -48,7 +48,7 @@ impl Texts {
     ghost use Rattle.wasmprinter_node_text.specs.Buffers.{GrowsText, with_text_begun, with_text, with_sequences};
     ghost use Rattle.wasmprinter_node_text.specs.Buffers.{no_semicolons, texts_meaning};
 
-    /// No text; with the sequences of styles, or without. Takes no memory.
+    /// Creates an empty buffer. `paints` says whether texts contain escape sequences. This allocates no memory.
     pub fn new(alloc: Global, paints: bool) -> Texts
         ensures { result ≡ record { bytes = []; paints = paints; seen = no_semicolons } }
     {
@@ -59,7 +59,7 @@ impl Texts {
         }
     }
 
-    /// Leaves all texts out. Their room stays.
+    /// Removes all texts and keeps the capacity.
     pub fn clear(&mut self)
         ensures { self.new ≡ record { bytes = []; paints = self.old.paints; seen = no_semicolons } }
     {
@@ -67,14 +67,14 @@ impl Texts {
         self.seen = UNSEEN;
     }
 
-    /// All texts.
+    /// Returns all texts, joined.
     pub fn as_str(&self) -> &str
         ensures { result.now ≡ self.now.bytes }
     {
         self.text.as_str()
     }
 
-    /// Begins the next text, and tells where.
+    /// Begins the next text and returns the byte offset at which it starts in the buffer.
     fn begin(&mut self) -> usize
         ensures buffer { self.new ≡ with_text_begun self.old }
         ensures start { result ≡ length self.old.bytes }
@@ -93,7 +93,7 @@ impl Texts {
         Ok(())
     }
 
-    /// The head of the last text.
+    /// Returns the head of the last text, which starts at `start`.
     fn head(&self, start: usize, place: u64, hint: Option<bool>) -> NodeText
         ensures { result ≡ record
             { place = place; hint = hint; start = start; stop = length self.now.bytes; comment = self.now.seen.double } }
@@ -128,11 +128,12 @@ impl Texts {
         Ok(())
     }
 
-    /// Writes the text of an operator's node, its word and immediates, where these labels are open in front of it, and gives its head.
+    /// Writes the text of an operator's node, its word and immediates, and returns its head. `labels` are those that
+    /// are open before the operator.
     ///
     /// # Errors
     ///
-    /// Where memory is refused. A beginning of the text then stands behind the others.
+    /// Returns an error if an allocation fails. A prefix of the text then follows the other texts.
     pub fn write_operator<S: Signatures>(
         &mut self,
         setting: &Setting<'_, S>,
@@ -153,11 +154,11 @@ impl Texts {
         Ok(self.head(start, place, hint))
     }
 
-    /// Writes the text of a case of an `if`, its keyword, and gives its head.
+    /// Writes the text of the node of a case of an `if`, which is its keyword, and returns its head.
     ///
     /// # Errors
     ///
-    /// Where memory is refused. The texts are then as they were.
+    /// Returns an error if an allocation fails. The texts are then as they were.
     pub fn write_keyword(&mut self, keyword: &str, place: u64) -> Result<NodeText, AllocError>
         ensures paints { self.new.paints ≡ self.old.paints }
         ensures grows { GrowsText self.old.bytes self.new.bytes }
@@ -170,7 +171,7 @@ impl Texts {
         Ok(self.head(start, place, None))
     }
 
-    /// Appends the sequences of a style, where they are wanted.
+    /// Appends the sequences of a style if texts contain them.
     fn push_sequences(&mut self, sequences: &str) -> Result<(), AllocError>
         ensures ok { OnOk result (self.new ≡ with_sequences self.old.paints self.old sequences.now) }
         ensures err { OnErr result (self.new ≡ self.old) }

@@ -1,4 +1,4 @@
--- What holds of all that stands first in nodes goes on to hold; and a map asks no more than what it gives for these.
+-- A property of all heads is kept by each step, and two maps that agree on all heads give the same nodes.
 use Rattle.std.proofs.Common.{◌≡◌, ℕ, refl, subst}
 use Rattle.wasmprinter_spec.specs.Folding.Tree.{NodesOf, Nil, Snoc, row_of_both, front, last, OperandsOf, Fit, Passed, Short, operand_search, with_operands}
 use Rattle.wasmprinter_spec.proofs.Folding.{AreLast, AreLast-operand_search}
@@ -65,7 +65,7 @@ module _ {H : Type 0} (P Q : H → Type 0) (weaker : (x : H) → P x → Q x) wh
   pub AllState-weaker : (s : StateOf H) → AllState P s → AllState Q s
   AllState-weaker s h = (AllOpen-weaker s.outer h.0, AllNodes-weaker s.groups h.1)
 
--- two maps that give the same for all of these
+-- Two maps that agree on all heads give the same result.
 module _ {H K : Type 0} (v w : H → K) where
   pub map_nodes-same : (f : NodesOf H) → AllNodes (λ x. v x ≡ w x) f → map_nodes v f ≡ map_nodes w f
   map_nodes-same Nil h = refl
@@ -82,7 +82,7 @@ module _ {H K : Type 0} (v w : H → K) where
   pub map_state-same : (s : StateOf H) → AllState (λ x. v x ≡ w x) s → map_state v s ≡ map_state w s
   map_state-same s h = rw (map_open-same s.outer h.0, map_nodes-same s.groups h.1) refl
 
--- one map after another
+-- Mapping twice is mapping by the composed map.
 module _ {H K L : Type 0} (v : H → K) (w : K → L) where
   pub map_nodes-map : (f : NodesOf H) → map_nodes w (map_nodes v f) ≡ map_nodes (λ x. w (v x)) f
   map_nodes-map Nil = refl

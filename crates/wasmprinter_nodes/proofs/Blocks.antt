@@ -1,4 +1,4 @@
--- What each operator does to the lists.
+-- The effect of each operator on the lists.
 use Rattle.std.proofs.Common.{◌≡◌, ℕ, suc, ◌+◌, ◌-◌, ◌≤◌, List, [], ◌∷◌, ◌++◌, length, drop, refl, sym, ◌∙◌, ap, subst, ◌⊎◌, inl, inr, arith, append_assoc, length-append}
 use Rattle.std.proofs.lemmas.List.{same_from_push, drop_at, append-nil}
 use Rattle.wasmprinter_spec.specs.Folding.Arities.{greatest}
@@ -15,9 +15,9 @@ use Rattle.wasmprinter_nodes.specs.Building.{OpenNodes, Top, InBlock, InThen, In
 use Rattle.wasmprinter_nodes.specs.Frames.{State, base, frame_behind, frames, StandsAt, with_node, with_if}
 use Rattle.wasmprinter_nodes.proofs.Postorders.{forest_of-postorder, length-postorder, postorder-row_of_both, count-row_of_both, IsPostorder-postorder}
 
--- ---- the innermost block
+-- ---- The innermost block
 
--- its frame stands last
+-- The frame t of the innermost block comes after the frames `rest` of the others.
 abbrev pub IsTop : OpenNodes NodeText → List Frame → Frame → Type 0
 IsTop Top rest t = ⊥
 IsTop (InBlock o b x q) rest t = (rest ≡ frames o) × (t ≡ frame_behind (base o ++ postorder b) [] arm.Block x q)
@@ -30,7 +30,7 @@ is_top (InBlock o b x q) rest t e = let p = same_from_push _ _ _ _ e in (sym p.0
 is_top (InThen o b d x y q) rest t e = let p = same_from_push _ _ _ _ e in (sym p.0, sym p.1)
 is_top (InElse o b d x y q) rest t e = let p = same_from_push _ _ _ _ e in (sym p.0, sym p.1)
 
--- where the nodes of the open part begin
+-- The start of the innermost frame is the number of nodes before those of the open part.
 start-top : (o : OpenNodes NodeText) (rest : List Frame) (t : Frame) → IsTop o rest t → t.start ≡ length (base o)
 start-top Top rest t h = absurd h
 start-top (InBlock o b x q) rest t h =
@@ -50,9 +50,9 @@ length-frames (InElse o b d x y q) e = absurd (omega (arith, e, length-append {A
 pub start_none : (o : OpenNodes NodeText) (all : List Frame) → all ≡ frames o → length all ≡ 0 → 0 ≡ length (base o)
 start_none o all e h = sym (length-frames o (sym (ap length e) ∙ h))
 
--- ---- one node more
+-- ---- One more node
 
--- a node that is put behind those that it holds
+-- A node that is added after the nodes that it holds gives the row with that node last.
 wrapped : (before : List Node) (b parts : NodesOf NodeText) (x : NodeText) (r from : ℕ) (nodes : List Node)
     → nodes ≡ (before ++ postorder b) ++ postorder parts → from ≡ length (before ++ postorder b)
     → with_node nodes x r from ≡ before ++ postorder (Snoc b x r parts)
@@ -63,7 +63,7 @@ wrapped before b parts x r from nodes e at =
     ap (λ (n : ℕ). nodes ++ node n ∷ []) size
     ∙ (ap (λ (l : List Node). l ++ node (count parts) ∷ []) e ∙ simp append_assoc)
 
--- the nodes of the open part as a row of their own
+-- The nodes of the open part are a row of their own.
 module _ (nodes before : List Node) (f : NodesOf NodeText) (e : nodes ≡ before ++ postorder f) where
   row_is : drop (length before) nodes ≡ postorder f
   row_is = ap (drop (length before)) e ∙ drop_at before (postorder f) (length before) refl
@@ -74,9 +74,9 @@ module _ (nodes before : List Node) (f : NodesOf NodeText) (e : nodes ≡ before
   row_forest : forest_of (drop (length before) nodes) ≡ f
   row_forest = ap forest_of row_is ∙ forest_of-postorder f
 
--- ---- a plain operator
+-- ---- A plain operator
 
--- wherever its operands begin
+-- Wherever its operands begin, adding a plain operator gives the row with that operator and its operands.
 placed : (nodes before : List Node) (f : NodesOf NodeText) (x : NodeText) (gives from results : ℕ) (o : OperandsOf NodeText)
     → AreLast f o → nodes ≡ before ++ postorder f
     → IsPlace (length before) (length nodes) gives (outcome o) from results
@@ -126,7 +126,7 @@ module _ (nodes : List Node) (blocks : List Frame) (s : State) (h : StandsAt nod
         open_blocks = h.open_blocks;
       }
 
--- ---- the beginning of a block
+-- ---- Opening a block
 
 pub opens_block : (nodes : List Node) (blocks : List Frame) (s : State) → StandsAt nodes blocks s
     → (start gives : ℕ) (x : NodeText) → start ≡ length nodes → (new : List Frame)
@@ -172,7 +172,7 @@ opens_if nodes blocks s h outer from start gives x y begins at here new e =
           ∙ ap (λ (n : ℕ). frames s.outer ++ frame (length (base s.outer ++ postorder (front g))) n ∷ []) (here ∙ ap length split)));
     }
 
--- ---- the end of a block, and an `else`
+-- ---- The end of a block, and an `else`
 
 pub record ClosesBlock (nodes : List Node) (rest : List Frame) (t : Frame) (s : State) : Type 0 where
   pub fits : t.from ≤ length nodes
@@ -227,7 +227,7 @@ Turned-at o b d f x y z q nodes e =
           };
     }
 
--- by the frame that was last
+-- If the innermost frame is that of a block without cases, closing it gives the state after an `end`.
 block_top : (o : OpenNodes NodeText) (f : NodesOf NodeText) (nodes : List Node) (rest : List Frame) (t : Frame)
     → nodes ≡ base o ++ postorder f → IsTop o rest t → t.arm ≡ arm.Block → ClosesBlock nodes rest t (state_after_end o f)
 block_top Top f nodes rest t e h a = absurd h

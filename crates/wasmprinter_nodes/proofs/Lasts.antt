@@ -67,7 +67,7 @@ module _ (row rest : List Node) (node : Node) (h : IsPostorder row) (e : row ≡
             omega (arith, ap length e, length-append rest (node ∷ []), lengths_of, ap length b, ap length p, length-postorder last_of.before, length-postorder last_of.parts);
       }
 
--- where the last node begins
+-- The length of the row before the last node is the number of nodes before it, at every depth.
 pub front_count : (row before : List Node) (node : Node) (parts : List Node) → IsLast row before node parts
     → length before ≡ count (front (forest_of row))
 front_count row before node parts is =

@@ -1,4 +1,4 @@
--- The steps of the builder take no notice of what stands first in a node.
+-- The steps of the builder do not depend on the heads of nodes.
 use Rattle.std.proofs.Common.{◌≡◌, ℕ, zero, suc, List, [], ◌∷◌, map, refl, sym, ◌∙◌, ap, Bool, true, false, cond, ltb, eqb}
 use Rattle.wasmprinter_spec.specs.Folding.Arities.{saturating_sum}
 use Rattle.wasmprinter_spec.specs.Folding.Tree.{NodesOf, Nil, Snoc, front, last, OperandsOf, Fit, Passed, Short, with_last, operands_from, operand_search, with_operands}
@@ -46,7 +46,7 @@ module _ {H K : Type 0} (v : H → K) where
   with_operands-map f h gives Passed = refl
   with_operands-map f h gives Short = refl
 
-  -- an operator with its operands
+  -- Adding an operator with its operands commutes with a map of heads.
   pub folded-map : (f : NodesOf H) (h : H) (takes gives : ℕ)
       → with_operands (map_nodes v f) (v h) gives (operand_search takes (map_nodes v f)) ≡ map_nodes v (with_operands f h gives (operand_search takes f))
   folded-map f h takes gives =

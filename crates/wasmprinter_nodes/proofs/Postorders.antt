@@ -1,4 +1,4 @@
--- Nodes, and the lists that stand for them.
+-- Nodes and the lists that represent them.
 use Rattle.std.proofs.Common.{◌≡◌, ℕ, suc, ◌+◌, ◌-◌, List, [], ◌∷◌, ◌++◌, length, refl, sym, ◌∙◌, ap, arith, append_assoc, length-append}
 use Rattle.std.proofs.lemmas.List.{append-nil}
 use Rattle.wasmprinter_spec.specs.Folding.Tree.{NodesOf, Nil, Snoc, row_of_both, count}
@@ -26,7 +26,7 @@ parts_at_last-row_of_both b (Snoc rest h r parts) =
     let e : (count rest + count parts) - count parts ≡ count rest = omega arith in
     rw (e, parts_at_last-row_of_both b rest) refl
 
--- a node whose size counts the last nodes and itself
+-- A node whose size counts the last nodes and itself holds these nodes.
 grow-row_of_both : (b parts : NodesOf NodeText) (h : NodeText) (r : ℕ) → grow (row_of_both b parts) (record { head = h; results = r; size = suc (count parts) }) ≡ Snoc b h r parts
 grow-row_of_both b parts h r =
     let e : suc (count parts) - 1 ≡ count parts = omega arith in

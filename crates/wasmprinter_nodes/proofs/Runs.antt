@@ -1,4 +1,4 @@
--- A whole list of operators.
+-- The steps of a whole list of operators.
 use Rattle.std.proofs.Common.{◌≡◌, List, [], ◌∷◌, ◌++◌, map, refl, sym, ◌∙◌, ap, subst}
 use Rattle.wasmprinter_spec.specs.Row as row
 use Rattle.wasmprinter_spec.specs.Folding.Code.{Item, NestedCode, Done, Plain, Block, If, IfElse, flat, role, IsFit}
@@ -13,9 +13,9 @@ use Rattle.wasmprinter_nodes.specs.Frames.{State, base, StandsAt}
 use Rattle.wasmprinter_nodes.proofs.Postorders.{postorder-row_of_both, forest_of-postorder, IsPostorder-postorder}
 use Rattle.wasmprinter_nodes.proofs.Maps.{front-map, last-map, folded-map}
 
--- ---- the nodes of a state
+-- ---- The nodes of a state
 
--- the nodes of all open parts, one row behind another
+-- The nodes before those of the open part, one row after another.
 abbrev pub base_row : OpenNodes NodeText → NodesOf NodeText
 base_row Top = Nil
 base_row (InBlock o b x q) = row_of_both (base_row o) b
@@ -35,7 +35,7 @@ postorder-base_row (InElse o b d x y q) =
     ∙ (ap (λ (l : List Node). l ++ postorder d) (sym (postorder-row_of_both (base_row o) b))
     ∙ sym (postorder-row_of_both (row_of_both (base_row o) b) d))
 
--- whatever blocks are open, the list stands for nodes
+-- The list represents nodes, whatever blocks are open.
 pub stands_whole : (nodes : List Node) (blocks : List Frame) (s : State) → StandsAt nodes blocks s → IsPostorder nodes
 stands_whole nodes blocks s h =
     subst IsPostorder
@@ -45,13 +45,13 @@ stands_whole nodes blocks s h =
     ∙ sym (postorder-row_of_both (base_row s.outer) s.groups))))
     (IsPostorder-postorder (row_of_both (base_row s.outer) s.groups))
 
--- where no block is open, it stands for those of the state
+-- If no block is open, the list represents the nodes of the state.
 pub stands_closed : (nodes : List Node) (blocks : List Frame) (s : State) → StandsAt nodes blocks s → s.outer ≡ Top
     → forest_of nodes ≡ s.groups
 stands_closed nodes blocks s h e =
     ap forest_of (h.rows ∙ ap (λ (o : OpenNodes NodeText). base o ++ postorder s.groups) e) ∙ forest_of-postorder s.groups
 
--- ---- code
+-- ---- Code
 
 module _ {H : Type 0} where
   pub run_all-append : (s : StateOf H) (a b : List (Step H)) → run_all s (a ++ b) ≡ run_all (run_all s a) b
@@ -66,19 +66,19 @@ module _ {H : Type 0} (v : Head → H) where
   steps-append [] b = refl
   steps-append (x ∷ a) b = ap (λ (l : List (Step H)). step_of v (role x) x ∷ l) (steps-append a b)
 
-  -- one item, then others
+  -- The steps of an item and others are the step of the item and then those of the others.
   run-item : (s : StateOf H) (x : Item) (xs : List Item) (r : row.Role) → role x ≡ r
       → run_all s (steps v (x ∷ xs)) ≡ run_all (step s (step_of v r x)) (steps v xs)
   run-item s x xs r e = ap (λ (q : row.Role). run_all (step s (step_of v q x)) (steps v xs)) e
 
-  -- code, then others
+  -- The steps of code and other items are those of the code and then those of the items.
   run-behind : (s t : StateOf H) (code : NestedCode) (xs : List Item) → run_all s (steps v (flat code)) ≡ t
       → run_all s (steps v (flat code ++ xs)) ≡ run_all t (steps v xs)
   run-behind s t code xs e =
       ap (run_all s) (steps-append (flat code) xs)
       ∙ (run_all-append s (steps v (flat code)) (steps v xs) ∙ ap (λ (u : StateOf H). run_all u (steps v xs)) e)
 
-  -- well-nested operators leave the open blocks as they are, and their nodes behind those that were there
+  -- Well-nested operators leave the open blocks unchanged and add their nodes after those that were there.
   pub run-flat : (o : OpenNodes H) (f : Nodes) (code : NestedCode) → IsFit code
       → run_all (state_at o (map_nodes v f)) (steps v (flat code)) ≡ state_at o (map_nodes v (tree_behind f code))
   run-flat o f Done h = refl
@@ -116,11 +116,11 @@ module _ {H : Type 0} (v : Head → H) where
       ∙ (run-item (state_at second (map_nodes v (tree_behind Nil other))) end (flat rest) row.Ends h.4
       ∙ run-flat o (Snoc (front f) (Of x) x.gives (Snoc cases (ElseCase turn) 0 (tree_behind Nil other))) rest h.5))))))
 
-  -- code is folded into its nodes
+  -- From the start, the steps of code build its nodes and leave no block open.
   pub run-tree : (code : NestedCode) → IsFit code → run_all start (steps v (flat code)) ≡ state_at Top (map_nodes v (tree code))
   run-tree code h = run-flat Top Nil code h
 
--- steps with something else first in each node
+-- Steps with other heads.
 module _ {H K : Type 0} (v : Head → H) (w : H → K) where
   pub step_of-map : (r : row.Role) (x : Item) → map_step w (step_of v r x) ≡ step_of (λ h. w (v h)) r x
   step_of-map row.Plain x = refl

@@ -11,7 +11,7 @@ use Rattle.wasmprinter_nodes.specs.Postorder.{forest_of, IsPostorder}
 use Rattle.wasmprinter_nodes.specs.Rows.{IsLast, outcome}
 use Rattle.wasmprinter_nodes.proofs.Postorders.{count-row_of_both, length-postorder, length-row}
 
--- the nodes before the operands are the same, however many nodes stand behind
+-- One more operand at the end does not change the number of nodes before the operands.
 outcome-with_last : (h : NodeText) (r : ℕ) (parts : NodesOf NodeText) (o : OperandsOf NodeText) → outcome (with_last h r parts o) ≡ outcome o
 outcome-with_last h r parts (Fit before run) = refl
 outcome-with_last h r parts Passed = refl
@@ -56,11 +56,11 @@ module _ (takes sum next : ℕ) (row before : List Node) (node : Node) (parts : 
       ∙ cond-false (ltb takes next) Passed deeper (le-ltb takes next le)))
       ∙ outcome-with_last node.head node.results (forest_of parts) (operands_from takes next (forest_of before))
 
--- an empty row has no operands
+-- An empty row has too few results.
 pub found_none : (takes sum : ℕ) (row : List Node) → row ≡ [] → outcome (operands_from takes sum (forest_of row)) ≡ taken.Short
 found_none takes sum row e = ap (λ (r : List Node). outcome (operands_from takes sum (forest_of r))) e
 
--- operands that were found stand in the row
+-- Operands that were found are within the row.
 within : (f : NodesOf NodeText) (o : OperandsOf NodeText) (n : ℕ) → AreLast f o → taken.From n ≡ outcome o → n ≤ count f
 within f (Fit before run) n h e =
     let m : n ≡ count before = cc in

@@ -1,14 +1,14 @@
--- Folding one operator after another: the blocks that are open, and the nodes of the innermost open part. `H`
--- is what stands first in a node.
+-- Folding one operator after another: the blocks that are open, and the nodes of the innermost open part. `H` is
+-- the type of heads: the head is the first part of a node.
 use Rattle.std.specs.Prelude.{ℕ, List, [], ◌∷◌, map}
 use Rattle.wasmprinter_spec.specs.Row as row
 use Rattle.wasmprinter_spec.specs.Row.{Role}
 use Rattle.wasmprinter_spec.specs.Folding.Code.{Item, role}
 use Rattle.wasmprinter_spec.specs.Folding.Tree.{Head, Of, ThenCase, ElseCase, NodesOf, Nil, Snoc, front, last, operand_search, with_operands}
 
--- The open blocks, the innermost first: each with those around it, the nodes before it, what stands first in its node, and its
--- results. An `if` has its predicate too and what stands first in the node of its open case; behind its `else` the node of its
--- `then` stands behind the predicate.
+-- The open blocks, innermost first: each with those around it, the nodes before it, the head of its node, and the
+-- number of its results. An `if` also has its predicate and the head of the node of its open case. After its
+-- `else`, the predicate is followed by the node of its `then`.
 pub data OpenNodes (H : Type 0) : Type 0 where
   Top : OpenNodes H
   InBlock : OpenNodes H → NodesOf H → H → ℕ → OpenNodes H
@@ -19,7 +19,8 @@ pub record StateOf (H : Type 0) : Type 0 where
   pub outer : OpenNodes H
   pub groups : NodesOf H
 
--- an operator: a plain one with the numbers of its operands and results, one that opens a block of so many results, an `else` and an `end`
+-- The step of an operator: a plain one with the numbers of its operands and results, one that opens a block with a
+-- number of results, an `else`, or an `end`.
 pub data Step (H : Type 0) : Type 0 where
   Plain : H → ℕ → ℕ → Step H
   Opens : H → ℕ → Step H
@@ -33,7 +34,7 @@ state_at o f = record { outer = o; groups = f }
 abbrev pub start : {H : Type 0} → StateOf H
 start = state_at Top Nil
 
--- an `else` closes the first case of an `if`, and changes nothing where there is none
+-- The state after an `else`, which closes the first case of an `if`. Without such a case nothing changes.
 abbrev pub state_after_else : {H : Type 0} → H → OpenNodes H → NodesOf H → StateOf H
 state_after_else otherwise Top f = state_at Top f
 state_after_else otherwise (InBlock o before head gives) f = state_at (InBlock o before head gives) f
@@ -41,14 +42,14 @@ state_after_else otherwise (InThen o before cases head case gives) f =
     state_at (InElse o before (Snoc cases case 0 f) head otherwise gives) Nil
 state_after_else otherwise (InElse o before cases head case gives) f = state_at (InElse o before cases head case gives) f
 
--- an `end` closes the innermost block, and changes nothing where there is none
+-- The state after an `end`, which closes the innermost block. Without an open block nothing changes.
 abbrev pub state_after_end : {H : Type 0} → OpenNodes H → NodesOf H → StateOf H
 state_after_end Top f = state_at Top f
 state_after_end (InBlock o before head gives) f = state_at o (Snoc before head gives f)
 state_after_end (InThen o before cases head case gives) f = state_at o (Snoc before head gives (Snoc cases case 0 f))
 state_after_end (InElse o before cases head case gives) f = state_at o (Snoc before head gives (Snoc cases case 0 f))
 
--- one operator more
+-- The state after one more operator.
 abbrev pub step : {H : Type 0} → StateOf H → Step H → StateOf H
 step s (Plain head takes gives) = state_at s.outer (with_operands s.groups head gives (operand_search takes s.groups))
 step s (Opens head gives) = state_at (InBlock s.outer s.groups head gives) Nil
@@ -60,7 +61,8 @@ abbrev pub run_all : {H : Type 0} → StateOf H → List (Step H) → StateOf H
 run_all s [] = s
 run_all s (t ∷ ts) = run_all (step s t) ts
 
--- An operator by its role. Those of the older `try`, which isn't folded, are taken as ends.
+-- The step of an operator, by its role. Operators of legacy exception handling, which are not folded, count as
+-- `end`.
 abbrev pub step_of : {H : Type 0} → (Head → H) → Role → Item → Step H
 step_of f row.Plain x = Plain (f (Of x)) x.takes x.gives
 step_of f row.Opens x = Opens (f (Of x)) x.gives

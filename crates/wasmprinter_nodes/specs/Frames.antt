@@ -1,4 +1,4 @@
--- The lists of a builder, as functions of the state that they stand for.
+-- The lists of a builder, as functions of the state that they represent.
 use Rattle.std.specs.Prelude.{◌≡◌, ℕ, suc, ◌-◌, List, [], ◌∷◌, ◌++◌, length}
 use Rattle.wasmprinter_nodes.specs.declared.NodeText.{NodeText}
 use Rattle.wasmprinter_nodes.specs.declared.Node.{Node}
@@ -12,19 +12,19 @@ use Rattle.wasmprinter_nodes.specs.Building.{OpenNodes, Top, InBlock, InThen, In
 abbrev pub State : Type 0
 State = StateOf NodeText
 
--- the nodes before those of the open part
+-- The nodes before those of the open part.
 abbrev pub base : OpenNodes NodeText → List Node
 base Top = []
 base (InBlock o before head gives) = base o ++ postorder before
 base (InThen o before cases head case gives) = (base o ++ postorder before) ++ postorder cases
 base (InElse o before cases head case gives) = (base o ++ postorder before) ++ postorder cases
 
--- an open block behind these nodes, with the nodes that it holds in front of its open part
+-- The frame of an open block after the nodes `before`. `cases` are the nodes that it holds before its open part.
 abbrev pub frame_behind : List Node → List Node → Arm → NodeText → ℕ → Frame
 frame_behind before cases arm head gives =
     record { arm = arm; head = head; gives = gives; from = length before; start = length (before ++ cases) }
 
--- the open blocks, the innermost last
+-- The frames of the open blocks, innermost last.
 abbrev pub frames : OpenNodes NodeText → List Frame
 frames Top = []
 frames (InBlock o before head gives) = frames o ++ frame_behind (base o ++ postorder before) [] arm.Block head gives ∷ []
@@ -33,7 +33,7 @@ frames (InThen o before cases head case gives) =
 frames (InElse o before cases head case gives) =
     frames o ++ frame_behind (base o ++ postorder before) (postorder cases) (arm.Else case) head gives ∷ []
 
--- the lists are those of this state
+-- The lists represent this state.
 pub record StandsAt (nodes : List Node) (blocks : List Frame) (s : State) : Type 0 where
   pub rows : nodes ≡ base s.outer ++ postorder s.groups
   pub open_blocks : blocks ≡ frames s.outer
@@ -41,10 +41,10 @@ pub record StandsAt (nodes : List Node) (blocks : List Frame) (s : State) : Type
 abbrev pub Stands : Builder → State → Type 0
 Stands b s = StandsAt b.nodes.items b.frames.items s
 
--- with one node more, which holds those from a place on
+-- The list with one more node, which holds all nodes from index `from` on.
 abbrev pub with_node : List Node → NodeText → ℕ → ℕ → List Node
 with_node nodes head results from = nodes ++ record { head = head; results = results; size = suc (length nodes - from) } ∷ []
 
--- with the node of the open case of an `if`, and then that of the `if`
+-- The list with the node of the open case of an `if`, and then the node of the `if`.
 abbrev pub with_if : List Node → NodeText → Frame → List Node
 with_if nodes case frame = with_node (with_node nodes case 0 frame.start) frame.head frame.gives frame.from

@@ -1,4 +1,4 @@
--- What holds of all that stands first in nodes.
+-- Properties of all heads of nodes.
 use Rattle.wasmprinter_spec.specs.Folding.Tree.{NodesOf, Nil, Snoc}
 use Rattle.wasmprinter_nodes.specs.Building.{OpenNodes, Top, InBlock, InThen, InElse, StateOf, Step, Plain, Opens, OpensIf, Turns, Ends}
 

@@ -1,4 +1,4 @@
--- What the contracts of nodes cite.
+-- The definitions that the contracts of nodes cite.
 pub mod Postorder
 pub mod Rows
 pub mod Mapping

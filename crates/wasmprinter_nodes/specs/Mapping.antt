@@ -1,4 +1,4 @@
--- The same nodes, with something else first in each.
+-- The same nodes with other heads.
 use Rattle.wasmprinter_spec.specs.Folding.Tree.{NodesOf, Nil, Snoc, OperandsOf, Fit, Passed, Short}
 use Rattle.wasmprinter_nodes.specs.Building.{OpenNodes, Top, InBlock, InThen, InElse, StateOf, Step, Plain, Opens, OpensIf, Turns, Ends}
 

@@ -1,4 +1,4 @@
--- Nodes as one list, in which each stands behind those that it holds and tells how many nodes end there.
+-- Nodes as one list in postorder: each node comes after those that it holds, and its size counts them and itself.
 use Rattle.std.specs.Prelude.{◌≡◌, ℕ, zero, suc, ◌-◌, List, [], ◌∷◌, ◌++◌}
 use Rattle.wasmprinter_spec.specs.Folding.Tree.{NodesOf, Nil, Snoc, count}
 use Rattle.wasmprinter_nodes.specs.declared.NodeText.{NodeText}
@@ -9,14 +9,14 @@ postorder Nil = []
 postorder (Snoc before head results parts) =
     (postorder before ++ postorder parts) ++ record { head = head; results = results; size = suc (count parts) } ∷ []
 
--- the nodes before the last n, and the last n, where these are whole
+-- The nodes before the last n, and the last n, if the last n include all nodes that they hold.
 abbrev pub parts_at_last : ℕ → NodesOf NodeText → NodesOf NodeText × NodesOf NodeText
 parts_at_last zero f = (f, Nil)
 parts_at_last (suc n) Nil = (Nil, Nil)
 parts_at_last (suc n) (Snoc before head results parts) =
     let c = parts_at_last (n - count parts) before in (c.0, Snoc c.1 head results parts)
 
--- a node holds the last `size - 1` nodes
+-- The nodes with one more node, which holds the last `size - 1` of them.
 abbrev pub grow : NodesOf NodeText → Node → NodesOf NodeText
 grow f n = let c = parts_at_last (n.size - 1) f in Snoc c.0 n.head n.results c.1
 
@@ -24,10 +24,10 @@ abbrev pub grow_all : NodesOf NodeText → List Node → NodesOf NodeText
 grow_all f [] = f
 grow_all f (n ∷ ns) = grow_all (grow f n) ns
 
--- the nodes that a list stands for
+-- The nodes that a list represents.
 abbrev pub forest_of : List Node → NodesOf NodeText
 forest_of ns = grow_all Nil ns
 
--- a list that stands for nodes
+-- The list represents nodes.
 pub record IsPostorder (ns : List Node) : Type 0 where
   pub whole : postorder (forest_of ns) ≡ ns

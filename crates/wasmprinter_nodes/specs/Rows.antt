@@ -1,4 +1,4 @@
--- Rows of nodes as slices, and what is said of them.
+-- Rows of nodes as slices, and the properties that contracts state of them.
 use Rattle.std.specs.Prelude.{◌≡◌, ℕ, suc, ◌+◌, List, length}
 use Rattle.wasmprinter_spec.specs.Folding.Arities.{greatest}
 use Rattle.wasmprinter_spec.specs.Folding.Tree.{Snoc, count, OperandsOf, Fit, Passed, Short}
@@ -8,20 +8,20 @@ use Rattle.wasmprinter_nodes.specs.declared.rows.Taken.{Taken}
 use Rattle.wasmprinter_nodes.specs.declared.rows.Taken.TheVariants as taken
 use Rattle.wasmprinter_nodes.specs.Postorder.{forest_of, IsPostorder}
 
--- the last node of a row, with the nodes before it and those that it holds
+-- The last node of a row, with the nodes before it and those that it holds.
 pub record IsLast (row before : List Node) (node : Node) (parts : List Node) : Type 0 where
   pub whole : forest_of row ≡ Snoc (forest_of before) node.head node.results (forest_of parts)
   pub before_row : IsPostorder before
   pub parts_row : IsPostorder parts
   pub lengths : length row ≡ suc (length before + length parts)
 
--- operands, as the number of nodes before them
+-- The outcome of a search for operands: the number of nodes before them, if they were found.
 abbrev pub outcome : OperandsOf NodeText → Taken
 outcome (Fit before run) = taken.From (count before)
 outcome Passed = taken.Passed
 outcome Short = taken.Short
 
--- where the operands of a plain operator begin in a list, and its results
+-- The index at which the operands of a plain operator begin in a list, and the number of results of its node.
 abbrev pub IsPlace : ℕ → ℕ → ℕ → Taken → ℕ → ℕ → Type 0
 IsPlace start len gives (taken.From n) from results = (from ≡ start + n) × (results ≡ gives)
 IsPlace start len gives taken.Passed from results = (from ≡ len) × (results ≡ greatest)

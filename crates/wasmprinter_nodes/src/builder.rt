@@ -1,4 +1,4 @@
-//! The builder: it folds one operator after another.
+//! The builder, which folds one operator after another.
 ghost use Rattle.std.specs.Prelude.{◌≡◌, ◌≤◌, ◌+◌, length, drop, OnOk};
 ghost use Rattle.wasmprinter_spec.specs.Folding.Tree.{operand_search, front, count};
 ghost use Rattle.wasmprinter_nodes.specs.Postorder.{IsPostorder, forest_of};
@@ -9,43 +9,43 @@ use crate::rows::{Taken, find_operands, last_group};
 use crate::{Node, NodeText};
 use std::alloc::{AllocError, Global};
 
-/// Which part of a block is open.
+/// The part of a block that is open.
 #[derive(Clone, Copy, Debug)]
 pub enum Arm {
-    /// What a block holds that has no cases.
+    /// The content of a block without cases.
     Block,
-    /// The first case of an `if`, whose node has this head.
+    /// The first case of an `if`, with the head of its node.
     Then(NodeText),
-    /// The second case of an `if`, whose node has this head.
+    /// The second case of an `if`, with the head of its node.
     Else(NodeText),
 }
 
 /// An open block.
 #[derive(Clone, Copy, Debug)]
 pub struct Frame {
-    /// Its part that is open.
+    /// The part that is open.
     pub arm: Arm,
-    /// What is printed of its node.
+    /// The text of its node.
     pub head: NodeText,
-    /// How many results it gives.
+    /// The number of its results.
     pub gives: u32,
-    /// Where the nodes begin that the block will hold.
+    /// The index of the first node that the block will hold.
     pub from: usize,
-    /// Where the nodes of its open part begin.
+    /// The index of the first node of its open part.
     pub start: usize,
 }
 
 /// Builds the nodes of a list of operators, one operator after another.
 ///
-/// All nodes stand in one list. No node moves: an operator that takes operands stands behind them, and its size counts them. After an
-/// error the nodes are of no use, until the list is cleared.
+/// All nodes are in one list, and no node is ever moved: an operator is added after its operands, and its size
+/// counts them. After an error the nodes are unusable until the list is cleared.
 #[derive(Drop)]
 pub struct Builder {
     nodes: Vec<Node>,
     frames: Vec<Frame>,
 }
 
-/// Puts a node behind the nodes that it holds, which begin at `from`.
+/// Adds a node that holds the nodes from index `from` on.
 fn wrap(nodes: &mut Vec<Node>, head: NodeText, results: u32, from: usize) -> Result<(), AllocError>
     requires { from ≤ length nodes.old.items }
     ensures { OnOk result (nodes.new.items ≡ with_node nodes.old.items head results from) }
@@ -59,7 +59,7 @@ fn wrap(nodes: &mut Vec<Node>, head: NodeText, results: u32, from: usize) -> Res
     Ok(())
 }
 
-/// Puts the node of the open case of an `if` behind what it holds, and then that of the `if`.
+/// Adds the node of the open case of an `if`, and then the node of the `if`.
 fn wrap_if(nodes: &mut Vec<Node>, case: NodeText, frame: Frame) -> Result<(), AllocError>
     requires case { frame.start ≤ length nodes.old.items }
     requires whole { frame.from ≤ frame.start }
@@ -69,7 +69,7 @@ fn wrap_if(nodes: &mut Vec<Node>, case: NodeText, frame: Frame) -> Result<(), Al
     wrap(nodes, frame.head, frame.gives, frame.from)
 }
 
-/// Where the operands of a plain operator begin, and its results.
+/// Returns the index at which the operands of a plain operator begin, and the number of results of its node.
 fn place_of(nodes: &[Node], start: usize, takes: u32, gives: u32) -> (usize, u32)
     requires in_range { start ≤ length nodes.now }
     requires whole { IsPostorder (drop start nodes.now) }
@@ -82,7 +82,7 @@ fn place_of(nodes: &[Node], start: usize, takes: u32, gives: u32) -> (usize, u32
     }
 }
 
-/// Where the predicate of an `if` begins: the last node, if there is one.
+/// Returns the index at which the predicate of an `if` begins: the last node of the open part, if there is one.
 fn predicate_from(nodes: &[Node], start: usize) -> usize
     requires in_range { start ≤ length nodes.now }
     requires whole { IsPostorder (drop start nodes.now) }
@@ -98,7 +98,7 @@ impl Builder {
     ghost use Rattle.wasmprinter_nodes.specs.Building.{start, step, Top, Plain, Opens, OpensIf, Turns, Ends};
     ghost use Rattle.wasmprinter_nodes.specs.Frames.{State, Stands, base};
 
-    /// No nodes. This takes no memory.
+    /// Creates a builder without nodes. This allocates no memory.
     pub fn new(alloc: Global) -> Builder
         ensures { Stands result start }
     {
@@ -108,7 +108,7 @@ impl Builder {
         }
     }
 
-    /// Removes all nodes and keeps the room for others.
+    /// Removes all nodes and keeps the capacity.
     pub fn clear(&mut self)
         ensures { Stands self.new start }
     {
@@ -116,7 +116,8 @@ impl Builder {
         self.frames.clear();
     }
 
-    /// The nodes of the operators so far. Those of open parts of blocks stand in one row, each part behind what is in front of its block.
+    /// Returns the nodes of the operators so far. The open parts of blocks form one row: each part follows the nodes
+    /// before its block.
     pub fn nodes(&self) -> &[Node]
         ensures whole { (s : State) → Stands self.now s → IsPostorder result.now }
         ensures closed { (s : State) → Stands self.now s → s.outer ≡ Top → forest_of result.now ≡ s.groups }
@@ -124,7 +125,7 @@ impl Builder {
         &self.nodes
     }
 
-    /// Where the nodes of the open part begin.
+    /// Returns the index of the first node of the open part.
     fn start(&self) -> usize
         requires { (s : State) × Stands self.now s }
         ensures { (s : State) → Stands self.now s → result ≡ length (base s.outer) }
@@ -135,11 +136,12 @@ impl Builder {
         }
     }
 
-    /// A plain operator more. It takes the last nodes as operands where their results are as many as it takes.
+    /// Adds a plain operator. Its operands are the last nodes whose results sum up to exactly `takes`, if there are
+    /// such nodes.
     ///
     /// # Errors
     ///
-    /// Where memory for it is refused: the nodes are of no use then, until the list is cleared.
+    /// Returns an error if an allocation fails. The nodes are then unusable until the list is cleared.
     pub fn plain(&mut self, head: NodeText, takes: u32, gives: u32) -> Result<(), AllocError>
         requires { (s : State) × Stands self.old s }
         ensures { OnOk result ((s : State) → Stands self.old s → Stands self.new (step s (Plain head takes gives))) }
@@ -149,11 +151,11 @@ impl Builder {
         wrap(&mut self.nodes, head, results, from)
     }
 
-    /// A block more, which is open.
+    /// Opens a block.
     ///
     /// # Errors
     ///
-    /// Where memory for it is refused: the nodes are of no use then, until the list is cleared.
+    /// Returns an error if an allocation fails. The nodes are then unusable until the list is cleared.
     pub fn open(&mut self, head: NodeText, gives: u32) -> Result<(), AllocError>
         requires { (s : State) × Stands self.old s }
         ensures { OnOk result ((s : State) → Stands self.old s → Stands self.new (step s (Opens head gives))) }
@@ -169,11 +171,12 @@ impl Builder {
         Ok(())
     }
 
-    /// An `if` more, whose first case is open and gets a node with the head `then`. The last node of the open part is the predicate.
+    /// Opens an `if` and its first case, whose node gets the head `then`. The last node of the open part becomes the
+    /// predicate.
     ///
     /// # Errors
     ///
-    /// Where memory for it is refused: the nodes are of no use then, until the list is cleared.
+    /// Returns an error if an allocation fails. The nodes are then unusable until the list is cleared.
     pub fn open_if(&mut self, head: NodeText, then: NodeText, gives: u32) -> Result<(), AllocError>
         requires { (s : State) × Stands self.old s }
         ensures { OnOk result ((s : State) → Stands self.old s → Stands self.new (step s (OpensIf head then gives))) }
@@ -191,13 +194,13 @@ impl Builder {
         Ok(())
     }
 
-    /// An `else`: the second case of the innermost `if` is open, and gets a node with this head.
+    /// Closes the first case of the innermost `if` and opens the second, whose node gets the head `otherwise`.
     ///
-    /// Where the open part is not the first case of an `if`, nothing changes.
+    /// If the open part is not the first case of an `if`, nothing changes.
     ///
     /// # Errors
     ///
-    /// Where memory for it is refused: the nodes are of no use then, until the list is cleared.
+    /// Returns an error if an allocation fails. The nodes are then unusable until the list is cleared.
     pub fn turn(&mut self, otherwise: NodeText) -> Result<(), AllocError>
         requires { (s : State) × Stands self.old s }
         ensures { OnOk result ((s : State) → Stands self.old s → Stands self.new (step s (Turns otherwise))) }
@@ -219,11 +222,11 @@ impl Builder {
         Ok(())
     }
 
-    /// An `end`: the innermost open block gets its node. Where none is open, nothing changes.
+    /// Closes the innermost open block and adds its node. If no block is open, nothing changes.
     ///
     /// # Errors
     ///
-    /// Where memory for it is refused: the nodes are of no use then, until the list is cleared.
+    /// Returns an error if an allocation fails. The nodes are then unusable until the list is cleared.
     pub fn end(&mut self) -> Result<(), AllocError>
         requires { (s : State) × Stands self.old s }
         ensures { OnOk result ((s : State) → Stands self.old s → Stands self.new (step s Ends)) }

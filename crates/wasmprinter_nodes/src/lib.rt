@@ -1,4 +1,4 @@
-//! The nodes that operators fold into, as one list in which each node stands behind those that it holds.
+//! The nodes that operators fold into, as one list in postorder: each node comes after those that it holds.
 #![tactic(auto)]
 
 mod builder;
@@ -7,28 +7,28 @@ mod rows;
 pub use builder::Builder;
 pub use rows::{Last, last_group};
 
-/// What is printed of a node in front of the nodes that it holds.
+/// The text of a node before the nodes that it holds.
 #[derive(Clone, Copy, Debug, PartialEq, Eq)]
 pub struct NodeText {
-    /// The place of the node's operator: a byte offset from the module's start.
+    /// The place of the node's operator: a byte offset from the start of the module.
     pub place: u64,
-    /// Whether its branch is hinted as taken, where there is a hint.
+    /// Whether the branch hint says that the branch is taken, if there is a hint.
     pub hint: Option<bool>,
-    /// Where its text starts in the buffer of texts: a byte offset there.
+    /// The byte offset at which its text starts in the buffer of texts.
     pub start: usize,
-    /// Where its text stops there: that of the byte behind it.
+    /// The byte offset after the last byte of its text in that buffer.
     pub stop: usize,
-    /// Whether the text holds a comment that goes up to the end of the line.
+    /// Whether the text contains two consecutive semicolons, which may begin a line comment.
     pub comment: bool,
 }
 
-/// A node of a list in which it stands behind the nodes that it holds.
+/// A node in a list in postorder.
 #[derive(Clone, Copy, Debug, PartialEq, Eq)]
 pub struct Node {
-    /// What is printed of it.
+    /// The text of the node.
     pub head: NodeText,
-    /// For how many results the node counts.
+    /// The number of results that the node counts for.
     pub results: u32,
-    /// How many nodes end here: those that it holds, at every depth, and itself.
+    /// The number of nodes that it holds, at every depth, plus 1 for itself.
     pub size: usize,
 }

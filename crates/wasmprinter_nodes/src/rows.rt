@@ -9,26 +9,26 @@ use crate::Node;
 /// The last node of a row, the nodes before it, and those that it holds.
 #[derive(Clone, Copy, Debug)]
 pub struct Last<'a> {
-    /// The nodes before it and those that it holds.
+    /// The nodes before the last node and those that it holds.
     pub before: &'a [Node],
     /// The last node.
     pub node: Node,
-    /// The nodes that it holds, at every depth.
+    /// The nodes that the last node holds, at every depth.
     pub parts: &'a [Node],
 }
 
-/// How a search for operands ended.
+/// The outcome of a search for operands.
 #[derive(Clone, Copy, Debug)]
 pub enum Taken {
-    /// So many nodes, at every depth, stand before the operands.
+    /// The operands were found. This is the number of nodes before them, at every depth.
     From(usize),
-    /// A sum of results passed what is wanted first.
+    /// The sum of results exceeded the number of operands without ever being equal to it.
     Passed,
-    /// There are too few results.
+    /// There are too few results, or the operator takes no operands.
     Short,
 }
 
-/// The last node of a row, if there is one.
+/// Returns the last node of a row, if there is one.
 pub fn last_group(row: &[Node]) -> Option<Last<'_>>
     requires { IsPostorder row.now }
     ensures { MatchOption result (row.now ≡ []) (λ l. IsLast row.now l.before.now l.node l.parts.now) }
@@ -42,7 +42,7 @@ pub fn last_group(row: &[Node]) -> Option<Last<'_>>
     })
 }
 
-/// The operands of an operator that takes so many, behind a row of nodes.
+/// Searches a row of nodes for the operands of an operator that takes `takes` values.
 pub fn find_operands(row: &[Node], takes: u32) -> Taken
     requires { IsPostorder row.now }
     ensures { result ≡ outcome (operand_search takes (forest_of row.now)) }

@@ -1,4 +1,4 @@
--- Groups that close on a line of their own where a line began in them.
+-- Groups that close on a line of their own if a line began in them.
 use Rattle.std.specs.Prelude.{◌≡◌, ℕ, List, ◌++◌, Bool, true, false, ◌||◌, Option, refl}
 use Rattle.std.proofs.Common.{ap, ◌∙◌}
 use Rattle.wasmprinter_spec.specs.Piece.{Piece}
@@ -13,13 +13,13 @@ or-same : (b : Bool) → (b || b) ≡ b
 or-same true = refl
 or-same false = refl
 
--- what closes the group begins a line only where one began before
+-- The end of a group begins a line exactly if one began before.
 pub closed-breaks : (place : Option ℕ) (nesting : ℕ) (ps : List Piece) → has_break (ps ++ close place nesting (has_break ps)) ≡ has_break ps
 closed-breaks place nesting ps =
     has_break-append ps (close place nesting (has_break ps)) ∙ ap (λ b. has_break ps || b) (close-breaks place nesting (has_break ps))
     ∙ or-same (has_break ps)
 
--- what stands on the line, and then others
+-- If no line begins in the first pieces, a line begins in the whole exactly if one begins in the second.
 pub behind-line : (ps qs : List Piece) → has_break ps ≡ false → has_break (ps ++ qs) ≡ has_break qs
 behind-line ps qs e = has_break-append ps qs ∙ ap (λ b. b || has_break qs) e
 
@@ -27,6 +27,6 @@ pub or-false : (b : Bool) → (b || false) ≡ b
 or-false true = refl
 or-false false = refl
 
--- others, and then what stands on the line
+-- If no line begins in the second pieces, a line begins in the whole exactly if one begins in the first.
 pub before-line : (ps qs : List Piece) → has_break qs ≡ false → has_break (ps ++ qs) ≡ has_break ps
 before-line ps qs e = has_break-append ps qs ∙ ap (λ b. has_break ps || b) e ∙ or-false (has_break ps)

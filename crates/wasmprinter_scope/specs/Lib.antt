@@ -1,2 +1,2 @@
--- What the contracts of what fields have in common cite.
+-- The definitions that the contracts of the shared code for fields cite.
 pub mod Scopes

@@ -1,4 +1,4 @@
--- The program's scope, as the definitions see it, and what fields take from it.
+-- The program's scope as the definitions express it, and the parts of it that fields use.
 use Rattle.std.specs.Prelude.{ℕ, Bool, true, false, List, [], ◌∷◌, Option, option_map, is_some}
 use Rattle.wasmprinter_spec.specs.Labels.{Named}
 use Rattle.wasmprinter_spec.specs.Names.{name_in}
@@ -15,19 +15,19 @@ use Rattle.wasmprinter_scope.specs.declared.scope.Scope.{Scope}
 abbrev pub scope_view : Scope → layout.Scope
 scope_view s = scope_of (types_of s.types.module.now) (names_of s.labels) s.function (option_map folding_view s.folder)
 
--- whether operators are folded
+-- Whether operators are folded.
 abbrev pub folds_in : layout.Scope → Bool
 folds_in s = is_some s.folding
 
--- the scope of the definitions for the locals and labels of a function
+-- The scope of the definitions, for the locals and labels of function f.
 abbrev pub function_scope_view : Scope → ℕ → layout.Scope
 function_scope_view s f = scope_of_function (scope_view s) f
 
--- the identifier of an item of the module: by computation one of the scope's names
+-- The identifier of an item of the module. It computes to a lookup in the scope's names.
 abbrev pub item_in : Scan → Space → ℕ → Option Named
 item_in s space number = name_in s.invents (name_at s.named) (id_of space) (outer_of space 0) number
 
--- whether a list has exactly one item
+-- Whether a list has exactly one item.
 abbrev pub is_one : {A : Type 0} → List A → Bool
 is_one (x ∷ []) = true
 is_one _ = false

@@ -1,5 +1,5 @@
-//! Constant expressions in fields (section 6.6 of the WebAssembly Core Specification, "Expressions"), each in one line, but where the
-//! comment of a folded operator ends it.
+//! Constant expressions in fields (section 6.6 of the WebAssembly Core Specification, "Expressions"), each in one
+//! line unless the comment of a folded operator ends the line.
 ghost use Rattle.std.specs.Prelude.{◌≡◌, false};
 ghost use Rattle.wasmprinter_spec.specs.Layout.Operators.{expression_pieces};
 ghost use Rattle.wasmprinter_spec.specs.Layout.Expressions.{in_line, word_unless_one};
@@ -18,16 +18,16 @@ use wasmprinter_ops::expression::Expression;
 use wasmprinter_print::Print;
 use wasmprinter_words::words::{gap, open_bare, word};
 
-/// How deep an expression in a field is nested, and a group with an expression.
+/// The nesting depth of an expression in a field, and of a group that contains an expression.
 const EXPRESSION_NESTING: u64 = 2;
 
-/// How deep an expression in a group of its own is nested.
+/// The nesting depth of an expression in a group of its own.
 const HELD_NESTING: u64 = 3;
 
-/// How many results the function around a constant expression has: there is none.
+/// The number of results of the enclosing function of a constant expression: there is no function, so 0.
 const NO_RESULTS: Option<u32> = Some(0);
 
-/// Writes the operators of an expression, a blank between two, without folding them.
+/// Writes the operators of an expression without folding them, separated by spaces.
 #[tactic(auto, unfolding(wasmprinter_spec::specs::Layout::Operators::expression_pieces))]
 fn write_flat<P: Print>(
     p: &mut P,
@@ -58,7 +58,8 @@ fn write_flat<P: Print>(
     )
 }
 
-/// Writes an expression that is nested so deep: a blank between two operators, or folded. Answers whether a line began.
+/// Writes an expression at nesting depth `nesting`, folded or with spaces between its operators. Returns whether a
+/// line began.
 fn write_nested<P: Print>(
     p: &mut P,
     options: &PrintOptions,
@@ -98,11 +99,12 @@ fn write_nested<P: Print>(
     }
 }
 
-/// Writes an expression in a field. Answers whether a line began.
+/// Writes an expression in a field. Returns whether a line began.
 ///
 /// # Errors
 ///
-/// `Memory` where a growth was refused, `Printer` where a call on the printer failed, with that call's error. No other.
+/// - `Memory` if an allocation fails.
+/// - `Printer` with the error of the call on the printer that failed.
 pub fn write_constant<P: Print>(
     p: &mut P,
     options: &PrintOptions,
@@ -117,7 +119,7 @@ pub fn write_constant<P: Print>(
     write_nested(p, options, scope, EXPRESSION_NESTING, expression)
 }
 
-/// Whether the expression has exactly one operator.
+/// Reports whether the expression has exactly one operator.
 fn is_one(expression: &Expression<'_>) -> bool
     ensures { result ≡ is_one expression.now.items }
 {
@@ -125,7 +127,7 @@ fn is_one(expression: &Expression<'_>) -> bool
     operators.next().is_some() && operators.next().is_none()
 }
 
-/// Writes a keyword and a blank, and nothing where the expression has exactly one operator.
+/// Writes a keyword and a space. Writes nothing if the expression has exactly one operator.
 fn write_word_unless_one<P: Print>(
     p: &mut P,
     options: &PrintOptions,
@@ -141,7 +143,8 @@ fn write_word_unless_one<P: Print>(
     gap(p)
 }
 
-/// Writes an expression in a group of its own, where one operator is never folded. Answers whether a line began.
+/// Writes an expression in a group of its own, where a single operator is never folded. Returns whether a line
+/// began.
 fn write_held<P: Print>(
     p: &mut P,
     options: &PrintOptions,
@@ -160,8 +163,8 @@ fn write_held<P: Print>(
     write_nested(p, options, scope, HELD_NESTING, expression)
 }
 
-/// Writes what stands in the group of an expression: a single operator alone, and any other behind the keyword.
-/// Answers whether a line began.
+/// Writes the content of the group of an expression: a single operator alone, any other expression after the
+/// keyword. Returns whether a line began.
 fn write_group_parts<P: Print>(
     p: &mut P,
     options: &PrintOptions,
@@ -178,11 +181,11 @@ fn write_group_parts<P: Print>(
     write_held(p, options, scope, expression)
 }
 
-/// Writes an expression as a group, which closes on a line of its own where a line began. Answers whether one did.
+/// Writes an expression as a group and returns whether a line began. If so, the group closes on a line of its own.
 ///
 /// # Errors
 ///
-/// Those of [`write_constant`].
+/// Returns the errors of [`write_constant`].
 #[tactic(auto, unfolding(wasmprinter_spec::specs::Layout::Expressions::constant_group))]
 pub fn write_constant_group<P: Print>(
     p: &mut P,

@@ -1,4 +1,4 @@
-//! What stands at the head of a function and of a tag: where it is declared, and its type (section 6.6 of the WebAssembly Core
+//! The headers of functions and tags: the declaration and the type use (section 6.6 of the WebAssembly Core
 //! Specification, "Type Uses").
 ghost use Rattle.std.specs.Prelude.{Some, None};
 ghost use Rattle.wasmprinter_spec.specs.Row as row;
@@ -11,7 +11,7 @@ use std::io;
 use wasmprinter_names::Space;
 use wasmprinter_print::Print;
 
-/// Writes the head of a function, whose parameters have identifiers.
+/// Writes the header of a function, whose parameters have identifiers.
 #[tactic(auto, unfolding(wasmprinter_spec::specs::Layout::Functions::header_pieces))]
 pub fn write_function_header<P: Print>(
     p: &mut P,
@@ -26,7 +26,7 @@ pub fn write_function_header<P: Print>(
     write_type_use_in(p, scope, Some(number), type_index)
 }
 
-/// Writes the head of a tag.
+/// Writes the header of a tag.
 #[tactic(auto, unfolding(wasmprinter_spec::specs::Layout::Functions::header_pieces))]
 pub fn write_tag_header<P: Print>(
     p: &mut P,

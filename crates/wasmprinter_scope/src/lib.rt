@@ -1,7 +1,8 @@
-//! What the fields of a module have in common as text (section 6.6 of the WebAssembly Core Specification), over any printer: the scope
-//! that they are printed by, declarations, indices, types and type uses, heads of functions and tags, constant expressions.
+//! Shared code for printing the fields of a module to any printer (section 6.6 of the WebAssembly Core
+//! Specification): the scope, declarations, indices, types and type uses, headers of functions and tags, and
+//! constant expressions.
 //!
-//! What answers `io::Result` fails with the error of the call on the printer that failed, and for no other reason.
+//! A function that returns `io::Result` fails only with the error of the call on the printer that failed.
 #![tactic(auto)]
 
 pub mod expressions;

@@ -1,4 +1,4 @@
-//! What the fields of a module are printed by, and what is printed by it: items where they are declared and used, and types.
+//! Shared state for printing module fields, and helpers that print declarations, indices and types.
 ghost use Rattle.std.specs.Prelude.{◌≡◌, ◌∷◌, ℕ};
 ghost use Rattle.wasmprinter_spec.specs.Piece.{Gap};
 ghost use Rattle.wasmprinter_spec.specs.Layout.Groups.{line_group_gap};
@@ -26,10 +26,10 @@ use wasmprinter_types::composite::{FuncType, SubType};
 use wasmprinter_types::{RefType, ValType};
 use wasmprinter_wasm::{Fields, Module};
 
-/// How deep the fields of a module are nested.
+/// The nesting depth of the fields of a module.
 pub const FIELD_NESTING: u64 = 1;
 
-/// The types of a module, as blocks name them.
+/// The types of a module, for looking up the types of blocks.
 #[derive(Clone, Copy)]
 pub struct ModuleTypes<'m, 'a> {
     /// The module.
@@ -47,21 +47,21 @@ impl<'m, 'a> Signatures for ModuleTypes<'m, 'a> {
     }
 }
 
-/// What the fields of a module are printed by.
+/// Shared state for printing module fields.
 #[derive(Drop)]
 pub struct Scope<'s, 'a> {
     /// The types of the module.
     pub types: ModuleTypes<'s, 'a>,
     /// The labels of open blocks, with the identifiers of the module.
     pub labels: OpenLabels<'s, 'a>,
-    /// The function whose locals and labels an expression means.
+    /// The function whose locals and labels an expression refers to.
     pub function: u64,
-    /// What folds operators, where they are folded.
+    /// The folder, if operators are folded.
     pub folder: Option<Folder<'s, 'a>>,
 }
 
 impl<'s, 'a> Scope<'s, 'a> {
-    /// The identifiers of the module.
+    /// Returns the identifiers of the module.
     pub fn identifiers(&self) -> Identifiers<'s, 'a>
         ensures all { names_of_identifiers result ≡ names_of self.now.labels }
         ensures items { (space : Space) (n : ℕ) → item_of result space 0 n ≡ item_in self.now.labels space n }
@@ -70,7 +70,7 @@ impl<'s, 'a> Scope<'s, 'a> {
     }
 }
 
-/// Writes an item of the module where it is declared.
+/// Writes the declaration of an item of the module.
 pub fn write_declaration_in<P: Print>(
     p: &mut P,
     scope: &Scope<'_, '_>,
@@ -96,7 +96,7 @@ pub fn write_index_in<P: Print>(
     write_index_of(p, &scope.identifiers(), space, 0, u64::from(index))
 }
 
-/// Writes an index of an item of the module as a group behind a keyword.
+/// Writes a group of a keyword and an index of an item of the module.
 pub fn write_index_group_in<P: Print>(
     p: &mut P,
     scope: &Scope<'_, '_>,
@@ -110,7 +110,8 @@ pub fn write_index_group_in<P: Print>(
     indices::write_index_group(p, &scope.identifiers(), keyword, space, index)
 }
 
-/// Writes a blank, the index of a type, and its signature where it is a function type. `owner` is the function that has the type.
+/// Writes a space, the index of a type, and the parameters and results of that type if it is a function type. The
+/// parameters have identifiers only if `owner` is their function.
 pub fn write_type_use_in<P: Print>(
     p: &mut P,
     scope: &Scope<'_, '_>,
@@ -147,7 +148,7 @@ pub fn write_val_type_in<P: Print>(
     types::write_val_type(p, &scope.identifiers(), value_type)
 }
 
-/// Writes a type with its number.
+/// Writes the definition of the type with the given number.
 pub fn write_type_in<P: Print>(
     p: &mut P,
     scope: &Scope<'_, '_>,

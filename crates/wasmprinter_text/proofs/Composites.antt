@@ -12,24 +12,24 @@ use Rattle.wasmprinter_types.specs.Types.{field_view, fields_view}
 use Rattle.wasmprinter_types.specs.declared.composite.FieldType.{FieldType}
 
 module _ (f : ℕ → DefinedField → List Piece) where
-  -- no field is left
+  -- An empty list of fields has no pieces.
   pub fields-none : (n : ℕ) (fs : List FieldType) → fs ≡ [] → numbered_pieces f n (fields_view fs) ≡ []
   unfolding numbered_pieces
   fields-none n fs e = ap (λ xs. numbered_pieces f n (fields_view xs)) e
 
-  -- the next field, and the others
+  -- The pieces of a list of fields are those of the first field and those of the others.
   pub fields-next : (n : ℕ) (fs rest : List FieldType) (x : FieldType) → fs ≡ x ∷ rest →
       numbered_pieces f n (fields_view fs) ≡ f n (field_view x) ++ numbered_pieces f (n + 1) (fields_view rest)
   unfolding numbered_pieces
   fields-next n fs rest x e = ap (λ xs. numbered_pieces f n (fields_view xs)) e
 
 module _ (names : Names) where
-  -- no supertype is left
+  -- An empty list of supertypes has no pieces.
   pub supertypes-none : (is : List ℕ) → is ≡ [] → supertype_pieces names is ≡ []
   unfolding supertype_pieces
   supertypes-none is e = ap (supertype_pieces names) e
 
-  -- the next supertype, and the others
+  -- The pieces of a list of supertypes are those of the first supertype and those of the others.
   pub supertypes-next : (is rest : List ℕ) (i : ℕ) → is ≡ i ∷ rest → supertype_pieces names is ≡ supertype_pieces names (i ∷ []) ++ supertype_pieces names rest
   unfolding supertype_pieces
   supertypes-next is rest i e =
@@ -40,7 +40,7 @@ module _ (names : Names) where
   plain-by n true (i ∷ is) c e = let never : true ≡ false = sym e ∙ eqb-suc-zero (length is) in absurd cc
   plain-by n false is c e = absurd cc
 
-  -- a final type without supertypes
+  -- The pieces of a final type without supertypes are those of its composite type.
   pub sub-plain : (n : ℕ) (t : SubType) → (t.final && (length t.supertypes == 0)) ≡ true → sub_pieces names n t ≡ composite_pieces names n t.composite
   unfolding sub_pieces
   sub-plain n t e = plain-by n t.final t.supertypes t.composite e
@@ -50,12 +50,12 @@ module _ (names : Names) where
   grouped-by n true (i ∷ is) c e = refl
   grouped-by n false is c e = refl
 
-  -- any other type
+  -- The pieces of any other subtype are those of a group.
   pub sub-grouped : (n : ℕ) (t : SubType) → (t.final && (length t.supertypes == 0)) ≡ false → sub_pieces names n t ≡ sub_group names n t.final t.supertypes t.composite
   unfolding sub_pieces
   sub-grouped n t e = grouped-by n t.final t.supertypes t.composite e
 
-  -- a group of a subtype, in its parts
+  -- The group of a subtype consists of `sub`, `final` if it is final, its supertypes and its composite type.
   pub sub_group-parts : (n : ℕ) (final : Bool) (is : List ℕ) (c : CompositeType) →
       sub_group names n final is c ≡ Open (codes "sub") ∷ (Gap ∷ (final_pieces names final ++ (supertype_pieces names is ++ (composite_pieces names n c ++ (Shut ∷ [])))))
   unfolding sub_group line_group

@@ -1,4 +1,4 @@
--- Identifiers that are made up.
+-- Synthesized identifiers.
 use Rattle.std.specs.Prelude.{◌≡◌, true, refl}
 use Rattle.wasmprinter_spec.specs.Character.{class}
 use Rattle.wasmprinter_spec.specs.Names.Content.{group_of}
@@ -7,7 +7,7 @@ use Rattle.wasmprinter_names.specs.Spaces.{id_of}
 use Rattle.wasmprinter_names.specs.declared.space.Space.{Space}
 use Rattle.wasmprinter_names.specs.declared.space.Space.TheVariants.{Func, Local, Label, Types, Table, Memory, Global, Elem, Data, Field, Tag}
 
--- the word for the items of a space has characters of identifiers alone
+-- The word for the items of an index space consists of identifier characters.
 pub word-runs : (space : Space) → all_run (group_of (id_of space)) ≡ true
 unfolding class
 word-runs Func = refl

@@ -1,4 +1,4 @@
--- Identifiers and types stand on one line.
+-- No line begins within identifiers and types.
 use Rattle.std.specs.Prelude.{◌≡◌, ℕ, List, [], ◌∷◌, ◌++◌, Bool, true, false, cond, bytes_eq, chars, Option, Some, None, codes, refl}
 use Rattle.wasmprinter_spec.specs.Types as defined
 use Rattle.wasmprinter_spec.specs.Types.{HeapType, ValType, FuncType}
@@ -13,7 +13,7 @@ use Rattle.wasmprinter_spec.specs.Layout.Variables.{Variables, Alone, Together, 
 use Rattle.wasmprinter_spec.specs.Layout.Types.{parameters_of, list_group, signature_pieces, signature_if_any, type_use_pieces}
 use Rattle.wasmprinter_lines.proofs.Groups.{line-append}
 
--- ---- groups of what stands on one line
+-- ---- Groups within one line
 
 group-line : (w : List ℕ) (ps : List Piece) → has_break ps ≡ false → has_break (line_group w ps) ≡ false
 unfolding line_group
@@ -23,7 +23,7 @@ group_gap-line : (w : List ℕ) (ps : List Piece) → has_break ps ≡ false →
 unfolding line_group_gap
 group_gap-line w ps e = line-append ps (Shut ∷ []) e refl
 
--- ---- identifiers
+-- ---- Identifiers
 
 given-line : (given : Option (List ℕ)) (content : List ℕ) → has_break (given_pieces given content) ≡ false
 given-line None content = refl
@@ -33,7 +33,7 @@ given-line (Some s) content = by (bytes_eq s content)
     by true = refl
     by false = refl
 
--- an identifier with its name
+-- No line begins within an identifier with its annotation.
 pub mark-line : (n : Named) → has_break (mark_pieces n) ≡ false
 unfolding mark_pieces
 mark-line n = given-line n.given n.content
@@ -43,25 +43,25 @@ unfolding mark_gap_pieces
 mark_gap-line None = refl
 mark_gap-line (Some n) = line-append (mark_pieces n) (Gap ∷ []) (mark-line n) refl
 
--- an item where it is declared
+-- No line begins within the declaration of an item.
 pub declaration-line : (n : Option Named) (i : ℕ) → has_break (declaration_pieces n i) ≡ false
 unfolding declaration_pieces
 declaration-line n i = line-append (mark_gap_pieces n) (NumberRemark i ∷ (EndStyle ∷ [])) (mark_gap-line n) refl
 
--- an index
+-- No line begins within an index.
 pub index-line : (n : Option Named) (i : ℕ) → has_break (index_pieces n i) ≡ false
 unfolding index_pieces
 index-line None i = refl
 index-line (Some n) i = refl
 
--- ---- types
+-- ---- Types
 
 module _ (names : Names) where
   type_index-line : (i : ℕ) → has_break (type_index_pieces names i) ≡ false
   unfolding type_index_pieces
   type_index-line i = index-line (names.items Types i) i
 
-  -- a heap type
+  -- No line begins within a heap type.
   heap-line : (h : HeapType) → has_break (heap_pieces names h) ≡ false
   unfolding heap_pieces
   heap-line (defined.Index n) = type_index-line n
@@ -76,13 +76,13 @@ module _ (names : Names) where
   ref_by-line true h = null_ref-line h
   ref_by-line false h = group_gap-line (codes "ref") (heap_pieces names h) (heap-line h)
 
-  -- a value type
+  -- No line begins within a value type.
   val-line : (t : ValType) → has_break (val_pieces names t) ≡ false
   unfolding val_pieces ref_pieces
   val-line (defined.Ref r) = ref_by-line r.nullable r.heap
   val-line _ = refl
 
-  -- value types
+  -- No line begins within a list of value types.
   pub types-line : (ts : List ValType) → has_break (type_list names ts) ≡ false
   unfolding type_list
   types-line [] = refl
@@ -93,22 +93,22 @@ module _ (names : Names) where
   list_group-line w [] = refl
   list_group-line w (t ∷ ts) = group-line w (type_list names (t ∷ ts)) (types-line (t ∷ ts))
 
-  -- ---- variables
+  -- ---- Variables
 
-  -- a group of variables
+  -- No line begins within a group of variables.
   pub variables-line : (w : List ℕ) (g : Variables) → has_break (variables_pieces names w g) ≡ false
   unfolding variables_pieces
   variables-line w (Alone n t) =
       group-line w (Gap ∷ (mark_gap_pieces (Some n) ++ val_pieces names t)) (line-append (mark_gap_pieces (Some n)) (val_pieces names t) (mark_gap-line (Some n)) (val-line t))
   variables-line w (Together ts) = group-line w (type_list names ts) (types-line ts)
 
-  -- groups of variables
+  -- No line begins within groups of variables.
   pub groups-line : (w : List ℕ) (gs : List Variables) → has_break (groups_pieces names w gs) ≡ false
   unfolding groups_pieces
   groups-line w [] = refl
   groups-line w (g ∷ gs) = line-append (variables_pieces names w g) (groups_pieces names w gs) (variables-line w g) (groups-line w gs)
 
-  -- a signature
+  -- No line begins within a signature.
   pub signature-line : (f : Option ℕ) (t : FuncType) → has_break (signature_pieces names f t) ≡ false
   unfolding signature_pieces
   signature-line f t =
@@ -119,7 +119,7 @@ module _ (names : Names) where
   signature_if_any-line f None = refl
   signature_if_any-line f (Some t) = signature-line f t
 
-  -- a type use
+  -- No line begins within a type use.
   pub type_use-line : (f : Option ℕ) (i : ℕ) (t : Option FuncType) → has_break (type_use_pieces names f i t) ≡ false
   unfolding type_use_pieces
   type_use-line f i t =

@@ -1,4 +1,4 @@
--- The layout of types, one by one, and of lists of them.
+-- The layout of lists of types, type by type.
 use Rattle.std.specs.Prelude.{◌≡◌, ℕ, List, [], ◌∷◌, ◌++◌, length, refl}
 use Rattle.std.proofs.Common.{sym, ap, ◌∙◌, append_assoc, append-nil}
 use Rattle.wasmprinter_spec.specs.Types.{ValType as DefinedType}
@@ -15,30 +15,30 @@ module _ (names : Names) where
   unfolding type_list
   one_type t = ap (λ ps. Gap ∷ ps) (append-nil (val_pieces names t))
 
-  -- types, in two parts
+  -- The pieces of two lists of types, joined, are those of the first and those of the second.
   pub type_list-append : (ts us : List DefinedType) → type_list names (ts ++ us) ≡ type_list names ts ++ type_list names us
   unfolding type_list
   type_list-append [] us = refl
   type_list-append (t ∷ ts) us =
       ap (λ ps. Gap ∷ (val_pieces names t ++ ps)) (type_list-append ts us) ∙ sym (ap (λ ps. Gap ∷ ps) (append_assoc (val_pieces names t) (type_list names ts) (type_list names us)))
 
-  -- no type is left
+  -- An empty list of types has no pieces.
   pub types-none : (ts : List ValType) → ts ≡ [] → type_list names (types_view ts) ≡ []
   unfolding type_list
   types-none ts e = ap (λ xs. type_list names (types_view xs)) e
 
-  -- the next type, and the others
+  -- The pieces of a list of types are those of the first type and those of the others.
   pub types-next : (ts rest : List ValType) (t : ValType) → ts ≡ t ∷ rest →
       type_list names (types_view ts) ≡ type_list names (type_view t ∷ []) ++ type_list names (types_view rest)
   types-next ts rest t e = ap (λ xs. type_list names (types_view xs)) e ∙ type_list-append (type_view t ∷ []) (types_view rest)
 
-  -- a group of no types
+  -- The group of an empty list of types has no pieces.
   pub list_group-none : (w : List ℕ) (ts : List ValType) → length ts ≡ 0 → list_group names w (types_view ts) ≡ []
   unfolding list_group
   list_group-none w [] e = refl
   list_group-none w (t ∷ ts) e = absurd cc
 
-  -- a group of types
+  -- The group of a nonempty list of types is a space and a group within one line.
   pub list_group-some : (w : List ℕ) (ts : List ValType) → (length ts ≡ 0 → ⊥) →
       list_group names w (types_view ts) ≡ Gap ∷ line_group w (type_list names (types_view ts))
   unfolding list_group

@@ -1,4 +1,4 @@
--- The identifiers that a layout looks up, and what it prints by them.
+-- The identifiers that a layout looks up, and the pieces of fields with their identifiers.
 use Rattle.std.specs.Prelude.{ℕ, List, Option}
 use Rattle.wasmprinter_spec.specs.Types.{FieldType}
 use Rattle.wasmprinter_spec.specs.Labels.{Named}
@@ -11,14 +11,14 @@ use Rattle.wasmprinter_names.specs.Views.{name_at}
 use Rattle.wasmprinter_names.specs.declared.identifiers.Identifiers.{Identifiers}
 use Rattle.wasmprinter_names.specs.declared.space.Space.{Space}
 
--- the identifier of an item of a space: by computation one of `names_of_identifiers`
+-- The identifier of an item of an index space. It computes to a lookup in `names_of_identifiers`.
 abbrev pub item_of : Identifiers → Space → ℕ → ℕ → Option Named
 item_of x space outer number = name_in x.invents (name_at x.names.now) (id_of space) (outer_of space outer) number
 
--- the pieces of a field of the structure type `owner`, by its number, a blank in front
+-- The pieces of a field of the structure type `owner`, by the number of the field, with a space before it.
 abbrev pub owned_field : Names → ℕ → ℕ → FieldType → List Piece
 owned_field names owner number f = struct_field_pieces names (names.fields owner number) f
 
--- those of all its fields
+-- The pieces of all fields of the structure type `owner`.
 abbrev pub owned_fields : Names → ℕ → List FieldType → List Piece
 owned_fields names owner fs = numbered_pieces (λ k f. owned_field names owner k f) 0 fs

@@ -1,3 +1,3 @@
--- What the contracts of types, indices and bytes in text cite.
+-- The definitions that the contracts of types, indices and bytes in text cite.
 pub mod Items
 pub mod Variables

@@ -1,4 +1,4 @@
-//! Bytes of data segments and of custom sections.
+//! The bytes of data segments and custom sections.
 ghost use Rattle.wasmprinter_spec.specs.Layout.DataSegments.{shown_bytes};
 ghost use Rattle.wasmprinter_print.specs.Prints.{Prints};
 
@@ -8,7 +8,7 @@ use wasmprinter_print::Print;
 use wasmprinter_words::strings::write_byte_string;
 use wasmprinter_words::words::word;
 
-/// Writes bytes in quotes, in a skeleton three points in their place.
+/// Writes bytes as a quoted string, or `...` in a skeleton.
 pub fn write_shown_bytes<P: Print>(
     p: &mut P,
     options: &PrintOptions,

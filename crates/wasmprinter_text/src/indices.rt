@@ -1,5 +1,5 @@
-//! Items by their identifiers (section 6.3 of the WebAssembly Core Specification, "Identifiers"), or else by their numbers: where they are
-//! declared, and where an index means them.
+//! Items at their declarations and indices that refer to them: by identifier if the item has one, otherwise by number
+//! (section 6.3 of the WebAssembly Core Specification, "Identifiers").
 ghost use Rattle.std.specs.Prelude.{[], ◌∷◌, Some, chars, option_map};
 ghost use Rattle.wasmprinter_spec.specs.Piece.{Gap, NameNote, BeginName, EndStyle, Identifier as IdentifierPiece};
 ghost use Rattle.wasmprinter_spec.specs.Layout.Groups.{line_group_gap};
@@ -36,7 +36,7 @@ fn put_identifier<P: Print>(p: &mut P, fault: &mut Fault, identifier: Identifier
     }
 }
 
-/// Writes a blank and the annotation with a name.
+/// Writes a space and a name annotation.
 fn write_note<P: Print>(p: &mut P, name: &str) -> io::Result<()>
     ensures { PrintsAlways P.meaning p.old p.new result (Gap ∷ (NameNote (chars name.now) ∷ [])) }
 {
@@ -44,7 +44,7 @@ fn write_note<P: Print>(p: &mut P, name: &str) -> io::Result<()>
     name_note(p, name)
 }
 
-/// Writes a blank and the annotation with a name, where the identifier is another.
+/// Writes a space and a name annotation if the identifier differs from the given name.
 fn put_given<P: Print>(p: &mut P, fault: &mut Fault, name: Name<'_>)
     ensures { Marks P.meaning p.old fault.old p.new fault.new (given_pieces (Some name.entry.given.now) name.entry.content.now) }
 {
@@ -53,7 +53,7 @@ fn put_given<P: Print>(p: &mut P, fault: &mut Fault, name: Name<'_>)
     }
 }
 
-/// Writes the identifier of a name, and the name where that is another.
+/// Writes the identifier of a name, then the given name as an annotation if it differs.
 #[tactic(auto, unfolding(wasmprinter_spec::specs::Layout::Identifiers::mark_pieces))]
 fn put_name_mark<P: Print>(p: &mut P, fault: &mut Fault, name: Name<'_>)
     ensures { Marks P.meaning p.old fault.old p.new fault.new (mark_pieces (name_view name.entry)) }
@@ -62,7 +62,7 @@ fn put_name_mark<P: Print>(p: &mut P, fault: &mut Fault, name: Name<'_>)
     put_given(p, fault, name);
 }
 
-/// Writes an identifier, and the name that was given where that is another.
+/// Writes an identifier, then the given name as an annotation if it differs.
 #[tactic(auto, unfolding(wasmprinter_spec::specs::Layout::Identifiers::mark_pieces))]
 pub fn put_mark<P: Print>(p: &mut P, fault: &mut Fault, identifier: Identifier<'_>)
     ensures { Marks P.meaning p.old fault.old p.new fault.new (mark_pieces (identifier_view identifier.entry)) }
@@ -73,7 +73,7 @@ pub fn put_mark<P: Print>(p: &mut P, fault: &mut Fault, identifier: Identifier<'
     }
 }
 
-/// Writes an identifier, and the name that was given where that is another.
+/// Writes an identifier, then the given name as an annotation if it differs.
 pub fn write_mark<P: Print>(p: &mut P, identifier: Identifier<'_>) -> io::Result<()>
     ensures { PrintsAlways P.meaning p.old p.new result (mark_pieces (identifier_view identifier.entry)) }
 {
@@ -82,7 +82,7 @@ pub fn write_mark<P: Print>(p: &mut P, identifier: Identifier<'_>) -> io::Result
     fault.into_result()
 }
 
-/// Writes a blank and a mark as [`put_mark`] does, and nothing where there is no identifier.
+/// Writes a space, an identifier and its annotation as [`put_mark`] does. Writes nothing for `None`.
 #[tactic(auto, unfolding(wasmprinter_spec::specs::Layout::Identifiers::leading_mark_pieces))]
 pub fn put_leading_mark<P: Print>(p: &mut P, fault: &mut Fault, identifier: Option<Identifier<'_>>)
     ensures { Marks P.meaning p.old fault.old p.new fault.new
@@ -94,7 +94,7 @@ pub fn put_leading_mark<P: Print>(p: &mut P, fault: &mut Fault, identifier: Opti
     }
 }
 
-/// Writes a blank and a mark as [`write_mark`] does, and nothing where there is no identifier.
+/// Writes a space, an identifier and its annotation as [`write_mark`] does. Writes nothing for `None`.
 pub fn write_leading_mark<P: Print>(p: &mut P, identifier: Option<Identifier<'_>>) -> io::Result<()>
     ensures { PrintsAlways P.meaning p.old p.new result
         (leading_mark_pieces (option_map identifier_view identifier.entry)) }
@@ -104,7 +104,7 @@ pub fn write_leading_mark<P: Print>(p: &mut P, identifier: Option<Identifier<'_>
     fault.into_result()
 }
 
-/// Writes a mark as [`put_mark`] does and a blank, and nothing where there is no identifier.
+/// Writes an identifier and its annotation as [`put_mark`] does, then a space. Writes nothing for `None`.
 #[tactic(auto, unfolding(wasmprinter_spec::specs::Layout::Identifiers::mark_gap_pieces))]
 pub(crate) fn put_mark_gap<P: Print>(
     p: &mut P,
@@ -120,7 +120,7 @@ pub(crate) fn put_mark_gap<P: Print>(
     }
 }
 
-/// Writes a mark as [`write_mark`] does and a blank, and nothing where there is no identifier.
+/// Writes an identifier and its annotation as [`write_mark`] does, then a space. Writes nothing for `None`.
 pub fn write_mark_gap<P: Print>(p: &mut P, identifier: Option<Identifier<'_>>) -> io::Result<()>
     ensures { PrintsAlways P.meaning p.old p.new result
         (mark_gap_pieces (option_map identifier_view identifier.entry)) }
@@ -130,7 +130,7 @@ pub fn write_mark_gap<P: Print>(p: &mut P, identifier: Option<Identifier<'_>>) -
     fault.into_result()
 }
 
-/// Writes an identifier and a blank, and nothing where there is no identifier.
+/// Writes an identifier and a space. Writes nothing for `None`.
 #[tactic(auto, unfolding(wasmprinter_spec::specs::Layout::Identifiers::identifier_gap_pieces))]
 pub(crate) fn put_identifier_gap<P: Print>(
     p: &mut P,
@@ -146,7 +146,7 @@ pub(crate) fn put_identifier_gap<P: Print>(
     }
 }
 
-/// Writes an identifier and a blank, and nothing where there is no identifier.
+/// Writes an identifier and a space. Writes nothing for `None`.
 pub fn write_identifier_gap<P: Print>(
     p: &mut P,
     identifier: Option<Identifier<'_>>,
@@ -159,7 +159,7 @@ pub fn write_identifier_gap<P: Print>(
     fault.into_result()
 }
 
-/// Writes an item where it is declared: its mark, if it has an identifier, and its number.
+/// Writes the declaration of an item: its identifier with its annotation, if it has one, and its number in a comment.
 #[tactic(auto, unfolding(wasmprinter_spec::specs::Layout::Identifiers::declaration_pieces))]
 fn put_declaration<P: Print>(
     p: &mut P,
@@ -176,7 +176,7 @@ fn put_declaration<P: Print>(
     put_end_style(p, fault);
 }
 
-/// Writes an item where it is declared: its mark, if it has an identifier, and its number.
+/// Writes the declaration of an item: its identifier with its annotation, if it has one, and its number in a comment.
 pub fn write_declaration<P: Print>(
     p: &mut P,
     identifier: Option<Identifier<'_>>,
@@ -200,7 +200,7 @@ fn put_named<P: Print>(p: &mut P, fault: &mut Fault, identifier: Identifier<'_>)
     put_end_style(p, fault);
 }
 
-/// Writes an index: the identifier of what is meant, or else its number.
+/// Writes an index: the identifier of the item, or its number for `None`.
 #[tactic(auto, unfolding(wasmprinter_spec::specs::Layout::Identifiers::index_pieces))]
 pub fn put_index<P: Print>(
     p: &mut P,
@@ -217,7 +217,7 @@ pub fn put_index<P: Print>(
     }
 }
 
-/// Writes an index: the identifier of what is meant, or else its number.
+/// Writes an index: the identifier of the item, or its number for `None`.
 pub fn write_index<P: Print>(
     p: &mut P,
     identifier: Option<Identifier<'_>>,
@@ -231,8 +231,8 @@ pub fn write_index<P: Print>(
     fault.into_result()
 }
 
-/// Writes an item of a space where it is declared. `outer` is the function of a local and the type of a field, and is ignored for items
-/// of other spaces.
+/// Writes the declaration of an item of an index space. `outer` is the function of a local or the type of a field;
+/// it is ignored for items of other spaces.
 pub(crate) fn put_declaration_of<P: Print>(
     p: &mut P,
     fault: &mut Fault,
@@ -247,7 +247,8 @@ pub(crate) fn put_declaration_of<P: Print>(
     put_declaration(p, fault, identifiers.item(space, outer, number), number);
 }
 
-/// Writes an item of a space where it is declared. `outer` is the function of a local and the type of a field, and else ignored.
+/// Writes the declaration of an item of an index space. `outer` is the function of a local or the type of a field;
+/// it is ignored for items of other spaces.
 pub fn write_declaration_of<P: Print>(
     p: &mut P,
     identifiers: &Identifiers<'_, '_>,
@@ -263,7 +264,8 @@ pub fn write_declaration_of<P: Print>(
     fault.into_result()
 }
 
-/// Writes an index of a space. `outer` is the function of a local and the type of a field, and else ignored.
+/// Writes an index into an index space. `outer` is the function of a local or the type of a field; it is ignored
+/// for other spaces.
 pub fn put_index_of<P: Print>(
     p: &mut P,
     fault: &mut Fault,
@@ -278,7 +280,8 @@ pub fn put_index_of<P: Print>(
     put_index(p, fault, identifiers.item(space, outer, number), number);
 }
 
-/// Writes an index of a space. `outer` is the function of a local and the type of a field, and else ignored.
+/// Writes an index into an index space. `outer` is the function of a local or the type of a field; it is ignored
+/// for other spaces.
 pub fn write_index_of<P: Print>(
     p: &mut P,
     identifiers: &Identifiers<'_, '_>,
@@ -294,7 +297,7 @@ pub fn write_index_of<P: Print>(
     fault.into_result()
 }
 
-/// Writes an index of a space of the module as a group behind a keyword.
+/// Writes a group of a keyword and an index into an index space of the module.
 #[tactic(auto, unfolding(wasmprinter_spec::specs::Layout::Groups::line_group_gap))]
 pub(crate) fn put_index_group<P: Print>(
     p: &mut P,
@@ -312,7 +315,7 @@ pub(crate) fn put_index_group<P: Print>(
     put_shut(p, fault);
 }
 
-/// Writes an index of a space of the module as a group behind a keyword.
+/// Writes a group of a keyword and an index into an index space of the module.
 pub fn write_index_group<P: Print>(
     p: &mut P,
     identifiers: &Identifiers<'_, '_>,

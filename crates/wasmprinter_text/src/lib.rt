@@ -1,6 +1,7 @@
-//! Types (section 6.4 of the WebAssembly Core Specification), indices with their identifiers, and bytes, over any printer.
+//! Writes types (section 6.4 of the WebAssembly Core Specification), indices with their identifiers, and bytes to any
+//! printer.
 //!
-//! What answers `io::Result` fails with the error of the call on the printer that failed, and for no other reason.
+//! A function that returns `io::Result` fails only with the error of the call on the printer that failed.
 #![tactic(auto)]
 
 pub mod data_strings;

@@ -1,4 +1,4 @@
-//! Function types by their indices (section 6.4 of the WebAssembly Core Specification, "Type Uses").
+//! Type uses: function types by their indices (section 6.4 of the WebAssembly Core Specification, "Type Uses").
 ghost use Rattle.std.specs.Prelude.{◌∷◌, codes};
 ghost use Rattle.wasmprinter_spec.specs.Piece.{Gap};
 ghost use Rattle.wasmprinter_spec.specs.Layout.Groups.{line_group_gap};
@@ -16,21 +16,21 @@ use wasmprinter_print::{Fault, Print};
 use wasmprinter_types::composite::FuncType;
 use wasmprinter_words::words::put_gap;
 
-/// The types of a module, of which some are function types.
+/// The types of a module, by which function types are looked up.
 pub trait Signatures {
     ghost use Rattle.std.specs.Prelude.{◌≡◌, ℕ, Option};
     ghost use Rattle.wasmprinter_spec.specs.Types.{FuncType};
 
-    /// The function type with an index.
+    /// The function type with an index, if there is one.
     ghost signature_at: { Self → ℕ → Option FuncType };
 
-    /// The function type with the index, `None` where there is no such type or it is of another kind.
+    /// Returns the function type with the index, or `None` if there is no such type or it is not a function type.
     fn signature(&self, index: u32) -> Option<FuncType<'_>>
         ensures { result ≡ signature_at self.now index };
 }
 
-/// Writes the signature of a function type, and nothing where the index is not that of a function type. The parameters of a function,
-/// `owner`, have identifiers.
+/// Writes the parameters and results of the function type with the index. Writes nothing if the index is not that of a
+/// function type. The parameters have identifiers only if `owner` is their function.
 fn put_signature_at<P: Print, S: Signatures>(
     p: &mut P,
     fault: &mut Fault,
@@ -47,7 +47,7 @@ fn put_signature_at<P: Print, S: Signatures>(
     }
 }
 
-/// Writes a blank and the index of a type, as a group.
+/// Writes a space and a group with the index of a type.
 #[tactic(auto, unfolding(wasmprinter_spec::specs::Layout::ValTypes::type_index_pieces))]
 pub fn put_type_index<P: Print>(
     p: &mut P,
@@ -62,7 +62,7 @@ pub fn put_type_index<P: Print>(
     put_index_group(p, fault, identifiers, "type", Space::Types, index);
 }
 
-/// Writes a blank and the index of a type, as a group.
+/// Writes a space and a group with the index of a type.
 pub fn write_type_index<P: Print>(
     p: &mut P,
     identifiers: &Identifiers<'_, '_>,
@@ -76,8 +76,8 @@ pub fn write_type_index<P: Print>(
     fault.into_result()
 }
 
-/// Writes a space, the index of a type as a group, and its signature, which is nothing where the index is not that of a function type.
-/// The parameters of a function, `owner`, have identifiers.
+/// Writes a space, a group with the index of a type, and the parameters and results of that type if it is a
+/// function type. The parameters have identifiers only if `owner` is their function.
 pub fn put_type_use<P: Print, S: Signatures>(
     p: &mut P,
     fault: &mut Fault,
@@ -93,8 +93,8 @@ pub fn put_type_use<P: Print, S: Signatures>(
     put_signature_at(p, fault, identifiers, owner, types, index);
 }
 
-/// Writes a blank, the index of a type as a group, and its signature, which is nothing where the index is no function type's. The
-/// parameters of a function, `owner`, have identifiers.
+/// Writes a space, a group with the index of a type, and the parameters and results of that type if it is a
+/// function type. The parameters have identifiers only if `owner` is their function.
 pub fn write_type_use<P: Print, S: Signatures>(
     p: &mut P,
     identifiers: &Identifiers<'_, '_>,

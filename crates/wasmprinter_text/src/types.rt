@@ -1,5 +1,4 @@
-//! Heap types, reference types and value types (section 6.4 of the WebAssembly Core Specification), and what functions and blocks take
-//! and leave.
+//! Heap types, reference types, value types, and signatures (section 6.4 of the WebAssembly Core Specification).
 ghost use Rattle.std.specs.Prelude.{◌≡◌, [], ◌∷◌, codes};
 ghost use Rattle.wasmprinter_spec.specs.Piece.{Gap};
 ghost use Rattle.wasmprinter_spec.specs.Types.{Index};
@@ -26,7 +25,7 @@ use wasmprinter_words::words::{
     put_gap, put_open, put_open_gap, put_shut, put_type_word, put_word,
 };
 
-/// The word of an abstract heap type, empty of an index.
+/// Returns the keyword of an abstract heap type, or an empty string for a type index.
 fn heap_word(heap: HeapType) -> &'static str
     ensures { result.now ≡ heap_word (heap_view heap) }
 {
@@ -47,7 +46,7 @@ fn heap_word(heap: HeapType) -> &'static str
     }
 }
 
-/// The word of a reference to an abstract heap type that may be null, empty of an index.
+/// Returns the keyword of the nullable reference type to an abstract heap type, or an empty string for a type index.
 fn ref_word(heap: HeapType) -> &'static str
     ensures { result.now ≡ ref_word (heap_view heap) }
 {
@@ -123,7 +122,7 @@ pub fn write_heap_type<P: Print>(
     fault.into_result()
 }
 
-/// Writes the type of references to a type by its index that may be null.
+/// Writes the nullable reference type to a type index.
 #[tactic(auto, unfolding(wasmprinter_spec::specs::Layout::ValTypes::null_ref_pieces, wasmprinter_spec::specs::Layout::Groups::line_group))]
 fn put_null_index<P: Print>(
     p: &mut P,
@@ -142,7 +141,7 @@ fn put_null_index<P: Print>(
     put_shut(p, fault);
 }
 
-/// Writes the type of references that may be null: one word but for those to a type by its index.
+/// Writes a nullable reference type: one keyword, or a group if the heap type is a type index.
 #[tactic(auto, unfolding(wasmprinter_spec::specs::Layout::ValTypes::null_ref_pieces))]
 fn put_null_ref<P: Print>(
     p: &mut P,
@@ -159,7 +158,7 @@ fn put_null_ref<P: Print>(
     }
 }
 
-/// Writes the type of references that can't be null.
+/// Writes a non-nullable reference type.
 #[tactic(auto, unfolding(wasmprinter_spec::specs::Layout::Groups::line_group_gap))]
 fn put_some_ref<P: Print>(
     p: &mut P,
@@ -252,7 +251,7 @@ pub(crate) fn put_type<P: Print>(
     put_val_type(p, fault, identifiers, value_type);
 }
 
-/// Writes value types, a space before each.
+/// Writes value types, with a space before each.
 fn put_type_list<P: Print>(
     p: &mut P,
     fault: &mut Fault,
@@ -270,7 +269,7 @@ fn put_type_list<P: Print>(
     }
 }
 
-/// Writes a space and a group of types after a keyword.
+/// Writes a space and a group of a keyword and types.
 #[tactic(auto, unfolding(wasmprinter_spec::specs::Layout::Groups::line_group))]
 pub fn put_group<P: Print>(
     p: &mut P,
@@ -288,7 +287,7 @@ pub fn put_group<P: Print>(
     put_shut(p, fault);
 }
 
-/// Writes a space and a group of types after a keyword.
+/// Writes a space and a group of a keyword and types.
 pub fn write_group<P: Print>(
     p: &mut P,
     identifiers: &Identifiers<'_, '_>,
@@ -303,7 +302,7 @@ pub fn write_group<P: Print>(
     fault.into_result()
 }
 
-/// Writes a space and a group of types after a keyword, and nothing where there are none.
+/// Writes a space and a group of a keyword and types. Writes nothing if there are no types.
 fn put_list_group<P: Print>(
     p: &mut P,
     fault: &mut Fault,
@@ -319,8 +318,8 @@ fn put_list_group<P: Print>(
     }
 }
 
-/// Writes the parameters and results of a function, or of no function: parameters in groups, the results in one, with a space before
-/// each group. The parameters of a function, `owner`, have identifiers.
+/// Writes the parameters of a function type in groups, then its results in one group, with a space before each group.
+/// The parameters have identifiers only if `owner` is their function.
 #[tactic(auto, unfolding(wasmprinter_spec::specs::Layout::Types::signature_pieces))]
 pub(crate) fn put_signature<P: Print>(
     p: &mut P,
@@ -336,8 +335,8 @@ pub(crate) fn put_signature<P: Print>(
     put_list_group(p, fault, identifiers, "result", &func_type.results());
 }
 
-/// Writes the parameters and results of a function, or of no function: parameters in groups, the results in one, with a space before
-/// each group. The parameters of a function, `owner`, have identifiers.
+/// Writes the parameters of a function type in groups, then its results in one group, with a space before each group.
+/// The parameters have identifiers only if `owner` is their function.
 pub fn signature<P: Print>(
     p: &mut P,
     identifiers: &Identifiers<'_, '_>,

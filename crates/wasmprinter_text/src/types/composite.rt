@@ -22,7 +22,7 @@ use wasmprinter_words::words::{
     put_gap, put_open, put_open_gap, put_open_plain, put_shut, put_word,
 };
 
-/// Writes what a field holds.
+/// Writes the storage type of a field.
 #[tactic(auto, unfolding(wasmprinter_spec::specs::Layout::Types::storage_pieces))]
 fn put_storage<P: Print>(
     p: &mut P,
@@ -40,7 +40,7 @@ fn put_storage<P: Print>(
     }
 }
 
-/// Writes the storage type of a field that may change, as a group.
+/// Writes the storage type of a mutable field, as a group.
 fn put_mutable<P: Print>(
     p: &mut P,
     fault: &mut Fault,
@@ -115,7 +115,7 @@ fn put_field_group<P: Print>(
     put_shut(p, fault);
 }
 
-/// Writes the fields of the structure type `owner`, a space before each.
+/// Writes the fields of the structure type `owner`, with a space before each.
 fn put_fields<P: Print>(
     p: &mut P,
     fault: &mut Fault,
@@ -134,7 +134,7 @@ fn put_fields<P: Print>(
     }
 }
 
-/// Writes the type of a function, as a group.
+/// Writes a function type, as a group.
 #[tactic(auto, unfolding(wasmprinter_spec::specs::Layout::Types::composite_pieces, wasmprinter_spec::specs::Layout::Groups::line_group))]
 fn put_func_type<P: Print>(
     p: &mut P,
@@ -150,7 +150,7 @@ fn put_func_type<P: Print>(
     put_shut(p, fault);
 }
 
-/// Writes the type of an array with such elements.
+/// Writes an array type with the given element type, as a group.
 #[tactic(auto, unfolding(wasmprinter_spec::specs::Layout::Types::composite_pieces, wasmprinter_spec::specs::Layout::Groups::line_group))]
 fn put_array_type<P: Print>(
     p: &mut P,
@@ -166,7 +166,7 @@ fn put_array_type<P: Print>(
     put_shut(p, fault);
 }
 
-/// Writes the structure type with the number, which has these fields.
+/// Writes the structure type with the given number and fields, as a group.
 #[tactic(auto, unfolding(wasmprinter_spec::specs::Layout::Types::composite_pieces, wasmprinter_spec::specs::Layout::Groups::line_group))]
 fn put_struct_type<P: Print>(
     p: &mut P,
@@ -183,7 +183,7 @@ fn put_struct_type<P: Print>(
     put_shut(p, fault);
 }
 
-/// Writes the composite type with the number.
+/// Writes the composite type of the type with the given number.
 fn put_composite_type<P: Print>(
     p: &mut P,
     fault: &mut Fault,
@@ -201,7 +201,7 @@ fn put_composite_type<P: Print>(
     }
 }
 
-/// Writes that a subtype is final, if it is, and a space.
+/// Writes `final` and a space if the subtype is final.
 fn put_final_if<P: Print>(p: &mut P, fault: &mut Fault, is_final: bool)
     ensures { (names : Names) → Marks P.meaning p.old fault.old p.new fault.new (final_pieces names is_final) }
 {
@@ -226,7 +226,7 @@ fn put_supertype<P: Print>(
     put_gap(p, fault);
 }
 
-/// Writes the indices of supertypes, a space after each.
+/// Writes the indices of supertypes, with a space after each.
 fn put_supertypes<P: Print>(
     p: &mut P,
     fault: &mut Fault,
@@ -244,7 +244,7 @@ fn put_supertypes<P: Print>(
     }
 }
 
-/// Writes the subtype with the number as a group.
+/// Writes the subtype of the type with the given number, as a group.
 #[tactic(auto, unfolding(wasmprinter_spec::specs::Layout::Types::sub_group, wasmprinter_spec::specs::Layout::Groups::line_group))]
 fn put_sub_group<P: Print>(
     p: &mut P,
@@ -264,14 +264,15 @@ fn put_sub_group<P: Print>(
     put_shut(p, fault);
 }
 
-/// Whether a subtype is its composite type by itself.
+/// Reports whether a subtype is written as its composite type alone: it is final and has no supertypes.
 fn is_plain(sub_type: &SubType<'_>) -> bool
     ensures { result ≡ (sub_type.now.final && (length sub_type.now.supertypes == 0)) }
 {
     sub_type.is_final() && sub_type.supertypes().len() == 0
 }
 
-/// Writes the subtype with the number: a final one without supertypes as its composite type by itself.
+/// Writes the subtype of the type with the given number. A final type without supertypes is written as its
+/// composite type alone.
 fn put_sub_type<P: Print>(
     p: &mut P,
     fault: &mut Fault,
@@ -289,7 +290,7 @@ fn put_sub_type<P: Print>(
     }
 }
 
-/// Writes the type with the number.
+/// Writes the definition of the type with the given number.
 #[tactic(auto, unfolding(wasmprinter_spec::specs::Layout::Types::type_pieces, wasmprinter_spec::specs::Layout::Groups::line_group_gap))]
 fn put_type_field<P: Print>(
     p: &mut P,
@@ -308,7 +309,7 @@ fn put_type_field<P: Print>(
     put_shut(p, fault);
 }
 
-/// Writes the type with the number.
+/// Writes the definition of the type with the given number.
 pub fn type_field<P: Print>(
     p: &mut P,
     identifiers: &Identifiers<'_, '_>,

@@ -1,5 +1,5 @@
-//! Parameters and locals (section 6.6 of the WebAssembly Core Specification, "Functions" and "Type Uses"). One with an identifier stands in
-//! a group of its own, and neighbours without share one.
+//! Parameters and locals (section 6.6 of the WebAssembly Core Specification, "Functions" and "Type Uses"). A
+//! variable with an identifier has a group of its own; adjacent variables without identifiers share a group.
 ghost use Rattle.std.specs.Prelude.{◌≡◌, ◌∷◌, ◌++◌, Some, IfOk, codes, option_map};
 ghost use Rattle.wasmprinter_spec.specs.Layout.Groups.{line_group};
 ghost use Rattle.wasmprinter_spec.specs.Layout.Types.{parameters_of};
@@ -21,10 +21,10 @@ use wasmprinter_print::{Fault, Print};
 use wasmprinter_types::{ValType, ValTypes};
 use wasmprinter_words::words::{put_gap, put_open, put_shut};
 
-/// What stands before a variable.
+/// The state of the text before a variable.
 #[derive(Clone, Copy)]
 pub enum Before {
-    /// The beginning of a line.
+    /// The start of a line.
     Line,
     /// No group is open.
     Shut,
@@ -32,7 +32,7 @@ pub enum Before {
     Open,
 }
 
-/// The identifier of a variable of a function, and none of a parameter that is of no function.
+/// Returns the identifier of a variable of the function `owner`, or `None` for a parameter without a function.
 fn variable<'n>(
     identifiers: &Identifiers<'n, '_>,
     owner: Option<u64>,
@@ -46,7 +46,7 @@ fn variable<'n>(
     }
 }
 
-/// Writes what comes before a new group.
+/// Writes the text before a new group: closes the group that is open and writes a space, as far as needed.
 fn put_begin_group<P: Print>(p: &mut P, fault: &mut Fault, before: Before)
     ensures { Marks P.meaning p.old fault.old p.new fault.new (front_pieces before) }
 {
@@ -98,7 +98,7 @@ fn put_first<P: Print>(
     put_type(p, fault, identifiers, value_type);
 }
 
-/// Writes a variable without an identifier: in the group that is open, or as the first of a new one.
+/// Writes a variable without an identifier: in the open group, or as the first of a new one.
 fn put_together<P: Print>(
     p: &mut P,
     fault: &mut Fault,
@@ -116,7 +116,7 @@ fn put_together<P: Print>(
     }
 }
 
-/// Writes a variable, and returns what comes before the next one.
+/// Writes a variable and returns the state before the next one.
 #[tactic(auto, unfolding(wasmprinter_spec::specs::Layout::Variables::variables_pieces))]
 fn put_variable<P: Print>(
     p: &mut P,
@@ -145,8 +145,8 @@ fn put_variable<P: Print>(
     }
 }
 
-/// Writes a variable, and says what stands before the next one. `owner` is the function whose variable it is, `None` of a parameter that is
-/// of no function.
+/// Writes a variable and returns the state before the next one. `owner` is the function of the variable, or `None`
+/// for a parameter without a function.
 pub fn write_variable<P: Print>(
     p: &mut P,
     identifiers: &Identifiers<'_, '_>,
@@ -176,7 +176,7 @@ pub fn write_variable<P: Print>(
     Ok(next)
 }
 
-/// Closes the group that is open after the last variable, if one is.
+/// Closes the group that is open after the last variable, if there is one.
 fn put_end_variables<P: Print>(p: &mut P, fault: &mut Fault, before: Before)
     ensures { Marks P.meaning p.old fault.old p.new fault.new (end_pieces before) }
 {
@@ -185,7 +185,7 @@ fn put_end_variables<P: Print>(p: &mut P, fault: &mut Fault, before: Before)
     }
 }
 
-/// Shuts the group that is open behind the last variable, if one is.
+/// Closes the group that is open after the last variable, if there is one.
 pub fn end_variables<P: Print>(p: &mut P, before: Before) -> io::Result<()>
     ensures { PrintsAlways P.meaning p.old p.new result (end_pieces before) }
 {
@@ -194,7 +194,8 @@ pub fn end_variables<P: Print>(p: &mut P, before: Before) -> io::Result<()>
     fault.into_result()
 }
 
-/// Writes parameters in their groups, a space before each group. `owner` is the function whose parameters they are, if they are of one.
+/// Writes parameters in their groups, with a space before each group. `owner` is the function of the parameters, or
+/// `None` for parameters without a function.
 pub(crate) fn put_params<P: Print>(
     p: &mut P,
     fault: &mut Fault,

@@ -6,7 +6,7 @@ use Rattle.wasmprinter_customs.specs.declared.dylink.Content.{Content}
 use Rattle.wasmprinter_annotations.proofs.Lists.{has_content_lines, content-break}
 use Rattle.wasmprinter_annotations.proofs.dylink.has_content_lines.Goals as goal
 
--- by what the subsection holds
+-- The test says whether a line begins, for each kind of subsection.
 by_variant : (place : ℕ) (c d : Content) → c ≡ d → has_content_lines place (content_view d) ≡ has_break (content_pieces place (content_view c))
 by_variant place c d e = sym (content-break place (content_view d)) ∙ ap (λ (x : Content). has_break (content_pieces place (content_view x))) (sym e)
 

@@ -7,7 +7,7 @@ use Rattle.wasmprinter_text.specs.declared.types.variables.Before.TheVariants.{L
 use Rattle.wasmprinter_bodies.proofs.LocalLines.{walk_from}
 use Rattle.wasmprinter_bodies.proofs.locals.write_entries.Given as goal
 
--- each entry that is left counts fewer than 2^32 locals
+-- Each remaining entry declares fewer than 2^32 locals.
 abbrev pub invariant-loop-entry : goal.invariant-loop-entry
 invariant-loop-entry g l = record {
   lacks : (o : Options) → Lacks g.P.Print.meaning o l.fn.p l.p

@@ -1,4 +1,4 @@
--- What is left has the same first place.
+-- The rest of the list has the same first place as the whole list.
 use Rattle.std.specs.Prelude.{◌≡◌}
 use Rattle.wasmprinter_error.specs.declared.error.Error.TheVariants.{FoldHint}
 use Rattle.wasmprinter_spec.specs.Folding.Refusals.{misplaced_hints_in}

@@ -1,4 +1,4 @@
--- What is left has the same first place.
+-- The rest of the functions have the same first place as all functions.
 use Rattle.std.specs.Prelude.{◌≡◌, ◌+◌, drop}
 use Rattle.wasmprinter_error.specs.declared.error.Error.TheVariants.{FoldHint}
 use Rattle.wasmprinter_spec.specs.Types.{FuncKind}

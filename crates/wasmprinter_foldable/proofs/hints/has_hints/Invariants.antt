@@ -1,4 +1,4 @@
--- None was found: one is among those that are left, or there is none.
+-- No hint section was found so far: there is one among the rest, or there is none.
 use Rattle.std.proofs.Common.{◌≡◌, drop, codes, None}
 use Rattle.std.specs.Prelude.{is_some}
 use Rattle.wasmprinter_spec.specs.Customs.Hints.{last_named}

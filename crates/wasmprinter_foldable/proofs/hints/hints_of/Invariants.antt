@@ -1,4 +1,4 @@
--- The last hint section is the last among those that are left, or the one that was found.
+-- The last hint section is the last among the rest or, if the rest has none, the one that was found.
 use Rattle.std.proofs.Common.{◌≡◌, drop, option_copied, option_map, codes, None}
 use Rattle.wasmprinter_spec.specs.Customs.Hints.{last_named}
 use Rattle.wasmprinter_foldable.proofs.hints.hints_of.Given as goal

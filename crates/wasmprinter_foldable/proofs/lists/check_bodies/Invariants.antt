@@ -1,4 +1,4 @@
--- What is left has the same first place.
+-- The rest of the bodies have the same first place as all bodies.
 use Rattle.std.specs.Prelude.{◌≡◌, drop, map}
 use Rattle.std.specs.List.{flat_map}
 use Rattle.wasmprinter_error.specs.declared.error.Error.TheVariants.{FoldLegacy}

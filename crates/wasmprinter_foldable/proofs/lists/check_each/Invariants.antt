@@ -1,4 +1,4 @@
--- What is left has the same first place.
+-- The rest of the items have the same first place as all items.
 use Rattle.std.specs.Prelude.{◌≡◌, drop}
 use Rattle.std.specs.List.{flat_map}
 use Rattle.wasmprinter_error.specs.declared.error.Error.TheVariants.{FoldLegacy}
