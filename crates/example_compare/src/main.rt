@@ -1,4 +1,5 @@
-//! `example_compare FILE FILE` compares two modules by their texts, and shows the first line that differs and the function that it is in.
+//! `example_compare FILE FILE` compares the texts of two modules. It prints the first line that differs, and the
+//! header of the function that contains the line.
 #![tactic(auto)]
 
 use std::alloc::Global;
@@ -6,7 +7,7 @@ use std::env;
 use std::path::Path;
 use wasmprinter::{Error, print_file};
 
-/// How the header of a function starts.
+/// The start of a function's header.
 const HEADER: &str = "  (func";
 
 /// Returns the index of the first line that differs, or `None` if the texts are equal.
@@ -20,7 +21,7 @@ fn first_difference(left: &[&str], right: &[&str]) -> Option<usize> {
     None
 }
 
-/// Returns the header of the function that a line is in, or of the last function before it.
+/// Returns the header of the function that contains a line, or of the last function before the line.
 fn header_before<'a>(lines: &[&'a str], index: usize) -> Option<&'a str> {
     let mut header = None;
     for line in lines.iter().take(index.saturating_add(1)) {
@@ -31,7 +32,7 @@ fn header_before<'a>(lines: &[&'a str], index: usize) -> Option<&'a str> {
     header
 }
 
-/// Prints what differs.
+/// Prints the first difference of two texts.
 fn compare<R: Print>(rt: &R, alloc: Global, left: &str, right: &str) -> Result<(), Error> {
     let left = left.lines().collect::<Vec<&str>>(alloc)?;
     let right = right.lines().collect::<Vec<&str>>(alloc)?;

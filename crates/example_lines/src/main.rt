@@ -1,5 +1,5 @@
-//! `example_lines FILE OFFSET..` is a source map. For each byte offset in a module, it prints the line of the text that shows the byte, and
-//! the offset at which that line starts.
+//! `example_lines FILE OFFSET..` is a source map. For each byte offset in a module, it prints the line of the text
+//! that shows the byte, and the byte offset at which that line starts.
 #![tactic(auto)]
 
 ghost use Rattle.std.specs.Prelude.{◌<◌, IfSome, length};
@@ -8,7 +8,7 @@ use std::path::Path;
 use std::{env, fs, io};
 use wasmprinter::{Config, Error};
 
-/// Returns the index of the line that shows a byte: the last line with a place that is not after the byte.
+/// Returns the index of the line that shows a byte: the last line whose place is not after the byte.
 fn line_at(lines: &[(Option<u64>, &str)], offset: u64) -> Option<usize>
     ensures { IfSome result (λ index. index < length lines.now) }
 {
@@ -21,7 +21,7 @@ fn line_at(lines: &[(Option<u64>, &str)], offset: u64) -> Option<usize>
     found
 }
 
-/// Prints the line that shows a byte, and where that line starts.
+/// Prints the line that shows a byte, and the byte offset at which that line starts.
 fn print_line<R: Print>(rt: &R, lines: &[(Option<u64>, &str)], offset: u64) -> io::Result<()> {
     let Some(index) = line_at(lines, offset) else {
         return println!(rt; "byte {offset:#x} is on no line");

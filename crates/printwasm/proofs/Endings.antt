@@ -1,4 +1,4 @@
--- What a refusal comes to.
+-- The outcome of a run that ends with an error.
 use Rattle.std.specs.Prelude.{◌≡◌, ℕ, List, Option, Some, None}
 use Rattle.std.proofs.Common.{sym, ◌∙◌, arith}
 use Rattle.wasmprinter_error.specs.declared.error.Error.{Error}
@@ -6,7 +6,8 @@ use Rattle.wasmprinter.specs.OfFile.{Reading}
 use Rattle.printwasm.specs.Words.{named_file, choice_of}
 use Rattle.printwasm.specs.Outcome.{TextWrite, FailsToWrite, Rendering, TellsError, HasOutcome}
 
--- the file is named, its module isn't printed for this error, and the error was told
+-- If the words name a file, its module is not printed for an error, and the error was reported, the run has its
+-- outcome with status 1.
 pub refusal_told : {W V : Type 0} (gives : List ℕ → Reading) (takes : TextWrite W) (tells : TextWrite V) (renders : Rendering Error) (words : List (List ℕ))
     {out new_out : W} {err new_err : V} (file : List ℕ) (error : Error) → named_file words ≡ Some file →
     FailsToWrite (choice_of words) (gives file) takes out new_out error → TellsError tells err new_err renders error →

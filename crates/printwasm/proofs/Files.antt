@@ -1,16 +1,17 @@
--- The file that words name, told word by word.
+-- The file that words name, found word by word.
 use Rattle.std.specs.Prelude.{◌≡◌, List, [], ◌∷◌, ℕ, map, Bool, true, false, Option, Some, None, if◌then◌else◌, ◌||◌}
 use Rattle.std.specs.List.{list_any, list_all}
 use Rattle.std.proofs.Common.{refl, ap}
 use Rattle.printwasm.specs.Words.{is_known, is_option, files, named_file}
 use Rattle.wasmprinter_spec.specs.Text.Items.{the_only}
 
--- a test of the texts of items is one of the items
+-- Some item's image passes a test exactly if some element of the list of images passes it.
 pub any_of_map : {A B : Type 0} (test : B → Bool) (f : A → B) (xs : List A) → list_any (λ x. test (f x)) xs ≡ list_any test (map f xs)
 any_of_map test f [] = refl
 any_of_map test f (x ∷ xs) = ap (λ b. test (f x) || b) (any_of_map test f xs)
 
--- the file that words name which stand behind this one, if there is one
+-- The file that all words name, if these are the remaining words and the words before them contain this file, or
+-- no file.
 abbrev pub named_behind : Option (List ℕ) → List (List ℕ) → Option (List ℕ)
 named_behind None rest = named_file rest
 named_behind (Some file) rest = if list_all is_known rest then the_only (file ∷ files rest) else None

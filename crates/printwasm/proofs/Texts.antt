@@ -1,4 +1,4 @@
--- What the bytes that a read gave come to.
+-- The result for a file follows from the result for the bytes that reading it returned.
 use Rattle.std.specs.Prelude.{◌↔◌, ℕ, List, Some, Result, Ok, Err, IfOk, IfErr, IsErrOf}
 use Rattle.std.proofs.Common.{inr}
 use Rattle.wasmprinter_error.specs.declared.error.Error.{Error}
@@ -10,13 +10,13 @@ use Rattle.wasmprinter.proofs.OfFile.{component_error}
 use Rattle.printwasm.specs.Words.{Choice}
 use Rattle.printwasm.specs.Outcome.{IsTextBy, GivesText, GivesNoText}
 
--- the text of the bytes is the file's
+-- The text of the bytes that reading returned is the text of the file.
 pub gives_text : {T : Type 0} (choice : Choice) (view : T → List ℕ) (gives : Reading) (wasm : List ℕ) (r : Result T Error) →
     gives (Some wasm) → IfOk r (λ t. IsTextBy choice wasm (view t)) → IfOk r (λ t. GivesText choice gives (view t))
 gives_text choice view gives wasm (Ok t) g h = (wasm, g, h)
 gives_text choice view gives wasm (Err e) g h = tt
 
--- why there is none
+-- If those bytes are refused, the file has no text for the same error.
 pub gives_no_text : {T : Type 0} (choice : Choice) (gives : Reading) (wasm : List ℕ) (r : Result T Error) →
     gives (Some wasm) → IfErr r (IsTrueOfText choice.options wasm) → IfErr r (HasTextCause choice.options wasm) →
     (IsErrOf r Component ↔ IsComponent wasm) → IfErr r (GivesNoText choice gives)

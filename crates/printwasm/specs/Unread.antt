@@ -1,7 +1,7 @@
--- Words that can't be read.
+-- Arguments that can't be read.
 use Rattle.std.specs.declared.io.Error.{Error as IoError}
 use Rattle.printwasm.specs.declared.rendering.WordsError.{WordsError}
 
--- the program's error for an error of the system
+-- The program's error for an error of the system.
 abbrev pub words_error : IoError → WordsError
 words_error e = record { cause = e }

@@ -1,4 +1,5 @@
-//! Tests of what no contract of the system says: sinks, sources and error lines at each length. Expected texts are typed by hand.
+//! Tests of behavior that no contract of the system specifies: sinks, sources and error lines at each length.
+//! Expected texts are typed by hand.
 ghost use Rattle.std.specs.Prelude.{⊤};
 
 use crate::program::run;
@@ -17,10 +18,10 @@ use wasmprinter_samples::PREAMBLE;
 /// The text of the module without fields.
 const EMPTY_TEXT: &str = "(module)\n";
 
-/// Lengths of texts: short ones, and those around two sizes of buffers.
+/// Lengths of texts: short ones, and lengths around two buffer sizes.
 const TEXT_LENGTHS: [(usize, usize); 3] = [(0, 300), (65_530, 65_540), (131_066, 131_078)];
 
-/// A text of this length.
+/// Returns a text of this length.
 fn text_of(alloc: Global, len: usize) -> Result<String, Fail> {
     let mut text = String::new(alloc);
     for _ in 0..len {
@@ -29,7 +30,7 @@ fn text_of(alloc: Global, len: usize) -> Result<String, Fail> {
     Ok(text)
 }
 
-/// Whether a sink takes a text of this length, as text and as bytes, and gains nothing else.
+/// Returns whether a sink accepts a text of this length, as text and as bytes, and gains nothing else.
 fn takes_all(alloc: Global, len: usize) -> Result<bool, Fail> {
     let text = text_of(alloc, len)?;
     let mut written = Vec::new(alloc);
@@ -49,12 +50,13 @@ fn takes_texts_of_each_length(rt: HostRuntime) -> Result<(), Fail> {
     Ok(())
 }
 
-/// A source whose files all have the same content, or can't be read. It counts its reads, and those of one path.
+/// A source whose files all have the same content, or can't be read. It counts all its reads, and the reads of one
+/// path.
 #[derive(Drop)]
 struct Counted<'a> {
     alloc: Global,
     path: &'a str,
-    /// The content of each file, `None` if reading fails.
+    /// The content of each file, or `None` if reading fails.
     content: Option<&'a [u8]>,
     reads: Cell<u32>,
     reads_of_path: Cell<u32>,
@@ -93,14 +95,14 @@ impl Source for Counted<'_> {
     }
 }
 
-/// Whether `print_file` reads this path once, and no other path.
+/// Returns whether `print_file` reads this path once, and no other path.
 fn is_read_once_by_the_library(alloc: Global, path: &str) -> Result<bool, Fail> {
     let source = Counted::new(alloc, path, Some(&PREAMBLE));
     let text = print_file(&source, alloc, Path::new(path))?;
     Ok(text.as_str() == EMPTY_TEXT && source.was_read_once())
 }
 
-/// Words of the program.
+/// Returns the words of the program as strings.
 fn words_of(alloc: Global, words: &[&str]) -> Result<Vec<String>, Fail> {
     let mut owned = Vec::new(alloc);
     for word in words {
@@ -122,7 +124,7 @@ fn run_over_source(
     Ok((status, out))
 }
 
-/// Whether the program reads this path once, and no other path.
+/// Returns whether the program reads this path once, and no other path.
 fn is_read_once_by_the_program(alloc: Global, path: &str) -> Result<bool, Fail> {
     let source = Counted::new(alloc, path, Some(&PREAMBLE));
     let (status, out) = run_over_source(alloc, &source, &[path])?;
@@ -184,14 +186,14 @@ fn reads_once_with_each_option(rt: HostRuntime) -> Result<(), Fail> {
     Ok(())
 }
 
-/// Contents that give no text: a failed read, malformed bytes, and a component.
+/// Contents for which there is no text: a failed read, malformed bytes, and a component.
 const WITHOUT_TEXT: [Option<&[u8]>; 3] = [
     None,
     Some(&[0x00]),
     Some(&[0x00, 0x61, 0x73, 0x6d, 0x0d, 0x00, 0x01, 0x00]),
 ];
 
-/// Whether the library and the program read a file without text once, and print nothing.
+/// Returns whether the library and the program read a file without text once, and print nothing.
 fn is_refused_after_one_read(alloc: Global, content: Option<&[u8]>) -> Result<bool, Fail> {
     let source = Counted::new(alloc, "a.wasm", content);
     let refused = print_file(&source, alloc, Path::new("a.wasm")).is_err();
@@ -214,14 +216,14 @@ fn reads_once_if_there_is_no_text(rt: HostRuntime) -> Result<(), Fail> {
     Ok(())
 }
 
-/// Whether this line is written for an error, and nothing else.
+/// Returns whether exactly this line is written for an error.
 fn reports(alloc: Global, error: &Error, text: &str) -> Result<bool, Fail> {
     let mut err = Vec::new(alloc);
     ByDisplay.write_line(&mut err, error)?;
     Ok(err.as_slice() == text.as_bytes())
 }
 
-/// Places of each length in hexadecimal digits.
+/// Places with each number of hexadecimal digits.
 const PLACES: [(u64, &str); 17] = [
     (0x0, "0x0"),
     (0x1, "0x1"),
@@ -242,7 +244,7 @@ const PLACES: [(u64, &str); 17] = [
     (0xfedc_ba98_7654_3210, "0xfedcba9876543210"),
 ];
 
-/// Each error that has a place, and the parts of its line before and after the place.
+/// Returns each error that has a place, with the parts of its line before and after the place.
 fn errors_at(place: u64) -> [(Error, &'static str, &'static str); 5] {
     [
         (
@@ -273,7 +275,7 @@ fn errors_at(place: u64) -> [(Error, &'static str, &'static str); 5] {
     ]
 }
 
-/// A text of three parts.
+/// Returns a text of three parts.
 fn joined(alloc: Global, before: &str, middle: &str, after: &str) -> Result<String, Fail> {
     let mut text = String::from_str(alloc, before)?;
     text.push_str(middle)?;
@@ -281,7 +283,7 @@ fn joined(alloc: Global, before: &str, middle: &str, after: &str) -> Result<Stri
     Ok(text)
 }
 
-/// Whether the line of each error with this place shows it by these digits.
+/// Returns whether the line of each error with this place shows the place with these digits.
 fn show_place(alloc: Global, place: u64, digits: &str) -> Result<bool, Fail> {
     for (error, before, after) in errors_at(place) {
         let line = joined(alloc, before, digits, after)?;
@@ -309,7 +311,7 @@ fn reports_each_small_place(rt: HostRuntime) -> Result<(), Fail> {
     Ok(())
 }
 
-/// Counts of functions of each length, with their lines.
+/// Counts of functions with each number of digits, with their lines.
 const COUNTS: [(u32, &str); 10] = [
     (9, "error: module has 9 functions, more than 1000000\n"),
     (98, "error: module has 98 functions, more than 1000000\n"),
@@ -355,7 +357,7 @@ fn reports_counts_of_each_length(rt: HostRuntime) -> Result<(), Fail> {
     Ok(())
 }
 
-/// Ids of subsections of each length, with their lines.
+/// Ids of subsections with each number of digits, with their lines.
 const IDS: [(u8, &str); 4] = [
     (0, "error: unknown dylink.0 subsection 0\n"),
     (7, "error: unknown dylink.0 subsection 7\n"),
@@ -389,7 +391,7 @@ fn reports_errors_without_a_number(rt: HostRuntime) -> Result<(), Fail> {
     Ok(())
 }
 
-/// Sizes of files, four of them around 2^17 bytes, each with the LEB128 number that is the size of the custom section.
+/// Sizes of files, four of them around 2^17 bytes, each with the size of the custom section in LEB128.
 const FILE_SIZES: [(usize, [u8; 3]); 5] = [
     (131_071, [0xf3, 0xff, 0x07]),
     (131_072, [0xf4, 0xff, 0x07]),
@@ -401,7 +403,7 @@ const FILE_SIZES: [(usize, [u8; 3]); 5] = [
 /// The number of bytes of such a file before the content of its custom section.
 const BEFORE_CONTENT: usize = 14;
 
-/// A module of this size whose one section is custom, named `a`, and contains the letter x again and again.
+/// Returns a module of this size. Its only section is custom, is named `a`, and contains only the letter x.
 fn module_of(alloc: Global, size: usize, section_size: &[u8]) -> Result<Vec<u8>, Fail> {
     let mut wasm = Vec::new(alloc);
     wasm.extend_from_slice(&PREAMBLE)?;
@@ -414,7 +416,7 @@ fn module_of(alloc: Global, size: usize, section_size: &[u8]) -> Result<Vec<u8>,
     Ok(wasm)
 }
 
-/// Whether the library and the program print a file of this size whole.
+/// Returns whether the library and the program print the whole of a file of this size.
 fn print_whole(rt: &HostRuntime, size: usize, section_size: &[u8]) -> Result<bool, Fail> {
     let name = "edge.wasm";
     fs::write(rt, name, &module_of(rt.alloc(), size, section_size)?)?;

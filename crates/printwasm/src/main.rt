@@ -1,4 +1,5 @@
-//! `printwasm [--offsets] [--skeleton] [--name-unnamed] [--fold] [--color] FILE` prints a WebAssembly module as text.
+//! The program `printwasm [--offsets] [--skeleton] [--name-unnamed] [--fold] [--color] FILE`, which prints a
+//! WebAssembly module as text.
 #![tactic(auto)]
 
 #[cfg(test)]

@@ -1,4 +1,5 @@
-//! What the program does with its words, over any source of files, any texts of errors and any two sinks.
+//! The program's behavior for its arguments, generic over the source of files, the texts of errors and the two
+//! sinks.
 ghost use Rattle.std.specs.Prelude.{◌≡◌, ◌↔◌, ℕ, ◌⊎◌, List, Ok, map, option_copied, OnOk, IfOk, IfErr, IsErrOf, string_bytes};
 ghost use Rattle.std.specs.Iterator.{IsFinite};
 ghost use Rattle.std.specs.Process.{exit_status};
@@ -21,37 +22,38 @@ use wasmprinter::{Config, Error, Source};
 const USAGE: &str =
     "usage: printwasm [--offsets] [--skeleton] [--name-unnamed] [--fold] [--color] FILE\n";
 
-/// The module was printed.
+/// The exit status after the module was printed.
 const PRINTED: u8 = 0;
 
-/// The file can't be read, the module can't be printed, or the words can't be held.
+/// The exit status if the file can't be read, the module can't be printed, the text can't be written, or the
+/// arguments can't be read.
 const REFUSED: u8 = 1;
 
-/// The words aren't those of the usage line.
+/// The exit status if the arguments do not match the usage line.
 const MISUSED: u8 = 2;
 
-/// How a word begins that chooses an option.
+/// The prefix of the words that choose an option.
 const OPTION_START: &str = "--";
 
-/// Each line begins with the place of what stands on it.
+/// Each line after the first begins with its place.
 const OFFSETS: &str = "--offsets";
 
 /// Bodies, items of element segments, and bytes of data segments and custom sections are left out.
 const SKELETON: &str = "--skeleton";
 
-/// Identifiers are made up for items without a name.
+/// Identifiers are synthesized for items without a name.
 const NAME_UNNAMED: &str = "--name-unnamed";
 
-/// Each operator stands in parentheses with its operands.
+/// Each operator is printed in parentheses with its operands.
 const FOLD: &str = "--fold";
 
-/// The text is coloured for a terminal.
+/// The text has ANSI escape sequences.
 const COLOR: &str = "--color";
 
-/// All options that there are.
+/// All options of the program.
 const OPTIONS: [&str; 5] = [OFFSETS, SKELETON, NAME_UNNAMED, FOLD, COLOR];
 
-/// What the words choose.
+/// The choices that the arguments make.
 #[derive(Drop)]
 struct Choice {
     config: Config,
@@ -66,7 +68,7 @@ impl Model for Choice {
     ghost view = { λ c. record { options = c.config; coloured = c.is_colored } };
 }
 
-/// The program over all words that it is started with, its own name first.
+/// Runs the program with all its arguments, of which the first is its own name, and returns the exit status.
 pub fn start<S, R, I, O, E>(
     source: &S,
     renderer: &R,
@@ -97,7 +99,7 @@ where
     ExitCode::from(status)
 }
 
-/// The words as they come, the program's own name not among them.
+/// Returns the arguments in order, without the first, which is the program's name.
 fn words_of<I: Iterator<Item = String>>(
     alloc: Global,
     args: io::Result<I>,
@@ -110,9 +112,10 @@ fn words_of<I: Iterator<Item = String>>(
     Ok(args?.skip(1).collect(alloc)?)
 }
 
-/// Prints the module in the file that the words name, the program's own name not among them, and answers the status.
+/// Prints the module in the file that the arguments name, and returns the exit status. `words` does not contain
+/// the program's name.
 ///
-/// Nothing is written to `out` before the whole text stands. A refusal writes one line to `err`.
+/// Nothing is written to `out` before the text is complete. After an error, one line is written to `err`.
 pub fn run<S: Source, R: Render<Error>, O: Sink, E: Sink>(
     source: &S,
     renderer: &R,
@@ -134,21 +137,22 @@ pub fn run<S: Source, R: Render<Error>, O: Sink, E: Sink>(
     }
 }
 
-/// Whether a word chooses an option.
+/// Returns whether a word chooses an option.
 fn is_option(word: &str) -> bool
     ensures { result ≡ is_option word.now }
 {
     word.starts_with(OPTION_START)
 }
 
-/// Whether a word is a file, or an option that there is.
+/// Returns whether a word is a file or an option of the program.
 fn is_known(word: &str) -> bool
     ensures { result ≡ is_known word.now }
 {
     !is_option(word) || OPTIONS.contains(&word)
 }
 
-/// The file that the words name, if they name one alone, and each other word is an option that there is.
+/// Returns the file that the words name. Returns `None` if they name no file or several, or if one of them is an
+/// unknown option.
 fn file_of(words: &[String]) -> Option<&str>
     ensures { option_copied result ≡ named_file (map string_bytes words.now) }
 {
@@ -164,14 +168,14 @@ fn file_of(words: &[String]) -> Option<&str>
     file
 }
 
-/// Whether a word stands among these.
+/// Returns whether the words contain this option.
 fn has(words: &[String], option: &str) -> bool
     ensures { result ≡ has (map string_bytes words.now) option.now }
 {
     words.iter().any(|word| word.as_str() == option)
 }
 
-/// What the words choose.
+/// Returns the choices that the words make.
 fn choice_of(words: &[String]) -> Choice
     ensures { result ≡ choice_of (map string_bytes words.now) }
 {
@@ -187,7 +191,7 @@ fn choice_of(words: &[String]) -> Choice
     }
 }
 
-/// Writes the text of the module in a file. The text is made whole before it is written.
+/// Writes the text of the module in a file in one write. The text is complete before it is written.
 fn write_file<S: Source, O: Sink>(
     source: &S,
     alloc: Global,
@@ -202,7 +206,7 @@ fn write_file<S: Source, O: Sink>(
     out.write_bytes(&text).map_err(Error::Printer)
 }
 
-/// The text of the module in a file.
+/// Returns the text of the module in a file.
 fn print_file<S: Source>(
     source: &S,
     alloc: Global,
@@ -216,7 +220,7 @@ fn print_file<S: Source>(
     print(alloc, choice, &wasm)
 }
 
-/// The text of a module.
+/// Returns the text of a module.
 fn print(alloc: Global, choice: &Choice, wasm: &[u8]) -> Result<Vec<u8>, Error>
     ensures printed { IfOk result (λ text. IsTextBy choice.now wasm.now text.items) }
     ensures caused { IfErr result (HasTextCause choice.now.options wasm.now) }
@@ -233,7 +237,7 @@ fn print(alloc: Global, choice: &Choice, wasm: &[u8]) -> Result<Vec<u8>, Error>
     }
 }
 
-/// Tells an error in a line of its own, and answers the status of a refusal, also where the line can't be written.
+/// Writes the line of an error, and returns exit status 1. A failure to write the line is ignored.
 fn refuse<X: Drop, R: Render<X>, E: Sink>(renderer: &R, err: &mut E, error: X) -> u8
     ensures told { TellsError E.takes err.old err.new (R.renders renderer.now) error }
     ensures status { result ≡ 1 }

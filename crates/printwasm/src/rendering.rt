@@ -1,7 +1,8 @@
-//! How errors become lines of text.
+//! The lines that report errors.
 //!
-//! The program is generic over `Render`. So its contract can say which error it reports: generic code knows of a text only which error it
-//! belongs to. The text goes directly to the sink, so it needs no memory and is never cut.
+//! The program is generic over `Render`, so that its contract can say which error it reports: generic code knows
+//! of a text only which error it belongs to. The text goes directly to the sink. So it needs no memory and is
+//! never truncated.
 ghost use Rattle.std.specs.Prelude.{◌≡◌, ℕ, List, Option, Some};
 ghost use Rattle.std.specs.IoError.{error_kind};
 ghost use Rattle.printwasm.specs.Messages.{words_error_text};
@@ -12,7 +13,7 @@ use std::fmt::Display;
 use std::io::ErrorKind;
 use std::{fmt, io};
 
-/// Writes the lines of errors of a type.
+/// Writes the lines that report errors of a type.
 pub trait Render<X> {
     // The text that this error may have, or `None` for a text that no contract specifies.
     ghost renders: { Self → X → Option (List ℕ) → Type 0 };
@@ -22,7 +23,7 @@ pub trait Render<X> {
         ensures { (text : Option (List ℕ)) × renders self.now error.now text × E.takes err.old (error_line text) result err.new };
 }
 
-/// Writes the text that `Display` makes of an error.
+/// Writes the text that `Display` gives for an error.
 #[derive(Clone, Copy)]
 pub struct ByDisplay;
 
@@ -34,10 +35,11 @@ impl<X: Display> Render<X> for ByDisplay {
     }
 }
 
-/// Why the words of the program can't be read. It has texts of its own: no contract specifies the text of an `io::Error`.
+/// An error in reading the program's arguments. It has its own texts, since no contract specifies the text of an
+/// `io::Error`.
 #[derive(Drop)]
 pub struct WordsError {
-    /// The system's error.
+    /// The error of the system.
     pub cause: io::Error,
 }
 

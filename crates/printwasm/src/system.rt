@@ -1,7 +1,7 @@
-//! What the program asks of the system that it runs on, beside files to read: streams to write to.
+//! The streams to which the program writes.
 //!
-//! The program is written over any `Source` of files and any `Sink`s. A contract over them can say which file was read, and what was
-//! written where a write failed, since a function over any of them knows nothing of a call but that it was made.
+//! The program is generic over the `Source` of files and over its `Sink`s, so that its contract can say which file
+//! was read, and what was written before a write failed. Generic code knows of a call only that it was made.
 ghost use Rattle.std.specs.Prelude.{ℕ, List, Some, Option, Result, OnOk, IfSome};
 ghost use Rattle.std.specs.Io.KnownBytes.{Appends};
 ghost use Rattle.std.specs.declared.io.Error.{Error};
@@ -10,21 +10,22 @@ use std::fmt::Display;
 use std::io;
 use std::io::Write;
 
-/// What texts are written to.
+/// A destination of texts.
 pub trait Sink {
-    // What a write of this text, or of one that isn't told, may answer, and what it makes of the sink.
+    // The possible results of writing this text, or a text that no contract specifies, with the state of the sink
+    // after it.
     ghost takes: { Self → Option (List ℕ) → Result (Unit {0}) Error → Self → Type 0 };
 
-    /// Writes a text to its end, or fails.
+    /// Writes a whole text, or returns an error.
     fn write_text<D: Display + Drop>(&mut self, text: D) -> io::Result<()>
         ensures { takes self.old (D.output text) result self.new };
 
-    /// Writes the bytes of a text to their end, or fails.
+    /// Writes all bytes of a text, or returns an error.
     fn write_bytes(&mut self, text: &[u8]) -> io::Result<()>
         ensures { takes self.old (Some text.now) result self.new };
 }
 
-// Each writer gains exactly the text, where it tells its bytes and the text is told.
+// A writer gains exactly the text, if it reports its bytes and a contract specifies the text.
 impl<W: Write> Sink for W {
     ghost takes = { λ old text result new. OnOk result (IfSome text (Appends (W.contents old) (W.contents new))) };
 

@@ -1,4 +1,4 @@
-//! Runs over files that the tests write. What is expected is typed by hand.
+//! Runs of the program over files that the tests write. Expected texts are typed by hand.
 
 use crate::program::{run, start};
 use crate::rendering::ByDisplay;
@@ -10,7 +10,7 @@ use std::test::Fail;
 use std::{env, fs, io};
 use wasmprinter_samples::{IDENTITY, PREAMBLE};
 
-/// A function of 50001 locals of i32, whose body begins at byte 22.
+/// A function with 50001 locals of type i32, whose body begins at byte 22.
 const MANY_LOCALS: [u8; 28] = [
     0x00, 0x61, 0x73, 0x6d, 0x01, 0x00, 0x00, 0x00, 0x01, 0x04, 0x01, 0x60, 0x00, 0x00, 0x03, 0x02,
     0x01, 0x00, 0x0a, 0x08, 0x01, 0x06, 0x01, 0xd1, 0x86, 0x03, 0x7f, 0x0b,
@@ -19,13 +19,13 @@ const MANY_LOCALS: [u8; 28] = [
 const USAGE: &str =
     "usage: printwasm [--offsets] [--skeleton] [--name-unnamed] [--fold] [--color] FILE\n";
 
-/// What is told where a file can't be read.
+/// The line for a file that can't be read.
 const UNREADABLE: &str = "error: the file can't be read\n";
 
-/// What is told where the text can't be written.
+/// The line for a text that can't be written.
 const UNWRITTEN: &str = "error: the printer failed\n";
 
-/// What a run wrote, and its status.
+/// The output of a run, and its status.
 #[derive(Drop)]
 pub struct Outcome {
     out: Vec<u8>,
@@ -33,7 +33,7 @@ pub struct Outcome {
     status: u8,
 }
 
-/// These words, each with memory of its own.
+/// Returns these words as strings.
 fn strings_of(rt: &HostRuntime, words: &[&str]) -> Result<Vec<String>, Fail> {
     let mut owned = Vec::new(rt.alloc());
     for word in words {
@@ -42,7 +42,7 @@ fn strings_of(rt: &HostRuntime, words: &[&str]) -> Result<Vec<String>, Fail> {
     Ok(owned)
 }
 
-/// The status of the program over these words, which writes to these sinks.
+/// Runs the program with these words and sinks, and returns its status.
 fn run_into<O: Sink, E: Sink>(
     rt: &HostRuntime,
     words: &[&str],
@@ -53,7 +53,7 @@ fn run_into<O: Sink, E: Sink>(
     Ok(run(rt, &ByDisplay, rt.alloc(), &owned, out, err))
 }
 
-/// The program over these words.
+/// Runs the program with these words.
 pub fn run_with(rt: &HostRuntime, words: &[&str]) -> Result<Outcome, Fail> {
     let mut out = Vec::new(rt.alloc());
     let mut err = Vec::new(rt.alloc());
@@ -61,7 +61,7 @@ pub fn run_with(rt: &HostRuntime, words: &[&str]) -> Result<Outcome, Fail> {
     Ok(Outcome { out, err, status })
 }
 
-/// The program over a file that holds these bytes.
+/// Runs the program over a file with these bytes.
 fn run_over(rt: &HostRuntime, name: &str, bytes: &[u8]) -> Result<Outcome, Fail> {
     fs::write(rt, name, bytes)?;
     let outcome = run_with(rt, &[name])?;
@@ -69,32 +69,33 @@ fn run_over(rt: &HostRuntime, name: &str, bytes: &[u8]) -> Result<Outcome, Fail>
     Ok(outcome)
 }
 
-/// Whether a run ended well, printed this text, and told nothing.
+/// Returns whether a run succeeded, printed this text, and reported nothing.
 pub fn has_printed(outcome: &Outcome, text: &str) -> bool {
     outcome.status == 0 && outcome.out.as_slice() == text.as_bytes() && outcome.err.is_empty()
 }
 
-/// Whether a run ended with this status, printed nothing, and told this text.
+/// Returns whether a run ended with this status, printed nothing, and reported this text.
 fn has_told(outcome: &Outcome, status: u8, text: &str) -> bool {
     outcome.status == status && outcome.out.is_empty() && outcome.err.as_slice() == text.as_bytes()
 }
 
-/// Whether the program over these words prints this text alone.
+/// Returns whether the program with these words prints this text and reports nothing.
 fn prints(rt: &HostRuntime, words: &[&str], text: &str) -> Result<bool, Fail> {
     Ok(has_printed(&run_with(rt, words)?, text))
 }
 
-/// Whether the program over a file that holds these bytes prints this text alone.
+/// Returns whether the program over a file with these bytes prints this text and reports nothing.
 fn prints_file(rt: &HostRuntime, name: &str, bytes: &[u8], text: &str) -> Result<bool, Fail> {
     Ok(has_printed(&run_over(rt, name, bytes)?, text))
 }
 
-/// Whether the program over these words ends with this status, and tells this text alone.
+/// Returns whether the program with these words ends with this status, prints nothing, and reports this text.
 fn tells(rt: &HostRuntime, words: &[&str], status: u8, text: &str) -> Result<bool, Fail> {
     Ok(has_told(&run_with(rt, words)?, status, text))
 }
 
-/// Whether the program refuses a file that holds these bytes, and tells this text alone.
+/// Returns whether the program over a file with these bytes ends with status 1, prints nothing, and reports this
+/// text.
 fn refuses_file(rt: &HostRuntime, name: &str, bytes: &[u8], text: &str) -> Result<bool, Fail> {
     Ok(has_told(&run_over(rt, name, bytes)?, 1, text))
 }
@@ -117,7 +118,7 @@ fn prints_a_function(rt: HostRuntime) -> Result<(), Fail> {
     Ok(())
 }
 
-/// The identity with places in front of lines, without its body, and with identifiers that are made up.
+/// The identity function with places before lines, without its body, and with synthesized identifiers.
 const WITH_OPTIONS: &str = r#"(module
 (;@b     ;)  (type $#type0 (;0;) (func (param i32) (result i32)))
 (;@17    ;)  (export "f" (func $#func0))
@@ -125,7 +126,7 @@ const WITH_OPTIONS: &str = r#"(module
 (;@23    ;))
 "#;
 
-/// Words that choose those options, in whatever order.
+/// Words that choose those options, in several orders.
 const OPTION_ORDERS: [&[&str]; 3] = [
     &["--offsets", "--skeleton", "--name-unnamed", "options.wasm"],
     &["options.wasm", "--name-unnamed", "--skeleton", "--offsets"],
@@ -148,7 +149,7 @@ fn prints_by_its_options(rt: HostRuntime) -> Result<(), Fail> {
     Ok(())
 }
 
-/// The identity by each option alone.
+/// The text of the identity function with each option alone.
 const BY_ONE_OPTION: [(&str, &str); 5] = [
     (
         "--offsets",
@@ -210,7 +211,7 @@ const BY_ONE_OPTION: [(&str, &str); 5] = [
     ),
 ];
 
-/// The identity in colours, with places in front of lines and without its body.
+/// The identity function in color, with places before lines and without its body.
 const OUTLINE_COLORED: &str = "(\x1b[0m\x1b[1m\x1b[38;5;11mmodule\x1b[0m
 \x1b[0m\x1b[36m(;@b     ;)\x1b[0m  (\x1b[0m\x1b[1m\x1b[38;5;11mtype \x1b[0m\x1b[0m\x1b[35m(;0;)\x1b[0m \
 (\x1b[0m\x1b[1m\x1b[38;5;11mfunc\x1b[0m \
@@ -225,7 +226,7 @@ const OUTLINE_COLORED: &str = "(\x1b[0m\x1b[1m\x1b[38;5;11mmodule\x1b[0m
 \x1b[0m\x1b[36m(;@23    ;)\x1b[0m)
 ";
 
-/// Words that choose those options, in whatever order.
+/// Words that choose those options, in several orders.
 const COLOR_ORDERS: [&[&str]; 2] = [
     &["--color", "--offsets", "--skeleton", "colors.wasm"],
     &[
@@ -259,7 +260,7 @@ fn prints_by_one_option(rt: HostRuntime) -> Result<(), Fail> {
 
 #[test]
 fn refuses_a_module_that_is_cut(rt: HostRuntime) -> Result<(), Fail> {
-    // the preamble is blamed where it begins
+    // The reported place of a malformed preamble is its start.
     let told = "error: malformed module at byte 0x0\n";
     assert!(rt; refuses_file(&rt, "cut.wasm", &PREAMBLE[..7], told)?);
     Ok(())
@@ -272,16 +273,16 @@ fn refuses_too_many_locals(rt: HostRuntime) -> Result<(), Fail> {
     Ok(())
 }
 
-/// A function with a `try` of the older kind, at byte 23.
+/// A function with a legacy `try` at byte 23.
 const OLDER_TRY: [u8; 28] = [
     0x00, 0x61, 0x73, 0x6d, 0x01, 0x00, 0x00, 0x00, 0x01, 0x04, 0x01, 0x60, 0x00, 0x00, 0x03, 0x02,
     0x01, 0x00, 0x0a, 0x08, 0x01, 0x06, 0x00, 0x06, 0x40, 0x19, 0x0b, 0x0b,
 ];
 
-/// Words that want it folded.
+/// Words that choose folding for it.
 const FOLD_ORDERS: [&[&str]; 2] = [&["--fold", "try.wasm"], &["--color", "--fold", "try.wasm"]];
 
-/// It without its body.
+/// The text of that function without its body.
 const OLDER_TRY_OUTLINE: &str = r#"(module
   (type (;0;) (func))
   (func (;0;) (type 0) ...)
@@ -295,7 +296,7 @@ fn refuses_what_cannot_be_folded_in_colors_or_without(rt: HostRuntime) -> Result
     for words in FOLD_ORDERS {
         assert!(rt; tells(&rt, words, 1, told)?, "{words:?}");
     }
-    // a skeleton holds no bodies
+    // A skeleton has no bodies.
     let words = ["--fold", "--skeleton", "try.wasm"];
     assert!(rt; prints(&rt, &words, OLDER_TRY_OUTLINE)?);
     fs::remove_file(&rt, "try.wasm")?;
@@ -322,7 +323,7 @@ fn refuses_a_component(rt: HostRuntime) -> Result<(), Fail> {
     Ok(())
 }
 
-/// Whether the program over a file that holds these bytes ends with status 1, and prints nothing.
+/// Returns whether the program over a file with these bytes ends with status 1 and prints nothing.
 fn prints_nothing(rt: &HostRuntime, name: &str, bytes: &[u8]) -> Result<bool, Fail> {
     let refused = run_over(rt, name, bytes)?;
     Ok(refused.status == 1 && refused.out.is_empty())
@@ -343,7 +344,7 @@ fn refuses_a_file_that_is_missing(rt: HostRuntime) -> Result<(), Fail> {
     Ok(())
 }
 
-/// Words that name no file, two, or an option that there isn't.
+/// Words that name no file, that name two files, or that contain an unknown option.
 const MISUSES: [&[&str]; 10] = [
     &[],
     &["a.wasm", "b.wasm"],
@@ -365,7 +366,7 @@ fn tells_its_usage(rt: HostRuntime) -> Result<(), Fail> {
     Ok(())
 }
 
-/// A writer that takes this many bytes more, and then fails.
+/// A writer that accepts this many more bytes, and then fails.
 #[derive(Drop)]
 struct Narrow {
     taken: Vec<u8>,
@@ -397,7 +398,8 @@ impl Write for Narrow {
     }
 }
 
-/// Whether the program over these words fills a sink with this room by the beginning of a text, and tells that it could not be written.
+/// Returns whether the program with these words fills a sink of this size with a prefix of the text, and reports
+/// that the text could not be written.
 fn fills(rt: &HostRuntime, words: &[&str], text: &str, room: usize) -> Result<bool, Fail> {
     let mut out = Narrow::new(rt, room);
     let mut err = Vec::new(rt.alloc());
@@ -420,7 +422,8 @@ fn tells_that_the_text_could_not_be_written(rt: HostRuntime) -> Result<(), Fail>
     Ok(())
 }
 
-/// Whether the program over these words ends with this status, and prints nothing, where what it tells fills a sink with this room.
+/// Returns whether the program with these words ends with this status and prints nothing, although the sink for
+/// its reports has only this much room.
 fn keeps_status(rt: &HostRuntime, words: &[&str], room: usize, status: u8) -> Result<bool, Fail> {
     let mut out = Vec::new(rt.alloc());
     let mut err = Narrow::new(rt, room);
@@ -428,7 +431,7 @@ fn keeps_status(rt: &HostRuntime, words: &[&str], room: usize, status: u8) -> Re
     Ok(answer == status && out.is_empty() && err.taken.len() == room)
 }
 
-/// Words that can't be met, and the status of that.
+/// Words for which nothing is printed, with the exit status.
 const UNMET: [(&[&str], u8); 2] = [(&["no such file"], 1), (&[], 2)];
 
 #[test]
@@ -441,7 +444,8 @@ fn keeps_its_status_where_errors_can_not_be_told(rt: HostRuntime) -> Result<(), 
     Ok(())
 }
 
-/// Whether the program that is started with these words ends with this status, and tells this text alone.
+/// Returns whether the program that is started with these arguments ends with this status, prints nothing, and
+/// reports this text.
 fn starts(rt: &HostRuntime, words: &[&str], status: u8, text: &str) -> Result<bool, Fail> {
     let args = Ok(strings_of(rt, words)?.into_iter());
     let mut out = Vec::new(rt.alloc());
@@ -450,7 +454,7 @@ fn starts(rt: &HostRuntime, words: &[&str], status: u8, text: &str) -> Result<bo
     Ok(code == ExitCode::from(status) && out.is_empty() && err.as_slice() == text.as_bytes())
 }
 
-/// Words that the program is started with, its own name first, its status, and what it tells.
+/// Arguments of the program, of which the first is its own name, with the exit status and the reported text.
 const STARTS: [(&[&str], u8, &str); 6] = [
     (&[], 2, USAGE),
     (&["printwasm"], 2, USAGE),
@@ -472,7 +476,8 @@ fn starts_with_all_words_but_its_name(rt: HostRuntime) -> Result<(), Fail> {
     Ok(())
 }
 
-/// Whether the program that is given this error for its words refuses, and tells this text alone.
+/// Returns whether the program, if reading its arguments returns this error, ends with status 1, prints nothing,
+/// and reports this text.
 fn refuses_to_start(rt: &HostRuntime, error: io::Error, text: &str) -> bool {
     let args: io::Result<env::Args> = Err(error);
     let mut out = Vec::new(rt.alloc());
@@ -499,23 +504,23 @@ fn reports_that_the_system_gives_no_words(rt: HostRuntime) {
     assert!(rt; refuses_to_start(&rt, error, "error: the words can't be read\n"));
 }
 
-/// How many functions the large module has.
+/// The number of functions of the large module.
 const MANY: u32 = 30_000;
 
-/// Its type section, and the beginning of a function section of 30,003 bytes, up to the count.
+/// Its type section, and the start of a function section of 30,003 bytes, up to the count.
 const LARGE_TYPES: [u8; 13] = [
     0x01, 0x04, 0x01, 0x60, 0x00, 0x00, // types
     0x03, 0xb3, 0xea, 0x01, // functions
-    0xb0, 0xea, 0x01, // their count
+    0xb0, 0xea, 0x01, // the count
 ];
 
-/// The beginning of its code section of 90,003 bytes, up to the count.
+/// The start of its code section of 90,003 bytes, up to the count.
 const LARGE_CODE: [u8; 7] = [
     0x0a, 0x93, 0xbf, 0x05, // code
     0xb0, 0xea, 0x01, // the count
 ];
 
-/// Adds an item for each function of the large module.
+/// Appends an item for each function of the large module.
 fn extend_many(wasm: &mut Vec<u8>, item: &[u8]) -> Result<(), AllocError> {
     for _ in 0..MANY {
         wasm.extend_from_slice(item)?;
@@ -523,18 +528,18 @@ fn extend_many(wasm: &mut Vec<u8>, item: &[u8]) -> Result<(), AllocError> {
     Ok(())
 }
 
-/// Adds the large module.
+/// Appends the large module.
 fn extend_large(wasm: &mut Vec<u8>) -> Result<(), AllocError> {
     wasm.extend_from_slice(&PREAMBLE)?;
     wasm.extend_from_slice(&LARGE_TYPES)?;
-    // type 0 for each
+    // Type 0 for each function.
     extend_many(wasm, &[0x00])?;
     wasm.extend_from_slice(&LARGE_CODE)?;
-    // a body without locals and operators for each
+    // A body without locals and operators for each function.
     extend_many(wasm, &[0x02, 0x00, 0x0b])
 }
 
-/// The text of the large module.
+/// Returns the text of the large module.
 fn large_text(rt: &HostRuntime) -> Result<String, AllocError> {
     let mut text = String::from_str(rt.alloc(), "(module\n  (type (;0;) (func))\n")?;
     for number in 0..MANY {
@@ -553,7 +558,7 @@ fn prints_a_large_file_to_its_end(rt: HostRuntime) -> Result<(), Fail> {
     Ok(())
 }
 
-/// A writer that refuses the first write, and takes all others.
+/// A writer that fails at the first write, and accepts all others.
 #[derive(Drop)]
 struct Late {
     taken: Vec<u8>,
@@ -575,7 +580,8 @@ impl Write for Late {
     }
 }
 
-/// Whether the program over these words writes nothing to a sink that has refused a write, and tells that the text could not be written.
+/// Returns whether the program with these words writes nothing to a sink after a failed write, and reports that
+/// the text could not be written.
 fn stops_behind_a_failed_write(rt: &HostRuntime, words: &[&str]) -> Result<bool, Fail> {
     let mut out = Late {
         taken: Vec::new(rt.alloc()),

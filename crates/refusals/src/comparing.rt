@@ -1,4 +1,4 @@
-//! A printer that compares the text that it gets with the expected text. It allocates nothing.
+//! A printer that compares the text that it receives with an expected text. It allocates nothing.
 
 ghost use Rattle.std.specs.Prelude.{None, false};
 
@@ -10,7 +10,7 @@ use wasmprinter::{OffsetsAndLines, Print};
 pub struct Comparing<'a> {
     /// The rest of the expected text.
     rest: &'a str,
-    /// Whether other text came.
+    /// Whether the received text differs from the expected text.
     differs: bool,
     /// Whether the expected text has the calls that write no text.
     has_calls: bool,
@@ -25,8 +25,9 @@ impl<'a> Comparing<'a> {
         }
     }
 
-    /// Returns a printer whose expected text has each call, in the notation of the recorder of `wasmprinter_recorder`: a line that starts at
-    /// byte N is `[N]`, one without a place `[]`, a style is a letter in braces, and a question is `{? NAME PLACE BYTES}`.
+    /// Returns a printer whose expected text contains every call, in the notation of the recorder of
+    /// `wasmprinter_recorder`: a line that starts at byte N is `[N]`, a line without a place is `[]`, a style is a
+    /// letter in braces, and a claim is `{? NAME PLACE BYTES}`.
     pub fn with_calls(text: &'a str) -> Comparing<'a> {
         Comparing {
             rest: text,
@@ -45,7 +46,7 @@ impl<'a> Comparing<'a> {
         }
     }
 
-    /// Compares the mark of a call.
+    /// Compares the notation of a call that writes no text.
     fn mark(&mut self, mark: &str) -> io::Result<()> {
         if self.has_calls {
             self.compare(mark);
@@ -53,17 +54,17 @@ impl<'a> Comparing<'a> {
         Ok(())
     }
 
-    /// Returns whether the text came, and nothing else.
+    /// Returns whether exactly the expected text was received.
     pub fn is_whole(&self) -> bool {
         self.is_prefix() && self.rest.is_empty()
     }
 
-    /// Returns whether a prefix of the text came, and nothing else.
+    /// Returns whether the received text is a prefix of the expected text.
     pub fn is_prefix(&self) -> bool {
         !self.differs
     }
 
-    /// Returns how many bytes of the text came.
+    /// Returns the number of bytes of the expected text that were received.
     pub fn compared_len(&self, text: &str) -> usize {
         text.len().saturating_sub(self.rest.len())
     }

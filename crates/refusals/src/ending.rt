@@ -1,14 +1,14 @@
-//! How printing a module ended.
+//! The results of printing a module.
 
 use std::io::ErrorKind;
 use wasmprinter::Error;
 
-/// How printing a module ended.
+/// The result of printing a module.
 #[derive(Clone, Copy)]
 pub enum Ending {
-    /// Each call returned what is expected.
+    /// Each call returned the expected result.
     Printed,
-    /// A call reported a failed allocation, and left nothing wrong.
+    /// A call reported a failed allocation, and left the expected state.
     OutOfMemory,
     /// The same, after this many bytes of the text were printed.
     OutOfMemoryAfter(usize),
@@ -25,7 +25,7 @@ impl Ending {
         }
     }
 
-    /// Returns the status of a program of which this is the worst ending.
+    /// Returns the exit status of a program whose worst ending is this one.
     pub fn status(self) -> u8 {
         match self {
             Ending::Printed => 0,
@@ -34,7 +34,7 @@ impl Ending {
         }
     }
 
-    /// Returns how many bytes of the text were printed before the allocation failed, if that is known.
+    /// Returns the number of bytes of the text that were printed before the allocation failed, if it is known.
     pub fn printed_len(self) -> Option<usize> {
         match self {
             Ending::OutOfMemoryAfter(len) => Some(len),
@@ -42,7 +42,7 @@ impl Ending {
         }
     }
 
-    /// Adds how many bytes of the text were printed before the allocation failed.
+    /// Adds the number of bytes of the text that were printed before the allocation failed.
     pub fn after(self, len: usize) -> Ending {
         match self {
             Ending::OutOfMemory => Ending::OutOfMemoryAfter(len),
@@ -50,7 +50,7 @@ impl Ending {
         }
     }
 
-    /// Returns the worse of two.
+    /// Returns the worse of two endings.
     pub fn or(self, other: Ending) -> Ending {
         if other.status() > self.status() {
             other
@@ -68,7 +68,8 @@ impl Ending {
         }
     }
 
-    /// Returns the ending for an error, at a printer whose own errors of this kind mean that its text could not grow.
+    /// Returns the ending for an error, for a printer whose own errors of this kind mean that an allocation for
+    /// its text failed.
     pub fn of_printer_error(error: Error, kind: ErrorKind) -> Ending {
         match error {
             Error::Printer(error) if error.kind() == kind => Ending::OutOfMemory,

@@ -1,8 +1,10 @@
-//! Prints modules of every shape, in different ways, and writes of each how it ended: `printed`, `out of memory`, or something else.
-//! Standard input may select one shape, which is then printed before the empty module, or a name to write to a text.
+//! Prints modules of every shape in different ways, and writes the result for each: `printed`, `out of memory`, or
+//! something else. Standard input may select one shape, which is then printed before the empty module, or a name
+//! that is written to a text.
 //!
-//! tools/refusals.sh lets each allocation of this program fail in turn, and checks what it writes. The program's own allocations are the
-//! text to which lines are appended, and those that standard input asks for: they select which allocation of the library fails.
+//! tools/refusals.sh lets each allocation of this program fail in turn, and checks what the program writes. The
+//! program's own allocations are the text to which lines are appended, and those that standard input requests:
+//! they select which allocation of the library fails.
 #![tactic(auto)]
 
 mod comparing;
@@ -23,10 +25,10 @@ use std::io::Read;
 use std::process::ExitCode;
 use ways::ending_of;
 
-/// How many digits each number on standard input has.
+/// The number of digits of each number on standard input.
 const DIGITS: usize = 4;
 
-/// The next number on standard input, if one follows.
+/// Reads the next number from standard input, if one follows.
 fn next_number<R: Read>(input: &mut R) -> io::Result<Option<u32>> {
     let mut digits = [0; DIGITS];
     let len = input.read(&mut digits)?;
@@ -41,14 +43,14 @@ fn next_number<R: Read>(input: &mut R) -> io::Result<Option<u32>> {
     Ok(if len == 0 { None } else { Some(number) })
 }
 
-/// What standard input wants.
+/// The request that standard input makes.
 #[derive(Drop)]
 struct Wanted {
-    /// How many requests for memory are to be made first.
+    /// The number of allocations to make first.
     requests: u32,
-    /// The number of the only shape that is to be printed, with the empty module behind it; all of them, where none is said.
+    /// The number of the only shape to print before the empty module, or `None` for all shapes.
     shape: Option<u32>,
-    /// The name that is to be written instead of the shapes, if there is one.
+    /// The name to write instead of the shapes, if there is one.
     name: Option<Name>,
 }
 
@@ -67,7 +69,7 @@ fn next_name<R: Read>(input: &mut R) -> io::Result<Option<Name>> {
 }
 
 impl Wanted {
-    /// Reads the numbers.
+    /// Reads the numbers of the request.
     fn read<R: Read>(input: &mut R) -> io::Result<Wanted> {
         let requests = next_number(input)?.unwrap_or(0);
         let shape = next_number(input)?;
@@ -79,7 +81,7 @@ impl Wanted {
         })
     }
 
-    /// Whether the shape of this number is to be printed.
+    /// Returns whether the shape with this number is to be printed.
     fn has(&self, number: usize) -> bool {
         let is_last = number.saturating_add(1) == SHAPES.len();
         match self.shape {
@@ -89,13 +91,13 @@ impl Wanted {
     }
 }
 
-/// Asks for memory once.
+/// Makes one allocation.
 fn request(alloc: Global) -> Result<(), AllocError> {
     let mut text = String::new(alloc);
     text.push_str("one")
 }
 
-/// Whether so many requests were granted.
+/// Returns whether this many allocations succeeded.
 fn are_granted(alloc: Global, count: u32) -> bool {
     for _ in 0..count {
         if request(alloc).is_err() {
@@ -105,7 +107,7 @@ fn are_granted(alloc: Global, count: u32) -> bool {
     true
 }
 
-/// Prints how something ended, and returns the status of the ending.
+/// Writes an ending, and returns its status.
 fn tell(rt: &HostRuntime, name: &str, ending: Ending) -> io::Result<u8> {
     match ending.printed_len() {
         Some(len) => println!(rt; "{}: {} after {} bytes", name, ending.word(), len)?,
@@ -114,12 +116,12 @@ fn tell(rt: &HostRuntime, name: &str, ending: Ending) -> io::Result<u8> {
     Ok(ending.status())
 }
 
-/// Prints a shape, tells how that ended, and answers the status of the ending.
+/// Prints a shape, writes its ending, and returns the status of the ending.
 fn print_shape(rt: &HostRuntime, shape: &Shape) -> io::Result<u8> {
     tell(rt, shape.name, ending_of(rt, shape))
 }
 
-/// Prints what is wanted, writes how each ended, and answers the status of the worst ending.
+/// Prints what standard input requests, writes each ending, and returns the status of the worst ending.
 fn print_all(rt: &HostRuntime) -> io::Result<u8> {
     let wanted = Wanted::read(&mut rt.stdin())?;
     if !are_granted(rt.alloc(), wanted.requests) {

@@ -1,5 +1,5 @@
-//! Names that are written to a tracker whose text has room for a part of the name only. A failed allocation must leave the pieces of the
-//! name that fit. A piece is a character of the text, except that `\u{` is one.
+//! Names that are written to a tracker whose text has room for a part of the name only. A failed allocation must
+//! leave the pieces of the name that fit. A piece is a character of the text, except that `\u{` is one piece.
 
 use crate::ending::Ending;
 use std::alloc::{AllocError, Global};
@@ -10,10 +10,10 @@ use wasmprinter::text::{write_bytes, write_quoted};
 use wasmprinter::{Error, Print};
 use wasmprinter_tracker::Tracker;
 
-/// The number of the characters that have one to four bytes each.
+/// The number of characters that each of the first four entries of `LETTERS` has.
 const LETTERS_LEN: usize = 8;
 
-/// Characters of one byte, of two, of three and of four, and of one byte again, some of which are escaped.
+/// Characters of one, two, three and four bytes, and again characters of one byte, some of which are escaped.
 const LETTERS: [&str; 5] = [
     "aB~z 0x-",
     "\u{80}éßñλж\u{7ff}æ",
@@ -22,19 +22,19 @@ const LETTERS: [&str; 5] = [
     "aB\"z \\x\u{1b}",
 ];
 
-/// The most bytes of a character.
+/// The maximum number of bytes of a character.
 const WIDEST: usize = 4;
 
-/// The greatest length of the text before a name.
+/// The maximum length of the text before a name, in bytes.
 const OLD_LEN: usize = 40;
 
-/// By how much the text before a name grows with each character of the name, up to `OLD_LEN`, where it starts over.
+/// The increase of the length of the text before a name for each character of the name, modulo `OLD_LEN`.
 const OLD_STEP: usize = 7;
 
-/// By how much the room for a name grows with each character of the name, up to the name's length, where it starts over.
+/// The increase of the room for a name for each character of the name, modulo the name's length.
 const ROOM_STEP: usize = 31;
 
-/// By how much that room grows with the width of the characters.
+/// The increase of that room with the width of the characters.
 const WIDTH_STEP: usize = 17;
 
 /// The room for the text of the longest name: 300 characters of at most 13 bytes each, and the quotes.
@@ -62,13 +62,13 @@ impl Form {
     }
 }
 
-/// A name, and how it is written.
+/// A name, and the function that writes it.
 #[derive(Clone, Copy)]
 pub struct Name {
     /// The function that writes it.
     pub form: Form,
-    /// The number of bytes of each character. 0 selects characters of one to four bytes by turns; 5 selects characters of one byte, some
-    /// of which are escaped.
+    /// The number of bytes of each character. 0 selects characters of one to four bytes by turns. 5 selects
+    /// characters of one byte, some of which are escaped.
     pub width: usize,
     /// The number of characters.
     pub chars: usize,
@@ -176,7 +176,8 @@ impl Name {
         if len == 0 { 0 } else { mixed % len }
     }
 
-    /// Writes the name by the library. It has no contract, so that its callers don't apply one to their own printers.
+    /// Writes the name with the library. This function has no contract, so that the proofs of its callers do not
+    /// apply one to their own printers.
     fn write<P: Print>(&self, p: &mut P, content: &str) -> Result<(), Error> {
         match self.form {
             Form::Chars => p.write_each_char(content)?,
@@ -202,7 +203,8 @@ impl Name {
         old_len == self.old_len() && rest.len() == len && whole.starts_with(rest)
     }
 
-    /// Writes the name to a tracker. The first three allocations are the program's own, and the fourth is the growth of the text.
+    /// Writes the name to a tracker. The first three allocations are the program's own, and the fourth is for the
+    /// tracker's text.
     fn append(&self, alloc: Global) -> Result<Ending, AllocError> {
         let content = self.content(alloc)?;
         let whole = self.expected(alloc, &content)?;
@@ -221,7 +223,7 @@ impl Name {
         })
     }
 
-    /// Writes the name to a tracker, and returns how that ended.
+    /// Writes the name to a tracker, and returns the ending.
     pub fn ending(&self, alloc: Global) -> Ending {
         match self.append(alloc) {
             Ok(ending) => ending,

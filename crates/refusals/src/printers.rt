@@ -1,4 +1,4 @@
-//! A printer and a source of files as a user may write them.
+//! A printer and a source of files as a user may define them.
 ghost use Rattle.std.specs.Prelude.{⊤};
 
 use std::alloc::Global;
@@ -28,7 +28,7 @@ impl Keeping {
         self.text.as_slice()
     }
 
-    /// Returns whether the text could not grow.
+    /// Returns whether an allocation for the text failed.
     pub fn has_failed(&self) -> bool {
         self.has_failed
     }
@@ -44,7 +44,7 @@ impl PrintText for Keeping {
     }
 }
 
-/// A source whose files all hold these bytes. A read copies them.
+/// A source whose files all have these bytes. A read copies them.
 #[derive(Drop)]
 pub struct Copying {
     alloc: Global,

@@ -1,4 +1,4 @@
-//! What is printed, and in which way.
+//! The modules that are printed, and the ways of printing them.
 
 use crate::modules::{
     BLOCKS, BLOCKS_COLORED, BLOCKS_TEXT, BODIES, BODIES_TEXT, CUSTOMS, CUSTOMS_TEXT, EMPTY,
@@ -18,16 +18,16 @@ use wasmprinter_rows::{
     IDENTITY, RAW_PRODUCERS,
 };
 
-/// How a module is printed.
+/// The way in which a module is printed.
 #[derive(Clone, Copy)]
 pub enum Way {
-    /// By each of the calls that take a module.
+    /// With each of the calls that print the bytes of a module.
     Plain,
-    /// Not at all: its names are read, and compared with the lines of the text.
+    /// Not printed: its names are read, and compared with the lines of the text.
     Names,
-    /// By `print_file`, from a file of the system.
+    /// With `print_file`, from a file of the system.
     File,
-    /// By `print_file`, from a `Source` that copies the bytes.
+    /// With `print_file`, from a `Source` that copies the bytes.
     Source,
     /// Appended to a text, with its lines.
     Lines,
@@ -37,36 +37,36 @@ pub enum Way {
     FmtWrite,
     /// To a user-defined printer that keeps the text.
     Keeping,
-    /// In colours, as bytes.
+    /// In color, as bytes.
     Colors,
     /// To a `PrintTermcolor` with `Ansi` over a `Vec`.
     Termcolor,
     /// As a string, with its operators folded.
     FoldedString,
-    /// In colours, as bytes, with its operators folded.
+    /// In color, as bytes, with its operators folded.
     FoldedColors,
-    /// With its operators folded, by a printer that allocates nothing.
+    /// With its operators folded, to a printer that allocates nothing.
     Folded,
-    /// The same, and each call is compared. A section that is refused ends the calls.
+    /// The same, with each call compared. A refused section ends the calls.
     FoldedCalls,
-    /// In lines, after which no call is made.
+    /// In lines. No call follows.
     Setup,
-    /// The same, and then each call is made that needs no memory.
+    /// In lines. Each call that needs no memory follows.
     WithoutMemory,
 }
 
-/// A module, and what is expected of it.
+/// A module, with the expected text.
 #[derive(Drop)]
 pub struct Shape {
     pub name: &'static str,
     pub way: Way,
     pub wasm: &'static [u8],
     pub text: &'static str,
-    /// How many functions it defines.
+    /// The number of functions that it defines.
     pub functions: u32,
 }
 
-/// What is printed. The last is the empty module.
+/// The shapes to print. The last one is the empty module.
 pub const SHAPES: [Shape; 44] = [
     Shape {
         name: "types",

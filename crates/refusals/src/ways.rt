@@ -14,16 +14,17 @@ use wasmprinter::{
     Config, Error, Print, PrintFmtWrite, PrintTermcolor, Source, print_bytes, print_file,
 };
 
-/// What the storage holds to which lines are appended.
+/// The old text of the storage to which lines are appended.
 const OLD: &str = "old";
 
 /// The file that `print_file` reads.
 const FILE: &str = "everything.wasm";
 
-/// The id of the subsection for which the `dylink.0` section of `DYLINK_UNKNOWN` is refused. All calls before were made.
+/// The id of the subsection for which the `dylink.0` section of `DYLINK_UNKNOWN` is refused. All earlier calls
+/// were made.
 const UNKNOWN_ID: u8 = 9;
 
-/// Returns whether a text is expected.
+/// Returns the ending for a text, by whether it is the expected one.
 fn compared(text: &str, shape: &Shape) -> Ending {
     Ending::of(text == shape.text, "wrong text")
 }
@@ -35,7 +36,8 @@ fn by_print_bytes(alloc: Global, shape: &Shape) -> Ending {
     }
 }
 
-/// Prints to any printer. It promises nothing, so that no caller works out what the promises mean for its own printer.
+/// Prints to any printer. This function has no contract, so that the proofs of its callers do not apply one to
+/// their own printers.
 fn print_to<P: Print>(
     config: &Config,
     alloc: Global,
@@ -67,15 +69,16 @@ fn by_config(alloc: Global, config: &Config, shape: &Shape) -> Ending {
     by_comparing(alloc, config, shape, Comparing::new(shape.text))
 }
 
-/// Returns the ending for an error of a printer whose own errors of this kind mean that its text could not grow. The printer keeps a
-/// prefix of the text.
+/// Returns the ending for an error of a printer whose own errors of this kind mean that an allocation for its text
+/// failed. The printer keeps a prefix of the text.
 fn ending_at_prefix(error: Error, kind: ErrorKind, text: &[u8], shape: &Shape) -> Ending {
     Ending::of(shape.text.as_bytes().starts_with(text), "wrong text").or(Ending::of_printer_error(
         error, kind,
     ))
 }
 
-/// Prints to a `PrintFmtWrite` over a `String`. Its errors are of the kind `Other`, since a `fmt::Error` has no cause.
+/// Prints to a `PrintFmtWrite` over a `String`. Its errors are of the kind `Other`, since a `fmt::Error` has no
+/// cause.
 fn by_fmt_write(alloc: Global, shape: &Shape) -> Ending {
     let mut printer = PrintFmtWrite(String::new(alloc));
     match print_to(&Config::new(), alloc, shape.wasm, &mut printer) {
@@ -84,7 +87,8 @@ fn by_fmt_write(alloc: Global, shape: &Shape) -> Ending {
     }
 }
 
-/// Prints to a user-defined printer. Its errors are of the kind `StorageFull`, and are returned exactly if its text could not grow.
+/// Prints to a user-defined printer. Its errors are of the kind `StorageFull`, and are returned exactly if an
+/// allocation for its text failed.
 fn by_keeping(alloc: Global, shape: &Shape) -> Ending {
     let mut printer = Keeping::new(alloc);
     let printed = print_to(&Config::new(), alloc, shape.wasm, &mut printer);
@@ -124,14 +128,15 @@ fn by_decode(alloc: Global, shape: &Shape) -> Ending {
     }
 }
 
-/// Returns the worst ending of the three calls that take a module.
+/// Returns the worst ending of the three calls that print the bytes of a module.
 fn by_each_call(alloc: Global, shape: &Shape) -> Ending {
     by_print_bytes(alloc, shape)
         .or(by_config(alloc, &Config::new(), shape))
         .or(by_decode(alloc, shape))
 }
 
-/// Returns whether these names, and no others, are given to the module, to three functions, and to two locals of the first function.
+/// Returns whether exactly these names are given to the module, to three functions, and to two locals of the first
+/// function.
 fn are_names(names: &Names<'_>, text: &str) -> bool {
     let mut found = Comparing::new(text);
     let given = [
@@ -163,7 +168,7 @@ fn by_names(alloc: Global, shape: &Shape) -> Ending {
     }
 }
 
-/// Prints a file. A read fails only if an allocation failed in it.
+/// Prints a file. Reading fails only if an allocation fails in it.
 fn by_file<S: Source>(source: &S, alloc: Global, shape: &Shape) -> Ending {
     match print_file(source, alloc, Path::new(FILE)) {
         Ok(text) => compared(text.as_str(), shape),
@@ -172,7 +177,8 @@ fn by_file<S: Source>(source: &S, alloc: Global, shape: &Shape) -> Ending {
     }
 }
 
-/// Prints a file of a source that knows whether an allocation failed in it: only then the file is reported as unreadable.
+/// Prints a file of a source that reports whether an allocation failed in it. The file is reported as unreadable
+/// only in that case.
 fn by_source(alloc: Global, shape: &Shape) -> Ending {
     let source = Copying::new(alloc, shape.wasm);
     match print_file(&source, alloc, Path::new(FILE)) {
@@ -198,7 +204,8 @@ fn is_begun(storage: &str, text: &str) -> bool {
     }
 }
 
-/// Appends a module's lines to a text. After a failed allocation the storage must hold its old text and a prefix of the module's.
+/// Appends a module's lines to a text. After a failed allocation the storage must hold its old text and a prefix
+/// of the module's text.
 fn by_lines(alloc: Global, config: &Config, shape: &Shape) -> Ending {
     let mut storage = String::new(alloc);
     if storage.push_str(OLD).is_err() {
@@ -213,7 +220,7 @@ fn by_lines(alloc: Global, config: &Config, shape: &Shape) -> Ending {
     ))
 }
 
-/// Prints in colours.
+/// Prints in color.
 fn by_colors(alloc: Global, config: &Config, shape: &Shape) -> Ending {
     match config.print_to_ansi(alloc, shape.wasm) {
         Ok(text) => Ending::of(*text == *shape.text.as_bytes(), "wrong colours"),
@@ -236,7 +243,7 @@ fn by_folded_string(alloc: Global, shape: &Shape) -> Ending {
     }
 }
 
-/// Prints a shape in its way, and returns how that ended.
+/// Prints a shape in its way, and returns the ending.
 pub fn ending_of(rt: &HostRuntime, shape: &Shape) -> Ending {
     let alloc = rt.alloc();
     match shape.way {

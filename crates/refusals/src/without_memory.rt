@@ -1,4 +1,4 @@
-//! The calls that need no memory. The script compares the number of allocations with and without them.
+//! The calls that need no memory. tools/refusals.sh compares the number of allocations with and without them.
 
 use crate::comparing::{Comparing, are_text};
 use crate::ending::Ending;
@@ -34,7 +34,7 @@ fn set_all(indent: String) -> Config {
     config
 }
 
-/// Returns whether the lists of an operator hold what is expected.
+/// Returns whether the lists in an operator's immediates are the expected ones.
 fn are_lists(operator: &Operator<'_>) -> bool {
     match &operator.immediates {
         Immediates::TryTable(_, catches) => catches.iter().eq([Catch::All(0)]),
@@ -70,7 +70,7 @@ fn are_names(names: &Names<'_>) -> bool {
     names.module() == Some("m") && names.identifier(Space::Func, 0, 0) == Some("f")
 }
 
-/// Writes four values by the functions for single values, and returns whether their text came.
+/// Writes four values with the functions for single values, and returns whether their text is the expected one.
 fn writes_values() -> Result<bool, Error> {
     let mut printer = Comparing::new("0x1p+0-0x1p+1\"a\"\"\\00\"");
     write_f32(&mut printer, 0x3f80_0000)?;
@@ -80,7 +80,7 @@ fn writes_values() -> Result<bool, Error> {
     Ok(printer.is_whole())
 }
 
-/// Returns the first lines, and empty ones if there are fewer.
+/// Returns the first lines. If there are fewer, the others are empty.
 fn first_lines<'a>(lines: OffsetsAndLines<'a>) -> [(Option<u64>, &'a str); LINES_LEN] {
     let mut first = [(None, ""); LINES_LEN];
     let mut count = 0;
@@ -99,7 +99,8 @@ fn finds_line(module: &Module<'_>, lines: &[(Option<u64>, &str)]) -> bool {
     place_of(module, lines, 0, operator) == Some((line, 29))
 }
 
-/// Decodes a module, reads its names and prints it in lines. Then makes the calls that need no memory, if they are to be made.
+/// Decodes a module, reads its names and prints it in lines. If `are_made` is set, then makes the calls that need
+/// no memory.
 fn calls(alloc: Global, shape: &Shape, are_made: bool) -> Result<Ending, Error> {
     let module = decode(alloc, shape.wasm)?;
     let names = module.names(alloc)?;
@@ -121,7 +122,7 @@ fn calls(alloc: Global, shape: &Shape, are_made: bool) -> Result<Ending, Error> 
     Ok(ending)
 }
 
-/// Returns how these calls ended.
+/// Returns the ending of these calls.
 pub fn ending_of_calls(alloc: Global, shape: &Shape, are_made: bool) -> Ending {
     match calls(alloc, shape, are_made) {
         Ok(ending) => ending,

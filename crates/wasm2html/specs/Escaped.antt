@@ -1,7 +1,8 @@
--- How text is written in a page.
+-- The escaping of text in an HTML page.
 use Rattle.std.specs.Prelude.{ℕ, List, [], ◌∷◌, ◌==◌, codes, flat_map, if◌then◌else◌}
 
--- The characters with a meaning in HTML are replaced by their names: `<`, `>`, `&` and the quotation mark. Other bytes stay as they are.
+-- The characters with a meaning in HTML, which are `<`, `>`, `&` and the quotation mark, are replaced by character
+-- references. Other bytes are unchanged.
 abbrev pub escape_byte : ℕ → List ℕ
 escape_byte b =
     if b == 60 then codes "&lt;"

@@ -1,3 +1,3 @@
--- What the contracts of the program cite.
+-- Definitions that the contracts of the program cite.
 pub mod Escaped
 pub mod Silent

@@ -1,4 +1,4 @@
--- The meaning of a printer of which contracts say nothing: every call may succeed and may fail.
+-- The meaning of a printer whose calls no contract describes: every call may succeed and may fail.
 use Rattle.std.specs.Prelude.{None}
 use Rattle.wasmprinter_spec.specs.Meaning.{Meaning}
 use Rattle.wasm2html.specs.declared.page.Page.{Page}

@@ -1,5 +1,5 @@
-//! `wasm2html FILE` writes the text of a module as a page in HTML. The text is colored, each function can be collapsed, and a line shows its
-//! byte offset in the module when the mouse is over it.
+//! `wasm2html FILE` writes the text of a module as an HTML page. The text is in color, each function can be
+//! collapsed, and a line shows its byte offset in the module when the mouse is over it.
 #![tactic(auto)]
 
 mod page;

@@ -1,4 +1,4 @@
-//! A printer that writes a page in HTML.
+//! A printer that writes an HTML page.
 ghost use Rattle.std.specs.Prelude.{◌≡◌, ◌++◌, OnOk, false};
 ghost use Rattle.wasm2html.specs.Escaped.{escape_byte, escaped};
 ghost use Rattle.wasm2html.specs.Silent.{silent};
@@ -7,20 +7,20 @@ use std::alloc::{AllocError, Global};
 use std::io;
 use wasmprinter::Print;
 
-/// The page before the first line.
+/// The part of the page before the first line.
 const TOP: &[u8] =
     b"<!DOCTYPE html>\n<meta charset=\"utf-8\">\n<style>\ndiv, summary { font-family: monospace; white-space: pre }\n.literal { color: brown } .name { color: purple } .keyword { color: blue } .type { color: green } .comment { color: gray }\n</style>\n";
 
-/// How the header of a function starts.
+/// The start of a function's header.
 const HEADER: &[u8] = b"  (<span class=\"keyword\">func";
 
-/// How a line inside a function starts.
+/// The start of a line inside a function.
 const INSIDE: &[u8] = b"    ";
 
-/// How the last line of a function starts.
+/// The start of the last line of a function.
 const END: &[u8] = b"  )";
 
-/// Appends a byte of text.
+/// Appends a byte of text, escaped if it has a meaning in HTML.
 fn push_escaped(out: &mut Vec<u8>, byte: u8) -> Result<(), AllocError>
     ensures { OnOk result (out.new.items ≡ out.old.items ++ escape_byte byte) }
 {
@@ -33,7 +33,7 @@ fn push_escaped(out: &mut Vec<u8>, byte: u8) -> Result<(), AllocError>
     }
 }
 
-/// Appends text. Characters with a meaning in HTML are replaced by their names.
+/// Appends text. Characters with a meaning in HTML are replaced by character references.
 #[tactic(auto, using(std::proofs::lemmas::List::take_all))]
 fn append_text(out: &mut Vec<u8>, text: &[u8]) -> Result<(), AllocError>
     ensures { OnOk result (out.new.items ≡ out.old.items ++ escaped text.now) }
@@ -44,19 +44,19 @@ fn append_text(out: &mut Vec<u8>, text: &[u8]) -> Result<(), AllocError>
     Ok(())
 }
 
-/// A printer that writes a page in HTML.
+/// A printer that writes an HTML page.
 #[derive(Drop)]
 pub struct Page {
     alloc: Global,
-    /// The page up to the line that is being written.
+    /// The page up to the current line.
     html: Vec<u8>,
-    /// The line that is being written.
+    /// The current line.
     line: Vec<u8>,
-    /// The place of that line.
+    /// The place of the current line.
     place: Option<u64>,
-    /// Whether a style was started.
+    /// Whether a style is open.
     is_styled: bool,
-    /// Whether a function was started.
+    /// Whether a function is open.
     is_inside: bool,
 }
 
@@ -73,12 +73,12 @@ impl Page {
         })
     }
 
-    /// Returns the page. The last line of a module has been ended.
+    /// Returns the page. The last line of the module must have ended.
     pub fn finish(self) -> Vec<u8> {
         self.html
     }
 
-    /// Ends a style, if one was started.
+    /// Ends the style, if one is open.
     fn end_style(&mut self) -> Result<(), AllocError> {
         if self.is_styled {
             self.line.extend_from_slice(b"</span>")?;
@@ -95,7 +95,7 @@ impl Page {
         Ok(())
     }
 
-    /// Ends the function, if one was started.
+    /// Ends the function, if one is open.
     fn end_function(&mut self) -> Result<(), AllocError> {
         if self.is_inside {
             self.html.extend_from_slice(b"</details>\n")?;
@@ -104,7 +104,7 @@ impl Page {
         Ok(())
     }
 
-    /// Moves the line to the page, between these tags.
+    /// Moves the current line to the page, between these tags.
     fn put_line(&mut self, tag: &str) -> Result<(), AllocError> {
         let title = match self.place {
             Some(place) => format!(in self.alloc; "<{tag} title=\"{place:#x}\">")?,
@@ -118,7 +118,7 @@ impl Page {
         Ok(())
     }
 
-    /// Ends the line. A function starts with its header and ends at the first line that is not inside it.
+    /// Ends the current line. A function starts with its header, and ends at the first line that is not inside it.
     fn end_line(&mut self) -> Result<(), AllocError> {
         if self.line.starts_with(HEADER) {
             self.end_function()?;

@@ -1,4 +1,4 @@
--- Claims that were all answered no: the layout is that of a module of which no custom section is claimed.
+-- If no claim was answered yes, the layout is that of a module of which no custom section is claimed.
 use Rattle.std.specs.Prelude.{◌≡◌, ℕ, ◌+◌, List, [], ◌∷◌, ◌++◌, flat_map, ◌||◌, map, codes, Bool, true, false, Option, Some, None, refl}
 use Rattle.std.specs.List.{AllByRecursion}
 use Rattle.std.proofs.Common.{sym, ap, ap₂, ◌∙◌, subst}
@@ -17,7 +17,7 @@ use Rattle.wasmprinter_spec.proofs.Each.{all_both, all_parts}
 use Rattle.wasmprinter_print.specs.PrintsLaws.{all_calls-append}
 use Rattle.wasmprinter.specs.Printed.{no_claims}
 
--- ---- of calls that are alike
+-- -- Calls that are alike
 
 texts_unclaimed : (s : List ℕ) → AllByRecursion IsUnclaimed (map (λ b. Text (b ∷ [])) s)
 texts_unclaimed [] = tt
@@ -49,7 +49,7 @@ whole_unclaimed (c ∷ cs) h =
 pub alike_unclaimed : (k l : List Call) → atoms k ≡ atoms l → AllByRecursion IsUnclaimed k → AllByRecursion IsUnclaimed l
 alike_unclaimed k l e h = whole_unclaimed l (subst (λ (cs : List Call). AllByRecursion IsUnclaimed cs) e (atoms_unclaimed k h))
 
--- ---- of the parts of a layout
+-- -- The parts of a layout
 
 module _ (o : Options) where
   abbrev AreUnclaimedIn : List Piece → Type 0
@@ -73,12 +73,12 @@ module _ (o : Options) where
       (pieces_front ps (laid_parts parts).pieces h, parts_unclaimed parts e (pieces_behind ps (laid_parts parts).pieces h))
   parts_unclaimed (Stops ps id ∷ parts) e h = absurd cc
 
-  -- a custom section
+  -- If the part of a custom section has no claim that was answered yes, the answer for this section is no.
   answered_no : (answer : Bool) (c : CustomEntry) → IsUnclaimedPart (custom_part o.skeleton answer c) → answer ≡ false
   answered_no true c h = h.0
   answered_no false c h = refl
 
-  -- those at one place
+  -- If no claim at one place was answered yes, the parts at that place are those without claims.
   place_same : (answers : Answers) (place : Option Kind) (n : ℕ) (cs : List CustomEntry) → AllByRecursion IsUnclaimedPart (parts_at o.skeleton answers place n cs) →
       parts_at o.skeleton answers place n cs ≡ parts_at o.skeleton no_claims place n cs
   place_same answers place n [] h = refl
@@ -102,7 +102,7 @@ module _ (o : Options) where
   field_same : (p : Part) {xs ys : List Part} → IsSameIf xs ys → IsSameIf (p ∷ xs) (p ∷ ys)
   field_same p f h = ap (λ (ps : List Part). p ∷ ps) (f h.1)
 
-  -- all of a module
+  -- The same for all parts of a module.
   module _ (answers : Answers) (names : Names) (m : PlacedModule) where
     customs_same : (place : Option Kind) → IsSameIf (parts_at o.skeleton answers place 0 m.customs) (parts_at o.skeleton no_claims place 0 m.customs)
     customs_same place h = place_same answers place 0 m.customs h
@@ -119,7 +119,7 @@ module _ (o : Options) where
     unfolding module_parts
     parts_same = both_same (customs_same None) (sections_same section_order)
 
-  -- the pieces of a module's group among all
+  -- If the pieces of a module have no claim that was answered yes, neither have the pieces inside its group.
   inner_unclaimed : (names : Names) (size : ℕ) (ps : List Piece) → AreUnclaimedIn (module_pieces_of o names size ps None) → AreUnclaimedIn ps
   unfolding group_at
   inner_unclaimed names size ps h =
@@ -133,12 +133,12 @@ module _ (o : Options) where
   whole_unclaimed_in : (names : Names) (size : ℕ) (l : Laid) → l.refused ≡ None → AreUnclaimedIn (module_pieces_of o names size l.pieces l.refused) → AreUnclaimedIn l.pieces
   whole_unclaimed_in names size l e h = inner_unclaimed names size l.pieces (rw e at h)
 
--- the layout is that of a module of which no custom section is claimed, and as little of it is refused
+-- The layout is that of a module of which no custom section is claimed, and no `dylink.0` section is refused in it.
 pub record IsSame (o : Options) (answers : Answers) (m : PlacedModule) : Type 0 where
   pub layout : layout o answers m ≡ layout o no_claims m
   pub refusal : refusal o no_claims m ≡ None
 
--- no claim was answered yes
+-- If no section is refused and no claim was answered yes, the layout is the one without claims.
 pub unclaimed_layout : (o : Options) (answers : Answers) (m : PlacedModule) → refusal o answers m ≡ None → AllByRecursion IsUnclaimed (layout o answers m) → IsSame o answers m
 unfolding layout module_pieces module_pieces_with
 unclaimed_layout o answers m e h =

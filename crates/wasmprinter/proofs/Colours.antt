@@ -1,4 +1,4 @@
--- The text of a module in colours.
+-- The text of a module with ANSI escape sequences.
 use Rattle.std.specs.Prelude.{◌≡◌, ℕ, List, [], ◌∷◌, ◌++◌, true, false, None}
 use Rattle.std.proofs.Common.{sym, ap, ◌∙◌, append_assoc, append-nil}
 use Rattle.wasmprinter_spec.specs.Call.{Call, atoms}
@@ -17,13 +17,14 @@ use Rattle.wasmprinter.proofs.Claims.{IsSame}
 use Rattle.wasmprinter.proofs.Paints.{refusal-paints}
 use Rattle.wasmprinter.proofs.Texts.{unclaimed_printed, module_text}
 
--- what a run of calls appends
+-- A run of calls appends their text with the escape sequences.
 painted_run : (old new : List ℕ) (calls : List Call) → Run painted_meaning old calls new → new ≡ old ++ coloured_text calls
 painted_run old new [] r = sym r ∙ sym (append-nil old)
 painted_run old new (c ∷ calls) r =
     painted_run r.0 new calls r.2 ∙ ap (λ t. t ++ coloured_text calls) r.1.step.0 ∙ append_assoc old (coloured_bytes c) (coloured_text calls)
 
--- What was printed in colours to memory, behind nothing, is the module's text in colours.
+-- If a module was printed in color to an empty text in memory, the result is the module's text with the escape
+-- sequences.
 pub printed_in_colours : (o : Options) (bytes old new : List ℕ) → old ≡ [] → Printed painted_meaning true o bytes old new → HasColouredTextBy o bytes new
 printed_in_colours o bytes old new empty v =
     let by : Options = in_colours o true in

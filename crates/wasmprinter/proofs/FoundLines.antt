@@ -1,4 +1,4 @@
--- What is found for an operator is what the laws of lines say.
+-- The line that is found for an operator satisfies the laws of lines.
 use Rattle.std.specs.Prelude.{◌≡◌, ℕ, List, Option, Some, None, option_map, slice_get, refl}
 use Rattle.std.proofs.Common.{sym, ap, ◌∙◌, subst}
 use Rattle.std.proofs.lemmas.Option.{slice_get-map}
@@ -11,7 +11,7 @@ use Rattle.wasmprinter_wasm.specs.Modules.{body_at}
 use Rattle.wasmprinter.specs.Found.{place_at, NamesItsLine, FindsItsLine}
 use Rattle.wasmprinter.proofs.Named.{one_module}
 
--- ---- an operator is found by its body, then its place, then the line
+-- -- An operator is found by its body, then by its place, then by its line
 
 abbrev numbered : List TextLine → ℕ → Option (ℕ × ℕ)
 numbered lines place = line_from 0 place lines >>= λ number. Some (number, place)
@@ -48,7 +48,7 @@ module _ (m : PlacedModule) (lines : List TextLine) (i j : ℕ) (b : Placed Body
   pub its_line : (place number : ℕ) → place_at b.value.operators j ≡ Some place → line_from 0 place lines ≡ Some number → place_of m lines i j ≡ Some (number, place)
   its_line place number f g = at_place place f ∙ ap (λ (x : Option ℕ). x >>= λ number. Some (number, place)) g
 
--- ---- what is found
+-- -- The result
 
 pub names : (m : PlacedModule) (lines : List TextLine) (i j : ℕ) (result : Option (ℕ × ℕ)) → result ≡ place_of m lines i j → NamesItsLine m lines i j result
 names m lines i j result e number place f = finds_place m lines i j number place (sym e ∙ f)

@@ -1,4 +1,5 @@
--- The headline from its parts: what the decoder read, what the printer made of it, and the laws of reading and of colours.
+-- The headline follows from its parts: the module that the decoder read, the calls that the printer made, and the
+-- laws of reading and of colors.
 use Rattle.std.proofs.Common.{◌≡◌, ℕ, List, Bool, false, None, refl, sym, ap, ◌∙◌, subst}
 use Rattle.wasmprinter_spec.specs.Binary.{Spells}
 use Rattle.wasmprinter_spec.specs.Placed.{PlacedModule}
@@ -21,11 +22,11 @@ use Rattle.wasmprinter.specs.Printed.{Printed, no_claims}
 use Rattle.wasmprinter.proofs.Claims.{alike_unclaimed, unclaimed_layout}
 use Rattle.wasmprinter.proofs.Paints.{refusal-paints}
 
--- what is foldable is so in colours too
+-- A module that can be folded can also be folded with escape sequences.
 pub foldable_in : (o : Options) (b : Bool) (m : PlacedModule) → IsFoldable o m → IsFoldable (in_colours o b) m
 foldable_in o b m f = record { legacy = f.legacy; hints = f.hints }
 
--- What was read from the bytes and printed whole is printed.
+-- If the bytes encode a module and all calls of its layout were made, the module was printed.
 pub printed : {P : Type 0} (m : Meaning P) (colours : Bool) (o : Options)
     (bytes : List ℕ) (placed : PlacedModule) (answers : Answers) {old new : P} → Spells bytes placed → IsWithinLimits placed → IsFoldable o placed →
     refusal (in_colours o colours) answers placed ≡ None → Whole m old new (layout (in_colours o colours) answers placed) → Printed m colours o bytes old new

@@ -1,5 +1,5 @@
--- The names of a module: the identifiers that the printer shows are the definitions', and memory is wanted for them only where the module has a custom
--- section, which is kept.
+-- The names of a module: the printed identifiers are those of the definitions, and memory is allocated for them
+-- only if the module has a custom section, which is kept.
 use Rattle.std.proofs.Common.{◌≡◌, ◌≢◌, ℕ, ◌+◌, ◌<◌, Bool, true, false, ◌&&◌, Option, Some, None, List, [], ◌∷◌, ◌++◌, length, refl, sym, ap, ◌∙◌, subst, arith, append_assoc, inl, inr}
 use Rattle.std.proofs.Math.Path.{fun_ext}
 use Rattle.std.proofs.lemmas.List.{length-append}
@@ -21,25 +21,26 @@ use Rattle.wasmprinter_entries.specs.Refusals.{HasCustom, KeepsSome}
 use Rattle.wasmprinter_wasm.specs.Decoding.{HoldsSome, IsRefusal}
 use Rattle.wasmprinter_error.specs.declared.error.Error.TheVariants.{Memory}
 
--- ---- identifiers
+-- -- Identifiers
 
--- what names each item the same names the same
+-- Two namings that name each item the same give the same names.
 pub same_names : (invents : Bool) (a b : Naming) → ((s outer index : ℕ) → a s outer index ≡ b s outer index) → names_by invents a ≡ names_by invents b
 same_names invents a b e = ap (names_by invents) (fun_ext (λ s. fun_ext (λ outer. fun_ext (λ index. e s outer index))))
 
--- the names of a module are those by its entries
+-- A naming that names each item by the entries of a module gives the names of the module.
 pub are_names : (invents : Bool) (m : PlacedModule) (a : Naming) → ((s outer index : ℕ) → a s outer index ≡ name_of (name_entries m.customs) s outer index)
     → names_by invents a ≡ module_names invents m
 are_names invents m a e = same_names invents a (name_of (name_entries m.customs)) e
 
--- ---- memory
+-- -- Memory
 
--- a module without custom sections has no names
+-- If name sections give entries, there is at least one custom section.
 no_entries : (cs : List CustomEntry) → name_entries cs ≢ [] → 0 < length cs
 no_entries [] some = absurd (some refl)
 no_entries (c ∷ cs) some = omega arith
 
--- sections up to the end, behind other bytes, one of which is a custom section
+-- If bytes after a prefix encode sections up to the end and one of them is a custom section, the input has a
+-- custom section.
 custom_among : (last : Option Kind) (p : ℕ) (before text : List ℕ) (ss : List Section) → (until_end section).spells (p + length before) text ss → 0 < length (customs_behind last ss)
     → HasCustom (input p (before ++ text))
 custom_among last p before text [] s some = absurd (omega (arith, some))
@@ -62,7 +63,7 @@ custom_among last p before text (x ∷ xs) s some =
       }
     ]
 
--- a module with custom sections, of which something is kept
+-- If bytes encode a module with custom sections, something of them is kept.
 pub keeps_custom : (bytes : List ℕ) (m : PlacedModule) → Spells bytes m → 0 < length m.customs → KeepsSome (input 0 bytes)
 keeps_custom bytes m s some =
     let ss : List Section = s.spelled.0.1 in
@@ -77,33 +78,33 @@ keeps_custom bytes m s some =
     custom_among None 0 head.0 head.1 ss head.4 (subst (λ (cs : List CustomEntry). 0 < length cs) (sym same) some) in
     inr (subst (λ (bs : List ℕ). HasCustom (input 0 bs)) (sym head.2) among)
 
--- it holds something
+-- A module with custom sections holds something.
 pub holds_custom : (m : PlacedModule) → 0 < length m.customs → HoldsSome m
 holds_custom m some = omega (arith, some)
 
--- ---- refusals
+-- -- Errors
 
 pub one_module : (bytes : List ℕ) (m n : PlacedModule) → Spells bytes m → Spells bytes n → m ≡ n
 one_module bytes m n s t = some_is m n (sym (binary.complete (input 0 bytes) m s.spelled) ∙ binary.complete (input 0 bytes) n t.spelled)
 
--- where a module has names, want of memory for them is a true refusal
+-- If a module has names, a failed allocation for them is a true reason to refuse its bytes.
 pub names_refusal : (bytes : List ℕ) (m : PlacedModule) → Spells bytes m → name_entries m.customs ≢ [] → IsRefusal bytes Memory
 names_refusal bytes m s some =
     let filled : 0 < length m.customs = no_entries m.customs some in
     (keeps_custom bytes m s filled, λ n t. holds_custom n (subst (λ (x : PlacedModule). 0 < length x.customs) (one_module bytes m n s t) filled))
 
--- without entries nothing has a name
+-- If there are no entries, no item has a name.
 pub unnamed : (entries : List Entry) → entries ≡ [] → (s outer index : ℕ) → name_of entries s outer index ≡ None
 unnamed entries e s outer index = rw e refl
 
--- ---- what is printed by these names
+-- -- Printing with these names
 
--- what was made of the names that a module's sections give
+-- The identifiers that are printed with the names of a module's sections are those of the module.
 pub shown_names : (o : Options) (m : PlacedModule) (s : Scan) (items : List NamedItem) → s.named ≡ items → s.invents ≡ o.invents →
     ((t outer index : ℕ) → name_at items t outer index ≡ name_of (name_entries m.customs) t outer index) → names_of s ≡ module_names o.invents m
 shown_names o m s items same invents given =
     ap (λ (x : List NamedItem). names_by s.invents (name_at x)) same ∙ ap (λ (b : Bool). names_by b (name_at items)) invents ∙ are_names o.invents m (name_at items) given
 
--- what can't be so of a refusal
+-- A refusal is not a success.
 pub not_ok : false ≡ true → ⊥
 not_ok h = absurd cc

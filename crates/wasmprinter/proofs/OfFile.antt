@@ -1,4 +1,4 @@
--- What the bytes that a read gave come to.
+-- The result for a file follows from the result for the bytes that reading it returned.
 use Rattle.std.specs.Prelude.{◌≡◌, ◌↔◌, ℕ, List, Some, Result, Ok, Err, IfOk, IfErr, IsErrOf}
 use Rattle.std.proofs.Common.{ap, inr}
 use Rattle.wasmprinter_error.specs.declared.error.Error.{Error}
@@ -13,17 +13,18 @@ abbrev error_or : {T E : Type 0} → E → Result T E → E
 error_or other (Ok t) = other
 error_or other (Err e) = e
 
--- where a result is an error of this kind exactly if this holds, so is its error
+-- If a failed result is `Component` exactly if a condition holds, its error is `Component` exactly if the
+-- condition holds.
 pub component_error : {T A : Type 0} (e : Error) → (IsErrOf {T = T} (Err e) Component ↔ A) → (e ≡ Component) ↔ A
 component_error e h = (λ is. h.0 (ap Err is), λ a. ap (error_or e) (h.1 a))
 
--- the text of the bytes is the file's
+-- The text of the bytes that reading returned is the text of the file.
 pub text_of_file : {T : Type 0} (view : T → List ℕ) (gives : Reading) (wasm : List ℕ) (r : Result T Error) →
     gives (Some wasm) → IfOk r (λ t. HasText wasm (view t)) → IfOk r (λ t. IsTextOf gives (view t))
 text_of_file view gives wasm (Ok t) g h = (wasm, g, h)
 text_of_file view gives wasm (Err e) g h = tt
 
--- why there is none
+-- If those bytes are refused, the file is refused with the same error.
 pub refused_of_file : {T : Type 0} (o : Options) (gives : Reading) (wasm : List ℕ) (r : Result T Error) →
     gives (Some wasm) → IfErr r (IsTrueOfText o wasm) → IfErr r (HasTextCause o wasm) → (IsErrOf r Component ↔ IsComponent wasm) →
     IfErr r (IsRefusedBy o gives)

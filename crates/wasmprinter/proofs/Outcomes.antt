@@ -1,4 +1,4 @@
--- What a printing function's end comes to, from what the decoder and the writer of modules promise.
+-- The result of a printing function, from the promises of the decoder and of the code that writes modules.
 use Rattle.std.specs.Prelude.{◌≡◌, ℕ, List, ◌∷◌, ◌++◌, Bool, true, false, bytes_eq, Some, Result, Ok, Err, IfErr, IsErrAnd, OnOk, ◌↔◌, refl}
 use Rattle.std.proofs.Common.{sym, ap, ◌∙◌, subst, inl, inr, true≢false}
 use Rattle.std.proofs.lemmas.Slice.Eq.{bytes_eq-Decides}
@@ -34,7 +34,7 @@ use Rattle.wasmprinter.proofs.Headline.{printed}
 use Rattle.wasmprinter.proofs.Named.{shown_names, one_module}
 use Rattle.wasmprinter.proofs.Subsections.{refusal_unknown, refused_unknown, made_refused}
 
--- bytes that spell a module are not marked as a component
+-- Bytes that encode a module are not marked as a component.
 not_component : (bytes : List ℕ) (placed : PlacedModule) → Spells bytes placed → IsComponent bytes → ⊥
 not_component bytes placed s c =
     let head = s.spelled.2 in
@@ -45,7 +45,7 @@ not_component bytes placed s c =
     let both : preamble_bytes ++ head.1 ≡ magic ++ (c.0 ∷ c.1 ∷ 0x01 ∷ 0x00 ∷ c.2) = sym begins ∙ c.3 in
     absurd cc
 
--- the decoder's refusal has its cause
+-- Each error of the decoder has its cause.
 pub refusal_cause : {P : Type 0} (m : Meaning P) (o : Options) (bytes : List ℕ) (old : P) (e : Error) → IsRefusal bytes e → HasCause m o bytes old old e
 refusal_cause m o bytes old (Malformed place) h = λ placed s. h.0 placed s
 refusal_cause m o bytes old Component h = λ placed s. not_component bytes placed s h
@@ -55,7 +55,7 @@ refusal_cause m o bytes old (EmptyTableInit place) h = λ placed s. h.1 placed s
 refusal_cause m o bytes old Memory h = λ placed s. inl (h.1 placed s)
 refusal_cause m o bytes old _ h = absurd h
 
--- it is true of the bytes
+-- Each error of the decoder is true of the bytes.
 pub refusal_true : (o : Options) (bytes : List ℕ) (e : Error) → IsRefusal bytes e → IsTrueOf o bytes e
 refusal_true o bytes (Printer x) h = absurd h
 refusal_true o bytes (DylinkSubsection id) h = absurd h
@@ -64,7 +64,7 @@ refusal_true o bytes (FoldHint place) h = absurd h
 refusal_true o bytes Memory h = inl h
 refusal_true o bytes _ h = h
 
--- and leaves the printer as it was
+-- Each error of the decoder leaves the printer unchanged.
 pub refusal_left : {P : Type 0} (m : Meaning P) (colours : Bool) (o : Options) (bytes : List ℕ) (old : P) (e : Error) → IsRefusal bytes e → Leaves m colours o bytes old old e
 refusal_left m colours o bytes old (Malformed place) h = refl
 refusal_left m colours o bytes old Component h = refl
@@ -74,37 +74,37 @@ refusal_left m colours o bytes old (EmptyTableInit place) h = refl
 refusal_left m colours o bytes old Memory h = inl refl
 refusal_left m colours o bytes old _ h = absurd h
 
--- ---- what can't be folded
+-- -- Modules that can't be folded
 
 module _ {P : Type 0} (m : Meaning P) (o : Options) (bytes : List ℕ) (placed : PlacedModule) (spelled : Spells bytes placed) (within : IsWithinLimits placed) (folds : o.folds ≡ true) (old : P) where
-  -- such a refusal has its cause
+  -- Each error of folding has its cause.
   pub fold_cause : (e : Error) → HasFoldReason o placed e → HasCause m o bytes old old e
   fold_cause (FoldLegacy place) h = λ other s. subst (λ (n : PlacedModule). IsLegacyAt o n place) (one_module bytes placed other spelled s) (folds, h)
   fold_cause (FoldHint place) h = λ other s. subst (λ (n : PlacedModule). IsMisplacedAt o n place) (one_module bytes placed other spelled s) (folds, h)
   fold_cause _ h = absurd h
 
-  -- it is true of the bytes
+  -- Each error of folding is true of the bytes.
   pub fold_true : (e : Error) → HasFoldReason o placed e → IsTrueOf o bytes e
   fold_true (FoldLegacy place) h = record { placed = placed; spelled = spelled; within = within; so = (folds, h) }
   fold_true (FoldHint place) h = record { placed = placed; spelled = spelled; within = within; so = (folds, h) }
   fold_true _ h = absurd h
 
-  -- and leaves the printer as it was
+  -- Each error of folding leaves the printer unchanged.
   pub fold_left : (colours : Bool) (e : Error) → HasFoldReason o placed e → Leaves m colours o bytes old old e
   fold_left colours (FoldLegacy place) h = refl
   fold_left colours (FoldHint place) h = refl
   fold_left colours _ h = absurd h
 
--- what isn't folded is foldable
+-- If folding is off, the module counts as foldable.
 pub flat_foldable : (o : Options) (m : PlacedModule) → o.folds ≡ false → IsFoldable o m
 flat_foldable o m e = record { legacy = λ h. absurd (true≢false (sym h ∙ e)); hints = λ h. absurd (true≢false (sym h ∙ e)) }
 
--- what is so of an error is so of a result that hands it on
+-- If a result forwards an error, a property of that error holds for the result.
 pub handed_on : (Q : Error → Type 0) (r : Result (Unit {0}) Error) (e : Error) → IsErrAnd r (λ y. y ≡ e) → Q e → IfErr r Q
 handed_on Q (Ok x) e f h = tt
 handed_on Q (Err y) e f h = subst Q (sym f) h
 
--- a module laid out by the names that its sections give
+-- The layout of a module with the names of its own sections.
 abbrev pub own_laid : Options → Answers → PlacedModule → Laid
 own_laid o answers m = record { pieces = module_pieces o answers m; refused = refusal o answers m }
 
@@ -126,11 +126,11 @@ module _ {P : Type 0} (m : Meaning P) (colours : Bool) (o : Options) (bytes : Li
   unfolding layout
   made r v = subst (λ (l : List Call). Made m old new r l) (sym (calls-paints o colours (module_pieces by answers placed))) (written m v)
 
-  -- how printing ended
+  -- The result of printing, with the calls that were made.
   abbrev Ended : Result (Unit {0}) Error → Type 0
   Ended r = PrintsLaid m o old new o.folds r (own_laid by answers placed)
 
-  -- written by the names that the module's sections give
+  -- A module that was written with the names of its sections was printed as its own layout says.
   pub own_ended : (r : Result (Unit {0}) Error) (s : Scan) (items : List NamedItem) → s.named ≡ items → s.invents ≡ o.invents →
       ((t outer index : ℕ) → name_at items t outer index ≡ name_of (name_entries placed.customs) t outer index) →
       PrintsLaid m o old new o.folds r (module_laid by answers (names_of s) placed) → Ended r
@@ -139,8 +139,8 @@ module _ {P : Type 0} (m : Meaning P) (colours : Bool) (o : Options) (bytes : Li
   never : Written m o old new Never (module_pieces by answers placed) → ⊥
   never v = (made Never v).made
 
-  -- What is so where a call failed, where a section was refused, and where a growth was refused, is so of every error of printing. Only what folds can
-  -- want memory.
+  -- A property holds for every error of printing if it holds after a failed call, after a refused section and
+  -- after a failed allocation. An allocation can fail only during folding.
   module _ (r : Result (Unit {0}) Error) where
     with_folds : (Q : Error → Type 0) → ((x : IoError) → Broken m old new x (layout by answers placed) → Q (Printer x)) →
         ((id : ℕ) → MadeUpTo m old new id by placed answers → Q (DylinkSubsection id)) → (o.folds ≡ true → Begun m old new (layout by answers placed) → Q Memory) →
@@ -168,40 +168,40 @@ module _ {P : Type 0} (m : Meaning P) (colours : Bool) (o : Options) (bytes : Li
         by_result (Ok x) v = tt
         by_result (Err e) v = by_error e v
 
-    -- a failed call is the cause, or a section, or want of memory
+    -- Each error of printing has its cause: a failed call, a refused section, or a failed allocation.
     pub ended_caused : Ended r → IfErr r (HasCause m o bytes old new)
     ended_caused v =
         with_folds (HasCause m o bytes old new) (λ x b other s. record { calls = b.calls; before = b.before; run = b.run; call = b.call; failed = b.failed })
         (λ id u other s. subst (λ (n : PlacedModule). AnyIsRefused m old new id n.customs) (one_module bytes placed other spelled s) (made_refused m old new by id answers placed u))
         (λ folds b other s. inr folds) v
 
-    -- the refusal is true of the bytes
+    -- Each error of printing is true of the bytes.
     pub ended_true : Ended r → IfErr r (IsTrueOf o bytes)
     ended_true v =
         with_folds (IsTrueOf o bytes) (λ x b. record { placed = placed; spelled = spelled; within = within })
         (λ id u. record { placed = placed; spelled = spelled; within = within; so = refusal_unknown by answers placed id u.ends })
         (λ folds b. inr (folds, record { placed = placed; spelled = spelled; within = within })) v
 
-    -- and leaves the calls up to it
+    -- After an error of printing, the calls that were made are those up to the error.
     pub ended_left : Ended r → IfErr r (Leaves m colours o bytes old new)
     ended_left v =
         with_folds (Leaves m colours o bytes old new) (λ x b. record { placed = placed; spelled = spelled; within = within; foldable = foldable; answers = answers; left = b })
         (λ id u. record { placed = placed; spelled = spelled; within = within; foldable = foldable; answers = answers; left = u })
         (λ folds b. inr (folds, record { placed = placed; spelled = spelled; within = within; foldable = foldable; answers = answers; left = b })) v
 
-  -- what was written whole is printed
+  -- If writing succeeds, the module was printed.
   pub ended_printed : (r : Result (Unit {0}) Error) → Ended r → OnOk r (Printed m colours o bytes old new)
   ended_printed (Ok x) v = printed m colours o bytes placed answers spelled within foldable v.refused (made Through v.written).made
   ended_printed (Err e) v = tt
 
-  -- it isn't that the bytes are marked as a component
+  -- Printing does not return `Component`.
   not_marked : (r : Result (Unit {0}) Error) → Ended r → r ≡ Err Component → ⊥
   not_marked r v e = never (subst (λ (q : Result (Unit {0}) Error). Ended q) e v).written
 
   pub ended_unmarked : (r : Result (Unit {0}) Error) → Ended r → (r ≡ Err Component) ↔ IsComponent bytes
   ended_unmarked r v = (λ e. absurd (not_marked r v e), λ c. absurd (not_component bytes placed spelled c))
 
--- what can't be folded is no component
+-- If a module can't be folded, the error is not `Component`, and the bytes are not marked as a component.
 pub fold_unmarked : (o : Options) (bytes : List ℕ) (placed : PlacedModule) (r : Result (Unit {0}) Error) (e : Error) → Spells bytes placed → HasFoldReason o placed e →
     IsErrAnd r (λ y. y ≡ e) → (r ≡ Err Component) ↔ IsComponent bytes
 fold_unmarked o bytes placed r e spelled h f = (λ q. absurd (unmarked r e h f q), λ c. absurd (not_component bytes placed spelled c))
@@ -213,14 +213,14 @@ fold_unmarked o bytes placed r e spelled h f = (λ q. absurd (unmarked r e h f q
     unmarked (Ok x) e h f q = absurd f
     unmarked (Err y) e h f q = let same : y ≡ Component = cc in no_reason e (sym f ∙ same) h
 
--- where a printer that fails only by growth failed, a growth was refused
+-- If a printer fails only because of failed allocations, the error that is returned for its error has its cause.
 pub growth_cause : {P : Type 0} (m : Meaning P) (o : Options) (bytes : List ℕ) (old new : P) (e : Error) → HasCause m o bytes old new e → HasTextCause o bytes (as_growth e)
 growth_cause m o bytes old new (Printer x) h = λ placed s. tt
 growth_cause m o bytes old new Memory h = λ placed s. tt
 growth_cause m o bytes old new (DylinkSubsection id) h = λ placed s. refused_unknown m old new id placed.customs (h placed s)
 growth_cause m o bytes old new _ h = h
 
--- and the refusal is true of the bytes
+-- That error is true of the bytes.
 pub growth_true : (o : Options) (bytes : List ℕ) (e : Error) → IsTrueOf o bytes e → IsTrueOfText o bytes (as_growth e)
 growth_true o bytes (Printer x) h = inr h
 growth_true o bytes Memory (inl h) = inl h

@@ -1,4 +1,5 @@
--- What of a layout doesn't depend on whether texts of folded operators carry sequences of colours: where it is refused, and the calls of its pieces.
+-- Escape sequences in the texts of folded operators change neither where a layout is refused nor the calls of its
+-- pieces.
 use Rattle.std.specs.Prelude.{◌≡◌, ℕ, List, [], ◌∷◌, ◌++◌, flat_map, Bool, true, false, Option, Some, None, refl}
 use Rattle.std.proofs.Common.{sym, ap, ap₂, ◌∙◌}
 use Rattle.wasmprinter_spec.specs.Kinds.{Kind}
@@ -12,7 +13,7 @@ use Rattle.wasmprinter_spec.specs.Layout.{early_scope, section_order, section_pa
 use Rattle.wasmprinter_spec.specs.Layout.Customs.{Part, Laid, laid_parts, parts_at}
 use Rattle.wasmprinter_annotations.proofs.Parts.{laid_behind, joined-append}
 
--- ---- calls
+-- -- Calls
 
 piece-paints : (o : Options) (b : Bool) (p : Piece) → calls (in_colours o b) p ≡ calls o p
 piece-paints o b (Break place nesting) = refl
@@ -57,7 +58,7 @@ pub calls-paints : (o : Options) (b : Bool) (ps : List Piece) → all_calls (in_
 calls-paints o b [] = refl
 calls-paints o b (p ∷ ps) = ap₂ (λ (xs ys : List Call). xs ++ ys) (piece-paints o b p) (calls-paints o b ps)
 
--- ---- refusals
+-- -- Refusals
 
 record HaveSameEnd (xs ys : List Part) : Type 0 where
   end : (laid_parts xs).refused ≡ (laid_parts ys).refused
@@ -92,6 +93,6 @@ module _ (o : Options) (b c : Bool) (answers : Answers) (names : Names) (m : Pla
   unfolding module_parts
   parts_end = both_end (customs_end None) (sections_end section_order)
 
--- a layout is refused in colours where it is without
+-- A layout with escape sequences is refused exactly as the layout without them.
 pub refusal-paints : (o : Options) (b c : Bool) (answers : Answers) (m : PlacedModule) → refusal (in_colours o b) answers m ≡ refusal (in_colours o c) answers m
 refusal-paints o b c answers m = (parts_end o b c answers (module_names o.invents m) m).end

@@ -1,4 +1,4 @@
--- A refused `dylink.0` section: one of the module's custom sections, for which the layout asks last.
+-- A refused `dylink.0` section is one of the module's custom sections, and the last claim of the layout is for it.
 use Rattle.std.specs.Prelude.{◌≡◌, ◌⊎◌, ℕ, ◌+◌, List, [], ◌∷◌, ◌++◌, flat_map, codes, Bool, true, false, Option, Some, None, refl}
 use Rattle.std.proofs.Common.{sym, subst, ap, ◌∙◌, inl, inr, append_assoc}
 use Rattle.wasmprinter_spec.specs.Grammar.{some_is}
@@ -26,11 +26,11 @@ Stop parts id = (laid_parts parts).refused ≡ Some id
 abbrev pieces_of : List Part → List Piece
 pieces_of parts = (laid_parts parts).pieces
 
--- the question for this section, answered with no
+-- The claim for this section, answered no.
 abbrev question : CustomEntry → Piece
 question c = Claimed c.section.value.name c.section.value.bytes.place c.section.value.bytes.value false
 
--- pieces end with the question for this section, which is refused
+-- The pieces end with the claim for this section, which is refused.
 record IsAsked (id : ℕ) (c : CustomEntry) (ps : List Piece) : Type 0 where
   unknown : custom_role_of c.section.value ≡ Refused id
   front : List Piece
@@ -40,14 +40,14 @@ abbrev AnyIsAsked : ℕ → List CustomEntry → List Piece → Type 0
 AnyIsAsked id [] ps = ⊥
 AnyIsAsked id (c ∷ cs) ps = IsAsked id c ps ⊎ AnyIsAsked id cs ps
 
--- after other pieces
+-- If pieces end with such a claim, they do so after other pieces too.
 asked_behind : (id : ℕ) (cs : List CustomEntry) (ps qs : List Piece) → AnyIsAsked id cs qs → AnyIsAsked id cs (ps ++ qs)
 asked_behind id [] ps qs h = absurd h
 asked_behind id (c ∷ cs) ps qs (inl a) =
     inl (record { unknown = a.unknown; front = ps ++ a.front; ends = ap (λ (rs : List Piece). ps ++ rs) a.ends ∙ sym (append_assoc ps a.front (question c ∷ [])) })
 asked_behind id (c ∷ cs) ps qs (inr h) = inr (asked_behind id cs ps qs h)
 
--- either the section is asked for last, or others after pieces
+-- The first part does not stop the layout: its pieces come before those of the other parts, which stop it.
 record GoesOn (part : Part) (others : List Part) (id : ℕ) : Type 0 where
   front : List Piece
   pieces : pieces_of (part ∷ others) ≡ front ++ pieces_of others
@@ -92,7 +92,7 @@ module _ (skeleton : Bool) (answers : Answers) (place : Option Kind) (id : ℕ) 
       by false behind e = rw e (inr (behind (rw e at h)))
 
 module _ (o : Options) (answers : Answers) (m : PlacedModule) (id : ℕ) where
-  -- parts that stop there ask last for such a section
+  -- If the parts stop for this subsection, their pieces end with the claim for such a section.
   record IsAskedIf (parts : List Part) : Type 0 where
     stops : Stop parts id → AnyIsAsked id m.customs (pieces_of parts)
 
@@ -125,7 +125,7 @@ module _ (o : Options) (answers : Answers) (m : PlacedModule) (id : ℕ) where
   unfolding module_parts
   module_if names = both_if (customs_if None) (sections_if names section_order)
 
--- ---- it is one of them
+-- -- The refused section is one of the module's
 
 forgets : (id : ℕ) (cs : List CustomEntry) (ps : List Piece) → AnyIsAsked id cs ps → AnyIsUnknown id cs
 forgets id [] ps h = absurd h
@@ -144,10 +144,10 @@ refused_unknown m old new id [] h = absurd h
 refused_unknown m old new id (c ∷ cs) (inl r) = inl r.unknown
 refused_unknown m old new id (c ∷ cs) (inr h) = inr (refused_unknown m old new id cs h)
 
--- ---- the calls end with its question
+-- -- The calls end with the claim for it
 
 module _ {P : Type 0} (meaning : Meaning P) (old new : P) (o : Options) (id : ℕ) where
-  -- of pieces that end so
+  -- If pieces end with the claim for a refused section, their calls do.
   ended : (c : CustomEntry) (front : List Piece) → custom_role_of c.section.value ≡ Refused id →
       Whole meaning old new (all_calls o (front ++ question c ∷ [])) → IsRefused meaning old new id c
   ended c front unknown w =
@@ -160,7 +160,7 @@ module _ {P : Type 0} (meaning : Meaning P) (old new : P) (o : Options) (id : �
         asked = w.alike ∙ ap atoms (all_calls-append o front (question c ∷ [])) ∙ atoms-append (all_calls o front) last;
       }
 
-  -- the pieces before those of the sections
+  -- The same with the pieces before those of the sections.
   any_refused : (head : List Piece) (cs : List CustomEntry) (ps : List Piece) → AnyIsAsked id cs ps → Whole meaning old new (all_calls o (head ++ ps)) → AnyIsRefused meaning old new id cs
   any_refused head [] ps h w = absurd h
   any_refused head (c ∷ cs) ps (inl a) w =
@@ -168,7 +168,8 @@ module _ {P : Type 0} (meaning : Meaning P) (old new : P) (o : Options) (id : �
       (subst (λ (qs : List Piece). Whole meaning old new (all_calls o qs)) (ap (λ (qs : List Piece). head ++ qs) a.ends ∙ sym (append_assoc head a.front (question c ∷ []))) w))
   any_refused head (c ∷ cs) ps (inr h) w = inr (any_refused head cs ps h w)
 
-  -- a layout that ends at a refusal, whose calls were made
+  -- If the calls of a layout that ends with a refusal were made, the last claim was for a refused section of the
+  -- module.
   pub made_refused : (answers : Answers) (m : PlacedModule) → MadeUpTo meaning old new id o m answers → AnyIsRefused meaning old new id m.customs
   unfolding layout module_pieces module_pieces_with
   made_refused answers m h =

@@ -1,4 +1,4 @@
--- The text that is handed to a printer which keeps it.
+-- The text that a printer in memory receives.
 use Rattle.std.specs.Prelude.{◌≡◌, ℕ, List, [], ◌∷◌, ◌++◌, Bool, false, None, Result, Ok, Err, IfOk, refl}
 use Rattle.std.specs.List.{AllByRecursion}
 use Rattle.wasmprinter_error.specs.declared.error.Error.{Error}
@@ -24,32 +24,33 @@ use Rattle.wasmprinter.specs.Printed.{Printed, HasTextBy, HasText, no_claims}
 use Rattle.wasmprinter.proofs.Claims.{IsSame, alike_unclaimed, unclaimed_layout}
 use Rattle.wasmprinter.proofs.Headline.{foldable_in}
 
--- a printer that claims nothing has claimed nothing
+-- A printer that never claims a section has claimed no section in any run of calls.
 pub none_claimed : {P : Type 0} (m : Meaning P) → ((s : P) (c : Call) (t : P) → m.after s c t → IsUnclaimed c) → (old new : P) (calls : List Call) → Run m old calls new →
     AllByRecursion IsUnclaimed calls
 none_claimed m never old new [] r = tt
 none_claimed m never old new (c ∷ calls) r = (never old c r.0 r.1.step, none_claimed m never r.0 new calls r.2)
 
--- what was printed to a printer that claims nothing is the layout of which nothing is claimed
+-- If a module was printed to a printer that never claims a section, its layout is the one without claims.
 pub unclaimed_printed : {P : Type 0} (m : Meaning P) (colours : Bool) (o : Options) → ((s : P) (c : Call) (t : P) → m.after s c t → IsUnclaimed c) →
     (bytes : List ℕ) (old new : P) → (v : Printed m colours o bytes old new) → IsSame (in_colours o colours) v.answers v.placed
 unclaimed_printed m colours o never bytes old new v =
     unclaimed_layout (in_colours o colours) v.answers v.placed v.accepted
     (alike_unclaimed v.calls (layout (in_colours o colours) v.answers v.placed) v.alike (none_claimed m never old new v.calls v.run))
 
--- what was printed is, without colours, the layout of which nothing is claimed
+-- The calls are those of the layout without colors, however text is split. No section of it is claimed or refused.
 pub record IsPlainly (o : Options) (calls : List Call) (placed : PlacedModule) : Type 0 where
   pub accepted : refusal (in_colours o false) no_claims placed ≡ None
   pub alike : atoms calls ≡ atoms (layout (in_colours o false) no_claims placed)
 
--- what was printed to a printer that claims nothing and can't write colours
+-- If a module was printed to a printer that never claims a section and can't write colors, its calls are those of
+-- the layout without colors and without claims.
 pub plainly_printed : {P : Type 0} (m : Meaning P) (o : Options) → ((s : P) (c : Call) (t : P) → m.after s c t → IsUnclaimed c) → (bytes : List ℕ) (old new : P) →
     (v : Printed m false o bytes old new) → IsPlainly o v.calls v.placed
 plainly_printed m o never bytes old new v =
     let own : IsSame (in_colours o false) v.answers v.placed = unclaimed_printed m false o never bytes old new v in
     record { accepted = own.refusal; alike = v.alike ∙ ap atoms own.layout }
 
--- the text of the layout of which nothing is claimed is that of the module
+-- The text of the layout without claims is that of the module.
 abbrev pub module_text : (o : Options) (bytes : List ℕ) (placed : PlacedModule) → Spells bytes placed → IsWithinLimits placed → IsFoldable o placed →
     refusal (in_colours o false) no_claims placed ≡ None → (text : List ℕ) → text ≡ text_of (layout (in_colours o false) no_claims placed) → HasTextBy o bytes text
 module_text o bytes placed spelled within foldable accepted text is =
@@ -68,7 +69,7 @@ module_text o bytes placed spelled within foldable accepted text is =
       hints = λ hs whole blank given. ap text_hints is ∙ hints_stay bytes placed by no_claims hs spelled whole refl blank can_fold accepted given;
     }
 
--- what was printed to memory that was empty is its text
+-- If a module was printed to an empty text in memory, the result is the module's text.
 pub printed_text : (o : Options) (bytes old new : List ℕ) → old ≡ [] → Printed (text_only appends) false o bytes old new → HasTextBy o bytes new
 printed_text o bytes old new empty v =
     let handed : new ≡ text_of v.calls =
@@ -80,7 +81,7 @@ printed_text o bytes old new empty v =
 two_blanks : IsBlank defaults.indent
 two_blanks = (inl refl, (inl refl, tt))
 
--- the same with the defaults
+-- The same with the default options.
 pub default_text : (bytes text : List ℕ) → HasTextBy defaults bytes text → HasText bytes text
 default_text bytes text v = record {
   placed = v.placed;

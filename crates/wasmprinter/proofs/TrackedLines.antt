@@ -1,4 +1,4 @@
--- The text and the lines that a tracking printer keeps.
+-- The text and the lines that a tracker keeps.
 use Rattle.std.specs.Prelude.{◌≡◌, ℕ, List, [], ◌∷◌, ◌++◌, false, Result, Ok, Err, MatchResult, IsErrAnd, IfOk, IfErr, OnOk}
 use Rattle.std.specs.List.{AllByRecursion}
 use Rattle.std.specs.declared.io.Error.{Error as IoError}
@@ -27,7 +27,7 @@ use Rattle.wasmprinter.proofs.Claims.{alike_unclaimed}
 use Rattle.wasmprinter.proofs.Prefixes.{broken_alike}
 use Rattle.wasmprinter.proofs.Texts.{IsPlainly, plainly_printed, none_claimed, module_text}
 
--- what was printed whole, with no line lost
+-- If a module was printed and no line was lost, the tracker has the text and the lines of the module.
 pub printed_lines : (o : Options) (bytes base : List ℕ) (t : Tracked) → t.lost ≡ false → Printed tracked_meaning false o bytes (without_lines base) t →
     HasLinesBy o bytes base t.text t.lines
 printed_lines o bytes base t kept v =
@@ -48,9 +48,9 @@ printed_lines o bytes base t kept v =
           (function_lines bytes v.placed by no_claims v.spelled whole flat own.accepted i f e);
     }
 
--- ---- what a refusal leaves
+-- -- The storage after an error
 
--- a tracker claims nothing
+-- A tracker claims no custom section.
 run_claims_none : (s t : Tracked) (calls : List Call) → Run tracked_meaning s calls t → AllByRecursion IsUnclaimed calls
 run_claims_none s t calls r = none_claimed tracked_meaning claims_never s t calls r
 
@@ -86,7 +86,7 @@ module _ (o : Options) (bytes : List ℕ) (old new : Tracked) where
     left = begun_gains (in_colours o false) old new h.1.placed h.1.answers h.1.left;
   })
 
-  -- an error of the printer is a failed allocation
+  -- After each error the storage is as promised. An error of the tracker is a failed allocation.
   pub refusal_leaves : (e : Error) → Leaves tracked_meaning false o bytes old new e → LeavesStorage o bytes (as_growth e) old.text new.text
   refusal_leaves (Malformed place) h = ap (λ (t : Tracked). t.text) h
   refusal_leaves Component h = ap (λ (t : Tracked). t.text) h
@@ -120,7 +120,7 @@ module _ (o : Options) (bytes : List ℕ) (old new : Tracked) where
   refusal_leaves Memory h = memory_leaves h
   refusal_leaves _ h = absurd h
 
-  -- all was printed, but a line has no entry
+  -- If the whole module was printed but a line has no entry, the storage is as promised for a failed allocation.
   pub printed_leaves : Printed tracked_meaning false o bytes old new → LeavesStorage o bytes Memory old.text new.text
   printed_leaves v = inr (record {
     placed = v.placed;
@@ -137,7 +137,7 @@ module _ (o : Options) (bytes : List ℕ) (old new : Tracked) where
     };
   })
 
--- ---- what `finish` gives is handed on, and its error as want of memory
+-- -- The result of `finish` is returned, with its error as `Memory`
 
 pub told_as : {T A : Type 0} (R : A → Error → Type 0) → ((e : A) (y : Error) → R e y → y ≡ Memory) →
     (x : Result T A) (r : Result T Error) → MatchResult x (λ v. r ≡ Ok v) (λ e. IsErrAnd r (R e)) → (Q : Error → Type 0) → Q Memory → IfErr r Q
@@ -154,17 +154,17 @@ handed_on_as R Q (Err e) (Ok w) h q = absurd h
 handed_on_as R Q (Err e) (Err y) h q = tt
 
 module _ (o : Options) (bytes base text : List ℕ) (old t : Tracked) (is_old : old ≡ without_lines base) (is_text : text ≡ t.text) where
-  -- what the storage was, and what it is
+  -- The promise about the tracker's texts is a promise about the storage before and after the call.
   pub leaves_as : (e : Error) → LeavesStorage o bytes e old.text t.text → LeavesStorage o bytes e base text
   leaves_as e h =
       subst (λ (x : List ℕ). LeavesStorage o bytes e base x) (sym is_text)
       (subst (λ (s : Tracked). LeavesStorage o bytes e s.text t.text) is_old h)
 
-  -- want of memory for a line is true of bytes that were printed
+  -- If a module was printed, `Memory` for the entry of a line is true of its bytes.
   pub printable : Printed tracked_meaning false o bytes old t → IsTrueOfText o bytes Memory
   printable v = inr (record { placed = v.placed; spelled = v.spelled; within = v.within })
 
-  -- the lines that begin at these places are the module's
+  -- If `finish` succeeds, the lines that begin at its places are those of the module.
   pub finished_lines : {T A : Type 0} (starts_of : T → List LineStart) (x : Result T A) → Printed tracked_meaning false o bytes old t →
       OnOk x (t.lost ≡ false) → IfOk x (λ starts. lines_at_starts (starts_of starts) t.text ≡ t.lines) → IfOk x (λ starts. HasLinesBy o bytes base text (lines_at_starts (starts_of starts) text))
   finished_lines starts_of (Ok starts) v kept lines =

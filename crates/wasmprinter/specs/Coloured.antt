@@ -1,4 +1,4 @@
--- What it is that bytes are the text of a module in colours.
+-- Definition of the text of a module with ANSI escape sequences.
 use Rattle.std.specs.Prelude.{◌≡◌, ℕ, List, true, None}
 use Rattle.wasmprinter_spec.specs.Binary.{Spells}
 use Rattle.wasmprinter_spec.specs.Placed.{PlacedModule}
@@ -10,9 +10,10 @@ use Rattle.wasmprinter_spec.specs.Coloured.{coloured_text}
 use Rattle.wasmprinter_spec.specs.Folding.Refusals.{IsFoldable}
 use Rattle.wasmprinter.specs.Printed.{HasTextBy, no_claims}
 
--- The bytes are the text, with the sequences of each style, in the texts of folded operators or outside, of the layout of the module that
--- is spelled, of which no custom section is claimed and no `dylink.0` section is refused. Where the indent is blank, what stays of them
--- when the sequences are deleted is the module's text.
+-- The bytes encode a module within the limits that can be folded if folding is on. Of its layout no custom section
+-- is claimed and no `dylink.0` section is refused. `text` is the text of this layout with the ANSI escape
+-- sequences of each style, those within the texts of folded operators included. If the indent consists of spaces
+-- and tabs, the text without the sequences is the module's text.
 pub record HasColouredTextBy (o : Options) (bytes text : List ℕ) : Type 0 where
   pub placed : PlacedModule
   pub spelled : Spells bytes placed

@@ -1,4 +1,4 @@
--- What is found for an operator among lines.
+-- Definition of the line that is found for an operator.
 use Rattle.std.specs.Prelude.{◌≡◌, ℕ, List, false, Option, Some, None, map, option_map, slice_get}
 use Rattle.std.specs.Borrow.{Bor}
 use Rattle.wasmprinter_spec.specs.Grammar.{Placed}
@@ -9,22 +9,23 @@ use Rattle.wasmprinter_spec.specs.Options.{Options}
 use Rattle.wasmprinter_spec.specs.Lines.{TextLine, line_places, IsOnlyLine, operator_at}
 use Rattle.wasmprinter.specs.Lined.{HasLinesBy}
 
--- lines as code holds them, by their places and texts
+-- The lines that the code passes, as places with texts.
 abbrev pub text_lines : List (Option ℕ × Bor (List ℕ)) → List TextLine
 text_lines lines = map (λ line. (line.0, line.1.now)) lines
 
--- the place of the operator with this number
+-- The place of the operator with this number, if it exists.
 abbrev pub place_at : List (Placed Operator) → ℕ → Option ℕ
 place_at operators number = option_map (λ (o : Placed Operator). o.place) (slice_get operators number)
 
--- Whatever the lines are: what is found is the place of that operator, and the line with the number begins with it.
+-- For any lines: if a result is returned, its place is the place of the operator, and the line with its number
+-- begins with that place.
 abbrev pub NamesItsLine : PlacedModule → List TextLine → ℕ → ℕ → Option (ℕ × ℕ) → Type 0
 NamesItsLine m lines function operator result =
     (number place : ℕ) → result ≡ Some (number, place) →
     (o : Placed Operator) × (operator_at m function operator ≡ Some o) × (place ≡ o.place)
     × (slice_get (line_places lines) number ≡ Some (Some place))
 
--- the lines are all that were given of bytes that spell the module, with its bodies, which aren't folded
+-- The lines are all those that were returned for bytes that encode the module, with its bodies, and not folded.
 pub record AreLinesOf (m : PlacedModule) (lines : List TextLine) : Type 0 where
   pub bytes : List ℕ
   pub spelled : Spells bytes m
@@ -35,7 +36,8 @@ pub record AreLinesOf (m : PlacedModule) (lines : List TextLine) : Type 0 where
   pub storage : List ℕ
   pub given : HasLinesBy options bytes old storage lines
 
--- In these the operator's line is found, the only one with its place, and nothing where there is no such operator.
+-- In all lines of the module, the line of an existing operator is found, and it is the only one with its place.
+-- For an operator that does not exist, the result is `None`.
 abbrev pub FindsItsLine : PlacedModule → List TextLine → ℕ → ℕ → Option (ℕ × ℕ) → Type 0
 FindsItsLine m lines function operator result =
     AreLinesOf m lines →

@@ -1,4 +1,4 @@
--- What the contracts of the library cite: each promise of printing, and what a refusal leaves.
+-- Definitions that the contracts of the library cite: what each printing call promises, and what each error leaves.
 pub mod Coloured
 pub mod Found
 pub mod Lined

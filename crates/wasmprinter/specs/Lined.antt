@@ -1,4 +1,4 @@
--- What it is that the text of a module was appended to a text, with its lines.
+-- Definition of a module's text that is appended to a text, with its lines.
 use Rattle.std.specs.Prelude.{◌≡◌, ◌⊎◌, ◌++◌, ℕ, List, false, Some, slice_get}
 use Rattle.std.specs.List.{AllByRecursion}
 use Rattle.wasmprinter_error.specs.declared.error.Error.{Error}
@@ -13,8 +13,9 @@ use Rattle.wasmprinter_tracker.specs.Cuts.{lines_at_starts}
 use Rattle.wasmprinter.specs.Printed.{HasTextBy, no_claims}
 use Rattle.wasmprinter.specs.Outcome.{WhilePrinting}
 
--- The text of the module that the bytes spell stands behind the old text. The lines are those of its layout: joined they are that text, and
--- where bodies are printed flat each function has its header, its locals and its operators on lines of their own.
+-- The storage is the old text followed by the text of the module that the bytes encode. The lines are those of its
+-- layout, and joined they are that text. If bodies are printed flat, each function has a line for its header, its
+-- locals and each of its operators.
 pub record HasLinesBy (o : Options) (bytes old storage : List ℕ) (lines : List TextLine) : Type 0 where
   pub text : List ℕ
   pub printed : HasTextBy o bytes text
@@ -24,11 +25,12 @@ pub record HasLinesBy (o : Options) (bytes old storage : List ℕ) (lines : List
   pub functions : o.skeleton ≡ false → o.folds ≡ false → (i : ℕ) (f : PlacedFunction) → slice_get printed.placed.functions i ≡ Some f →
       HasFunctionLines (hint_places printed.placed) (line_places lines) f
 
--- the same where the lines are those that begin at these places of the storage
+-- The same for the lines that begin at these offsets of the storage.
 abbrev pub HasLinesAt : Options → List ℕ → List ℕ → List ℕ → List LineStart → Type 0
 HasLinesAt o bytes old storage starts = HasLinesBy o bytes old storage (lines_at_starts starts storage)
 
--- Text was appended: that of calls which are a prefix of the module's layout, however text is split. They claim no custom section.
+-- Text was appended. It is the text of calls that are a prefix of the module's layout, however text is split, and
+-- that claim no custom section.
 pub record GainsPrefix (o : Options) (old new : List ℕ) (placed : PlacedModule) (answers : Answers) : Type 0 where
   pub calls : List Call
   pub rest : List Call
@@ -36,14 +38,16 @@ pub record GainsPrefix (o : Options) (old new : List ℕ) (placed : PlacedModule
   pub unclaimed : AllByRecursion IsUnclaimed calls
   pub appended : new ≡ old ++ text_of calls
 
--- The layout ends at a `dylink.0` section, for its subsection with this id, and claims no custom section. All of its text was appended.
+-- The layout ends at a `dylink.0` section because of its subsection with this id, and no custom section is claimed
+-- in it. All of its text was appended.
 pub record GainsTextBefore (id : ℕ) (o : Options) (old new : List ℕ) (placed : PlacedModule) (answers : Answers) : Type 0 where
   pub ends : refusal o answers placed ≡ Some id
   pub unclaimed : AllByRecursion IsUnclaimed (layout o answers placed)
   pub appended : new ≡ old ++ text_of (layout o answers placed)
 
--- What the storage holds after an error. A `dylink.0` section with an unknown subsection ends the text. If an allocation failed, a prefix of
--- the module's text may have been appended. After any other error the storage is unchanged.
+-- The contents of the storage after an error. After an unknown subsection of a `dylink.0` section, it has the text
+-- before that section. If an allocation failed, a prefix of the module's text may have been appended. After any
+-- other error it is unchanged.
 abbrev pub LeavesStorage : Options → List ℕ → Error → List ℕ → List ℕ → Type 0
 LeavesStorage o bytes (DylinkSubsection id) old new = WhilePrinting o bytes (GainsTextBefore id (in_colours o false) old new)
 LeavesStorage o bytes Memory old new = (new ≡ old) ⊎ WhilePrinting o bytes (GainsPrefix (in_colours o false) old new)

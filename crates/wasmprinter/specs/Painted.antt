@@ -1,4 +1,4 @@
--- What calls make of a printer that keeps its text in memory, in the colours of a terminal.
+-- The meaning of calls on a printer that keeps its text in memory, with ANSI escape sequences.
 use Rattle.std.specs.Prelude.{◌≡◌, ℕ, List, ◌++◌, None}
 use Rattle.std.specs.IoError.{error_kind}
 use Rattle.std.specs.declared.io.ErrorKind.TheVariants.{OutOfMemory}
@@ -6,9 +6,9 @@ use Rattle.wasmprinter_spec.specs.Call.{IsUnclaimed, IsTextOrStyle}
 use Rattle.wasmprinter_spec.specs.Coloured.{coloured_bytes}
 use Rattle.wasmprinter_spec.specs.Meaning.{Meaning}
 
--- The meaning of its bytes: each call appends its own, those of a text, a line feed or the escape sequences of a style, and no custom section
--- is claimed. Only a call that writes a text (an empty text too), a line feed or a style may fail: an allocation failed then, and the bytes
--- are unchanged.
+-- The state is the bytes of the text. Each call appends its bytes: those of a text, a line feed or the escape
+-- sequences of a style. No custom section is claimed. Only a call that writes a text (an empty text too), a line
+-- feed or a style may fail. An allocation failed then, and the bytes are unchanged.
 abbrev pub painted_meaning : Meaning (List ℕ)
 painted_meaning = record {
   after = λ old call new. (new ≡ old ++ coloured_bytes call) × IsUnclaimed call;

@@ -1,4 +1,4 @@
--- What it is that a module was printed: the headline.
+-- Definition of a module that was printed: the headline.
 use Rattle.std.specs.Prelude.{◌≡◌, ℕ, List, map, Bool, false, Some, None}
 use Rattle.std.specs.List.{AllByRecursion}
 use Rattle.wasmprinter_spec.specs.Binary.{Spells}
@@ -18,16 +18,18 @@ use Rattle.wasmprinter_spec.specs.HintsOfModule.{OperatorHint, module_hints}
 use Rattle.wasmprinter_spec.specs.Text.Hints.{text_hints}
 use Rattle.wasmprinter_spec.specs.Read.{read}
 
--- no custom section is claimed
+-- No custom section is claimed.
 abbrev pub no_claims : Answers
 no_claims = λ n. false
 
--- The printer's state is a run from the old one over calls that are alike the layout of the module that the bytes spell, in which no
--- `dylink.0` section is refused, and everything can be folded, if it is. Sequences of colours are in the texts of folded operators exactly
--- where the printer can write colours as text. Where the indent is blank, the calls of the layout, colour sequences deleted from each text,
--- are those of the layout without them, and so is the text of the calls; it reads as exactly the module, where every used index is
--- declared, bodies are printed, the indent is blank and no custom section was claimed. Where bodies are printed and the indent is blank,
--- its branch hints are those of the module, if the hint section is well formed.
+-- The bytes encode a module within the limits. It can be folded if folding is on, and no `dylink.0` section of it
+-- is refused.
+-- The printer's state follows from the old one by calls that equal those of the module's layout, however text is
+-- split. The texts of folded operators have ANSI escape sequences exactly if the printer can write colors as text.
+-- If the indent consists of spaces and tabs: without these sequences, the calls and their text are those of the
+-- layout without colors. If bodies are printed too, the text has the branch hints of the module, if its hint
+-- section is well formed. If also every used index is declared and no custom section was claimed, the text reads
+-- as exactly the module. If the printer can't write colors as text, the text is plain.
 pub record Printed {P : Type 0} (m : Meaning P) (colours : Bool) (o : Options) (bytes : List ℕ) (old new : P) : Type 0 where
   pub placed : PlacedModule
   pub spelled : Spells bytes placed
@@ -46,9 +48,11 @@ pub record Printed {P : Type 0} (m : Meaning P) (colours : Bool) (o : Options) (
       text_hints (uncolour (text_of calls)) ≡ Some hs
   pub plain : IsBlank o.indent → colours ≡ false → IsPlainText (text_of calls)
 
--- The text is that of the layout of the module that the bytes spell, of which no custom section is claimed and no `dylink.0` section is
--- refused, and everything can be folded, if it is. Where the indent is blank it is plain, and where bodies are printed too, it reads as
--- exactly that module, if every used index is declared, and has its branch hints, if the hint section is well formed.
+-- The text is that of the layout of a module that the bytes encode, within the limits. The module can be folded if
+-- folding is on, no custom section of it is claimed, and no `dylink.0` section is refused.
+-- If the indent consists of spaces and tabs, the text is plain. If bodies are printed too, the text has the branch
+-- hints of the module, if its hint section is well formed. If also every used index is declared, it reads as
+-- exactly the module.
 pub record HasTextBy (o : Options) (bytes text : List ℕ) : Type 0 where
   pub placed : PlacedModule
   pub spelled : Spells bytes placed
@@ -60,9 +64,10 @@ pub record HasTextBy (o : Options) (bytes text : List ℕ) : Type 0 where
   pub reads : IsIndexed (module_of placed) → o.skeleton ≡ false → IsBlank o.indent → read text ≡ Some (module_of placed)
   pub hints : (hs : List OperatorHint) → o.skeleton ≡ false → IsBlank o.indent → module_hints placed ≡ Some hs → text_hints text ≡ Some hs
 
--- The text is that of the layout with the defaults, of the module that the bytes spell, of which no custom section is claimed and no
--- `dylink.0` section is refused. It is plain, reads as exactly that module, where every used index is declared, and has its branch hints,
--- if the hint section is well formed.
+-- The text is that of the layout, with the default options, of a module that the bytes encode, within the limits.
+-- No custom section of it is claimed, and no `dylink.0` section is refused. The text is plain. If every used index
+-- is declared, it reads as exactly the module. It has the branch hints of the module, if its hint section is well
+-- formed.
 pub record HasText (bytes text : List ℕ) : Type 0 where
   pub placed : PlacedModule
   pub spelled : Spells bytes placed

@@ -1,4 +1,4 @@
-//! The text of a module in the colours of a terminal.
+//! Printing a module as text with ANSI escape sequences.
 ghost use Rattle.std.specs.Prelude.{◌↔◌, IfOk, IfErr, IsErrOf};
 ghost use Rattle.wasmprinter_spec.specs.Binary.{IsComponent};
 ghost use Rattle.wasmprinter.specs.Coloured.{HasColouredTextBy};
@@ -11,11 +11,12 @@ use std::alloc::Global;
 use wasmprinter_error::Error;
 
 impl Config {
-    /// The text of a module in the binary format, with the sequences that colour it on a terminal, as `Ansi` writes them.
+    /// Returns the text of a module in the binary format, with the ANSI escape sequences that
+    /// [`crate::print::Ansi`] writes.
     ///
     /// # Errors
     ///
-    /// As [`Config::print_to_string`].
+    /// The errors of [`Config::print_to_string`].
     pub fn print_to_ansi(&self, alloc: Global, wasm: &[u8]) -> Result<Vec<u8>, Error>
         ensures printed { IfOk result (λ text. HasColouredTextBy self.now wasm.now text.items) }
         ensures caused { IfErr result (HasTextCause self.now wasm.now) }

@@ -1,4 +1,4 @@
-//! How a module is printed.
+//! The options of printing, and the calls that print a module with them.
 ghost use Rattle.std.specs.Prelude.{◌≡◌, ◌↔◌, true, OnOk, IfOk, IfErr, IsErrOf, string_bytes};
 ghost use Rattle.wasmprinter_spec.specs.Binary.{IsComponent};
 ghost use Rattle.wasmprinter_spec.specs.Folding.Refusals.{IsFoldable};
@@ -19,7 +19,7 @@ use wasmprinter_print::Print;
 use wasmprinter_sections::modules::write_module;
 use wasmprinter_wasm::{Module, decode};
 
-/// What is printed of a module, and how.
+/// The options of printing: which parts of a module are printed, and in which form.
 #[derive(Debug, Drop)]
 pub struct Config {
     options: PrintOptions,
@@ -36,7 +36,8 @@ impl Model for Config {
 impl Config {
     ghost use Rattle.wasmprinter_spec.specs.Options.{defaults};
 
-    /// No places in front of lines, bodies in full, no identifiers made up, nothing folded, and an indent of two blanks. Takes no memory.
+    /// Returns the default options: lines without places, all bodies, no synthesized identifiers, flat operators,
+    /// and an indent of two spaces. Allocates nothing.
     pub fn new() -> Config
         ensures { result ≡ defaults }
     {
@@ -45,7 +46,9 @@ impl Config {
         }
     }
 
-    /// Whether each line begins with the place of what stands on it. Takes no memory.
+    /// Sets whether each line after the first begins with its place: a byte offset from the start of the module,
+    /// in hexadecimal and in a comment such as `(;@1f    ;)`. A line without a place begins with that many spaces
+    /// instead. Allocates nothing.
     pub fn print_offsets(&mut self, print: bool) -> &mut Self
         ensures itself { result.ghost_name ≡ self.entry.ghost_name }
         ensures options { result.now ≡ record self.old { offsets = print } }
@@ -54,7 +57,8 @@ impl Config {
         self
     }
 
-    /// Whether bodies, items of element segments, and bytes of data segments and custom sections are left out. Takes no memory.
+    /// Sets whether bodies, items of element segments, and bytes of data segments and custom sections are left
+    /// out. Allocates nothing.
     pub fn print_skeleton(&mut self, print: bool) -> &mut Self
         ensures itself { result.ghost_name ≡ self.entry.ghost_name }
         ensures options { result.now ≡ record self.old { skeleton = print } }
@@ -63,7 +67,7 @@ impl Config {
         self
     }
 
-    /// Whether identifiers are made up for items without a name, as `$#func3`. Takes no memory.
+    /// Sets whether identifiers are synthesized for items without a name, for example `$#func3`. Allocates nothing.
     pub fn name_unnamed(&mut self, name: bool) -> &mut Self
         ensures itself { result.ghost_name ≡ self.entry.ghost_name }
         ensures options { result.now ≡ record self.old { invents = name } }
@@ -72,8 +76,8 @@ impl Config {
         self
     }
 
-    /// Whether each operator stands in parentheses with its operands (section 6.5, "Folded Instructions"), in bodies and in constant
-    /// expressions. Takes no memory.
+    /// Sets whether operators are folded: each operator is printed in parentheses with its operands (section 6.5,
+    /// "Folded Instructions"), in bodies and in constant expressions. Allocates nothing.
     pub fn fold_instructions(&mut self, fold: bool) -> &mut Self
         ensures itself { result.ghost_name ≡ self.entry.ghost_name }
         ensures options { result.now ≡ record self.old { folds = fold } }
@@ -82,8 +86,11 @@ impl Config {
         self
     }
 
-    /// The text that stands once for each level of nesting, of the first 50, two blanks by default. A text of other characters than
-    /// blanks and tabs is printed as it stands; what is printed then isn't promised to read back. Takes no memory.
+    /// Sets the text of one level of nesting, by default two spaces. A line is indented by at most 50 levels.
+    /// Allocates nothing.
+    ///
+    /// The text is printed unchanged. If it has characters other than spaces and tabs, the printed module is not
+    /// guaranteed to read back.
     pub fn indent_text(&mut self, text: String) -> &mut Self
         ensures itself { result.ghost_name ≡ self.entry.ghost_name }
         ensures options { result.now ≡ record self.old { indent = string_bytes text } }
@@ -92,7 +99,7 @@ impl Config {
         self
     }
 
-    /// Refuses a module of which something is to be folded that can't be.
+    /// Returns an error if operators are to be folded and something that is printed of the module can't be folded.
     fn check(&self, module: &Module<'_>) -> Result<(), Error>
         ensures foldable { OnOk result (IsFoldable self.now «module».now) }
         ensures refused { IfErr result (λ e. (self.now.folds ≡ true) × HasFoldReason self.now «module».now e) }
@@ -106,17 +113,28 @@ impl Config {
 
     /// Prints the text of a module in the binary format to a printer.
     ///
-    /// The module is read and checked whole, and its names are read, before the first call on the printer. Each custom section is offered
-    /// to the printer, `name` and `metadata.code.branch_hint` too; of one that it takes nothing is printed, but its names and hints stay.
+    /// The whole module is read and checked, and its names are read, before the first call on the printer. The
+    /// printer is asked whether it claims each custom section, `name` and `metadata.code.branch_hint` included. A
+    /// claimed section is not printed; its names and hints still apply.
     ///
     /// # Errors
     ///
-    /// `Component`, `Malformed`, `TooManyLocals`, `TooManyFunctions` and `EmptyTableInit` as `decode` answers them, `Component`
-    /// before all others; `FoldLegacy` and `FoldHint`, where operators are folded, for what can't be; `Memory` where a growth was refused
-    /// to the decoder or to what keeps the names. The printer took no call before these. `Memory` also where a growth was refused to what
-    /// folds: a beginning was printed then. `DylinkSubsection` where a custom section `dylink.0` that the printer doesn't take has a
-    /// subsection that isn't known: what stands in front of it was printed. `Printer` where a call on the printer failed, with that
-    /// call's error.
+    /// The printer receives no call before these errors:
+    ///
+    /// - `Component`: the bytes are marked as a component. This error takes precedence over all others.
+    /// - `Malformed`: the bytes are not in the binary format.
+    /// - `TooManyLocals`, `TooManyFunctions`: the module exceeds a limit of this printer.
+    /// - `EmptyTableInit`: the initialiser of a table has no operators.
+    /// - `FoldLegacy`, `FoldHint`, only if operators are folded: an operator of legacy exception handling or a
+    ///   branch hint can't be folded.
+    /// - `Memory`: an allocation failed during decoding or while the names were collected.
+    ///
+    /// The printer receives a prefix of the text before these errors:
+    ///
+    /// - `Memory`, only if operators are folded: an allocation failed during folding.
+    /// - `DylinkSubsection`: a custom section `dylink.0` that the printer does not claim has an unknown
+    ///   subsection. All text before that section was printed.
+    /// - `Printer`: a call on the printer failed. It holds the error of that call.
     pub fn print<P: Print>(&self, alloc: Global, wasm: &[u8], printer: &mut P) -> Result<(), Error>
         ensures printed { OnOk result (Printed P.meaning (P.colors printer.old) self.now wasm.now printer.old printer.new) }
         ensures caused { IfErr result (HasCause P.meaning self.now wasm.now printer.old printer.new) }
@@ -135,11 +153,12 @@ impl Config {
         write_module(alloc, printer, &self.options, &module, labels)
     }
 
-    /// The text of a module in the binary format.
+    /// Returns the text of a module in the binary format.
     ///
     /// # Errors
     ///
-    /// As [`Config::print`], with `Memory` where the text can't grow, and never `Printer`.
+    /// The errors of [`Config::print`], except that `Printer` is never returned. `Memory` is also returned if the
+    /// text can't grow.
     pub fn print_to_string(&self, alloc: Global, wasm: &[u8]) -> Result<String, Error>
         ensures printed { IfOk result (λ text. HasTextBy self.now wasm.now (string_bytes text)) }
         ensures caused { IfErr result (HasTextCause self.now wasm.now) }

@@ -1,7 +1,7 @@
-//! The text of a module in a file, wherever files are read.
+//! Printing the module in a file, from any source of files.
 //!
-//! `print_file` is written over any `Source`, so its contract can say which file was read: a function over any of them knows nothing of
-//! bytes but that a read gave them.
+//! `print_file` is generic over [`Source`], so that its contract can say which file was read. Generic code knows
+//! of the bytes only that the source returned them for that path.
 ghost use Rattle.std.specs.Prelude.{ℕ, List, Option, Some, None, MatchResult, IfOk, IfErr, string_bytes, ⊤};
 ghost use Rattle.std.specs.Path.{path_bytes};
 ghost use Rattle.wasmprinter_spec.specs.Options.{defaults};
@@ -14,19 +14,20 @@ use std::rt::Files;
 use std::{fs, io};
 use wasmprinter_error::Error;
 
-/// Where files are read. The system's files, of which a `HostRuntime` is the handle, are one.
+/// A source from which files are read. The files of the system are one, with `HostRuntime` as its handle.
 pub trait Source {
-    // What a read of the file at the path with this text may give: bytes, or `None` where it fails.
+    // The possible results of reading the file at the path with these bytes: the bytes of the file, or `None` if
+    // reading fails.
     ghost gives: { Self → List ℕ → Option (List ℕ) → Type 0 };
 
-    /// The bytes of a file.
+    /// Returns the bytes of a file.
     fn read(&self, path: Path<'_>) -> io::Result<Vec<u8>>
         ensures { MatchResult result
             (λ bytes. gives self.now (path_bytes path.entry) (Some bytes.items))
             (λ _. gives self.now (path_bytes path.entry) None) };
 }
 
-// The system's files. No contract can say what a file holds.
+// The files of the system. No contract can say what a file contains.
 impl<R: Files + AllocGlobal> Source for R {
     ghost gives = { λ _ _ _. ⊤ };
 
@@ -35,11 +36,13 @@ impl<R: Files + AllocGlobal> Source for R {
     }
 }
 
-/// The text of the module in a file, with the defaults of `Config`: of the bytes that a read of that very path gives.
+/// Returns the text of the module in a file, with the default options. The text is that of the bytes that the
+/// source returns for exactly this path.
 ///
 /// # Errors
 ///
-/// `Unreadable` where the file can't be read, also for want of memory; else as [`print_bytes`] of its bytes.
+/// - `Unreadable`: the file can't be read. If an allocation fails during reading, this error is returned too.
+/// - The errors of [`print_bytes`] for the bytes of the file.
 pub fn print_file<S: Source>(source: &S, alloc: Global, file: Path<'_>) -> Result<String, Error>
     ensures printed { IfOk result (λ text. IsTextOf (S.gives source.now (path_bytes file.entry)) (string_bytes text)) }
     ensures refused { IfErr result (IsRefusedBy defaults (S.gives source.now (path_bytes file.entry))) }

@@ -1,4 +1,4 @@
-//! The text of a module as a string.
+//! Printing a module as a string.
 ghost use Rattle.std.specs.Prelude.{◌≡◌, ◌↔◌, IfOk, IfErr, IsErrOf, string_bytes};
 ghost use Rattle.wasmprinter_spec.specs.Binary.{IsComponent};
 ghost use Rattle.wasmprinter_spec.specs.Options.{defaults};
@@ -9,7 +9,8 @@ use crate::config::Config;
 use std::alloc::Global;
 use wasmprinter_error::Error;
 
-/// A printer that keeps its text in memory fails only where that can't grow.
+/// Replaces `Printer` by `Memory`, and returns any other error unchanged. A printer that keeps its text in memory
+/// fails only if an allocation fails.
 pub(crate) fn without_printer(error: Error) -> Error
     ensures { result ≡ as_growth error }
 {
@@ -19,11 +20,14 @@ pub(crate) fn without_printer(error: Error) -> Error
     }
 }
 
-/// The text of a module in the binary format, with the defaults of `Config`.
+/// Returns the text of a module in the binary format, with the default options.
+///
+/// For example, `print_bytes(alloc, b"\0asm\x01\0\0\0")` returns the text of the module without fields: `(module)`
+/// and a line feed.
 ///
 /// # Errors
 ///
-/// As `Config::print_to_string`.
+/// The errors of [`Config::print_to_string`].
 pub fn print_bytes(alloc: Global, wasm: &[u8]) -> Result<String, Error>
     ensures printed { IfOk result (λ text. HasText wasm.now (string_bytes text)) }
     ensures caused { IfErr result (HasTextCause defaults wasm.now) }

@@ -1,8 +1,13 @@
-//! A printer of WebAssembly modules: from the binary format to the text format.
+//! Prints WebAssembly modules: translates the binary format into the text format.
 //!
-//! `print_bytes` gives the text of a module, `print_file` that of a file's. By options, `Config::print` hands it to any `Print`,
-//! `Config::print_to_ansi` colours it, and `Config::offsets_and_lines` gives its lines, in which `place_of` finds an operator's. What they
-//! promise is in their contracts: the text reads back as exactly the module that the bytes spell.
+//! - [`print_bytes`] returns the text of a module, and [`print_file`] that of the module in a file.
+//! - [`Config`] has the options. [`Config::print`] prints to any [`Print`], and [`Config::print_to_ansi`] returns
+//!   the text in color.
+//! - [`Config::offsets_and_lines`] returns the lines of the text, and [`place_of`] finds the line of an operator
+//!   among them.
+//!
+//! The contracts say what these calls promise. In particular, the text reads back as exactly the module that the
+//! bytes encode, under the conditions that the contracts state. docs/LIBRARY.md has examples, which the tests run.
 #![tactic(auto)]
 
 mod colored;

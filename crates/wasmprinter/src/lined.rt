@@ -1,4 +1,4 @@
-//! The text of a module behind another text, with its lines.
+//! Printing a module as lines, appended to a string.
 ghost use Rattle.std.specs.Prelude.{◌↔◌, IfOk, IfErr, IsErrOf, string_bytes};
 ghost use Rattle.wasmprinter_spec.specs.Binary.{IsComponent};
 ghost use Rattle.wasmprinter_tracker.specs.Cuts.{IsCuttable};
@@ -15,15 +15,21 @@ use wasmprinter_tracker::{LineStart, OffsetsAndLines, Tracker};
 impl Config {
     /// Appends the text of a module in the binary format to `storage`, and returns where its lines begin.
     ///
-    /// A [`LineStart`] holds a line's place, a byte offset from the start of the module, and the byte offset in `storage` of the line's
-    /// first byte. [`OffsetsAndLines::new`] makes an iterator over the lines from both. The old text of `storage` stays before the first
-    /// line. [`Config::offsets_and_lines`] does both steps. Unlike that method, this one promises by its contract what `storage` holds
-    /// after the call: its old text, and then the text of the module, or after an error at most a prefix of it.
+    /// A [`LineStart`] holds the line's place, a byte offset from the start of the module, and the byte offset in
+    /// `storage` of the line's first byte. [`OffsetsAndLines::new`] makes an iterator over the lines from
+    /// `storage` and the line starts; [`Config::offsets_and_lines`] does both steps. The old text of `storage`
+    /// stays before the first line.
+    ///
+    /// Unlike the contract of [`Config::offsets_and_lines`], the contract of this method says what `storage` holds
+    /// after an error.
     ///
     /// # Errors
     ///
-    /// As [`Config::print_to_string`]. `storage` keeps its old text. If an allocation failed, a prefix of the module's text may follow it.
-    /// After [`Error::DylinkSubsection`] the text before that `dylink.0` section follows. Otherwise nothing does.
+    /// The errors of [`Config::print_to_string`]. `storage` keeps its old text, and gains this after it:
+    ///
+    /// - `Memory`: possibly a prefix of the text of the module.
+    /// - `DylinkSubsection`: the text before that `dylink.0` section.
+    /// - Any other error: nothing.
     pub fn print_with_line_starts(
         &self,
         alloc: Global,
@@ -49,14 +55,17 @@ impl Config {
         }
     }
 
-    /// Appends the text of a module in the binary format to `storage`, and gives its lines, each with the place of what stands on it.
+    /// Appends the text of a module in the binary format to `storage`, and returns an iterator over its lines,
+    /// each with its place.
     ///
-    /// What stood in `storage` stays in front, and is on no line. A place is a byte offset from the module's start, and `None` where a
-    /// line stands for nothing in the module. Each line has its line feed at its end. To ask for the next line takes no memory.
+    /// The place of a line is a byte offset from the start of the module, or `None` if the line shows nothing of
+    /// the module. Each line ends with its line feed. The old text of `storage` stays before the first line and is
+    /// part of no line. Iterating allocates nothing.
     ///
     /// # Errors
     ///
-    /// As [`Config::print_to_string`]. `storage` then begins with its old text; behind it may stand a beginning of the module's.
+    /// The errors of [`Config::print_to_string`]. `storage` then begins with its old text, and a prefix of the
+    /// text of the module may follow.
     pub fn offsets_and_lines<'a>(
         &self,
         alloc: Global,

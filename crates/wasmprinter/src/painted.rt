@@ -1,4 +1,4 @@
-//! A printer that keeps its text in memory, with the sequences of a terminal for its styles.
+//! A printer that keeps its text in memory, with ANSI escape sequences for the styles.
 ghost use Rattle.std.specs.Prelude.{◌≡◌, true};
 ghost use Rattle.wasmprinter.specs.Painted.{painted_meaning};
 
@@ -7,30 +7,31 @@ use std::io;
 use std::marker::Model;
 use wasmprinter_print::Print;
 
-// Sequences of a terminal (Select Graphic Rendition of ECMA-48). Each style begins by taking back what was set before.
+// ANSI escape sequences (ECMA-48, "Select Graphic Rendition"). The sequences of each style begin with a reset of
+// all attributes.
 
 /// Numbers and strings: red.
 const LITERAL: &str = "\x1b[0m\x1b[31m";
 
-/// Names and numbers of items: magenta.
+/// Names and indices of items: magenta.
 const NAME: &str = "\x1b[0m\x1b[35m";
 
-/// Keywords: bold, and yellow in its intense shade.
+/// Keywords: bold and intense yellow.
 const KEYWORD: &str = "\x1b[0m\x1b[1m\x1b[38;5;11m";
 
-/// Words of types: bold, and green in its intense shade.
+/// Type words: bold and intense green.
 const TYPE: &str = "\x1b[0m\x1b[1m\x1b[38;5;10m";
 
 /// Comments: cyan.
 const COMMENT: &str = "\x1b[0m\x1b[36m";
 
-/// Text without a style: no colours, and not bold.
+/// Text without a style: the default color, not bold.
 const RESET: &str = "\x1b[0m";
 
-/// A printer that keeps its text in memory, with the sequences of a terminal for its styles.
+/// A printer that keeps its text in memory, with ANSI escape sequences for the styles.
 ///
-/// All sequences of a style are appended at once. It leaves no trace of where lines begin, and takes no custom section itself. A call
-/// that wants memory and gets none fails, with an error of the kind `OutOfMemory`, and leaves the text as it was.
+/// All sequences of a style are appended at once. Line starts are not recorded, and no custom section is claimed.
+/// If an allocation fails, the call returns an error of the kind `OutOfMemory` and leaves the text unchanged.
 #[derive(Drop)]
 pub(crate) struct Painted {
     text: Vec<u8>,
@@ -47,7 +48,7 @@ impl Model for Painted {
 impl Painted {
     ghost use Rattle.std.specs.Prelude.{◌≡◌, [], ◌++◌, OnOk, OnErr};
 
-    /// A printer to which nothing was printed. Takes no memory.
+    /// Returns a printer with an empty text. Allocates nothing.
     pub(crate) fn new(alloc: Global) -> Painted
         ensures { result ≡ [] }
     {
@@ -56,14 +57,14 @@ impl Painted {
         }
     }
 
-    /// The bytes of the text.
+    /// Returns the bytes of the text.
     pub(crate) fn into_bytes(self) -> Vec<u8>
         ensures { result.items ≡ self }
     {
         self.text
     }
 
-    /// Appends a text or sequences. Where memory is refused, this fails and changes nothing.
+    /// Appends a text or escape sequences. If an allocation fails, returns an error and leaves the text unchanged.
     #[inline]
     fn append(&mut self, piece: &str) -> Result<(), AllocError>
         ensures ok { OnOk result (self.new ≡ self.old ++ piece.now) }

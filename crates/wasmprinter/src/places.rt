@@ -1,4 +1,4 @@
-//! Finding the line of an operator among the lines of a printed text.
+//! Finding the line of an operator in printed text.
 ghost use Rattle.std.specs.Prelude.{◌≡◌};
 ghost use Rattle.wasmprinter_spec.specs.Lines as spec;
 ghost use Rattle.wasmprinter_spec.specs.Lines.{line_from};
@@ -7,11 +7,16 @@ ghost use Rattle.wasmprinter.specs.Found.{place_at, text_lines, NamesItsLine, Fi
 use wasmprinter_ops::expression::OperatorsReader;
 use wasmprinter_wasm::Module;
 
-/// The line of an operator, and the operator's place: the line's number in `lines`, from 0, and a byte offset from the module's start.
+/// Returns the number of an operator's line, an index into `lines`, and the operator's place, a byte offset from
+/// the start of the module.
 ///
-/// Functions are counted among those that the module defines, operators as `Body::operators` gives them. `None` for a function or an
-/// operator that isn't there, and where no line begins with the operator's place; of several the first is answered. In all lines that
-/// `Config::offsets_and_lines` gave of this module with its bodies, each operator is found. Takes no memory.
+/// `function` counts from 0 the functions that the module defines, without imports. `operator` counts from 0 the
+/// operators that `Body::operators` returns. If several lines begin with the operator's place, the first of them
+/// is returned.
+///
+/// Returns `None` if the function or the operator does not exist, or if no line begins with the operator's place.
+/// Every operator is found in the complete lines that `Config::offsets_and_lines` returned for this module, if its
+/// bodies were printed flat. Allocates nothing.
 pub fn place_of(
     module: &Module<'_>,
     lines: &[(Option<u64>, &str)],
@@ -25,7 +30,7 @@ pub fn place_of(
     find(module, lines, function, operator)
 }
 
-/// The line and the place, as the definitions find them.
+/// Returns the line and the place that the definitions give.
 fn find(
     module: &Module<'_>,
     lines: &[(Option<u64>, &str)],
@@ -40,7 +45,7 @@ fn find(
     Some((number, place))
 }
 
-/// The place of the operator with the number.
+/// Returns the place of the operator with the number `number`.
 fn operator_place(operators: OperatorsReader<'_>, number: u32) -> Option<u64>
     ensures { result ≡ place_at operators.entry number }
 {
@@ -54,7 +59,7 @@ fn operator_place(operators: OperatorsReader<'_>, number: u32) -> Option<u64>
     None
 }
 
-/// The number of the first line with the place.
+/// Returns the number of the first line with the place.
 fn line_number(lines: &[(Option<u64>, &str)], place: u64) -> Option<usize>
     ensures { result ≡ line_from 0 place (text_lines lines.now) }
 {
@@ -66,7 +71,7 @@ fn line_number(lines: &[(Option<u64>, &str)], place: u64) -> Option<usize>
     None
 }
 
-/// Whether a line begins with the place.
+/// Reports whether a line begins with the place.
 fn has_place(start: Option<u64>, place: u64) -> bool
     ensures { result ≡ spec.has_place place start }
 {

@@ -1,4 +1,4 @@
-//! A printer that keeps its text in memory, without colours.
+//! A printer that keeps its text in memory, without colors.
 ghost use Rattle.wasmprinter.specs.Plain.{appends};
 
 use std::alloc::{AllocError, Global};
@@ -6,10 +6,10 @@ use std::io;
 use std::marker::Model;
 use wasmprinter_print::PrintText;
 
-/// A printer that keeps its text in memory, without colours.
+/// A printer that keeps its text in memory, without colors.
 ///
-/// It leaves no trace of where lines begin, and takes no custom section itself. A call that wants memory and gets none fails, with an
-/// error of the kind `OutOfMemory`, and leaves the text as it was.
+/// Line starts are not recorded, and no custom section is claimed. If an allocation fails, the call returns an
+/// error of the kind `OutOfMemory` and leaves the text unchanged.
 #[derive(Drop)]
 pub(crate) struct Plain {
     text: String,
@@ -26,7 +26,7 @@ impl Model for Plain {
 impl Plain {
     ghost use Rattle.std.specs.Prelude.{◌≡◌, [], ◌++◌, OnOk, OnErr, string_bytes};
 
-    /// A printer to which nothing was printed. Takes no memory.
+    /// Returns a printer with an empty text. Allocates nothing.
     pub(crate) fn new(alloc: Global) -> Plain
         ensures { result ≡ [] }
     {
@@ -35,14 +35,14 @@ impl Plain {
         }
     }
 
-    /// The text.
+    /// Returns the text.
     pub(crate) fn into_string(self) -> String
         ensures { string_bytes result ≡ self }
     {
         self.text
     }
 
-    /// Appends a text. Where memory is refused, this fails and changes nothing.
+    /// Appends a text. If an allocation fails, returns an error and leaves the text unchanged.
     #[inline]
     fn append(&mut self, piece: &str) -> Result<(), AllocError>
         ensures ok { OnOk result (self.new ≡ self.old ++ piece.now) }

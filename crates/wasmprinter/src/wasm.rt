@@ -1,4 +1,4 @@
-//! Modules in the binary format: decoding, and walking over what was decoded.
+//! Decoding modules in the binary format, and reading the decoded modules.
 pub use wasmprinter_names::{Names, Space};
 pub use wasmprinter_ops::blocks::{BlockType, Catch, Catches, Targets};
 pub use wasmprinter_ops::expression::OperatorsReader;

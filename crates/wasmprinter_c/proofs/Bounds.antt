@@ -1,4 +1,4 @@
--- The lines of a module can be counted if the bytes of its text can.
+-- If the bytes of a module's text can be counted, its lines can be counted.
 use Rattle.std.proofs.Common.{◌≡◌, ℕ, ◌+◌, ◌≤◌, List, [], ◌∷◌, ◌++◌, length, refl, sym, subst, length-append, le_refl, arith, true≢false}
 use Rattle.std.specs.Prelude.{Bool, true, false, Option, Some, None, codes}
 use Rattle.wasmprinter_spec.specs.Call.{Call, Text, Newline, Line, Start, Claim, text_of}
@@ -13,7 +13,7 @@ use Rattle.wasmprinter_spec.specs.Layout.Groups.{group_at}
 use Rattle.wasmprinter_places.proofs.Fed.{Fed, layout_fed}
 use Rattle.wasmprinter_c.specs.Lines.{entry, entries}
 
--- one more line may start where a line feed is before the calls
+-- The bound on the number of lines for a text of n bytes. It is one more if a line feed is before the calls.
 abbrev bound : Bool → ℕ → ℕ
 bound true n = n + 1
 bound false n = n
@@ -34,7 +34,7 @@ next_below n m l h e = omega (arith, h, e)
 length-cons : {A : Type 0} (x : A) (xs : List A) → length (x ∷ xs) ≡ length xs + 1
 length-cons x xs = omega arith
 
--- no more lines than line feeds, or one more
+-- Calls start at most as many lines as their text has bytes, or one more if a line feed is before them.
 few_lines : (after_feed : Bool) (at : ℕ) (cs : List Call) → Fed after_feed cs → length (entries at cs) ≤ bound after_feed (length (text_of cs))
 few_lines after_feed at [] h = below_bound after_feed 0 0 (le_refl 0)
 few_lines after_feed at (Text s ∷ cs) h =
@@ -49,7 +49,7 @@ few_lines false at (Line place ∷ cs) h = absurd (true≢false (sym h.0))
 few_lines after_feed at (Start style ∷ cs) h = below_bound after_feed (length (entries at cs)) (length (text_of cs)) (few_lines false at cs h)
 few_lines after_feed at (Claim name place bytes answer ∷ cs) h = below_bound after_feed (length (entries at cs)) (length (text_of cs)) (few_lines false at cs h)
 
--- calls that start a line and write a parenthesis
+-- The calls start a line and write a parenthesis.
 record HasStart (cs : List Call) : Type 0 where
   place : Option ℕ
   rest : List Call
@@ -81,6 +81,6 @@ started_lines cs s h =
         (length (codes "(" ++ text_of rest)) (few_lines false (0 + length (codes "(")) rest h.1) (length-cons (entry place 0) (entries (0 + length (codes "(")) rest))
         (length-append (codes "(") (text_of rest))
 
--- a module has no more lines than its text has bytes
+-- A module has at most as many lines as its text has bytes.
 pub layout_lines : (o : Options) (answers : Answers) (m : PlacedModule) → length (entries 0 (layout o answers m)) ≤ length (text_of (layout o answers m))
 layout_lines o answers m = started_lines (layout o answers m) (layout_start o answers m) (layout_fed o answers m)

@@ -1,4 +1,4 @@
--- A text that is cut where its entries say has the lines of its calls.
+-- A text that is cut at the starts of its entries has the lines of its calls.
 use Rattle.std.proofs.Common.{◌≡◌, ℕ, ◌+◌, ◌-◌, List, [], ◌∷◌, ◌++◌, length, take, drop, refl, sym, ap, ap₂, ◌∙◌, append_assoc, length-append, arith}
 use Rattle.std.specs.Prelude.{Option, Some, None, map}
 use Rattle.wasmprinter_spec.specs.Call.{Call, Text, Newline, Line, Start, Claim, text_of}
@@ -8,7 +8,7 @@ use Rattle.wasmprinter_tracker.specs.declared.lines.LineStart.{LineStart}
 use Rattle.wasmprinter_tracker.proofs.LineLaws.{joined-lines_of}
 use Rattle.wasmprinter_c.specs.Lines.{entry, entries, line_start}
 
--- the starts of the lines of these calls, whose text starts at this byte
+-- The starts of the lines of these calls, whose text starts at this byte.
 abbrev starts_at : ℕ → List Call → List LineStart
 starts_at n cs = map line_start (entries n cs)
 
@@ -24,7 +24,7 @@ take_front : (x y : List ℕ) → take (length x) (x ++ y) ≡ x
 take_front [] y = refl
 take_front (b ∷ x) y = ap (λ (t : List ℕ). b ∷ t) (take_front x y)
 
--- a text is before calls whose first line starts here
+-- The start of the first line moves by the length of a text before the calls.
 first-text : (x s : List ℕ) (cs : List Call) →
     first_at (starts_at (length (x ++ s)) cs) ((x ++ s) ++ text_of cs) ≡ length (x ++ s) + length (text_before_line cs) →
     first_at (starts_at (length x + length s) cs) (x ++ (s ++ text_of cs)) ≡ length x + length (s ++ text_before_line cs)
@@ -34,7 +34,7 @@ first-text x s cs h =
     ap (λ (n : ℕ). first_at (starts_at n cs) (x ++ (s ++ text_of cs))) (sym e₁)
     ∙ ap (λ (t : List ℕ). first_at (starts_at (length (x ++ s)) cs) t) (sym (append_assoc x s (text_of cs))) ∙ h ∙ omega (arith, e₁, e₂)
 
--- the first line starts after the text before it
+-- The first line starts after the text before it.
 first-before : (x : List ℕ) (cs : List Call) → first_at (starts_at (length x) cs) (x ++ text_of cs) ≡ length x + length (text_before_line cs)
 first-before x [] = length-append x []
 first-before x (Text s ∷ cs) = first-text x s cs (first-before (x ++ s) cs)
@@ -43,7 +43,7 @@ first-before x (Line place ∷ cs) = ap (λ (s : LineStart). s.at) (line_start-e
 first-before x (Start style ∷ cs) = first-before x cs
 first-before x (Claim name place bytes answer ∷ cs) = first-before x cs
 
--- the text of the first line
+-- The text from the start of the calls up to the first line is the one before that line.
 line-text : (x : List ℕ) (cs : List Call) (end : ℕ) → end ≡ length x + length (text_before_line cs) →
     take (end - length x) (drop (length x) (x ++ text_of cs)) ≡ text_before_line cs
 line-text x cs end e =
@@ -53,7 +53,7 @@ line-text x cs end e =
     ∙ ap (λ (t : List ℕ). take (length (text_before_line cs)) t) (sym (joined-lines_of cs))
     ∙ take_front (text_before_line cs) (joined_lines (lines_of cs))
 
--- a text is before calls whose lines are cut
+-- If the lines of calls are cut correctly, they are cut correctly after another text.
 cut-text : (x s : List ℕ) (cs : List Call) → lines_at_starts (starts_at (length (x ++ s)) cs) ((x ++ s) ++ text_of cs) ≡ lines_of cs →
     lines_at_starts (starts_at (length x + length s) cs) (x ++ (s ++ text_of cs)) ≡ lines_of cs
 cut-text x s cs h =

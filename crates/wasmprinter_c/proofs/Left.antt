@@ -1,4 +1,4 @@
--- Why printing over a buffer fails, and what that leaves in it.
+-- The errors of printing over a buffer, and the contents of the buffer after them.
 use Rattle.std.proofs.Common.{◌≡◌, ℕ, ◌≤◌, ◌^◌, List, [], ◌∷◌, ◌++◌, length, sym, ap, ◌∙◌, subst, length-append, arith, inl, inr}
 use Rattle.std.specs.List.{AllByRecursion}
 use Rattle.std.specs.Prelude.{false, Result, Ok, Err, IfErr, OnOk}
@@ -25,7 +25,7 @@ use Rattle.wasmprinter_c.specs.Refused.{IsTooLong, HasBufferCause, HoldsPrefix, 
 use Rattle.wasmprinter_c.specs.declared.copier.Copier.{Copier}
 use Rattle.wasmprinter_c.proofs.Runs.{HasCopied, IsFresh, run_copied, claims_never}
 
--- ---- a printer that was fresh
+-- -- A printer to which nothing was printed before
 
 module _ (old : Copier) (fresh : IsFresh old) where
   whole_holds : (new : Copier) (l : List Call) → Whole copied_meaning old new l → new.out.now ≡ over (text_of l) old.out.now
@@ -33,7 +33,7 @@ module _ (old : Copier) (fresh : IsFresh old) where
       let has : HasCopied old (text_of w.calls) (entries 0 w.calls) new = run_copied old new w.calls fresh w.run in
       has.copied ∙ ap (λ (t : List ℕ). over t old.out.now) (alike_texts w.calls l w.alike)
 
-  -- the printer claims nothing
+  -- The printer claims no custom section.
   run_claims_none : (new : Copier) (calls : List Call) → Run copied_meaning old calls new → AllByRecursion IsUnclaimed calls
   run_claims_none new calls r = none_claimed copied_meaning claims_never old new calls r
 
@@ -53,7 +53,7 @@ module _ (old : Copier) (fresh : IsFresh old) where
         copied = ap (λ (c : Copier). c.out.now) b.failed.left ∙ has.copied;
       }
 
-  -- a call failed: the text of the layout can't be counted
+  -- If a call failed, the text of the layout can't be counted.
   pub broken_long : (new : Copier) (x : IoError) (l : List Call) → Broken copied_meaning old new x l → 2 ^ 64 ≤ length (text_of l)
   broken_long new x l b =
       let has : HasCopied old (text_of b.calls) (entries 0 b.calls) b.before = run_copied old b.before b.calls fresh b.run in
@@ -146,7 +146,7 @@ module _ (old : Copier) (fresh : IsFresh old) where
     if_err_left (Ok x) l = tt
     if_err_left (Err e) l = leaves_buffer e l
 
-  -- ---- the printer keeps its buffer and its table
+  -- -- The printer keeps its buffer and its table
 
   pub record AreSame (new : Copier) : Type 0 where
     pub buffer : new.out.ghost_name ≡ old.out.ghost_name

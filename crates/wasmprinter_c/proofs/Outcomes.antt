@@ -1,4 +1,4 @@
--- What each way out of a call comes to.
+-- The outcome of a call for each of its results.
 use Rattle.std.proofs.Common.{◌≡◌, ℕ, List, [], length, refl, sym, subst, arith, inl, inr}
 use Rattle.std.specs.Str.{IsUtf8}
 use Rattle.wasmprinter_error.specs.declared.error.Error.{Error}
@@ -41,7 +41,7 @@ not_twelve Unreadable h = omega (arith, h)
 not_twelve (Printer x) h = omega (arith, h)
 not_twelve Memory h = omega (arith, h)
 
--- only a component has the number 2
+-- An error with the number 2 is true only of a component.
 two_true : (o : Options) (bytes : List ℕ) (e : Error) → IsTrueOrUncopied o bytes e → number_of e ≡ 2 → IsComponent bytes
 two_true o bytes Component (inl h) n = h
 two_true o bytes Component (inr (e, copied)) n = absurd cc
@@ -57,7 +57,7 @@ two_true o bytes (Printer x) h n = absurd (omega (arith, n))
 two_true o bytes Memory h n = absurd (omega (arith, n))
 
 module _ (o : Options) (bytes old : List ℕ) (before : List WasmprinterLine) where
-  -- an error of a module whose indent is right, or of a component
+  -- An error for a module with a valid indent, or for a component, has its outcome.
   error_outcome : (new : List ℕ) (after : List WasmprinterLine) (e : Error) → IsTrueOrUncopied o bytes e → HasBufferCause o bytes e → LeavesBuffer o bytes e old new →
       (IsComponent bytes → number_of e ≡ 2) → (¬ IsComponent bytes → IsUtf8 o.indent) → IsOutcome o bytes old new before after (number_of e) 0 0 (detail_in e)
   error_outcome new after e is_so caused left two valid = record {
@@ -106,7 +106,7 @@ module _ (o : Options) (bytes old : List ℕ) (before : List WasmprinterLine) wh
     untouched = λ t. absurd (omega (arith, t));
   }
 
--- ---- what the function that prints returns
+-- -- The result of the function that prints
 
 module _ (bytes old new : List ℕ) (before after : List WasmprinterLine) (r : Outcome) where
   abbrev Comes : Options → Type 0
@@ -133,7 +133,7 @@ module _ (bytes old : List ℕ) (before : List WasmprinterLine) (r : Outcome) wh
       IsOutcome p bytes old old before before r.status r.length r.count r.detail
   uncopied_by p unmarked valid copied is = by_result bytes old old before before r p Memory is (memory_outcome p bytes old before unmarked valid copied)
 
--- the text without its lines
+-- If the text and its lines were printed, the text was printed.
 pub text_over : (o : Options) (bytes old new : List ℕ) (before after : List WasmprinterLine) (whole count : ℕ) →
     HasLinesOver o bytes old new before after whole count → HasTextOver o bytes old new whole
 text_over o bytes old new before after whole count h = record {

@@ -13,7 +13,7 @@ module _ {X : Type 0} where
   over-nil [] = refl
   over-nil (b ∷ text) = refl
 
-  -- one list, and another after it
+  -- Writing one list and then another after it writes the joined list.
   pub over_more : (x y out : List X) → over_from (length x) y (over x out) ≡ over (x ++ y) out
   over_more [] y out = refl
   over_more (b ∷ x) y [] =
@@ -21,22 +21,22 @@ module _ {X : Type 0} where
       ∙ ap (λ (t : List X). over y t) (drop-nil (length (b ∷ x))) ∙ over-nil y
   over_more (b ∷ x) y (o ∷ out) = ap (λ (t : List X). b ∷ t) (over_more x y out)
 
-  -- by lengths
+  -- The buffer after the write, by lengths.
   pub over_is : (text out : List X) → over text out ≡ take (length out) text ++ drop (length text) out
   over_is [] out = ap (λ (t : List X). t ++ out) (sym (take-nil (length out)))
   over_is (b ∷ text) [] = sym (drop-nil (length (b ∷ text)))
   over_is (b ∷ text) (o ∷ out) = ap (λ (t : List X). b ∷ t) (over_is text out)
 
-  -- a list that fits
+  -- If a list fits, all of it is written.
   pub over_fits : (text out : List X) → length text ≤ length out → over text out ≡ text ++ drop (length text) out
   over_fits text out h = over_is text out ∙ ap (λ (t : List X). t ++ drop (length text) out) (take_all (length out) text h)
 
-  -- a list that is cut
+  -- If a list does not fit, the buffer is filled with its first elements.
   pub over_cut : (text out : List X) → length out ≤ length text → over text out ≡ take (length out) text
   over_cut text out h =
       over_is text out ∙ ap (λ (t : List X). take (length out) text ++ t) (drop_all (length text) out h) ∙ append-nil (take (length out) text)
 
-  -- ---- a write to a part of the buffer
+  -- -- A write to a part of the buffer
 
   pub put_fits : (place k : ℕ) (out piece copied : List X) → copied ≡ piece → k ≡ length piece → length piece ≤ length out - place →
       put_mid place k out copied ≡ over_from place piece out
@@ -60,7 +60,7 @@ module _ {X : Type 0} where
       sym (ap (λ (t : List X). t ++ over piece (drop place out)) (take_all place out h) ∙ ap (λ (t : List X). out ++ over piece t) (drop_all place out h)
       ∙ ap (λ (t : List X). out ++ t) (over-nil piece) ∙ append-nil out)
 
-  -- a write of one element
+  -- Setting one element writes a list of one element.
   pub set_over : (n : ℕ) (xs : List X) (v : X) → slice_set xs n v ≡ over_from n (v ∷ []) xs
   set_over zero [] v = refl
   set_over (suc n) [] v = refl

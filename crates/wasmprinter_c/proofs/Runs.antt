@@ -1,4 +1,4 @@
--- What calls that succeed make of a printer over a buffer.
+-- The state of a printer over a buffer after calls that succeed.
 use Rattle.std.proofs.Common.{◌≡◌, ℕ, ◌+◌, ◌^◌, ◌≤◌, ◌<◌, List, [], ◌∷◌, ◌++◌, length, map, refl, sym, ap, ◌∙◌, subst, append_assoc, append-nil, length-append, arith}
 use Rattle.std.specs.Prelude.{false, Option, Result, Ok, Err, OnOk}
 use Rattle.wasmprinter_error.specs.declared.error.Error.{Error}
@@ -30,8 +30,8 @@ claims_never s (Line place) t h = tt
 claims_never s (Start style) t h = tt
 claims_never s (Claim name place bytes answer) t h = h.0
 
--- This text was written over the buffer of a printer to which nothing had been printed, and these entries over its table, if they can be
--- counted.
+-- This text was written over the buffer of a printer to which nothing had been printed. These entries were written
+-- over its table, if they can be counted.
 pub record HasCopied (old : Copier) (text : List ℕ) (starts : List WasmprinterLine) (new : Copier) : Type 0 where
   pub same_buffer : new.out.ghost_name ≡ old.out.ghost_name
   pub copied : new.out.now ≡ over text old.out.now
@@ -40,7 +40,7 @@ pub record HasCopied (old : Copier) (text : List ℕ) (starts : List Wasmprinter
   pub same_table : new.lines.ghost_name ≡ old.lines.ghost_name
   pub lines : length starts < 2 ^ 64 → (new.lines.now ≡ over starts old.lines.now) × (new.count ≡ length starts)
 
--- more text
+-- A further text is appended to what was written.
 copied_text : (old s t : Copier) (x y : List ℕ) (ls : List WasmprinterLine) → HasCopied old x ls s → Grows s y t → HasCopied old (x ++ y) ls t
 copied_text old s t x y ls h (same, written, counted, small, lines, count) = record {
   same_buffer = same ∙ h.same_buffer;
@@ -54,7 +54,7 @@ copied_text old s t x y ls h (same, written, counted, small, lines, count) = rec
       (ap (λ l. l.now) lines ∙ before.0, count ∙ before.1);
 }
 
--- one more line
+-- A further line is appended to the entries.
 copied_line : (old s t : Copier) (x : List ℕ) (ls : List WasmprinterLine) (place : Option ℕ) → HasCopied old x ls s → Starts s place t →
     HasCopied old x (ls ++ entry place (length x) ∷ []) t
 copied_line old s t x ls place h (out, written, same, begun) = record {
@@ -76,11 +76,11 @@ copied_line old s t x ls place h (out, written, same, begun) = record {
       );
 }
 
--- nothing more
+-- A call that changes nothing leaves what was written.
 copied_same : (old s t : Copier) (x : List ℕ) (ls : List WasmprinterLine) → HasCopied old x ls s → t ≡ s → HasCopied old x ls t
 copied_same old s t x ls h e = subst (λ (u : Copier). HasCopied old x ls u) (sym e) h
 
--- text before more calls
+-- A text before further calls can be joined with their text.
 front : (old t : Copier) (x y : List ℕ) (ls : List WasmprinterLine) (cs : List Call) →
     HasCopied old ((x ++ y) ++ text_of cs) (ls ++ entries (length (x ++ y)) cs) t →
     HasCopied old (x ++ (y ++ text_of cs)) (ls ++ entries (length x + length y) cs) t
@@ -88,7 +88,7 @@ front old t x y ls cs h =
     subst (λ (z : List ℕ). HasCopied old z (ls ++ entries (length x + length y) cs) t) (append_assoc x y (text_of cs))
     (subst (λ (n : ℕ). HasCopied old ((x ++ y) ++ text_of cs) (ls ++ entries n cs) t) (length-append x y) h)
 
--- more calls
+-- Further calls append their text and their entries.
 copied_calls : (old s t : Copier) (x : List ℕ) (ls : List WasmprinterLine) (cs : List Call) → HasCopied old x ls s → Run copied_meaning s cs t →
     HasCopied old (x ++ text_of cs) (ls ++ entries (length x) cs) t
 copied_calls old s t x ls [] h r =
@@ -106,19 +106,19 @@ copied_calls old s t x ls (Start style ∷ cs) h (between, called, rest) =
 copied_calls old s t x ls (Claim name place bytes answer ∷ cs) h (between, called, rest) =
     copied_calls old between t x ls cs (copied_same old s between x ls h called.step.1) rest
 
--- nothing was printed to it
+-- Nothing was printed to the printer.
 pub record IsFresh (c : Copier) : Type 0 where
   pub text : c.written ≡ 0
   pub lines : c.count ≡ 0
 
--- a run
+-- A run on a printer to which nothing was printed writes the text and the entries of its calls.
 pub run_copied : (old new : Copier) (calls : List Call) → IsFresh old → Run copied_meaning old calls new → HasCopied old (text_of calls) (entries 0 calls) new
 run_copied old new calls fresh r =
     let none = fresh.text in
     copied_calls old old new [] [] calls
     (record { same_buffer = refl; copied = refl; counted = fresh.text; small = omega (arith, none); same_table = refl; lines = λ few. (refl, fresh.lines) }) r
 
--- ---- the entries of calls that differ only in how text is split
+-- -- The entries of calls that differ only in how text is split
 
 bytes_entries : (at : ℕ) (s : List ℕ) (k : List Call) → entries at (map (λ b. Text (b ∷ [])) s ++ k) ≡ entries (at + length s) k
 bytes_entries at [] k = let same : at ≡ at + length {A = ℕ} [] = omega arith in ap (λ (n : ℕ). entries n k) same
@@ -137,7 +137,7 @@ entries-atoms at (Claim name place bytes answer ∷ cs) = entries-atoms at cs
 alike_entries : (k l : List Call) → atoms k ≡ atoms l → entries 0 k ≡ entries 0 l
 alike_entries k l e = sym (entries-atoms 0 k) ∙ ap (λ (c : List Call). entries 0 c) e ∙ entries-atoms 0 l
 
--- ---- what was printed whole
+-- -- A module that was printed completely
 
 pub printed_over : (o : Options) (bytes : List ℕ) (old new : Copier) → IsFresh old → Printed copied_meaning false o bytes old new →
     HasLinesOver o bytes old.out.now new.out.now old.lines.now new.lines.now new.written new.count

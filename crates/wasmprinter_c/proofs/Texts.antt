@@ -15,7 +15,7 @@ use Rattle.wasmprinter_c.specs.declared.copier.Copier.{Copier}
 use Rattle.wasmprinter_c.proofs.Runs.{HasCopied, IsFresh, run_copied}
 use Rattle.wasmprinter_c.proofs.Left.{broken_long}
 
--- of at most 200 bytes
+-- A text of at most 200 bytes.
 abbrev IsShort : List ℕ → Type 0
 IsShort text = length text ≤ 200
 
@@ -53,7 +53,7 @@ short_message status detail =
     (short_if (status == 11) _ _ (omega arith)
     (short_if (status == 12) _ _ (omega arith) (omega arith)))))))))))))
 
--- all of a short text is written over the buffer, as much of it as fits, and counted
+-- All bytes of a short text are counted, and its first bytes are written over the buffer, as many as fit.
 pub record HasAll (old : Copier) (text : List ℕ) (new : Copier) : Type 0 where
   pub copied : new.out.now ≡ over text old.out.now
   pub counted : new.written ≡ length text

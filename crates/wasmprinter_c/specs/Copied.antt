@@ -1,4 +1,4 @@
--- What calls make of a printer that writes over a buffer and over a table of lines.
+-- The meaning of calls on a printer that writes over a buffer and over a table of lines.
 use Rattle.std.specs.Prelude.{◌≡◌, ◌+◌, ◌-◌, ◌^◌, ◌≤◌, ◌<◌, ℕ, Option, List, [], ◌∷◌, false, None, length}
 use Rattle.wasmprinter_spec.specs.Call.{Call, Text, Newline, Line, Start, Claim, call_text}
 use Rattle.wasmprinter_spec.specs.Meaning.{Meaning}
@@ -6,13 +6,14 @@ use Rattle.wasmprinter_c.specs.Over.{over_from}
 use Rattle.wasmprinter_c.specs.Lines.{entry}
 use Rattle.wasmprinter_c.specs.declared.copier.Copier.{Copier}
 
--- A text was written after the text so far, as much of it as fits, and all of it was counted. The buffer is the same, and so is the table.
+-- A text was written after the text so far: its first bytes, as many as fit. All its bytes were counted. The
+-- buffer and the table are the same objects.
 abbrev pub Grows : Copier → List ℕ → Copier → Type 0
 Grows old text new =
     (new.out.ghost_name ≡ old.out.ghost_name) × (new.out.now ≡ over_from old.written text old.out.now)
     × (new.written ≡ old.written + length text) × (new.written < 2 ^ 64) × (new.lines ≡ old.lines) × (new.count ≡ old.count)
 
--- A line was started: its entry follows the others, if it can be counted. Everything else is the same.
+-- A line was started. Its entry follows the others, if it can be counted. Everything else is unchanged.
 abbrev pub Starts : Copier → Option ℕ → Copier → Type 0
 Starts old place new =
     (new.out ≡ old.out) × (new.written ≡ old.written) × (new.lines.ghost_name ≡ old.lines.ghost_name)
@@ -26,8 +27,8 @@ CopiedAfter old (Line place) new = Starts old place new
 CopiedAfter old (Start style) new = new ≡ old
 CopiedAfter old (Claim name place bytes answer) new = (answer ≡ false) × (new ≡ old)
 
--- The meaning of such a printer. It claims no custom section. A call fails only if the bytes of the text can't be counted, and then changes
--- nothing.
+-- The meaning of such a printer. It claims no custom section. A call fails only if the bytes of the text can't be
+-- counted, and then changes nothing.
 abbrev pub copied_meaning : Meaning Copier
 copied_meaning = record {
   after = CopiedAfter;

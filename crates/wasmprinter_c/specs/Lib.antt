@@ -1,4 +1,4 @@
--- What the contracts of the library for C cite.
+-- Definitions that the contracts of the library for C cite.
 pub mod Copied
 pub mod Lines
 pub mod Messages

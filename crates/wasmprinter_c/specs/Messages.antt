@@ -1,16 +1,16 @@
--- The descriptions of statuses: those of the library's errors, and some of the C interface alone.
+-- The descriptions of statuses: those of the library's errors, and some that only the C interface has.
 use Rattle.std.specs.Prelude.{ℕ, List, ◌++◌, codes, decimal, false, if◌then◌else◌, ◌==◌}
 use Rattle.std.specs.Fmt.{digits}
 
--- a text with a place in hexadecimal
+-- A text with a place in hexadecimal.
 abbrev pub with_place : List ℕ → ℕ → List ℕ → List ℕ
 with_place before place after = before ++ (digits 16 false place ++ after)
 
--- a text with a number in decimal
+-- A text with a number in decimal.
 abbrev pub with_number : List ℕ → ℕ → List ℕ → List ℕ
 with_number before n after = before ++ (decimal n ++ after)
 
--- the description of a status with this detail
+-- The description of a status with this detail.
 abbrev pub message : ℕ → ℕ → List ℕ
 message status detail =
     if status == 0 then codes "success"

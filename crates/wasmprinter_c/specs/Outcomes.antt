@@ -1,4 +1,4 @@
--- What a call for a module comes to, in one record.
+-- The outcome of a call that prints a module, as one record.
 use Rattle.std.specs.Prelude.{◌≡◌, ◌↔◌, ℕ, List}
 use Rattle.std.specs.Str.{IsUtf8}
 use Rattle.wasmprinter_spec.specs.Binary.{IsComponent}
@@ -7,8 +7,8 @@ use Rattle.wasmprinter_c.specs.Printing.{HasLinesOver}
 use Rattle.wasmprinter_c.specs.Refused.{IsRefusedWith}
 use Rattle.wasmprinter_c.specs.declared.copier.WasmprinterLine.{WasmprinterLine}
 
--- The status is 0 only for a module that was printed, 12 exactly for a wrong indent, and 2 exactly for a component. Any other status is the
--- number of an error with its cause.
+-- The status is 0 only if the module was printed. It is 2 exactly for a component, and 12 exactly for an invalid
+-- indent without a component. Any other status is the number of an error with its cause.
 pub record IsOutcome (o : Options) (bytes old new : List ℕ) (before after : List WasmprinterLine) (status whole count detail : ℕ) : Type 0 where
   pub printed : status ≡ 0 → HasLinesOver o bytes old new before after whole count
   pub refused : ¬ (status ≡ 0) → ¬ (status ≡ 12) → IsRefusedWith o bytes old new status whole count detail

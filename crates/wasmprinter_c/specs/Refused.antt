@@ -1,4 +1,4 @@
--- What the library for C reports of a module that is not printed.
+-- The results of the library for C for a module that is not printed.
 use Rattle.std.specs.List.{AllByRecursion}
 use Rattle.std.specs.Prelude.{◌≡◌, ◌≤◌, ◌^◌, ◌⊎◌, ℕ, List, ◌++◌, true, false, Some, length}
 use Rattle.wasmprinter_error.specs.declared.error.Error.{Error}
@@ -12,7 +12,7 @@ use Rattle.wasmprinter_spec.specs.Layout.{layout, refusal}
 use Rattle.wasmprinter.specs.Outcome.{HasPrintReason, print_reasons, causes, AnyIsUnknown, MayGrow, IsTrueOf, WhilePrinting}
 use Rattle.wasmprinter_c.specs.Over.{over}
 
--- the number of an error
+-- The number of an error.
 abbrev pub number_of : Error → ℕ
 number_of (Malformed place) = 1
 number_of Component = 2
@@ -26,7 +26,7 @@ number_of Unreadable = 9
 number_of (Printer e) = 10
 number_of Memory = 11
 
--- the place, the count or the id of an error, 0 if it has none
+-- The place, the count or the id of an error, or 0 if it has none.
 abbrev pub detail_in : Error → ℕ
 detail_in (Malformed place) = place
 detail_in Component = 0
@@ -40,11 +40,11 @@ detail_in Unreadable = 0
 detail_in (Printer e) = 0
 detail_in Memory = 0
 
--- an indent that is copied: every indent except the default
+-- An indent that is copied: any indent except the default.
 abbrev pub IsCopied : List ℕ → Type 0
 IsCopied indent = ¬ (indent ≡ defaults.indent)
 
--- the bytes encode a module whose text has 2^64 bytes or more
+-- The bytes encode a module whose text has 2^64 bytes or more.
 pub record IsTooLong (o : Options) (bytes : List ℕ) : Type 0 where
   pub placed : PlacedModule
   pub spelled : Spells bytes placed
@@ -52,19 +52,21 @@ pub record IsTooLong (o : Options) (bytes : List ℕ) : Type 0 where
   pub answers : Answers
   pub long : 2 ^ 64 ≤ length (text_of (layout (in_colours o false) answers placed))
 
--- If the bytes encode a module, the error has one of the causes of `HasCause`. The printer fails only if the text is too long. An
--- allocation may fail for a copy of the indent too.
+-- If the bytes encode a module, the error has one of the causes of `HasCause`. The printer fails only if the text
+-- is too long. An allocation may also fail for a copy of the indent.
 abbrev pub HasBufferCause : Options → List ℕ → Error → Type 0
 HasBufferCause o bytes e =
     (placed : PlacedModule) → Spells bytes placed →
     HasPrintReason (print_reasons o placed (λ x. IsTooLong o bytes) (λ id. AnyIsUnknown id placed.customs))
     (causes (MayGrow o placed ⊎ IsCopied o.indent) placed) e
 
--- The error is true of the bytes, as for `Config::print`, or the indent was not copied since an allocation failed.
+-- The error is true of the bytes, as for `Config::print`, or the indent was not copied because an allocation
+-- failed.
 abbrev pub IsTrueOrUncopied : Options → List ℕ → Error → Type 0
 IsTrueOrUncopied o bytes e = IsTrueOf o bytes e ⊎ ((e ≡ Memory) × IsCopied o.indent)
 
--- The text of calls which are a prefix of a layout, however text is split, was written over the buffer. They claim no custom section.
+-- The text of calls that are a prefix of a layout, however text is split, was written over the buffer. The calls
+-- claim no custom section.
 pub record HoldsPrefix (layout : List Call) (old new : List ℕ) : Type 0 where
   pub calls : List Call
   pub rest : List Call
@@ -77,22 +79,23 @@ abbrev pub HoldsPrefixOf : Options → List ℕ → List ℕ → List ℕ → Ty
 HoldsPrefixOf o bytes old new =
     WhilePrinting o bytes (λ placed answers. HoldsPrefix (layout (in_colours o false) answers placed) old new)
 
--- The layout ends at a `dylink.0` section, for its subsection with this id, and claims no custom section. All of its text was written over
--- the buffer.
+-- The layout ends at a `dylink.0` section because of its subsection with this id, and no custom section is claimed
+-- in it. All of its text was written over the buffer.
 pub record HoldsTextBefore (id : ℕ) (o : Options) (old new : List ℕ) (placed : PlacedModule) (answers : Answers) : Type 0 where
   pub ends : refusal o answers placed ≡ Some id
   pub unclaimed : AllByRecursion IsUnclaimed (layout o answers placed)
   pub copied : new ≡ over (text_of (layout o answers placed)) old
 
--- What the buffer holds after an error. If the module was refused before it was printed, the buffer is unchanged. A `dylink.0` section
--- with an unknown subsection ends the text. If the text is too long, or an allocation failed while operators were folded, the buffer holds a prefix.
+-- The contents of the buffer after an error. If the module was refused before it was printed, the buffer is
+-- unchanged. After an unknown subsection of a `dylink.0` section, it holds the text before that section. If the
+-- text is too long, or an allocation failed while operators were folded, it holds a prefix of the text.
 abbrev pub LeavesBuffer : Options → List ℕ → Error → List ℕ → List ℕ → Type 0
 LeavesBuffer o bytes (DylinkSubsection id) old new = WhilePrinting o bytes (HoldsTextBefore id (in_colours o false) old new)
 LeavesBuffer o bytes (Printer e) old new = HoldsPrefixOf o bytes old new
 LeavesBuffer o bytes Memory old new = (new ≡ old) ⊎ ((o.folds ≡ true) × HoldsPrefixOf o bytes old new)
 LeavesBuffer o bytes e old new = new ≡ old
 
--- the module was refused for an error with this number and this detail, and nothing was counted
+-- The module was refused for an error with this number and this detail, and nothing was counted.
 pub record IsRefusedWith (o : Options) (bytes old new : List ℕ) (status whole count detail : ℕ) : Type 0 where
   pub error : Error
   pub numbered : status ≡ number_of error

@@ -1,4 +1,5 @@
-//! A printer that writes over a buffer and a table of the caller, keeps what fits and counts everything.
+//! A printer that writes over a buffer and a table of the caller. It keeps what fits, and counts all bytes and
+//! lines.
 ghost use Rattle.std.specs.Prelude.{◌≡◌, ◌+◌, ◌^◌, ◌≤◌, ◌∷◌, [], false, length, OnOk, OnErr};
 ghost use Rattle.wasmprinter_c.specs.Over.{over_from};
 ghost use Rattle.wasmprinter_c.specs.Copied.{Grows, Starts, copied_meaning};
@@ -8,19 +9,20 @@ use std::io;
 use std::io::ErrorKind;
 use wasmprinter::Print;
 
-/// Where a line of the text starts.
+/// The start of a line of the text.
 #[repr(C)]
 #[derive(Clone, Copy)]
 pub struct WasmprinterLine {
     /// The offset of the line's first byte in bytes from the start of the text.
     pub start: usize,
-    /// The byte offset from the start of the module of what the line shows, or 0 if the line has no place.
+    /// The place of what the line shows, a byte offset from the start of the module, or 0 if the line has no place.
     pub place: u64,
-    /// 1 if the line has a place, 0 otherwise. It is a number, so that every memory is a valid entry.
+    /// 1 if the line has a place, 0 otherwise. It is a number and not a `bool`, so that any bytes are a valid
+    /// entry.
     pub has_place: u32,
 }
 
-/// A printer that writes over a buffer and a table, keeps what fits and counts everything.
+/// A printer that writes over a buffer and a table. It keeps what fits, and counts all bytes and lines.
 #[derive(Drop)]
 pub(crate) struct Copier<'a> {
     out: &'a mut [u8],
@@ -47,7 +49,7 @@ fn line_at(place: Option<u64>, start: usize) -> WasmprinterLine
     }
 }
 
-/// Writes the entry with an index, if the table has it.
+/// Writes the entry with this index, if the table has room for it.
 fn enter(lines: &mut [WasmprinterLine], index: usize, line: WasmprinterLine)
     ensures { lines.new ≡ over_from index (line ∷ []) lines.old }
 {
@@ -56,7 +58,7 @@ fn enter(lines: &mut [WasmprinterLine], index: usize, line: WasmprinterLine)
     }
 }
 
-/// Writes a piece over the buffer from `place` on, as much of it as fits.
+/// Writes the first bytes of a piece over the buffer from offset `place` on, as many as fit.
 fn copy_over(out: &mut [u8], place: usize, piece: &[u8])
     ensures { out.new ≡ over_from place piece.now out.old }
 {
@@ -71,7 +73,7 @@ fn copy_over(out: &mut [u8], place: usize, piece: &[u8])
 }
 
 impl<'a> Copier<'a> {
-    /// Wraps a buffer and a table. Nothing is written yet.
+    /// Returns a printer over a buffer and a table. Nothing is written yet.
     pub(crate) fn new(out: &'a mut [u8], lines: &'a mut [WasmprinterLine]) -> Copier<'a>
         ensures same_buffer { result.out.ghost_name ≡ out.entry.ghost_name }
         ensures same_table { result.lines.ghost_name ≡ lines.entry.ghost_name }
@@ -112,11 +114,11 @@ impl<'a> Copier<'a> {
         }
     }
 
-    /// Writes a piece after the text so far, as much of it as fits.
+    /// Writes the first bytes of a piece after the text so far, as many as fit.
     ///
     /// # Errors
     ///
-    /// If the length of the text is more than `usize::MAX`. Nothing is written then.
+    /// Returns an error if the text has more than `usize::MAX` bytes. Nothing is written then.
     fn append(&mut self, piece: &[u8]) -> io::Result<()>
         ensures ok { OnOk result (Grows self.old piece.now self.new) }
         ensures may_fail { OnErr result (2 ^ 64 ≤ self.old.written + length piece.now) }

@@ -1,6 +1,7 @@
-//! The printer of WebAssembly modules for C, and for languages that call C functions. `include/wasmprinter.h` declares the functions.
+//! The printer of WebAssembly modules for C, and for languages that call C functions. `include/wasmprinter.h`
+//! declares the exported functions.
 //!
-//! No function keeps anything between calls or takes a lock.
+//! No function keeps anything between calls, and none takes a lock.
 #![tactic(auto)]
 
 ghost use Rattle.std.specs.Prelude.{◌≡◌, ◌↔◌, IsTrue, OnOk, OnErr, IfOk, IfErr, IsErrOf, codes, length};
@@ -22,16 +23,17 @@ use status::{BAD_INDENT, PRINTED, describe, detail_of, status_of};
 use std::alloc::{AllocError, Global};
 use wasmprinter::{Config, Error};
 
-/// The version of the library: the major number times 1,000,000, the minor number times 1,000, and the patch number.
+/// The version of the library: the major number times 1,000,000, plus the minor number times 1,000, plus the patch
+/// number.
 const VERSION: u32 = 263_000;
 
-/// The text of one level of nesting by default.
+/// The default text of one level of nesting.
 const DEFAULT_INDENT: &str = "  ";
 
-/// What is printed of a module, and how: the options of [`Config`], apart from the text of the indent.
+/// The options of printing: those of [`Config`], without the text of the indent.
 #[repr(C)]
 pub struct WasmprinterOptions {
-    /// Whether each line begins with its place.
+    /// Whether each line after the first begins with its place.
     pub offsets: bool,
     /// Whether bodies, items of element segments, and bytes of data segments and custom sections are left out.
     pub skeleton: bool,
@@ -41,20 +43,20 @@ pub struct WasmprinterOptions {
     pub fold: bool,
 }
 
-/// What a module came to.
+/// The result of printing a module.
 #[derive(Clone, Copy)]
 struct Outcome {
     /// 0, or the number of the error.
     status: u32,
-    /// The length of the text in bytes.
+    /// The length of the text in bytes, or 0 after an error.
     length: usize,
-    /// The number of its lines.
+    /// The number of its lines, or 0 after an error.
     count: usize,
-    /// The place, the count or the id of the error.
+    /// The place, the count or the id of the error, or 0 if it has none.
     detail: u64,
 }
 
-/// How much was printed.
+/// The extent of a printed text.
 #[derive(Clone, Copy)]
 struct Extent {
     /// The length of the text in bytes.
@@ -77,7 +79,7 @@ fn is_default(indent: &str) -> bool
     indent == DEFAULT_INDENT
 }
 
-/// Returns the printer's options with the default indent.
+/// Returns these options as a `Config`, with the default indent.
 fn config_of(options: &WasmprinterOptions) -> Config
     ensures { result ≡ chosen options.now (codes "  ") }
 {
@@ -90,7 +92,8 @@ fn config_of(options: &WasmprinterOptions) -> Config
     config
 }
 
-/// Returns the printer's options with a copy of an indent. The default indent is not copied.
+/// Returns these options as a `Config`, with a copy of an indent. The default indent is not copied. Returns an
+/// error if an allocation failed.
 fn indented(alloc: Global, options: &WasmprinterOptions, indent: &str) -> Result<Config, AllocError>
     ensures chosen { IfOk result (λ config. config ≡ chosen options.now indent.now) }
     ensures copied { OnErr result (IsCopied indent.now) }
@@ -102,7 +105,7 @@ fn indented(alloc: Global, options: &WasmprinterOptions, indent: &str) -> Result
     Ok(config)
 }
 
-/// Prints to a printer over a buffer, to which nothing was printed.
+/// Prints a module to a printer over a buffer, to which nothing was printed before.
 fn print_to(
     alloc: Global,
     config: &Config,
@@ -123,7 +126,8 @@ fn print_to(
     config.print(alloc, wasm, copier)
 }
 
-/// Prints what fits, and returns how long the whole text is and how many lines it has.
+/// Prints the first bytes and the first lines, as many as fit, and returns the length and the number of lines of
+/// the whole text.
 fn print_over(
     alloc: Global,
     config: &Config,
@@ -145,7 +149,7 @@ fn print_over(
     })
 }
 
-/// Returns the outcome of an error.
+/// Returns the outcome for an error.
 fn refused(error: &Error) -> Outcome
     ensures { result ≡ record { status = number_of error.now; length = 0; count = 0; detail = detail_in error.now } }
 {
@@ -157,7 +161,8 @@ fn refused(error: &Error) -> Outcome
     }
 }
 
-/// Prints a module by these options, as much of its text and of its lines as fits. A component is reported before a wrong indent.
+/// Prints a module with these options: the first bytes of its text and its first lines, as many as fit. A
+/// component is reported before an invalid indent.
 fn print_by(
     alloc: Global,
     wasm: &[u8],
@@ -194,7 +199,29 @@ fn print_by(
     }
 }
 
-/// Prints the text of a module in the binary format over `out`, as much of it as fits, and stores the length of the whole text.
+/// Prints the text of a module in the binary format over `out`: writes the first bytes of the text, as many as
+/// fit. Returns 0 or the number of an error.
+///
+/// Stores the length of the whole text in bytes in `length`, or 0 after an error. The text was truncated if it is
+/// longer than `out`. Stores the detail of an error in `detail`, or 0 if there is none.
+///
+/// # Errors
+///
+/// - 1: the bytes are not in the binary format. The detail is the place of the first unexpected byte, number or
+///   entry.
+/// - 2: the bytes are marked as a component. This error takes precedence over all others.
+/// - 3: a function has more than 50,000 locals. The detail is the place of its body.
+/// - 4: the module has more than 1,000,000 functions. The detail is their number.
+/// - 5: the initialiser of a table has no operators. The detail is the place of the table.
+/// - 6, only with `fold`: an operator of legacy exception handling can't be folded. The detail is its place.
+/// - 7, only with `fold`: folded text has nowhere to put a branch hint. The detail is the place of the hint.
+/// - 8: a custom section `dylink.0` has an unknown subsection. The detail is its id.
+/// - 10: the text has more than `usize::MAX` bytes.
+/// - 11: an allocation failed.
+/// - 12: the indent is not UTF-8.
+///
+/// After the errors 8, 10 and, with `fold`, 11, `out` may hold a prefix of the text. After any other error it is
+/// unchanged.
 #[unsafe(no_mangle)]
 pub extern "C" fn wasmprinter_print(
     alloc: Global,
@@ -218,7 +245,12 @@ pub extern "C" fn wasmprinter_print(
     outcome.status
 }
 
-/// Does the same, writes the entries of the lines over `lines`, as many as fit, and stores their number.
+/// Does the same as [`wasmprinter_print`], and writes the entries of the lines over `lines`: the first entries, as
+/// many as fit. Stores the number of all lines in `count`, or 0 after an error.
+///
+/// # Errors
+///
+/// The errors of [`wasmprinter_print`]. After an error the entries of `lines` are not specified.
 #[unsafe(no_mangle)]
 pub extern "C" fn wasmprinter_print_lines(
     alloc: Global,
@@ -246,7 +278,8 @@ pub extern "C" fn wasmprinter_print_lines(
     outcome.status
 }
 
-/// Writes the description of a status with its detail to a printer over a buffer, to which nothing was printed.
+/// Writes the description of a status with its detail to a printer over a buffer, to which nothing was printed
+/// before.
 fn write_description(copier: &mut Copier<'_>, status: u32, detail: u64)
     requires no_text { copier.old.written ≡ 0 }
     requires no_line { copier.old.count ≡ 0 }
@@ -255,11 +288,13 @@ fn write_description(copier: &mut Copier<'_>, status: u32, detail: u64)
     ensures copied { copier.new.out.now ≡ over (message status detail) copier.old.out.now }
     ensures counted { copier.new.written ≡ length (message status detail) }
 {
-    // It can't fail: a description is shorter than `usize::MAX`.
+    // This can't fail: a description is shorter than `usize::MAX`.
     let _ = describe(copier, status, detail);
 }
 
-/// Writes the description of a status with its detail over `out`, as much of it as fits, and returns the length of the whole description.
+/// Writes the description of a status with its detail over `out`: the first bytes, as many as fit. Returns the
+/// length of the whole description in bytes. A status that no function returns is described as unknown. Allocates
+/// nothing.
 #[unsafe(no_mangle)]
 pub extern "C" fn wasmprinter_error_text(status: u32, detail: u64, out: &mut [u8]) -> usize
     ensures whole { result ≡ length (message status detail) }
@@ -270,7 +305,8 @@ pub extern "C" fn wasmprinter_error_text(status: u32, detail: u64, out: &mut [u8
     copier.length()
 }
 
-/// Returns the version of the library: the major number times 1,000,000, the minor number times 1,000, and the patch number.
+/// Returns the version of the library: the major number times 1,000,000, plus the minor number times 1,000, plus
+/// the patch number. Allocates nothing.
 #[unsafe(no_mangle)]
 pub extern "C" fn wasmprinter_version() -> u32
     ensures { result ≡ 263000 }

@@ -1,4 +1,4 @@
-//! Statuses: errors as numbers, and their descriptions.
+//! Statuses: the numbers of errors, and their descriptions.
 ghost use Rattle.std.specs.Prelude.{◌≡◌, ◌∷◌, []};
 ghost use Rattle.wasmprinter_spec.specs.Call.{Text};
 ghost use Rattle.wasmprinter_print.specs.Emits.{Emits};
@@ -12,10 +12,10 @@ use wasmprinter::Error;
 use wasmprinter_print::text;
 use wasmprinter_words::numbers::{write_decimal_between, write_hexadecimal_between};
 
-/// The module was printed.
+/// The status after the module was printed.
 pub(crate) const PRINTED: u32 = 0;
 
-/// The indent is not UTF-8.
+/// The status for an indent that is not UTF-8.
 pub(crate) const BAD_INDENT: u32 = 12;
 
 /// Returns the number of an error.
@@ -37,7 +37,7 @@ pub(crate) fn status_of(error: &Error) -> u32
     }
 }
 
-/// Returns the place, the count or the id of an error, 0 if it has none.
+/// Returns the place, the count or the id of an error, or 0 if it has none.
 pub(crate) fn detail_of(error: &Error) -> u64
     ensures { result ≡ detail_in error.now }
 {

@@ -13,23 +13,23 @@ use Rattle.wasmprinter_spec.specs.Layout.Expressions.{constant_group}
 use Rattle.wasmprinter_spec.specs.Layout.Elements.{function_items, expression_items}
 use Rattle.wasmprinter_segments.specs.Segments.{constant_of, constants_of}
 
--- no function is left
+-- If no function is left, no piece is left.
 pub functions-none : (s : Scope) (is : List ℕ) → is ≡ [] → function_items s is ≡ []
 unfolding function_items
 functions-none s is e = ap (function_items s) e
 
--- the next function, and the others
+-- The pieces of functions are those of the first function and those of the others.
 pub functions-next : (s : Scope) (is rest : List ℕ) (i : ℕ) → is ≡ i ∷ rest →
     function_items s is ≡ (Gap ∷ item_index s Func i) ++ function_items s rest
 unfolding function_items
 functions-next s is rest i e = ap (function_items s) e
 
--- no expression is left behind k
+-- If there are at most k expressions, no piece is left after the first k.
 pub expressions-none : (s : Scope) (k : ℕ) (es : List (Closed (Placed Operator))) → length es ≤ k → expression_items s (constants_of (drop k es)) ≡ []
 unfolding expression_items
 expressions-none s k es le = ap (λ xs. expression_items s (constants_of xs)) (drop_of_length-le es le)
 
--- behind k the next expression, and the others
+-- The pieces after the first k expressions are those of expression k and those of the expressions after it.
 pub expressions-next : (s : Scope) (k : ℕ) (es : List (Closed (Placed Operator))) (x d : Closed (Placed Operator)) → k < length es → x ≡ get_or es k d →
     expression_items s (constants_of (drop k es))
     ≡ (Gap ∷ constant_group s 2 (codes "item") (constant_of x)) ++ expression_items s (constants_of (drop (k + 1) es))

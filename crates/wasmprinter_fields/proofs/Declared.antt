@@ -11,10 +11,10 @@ use Rattle.wasmprinter_spec.specs.Layout.Expressions.{constant_pieces}
 use Rattle.wasmprinter_spec.specs.Layout.Globals.{global_type_pieces, declared_global, global_parts}
 use Rattle.wasmprinter_spec.specs.Layout.Tables.{table_type_pieces, init_pieces, declared_table, table_parts}
 
--- a table is a declared table and its initialiser
+-- The pieces of a table are those of its declaration and its initialiser.
 pub table-parts : (s : Scope) (i : ℕ) (t : Table (Placed Operator)) → table_parts s i t ≡ declared_table s i t.type ++ init_pieces s t.init
 table-parts s i t = sym (append_assoc (item_declaration s row.Table i) (Gap ∷ table_type_pieces s.names t.type) (init_pieces s t.init))
 
--- a global is a declared global and its value
+-- The pieces of a global are those of its declaration and its value.
 pub global-parts : (s : Scope) (i : ℕ) (g : Global (Placed Operator)) → global_parts s i g ≡ declared_global s i g.type ++ (Gap ∷ constant_pieces s 2 g.init)
 global-parts s i g = sym (append_assoc (item_declaration s row.Global i) (Gap ∷ global_type_pieces s.names g.type) (Gap ∷ constant_pieces s 2 g.init))

@@ -1,4 +1,4 @@
--- Fields in which no line begins, as groups on one line.
+-- Fields in which no line begins are groups on one line.
 use Rattle.std.specs.Prelude.{◌≡◌, ℕ, List, ◌∷◌, codes, false, Some, None}
 use Rattle.std.proofs.Common.{sym, ap}
 use Rattle.wasmprinter_spec.specs.Grammar.{Placed}
@@ -17,7 +17,7 @@ use Rattle.wasmprinter_fields.specs.Parts.{field_line}
 use Rattle.wasmprinter_fields.proofs.LineGroups.{one_line}
 use Rattle.wasmprinter_fields.proofs.Unbroken.{start-unbroken, memory-unbroken, tag-unbroken, export-unbroken}
 
--- a field in which no line begins
+-- If no line begins in a field, it is a group on one line.
 on_one_line : {A : Type 0} (keyword : List ℕ) (place : A → ℕ) (parts : ℕ → A → List Piece) (i : ℕ) (x : A) → has_break (parts i x) ≡ false →
     Break (Some (place x)) 1 ∷ line_group_gap keyword (parts i x) ≡ field_line keyword place parts i x
 on_one_line keyword place parts i x none = ap (λ (ps : List Piece). Break (Some (place x)) 1 ∷ ps) (sym (one_line 1 keyword (parts i x) none))

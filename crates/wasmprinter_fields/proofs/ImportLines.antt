@@ -1,4 +1,4 @@
--- The lines of imports one after the other, and how many imports the numbers of all kinds count.
+-- The lines of imports, one after the other, and the number of preceding imports of all kinds.
 use Rattle.std.specs.Prelude.{◌≡◌, ℕ, ◌+◌, ◌<◌, ◌≤◌, drop, length, List, [], ◌∷◌, ◌++◌, codes, Some, refl}
 use Rattle.std.proofs.Common.{sym, ap, ◌∙◌, get_or, arith}
 use Rattle.std.proofs.Math.ListN.{drop_of_length-le}
@@ -16,12 +16,12 @@ use Rattle.wasmprinter_fields.specs.Parts.{field_line}
 use Rattle.wasmprinter_fields.proofs.LineGroups.{one_line}
 use Rattle.wasmprinter_fields.proofs.Unbroken.{import-unbroken}
 
--- no import is left behind k
+-- If there are at most k imports, no piece is left after the first k.
 pub imports-none : (s : Scope) (n : Numbers) (k : ℕ) (is : List (Placed Import)) → length is ≤ k → imports_pieces s n (drop k is) ≡ []
 unfolding imports_pieces
 imports-none s n k is le = ap (imports_pieces s n) (drop_of_length-le is le)
 
--- an import with its number among those of its kind
+-- The line of an import, with its number among those of its kind.
 abbrev pub import_line : Scope → ℕ → Placed Import → List Piece
 import_line s = field_line (codes "import") (λ i. i.place) (λ n i. import_parts s n i.value)
 
@@ -29,7 +29,7 @@ import-line : (s : Scope) (n : ℕ) (i : Placed Import) → import_pieces s n i 
 unfolding import_pieces
 import-line s n i = ap (λ (ps : List Piece). Break (Some i.place) 1 ∷ ps) (sym (one_line 1 (codes "import") (import_parts s n i.value) (import-unbroken s n i.value)))
 
--- behind k the next import, and the others
+-- The pieces after the first k imports are those of import k and those of the imports after it.
 pub imports-next : (s : Scope) (n : Numbers) (k : ℕ) (is : List (Placed Import)) (i d : Placed Import) → k < length is → i ≡ get_or is k d →
     imports_pieces s n (drop k is) ≡ import_line s (number_of i.value.type n) i ++ imports_pieces s (numbers_behind i.value.type n) (drop (k + 1) is)
 unfolding imports_pieces import_pieces
@@ -38,11 +38,11 @@ imports-next s n k is i d lt e =
     ∙ ap (λ (x : Placed Import). import_pieces s (number_of x.value.type n) x ++ imports_pieces s (numbers_behind x.value.type n) (drop (k + 1) is)) (sym e)
     ∙ ap (λ (ps : List Piece). ps ++ imports_pieces s (numbers_behind i.value.type n) (drop (k + 1) is)) (import-line s (number_of i.value.type n) i)
 
--- how many stand in front, of whatever kind
+-- The number of preceding imports of all kinds.
 abbrev pub total : Numbers → ℕ
 total n = n.functions + (n.tables + (n.memories + (n.globals + n.tags)))
 
--- one more
+-- Counting an import increases that number by one.
 pub total-behind : (t : ExternType) (n : Numbers) → total (numbers_behind t n) ≡ total n + 1
 total-behind (FuncExtern i) n = omega arith
 total-behind (TableExtern t) n = omega arith
@@ -50,7 +50,7 @@ total-behind (MemoryExtern t) n = omega arith
 total-behind (GlobalExtern t) n = omega arith
 total-behind (TagExtern i) n = omega arith
 
--- those of one kind are among them
+-- The number of preceding imports of one kind is at most that number.
 pub number-total : (t : ExternType) (n : Numbers) → number_of t n ≤ total n
 number-total (FuncExtern i) n = omega arith
 number-total (TableExtern t) n = omega arith
@@ -58,7 +58,7 @@ number-total (MemoryExtern t) n = omega arith
 number-total (GlobalExtern t) n = omega arith
 number-total (TagExtern i) n = omega arith
 
--- what is imported, as a group
+-- The pieces of an imported item are a group on one line.
 pub extern-group : (s : Scope) (n : ℕ) (t : ExternType) → extern_pieces s n t ≡ line_group_gap (kind_word (kind_of_type t)) (extern_parts s n t)
 unfolding extern_pieces kind_word
 extern-group s n (FuncExtern i) = refl

@@ -17,7 +17,8 @@ module _ {A : Type 0} (f : ℕ → A → List Piece) where
   unfolding numbered_pieces
   nothing n xs e = ap (numbered_pieces f n) e
 
-  -- what is left behind i items, the first of which had a number: the next, and the others
+  -- The pieces after the first i items are those of item i and those of the items after it. Item i has the number
+  -- of the first item plus i.
   pub numbered_pieces-next : (first i : ℕ) (xs : List A) (x : A) → i < length xs → x ≡ get_or xs i x →
       numbered_pieces f (first + i) (drop i xs) ≡ f (first + i) x ++ numbered_pieces f (first + (i + 1)) (drop (i + 1) xs)
   numbered_pieces-next first i xs x h e =
@@ -25,16 +26,16 @@ module _ {A : Type 0} (f : ℕ → A → List Piece) where
       let number : (first + i) + 1 ≡ first + (i + 1) = omega (arith) in
       one (first + i) (drop i xs) (drop (i + 1) xs) x step ∙ ap (λ k. f (first + i) x ++ numbered_pieces f k (drop (i + 1) xs)) number
 
-  -- the same, of an item that was looked up
+  -- The same for an item that was looked up.
   pub numbered_pieces-found : (first i : ℕ) (xs : List A) (x : A) → slice_get xs i ≡ Some x →
       numbered_pieces f (first + i) (drop i xs) ≡ f (first + i) x ++ numbered_pieces f (first + (i + 1)) (drop (i + 1) xs)
   numbered_pieces-found first i xs x e = numbered_pieces-next first i xs x (slice_get_within xs i x e) (sym (get_or_from_slice_get xs i x x e))
 
-  -- nothing is left
+  -- If there are at most i items, no piece is left after the first i.
   pub numbered_pieces-none : (n i : ℕ) (xs : List A) → length xs ≤ i → numbered_pieces f n (drop i xs) ≡ []
   numbered_pieces-none n i xs h = nothing n (drop i xs) (drop_all i xs h)
 
-  -- whether lines change for fields: each begins a line
+  -- If each field begins a line, the pieces of fields begin a line exactly if there are fields.
   pub numbered_pieces-break : (n : ℕ) (xs : List A) → ((k : ℕ) (x : A) → has_break (f k x) ≡ true) → has_break (numbered_pieces f n xs) ≡ not (length xs == 0)
   unfolding numbered_pieces
   numbered_pieces-break n [] b = refl

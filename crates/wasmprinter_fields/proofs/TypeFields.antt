@@ -14,39 +14,39 @@ use Rattle.wasmprinter_spec.specs.Layout.Groups.{has_break, close, group, number
 use Rattle.wasmprinter_spec.specs.Layout.Types.{member_pieces, group_pieces_by, type_group_pieces, type_section_pieces}
 use Rattle.wasmprinter_fields.specs.TypeLines.{listed_pieces}
 
--- ---- the types of a group
+-- -- The types of a group
 
--- no type is left
+-- If no type is left, no piece is left.
 pub types-none : (f : ℕ → SubType → List Piece) (i : ℕ) (ts : List SubType) → ts ≡ [] → numbered_pieces f i ts ≡ []
 unfolding numbered_pieces
 types-none f i ts e = ap (numbered_pieces f i) e
 
--- the next type, and the others
+-- The pieces of types are those of the first type and those of the others.
 pub types-next : (f : ℕ → SubType → List Piece) (i : ℕ) (ts rest : List SubType) (t : SubType) → ts ≡ t ∷ rest → numbered_pieces f i ts ≡ f i t ++ numbered_pieces f (i + 1) rest
 unfolding numbered_pieces
 types-next f i ts rest t e = ap (numbered_pieces f i) e
 
--- each type of a written group begins a line
+-- The types of a `rec` group begin a line exactly if there are types.
 members-break : (names : Names) (place i : ℕ) (ts : List SubType) → has_break (numbered_pieces (member_pieces names place) i ts) ≡ not (length ts == 0)
 unfolding numbered_pieces member_pieces
 members-break names place i [] = refl
 members-break names place i (t ∷ ts) = sym (ap not (eqb-suc-zero (length ts)))
 
--- a written group
+-- The pieces of a `rec` group are its opening, those of its types, and its end.
 pub group-written : (names : Names) (written : Bool) (place i : ℕ) (ts : List SubType) → written ≡ true →
     group_pieces_by names written place i ts ≡ Open (codes "rec") ∷ (numbered_pieces (listed_pieces names written place) i ts ++ close None 1 (not (length ts == 0)))
 unfolding group
 group-written names true place i ts e = ap (λ b. Open (codes "rec") ∷ (numbered_pieces (member_pieces names place) i ts ++ close None 1 b)) (members-break names place i ts)
 group-written names false place i ts e = absurd cc
 
--- a type by itself
+-- The pieces of a group that is not written as a `rec` group are those of its types.
 pub group-bare : (names : Names) (written : Bool) (place i : ℕ) (ts : List SubType) → written ≡ false → group_pieces_by names written place i ts ≡ numbered_pieces (listed_pieces names written place) i ts
 group-bare names true place i ts e = absurd cc
 group-bare names false place i ts e = refl
 
--- ---- groups
+-- -- Groups
 
--- what is left behind k groups: the next group, and the others
+-- The pieces after the first k groups are those of group k and those of the groups after it.
 pub groups-next : (names : Names) (i k : ℕ) (gs : List (Placed TypeGroup)) (g d : Placed TypeGroup) → k < length gs → g ≡ get_or gs k d →
     type_section_pieces names i (drop k gs) ≡ type_group_pieces names i g ++ type_section_pieces names (i + length g.value.types) (drop (k + 1) gs)
 unfolding type_section_pieces
@@ -54,16 +54,16 @@ groups-next names i k gs g d lt is =
     at_drop_more (type_section_pieces names i) gs k d lt
     ∙ ap (λ (x : Placed TypeGroup). type_group_pieces names i x ++ type_section_pieces names (i + length x.value.types) (drop (k + 1) gs)) (sym is)
 
--- nothing is left
+-- If there are at most k groups, no piece is left after the first k.
 pub groups-none : (names : Names) (i k : ℕ) (gs : List (Placed TypeGroup)) → length gs ≤ k → type_section_pieces names i (drop k gs) ≡ []
 unfolding type_section_pieces
 groups-none names i k gs le = ap (type_section_pieces names i) (drop_of_length-le gs le)
 
--- how many types there are behind k groups
+-- The number of types after the first k groups.
 abbrev pub types_behind : ℕ → List (Placed TypeGroup) → ℕ
 types_behind k gs = length (all_types (groups_of (drop k gs)))
 
--- those of the next group, and of the others
+-- That number is the sum of those in group k and in the groups after it.
 pub behind-next : (k : ℕ) (gs : List (Placed TypeGroup)) (g d : Placed TypeGroup) → k < length gs → g ≡ get_or gs k d →
     types_behind k gs ≡ length g.value.types + types_behind (k + 1) gs
 behind-next k gs g d lt is =

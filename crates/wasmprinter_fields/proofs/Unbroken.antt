@@ -1,4 +1,4 @@
--- What stands in the groups of fields on one line, and whether a line begins in the others.
+-- The contents of fields on one line, and whether a line begins in other fields.
 use Rattle.std.specs.Prelude.{◌≡◌, ℕ, List, [], ◌∷◌, ◌++◌, Bool, false, ◌||◌, None, Result, Ok, Err, IfOk, IsErrAnd, refl}
 use Rattle.std.proofs.Common.{sym, ap, ◌∙◌}
 use Rattle.wasmprinter_spec.specs.Grammar.{Placed}
@@ -25,7 +25,7 @@ use Rattle.wasmprinter_spec.specs.Layout.Imports.{import_parts}
 use Rattle.wasmprinter_spec.specs.Layout.Exports.{export_parts, kind_word}
 use Rattle.wasmprinter_fields.proofs.Declared.{table-parts, global-parts}
 
--- ---- fields on one line
+-- -- Fields on one line
 
 pub import-unbroken : (s : Scope) (n : ℕ) (i : Import) → has_break (import_parts s n i) ≡ false
 import-unbroken s n i = stays_unbroken {ps = import_parts s n i} (then_stay refl (then_stay refl (then_stay refl (then_stay refl (extern_stays s n i.type)))))
@@ -42,25 +42,25 @@ export-unbroken s e = stays_unbroken {ps = export_parts s e} (then_stay refl (th
 pub start-unbroken : (s : Scope) (f : ℕ) → has_break (item_index s row.Func f) ≡ false
 start-unbroken s f = stays_unbroken (item_stays s row.Func f)
 
--- ---- fields with expressions
+-- -- Fields with expressions
 
--- an error has no answer
+-- A result that is an error satisfies every property of successful results.
 pub no_answer : {T E : Type 0} (Q : E → Type 0) (P : T → Type 0) (r : Result T E) → IsErrAnd r Q → IfOk r P
 no_answer Q P (Ok x) f = absurd f
 no_answer Q P (Err e) f = tt
 
--- whether lines began in some items, and begin in the others
+-- A line begins in a list of items exactly if one begins in the items so far, in the next item, or in the others.
 pub more_lines : (lines : Bool) {new : Bool} {xs : List Piece} (ps rest whole : List Piece) → xs ≡ ps ++ rest → (lines || has_break xs) ≡ has_break whole → new ≡ has_break ps →
     ((lines || new) || has_break rest) ≡ has_break whole
 more_lines lines {new} {xs} ps rest whole e h n =
     or-assoc lines new (has_break rest)
     ∙ ap (λ b. lines || (b || has_break rest)) n ∙ ap (λ b. lines || b) (sym (ap has_break e ∙ has_break-append ps rest)) ∙ h
 
--- none is left
+-- If no item is left, a line begins in the list exactly if one began in the items so far.
 pub last_lines : {lines : Bool} {xs : List Piece} (whole : List Piece) → xs ≡ [] → (lines || has_break xs) ≡ has_break whole → lines ≡ has_break whole
 last_lines {lines} whole e h = sym (or-false lines) ∙ ap (λ b. lines || b) (sym (ap has_break e)) ∙ h
 
--- a line begins in a table where one begins in its initialiser
+-- A line begins in a table exactly if one begins in its initialiser.
 pub table-breaks : (s : Scope) (i : ℕ) (t : Table (Placed Operator)) → has_break (table_parts s i t) ≡ has_break (init_pieces s t.init)
 table-breaks s i t =
     ap has_break (table-parts s i t)
@@ -71,7 +71,7 @@ global-breaks s i g =
     ap has_break (global-parts s i g)
     ∙ behind-line (declared_global s i g.type) (Gap ∷ constant_pieces s 2 g.init) (stays_unbroken (both_stay (declared_stays s row.Global i) (then_stay refl (global_type_stays s.names g.type))))
 
--- in the mode of an element segment, where one begins in its offset
+-- A line begins in the mode of an element segment exactly if one begins in its offset.
 pub offset-breaks : (s : Scope) (names : Bool) (t : ℕ) (ps : List Piece) → has_break (named_table s names t ++ (Gap ∷ ps)) ≡ has_break ps
 offset-breaks s names t ps = behind-line (named_table s names t) (Gap ∷ ps) (stays_unbroken (named_table_stays s names t))
 
@@ -81,7 +81,7 @@ functions-unbroken s is = stays_unbroken (function_items_stay s is)
 pub items-break : (s : Scope) (t : RefType) (ps : List Piece) → has_break (ref_pieces s.names t ++ ps) ≡ has_break ps
 items-break s t ps = behind-line (ref_pieces s.names t) ps (stays_unbroken (ref_stays s.names t))
 
--- in a segment, where one begins in its offset or in its items
+-- A line begins in an element segment exactly if one begins in its mode or in its items.
 pub element-breaks : (skeleton : Bool) (s : Scope) (i : ℕ) (e : ElementEntry) →
     has_break (element_parts skeleton s i e) ≡ (has_break (mode_pieces s e.names_table e.element.mode) || has_break (shown_items skeleton s e.element.items))
 element-breaks skeleton s i e =

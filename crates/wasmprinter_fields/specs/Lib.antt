@@ -1,3 +1,3 @@
--- What the contracts of fields cite.
+-- Definitions that the contracts of this crate cite.
 pub mod Parts
 pub mod TypeLines

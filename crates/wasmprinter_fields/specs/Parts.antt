@@ -3,6 +3,6 @@ use Rattle.std.specs.Prelude.{ℕ, List, ◌∷◌, Some}
 use Rattle.wasmprinter_spec.specs.Piece.{Piece, Break}
 use Rattle.wasmprinter_spec.specs.Layout.Groups.{group_gap}
 
--- a field that is a group, with its number: it closes on a line of its own where a line began in it
+-- A field that is a group, with its number. It closes on a line of its own if a line begins in it.
 abbrev pub field_line : {A : Type 0} → List ℕ → (A → ℕ) → (ℕ → A → List Piece) → ℕ → A → List Piece
 field_line keyword place parts i x = Break (Some (place x)) 1 ∷ group_gap 1 keyword (parts i x)

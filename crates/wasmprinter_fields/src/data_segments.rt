@@ -17,7 +17,7 @@ use wasmprinter_text::data_strings::write_shown_bytes;
 use wasmprinter_wasm::{Data, DataMode};
 use wasmprinter_words::words::gap;
 
-/// Writes the memory of a segment and a blank, and nothing for memory 0.
+/// Writes the memory of a segment and a space, or nothing for memory 0.
 fn write_named_memory<P: Print>(p: &mut P, scope: &Scope<'_, '_>, memory: u32) -> io::Result<()>
     ensures { PrintsAlways P.meaning p.old p.new result (named_memory (scope_view scope.now) memory) }
 {
@@ -28,7 +28,7 @@ fn write_named_memory<P: Print>(p: &mut P, scope: &Scope<'_, '_>, memory: u32) -
     gap(p)
 }
 
-/// Writes what becomes of a segment, with a blank behind it. Answers whether a line began.
+/// Writes the mode of a segment, followed by a space if the segment is active. Returns whether a line began.
 #[tactic(auto, unfolding(wasmprinter_spec::specs::Layout::DataSegments::data_mode_pieces))]
 fn write_data_mode<P: Print>(
     p: &mut P,

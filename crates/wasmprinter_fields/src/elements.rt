@@ -25,7 +25,7 @@ use wasmprinter_scope::scope::{
 use wasmprinter_wasm::{Element, ElementItems, ElementMode};
 use wasmprinter_words::words::{gap, word};
 
-/// Writes a blank and the table of a segment, where the bytes name it.
+/// Writes a space and the table of a segment if the bytes name the table.
 fn write_named_table<P: Print>(
     p: &mut P,
     scope: &Scope<'_, '_>,
@@ -41,8 +41,8 @@ fn write_named_table<P: Print>(
     write_index_group_in(p, scope, "table", Space::Table, table)
 }
 
-/// Writes what becomes of a segment, with a blank in front; `names_table` is whether the bytes name its table.
-/// Answers whether a line began.
+/// Writes the mode of a segment, after a space unless the segment is passive. `names_table` says whether the bytes
+/// name its table. Returns whether a line began.
 #[tactic(auto, unfolding(wasmprinter_spec::specs::Layout::Elements::mode_pieces))]
 fn write_element_mode<P: Print>(
     p: &mut P,
@@ -71,7 +71,7 @@ fn write_element_mode<P: Print>(
     }
 }
 
-/// Writes a blank and the index of a function.
+/// Writes a space and the index of a function.
 fn write_function_item<P: Print>(p: &mut P, scope: &Scope<'_, '_>, function: u32) -> io::Result<()>
     ensures { PrintsAlways P.meaning p.old p.new result
         (Gap ∷ item_index (scope_view scope.now) row.Func function) }
@@ -80,7 +80,7 @@ fn write_function_item<P: Print>(p: &mut P, scope: &Scope<'_, '_>, function: u32
     write_index_in(p, scope, Space::Func, function)
 }
 
-/// Writes the indices of functions, a blank before each.
+/// Writes the indices of functions, with a space before each.
 fn write_function_items<P: Print>(
     p: &mut P,
     scope: &Scope<'_, '_>,
@@ -94,7 +94,7 @@ fn write_function_items<P: Print>(
     Ok(())
 }
 
-/// Writes a blank and an expression as a group. Answers whether a line began.
+/// Writes a space and an expression as a group. Returns whether a line began.
 fn write_expression_item<P: Print>(
     p: &mut P,
     options: &PrintOptions,
@@ -110,7 +110,7 @@ fn write_expression_item<P: Print>(
     write_constant_group(p, options, scope, "item", expression)
 }
 
-/// Writes expressions as groups, a blank before each. Answers whether a line began.
+/// Writes expressions as groups, with a space before each. Returns whether a line began.
 fn write_expression_items<P: Print>(
     p: &mut P,
     options: &PrintOptions,
@@ -129,7 +129,7 @@ fn write_expression_items<P: Print>(
     Ok(lines)
 }
 
-/// Writes the items of a segment behind their kind or type. Answers whether a line began.
+/// Writes the kind or type of a segment's items, and then the items. Returns whether a line began.
 #[tactic(auto, unfolding(wasmprinter_spec::specs::Layout::Elements::items_pieces))]
 fn write_items<P: Print>(
     p: &mut P,
@@ -155,7 +155,7 @@ fn write_items<P: Print>(
     }
 }
 
-/// Writes the items of a segment, in a skeleton three points in their place. Answers whether a line began.
+/// Writes the items of a segment, or `...` in a skeleton. Returns whether a line began.
 fn write_shown_items<P: Print>(
     p: &mut P,
     options: &PrintOptions,

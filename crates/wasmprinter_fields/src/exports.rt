@@ -20,7 +20,7 @@ use wasmprinter_words::numbers::number_word;
 use wasmprinter_words::strings::write_string;
 use wasmprinter_words::words::{gap, open_gap, shut};
 
-/// The keyword of a kind.
+/// Returns the keyword of a kind.
 #[tactic(auto, unfolding(wasmprinter_spec::specs::Layout::Exports::kind_word))]
 pub(crate) fn kind_word(kind: ExternKind) -> &'static str
     ensures { result.now ≡ kind_word (kind_view kind) }
@@ -34,7 +34,7 @@ pub(crate) fn kind_word(kind: ExternKind) -> &'static str
     }
 }
 
-/// The space of what is given out.
+/// Returns the index space of the exported items of a kind.
 fn space_of(kind: ExternKind) -> Space
     ensures { (l : Scan) (n : ℕ) → item_in l result n ≡ (names_of l).items (space_of (kind_view kind)) n }
 {
@@ -47,7 +47,7 @@ fn space_of(kind: ExternKind) -> Space
     }
 }
 
-/// Writes the index of what is given out: that of a tag as a number, which has no style.
+/// Writes the index of an exported item. The index of a tag is written as a number without a style.
 #[tactic(auto, unfolding(wasmprinter_spec::specs::Layout::Exports::extern_index_pieces))]
 fn write_extern_index<P: Print>(
     p: &mut P,
@@ -64,7 +64,7 @@ fn write_extern_index<P: Print>(
     }
 }
 
-/// Writes what is given out, as a group.
+/// Writes an exported item as a group.
 #[tactic(auto, using(crate::proofs::LineGroups::groups))]
 fn write_extern<P: Print>(
     p: &mut P,

@@ -12,7 +12,8 @@ use wasmprinter_print::Print;
 use wasmprinter_scope::scope::{FIELD_NESTING, Scope};
 use wasmprinter_words::words::open_gap;
 
-/// A field of a module that is a group: on one line, but for the comments of folded operators.
+/// A field of a module that is a group. It is on one line, except that the comment of a folded operator ends its
+/// line.
 pub trait Field {
     ghost use Rattle.std.specs.Prelude.{ℕ, List};
     ghost use Rattle.wasmprinter_spec.specs.Piece.{Piece};
@@ -22,21 +23,21 @@ pub trait Field {
     /// The keyword of the group.
     ghost keyword: { List ℕ };
 
-    /// The place of the line in the module's bytes.
+    /// The place of the line, a byte offset from the start of the module.
     ghost line_place: { Self → ℕ };
 
-    /// What stands in the group, by the options, the scope and the field's number among those of its kind.
+    /// The pieces inside the group, from the options, the scope and the field's number among those of its kind.
     ghost parts: { Options → FieldScope → ℕ → Self → List Piece };
 
-    /// The keyword of the group.
+    /// Returns the keyword of the group.
     fn keyword(&self) -> &'static str
         ensures { result.now ≡ keyword };
 
-    /// The place of the line in the module's bytes.
+    /// Returns the place of the line, a byte offset from the start of the module.
     fn line_place(&self) -> u64
         ensures { result ≡ line_place self.now };
 
-    /// Writes what stands in the group of the field with the number. Answers whether a line began.
+    /// Writes the contents of the group of the field with the number. Returns whether a line began.
     fn write_parts<P: Print>(
         &self,
         p: &mut P,
@@ -69,11 +70,12 @@ pub(crate) fn write_field<P: Print, F: Field>(
     Ok(())
 }
 
-/// Writes the fields of one kind, in order, the first of which has the number.
+/// Writes the fields of one kind in order. The first of them has the number `first`.
 ///
 /// # Errors
 ///
-/// `Memory` where a growth was refused, `Printer` where a call on the printer failed, with that call's error. No other.
+/// - `Memory`: an allocation failed.
+/// - `Printer`: a call on the printer failed. It holds the error of that call.
 pub fn write_each<P: Print, F: Field>(
     p: &mut P,
     options: &PrintOptions,

@@ -1,4 +1,5 @@
-//! Globals (section 6.6 of the WebAssembly Core Specification, "Globals"), and their types (section 6.4, "Global Types").
+//! Globals (section 6.6 of the WebAssembly Core Specification, "Globals"), and their types (section 6.4, "Global
+//! Types").
 ghost use Rattle.std.specs.Prelude.{codes};
 ghost use Rattle.wasmprinter_spec.specs.Layout.Globals.{global_type_pieces, declared_global, global_parts};
 ghost use Rattle.wasmprinter_print.specs.Prints.{PrintsAlways};
@@ -17,7 +18,7 @@ use wasmprinter_scope::scope::{Scope, write_declaration_in, write_val_type_in};
 use wasmprinter_wasm::{Global, GlobalType};
 use wasmprinter_words::words::{gap, open_type_gap, shut};
 
-/// Writes the type of a global: of one that may change in a group of its own.
+/// Writes the type of a global, in a group `(mut ..)` if the global is mutable.
 #[tactic(auto, unfolding(wasmprinter_spec::specs::Layout::Globals::global_type_pieces))]
 fn write_global_type<P: Print>(
     p: &mut P,
@@ -35,7 +36,7 @@ fn write_global_type<P: Print>(
     shut(p)
 }
 
-/// Writes a global where it is declared, with its type.
+/// Writes the declaration of a global, with its type.
 pub(crate) fn write_declared_global<P: Print>(
     p: &mut P,
     scope: &Scope<'_, '_>,

@@ -22,7 +22,7 @@ use wasmprinter_wasm::{ExternType, Import};
 use wasmprinter_words::strings::write_string;
 use wasmprinter_words::words::{gap, open_gap, shut};
 
-/// How many imports of each kind stand in front.
+/// The number of preceding imports of each kind.
 #[derive(Drop)]
 struct Numbers {
     functions: u64,
@@ -47,7 +47,7 @@ impl Model for Numbers {
 }
 
 impl Numbers {
-    /// In front of all imports.
+    /// Returns the numbers before the first import, which are all 0.
     fn none() -> Numbers
         ensures { result ≡ no_numbers }
     {
@@ -60,7 +60,7 @@ impl Numbers {
         }
     }
 
-    /// The number of an import of this type.
+    /// Returns the index of an import of this type in its index space.
     fn of(&self, extern_type: ExternType) -> u64
         ensures { result ≡ number_of (extern_view extern_type) self.now }
     {
@@ -73,7 +73,7 @@ impl Numbers {
         }
     }
 
-    /// With an import of this type more.
+    /// Counts one more import of this type.
     fn count(&mut self, extern_type: ExternType)
         requires { number_of (extern_view extern_type) self.old + 1 < 2 ^ 64 }
         ensures { self.new ≡ numbers_behind (extern_view extern_type) self.old }
@@ -88,7 +88,7 @@ impl Numbers {
     }
 }
 
-/// Writes what is imported where it is declared, and its type.
+/// Writes the declaration of an imported item, with its type.
 fn write_extern_parts<P: Print>(
     p: &mut P,
     scope: &Scope<'_, '_>,
@@ -108,7 +108,7 @@ fn write_extern_parts<P: Print>(
     }
 }
 
-/// Writes what is imported with its number, as a group.
+/// Writes an imported item, with its index, as a group.
 fn write_extern_type<P: Print>(
     p: &mut P,
     scope: &Scope<'_, '_>,
@@ -155,11 +155,11 @@ impl<'a> Field for Import<'a> {
     }
 }
 
-/// Writes the imports; each kind is numbered apart.
+/// Writes the imports. Each kind has its own indices.
 ///
 /// # Errors
 ///
-/// Those of [`write_each`](crate::fields::write_each).
+/// The errors of [`write_each`](crate::fields::write_each).
 pub fn write_imports<P: Print>(
     p: &mut P,
     options: &PrintOptions,

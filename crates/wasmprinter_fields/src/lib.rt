@@ -1,6 +1,7 @@
-//! The fields of a module but for its functions as text (section 6.6 of the WebAssembly Core Specification), over any printer.
+//! Writing the fields of a module, except its functions, as text (section 6.6 of the WebAssembly Core
+//! Specification), to any printer.
 //!
-//! What answers `io::Result` fails with the error of the call on the printer that failed, and for no other reason.
+//! A function that returns `io::Result` fails only if a call on the printer failed, with the error of that call.
 #![tactic(auto)]
 
 mod data_segments;

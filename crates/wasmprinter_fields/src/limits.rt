@@ -9,7 +9,7 @@ use wasmprinter_wasm::Limits;
 use wasmprinter_words::limits::write_limits;
 use wasmprinter_words::words::type_word_gap;
 
-/// Writes that addresses have 64 bits, if they have.
+/// Writes the address type `i64` if addresses have 64 bits.
 pub(crate) fn write_wide<P: Print>(p: &mut P, wide: bool) -> io::Result<()>
     ensures { PrintsAlways P.meaning p.old p.new result (wide_pieces wide) }
 {
@@ -20,7 +20,7 @@ pub(crate) fn write_wide<P: Print>(p: &mut P, wide: bool) -> io::Result<()>
     }
 }
 
-/// Writes the least and, if there is one, the greatest size.
+/// Writes the minimum size and, if there is one, the maximum size.
 pub(crate) fn write_sizes<P: Print>(p: &mut P, limits: Limits) -> io::Result<()>
     ensures { PrintsAlways P.meaning p.old p.new result (limits_pieces (limits_view limits)) }
 {

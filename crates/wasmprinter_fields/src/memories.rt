@@ -19,7 +19,7 @@ use wasmprinter_wasm::{Memory, MemoryType};
 use wasmprinter_words::limits::page_size;
 use wasmprinter_words::words::{gap, gap_type_word, open_gap, shut};
 
-/// Writes that threads may share a memory, if they may.
+/// Writes that a memory is shared, if it is.
 fn write_shared<P: Print>(p: &mut P, shared: bool) -> io::Result<()>
     ensures { PrintsAlways P.meaning p.old p.new result (shared_pieces shared) }
 {
@@ -30,7 +30,7 @@ fn write_shared<P: Print>(p: &mut P, shared: bool) -> io::Result<()>
     }
 }
 
-/// Writes the size of a page as a group, by its exponent.
+/// Writes the page size with this exponent as a group.
 #[tactic(auto, using(crate::proofs::LineGroups::groups))]
 fn write_page_group<P: Print>(p: &mut P, exponent: u32) -> io::Result<()>
     requires { exponent < 64 }
@@ -42,7 +42,7 @@ fn write_page_group<P: Print>(p: &mut P, exponent: u32) -> io::Result<()>
     shut(p)
 }
 
-/// Writes a blank and the size of a page, if it is given.
+/// Writes a space and the page size, if it is given.
 fn write_page<P: Print>(p: &mut P, page: Option<u32>) -> io::Result<()>
     requires { IsPage page }
     ensures { PrintsAlways P.meaning p.old p.new result (page_pieces page) }
@@ -69,7 +69,7 @@ fn write_memory_type<P: Print>(p: &mut P, memory_type: MemoryType) -> io::Result
     write_page(p, memory_type.page)
 }
 
-/// Writes a memory where it is declared, with its type.
+/// Writes the declaration of a memory, with its type.
 pub(crate) fn write_declared_memory<P: Print>(
     p: &mut P,
     scope: &Scope<'_, '_>,

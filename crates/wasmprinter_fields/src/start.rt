@@ -45,7 +45,7 @@ impl Field for Start {
 ///
 /// # Errors
 ///
-/// Those of [`write_each`](crate::fields::write_each).
+/// The errors of [`write_each`](crate::fields::write_each).
 #[tactic(auto, unfolding(wasmprinter_spec::specs::Layout::Start::start_pieces))]
 pub fn write_start<P: Print>(
     p: &mut P,

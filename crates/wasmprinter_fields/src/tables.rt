@@ -1,4 +1,5 @@
-//! Tables (section 6.6 of the WebAssembly Core Specification, "Tables"), and their types (section 6.4, "Table Types").
+//! Tables (section 6.6 of the WebAssembly Core Specification, "Tables"), and their types (section 6.4, "Table
+//! Types").
 ghost use Rattle.std.specs.Prelude.{◌≡◌, codes};
 ghost use Rattle.wasmprinter_spec.specs.Layout.Tables.{table_type_pieces, init_pieces, declared_table, table_parts};
 ghost use Rattle.wasmprinter_print.specs.Prints.{PrintsAlways, PrintsOrStops, TellsLines};
@@ -34,7 +35,7 @@ fn write_table_type<P: Print>(
     write_ref_type_in(p, scope, table_type.element)
 }
 
-/// Writes a table where it is declared, with its type.
+/// Writes the declaration of a table, with its type.
 pub(crate) fn write_declared_table<P: Print>(
     p: &mut P,
     scope: &Scope<'_, '_>,
@@ -49,7 +50,7 @@ pub(crate) fn write_declared_table<P: Print>(
     write_table_type(p, scope, table_type)
 }
 
-/// Writes a blank and the initialiser, if there is one. Answers whether a line began.
+/// Writes a space and the initialiser, if there is one. Returns whether a line began.
 #[tactic(auto, unfolding(wasmprinter_spec::specs::Layout::Tables::init_pieces))]
 fn write_init<P: Print>(
     p: &mut P,

@@ -1,4 +1,4 @@
-//! Types (section 6.6 of the WebAssembly Core Specification, "Types"), in their groups.
+//! Types (section 6.6 of the WebAssembly Core Specification, "Types"), in their recursion groups.
 ghost use Rattle.std.specs.Prelude.{◌≡◌, ◌+◌, ◌<◌, ◌^◌, ◌==◌, ◌∷◌, ◌++◌};
 ghost use Rattle.std.specs.Prelude.{None, Some, not, true, codes, length};
 ghost use Rattle.wasmprinter_spec.specs.Types.{all_types};
@@ -19,10 +19,10 @@ use wasmprinter_types::composite::SubType;
 use wasmprinter_wasm::TypeGroup;
 use wasmprinter_words::words::{open, shut};
 
-/// How deep the types of a written group are nested.
+/// The nesting depth of the types of a `rec` group.
 const MEMBER_NESTING: u64 = 2;
 
-/// Writes a type of a written group on a line of its own.
+/// Writes a type of a `rec` group on a line of its own.
 #[tactic(auto, unfolding(wasmprinter_spec::specs::Layout::Types::member_pieces))]
 fn write_member<P: Print>(
     p: &mut P,
@@ -40,7 +40,7 @@ fn write_member<P: Print>(
     write_type_in(p, scope, number, sub_type)
 }
 
-/// Writes a type of a group.
+/// Writes a type of a group, on a line of its own if the group is a `rec` group.
 fn write_listed<P: Print>(
     p: &mut P,
     options: &PrintOptions,
@@ -59,7 +59,7 @@ fn write_listed<P: Print>(
     }
 }
 
-/// Writes the types of a group, the first of which has the number.
+/// Writes the types of a group. The first of them has the index `first`.
 fn write_types<P: Print>(
     p: &mut P,
     options: &PrintOptions,
@@ -79,7 +79,7 @@ fn write_types<P: Print>(
     Ok(())
 }
 
-/// Closes a written group on a line of its own.
+/// Closes a `rec` group on a line of its own.
 fn close_below<P: Print>(p: &mut P, options: &PrintOptions) -> io::Result<()>
     ensures { Prints P.meaning options.now p.old p.new result (close None 1 true) }
 {
@@ -87,7 +87,7 @@ fn close_below<P: Print>(p: &mut P, options: &PrintOptions) -> io::Result<()>
     shut(p)
 }
 
-/// Closes a written group: on a line of its own where the line has changed.
+/// Closes a `rec` group, on a line of its own if a line began in it.
 fn close_group<P: Print>(p: &mut P, options: &PrintOptions, changed: bool) -> io::Result<()>
     ensures { Prints P.meaning options.now p.old p.new result (close None 1 changed) }
 {
@@ -98,7 +98,7 @@ fn close_group<P: Print>(p: &mut P, options: &PrintOptions, changed: bool) -> io
     }
 }
 
-/// Writes types as a group, each on a line.
+/// Writes types as a `rec` group, each on a line of its own.
 fn write_rec<P: Print>(
     p: &mut P,
     options: &PrintOptions,
@@ -117,7 +117,7 @@ fn write_rec<P: Print>(
     close_group(p, options, group.types().len() != 0)
 }
 
-/// Writes what stands on the line of a group and those below it.
+/// Writes a group after the start of its line.
 fn write_group_behind<P: Print>(
     p: &mut P,
     options: &PrintOptions,
@@ -136,7 +136,7 @@ fn write_group_behind<P: Print>(
     }
 }
 
-/// Writes a group of types, the first of which has the number.
+/// Writes a group of types. The first of them has the index `first`.
 #[tactic(auto, unfolding(wasmprinter_spec::specs::Layout::Types::type_group_pieces))]
 fn write_group<P: Print>(
     p: &mut P,
@@ -152,7 +152,7 @@ fn write_group<P: Print>(
     write_group_behind(p, options, scope, group, first)
 }
 
-/// Writes groups of types, which are numbered over all of them.
+/// Writes groups of types. The types of all groups are indexed consecutively.
 pub fn write_type_groups<P: Print>(
     p: &mut P,
     options: &PrintOptions,

@@ -1,4 +1,4 @@
--- Whether lines change for the fields of a module: each begins a line.
+-- Each field of a module begins a line. So the pieces of a section begin a line exactly if it has fields.
 use Rattle.std.specs.Prelude.{◌≡◌, ℕ, ◌==◌, not, List, [], ◌∷◌, Bool, true, false, length, Option, Some, None, is_some, refl}
 use Rattle.std.proofs.Common.{sym, ap}
 use Rattle.std.proofs.Math.Dec.{eqb-suc-zero}
@@ -23,19 +23,19 @@ use Rattle.wasmprinter_spec.specs.Layout.Elements.{element_pieces}
 use Rattle.wasmprinter_spec.specs.Layout.DataSegments.{data_pieces}
 use Rattle.wasmprinter_text.proofs.Signatures.{mark-line}
 
--- for groups of types: each begins a line
+-- The pieces of groups of types begin a line exactly if there are groups.
 pub types-break : (names : Names) (i : ℕ) (gs : List (Placed TypeGroup)) → has_break (type_section_pieces names i gs) ≡ not (length gs == 0)
 unfolding type_section_pieces type_group_pieces
 types-break names i [] = refl
 types-break names i (g ∷ gs) = sym (ap not (eqb-suc-zero (length gs)))
 
--- for imports: each begins one
+-- The pieces of imports begin a line exactly if there are imports.
 pub imports-break : (s : Scope) (n : Numbers) (is : List (Placed Import)) → has_break (imports_pieces s n is) ≡ not (length is == 0)
 unfolding imports_pieces import_pieces
 imports-break s n [] = refl
 imports-break s n (i ∷ is) = sym (ap not (eqb-suc-zero (length is)))
 
--- for one field
+-- The pieces of one field begin a line.
 pub table-break : (s : Scope) (i : ℕ) (t : Placed (Table (Placed Operator))) → has_break (table_pieces s i t) ≡ true
 unfolding table_pieces
 table-break s i t = refl
@@ -69,7 +69,7 @@ pub data-break : (skeleton : Bool) (s : Scope) (i : ℕ) (d : Placed (Data (Plac
 unfolding data_pieces
 data-break skeleton s i d = refl
 
--- an identifier in front stands on the line
+-- A leading identifier begins no line.
 pub leading-line : (n : Option Named) → has_break (leading_mark_pieces n) ≡ false
 unfolding leading_mark_pieces
 leading-line None = refl

@@ -1,4 +1,4 @@
--- The parts of a module are those of its sections, with one list of answers.
+-- The parts of a module are those of its sections, with one function of answers for all custom sections.
 use Rattle.std.specs.Prelude.{◌≡◌, List, [], ◌∷◌, ◌++◌, flat_map, Bool, false, length, Option, Some, None, Result, if◌then◌else◌, refl}
 use Rattle.std.proofs.Common.{sym, ap, ap₂, ◌∙◌}
 use Rattle.wasmprinter_error.specs.declared.error.Error.{Error}
@@ -15,9 +15,9 @@ use Rattle.wasmprinter_annotations.proofs.Parts.{same_part_lines}
 use Rattle.wasmprinter_annotations.proofs.Places.{one_table}
 use Rattle.wasmprinter_sections.specs.Sections.{sections_parts}
 
--- ---- answers by kinds
+-- -- Answers by kinds
 
--- those behind the section of a kind
+-- The answers for the custom sections after the section of a kind.
 abbrev answers_behind : List Kind → List Answers → Kind → Answers
 answers_behind (k ∷ ks) (a ∷ bs) j = if same_kind j k then a else answers_behind ks bs j
 answers_behind _ _ j = λ n. false
@@ -27,7 +27,7 @@ table_of first answers None = first
 table_of first answers (Some k) = answers_behind section_order answers k
 
 module _ (o : Options) (s : Scope) (m : PlacedModule) where
-  -- sections, with what stands behind each
+  -- Sections, each with the custom sections after it.
   abbrev sections_by : (Option Kind → List Part) → List Kind → List Part
   sections_by customs ks = flat_map (λ k. Shown (section_pieces o s m k) ∷ customs (Some k)) ks
 
@@ -40,9 +40,10 @@ module _ (o : Options) (s : Scope) (m : PlacedModule) where
   sections-table first (a ∷ b ∷ c ∷ d ∷ e ∷ f ∷ g ∷ h ∷ i ∷ j ∷ k ∷ l ∷ []) many = refl
   sections-table first _ many = absurd cc
 
--- ---- the whole
+-- -- The whole module
 
--- sections that were written one behind the other, each by its own answers; their lines are printed by options that may differ
+-- If sections were written one after the other, each with its own answers, the parts of the module were written
+-- with one function of answers. Their lines may be printed with other options.
 pub module_walk : {P : Type 0} (n : Meaning P) (p o : Options) (names : Names) (m : PlacedModule) {keeps : Bool} {a t : P} (r : Result Bool Error) →
     (first : Answers) (several : List Answers) → length several ≡ length section_order →
     PrintsPartLines n p a t keeps r (parts_at o.skeleton first None 0 m.customs ++ sections_parts o (early_scope o names m) m several section_order) →

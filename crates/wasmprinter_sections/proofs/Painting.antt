@@ -1,4 +1,4 @@
--- The parts of a module don't depend on the option of colours but by the scope.
+-- The parts of a module depend on the option of colors only through the scope.
 use Rattle.std.specs.Prelude.{◌≡◌, ℕ, ◌+◌, List, [], ◌∷◌, ◌++◌, Bool, Option, Some, None, option_map, is_some, refl}
 use Rattle.std.proofs.Common.{sym, ap₂}
 use Rattle.wasmprinter_spec.specs.Kinds.{Kind, TypeSection, ImportSection, FunctionSection, TableSection, MemorySection, TagSection, GlobalSection, ExportSection, StartSection, ElementSection, CodeSection, DataSection, CustomSection, DataCountSection}
@@ -48,19 +48,19 @@ module _ (o : Options) (b : Bool) (s : Scope) where
   sections-paint m (a ∷ answers) (k ∷ ks) =
       ap₂ (λ (ps : List Piece) (rest : List Part). (Shown ps ∷ parts_at o.skeleton a (Some k) 0 m.customs) ++ rest) (fields-paint m k) (sections-paint m answers ks)
 
--- what folds is what the layout folds by
+-- The folder of the program represents the one by which the layout folds.
 pub folding-of : (o : Options) (paints : Bool) (folder : Option FolderView) (m : PlacedModule) → Folds o paints folder m →
     option_map folding_view folder ≡ folding_of (in_colours o paints) m
 folding-of o paints None m e = rw e refl
 folding-of o paints (Some f) m e = rw (e.0, e.1, e.2) refl
 
--- fields that are the same one by one
+-- If two layouts of fields agree on each field, they agree on lists of fields.
 pub numbered_pieces-agree : {A : Type 0} (f g : ℕ → A → List Piece) → ((i : ℕ) (x : A) → f i x ≡ g i x) → (i : ℕ) (xs : List A) → numbered_pieces f i xs ≡ numbered_pieces g i xs
 unfolding numbered_pieces
 numbered_pieces-agree f g e i [] = refl
 numbered_pieces-agree f g e i (x ∷ xs) = ap₂ (λ (ps qs : List Piece). ps ++ qs) (e i x) (numbered_pieces-agree f g e (i + 1) xs)
 
--- something is kept in memory exactly where operators are folded
+-- Something is kept in memory exactly if operators are folded.
 pub keeps-folding : (folder : Option FolderView) → is_some (option_map folding_view folder) ≡ is_some folder
 keeps-folding None = refl
 keeps-folding (Some f) = refl

@@ -1,4 +1,4 @@
--- What was made of the section of a kind: its fields, and the custom sections behind it.
+-- The section of a kind: its fields, and the custom sections after it.
 use Rattle.std.specs.Prelude.{◌≡◌, List, ◌∷◌, Bool, true, false, ◌||◌, Result, Ok, Err, IsErrAnd, refl}
 use Rattle.std.proofs.Common.{sym, ap, ◌∙◌, subst}
 use Rattle.std.specs.declared.io.Error.{Error as IoError}
@@ -24,7 +24,7 @@ either-way false true = refl
 either-way false false = refl
 
 module _ {P : Type 0} (m : Meaning P) {keeps : Bool} (o : Options) where
-  -- both went through
+  -- If the fields and the custom sections were written, the section was written.
   pub section_written : {a s t : P} {b f : Bool} {ps : List Piece} (parts : List Part) → Written m o a s Through ps → f ≡ has_break ps →
       PrintsPartLines m o s t keeps (Ok b) parts → PrintsPartLines m o a t keeps (Ok (b || f)) (Shown ps ∷ parts)
   section_written {b = b} {f} {ps} parts v breaks w = record {
@@ -33,14 +33,14 @@ module _ {P : Type 0} (m : Meaning P) {keeps : Bool} (o : Options) where
         either-way b f ∙ ap (λ (x : Bool). x || b) breaks ∙ ap (λ (x : Bool). has_break ps || x) w.lines ∙ sym (has_break-append ps (laid_parts parts).pieces);
   }
 
-  -- the custom sections ended
+  -- If the fields were written and the custom sections ended with an error, the section ended with that error.
   pub section_ended : {a s t : P} (r : Result Bool Error) {e : Error} {ps : List Piece} (parts : List Part) → IsErrAnd r (λ y. y ≡ e) →
       Written m o a s Through ps → PrintsPartLines m o s t keeps (Err e) parts → PrintsPartLines m o a t keeps r (Shown ps ∷ parts)
   section_ended (Ok x) parts f v w = absurd f
   section_ended {a} {s} {t} (Err y) {ps = ps} parts f v w =
       subst (λ (z : Error). PrintsPartLines m o a t keeps (Err z) (Shown ps ∷ parts)) (sym f) (record { prints = shown_then m parts v w.prints; lines = tt })
 
-  -- it ended amid the fields
+  -- If the fields ended with an error, the section ended with that error.
   pub section_halts : {a t : P} (r : Result Bool Error) (e : Error) {ps : List Piece} (parts : List Part) → IsErrAnd r (λ y. y ≡ e) →
       Written m o a t (halt_of keeps e) ps → PrintsPartLines m o a t keeps r (Shown ps ∷ parts)
   section_halts (Ok x) e parts f v = absurd f
@@ -60,20 +60,20 @@ module _ {P : Type 0} (m : Meaning P) {keeps : Bool} (o : Options) where
       halted (Printer x) ps l v = let r : Result Bool Error = Err (Printer x) in record { written = pieces_halt m keeps r (Printer x) l.pieces refl v; refused = tt }
       halted Memory ps l v = let r : Result Bool Error = Err Memory in record { written = pieces_halt m keeps r Memory l.pieces refl v; refused = tt }
 
-  -- a call failed amid the fields
+  -- If a call failed in the fields, it failed in the section.
   pub section_failed : {a t : P} (r : Result Bool Error) {e : IoError} {ps : List Piece} (parts : List Part) → IsErrAnd r (λ y. y ≡ Printer e) →
       Written m o a t (AtCall e) ps → PrintsPartLines m o a t keeps r (Shown ps ∷ parts)
   section_failed (Ok x) parts f v = absurd f
   section_failed (Err y) parts f v = record { prints = shown_fails m (Err y) parts f v; lines = tt }
 
-  -- a growth was refused before the first call
+  -- If an allocation failed before the first call, no call was made, which is a prefix of the layout.
   pub stops_first : {T : Type 0} {a : P} (r : Result T Error) {e : Error} (l : Laid) → keeps ≡ true → e ≡ Memory → IsErrAnd r (λ y. y ≡ e) → PrintsLaid m o a a keeps r l
   stops_first (Ok x) l k s f = absurd f
   stops_first {T} {a} (Err y) l k s f =
       subst (λ (b : Bool). PrintsLaid {T = T} m o a a b (Err y) l) (sym k)
       (subst (λ (z : Error). PrintsLaid {T = T} m o a a true (Err z) l) (sym (f ∙ s)) (record { written = stops_before m o a l.pieces; refused = tt }))
 
--- what one step may keep, all may
+-- The flag that says whether an allocation may fail can be replaced by an equal one.
 pub lines_kept : {P : Type 0} (m : Meaning P) {o : Options} {a t : P} (r : Result Bool Error) {parts : List Part} (k l : Bool) → k ≡ l →
     PrintsPartLines m o a t k r parts → PrintsPartLines m o a t l r parts
 lines_kept m {o} {a} {t} r {parts} k l e v = subst (λ (b : Bool). PrintsPartLines m o a t b r parts) e v

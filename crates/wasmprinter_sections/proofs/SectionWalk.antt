@@ -19,7 +19,7 @@ use Rattle.wasmprinter_spec.specs.Layout.{section_parts, section_order}
 use Rattle.wasmprinter_sections.specs.Sections.{sections_parts}
 
 module _ (o : Options) (s : Scope) (m : PlacedModule) where
-  -- some sections, one more, and others behind it
+  -- A list of sections consists of the sections before one, that section, and the sections after it.
   pub sections-split : (xs : List Answers) (a : Answers) (bs : List Answers) (ks : List Kind) (k : Kind) → slice_get ks (length xs) ≡ Some k →
       sections_parts o s m (xs ++ (a ∷ bs)) ks
       ≡ sections_parts o s m xs (take (length xs) ks) ++ (section_parts o s m a k ++ sections_parts o s m bs (drop (suc (length xs)) ks))
@@ -41,27 +41,27 @@ module _ (o : Options) (s : Scope) (m : PlacedModule) where
       ap (λ (ps : List Part). section_parts o s m x y ++ ps) (take-some ks i k e xs a cc)
       ∙ sym (append_assoc (section_parts o s m x y) (sections_parts o s m xs (take i ks)) (section_parts o s m a k))
 
--- the program's kinds are those of the definitions
+-- The kinds of the program, which are those of the definitions.
 abbrev pub program_kinds : List SectionKind
 program_kinds = k.Type ∷ k.Import ∷ k.Function ∷ k.Table ∷ k.Memory ∷ k.Tag ∷ k.Global ∷ k.Export ∷ k.Start ∷ k.Element ∷ k.Code ∷ k.Data ∷ []
 
 pub kind_at : (i : ℕ) → i < length section_order → slice_get section_order i ≡ Some (section_kind_view (get_or program_kinds i k.Type))
 kind_at i h = slice_get-map section_kind_view program_kinds i ∙ ap (option_map section_kind_view) (slice_get-get_or program_kinds i k.Type h)
 
--- i sections have been written, with the custom sections in front of them and behind them
+-- The first i sections have been written, with the custom sections before and after each.
 pub record Walked {P : Type 0} (n : Meaning P) (o : Options) (s : Scope) (m : PlacedModule) (keeps : Bool) (old new : P) (i : ℕ) (lines : Bool) : Type 0 where
   pub first : Answers
   pub answers : List Answers
   pub many : length answers ≡ i
   pub written : PrintsPartLines n o old new keeps (Ok lines) (parts_at o.skeleton first None 0 m.customs ++ sections_parts o s m answers (take i section_order))
 
--- all of them have, up to the end that is answered
+-- All sections have been written, or a prefix of them up to the error that is returned.
 abbrev pub WalkEnds : {P : Type 0} → Meaning P → Options → Scope → PlacedModule → Bool → P → P → Result Bool Error → Type 0
 WalkEnds n o s m keeps old new r = (first : Answers) × (answers : List Answers) × (length answers ≡ length section_order)
     × PrintsPartLines n o old new keeps r (parts_at o.skeleton first None 0 m.customs ++ sections_parts o s m answers section_order)
 
 module _ {P : Type 0} (n : Meaning P) {keeps : Bool} (o : Options) (s : Scope) (m : PlacedModule) where
-  -- before the first
+  -- After the custom sections before the first section, no section has been written.
   pub walk_starts : {a t : P} {lines : Bool} (first : Answers) → PrintsPartLines n o a t keeps (Ok lines) (parts_at o.skeleton first None 0 m.customs) → Walked n o s m keeps a t 0 lines
   walk_starts {a} {t} {lines} first w = record {
     first = first;
@@ -70,7 +70,7 @@ module _ {P : Type 0} (n : Meaning P) {keeps : Bool} (o : Options) (s : Scope) (
     written = subst (λ (ps : List Part). PrintsPartLines n o a t keeps (Ok lines) ps) (sym (append-nil (parts_at o.skeleton first None 0 m.customs))) w;
   }
 
-  -- one more, and the custom sections behind it
+  -- If i sections and then one more were written, with the custom sections after it, i + 1 sections were written.
   pub walk_writes : {a b t : P} {i : ℕ} {lines more : Bool} (k : Kind) → slice_get section_order i ≡ Some k → Walked n o s m keeps a b i lines →
       (answers : Answers) → PrintsPartLines n o b t keeps (Ok more) (section_parts o s m answers k) → Walked n o s m keeps a t (i + 1) (lines || more)
   walk_writes {a} {t = t} {i} {lines} {more} k e w answers v =
@@ -85,7 +85,7 @@ module _ {P : Type 0} (n : Meaning P) {keeps : Bool} (o : Options) (s : Scope) (
         written = rw (add-one) (subst (λ (ps : List Part). PrintsPartLines n o a t keeps (Ok (lines || more)) ps) joined (part_lines_then n w.written v));
       }
 
-  -- it ended amid one
+  -- If writing one of the sections ended with an error, writing all of them ended with that error.
   pub walk_fails : {a b t : P} {i : ℕ} {lines : Bool} (r : Result Bool Error) {e : Error} (k : Kind) → i < length section_order → slice_get section_order i ≡ Some k → Walked n o s m keeps a b i lines →
       (answers : Answers) → PrintsPartLines n o b t keeps (Err e) (section_parts o s m answers k) → IsErrAnd r (λ y. y ≡ e) → WalkEnds n o s m keeps a t r
   walk_fails {a} {t = t} {i} r k h e w answers v f =
@@ -105,7 +105,7 @@ module _ {P : Type 0} (n : Meaning P) {keeps : Bool} (o : Options) (s : Scope) (
         subst (λ (ps : List Part). PrintsPartLines n o a t keeps r ps) all (part_lines_end n r behind f w.written v),
       )
 
-  -- all are written
+  -- If as many sections were written as there are kinds, all were written.
   pub walk_ends : {a t : P} {i : ℕ} {lines : Bool} → i ≡ length section_order → Walked n o s m keeps a t i lines → WalkEnds n o s m keeps a t (Ok lines)
   walk_ends {a} {t} {i} {lines} e w =
       let front : List Part = parts_at o.skeleton w.first None 0 m.customs in (

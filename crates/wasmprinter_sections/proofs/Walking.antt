@@ -22,7 +22,8 @@ module _ (o : Options) (s : Scope) where
   unfolding functions_pieces
   none_of es n fs e = ap (functions_pieces o s es n) e
 
-  -- what is left behind i functions: the next, and the others
+  -- The pieces of the functions from i on are those of function i with its hints, and those of the functions after
+  -- it.
   pub functions-found : (es : List FunctionHints) (n i : ℕ) (fs : List PlacedFunction) (f : PlacedFunction) → slice_get fs i ≡ Some f →
       functions_pieces o s es n (drop i fs) ≡ function_pieces o s n (next_hints n es) f ++ functions_pieces o s (hints_behind n es) (n + 1) (drop (i + 1) fs)
   functions-found es n i fs f e =
@@ -30,7 +31,7 @@ module _ (o : Options) (s : Scope) where
       rw (add-one, drop-cons fs i f (slice_get_within fs i f e)) (ap (λ y. y ∷ drop (suc i) fs) (get_or_from_slice_get fs i f f e)) in
       first_of es n (drop i fs) (drop (i + 1) fs) f step
 
-  -- nothing is left
+  -- If no function is left, no piece is left.
   pub functions-none : (es : List FunctionHints) (n i : ℕ) (fs : List PlacedFunction) → length fs ≤ i → functions_pieces o s es n (drop i fs) ≡ []
   functions-none es n i fs h = none_of es n (drop i fs) (drop_all i fs h)
 
@@ -38,7 +39,7 @@ module _ (o : Options) (s : Scope) where
   unfolding function_pieces
   function-break n es f = refl
 
-  -- whether lines change for functions: each begins one
+  -- The pieces of functions begin a line exactly if there are functions.
   pub functions-break : (es : List FunctionHints) (n : ℕ) (fs : List PlacedFunction) → has_break (functions_pieces o s es n fs) ≡ not (length fs == 0)
   unfolding functions_pieces
   functions-break es n [] = refl

@@ -1,4 +1,4 @@
--- A module is its parts, in a group that ends the text unless a part ends it.
+-- A module consists of its parts in a group. The group ends the text unless a part ends it.
 use Rattle.std.specs.Prelude.{◌≡◌, ℕ, List, [], ◌∷◌, ◌++◌, ◌||◌, Bool, is_some, codes, Option, Some, None, Result, Ok, Err, IsErrAnd, refl}
 use Rattle.std.proofs.Common.{sym, ap, ◌∙◌, subst, append_assoc, append-nil}
 use Rattle.std.specs.declared.io.Error.{Error as IoError}
@@ -22,30 +22,30 @@ use Rattle.wasmprinter_fold.specs.Views.{FolderView}
 use Rattle.wasmprinter_sections.specs.Sections.{module_laid, Folds}
 use Rattle.wasmprinter_sections.proofs.Painting.{keeps-folds}
 
--- in front of the parts
+-- The pieces before the parts.
 abbrev pub opening : List Piece
 opening = Begin 0 ∷ (Open (codes "module") ∷ [])
 
--- behind them, where they have this layout
+-- The pieces after the parts, for parts with this layout.
 abbrev pub closing : Options → ℕ → Bool → List Piece
 closing o size lines = close (Some size) 0 (o.offsets || lines) ++ (Feed ∷ [])
 
--- what stands in the group
+-- The parts inside the group.
 abbrev pub inner_parts : Options → Answers → Names → PlacedModule → List Part
 inner_parts o answers names m = Shown (leading_mark_pieces names.module_name) ∷ module_parts o answers names m
 
--- the part behind them
+-- The part after them.
 abbrev pub last_parts : Options → ℕ → Bool → List Part
 last_parts o size lines = Shown (closing o size lines) ∷ []
 
--- all of it
+-- All parts of the module, with those before and after the group's contents.
 abbrev pub whole_parts : Options → Answers → Names → PlacedModule → List Part
 whole_parts o answers names m =
     let inner : List Part = inner_parts o answers names m in
     Shown opening ∷ (inner ++ (Shown (closing o m.size (has_break (laid_parts inner).pieces)) ∷ []))
 
 module _ (o : Options) (names : Names) (size : ℕ) where
-  -- where no part ends it, and where one does
+  -- The layout of a module equals that of all its parts, whether a part ends it or not.
   either_laid : (ps : List Piece) (refused : Option ℕ) →
       let inner : List Piece = leading_mark_pieces names.module_name ++ ps in
       record { pieces = module_pieces_of o names size ps refused; refused = refused }
@@ -66,9 +66,9 @@ module-whole o answers names m =
     let last : List Part = Shown (closing o m.size (has_break (laid_parts inner).pieces)) ∷ [] in
     ap (before_laid opening) (joined-append inner last) ∙ sym (either_laid o names m.size laid.pieces laid.refused)
 
--- ---- what was made of it
+-- -- The result of writing a module
 
--- a call that failed
+-- The result of a call that failed.
 abbrev pub failed : IoError → Result (Unit {0}) IoError
 failed e = Err e
 
@@ -76,14 +76,14 @@ module _ {P : Type 0} (n : Meaning P) {keeps : Bool} (p o : Options) (answers : 
   as_module : {a t : P} {r : Result (Unit {0}) Error} → PrintsParts n p a t keeps r (whole_parts o answers names m) → PrintsLaid n p a t keeps r (module_laid o answers names m)
   as_module {a} {t} {r} v = subst (λ (l : Laid). PrintsLaid n p a t keeps r l) (module-whole o answers names m) v
 
-  -- a call failed amid the opening
+  -- If a call failed in the pieces before the parts, it failed in the module.
   pub opening_fails : {a t : P} (r : Result (Unit {0}) Error) {e : IoError} → IsErrAnd r (λ y. y ≡ Printer e) → Written n p a t (AtCall e) opening →
       PrintsLaid n p a t keeps r (module_laid o answers names m)
   opening_fails r f v =
       let inner : List Part = inner_parts o answers names m in
       as_module (shown_fails n r (inner ++ last_parts o m.size (has_break (laid_parts inner).pieces)) f v)
 
-  -- the parts ended
+  -- If the parts ended with an error, the module ended with that error.
   pub inner_ends : {a s t : P} (r : Result (Unit {0}) Error) {e : Error} → IsErrAnd r (λ y. y ≡ e) → Written n p a s Through opening →
       PrintsPartLines n p s t keeps (Err e) (inner_parts o answers names m) → PrintsLaid n p a t keeps r (module_laid o answers names m)
   inner_ends r f v w =
@@ -91,7 +91,7 @@ module _ {P : Type 0} (n : Meaning P) {keeps : Bool} (p o : Options) (answers : 
       let last : List Part = last_parts o m.size (has_break (laid_parts inner).pieces) in
       as_module (shown_then n (inner ++ last) v (parts_end n r inner last f w.prints))
 
-  -- a call failed amid the closing
+  -- If a call failed in the pieces after the parts, it failed in the module.
   pub closing_fails : {a s u t : P} {lines : Bool} (r : Result (Unit {0}) Error) {e : IoError} → IsErrAnd r (λ y. y ≡ Printer e) →
       Written n p a s Through opening → PrintsPartLines n p s u keeps (Ok lines) (inner_parts o answers names m) → Written n p u t (AtCall e) (closing o m.size lines) →
       PrintsLaid n p a t keeps r (module_laid o answers names m)
@@ -100,7 +100,7 @@ module _ {P : Type 0} (n : Meaning P) {keeps : Bool} (p o : Options) (answers : 
       let last : List Part = last_parts o m.size (has_break (laid_parts inner).pieces) in
       as_module (shown_then n (inner ++ last) v (parts_then n inner last w.prints (shown_fails n r [] f (rw w.lines at x))))
 
-  -- all was written
+  -- If all pieces were written, the module was written.
   pub module_written : {a s u t : P} {lines : Bool} {x : Unit {0}} → Written n p a s Through opening → PrintsPartLines n p s u keeps (Ok lines) (inner_parts o answers names m) →
       Written n p u t Through (closing o m.size lines) → PrintsLaid n p a t keeps (Ok x) (module_laid o answers names m)
   module_written v w y =
@@ -108,7 +108,7 @@ module _ {P : Type 0} (n : Meaning P) {keeps : Bool} (p o : Options) (answers : 
       let last : List Part = last_parts o m.size (has_break (laid_parts inner).pieces) in
       as_module (shown_then n (inner ++ last) v (parts_then n inner last w.prints (shown_then n [] (rw w.lines at y) (no_parts n))))
 
--- printed by what folds, if something does
+-- If the module was printed with its folder, if there is one, it was printed as the options say.
 pub by_folder : {P : Type 0} (n : Meaning P) (o : Options) (paints : Bool) (names : Names) (m : PlacedModule) (folder : Option FolderView) {a t : P} (r : Result (Unit {0}) Error) →
     Folds o paints folder m → (answers : Answers) × PrintsLaid n o a t (is_some folder) r (module_laid (in_colours o paints) answers names m) →
     (answers : Answers) × PrintsLaid n o a t o.folds r (module_laid (in_colours o paints) answers names m)

@@ -1,2 +1,2 @@
--- What the contracts of the sections of a module cite.
+-- Definitions that the contracts of this crate cite.
 pub mod Sections

@@ -1,5 +1,5 @@
-//! The sections of a module as text (section 6.6 of the WebAssembly Core Specification, "Modules"), the custom sections among them, and the
-//! module, over any printer.
+//! Writing the sections of a module as text (section 6.6 of the WebAssembly Core Specification, "Modules"), with
+//! the custom sections among them, and the whole module, to any printer.
 #![tactic(auto)]
 
 pub mod modules;

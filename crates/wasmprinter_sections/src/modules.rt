@@ -1,5 +1,5 @@
-//! Modules (section 6.6 of the WebAssembly Core Specification, "Modules"): the fields of each section, and behind them the custom sections
-//! that stand there.
+//! Modules (section 6.6 of the WebAssembly Core Specification, "Modules"): the fields of each section, followed by
+//! the custom sections at that place.
 ghost use Rattle.std.specs.Prelude.{◌≡◌, ◌∷◌, ◌++◌, List, Bool, true, None, length, IfOk, IfErr, is_some};
 ghost use Rattle.wasmprinter_error.specs.declared.error.Error.TheVariants.{Memory};
 ghost use Rattle.wasmprinter_spec.specs.Options.{Answers, in_colours};
@@ -27,7 +27,7 @@ use wasmprinter_text::indices::write_leading_mark;
 use wasmprinter_wasm::{ExternKind, Fields, Module, SectionKind};
 use wasmprinter_words::words::open;
 
-/// The kinds of sections, in the order of the sections.
+/// The kinds of sections, in the order in which they are printed.
 const KINDS: [SectionKind; 12] = [
     SectionKind::Type,
     SectionKind::Import,
@@ -43,7 +43,8 @@ const KINDS: [SectionKind; 12] = [
     SectionKind::Data,
 ];
 
-/// Writes the fields of the section of a kind, and the custom sections behind it. Answers whether lines were written.
+/// Writes the fields of the section of a kind, and the custom sections after it. Returns whether lines were
+/// written.
 fn write_section<P: Print>(
     p: &mut P,
     options: &PrintOptions,
@@ -60,7 +61,8 @@ fn write_section<P: Print>(
     Ok(lines | has_fields(module, kind))
 }
 
-/// Writes the fields of all sections, and the custom sections at their places among them. Answers whether lines were written.
+/// Writes the fields of all sections, with the custom sections at their places among them. Returns whether lines
+/// were written.
 fn write_sections<P: Print>(
     p: &mut P,
     options: &PrintOptions,
@@ -79,8 +81,8 @@ fn write_sections<P: Print>(
     Ok(lines)
 }
 
-/// Writes what stands in the module's group: its identifier, if it has one, its fields and its custom sections. Answers whether lines were
-/// written.
+/// Writes the contents of the module's group: its identifier, if it has one, its fields and its custom sections.
+/// Returns whether lines were written.
 fn write_parts<'s, 'a, P: Print>(
     p: &mut P,
     options: &PrintOptions,
@@ -103,7 +105,8 @@ fn write_parts<'s, 'a, P: Print>(
     write_sections(p, options, module, &mut scope)
 }
 
-/// What folds the operators of a module, if they are to be folded; where the printer can write colours as text, in colours.
+/// Returns the folder of a module's operators, or `None` if operators are not folded. It writes ANSI escape
+/// sequences if the printer can write colors as text.
 fn folder_of<'s, 'a, P: Print>(
     alloc: Global,
     p: &P,
@@ -120,7 +123,7 @@ fn folder_of<'s, 'a, P: Print>(
     Ok(Some(Folder::new(alloc, module, paints)?))
 }
 
-/// Writes the whole of a module, whose operators this folds.
+/// Writes a whole module, whose operators `folder` folds, if there is one.
 fn write_whole<'s, 'a, P: Print>(
     p: &mut P,
     options: &PrintOptions,
@@ -140,13 +143,15 @@ fn write_whole<'s, 'a, P: Print>(
     Ok(())
 }
 
-/// Writes a module, with the identifiers that the labels have. Where operators are folded, all in what is printed can be.
+/// Writes a module, with the identifiers of the labels. If operators are folded, everything that is printed must
+/// be foldable.
 ///
 /// # Errors
 ///
-/// `DylinkSubsection` for a custom section `dylink.0` with a subsection that isn't known, which the printer doesn't take: what stands in
-/// front of it was written. `Printer` where a call on the printer failed, with that call's error. `Memory` where operators are folded and a
-/// growth was refused. No other.
+/// - `DylinkSubsection`: a custom section `dylink.0` that the printer does not claim has an unknown subsection.
+///   All text before that section was written.
+/// - `Printer`: a call on the printer failed. It holds the error of that call.
+/// - `Memory`, only if operators are folded: an allocation failed.
 pub fn write_module<'s, 'a, P: Print>(
     alloc: Global,
     p: &mut P,

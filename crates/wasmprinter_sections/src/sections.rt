@@ -1,4 +1,4 @@
-//! The fields of sections by their kinds (section 6.6 of the WebAssembly Core Specification, "Modules").
+//! The fields of the sections of each kind (section 6.6 of the WebAssembly Core Specification, "Modules").
 ghost use Rattle.std.specs.Prelude.{◌≡◌, ◌+◌, ◌<◌, ◌^◌, length};
 ghost use Rattle.wasmprinter_spec.specs.Types.{FuncKind};
 ghost use Rattle.wasmprinter_spec.specs.Customs.Hints.{hints_of};
@@ -26,7 +26,8 @@ use wasmprinter_print::Print;
 use wasmprinter_scope::scope::Scope;
 use wasmprinter_wasm::{ExternKind, Fields, Module, SectionKind};
 
-/// Writes the functions that the module defines, with their branch hints; their numbers begin behind the imported ones.
+/// Writes the functions that the module defines, with their branch hints. Their indices follow those of the
+/// imported functions.
 fn write_functions<P: Print>(
     p: &mut P,
     options: &PrintOptions,
@@ -55,7 +56,8 @@ fn write_functions<P: Print>(
     Ok(())
 }
 
-/// Writes the data segments. Their expressions stand for the function that would be next.
+/// Writes the data segments. Labels and locals in their expressions are those of the function with the next free
+/// index.
 fn write_datas<P: Print>(
     p: &mut P,
     options: &PrintOptions,
@@ -74,7 +76,7 @@ fn write_datas<P: Print>(
     written
 }
 
-/// Writes what the module defines of a kind; the numbers begin behind what is imported.
+/// Writes the items of a kind that the module defines. Their indices follow those of the imported items.
 fn write_defined<P: Print, F: Field>(
     p: &mut P,
     options: &PrintOptions,
@@ -126,7 +128,7 @@ pub(crate) fn write_fields_of<P: Print>(
     }
 }
 
-/// Whether the section of a kind has fields, each of which begins a line.
+/// Reports whether the section of a kind has fields, each of which begins a line.
 pub(crate) fn has_fields(module: &Module<'_>, kind: SectionKind) -> bool
     ensures { (o : Options) (s : FieldScope) → result ≡ has_break (section_pieces o s module.now (section_kind_view kind)) }
 {

@@ -1,34 +1,35 @@
-//! Bodies of functions as a compiler might make them: they are valid, and what stands on the stack is of type i32 between two steps.
+//! Function bodies like those of a compiler. They are valid, and between two steps all values on the stack have
+//! type i32.
 
 use crate::draws::Draws;
 use crate::encoder::Encoder;
 use std::alloc::{AllocError, Global};
 
-/// The type of whole numbers of 32 bits.
+/// The encoding of the type i32.
 const I32: u8 = 0x7f;
 
-/// The type of whole numbers of 64 bits.
+/// The encoding of the type i64.
 const I64: u8 = 0x7e;
 
-/// The type of floating-point numbers of 32 bits.
+/// The encoding of the type f32.
 const F32: u8 = 0x7d;
 
-/// The type of floating-point numbers of 64 bits.
+/// The encoding of the type f64.
 const F64: u8 = 0x7c;
 
-/// How many functions are imported.
+/// The number of imported functions.
 pub const IMPORTED: u32 = 12;
 
-/// How many globals there are, all of type i32.
+/// The number of globals, which all have type i32.
 pub const GLOBALS: u32 = 6;
 
-/// The locals that each function declares of type i32.
+/// The number of locals of type i32 that each function declares.
 const I32_LOCALS: u32 = 9;
 
 /// The parameters and results of a function type.
 pub type Signature = (&'static [u8], &'static [u8]);
 
-/// The function types. A function has one by its index.
+/// The function types. `type_of` selects one for each function.
 pub static SIGNATURES: [Signature; 24] = [
     (&[], &[]),
     (&[I32], &[]),
@@ -56,7 +57,7 @@ pub static SIGNATURES: [Signature; 24] = [
     (&[I32, F32, F32, F64, I64], &[I32]),
 ];
 
-/// The number of a function's type.
+/// Returns the index of a function's type.
 pub fn type_of(function: u32) -> u32 {
     let mixed = function.wrapping_mul(0x9e37_79b1) >> 16;
     let small = mixed % 24;
@@ -67,7 +68,7 @@ pub fn type_of(function: u32) -> u32 {
     }
 }
 
-/// The type of a function.
+/// Returns the type of a function.
 pub fn signature_of(function: u32) -> Signature {
     SIGNATURES
         .get(type_of(function) as usize)
@@ -75,10 +76,10 @@ pub fn signature_of(function: u32) -> Signature {
         .unwrap_or((&[], &[]))
 }
 
-/// Opcodes that take one i32 and give one.
+/// Opcodes with one i32 operand and one i32 result.
 const UNARY: [u8; 6] = [0x45, 0x45, 0x67, 0x69, 0xc0, 0xc1];
 
-/// Opcodes that take two i32 and give one.
+/// Opcodes with two i32 operands and one i32 result.
 const BINARY: [u8; 22] = [
     0x6a, 0x6a, 0x6a, 0x6a, 0x6b, 0x6b, 0x6c, 0x71, 0x71, 0x72, 0x73, 0x74, 0x74, 0x75, 0x76, 0x46,
     0x47, 0x48, 0x49, 0x4d, 0x4f, 0x70,
@@ -97,42 +98,42 @@ const LOADS: [(u8, u32); 6] = [
 /// Opcodes that store an i32, each with the exponent of its natural alignment.
 const STORES: [(u8, u32); 5] = [(0x36, 2), (0x36, 2), (0x36, 2), (0x3a, 0), (0x3b, 1)];
 
-/// More blocks than are ever open.
+/// A bound that the number of open blocks never reaches.
 const MOST_DEPTH: usize = 1000;
 
-/// More parameters than a function has.
+/// A bound that the number of parameters never reaches.
 const MOST_PARAMS: usize = 100;
 
-/// How bodies nest.
+/// The nesting of bodies.
 #[derive(Clone, Copy)]
 pub struct Nesting {
-    /// The most blocks that are open at once.
+    /// The maximum number of open blocks.
     pub depth: u32,
-    /// The most labels of a table.
+    /// The maximum number of labels of a branch table.
     pub labels: u32,
-    /// How many of a hundred steps open a block.
+    /// The percentage of steps that open a block.
     pub share: u32,
 }
 
-/// A body that is being made.
+/// A body under construction.
 #[derive(Drop)]
 pub struct Body {
     /// Its operators.
     code: Encoder,
-    /// How many functions there are.
+    /// The number of functions of the module.
     functions: u32,
-    /// How bodies nest.
+    /// The nesting of bodies.
     nesting: Nesting,
     /// The types of the parameters.
     params: &'static [u8],
-    /// How many values stand on the stack above those of the blocks around.
+    /// The number of values on the stack in the innermost block.
     height: u32,
-    /// The heights outside of the blocks that are open.
+    /// The heights at which the open blocks began.
     outer: Vec<u32>,
 }
 
 impl Body {
-    /// Bodies of a module of so many functions.
+    /// Returns a generator of bodies for a module with this many functions.
     pub fn new(alloc: Global, functions: u32, nesting: Nesting) -> Body {
         Body {
             code: Encoder::new(alloc),
@@ -144,12 +145,12 @@ impl Body {
         }
     }
 
-    /// How many blocks are open.
+    /// Returns the number of open blocks.
     fn depth(&self) -> u32 {
         self.outer.len().min(MOST_DEPTH) as u32
     }
 
-    /// The index of a parameter or local of type i32.
+    /// Returns the index of a parameter or local of type i32.
     fn drawn_local(&self, draws: &mut Draws) -> u32 {
         let params = self.params.len().min(MOST_PARAMS) as u32;
         let drawn = draws.below(params.saturating_add(I32_LOCALS));
@@ -159,7 +160,7 @@ impl Body {
         }
     }
 
-    /// A number of 32 bits, as programs have them.
+    /// Returns a 32-bit number, distributed as in programs.
     fn drawn_number(draws: &mut Draws) -> i64 {
         match draws.below(8) {
             0 | 1 | 2 => i64::from(draws.below(10)),
@@ -171,13 +172,13 @@ impl Body {
         }
     }
 
-    /// A constant of type i32.
+    /// Writes a constant of type i32.
     fn constant(&mut self, draws: &mut Draws) -> Result<(), AllocError> {
         self.code.byte(0x41)?;
         self.code.signed(Body::drawn_number(draws))
     }
 
-    /// The bits of a floating-point number of 64 bits: a short one, or any but an infinite one.
+    /// Returns the bits of a finite f64, some of them with few significant bits.
     fn drawn_double(draws: &mut Draws) -> u64 {
         let exponent = u64::from(draws.within(1003, 1043)) << 52;
         let mantissa = draws.number() >> 12;
@@ -189,7 +190,7 @@ impl Body {
         }
     }
 
-    /// A value of the type.
+    /// Writes a value of this type.
     fn value_of(&mut self, draws: &mut Draws, kind: u8) -> Result<(), AllocError> {
         match kind {
             I64 => {
@@ -210,7 +211,7 @@ impl Body {
         }
     }
 
-    /// Turns a value of the type into one of type i32.
+    /// Converts a value of this type to i32.
     fn as_i32(&mut self, kind: u8) -> Result<(), AllocError> {
         match kind {
             I64 => self.code.byte(0xa7),
@@ -220,7 +221,7 @@ impl Body {
         }
     }
 
-    /// A local, a global or a constant of type i32.
+    /// Writes a local, a global or a constant of type i32.
     fn plain_value(&mut self, draws: &mut Draws) -> Result<(), AllocError> {
         match draws.below(16) {
             0 | 1 | 2 | 3 => self.constant(draws),
@@ -236,7 +237,7 @@ impl Body {
         }
     }
 
-    /// Puts a value on the stack.
+    /// Pushes a value of type i32 onto the stack.
     fn value(&mut self, draws: &mut Draws) -> Result<(), AllocError> {
         self.height = self.height.saturating_add(1);
         let kind = match draws.below(24) {
@@ -249,7 +250,7 @@ impl Body {
         self.as_i32(kind)
     }
 
-    /// A memory operand of this alignment.
+    /// Writes a memory operand with this alignment.
     fn operand(&mut self, draws: &mut Draws, exponent: u32) -> Result<(), AllocError> {
         self.code.index(exponent)?;
         let offset = match draws.below(8) {
@@ -260,7 +261,7 @@ impl Body {
         self.code.index(offset)
     }
 
-    /// Takes one value and gives one.
+    /// Writes an operator with one operand and one result.
     fn unary(&mut self, draws: &mut Draws) -> Result<(), AllocError> {
         if draws.one_in(3) {
             return self.code.byte(draws.pick(&UNARY, 0x45));
@@ -270,13 +271,13 @@ impl Body {
         self.operand(draws, exponent)
     }
 
-    /// Takes two values and gives one.
+    /// Writes an operator with two operands and one result.
     fn binary(&mut self, draws: &mut Draws) -> Result<(), AllocError> {
         self.height = self.height.saturating_sub(1);
         self.code.byte(draws.pick(&BINARY, 0x6a))
     }
 
-    /// Keeps the value on top in a local.
+    /// Stores the top value in a local.
     fn keep(&mut self, draws: &mut Draws) -> Result<(), AllocError> {
         if draws.one_in(3) {
             self.code.byte(0x22)?;
@@ -288,7 +289,7 @@ impl Body {
         self.code.index(local)
     }
 
-    /// Stores the value on top.
+    /// Stores the top value in memory.
     fn store(&mut self, draws: &mut Draws) -> Result<(), AllocError> {
         self.height = self.height.saturating_sub(2);
         let (opcode, exponent) = draws.pick(&STORES, (0x36, 2));
@@ -330,7 +331,7 @@ impl Body {
         self.code.all(&[opcode, 0x40])
     }
 
-    /// Drops what stands on the stack in the innermost block.
+    /// Drops the values on the stack in the innermost block.
     fn clear(&mut self) -> Result<(), AllocError> {
         for _ in 0..self.height {
             self.code.byte(0x1a)?;
@@ -349,7 +350,7 @@ impl Body {
         Ok(())
     }
 
-    /// Branches by a value, by a table where there are many blocks.
+    /// Branches on a value. With many open blocks the branch may use a table.
     fn branch(&mut self, draws: &mut Draws) -> Result<(), AllocError> {
         let depth = self.depth();
         if depth == 0 {
@@ -371,7 +372,7 @@ impl Body {
         self.code.index(draws.below(depth))
     }
 
-    /// One step, for which enough values stand on the stack.
+    /// Writes one step. The stack must have enough values for it.
     fn step(&mut self, draws: &mut Draws) -> Result<(), AllocError> {
         let roll = draws.below(100);
         if roll < self.nesting.share {
@@ -394,7 +395,7 @@ impl Body {
         }
     }
 
-    /// The declared locals.
+    /// Writes the declared locals.
     fn declare(&mut self, draws: &mut Draws) -> Result<(), AllocError> {
         self.code.byte(3)?;
         self.code.index(I32_LOCALS)?;
@@ -405,7 +406,7 @@ impl Body {
         self.code.byte(F64)
     }
 
-    /// Makes the body of a function, of so many steps, and appends it to the code of a module.
+    /// Generates the body of a function with this many steps, and appends it to the code of a module.
     pub fn append(
         &mut self,
         draws: &mut Draws,

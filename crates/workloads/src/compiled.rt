@@ -1,4 +1,4 @@
-//! Modules as a compiler might make them.
+//! Modules like those of a compiler.
 
 use crate::body::{Body, GLOBALS, IMPORTED, Nesting, SIGNATURES, type_of};
 use crate::debug::{customs, table, texts};
@@ -7,52 +7,52 @@ use crate::encoder::Encoder;
 use crate::names::{Style, decimal, function_name, inner_name};
 use std::alloc::{AllocError, Global};
 
-/// What a module is to be like.
+/// The properties of a module to generate.
 #[derive(Clone, Copy)]
 pub struct Plan {
-    /// How many functions it defines.
+    /// The number of functions that it defines.
     pub functions: u32,
-    /// How its functions nest.
+    /// The nesting of its functions.
     pub nesting: Nesting,
-    /// How its functions are named.
+    /// The style of its function names.
     pub style: Style,
-    /// Whether types, locals, labels and all else have names too.
+    /// Whether types, locals, labels and all other items have names too.
     pub names_all: bool,
     /// Whether it has debug information.
     pub debug: bool,
 }
 
 impl Plan {
-    /// How many functions there are with the imported ones.
+    /// Returns the number of functions, including the imported ones.
     fn all_functions(&self) -> u32 {
         self.functions.saturating_add(IMPORTED)
     }
 }
 
-/// What all modules begin with.
+/// The preamble of all modules.
 pub const HEADER: [u8; 8] = *b"\0asm\x01\0\0\0";
 
-/// A module that is being made.
+/// A module under construction.
 #[derive(Drop)]
 struct Making {
     alloc: Global,
     plan: Plan,
     draws: Draws,
-    /// The sections that are done.
+    /// The completed sections.
     module: Encoder,
-    /// The content of the section that is being made.
+    /// The contents of the current section.
     content: Encoder,
 }
 
 impl Making {
-    /// Ends the section that is being made.
+    /// Ends the current section.
     fn end_section(&mut self, number: u8) -> Result<(), AllocError> {
         self.module.section(number, &self.content)?;
         self.content.clear();
         Ok(())
     }
 
-    /// The function types.
+    /// Writes the function types.
     fn types(&mut self) -> Result<(), AllocError> {
         self.content.index(SIGNATURES.len() as u32)?;
         for (params, results) in &SIGNATURES {
@@ -63,7 +63,7 @@ impl Making {
         self.end_section(1)
     }
 
-    /// Imported functions.
+    /// Writes the imported functions.
     fn imports(&mut self) -> Result<(), AllocError> {
         self.content.index(IMPORTED)?;
         for function in 0..IMPORTED {
@@ -78,7 +78,7 @@ impl Making {
         self.end_section(2)
     }
 
-    /// The types of the functions, a table, a memory and globals.
+    /// Writes the types of the functions, a table, a memory and globals.
     fn declarations(&mut self) -> Result<(), AllocError> {
         self.content.index(self.plan.functions)?;
         for function in IMPORTED..self.plan.all_functions() {
@@ -99,7 +99,7 @@ impl Making {
         self.end_section(6)
     }
 
-    /// The memory and one function of twenty.
+    /// Exports the memory and every twentieth function.
     fn exports(&mut self) -> Result<(), AllocError> {
         let count = self.plan.functions / 20;
         self.content.index(count.saturating_add(1))?;
@@ -116,7 +116,7 @@ impl Making {
         self.end_section(7)
     }
 
-    /// A segment that puts one function of three into the table.
+    /// Writes an element segment with a third of the functions.
     fn elements(&mut self) -> Result<(), AllocError> {
         let count = self.plan.functions / 3;
         self.content.all(&[1, 0, 0x41, 1, 0x0b])?;
@@ -127,7 +127,7 @@ impl Making {
         self.end_section(9)
     }
 
-    /// The bodies.
+    /// Writes the bodies.
     fn code(&mut self) -> Result<(), AllocError> {
         let mut body = Body::new(self.alloc, self.plan.all_functions(), self.plan.nesting);
         self.content.index(self.plan.functions)?;
@@ -141,7 +141,7 @@ impl Making {
         self.end_section(10)
     }
 
-    /// One data segment, at this address.
+    /// Writes a data segment at this address.
     fn segment(&mut self, address: u32, data: &mut Encoder) -> Result<(), AllocError> {
         data.clear();
         if self.draws.one_in(2) {
@@ -157,7 +157,7 @@ impl Making {
         self.content.sized(data.bytes())
     }
 
-    /// Data segments, one of them for forty functions.
+    /// Writes the data segments, one for every forty functions.
     fn data(&mut self) -> Result<(), AllocError> {
         let count = self.plan.functions / 40;
         let mut data = Encoder::new(self.alloc);
@@ -168,7 +168,7 @@ impl Making {
         self.end_section(11)
     }
 
-    /// Names of so many items of a kind that aren't functions.
+    /// Writes names for this many items of a kind other than functions.
     fn names_of(&mut self, number: u8, count: u32) -> Result<(), AllocError> {
         let mut names = Encoder::new(self.alloc);
         let mut name = Encoder::new(self.alloc);
@@ -182,7 +182,7 @@ impl Making {
         self.content.section(number, &names)
     }
 
-    /// Names of so many items in each function, the first of which comes behind its parameters.
+    /// Writes names for this many items in each function. The first item comes after the function's parameters.
     fn names_inside(&mut self, number: u8, count: u32) -> Result<(), AllocError> {
         let mut names = Encoder::new(self.alloc);
         let mut name = Encoder::new(self.alloc);
@@ -200,7 +200,7 @@ impl Making {
         self.content.section(number, &names)
     }
 
-    /// The name section.
+    /// Writes the name section.
     fn names(&mut self) -> Result<(), AllocError> {
         let mut names = Encoder::new(self.alloc);
         let mut name = Encoder::new(self.alloc);
@@ -222,7 +222,7 @@ impl Making {
         self.end_section(0)
     }
 
-    /// All sections.
+    /// Writes all sections.
     fn make(&mut self) -> Result<(), AllocError> {
         self.module.all(&HEADER)?;
         self.types()?;
@@ -243,7 +243,7 @@ impl Making {
     }
 }
 
-/// A module.
+/// Returns a module with these properties.
 pub fn module(alloc: Global, draws: Draws, plan: Plan) -> Result<Encoder, AllocError> {
     let mut making = Making {
         alloc,

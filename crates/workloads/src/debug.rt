@@ -1,11 +1,11 @@
-//! What a module carries for debuggers: custom sections of data, and the sections that tell of the tools.
+//! Debug information of a module: custom sections of data, and the `producers` section.
 
 use crate::draws::Draws;
 use crate::encoder::Encoder;
 use crate::names::{Style, function_name};
 use std::alloc::{AllocError, Global};
 
-/// Data of small numbers and zeros, as tables of debug information have them.
+/// Appends small numbers and zeros, as in tables of debug information.
 pub fn table(draws: &mut Draws, len: usize, data: &mut Encoder) -> Result<(), AllocError> {
     for _ in 0..len / 8 {
         let word = draws.number();
@@ -20,7 +20,7 @@ pub fn table(draws: &mut Draws, len: usize, data: &mut Encoder) -> Result<(), Al
     Ok(())
 }
 
-/// Data of texts with a zero behind each.
+/// Appends texts, each followed by a zero byte.
 pub fn texts(draws: &mut Draws, count: u32, data: &mut Encoder) -> Result<(), AllocError> {
     for number in 0..count {
         let style = if number % 4 == 0 {
@@ -34,7 +34,7 @@ pub fn texts(draws: &mut Draws, count: u32, data: &mut Encoder) -> Result<(), Al
     Ok(())
 }
 
-/// The section that tells of the tools.
+/// Appends the `producers` section.
 fn producers(alloc: Global, module: &mut Encoder) -> Result<(), AllocError> {
     let mut data = Encoder::new(alloc);
     data.byte(1)?;
@@ -45,7 +45,7 @@ fn producers(alloc: Global, module: &mut Encoder) -> Result<(), AllocError> {
     module.custom(alloc, b"producers", data.bytes())
 }
 
-/// The custom sections behind a module of so many functions; with debug information, or without.
+/// Appends the custom sections at the end of a module, with debug information or without.
 pub fn customs(
     alloc: Global,
     draws: &mut Draws,

@@ -1,60 +1,60 @@
-//! What modules are made of: bytes, numbers in LEB128, names, lists and sections.
+//! Encoding of modules: bytes, numbers in LEB128, names, lists and sections.
 
 use std::alloc::{AllocError, Global};
 
-/// The bits of one byte of LEB128.
+/// The number of value bits in a byte of LEB128.
 const BITS: u32 = 7;
 
-/// A byte of LEB128 with more bytes behind it.
+/// The bit of a byte of LEB128 that more bytes follow.
 const MORE: u8 = 0x80;
 
-/// The sign of the last byte of a signed number in LEB128.
+/// The sign bit in the last byte of a signed LEB128 number.
 const SIGN: u8 = 0x40;
 
-/// The most bytes of a number of 64 bits in LEB128.
+/// The maximum number of bytes of a 64-bit number in LEB128.
 const MOST_BYTES: u32 = 10;
 
-/// Bytes that grow.
+/// A buffer of encoded bytes.
 #[derive(Drop)]
 pub struct Encoder {
     bytes: Vec<u8>,
 }
 
 impl Encoder {
-    /// No bytes.
+    /// Returns an empty buffer.
     pub fn new(alloc: Global) -> Encoder {
         Encoder {
             bytes: Vec::new(alloc),
         }
     }
 
-    /// The bytes.
+    /// Returns the bytes.
     pub fn bytes(&self) -> &[u8] {
         &self.bytes
     }
 
-    /// How many bytes there are.
+    /// Returns the number of bytes.
     pub fn len(&self) -> usize {
         self.bytes.len()
     }
 
-    /// Drops the bytes, and keeps the room.
+    /// Removes all bytes, and keeps the capacity.
     pub fn clear(&mut self) {
         self.bytes.clear();
     }
 
-    /// A byte.
+    /// Appends a byte.
     pub fn byte(&mut self, byte: u8) -> Result<(), AllocError> {
         self.bytes.push(byte)?;
         Ok(())
     }
 
-    /// Bytes as they are.
+    /// Appends bytes unchanged.
     pub fn all(&mut self, bytes: &[u8]) -> Result<(), AllocError> {
         self.bytes.extend_from_slice(bytes)
     }
 
-    /// An unsigned number.
+    /// Appends an unsigned number.
     pub fn unsigned(&mut self, number: u64) -> Result<(), AllocError> {
         let mut left = number;
         for _ in 0..MOST_BYTES {
@@ -68,12 +68,12 @@ impl Encoder {
         Ok(())
     }
 
-    /// A count or an index.
+    /// Appends a count or an index.
     pub fn index(&mut self, index: u32) -> Result<(), AllocError> {
         self.unsigned(u64::from(index))
     }
 
-    /// A signed number.
+    /// Appends a signed number.
     pub fn signed(&mut self, number: i64) -> Result<(), AllocError> {
         let mut left = number;
         for _ in 0..MOST_BYTES {
@@ -88,24 +88,24 @@ impl Encoder {
         Ok(())
     }
 
-    /// Bytes with their count in front.
+    /// Appends bytes after their count.
     pub fn sized(&mut self, bytes: &[u8]) -> Result<(), AllocError> {
         self.unsigned(bytes.len() as u64)?;
         self.all(bytes)
     }
 
-    /// A section of this number.
+    /// Appends a section with this id.
     pub fn section(&mut self, number: u8, content: &Encoder) -> Result<(), AllocError> {
         self.section_of(number, content.bytes())
     }
 
-    /// A section of this number, of bytes.
+    /// Appends a section with this id and these bytes.
     pub fn section_of(&mut self, number: u8, content: &[u8]) -> Result<(), AllocError> {
         self.byte(number)?;
         self.sized(content)
     }
 
-    /// A custom section.
+    /// Appends a custom section.
     pub fn custom(&mut self, alloc: Global, name: &[u8], data: &[u8]) -> Result<(), AllocError> {
         let mut content = Encoder::new(alloc);
         content.sized(name)?;

@@ -1,8 +1,9 @@
-//! Makes modules of one kind from a seed, prints each once through the library's public calls, and writes how long and what they came
-//! out: a benchmark (docs/PERF.md, bench/run). The words are the kind, the seed, and `small` for a hundredth of the size.
+//! A benchmark (docs/PERF.md, bench/run). It generates modules of one kind from a seed, prints each once through
+//! the library's public calls, and writes the numbers of bytes read and written. The arguments are the kind, the
+//! seed, and `small` for a hundredth of the size.
 //!
-//! The same words give the same modules and the same line each time. The line has a digest of every text, so that two builds of
-//! the library can be compared.
+//! The same arguments always give the same modules and the same line. The line contains a digest of all texts, so
+//! that two builds of the library can be compared.
 #![tactic(auto)]
 
 mod body;
@@ -21,10 +22,10 @@ use std::process::ExitCode;
 use std::{env, io};
 use wasmprinter::Error;
 
-/// The word for a hundredth of the size.
+/// The argument for a hundredth of the size.
 const SMALL: &str = "small";
 
-/// What the words ask for.
+/// The job that the arguments select.
 #[derive(Clone, Copy)]
 struct Wanted {
     job: Job,
@@ -32,7 +33,7 @@ struct Wanted {
     scale: Scale,
 }
 
-/// What the words ask for, the program's own name not among them.
+/// Reads the arguments, without the program's name.
 fn read_words(words: &[String]) -> Option<Wanted> {
     let job = Job::named(words.first()?.as_str())?;
     let seed = words.get(1)?.as_str().parse::<u32>().ok()?;
@@ -48,12 +49,12 @@ fn read_words(words: &[String]) -> Option<Wanted> {
     Some(Wanted { job, seed, scale })
 }
 
-/// Why there is no line.
+/// The reason why no line is written.
 #[derive(Drop)]
 enum Refusal {
-    /// The words ask for nothing that there is.
+    /// The arguments select no job.
     Words,
-    /// There is no memory, or no output.
+    /// An allocation or an output operation failed.
     System,
     /// The library refused a module.
     Library(Error),
@@ -77,7 +78,7 @@ impl From<Error> for Refusal {
     }
 }
 
-/// Does what the words ask for, and writes the line.
+/// Runs the job that the arguments select, and writes the line.
 fn run(rt: &HostRuntime) -> Result<(), Refusal> {
     let words = env::args(rt)?.skip(1).collect::<Vec<String>>(rt.alloc())?;
     let Some(wanted) = read_words(&words) else {

@@ -1,11 +1,12 @@
-//! Names as compilers give them: mangled ones, which stand in a text as they are, and such as have to be quoted there.
+//! Names like those of compilers: mangled names, which are identifiers in a text unchanged, and names that have to
+//! be quoted there.
 
 use crate::draws::Draws;
 use crate::encoder::Encoder;
 use itoa::Buffer;
 use std::alloc::AllocError;
 
-/// What names are made of.
+/// The words of which names consist.
 const WORDS: [&str; 24] = [
     "core",
     "fmt",
@@ -33,36 +34,36 @@ const WORDS: [&str; 24] = [
     "into_boxed_slice",
 ];
 
-/// The names that locals have.
+/// The names of locals.
 const LOCALS: [&str; 14] = [
     "self", "len", "ptr", "i", "cap", "out", "state", "value", "key", "sp", "tmp", "acc", "x y",
     "größe",
 ];
 
-/// More bytes than a word has.
+/// A bound that the number of bytes of a word never reaches.
 const MOST_LEN: usize = 100;
 
 /// A name that many functions of one module have.
 const SHARED: &str = "core::ops::function::FnOnce::call_once{{vtable.shim}}";
 
-/// The digits of hexadecimal numbers.
+/// The hexadecimal digits.
 const DIGITS: [u8; 16] = *b"0123456789abcdef";
 
-/// The kinds of names that the functions of a module have.
+/// The styles of function names in a module.
 #[derive(Clone, Copy)]
 pub enum Style {
-    /// Mangled or plain: identifiers.
+    /// Mangled or plain names, which are identifiers.
     Mangled,
-    /// As they stand in a program's text, with signs that have to be quoted; many have the same.
+    /// Names as in the source code of a program, with characters that have to be quoted. Many of them are equal.
     Readable,
 }
 
-/// One of the words.
+/// Appends one of the words.
 fn word(draws: &mut Draws, name: &mut Encoder) -> Result<(), AllocError> {
     name.all(draws.pick(&WORDS, "core").as_bytes())
 }
 
-/// So many words, with a text between two.
+/// Appends this many words, separated by a text.
 fn words(
     draws: &mut Draws,
     count: u32,
@@ -77,12 +78,12 @@ fn words(
     Ok(())
 }
 
-/// A number in decimal.
+/// Appends a number in decimal.
 pub fn decimal(number: u32, name: &mut Encoder) -> Result<(), AllocError> {
     name.all(Buffer::new().format(number).as_bytes())
 }
 
-/// Digits in hexadecimal.
+/// Appends a hash of 16 hexadecimal digits.
 fn hash(draws: &mut Draws, name: &mut Encoder) -> Result<(), AllocError> {
     name.byte(b'h')?;
     for _ in 0..16 {
@@ -91,7 +92,7 @@ fn hash(draws: &mut Draws, name: &mut Encoder) -> Result<(), AllocError> {
     Ok(())
 }
 
-/// A mangled name.
+/// Appends a mangled name.
 fn mangled(draws: &mut Draws, name: &mut Encoder) -> Result<(), AllocError> {
     name.all(b"_ZN")?;
     for _ in 0..draws.within(2, 4) {
@@ -104,14 +105,14 @@ fn mangled(draws: &mut Draws, name: &mut Encoder) -> Result<(), AllocError> {
     name.byte(b'E')
 }
 
-/// A plain name with a number.
+/// Appends a plain name with a number.
 fn plain(draws: &mut Draws, number: u32, name: &mut Encoder) -> Result<(), AllocError> {
     let count = draws.within(1, 3);
     words(draws, count, "_", name)?;
     decimal(number, name)
 }
 
-/// A name as it stands in a program's text.
+/// Appends a name as in the source code of a program.
 fn readable(draws: &mut Draws, name: &mut Encoder) -> Result<(), AllocError> {
     if draws.one_in(6) {
         return name.all(SHARED.as_bytes());
@@ -128,7 +129,7 @@ fn readable(draws: &mut Draws, name: &mut Encoder) -> Result<(), AllocError> {
     Ok(())
 }
 
-/// The name of a function.
+/// Appends the name of a function.
 pub fn function_name(
     draws: &mut Draws,
     style: Style,
@@ -147,7 +148,7 @@ pub fn function_name(
     }
 }
 
-/// The name of a local, a label or another item inside of something.
+/// Appends the name of a local, a label or another item inside a function or type.
 pub fn inner_name(draws: &mut Draws, number: u32, name: &mut Encoder) -> Result<(), AllocError> {
     name.all(draws.pick(&LOCALS, "self").as_bytes())?;
     if draws.one_in(2) {

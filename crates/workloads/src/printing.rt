@@ -1,4 +1,4 @@
-//! The jobs: what is made of the seed, and by which call it is printed.
+//! The jobs: the modules that are generated from the seed, and the call that prints them.
 
 use crate::body::Nesting;
 use crate::compiled::Plan;
@@ -10,46 +10,46 @@ use crate::{compiled, proposals};
 use std::alloc::Global;
 use wasmprinter::{Config, Error, print_bytes};
 
-/// A job, as somebody waits for it.
+/// A job, one for each use of the library.
 #[derive(Clone, Copy)]
 pub enum Job {
-    /// One large module of a compiler, as text.
+    /// One large module like those of a compiler, as text.
     Flat,
-    /// Such a module, each operator in parentheses with its operands.
+    /// The same, with each operator in parentheses with its operands.
     Folded,
-    /// Modules with debug information, as a debugger shows them: line by line, each with its place.
+    /// Modules with debug information, printed as for a debugger: line by line, each with its place.
     Lines,
-    /// An awkward module: names with signs that have to be quoted, many of them the same, names of all locals and labels, deep blocks,
-    /// long tables of branches.
+    /// An adversarial module: names that have to be quoted, many of them equal; names of all locals and labels;
+    /// deeply nested blocks; long branch tables.
     Named,
-    /// Many small modules with newer operators and types, in colours, as a test suite has them.
+    /// Many small modules with newer operators and types, in color, as in a test suite.
     Suite,
 }
 
-/// How much is printed.
+/// The amount that is printed.
 #[derive(Clone, Copy)]
 pub enum Scale {
-    /// As much as a measurement wants.
+    /// Enough for a measurement.
     Whole,
     /// A hundredth of it.
     Small,
 }
 
-/// What was printed.
+/// The totals of a job.
 #[derive(Clone, Copy)]
 pub struct Total {
-    /// How many modules.
+    /// The number of modules.
     pub modules: u32,
-    /// How many bytes they had.
+    /// The number of bytes of the modules.
     pub read: u64,
-    /// How many bytes their texts have.
+    /// The number of bytes of their texts.
     pub written: u64,
     /// The digest of the texts.
     pub digest: u64,
 }
 
 impl Total {
-    /// Nothing.
+    /// Returns the totals before the first module.
     fn new() -> Total {
         Total {
             modules: 0,
@@ -59,7 +59,7 @@ impl Total {
         }
     }
 
-    /// This with one more module.
+    /// Returns the totals with one more module.
     fn with(self, module: &Encoder, text: &[u8]) -> Total {
         Total {
             modules: self.modules.saturating_add(1),
@@ -70,17 +70,17 @@ impl Total {
     }
 }
 
-/// How many modules are printed in lines, each of other draws.
+/// The number of modules that are printed in lines, each from a different seed.
 const LISTINGS: u32 = 2;
 
-/// How usual code nests.
+/// The nesting of usual code.
 const USUAL: Nesting = Nesting {
     depth: 10,
     labels: 12,
     share: 5,
 };
 
-/// How awkward code nests.
+/// The nesting of adversarial code.
 const DEEP: Nesting = Nesting {
     depth: 60,
     labels: 120,
@@ -88,7 +88,7 @@ const DEEP: Nesting = Nesting {
 };
 
 impl Scale {
-    /// So many, or a hundredth.
+    /// Returns the count, or a hundredth of it.
     fn of(self, count: u32) -> u32 {
         match self {
             Scale::Whole => count,
@@ -98,7 +98,7 @@ impl Scale {
 }
 
 impl Job {
-    /// The job of this name.
+    /// Returns the job with this name.
     pub fn named(word: &str) -> Option<Job> {
         match word {
             "flat" => Some(Job::Flat),
@@ -110,7 +110,7 @@ impl Job {
         }
     }
 
-    /// The name of the job.
+    /// Returns the name of the job.
     pub fn word(self) -> &'static str {
         match self {
             Job::Flat => "flat",
@@ -121,7 +121,7 @@ impl Job {
         }
     }
 
-    /// What its module is to be like, where it has but one.
+    /// Returns the properties of the job's modules, if they are like those of a compiler.
     fn plan(self, scale: Scale) -> Plan {
         let usual = Plan {
             functions: scale.of(40_000),
@@ -151,7 +151,7 @@ impl Job {
         }
     }
 
-    /// Does the job.
+    /// Runs the job.
     pub fn run(self, alloc: Global, seed: u32, scale: Scale) -> Result<Total, Error> {
         let draws = Draws::new(u64::from(seed));
         let plan = self.plan(scale);
@@ -178,7 +178,7 @@ fn print_folded(alloc: Global, module: &Encoder) -> Result<Total, Error> {
     Ok(Total::new().with(module, text.as_bytes()))
 }
 
-/// Prints a module in lines, takes each, and adds it to a total.
+/// Prints a module in lines, iterates over the lines, and adds the module to a total.
 fn print_lines(alloc: Global, total: Total, module: &Encoder) -> Result<Total, Error> {
     let mut text = String::new(alloc);
     let mut places: u64 = 0;
@@ -195,7 +195,7 @@ fn print_lines(alloc: Global, total: Total, module: &Encoder) -> Result<Total, E
     })
 }
 
-/// Prints some modules in lines, the first of which is drawn by the seed alone.
+/// Prints several modules in lines. The first is generated from the seed alone.
 fn print_listings(alloc: Global, seed: u32, plan: Plan) -> Result<Total, Error> {
     let mut total = Total::new();
     for number in 0..LISTINGS {
@@ -205,7 +205,7 @@ fn print_listings(alloc: Global, seed: u32, plan: Plan) -> Result<Total, Error> 
     Ok(total)
 }
 
-/// Prints so many small modules in colours.
+/// Prints this many small modules in color.
 fn print_suite(alloc: Global, draws: Draws, count: u32) -> Result<Total, Error> {
     let mut draws = draws;
     let mut total = Total::new();

@@ -1,5 +1,6 @@
-//! Small modules with what newer versions of the standard brought: vectors, atomic accesses, structures and arrays, references,
-//! exceptions, tail calls, several memories. They can be read; whether they are valid doesn't matter to a printer.
+//! Small modules with features of newer versions of the standard: vectors, atomic accesses, structures and arrays,
+//! references, exceptions, tail calls, several memories. They are well formed. A printer does not require that
+//! they are valid.
 
 use crate::compiled::HEADER;
 use crate::draws::Draws;
@@ -7,18 +8,18 @@ use crate::encoder::Encoder;
 use crate::names::inner_name;
 use std::alloc::{AllocError, Global};
 
-/// What stands behind an opcode.
+/// The kind of an operator's immediates.
 #[derive(Clone, Copy)]
 enum Behind {
-    /// Nothing.
+    /// No immediates.
     Nothing,
     /// A small index.
     Index,
     /// Two small indices.
     Indices,
-    /// A memory operand, of this alignment.
+    /// A memory operand with this alignment.
     Memory(u32),
-    /// The same, and a lane.
+    /// A memory operand with this alignment, and a lane.
     MemoryLane(u32),
     /// A lane.
     Lane,
@@ -26,15 +27,15 @@ enum Behind {
     Vector,
     /// Sixteen lanes.
     Lanes,
-    /// A floating-point number of 32 bits.
+    /// The bits of an f32.
     Single,
-    /// A floating-point number of 64 bits.
+    /// The bits of an f64.
     Double,
-    /// A number of 64 bits.
+    /// A 64-bit number.
     Wide,
     /// A heap type.
     Heap,
-    /// A cast's flags, label and heap types.
+    /// The flags, the label and the heap types of a cast.
     Cast,
     /// A list of value types.
     Types,
@@ -42,7 +43,7 @@ enum Behind {
     Zero,
 }
 
-/// Operators, by the bytes of their opcodes.
+/// Operators: the bytes of the opcode, and the kind of the immediates.
 #[rattlefmt::skip]
 static OPERATORS: [(&[u8], Behind); 112] = [
     (&[0x00], Behind::Nothing), (&[0x01], Behind::Nothing), (&[0x08], Behind::Index),
@@ -88,7 +89,7 @@ static OPERATORS: [(&[u8], Behind); 112] = [
 /// Heap types, some of them indices.
 const HEAPS: [u8; 8] = [0x70, 0x6f, 0x6e, 0x6b, 0x6c, 0x00, 0x01, 0x02];
 
-/// What opens a block: the bytes of the opcode, of the type, and of catch clauses.
+/// The starts of blocks: the bytes of the opcode, of the block type, and of catch clauses.
 const OPENS: [&[u8]; 8] = [
     &[0x02, 0x40],
     &[0x02, 0x7f],
@@ -100,18 +101,19 @@ const OPENS: [&[u8]; 8] = [
     &[0x03, 0x04],
 ];
 
-/// A recursion group of a structure that others extend and an array, a structure that extends the first, and function types.
+/// A recursion group of an extensible structure and an array, a structure that extends the first, and function
+/// types.
 const TYPES: [u8; 47] = [
-    0x06, // six
-    0x4e, 0x02, 0x50, 0x00, 0x5f, 0x02, 0x7f, 0x01, 0x63, 0x00, 0x00, 0x5e, 0x78, 0x01, // group
-    0x4f, 0x01, 0x00, 0x5f, 0x03, 0x7f, 0x01, 0x63, 0x00, 0x00, 0x7e, 0x01, // extends
-    0x60, 0x02, 0x7f, 0x7f, 0x01, 0x7f, // function
-    0x60, 0x01, 0x64, 0x01, 0x02, 0x63, 0x6e, 0x7b, // references
-    0x60, 0x00, 0x00, // nothing
-    0x60, 0x01, 0x7f, // tag, without its results
+    0x06, // six entries
+    0x4e, 0x02, 0x50, 0x00, 0x5f, 0x02, 0x7f, 0x01, 0x63, 0x00, 0x00, 0x5e, 0x78, 0x01, // a recursion group
+    0x4f, 0x01, 0x00, 0x5f, 0x03, 0x7f, 0x01, 0x63, 0x00, 0x00, 0x7e, 0x01, // a structure with a supertype
+    0x60, 0x02, 0x7f, 0x7f, 0x01, 0x7f, // a function type
+    0x60, 0x01, 0x64, 0x01, 0x02, 0x63, 0x6e, 0x7b, // a function type with references
+    0x60, 0x00, 0x00, // a function type without parameters and results
+    0x60, 0x01, 0x7f, // the type of a tag, up to its results
 ];
 
-/// What each kind of import has behind its names: a function, a table, a memory, a global, a tag.
+/// The bytes after the names of an import, for each kind: a function, a table, a memory, a global, a tag.
 const IMPORTS: [&[u8]; 5] = [
     &[0x00, 0x05],
     &[0x01, 0x63, 0x00, 0x00, 0x08],
@@ -120,7 +122,7 @@ const IMPORTS: [&[u8]; 5] = [
     &[0x04, 0x00, 0x06],
 ];
 
-/// Globals: a reference that is null, a vector, a structure that is made, and a sum.
+/// Globals: a null reference, a vector, a new structure, and a sum.
 const GLOBALS: [&[u8]; 4] = [
     &[0x6e, 0x00, 0xd0, 0x71, 0x0b],
     &[
@@ -130,7 +132,7 @@ const GLOBALS: [&[u8]; 4] = [
     &[0x7f, 0x00, 0x41, 0x05, 0x41, 0x7e, 0x6a, 0x0b],
 ];
 
-/// Element segments: active, passive and declared, by indices and by expressions.
+/// Element segments: active, passive and declared, with indices and with expressions.
 const ELEMENTS: [&[u8]; 4] = [
     &[0x00, 0x41, 0x01, 0x0b, 0x02, 0x00, 0x01],
     &[0x01, 0x00, 0x01, 0x00],
@@ -138,10 +140,10 @@ const ELEMENTS: [&[u8]; 4] = [
     &[0x05, 0x70, 0x02, 0xd2, 0x00, 0x0b, 0xd0, 0x70, 0x0b],
 ];
 
-/// The most functions of a module.
+/// The maximum number of functions of a module.
 const MOST_FUNCTIONS: u32 = 12;
 
-/// An item of a list, drawn from these, for so many.
+/// Appends a list of this many items, drawn from these.
 fn list(
     draws: &mut Draws,
     count: u32,
@@ -155,7 +157,7 @@ fn list(
     Ok(())
 }
 
-/// Sixteen bytes below this one.
+/// Appends sixteen bytes below this limit.
 fn sixteen(draws: &mut Draws, limit: u32, code: &mut Encoder) -> Result<(), AllocError> {
     for _ in 0..16 {
         code.byte(draws.byte(limit))?;
@@ -163,7 +165,7 @@ fn sixteen(draws: &mut Draws, limit: u32, code: &mut Encoder) -> Result<(), Allo
     Ok(())
 }
 
-/// A memory operand of this alignment.
+/// Appends a memory operand with this alignment.
 fn operand(draws: &mut Draws, exponent: u32, code: &mut Encoder) -> Result<(), AllocError> {
     if draws.one_in(6) {
         code.index(exponent | 0x40)?;
@@ -174,7 +176,7 @@ fn operand(draws: &mut Draws, exponent: u32, code: &mut Encoder) -> Result<(), A
     code.index(draws.small(100_000))
 }
 
-/// A cast's flags, label and heap types.
+/// Appends the flags, the label and the heap types of a cast.
 fn cast(draws: &mut Draws, code: &mut Encoder) -> Result<(), AllocError> {
     code.byte(draws.byte(4))?;
     code.index(draws.below(3))?;
@@ -182,7 +184,7 @@ fn cast(draws: &mut Draws, code: &mut Encoder) -> Result<(), AllocError> {
     code.byte(draws.pick(&HEAPS, 0x70))
 }
 
-/// What stands behind an opcode.
+/// Appends immediates of this kind.
 fn immediates(draws: &mut Draws, behind: Behind, code: &mut Encoder) -> Result<(), AllocError> {
     match behind {
         Behind::Nothing => Ok(()),
@@ -209,7 +211,7 @@ fn immediates(draws: &mut Draws, behind: Behind, code: &mut Encoder) -> Result<(
     }
 }
 
-/// The operators of a body, with the `end` of each block that is opened.
+/// Appends the operators of a body, with an `end` for each block.
 fn operators(draws: &mut Draws, steps: u32, code: &mut Encoder) -> Result<(), AllocError> {
     let mut depth: u32 = 0;
     for _ in 0..steps {
@@ -235,7 +237,7 @@ fn operators(draws: &mut Draws, steps: u32, code: &mut Encoder) -> Result<(), Al
     code.byte(0x0b)
 }
 
-/// Bodies, so many.
+/// Appends this many bodies.
 fn bodies(
     alloc: Global,
     draws: &mut Draws,
@@ -254,7 +256,7 @@ fn bodies(
     Ok(())
 }
 
-/// Imports, so many.
+/// Appends this many imports.
 fn imports(draws: &mut Draws, count: u32, content: &mut Encoder) -> Result<(), AllocError> {
     content.index(count)?;
     for _ in 0..count {
@@ -269,7 +271,7 @@ fn imports(draws: &mut Draws, count: u32, content: &mut Encoder) -> Result<(), A
     Ok(())
 }
 
-/// Names of so many items of a kind.
+/// Appends names for this many items of a kind.
 fn names(
     alloc: Global,
     draws: &mut Draws,
@@ -289,7 +291,7 @@ fn names(
     content.section(number, &names)
 }
 
-/// A section whose content the function makes.
+/// Appends the name section.
 fn custom_names(
     alloc: Global,
     draws: &mut Draws,
@@ -304,7 +306,7 @@ fn custom_names(
     module.section(0, &content)
 }
 
-/// The sections in front of the code, so many functions in it.
+/// Appends the sections before the code section, for this many functions.
 fn front(
     alloc: Global,
     draws: &mut Draws,
@@ -339,7 +341,7 @@ fn front(
     module.section_of(12, &[0x01])
 }
 
-/// A module.
+/// Returns a module.
 pub fn module(alloc: Global, draws: &mut Draws) -> Result<Encoder, AllocError> {
     let mut module = Encoder::new(alloc);
     let mut content = Encoder::new(alloc);

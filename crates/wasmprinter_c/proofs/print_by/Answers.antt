@@ -1,4 +1,4 @@
--- A component, an indent that was not copied, and an error of printing.
+-- The outcomes of a component, of an indent that was not copied, and of an error of printing.
 use Rattle.std.proofs.Common.{◌∙◌, true, false, sym, ap, subst, true≢false}
 use Rattle.wasmprinter_c.specs.Printing.{chosen}
 use Rattle.wasmprinter_c.specs.Refused.{IsCopied}

@@ -1,4 +1,4 @@
--- What the printer over a buffer makes of the calls.
+-- The state of the printer over a buffer after the calls.
 use Rattle.wasmprinter_c.proofs.Runs.{on_ok_over}
 use Rattle.wasmprinter_c.proofs.Left.{either_same, if_err_caused, if_err_left}
 use Rattle.wasmprinter_c.proofs.print_to.Goals as goal

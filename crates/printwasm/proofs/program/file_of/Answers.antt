@@ -1,4 +1,4 @@
--- Behind a word that is no file and no option that there is, no file is named.
+-- If a word is neither a file nor an option of the program, the words name no file.
 use Rattle.std.proofs.Common.{◌≡◌, ◌+◌, ◌∷◌, map, drop, option_copied, string_bytes, false, sym, ap, ◌∙◌}
 use Rattle.std.proofs.lemmas.List.{drop_more}
 use Rattle.printwasm.specs.Words.{is_known}

@@ -1,4 +1,4 @@
--- What is still to be told of the words: the file among the rest of them, behind the one that was found.
+-- All words name the file that the remaining words name, together with the file found so far.
 use Rattle.std.proofs.Common.{◌≡◌, map, drop, option_copied, string_bytes}
 use Rattle.printwasm.specs.Words.{named_file}
 use Rattle.printwasm.proofs.Files.{named_behind}

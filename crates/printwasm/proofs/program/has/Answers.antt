@@ -1,4 +1,4 @@
--- One of the words is equal to the option, where one of their texts is.
+-- The option equals one of the words exactly if it equals one of their texts.
 use Rattle.std.proofs.Common.{rules, tests, List, ℕ, Bool, string_bytes, bytes_eq, ◌∙◌}
 use Rattle.std.proofs.lemmas.Iterator.Search.{any_from_yields_List}
 use Rattle.std.proofs.lemmas.Iterator.{YieldsList-from_slice}

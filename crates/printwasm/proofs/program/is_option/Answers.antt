@@ -1,4 +1,4 @@
--- The dashes with which options begin.
+-- The prefix of options, byte by byte.
 use Rattle.std.proofs.Common.{◌∷◌, []}
 use Rattle.std.proofs.lemmas.Str.Pattern.{starts_text}
 use Rattle.printwasm.proofs.program.is_option.Goals as goal

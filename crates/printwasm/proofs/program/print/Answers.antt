@@ -1,4 +1,4 @@
--- The error is one of printing by the options that were chosen.
+-- The error is an error of printing with the chosen options.
 use Rattle.std.proofs.Common.{◌≡◌, ap, subst}
 use Rattle.wasmprinter.specs.Outcome.{HasTextCause}
 use Rattle.printwasm.specs.Words.{Choice}

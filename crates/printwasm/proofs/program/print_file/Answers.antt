@@ -1,4 +1,4 @@
--- The bytes that a read gave spell the module of which there is a text, or none.
+-- The result for the bytes that reading returned is the result for the file.
 use Rattle.std.proofs.Common.{rules, Some}
 use Rattle.printwasm.proofs.Texts.{gives_text, gives_no_text}
 use Rattle.printwasm.proofs.program.print_file.Goals as goal

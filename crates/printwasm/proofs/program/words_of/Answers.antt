@@ -1,4 +1,4 @@
--- The run that `collect` took lies in a run of the iterator itself, whose first item `skip` passed over.
+-- The run of `collect` is part of a run of the iterator itself, whose first item `skip` dropped.
 use Rattle.std.proofs.Common.{ap, ◌∙◌, map, string_bytes}
 use Rattle.printwasm.proofs.program.words_of.Goals as goal
 

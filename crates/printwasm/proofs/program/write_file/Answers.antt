@@ -1,4 +1,4 @@
--- An error of `print_file` is handed on as it is, before anything is written.
+-- An error of `print_file` is returned unchanged, before anything is written.
 use Rattle.std.proofs.Common.{refl, inl}
 use Rattle.std.proofs.lemmas.Result.{err_from_is_err_and}
 use Rattle.printwasm.proofs.program.write_file.Goals as goal

@@ -1,4 +1,4 @@
--- The bytes that a read of the file gave spell the module of which there is a text, or none.
+-- The result for the bytes that reading returned is the result for the file.
 use Rattle.std.proofs.Common.{rules, Some, string_bytes}
 use Rattle.std.specs.Path.{path_bytes}
 use Rattle.wasmprinter_spec.specs.Options.{defaults}

@@ -1,4 +1,4 @@
--- The options are the defaults.
+-- The options are the default options.
 use Rattle.std.proofs.Common.{string_bytes}
 use Rattle.wasmprinter.proofs.Texts.{default_if_ok}
 use Rattle.wasmprinter.proofs.in_memory.print_bytes.Goals as goal

@@ -1,4 +1,4 @@
--- By the body, the operator's place and the line.
+-- An operator's line is found by its body, its place and the line with that place.
 use Rattle.std.proofs.Common.{sym, ap, ◌∙◌}
 use Rattle.wasmprinter.specs.Found.{place_at, text_lines}
 use Rattle.wasmprinter.proofs.FoundLines.{no_operator, no_line, its_line}

@@ -1,4 +1,4 @@
--- The piece fits, is cut, or starts after the end of the buffer.
+-- The piece fits, is truncated, or starts after the end of the buffer.
 use Rattle.std.proofs.Common.{◌+◌, ◌-◌, length, refl, arith}
 use Rattle.wasmprinter_c.proofs.Overs.{put_fits, put_cut, put_past}
 use Rattle.wasmprinter_c.proofs.copier.copy_over.Goals as goal

@@ -1,4 +1,4 @@
--- Whether the fields of a kind begin lines: each does.
+-- Each field of a kind begins a line.
 use Rattle.std.proofs.Common.{refl}
 use Rattle.wasmprinter_spec.specs.Types.{TableKind, MemoryKind, GlobalKind, TagKind, FuncKind}
 use Rattle.wasmprinter_spec.specs.Customs.Hints.{hints_of}

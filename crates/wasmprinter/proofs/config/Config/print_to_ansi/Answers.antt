@@ -1,4 +1,4 @@
--- What was printed in colours to bytes that were none.
+-- The text is empty before the module is printed in color.
 use Rattle.std.proofs.Common.{sym, subst}
 use Rattle.wasmprinter.specs.Outcome.{HasTextCause, IsTrueOfText}
 use Rattle.wasmprinter.proofs.Outcomes.{growth_cause, growth_true}

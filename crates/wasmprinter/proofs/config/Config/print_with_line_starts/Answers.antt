@@ -1,4 +1,4 @@
--- What the tracker kept of the calls, and what `finish` gives of it.
+-- The text and the lines that the tracker kept, and the result of `finish`.
 use Rattle.std.proofs.Common.{rules, ◌≡◌, string_bytes, sym, ap, ◌∙◌, subst}
 use Rattle.wasmprinter_tracker.specs.Cuts.{lines_at_starts}
 use Rattle.wasmprinter_tracker.specs.Tracked.{without_lines}

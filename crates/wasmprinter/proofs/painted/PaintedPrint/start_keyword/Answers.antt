@@ -1,4 +1,4 @@
--- The sequences of a keyword, byte by byte.
+-- The escape sequences of a keyword, byte by byte.
 use Rattle.std.proofs.Common.{refl}
 use Rattle.wasmprinter_spec.proofs.Sequences.{keyword}
 use Rattle.wasmprinter.proofs.painted.PaintedPrint.start_keyword.Goals as goal

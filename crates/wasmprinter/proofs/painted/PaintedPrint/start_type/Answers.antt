@@ -1,4 +1,4 @@
--- The sequences of the word of a type, byte by byte.
+-- The escape sequences of a type word, byte by byte.
 use Rattle.std.proofs.Common.{refl}
 use Rattle.wasmprinter_spec.proofs.Sequences.{type_name}
 use Rattle.wasmprinter.proofs.painted.PaintedPrint.start_type.Goals as goal
