@@ -1,5 +1,5 @@
-//! How many operands each operator takes and how many results it gives, shown by the nodes that are printed: each stands behind six
-//! constants and in front of an operator that takes one operand.
+//! Tests of the operand and result counts of each operator. The nodes that are printed show them: each operator
+//! follows six constants and precedes an operator that takes one operand.
 
 use crate::arity_rows::{AGGREGATES, CONTROL, NUMBERS};
 use crate::modules::{Section, expect_body, with_code};
@@ -8,7 +8,7 @@ use std::alloc::{AllocError, Global};
 use std::test::Fail;
 use wasmprinter_samples::sections::{FUNCTION, IMPORT, TAG, TYPE};
 
-/// An operator with the numbers of its operands and results, and its bytes as hexadecimal digits.
+/// An operator: its operand and result counts, its bytes as hexadecimal digits, and its text.
 #[derive(Clone, Copy)]
 struct Row {
     takes: u32,
@@ -17,7 +17,7 @@ struct Row {
     text: &'static str,
 }
 
-/// An operator as a table has it on a line.
+/// Parses a line of a table.
 fn row_of(line: &'static str) -> Result<Row, Fail> {
     let (arity, operator) = line.split_once(": ").ok_or("a line without bytes")?;
     let (digits, text) = operator.split_once(": ").ok_or("a line without a text")?;
@@ -30,8 +30,8 @@ fn row_of(line: &'static str) -> Result<Row, Fail> {
     })
 }
 
-/// The types that the tables tell of: of functions that give two i32, that make one of two, structures with three fields, arrays, and
-/// functions that take one.
+/// The types that the tables mention: functions with two i32 results, functions with two parameters and one
+/// result, structures with three fields, arrays, and functions with one parameter.
 const TYPES: [u8; 27] = [
     0x05, // five types
     0x60, 0x00, 0x02, 0x7f, 0x7f, // of function 1
@@ -41,7 +41,7 @@ const TYPES: [u8; 27] = [
     0x60, 0x01, 0x7f, 0x00, // of the tag
 ];
 
-/// The text up to the body.
+/// The text before the body.
 const HEADER: &str = r#"(module
   (type (;0;) (func (result i32 i32)))
   (type (;1;) (func (param i32 i32) (result i32)))
@@ -53,10 +53,11 @@ const HEADER: &str = r#"(module
   (func (;1;) (type 0) (result i32 i32)
 "#;
 
-/// How many constants stand in front of the operator.
+/// The number of constants before the operator.
 const CONSTANTS: u32 = 6;
 
-/// What stands in front of the body: those types, an import and a function of the first two, and a tag of the last.
+/// The sections before the code section: these types, an imported function of type 1, a function of type 0, and a
+/// tag of type 4.
 const SECTIONS: [Section; 4] = [
     (TYPE, &TYPES),
     (IMPORT, &[0x01, 0x00, 0x00, 0x00, 0x01]),
@@ -77,7 +78,7 @@ fn add_operator(operators: &mut Vec<u8>, digits: &str) -> Result<(), Fail> {
     Ok(())
 }
 
-/// A body with an operator behind six constants and in front of `i32.eqz`.
+/// Returns a body with an operator after six constants and before `i32.eqz`.
 fn body_of(alloc: Global, digits: &str) -> Result<Vec<u8>, Fail> {
     let mut operators = Vec::from_slice(alloc, &SIX)?;
     add_operator(&mut operators, digits)?;
@@ -85,13 +86,13 @@ fn body_of(alloc: Global, digits: &str) -> Result<Vec<u8>, Fail> {
     Ok(operators)
 }
 
-/// A module with those types, and that body.
+/// Returns a module with these sections and that body.
 fn module_of(alloc: Global, digits: &str) -> Result<Vec<u8>, Fail> {
     let operators = body_of(alloc, digits)?;
     Ok(with_code(alloc, &SECTIONS, &operators)?)
 }
 
-/// Adds so many constants, each on a line of its own.
+/// Adds `count` constants, each on a line of its own.
 fn add_constants(text: &mut String, count: u32) -> Result<(), AllocError> {
     for _ in 0..count {
         text.push_str("    (i32.const 0)\n")?;
@@ -99,7 +100,7 @@ fn add_constants(text: &mut String, count: u32) -> Result<(), AllocError> {
     Ok(())
 }
 
-/// Adds an operator with its operands, indented so.
+/// Adds an operator with its operands, at this indent.
 fn add_node(text: &mut String, indent: &str, row: &Row) -> Result<(), AllocError> {
     text.push_str(indent)?;
     text.push('(')?;
@@ -116,21 +117,21 @@ fn add_node(text: &mut String, indent: &str, row: &Row) -> Result<(), AllocError
 fn add_body(text: &mut String, row: &Row) -> Result<(), AllocError> {
     let left = CONSTANTS.saturating_sub(row.takes);
     match row.gives {
-        // `i32.eqz` takes the last constant that is left, and the operator along with it
+        // `i32.eqz` takes the last remaining constant, and with it the operator after that constant.
         0 => {
             add_constants(text, left.saturating_sub(1))?;
             text.push_str("    (i32.eqz\n      (i32.const 0)\n")?;
             add_node(text, "      ", row)?;
             text.push_str(")\n")
         }
-        // it takes the result
+        // `i32.eqz` takes the only result.
         1 => {
             add_constants(text, left)?;
             text.push_str("    (i32.eqz\n")?;
             add_node(text, "      ", row)?;
             text.push_str(")\n")
         }
-        // one of several results can't be taken
+        // `i32.eqz` cannot take one of several results.
         _ => {
             add_constants(text, left)?;
             add_node(text, "    ", row)?;
@@ -139,21 +140,21 @@ fn add_body(text: &mut String, row: &Row) -> Result<(), AllocError> {
     }
 }
 
-/// The lines of the body with an operator.
+/// Returns the lines of the body with an operator.
 fn lines_of(alloc: Global, row: &Row) -> Result<String, AllocError> {
     let mut lines = String::new(alloc);
     add_body(&mut lines, row)?;
     Ok(lines)
 }
 
-/// Holds that an operator is printed as expected.
+/// Checks that an operator is printed as expected.
 fn expect_row(alloc: Global, row: &Row) -> Result<(), Fail> {
     let wasm = module_of(alloc, row.digits)?;
     let lines = lines_of(alloc, row)?;
     expect_body(alloc, &wasm, HEADER, lines.as_str())
 }
 
-/// Holds that each operator of a table is printed as expected, and answers how many there are.
+/// Checks that each operator of a table is printed as expected, and returns their number.
 fn judge(alloc: Global, table: &'static str) -> Result<u32, Fail> {
     let mut count: u32 = 0;
     for line in table.lines() {

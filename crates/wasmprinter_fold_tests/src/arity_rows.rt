@@ -1,9 +1,13 @@
-//! Operators of one byte, and those with the prefixes fb and fc, one a line: how many operands each takes and how many results it gives,
-//! its bytes, and its text. All is typed from tables of opcodes, and none of it made from a table of the program or of the definitions.
+//! Operators of one byte, and those with the prefixes fb and fc, one on each line: operand count, result count,
+//! bytes and text. The lines are typed from tables of opcodes. They are not generated from a table of the program or
+//! of the definitions.
 
-/// Operators of control, variables and references. A function 0 takes two operands and gives one, function 1 gives two and has a body with
-/// the operator; types 0, 1 and 4 are of functions (the last one takes an operand), 2 of structures with three fields and 3 of arrays;
-/// tag 0 takes an operand. There are no others.
+/// Operators of control, variables and references. The module has exactly these items:
+///
+/// - Function 0 has two operands and one result. Function 1 has two results, and its body has the operator.
+/// - Types 0, 1 and 4 are function types; type 4 has one parameter. Type 2 is a structure type with three fields,
+///   type 3 an array type.
+/// - Tag 0 has one operand.
 pub const CONTROL: &str = "\
 0>0: 00: unreachable
 0>0: 01: nop

@@ -1,11 +1,11 @@
-//! Folded bodies: blocks, the arms of an `if`, and what branches take.
+//! Tests of folded bodies: blocks, the arms of an `if`, and the operands of branches.
 
 use crate::modules::{expect_body, expect_lines, with_body};
 use std::test::Fail;
 
-/// Operators of a function without parameters and results, and their lines.
+/// Operators of a function without parameters and results, each list with its lines.
 const BLOCKS: [(&[u8], &str); 17] = [
-    // behind the comment of a label without a node a line begins
+    // A block without nodes closes on a new line, after the line comment of its label
     (&[0x02, 0x40, 0x0b], "    (block ;; label = @1\n    )\n"),
     (
         &[0x02, 0x40, 0x03, 0x40, 0x0b, 0x0b],
@@ -18,7 +18,7 @@ const BLOCKS: [(&[u8], &str); 17] = [
         &[0x1f, 0x40, 0x01, 0x02, 0x00, 0x0b],
         "    (try_table (catch_all 0) ;; label = @1\n    )\n",
     ),
-    // labels of what it catches stand outside of it
+    // The labels of catch clauses are those outside the `try_table`
     (
         &[
             0x02, 0x40, 0x1f, 0x40, 0x01, 0x02, 0x00, 0x0c, 0x00, 0x0b, 0x0b,
@@ -28,7 +28,7 @@ const BLOCKS: [(&[u8], &str); 17] = [
         (br 0 (;@2;))))
 "#,
     ),
-    // a branch takes a reference, which is the label's only value
+    // `br_on_non_null` takes a reference, the only value of its label
     (
         &[0x02, 0x6e, 0xd0, 0x70, 0xd6, 0x00, 0xd0, 0x6e, 0x0b, 0x1a],
         r#"    (drop
@@ -38,7 +38,7 @@ const BLOCKS: [(&[u8], &str); 17] = [
         (ref.null any)))
 "#,
     ),
-    // an `if` without a node in front of it
+    // An `if` without a node before it
     (
         &[0x04, 0x40, 0x0b],
         r#"    (if ;; label = @1
@@ -52,7 +52,7 @@ const BLOCKS: [(&[u8], &str); 17] = [
       (else))
 "#,
     ),
-    // the last node is the condition, also where it gives nothing
+    // The last node is the condition, even if it has no result
     (
         &[0x01, 0x04, 0x40, 0x0b],
         r#"    (if ;; label = @1
@@ -70,7 +70,7 @@ const BLOCKS: [(&[u8], &str); 17] = [
         (nop)))
 "#,
     ),
-    // the condition may be a block, which stands outside of the `if`'s label
+    // The condition may be a block, which is outside the label of the `if`
     (
         &[0x02, 0x40, 0x0c, 0x00, 0x0b, 0x04, 0x40, 0x0c, 0x00, 0x0b],
         r#"    (if ;; label = @1
@@ -80,7 +80,7 @@ const BLOCKS: [(&[u8], &str); 17] = [
         (br 0 (;@1;))))
 "#,
     ),
-    // a block gives its results
+    // A block gives its results
     (
         &[0x02, 0x7f, 0x41, 0x00, 0x0b, 0x1a],
         r#"    (drop
@@ -88,7 +88,7 @@ const BLOCKS: [(&[u8], &str); 17] = [
         (i32.const 0)))
 "#,
     ),
-    // an `if` without `else` gives them too
+    // An `if` without `else` gives its results too
     (
         &[0x41, 0x00, 0x04, 0x7f, 0x41, 0x01, 0x0b, 0x1a],
         r#"    (drop
@@ -98,7 +98,7 @@ const BLOCKS: [(&[u8], &str); 17] = [
           (i32.const 1))))
 "#,
     ),
-    // both arms, and operands in each
+    // Both arms, with operands in each
     (
         &[
             0x41, 0x00, 0x04, 0x7f, 0x41, 0x01, 0x45, 0x05, 0x41, 0x02, 0x41, 0x03, 0x6a, 0x0b,
@@ -117,7 +117,7 @@ const BLOCKS: [(&[u8], &str); 17] = [
               (i32.const 3))))))
 "#,
     ),
-    // an arm takes nothing from the other, nor from in front of the `if`
+    // An arm takes no operands from the other arm, nor from before the `if`
     (
         &[
             0x41, 0x00, 0x41, 0x01, 0x04, 0x40, 0x1a, 0x41, 0x02, 0x05, 0x1a, 0x0b,
@@ -132,7 +132,7 @@ const BLOCKS: [(&[u8], &str); 17] = [
         (drop)))
 "#,
     ),
-    // a block without results is taken along
+    // A block without results is taken with the operand before it
     (
         &[0x41, 0x00, 0x02, 0x40, 0x0b, 0x1a],
         r#"    (drop
@@ -141,7 +141,7 @@ const BLOCKS: [(&[u8], &str); 17] = [
       ))
 "#,
     ),
-    // a value of a block's label
+    // Branches take the value of a block's label
     (
         &[
             0x02, 0x7f, 0x41, 0x01, 0x41, 0x02, 0x0d, 0x00, 0x0c, 0x00, 0x0b, 0x1a,
@@ -154,7 +154,7 @@ const BLOCKS: [(&[u8], &str); 17] = [
             (i32.const 2)))))
 "#,
     ),
-    // a table of branches takes what its last label does, and its index
+    // `br_table` takes the values of its last label, and its index
     (
         &[
             0x02, 0x40, 0x02, 0x7f, 0x41, 0x01, 0x41, 0x02, 0x0e, 0x01, 0x01, 0x00, 0x0b, 0x1a,
@@ -178,17 +178,17 @@ fn prints_blocks_with_their_contents(rt: HostRuntime) -> Result<(), Fail> {
     Ok(())
 }
 
-/// The function's type, one of functions with a parameter and two results, and one of arrays.
+/// Three types: of the function, of functions with a parameter and two results, and of arrays.
 const TYPES: [u8; 13] = [
     0x03, // three types
-    0x60, 0x00, 0x00, // nothing
+    0x60, 0x00, 0x00, // no parameters and results
     0x60, 0x01, 0x7f, 0x02, 0x7e, 0x7e, // a parameter and two results
     0x5e, 0x7f, 0x00, // an array
 ];
 
-/// Operators in blocks of those types, and their lines.
+/// Operators in blocks of those types, each list with its lines.
 const OF_TYPES: [(&[u8], &str); 6] = [
-    // the label of a loop takes its parameters
+    // The values of the label of a loop are its parameters
     (
         &[0x03, 0x01, 0x41, 0x05, 0x41, 0x06, 0x0c, 0x00, 0x0b],
         r#"    (loop (type 1) (param i32) (result i64 i64) ;; label = @1
@@ -197,7 +197,7 @@ const OF_TYPES: [(&[u8], &str); 6] = [
         (i32.const 6)))
 "#,
     ),
-    // that of a block its results, and the block takes no parameters
+    // The values of the label of a block are its results, and the block takes no parameters
     (
         &[
             0x41, 0x04, 0x02, 0x01, 0x41, 0x05, 0x41, 0x06, 0x0c, 0x00, 0x0b,
@@ -209,7 +209,7 @@ const OF_TYPES: [(&[u8], &str); 6] = [
         (i32.const 6)))
 "#,
     ),
-    // a loop gives its results
+    // A loop gives its results
     (
         &[0x03, 0x01, 0x0b, 0x7c, 0x1a],
         r#"    (drop
@@ -218,7 +218,7 @@ const OF_TYPES: [(&[u8], &str); 6] = [
         )))
 "#,
     ),
-    // an `if` takes one node, and gives two results
+    // An `if` takes one node, and gives two results
     (
         &[0x41, 0x04, 0x41, 0x05, 0x04, 0x01, 0x05, 0x0b, 0x7c],
         r#"    (i32.const 4)
@@ -229,7 +229,8 @@ const OF_TYPES: [(&[u8], &str); 6] = [
         (else)))
 "#,
     ),
-    // a branch to a block whose type isn't there takes nothing, not even its condition, and the block gives nothing
+    // A branch to a block whose type does not exist takes nothing, not even its condition, and the block gives
+    // nothing
     (
         &[0x41, 0x00, 0x02, 0x05, 0x41, 0x01, 0x0d, 0x00, 0x0b, 0x1a],
         r#"    (drop
@@ -239,7 +240,7 @@ const OF_TYPES: [(&[u8], &str); 6] = [
         (br_if 0 (;@1;))))
 "#,
     ),
-    // the same where the type is none of functions
+    // The same if the type of the block is not a function type
     (
         &[0x41, 0x00, 0x02, 0x02, 0x41, 0x01, 0x0d, 0x00, 0x0b, 0x1a],
         r#"    (drop
@@ -251,7 +252,7 @@ const OF_TYPES: [(&[u8], &str); 6] = [
     ),
 ];
 
-/// The lines in front of the body of a function among those types.
+/// The lines before the body of a function, in a module with those types.
 const OF_TYPES_HEADER: &str = "(module
   (type (;0;) (func))
   (type (;1;) (func (param i32) (result i64 i64)))

@@ -1,4 +1,4 @@
-//! Folded bodies: which nodes an operator takes as its operands.
+//! Tests of folded bodies: the nodes that an operator takes as its operands.
 
 use crate::modules::{
     NO_PARAMS, Section, expect_body, expect_folded, expect_lines, with_body, with_code,
@@ -6,9 +6,9 @@ use crate::modules::{
 use std::test::Fail;
 use wasmprinter_samples::sections::{FUNCTION, IMPORT, TAG, TYPE};
 
-/// Operators of a function without parameters and results, and their lines.
+/// Operators of a function without parameters and results, each list with its lines.
 const BODIES: [(&[u8], &str); 15] = [
-    // operands stand in the order in which they are made
+    // Operands are printed in the order of their evaluation
     (
         &[0x41, 0x01, 0x41, 0x02, 0x6a],
         r#"    (i32.add
@@ -16,7 +16,7 @@ const BODIES: [(&[u8], &str); 15] = [
       (i32.const 2))
 "#,
     ),
-    // what gives nothing is taken along behind an operand that is needed ..
+    // A node without results is taken with the operand before it
     (
         &[0x41, 0x00, 0x01, 0x1a],
         r#"    (drop
@@ -24,7 +24,7 @@ const BODIES: [(&[u8], &str); 15] = [
       (nop))
 "#,
     ),
-    // .. and between two, but not in front of the first
+    // A node without results is taken between two operands too, but not before the first
     (
         &[0x01, 0x41, 0x00, 0x01, 0x41, 0x01, 0x01, 0x36, 0x02, 0x00],
         r#"    (nop)
@@ -35,14 +35,14 @@ const BODIES: [(&[u8], &str); 15] = [
       (nop))
 "#,
     ),
-    // an operator that takes nothing has no children
+    // An operator without operands has no children
     (
         &[0x41, 0x00, 0x01],
         r#"    (i32.const 0)
     (nop)
 "#,
     ),
-    // too few operands: it takes none, and gives what it always gives
+    // With too few operands, an operator takes none, and its result count is unchanged
     (
         &[0x41, 0x00, 0x6a, 0x1a],
         r#"    (i32.const 0)
@@ -50,21 +50,21 @@ const BODIES: [(&[u8], &str); 15] = [
       (i32.add))
 "#,
     ),
-    // none at all
+    // No operands at all
     (
         &[0x6a, 0x45],
         r#"    (i32.eqz
       (i32.add))
 "#,
     ),
-    // nothing is made up behind an operator that doesn't go on
+    // No operands are synthesized after an unconditional transfer of control
     (
         &[0x00, 0x6a],
         r#"    (unreachable)
     (i32.add)
 "#,
     ),
-    // no operands from outside of a block
+    // Operands do not come from outside the block
     (
         &[0x41, 0x00, 0x02, 0x40, 0x1a, 0x0b],
         r#"    (i32.const 0)
@@ -72,7 +72,7 @@ const BODIES: [(&[u8], &str); 15] = [
       (drop))
 "#,
     ),
-    // four operands and two results, which an addition takes together
+    // Four operands, and two results that an addition takes together
     (
         &[
             0x42, 0x01, 0x42, 0x00, 0x42, 0x02, 0x42, 0x00, 0xfc, 0x13, 0x7c,
@@ -85,7 +85,7 @@ const BODIES: [(&[u8], &str); 15] = [
         (i64.const 0)))
 "#,
     ),
-    // one of two results can't be taken; behind that nothing takes what is left
+    // One of two results cannot be taken, and no later operator takes a part of them
     (
         &[0x42, 0x01, 0x42, 0x02, 0xfc, 0x15, 0x50, 0x1a],
         r#"    (i64.mul_wide_s
@@ -95,7 +95,7 @@ const BODIES: [(&[u8], &str); 15] = [
     (drop)
 "#,
     ),
-    // a return of a function without results, and branches to its own label
+    // A return of a function without results, and branches to the label of its body
     (
         &[0x41, 0x00, 0x0f, 0x0c, 0x00, 0x0d, 0x00],
         r#"    (br_if 0
@@ -104,21 +104,21 @@ const BODIES: [(&[u8], &str); 15] = [
       (br 0))
 "#,
     ),
-    // a branch on no null to a label without values takes nothing
+    // `br_on_non_null` to a label without values takes nothing
     (
         &[0xd0, 0x70, 0xd6, 0x00],
         r#"    (ref.null func)
     (br_on_non_null 0)
 "#,
     ),
-    // a branch that isn't there
+    // A branch to a label that does not exist takes nothing
     (
         &[0x41, 0x00, 0x0d, 0x01],
         r#"    (i32.const 0)
     (br_if 1 (; INVALID ;))
 "#,
     ),
-    // of a table of branches the last counts
+    // The last label of `br_table` determines its operands
     (
         &[0x41, 0x00, 0x0e, 0x01, 0x00, 0x05],
         r#"    (i32.const 0)
@@ -141,16 +141,16 @@ fn takes_the_shortest_run_of_operands(rt: HostRuntime) -> Result<(), Fail> {
     Ok(())
 }
 
-/// The type of arrays of i32, and that of functions that give two i32.
+/// A type section with arrays of i32, and functions with two i32 results.
 const ARRAY_AND_PAIR: [u8; 9] = [
     0x02, // two types
     0x5e, 0x7f, 0x00, // the array
     0x60, 0x00, 0x02, 0x7f, 0x7f, // the function
 ];
 
-/// Operators of a function that gives two i32, and their lines. `call 0` calls the function itself.
+/// Operators of a function with two i32 results, each list with its lines. `call 0` calls the function itself.
 const OF_A_PAIR: [(&[u8], &str); 5] = [
-    // a call gives more than is wanted, and what could take it counts as giving the most that there is
+    // If a call gives more results than `i32.eqz` needs, `i32.eqz` takes nothing and counts as giving 2^32 - 1 results
     (
         &[0x10, 0x00, 0x45, 0x6a],
         r#"    (call 0)
@@ -158,7 +158,7 @@ const OF_A_PAIR: [(&[u8], &str); 5] = [
     (i32.add)
 "#,
     ),
-    // where as much is wanted, it is taken
+    // An operator that needs that many operands takes that node
     (
         &[
             0x10, 0x00, 0x45, 0xfb, 0x08, 0x00, 0xff, 0xff, 0xff, 0xff, 0x0f,
@@ -168,7 +168,7 @@ const OF_A_PAIR: [(&[u8], &str); 5] = [
       (i32.eqz))
 "#,
     ),
-    // sums go no further than that number
+    // Sums of results saturate at that number
     (
         &[
             0x10, 0x00, 0x45, 0x41, 0x00, 0xfb, 0x08, 0x00, 0xff, 0xff, 0xff, 0xff, 0x0f,
@@ -179,7 +179,7 @@ const OF_A_PAIR: [(&[u8], &str); 5] = [
       (i32.const 0))
 "#,
     ),
-    // a return takes both results
+    // A return takes both results
     (
         &[0x01, 0x10, 0x00, 0x0f],
         r#"    (nop)
@@ -187,7 +187,7 @@ const OF_A_PAIR: [(&[u8], &str); 5] = [
       (call 0))
 "#,
     ),
-    // a conditional branch to the function's own label gives back what it takes beside its condition
+    // `br_if` to the label of the body gives back the operands that it takes besides its condition
     (
         &[0x10, 0x00, 0x41, 0x00, 0x0d, 0x00, 0x6a, 0x1a],
         r#"    (drop
@@ -199,7 +199,7 @@ const OF_A_PAIR: [(&[u8], &str); 5] = [
     ),
 ];
 
-/// What stands in front of that function's body, and its lines.
+/// The sections before that function's body.
 const PAIR_SECTIONS: [Section; 2] = [(TYPE, &ARRAY_AND_PAIR), (FUNCTION, &[0x01, 0x01])];
 
 const PAIR_HEADER: &str = "(module
@@ -220,12 +220,12 @@ fn counts_results_up_to_the_greatest_number(rt: HostRuntime) -> Result<(), Fail>
 /// Three types: of the function, of a tag, and of a function that is called by a reference.
 const THREE_TYPES: [u8; 13] = [
     0x03, // three types
-    0x60, 0x00, 0x00, // nothing
+    0x60, 0x00, 0x00, // no parameters and results
     0x60, 0x02, 0x7f, 0x7e, 0x00, // two parameters
     0x60, 0x00, 0x01, 0x7f, // a result
 ];
 
-/// What stands in front of the body: those types, a function of the first, and a tag of the second.
+/// The sections before the body: these types, a function of the first type, and a tag of the second.
 const THREE_TYPES_SECTIONS: [Section; 3] = [
     (TYPE, &THREE_TYPES),
     (FUNCTION, &[0x01, 0x00]),
@@ -235,7 +235,7 @@ const THREE_TYPES_SECTIONS: [Section; 3] = [
 const USING_TYPES: [u8; 19] = [
     0xd0, 0x02, 0x14, 0x02, 0x42, 0x05, 0x08, 0x00, // ref.null, call_ref, i64.const, throw
     0x41, 0x00, 0x11, 0x02, 0x00, 0x15, 0x01, // i32.const, call_indirect, return_call_ref
-    0x12, 0x09, 0x08, 0x09, // return_call and throw of what isn't there
+    0x12, 0x09, 0x08, 0x09, // return_call and throw of items that do not exist
 ];
 
 #[test]
@@ -265,12 +265,13 @@ fn knows_operands_of_types(rt: HostRuntime) -> Result<(), Fail> {
     )
 }
 
-/// Branches, a return and a call of the function itself.
+/// Branches, a return, and a call of the function itself.
 const OF_ANOTHER_KIND: [u8; 14] = [
     0x41, 0x00, 0x0d, 0x00, 0x0f, 0x0e, 0x00, 0x00, 0xd5, 0x00, 0xd6, 0x00, 0x10, 0x00,
 ];
 
-/// A function whose type is one of arrays: of its results nothing is known, and what names them takes nothing.
+/// The function has an array type: its parameters and results are unknown, so operators that depend on them take
+/// nothing.
 #[test]
 fn takes_nothing_where_the_type_is_of_another_kind(rt: HostRuntime) -> Result<(), Fail> {
     let wasm = with_body(rt.alloc(), &[0x01, 0x5e, 0x7f, 0x00], &OF_ANOTHER_KIND)?;
@@ -293,7 +294,7 @@ fn takes_nothing_where_the_type_is_of_another_kind(rt: HostRuntime) -> Result<()
     )
 }
 
-/// A function, a table, a memory, a global and a tag are imported, and a function is defined.
+/// The text of a module that imports a function, a table, a memory, a global and a tag, and defines a function.
 const AMONG_IMPORTS: &str = r#"(module
   (type (;0;) (func))
   (import "" "" (func (;0;) (type 0)))
@@ -308,7 +309,7 @@ const AMONG_IMPORTS: &str = r#"(module
 )
 "#;
 
-/// What stands in front of the body of that function.
+/// The sections before the body of the defined function.
 const IMPORTING_SECTIONS: [Section; 3] = [
     (TYPE, &NO_PARAMS),
     (

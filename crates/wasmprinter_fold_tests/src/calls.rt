@@ -1,5 +1,6 @@
-//! The calls on a printer that folded operators make, in their order, and which error comes where one of them fails. For a printer that
-//! takes no colours within a text, an operator and what is added by folding are text without styles.
+//! Tests of the calls that folded operators make on a printer: their order, and the error that is returned if one
+//! of them fails. If a printer takes no ANSI escape sequences within a text, operators and the parentheses that
+//! folding adds are text without styles.
 
 use crate::modules::{NO_PARAMS, folding, with_body};
 use std::alloc::Global;
@@ -20,7 +21,7 @@ const IDENTITY_FOLDED: &str = r#"[0x0]({K}module{R}
 [0x23])
 "#;
 
-/// The calls for `FIELDS`: initialisers are folded, and what stands in a short form isn't.
+/// The calls for `FIELDS`. Initialisers are folded, and expressions in the short form are not.
 const FIELDS_FOLDED: &str = r#"[0x0]({K}module{R}
 [0xb]  ({K}type {R}{N}(;0;){R} ({K}func{R}))
 [0x11]  ({K}import {R}{L}"a"{R} {L}"f"{R} ({K}func {R}{N}(;0;){R} ({K}type {R}{N}0{R})))
@@ -39,7 +40,7 @@ const FIELDS_FOLDED: &str = r#"[0x0]({K}module{R}
 [0x69])
 "#;
 
-/// Prints to any printer. It promises nothing, so that no caller works out what the promises mean for its own printer.
+/// Prints to any printer. It has no contract, so that callers need not prove anything about their own printer.
 fn print_to<P: Print>(
     config: &Config,
     alloc: Global,
@@ -49,7 +50,7 @@ fn print_to<P: Print>(
     config.print(alloc, wasm, printer)
 }
 
-/// Holds that a printer is called so for a module, and that each call was written down.
+/// Checks that printing a module to this recorder makes exactly these calls, and that each was recorded.
 fn expect_calls_to(
     alloc: Global,
     config: &Config,
@@ -65,13 +66,13 @@ fn expect_calls_to(
     Ok(())
 }
 
-/// Holds that a printer which takes no section itself is called so for a module.
+/// Checks that printing a module to a printer that claims no section makes exactly these calls.
 fn expect_calls(alloc: Global, config: &Config, wasm: &[u8], calls: &str) -> Result<(), Fail> {
     let mut recorder = Recorder::new(alloc);
     expect_calls_to(alloc, config, wasm, &mut recorder, calls)
 }
 
-/// Modules, and the calls for each.
+/// Modules, each with the calls that print it.
 const MODULES: [(&[u8], &str); 3] = [
     (&PREAMBLE, EMPTY_CALLS),
     (&IDENTITY, IDENTITY_FOLDED),
@@ -86,7 +87,8 @@ fn makes_each_call_in_order(rt: HostRuntime) -> Result<(), Fail> {
     Ok(())
 }
 
-/// An empty block, and an `if` with both arms, with places: the comments of places have a style, and those of labels none.
+/// The calls for an empty block and an `if` with both arms, with places. The comments of places have a style,
+/// those of labels have none.
 const PLACED: &str = r#"[0x0]({K}module{R}
 [0xb]{C}(;@b     ;){R}  ({K}type {R}{N}(;0;){R} ({K}func{R}))
 [0x16]{C}(;@16    ;){R}  ({K}func {R}{N}(;0;){R} ({K}type {R}{N}0{R})
@@ -101,7 +103,7 @@ const PLACED: &str = r#"[0x0]({K}module{R}
 [0x24]{C}(;@24    ;){R})
 "#;
 
-/// The operators of that body. The index takes a byte more than it needs.
+/// The operators of that body. The index is encoded in one byte more than it needs.
 const PLACED_OPERATORS: [u8; 12] = [
     0x02, 0x40, 0x0b, 0x20, 0x80, 0x00, 0x04, 0x40, 0x0c, 0x00, 0x05, 0x0b,
 ];
@@ -115,7 +117,8 @@ fn makes_calls_for_places(rt: HostRuntime) -> Result<(), Fail> {
     expect_calls(alloc, &config, &wasm, PLACED)
 }
 
-/// Calls that are refused in turn, each with those before it: the first, one in the middle, the line of a node, and the last.
+/// Recorded calls up to and including a refused one. The refused calls are the first, one in the middle, the line
+/// feed before a node, and the last.
 const BEGINNINGS: [&str; 4] = [
     "[0x0](",
     r#"[0x0]({K}module{R}
@@ -129,27 +132,29 @@ const BEGINNINGS: [&str; 4] = [
     IDENTITY_FOLDED,
 ];
 
-/// How many calls that can fail are made for `IDENTITY`.
+/// Returns the number of calls that can fail when `IDENTITY` is printed.
 fn call_count(alloc: Global, config: &Config) -> Result<u32, Error> {
     let mut whole = Recorder::new(alloc);
     print_to(config, alloc, &IDENTITY, &mut whole)?;
     Ok(whole.call_count())
 }
 
-/// Whether the error that a printer answers for `IDENTITY` is what comes, and each call was written down.
+/// Reports whether printing `IDENTITY` to the recorder returns the error of the refused call, and each call was
+/// recorded.
 fn answers_its_error(alloc: Global, config: &Config, recorder: &mut Recorder) -> bool {
     let refused = print_to(config, alloc, &IDENTITY, recorder);
     matches!(refused, Err(Error::Printer(e)) if e.kind() == ErrorKind::BrokenPipe)
         && recorder.is_complete()
 }
 
-/// The calls before the one that was refused, where it is the last and they are the first for `IDENTITY`.
+/// Returns the calls up to the refused one, or `None` if a call follows it or they are not the first calls for
+/// `IDENTITY`.
 fn calls_before(calls: &str) -> Option<&str> {
     let beginning = calls.strip_suffix(REFUSED)?;
     IDENTITY_FOLDED.starts_with(beginning).then_some(beginning)
 }
 
-/// How often these calls stand in `BEGINNINGS`.
+/// Returns the number of times that these calls occur in `BEGINNINGS`.
 fn times_told(calls: &str) -> usize {
     let mut count: usize = 0;
     for beginning in &BEGINNINGS {
@@ -160,8 +165,8 @@ fn times_told(calls: &str) -> usize {
     count
 }
 
-/// How often the calls before the one with this number, which is refused, stand in `BEGINNINGS`; nothing where it isn't the last, or its
-/// error isn't answered.
+/// Returns the number of times that the calls up to the refused one, which has this number, occur in `BEGINNINGS`.
+/// Returns `None` if that call is not the last, or its error is not returned.
 fn times_told_before(alloc: Global, config: &Config, call: u32) -> Option<usize> {
     let mut recorder = Recorder::with_refusal(alloc, call, ErrorKind::BrokenPipe);
     if !answers_its_error(alloc, config, &mut recorder) {
@@ -171,7 +176,7 @@ fn times_told_before(alloc: Global, config: &Config, call: u32) -> Option<usize>
     Some(times_told(calls))
 }
 
-/// How often calls that stand in front of one that is refused stand in `BEGINNINGS`, for each call that can fail.
+/// Returns the sum of these numbers, with each call that can fail refused in turn.
 fn times_told_in_all(alloc: Global, config: &Config) -> Result<usize, Fail> {
     let mut count: usize = 0;
     for call in 1..=call_count(alloc, config)? {
@@ -187,7 +192,7 @@ fn stops_at_the_call_that_fails_and_answers_its_error(rt: HostRuntime) -> Result
     Ok(())
 }
 
-/// The calls for a body, and a custom section behind it that the printer takes itself.
+/// The calls for a body, and for a custom section after it that the printer claims.
 const TAKEN: &str = r#"[0x0]({K}module{R}
 [0xb]  ({K}type {R}{N}(;0;){R} ({K}func{R}))
 [0x16]  ({K}func {R}{N}(;0;){R} ({K}type {R}{N}0{R})

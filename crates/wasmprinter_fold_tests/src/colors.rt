@@ -1,5 +1,5 @@
-//! Folded operators with the sequences that colour them on a terminal. The sequences are typed by hand: those of an operator's immediates
-//! stand in its node, and what folding adds has none.
+//! Tests of folded operators with ANSI escape sequences. The sequences are typed by hand. The node of an operator
+//! contains those of its immediates; the parentheses and words that folding adds have none.
 
 use crate::modules::{NO_PARAMS, Section, around, folding, with_body, with_hints, with_sections};
 use std::alloc::Global;
@@ -7,21 +7,21 @@ use std::test::Fail;
 use wasmprinter::{Config, Error};
 use wasmprinter_samples::sections::{DATA, GLOBAL};
 
-/// The lines in front of the body of a function without parameters and results.
+/// The lines before the body of a function without parameters and results.
 const HEADER: &str = "(\x1b[0m\x1b[1m\x1b[38;5;11mmodule\x1b[0m
   (\x1b[0m\x1b[1m\x1b[38;5;11mtype \x1b[0m\x1b[0m\x1b[35m(;0;)\x1b[0m (\x1b[0m\x1b[1m\x1b[38;5;11mfunc\x1b[0m))
   (\x1b[0m\x1b[1m\x1b[38;5;11mfunc \x1b[0m\x1b[0m\x1b[35m(;0;)\x1b[0m \
 (\x1b[0m\x1b[1m\x1b[38;5;11mtype \x1b[0m\x1b[0m\x1b[35m0\x1b[0m)
 ";
 
-/// Operators, and their lines.
+/// Operators, each list with its lines.
 const BODIES: [(&[u8], &str); 8] = [
-    // a number
+    // A number
     (
         &[0x41, 0x01, 0x1a],
         "    (drop\n      (i32.const\x1b[0m\x1b[31m 1\x1b[0m))\n",
     ),
-    // the comments of labels, and no style for the words of the arms
+    // The comments of labels have a style, the words of the arms have none
     (
         &[0x02, 0x40, 0x0b],
         "    (block \x1b[0m\x1b[36m;; label = @1\x1b[0m\n    )\n",
@@ -30,12 +30,12 @@ const BODIES: [(&[u8], &str); 8] = [
         &[0x04, 0x40, 0x05, 0x0b],
         "    (if \x1b[0m\x1b[36m;; label = @1\x1b[0m\n      (then)\n      (else))\n",
     ),
-    // indices
+    // Indices
     (
         &[0x20, 0x00, 0x24, 0x07],
         "    (global.set \x1b[0m\x1b[35m7\x1b[0m\n      (local.get \x1b[0m\x1b[35m0\x1b[0m))\n",
     ),
-    // a result, a label and its comment
+    // A result, a label and its comment
     (
         &[0x02, 0x7f, 0x41, 0x00, 0x0c, 0x00, 0x0b, 0x1a],
         "    (drop
@@ -45,27 +45,27 @@ const BODIES: [(&[u8], &str); 8] = [
           (i32.const\x1b[0m\x1b[31m 0\x1b[0m))))
 ",
     ),
-    // a type
+    // A type
     (
         &[0xd0, 0x70, 0xd1],
         "    (ref.is_null\n      (ref.null \x1b[0m\x1b[1m\x1b[38;5;10mfunc\x1b[0m))\n",
     ),
-    // a number with a comment
+    // A number with a comment
     (
         &[0x43, 0x00, 0x00, 0x80, 0xff, 0x8c],
         "    (f32.neg\n      (f32.const -\x1b[0m\x1b[31minf \x1b[0m\x1b[36m(;=-inf;)\x1b[0m))\n",
     ),
-    // a branch that isn't there has no style
+    // A label that does not exist has no style
     (&[0x0c, 0x01], "    (br 1 (; INVALID ;))\n"),
 ];
 
-/// Whether the text of a module in colours, by these options, is the typed one.
+/// Reports whether a module, printed with these options and ANSI escape sequences, has the typed text.
 fn is_in_colors(alloc: Global, config: &Config, wasm: &[u8], typed: &str) -> Result<bool, Error> {
     let text = config.print_to_ansi(alloc, wasm)?;
     Ok(text.as_slice() == typed.as_bytes())
 }
 
-/// Whether a body with these operators is printed by these lines.
+/// Reports whether a body with these operators is printed as these lines.
 fn is_body_in_colors(alloc: Global, operators: &[u8], lines: &str) -> Result<bool, Fail> {
     let wasm = with_body(alloc, &NO_PARAMS, operators)?;
     let typed = around(alloc, HEADER, lines)?;
@@ -80,10 +80,10 @@ fn colors_nodes_as_operators(rt: HostRuntime) -> Result<(), Fail> {
     Ok(())
 }
 
-/// The data of a hint section: one of function 0, of the operator at its first byte.
+/// The data of a hint section: a hint for the first operator of function 0.
 const HINT: [u8; 6] = [0x01, 0x00, 0x01, 0x01, 0x01, 0x01];
 
-/// The lines of a body in colours, an `if` with a hint.
+/// The lines of an `if` with a hint, with ANSI escape sequences.
 const HINTED: &str = "    (@metadata.code.branch_hint \"\\01\")
     (if \x1b[0m\x1b[36m;; label = @1\x1b[0m
       (then))
@@ -98,7 +98,7 @@ fn colors_no_hint(rt: HostRuntime) -> Result<(), Fail> {
     Ok(())
 }
 
-/// A global with a block, and segments with an offset of one operator and of two.
+/// A global with a block, and segments with offsets of one operator and of two.
 const EXPRESSIONS: [Section; 2] = [
     (
         GLOBAL,
@@ -130,7 +130,7 @@ fn colors_expressions(rt: HostRuntime) -> Result<(), Fail> {
     Ok(())
 }
 
-/// A module in colours and with places.
+/// The text of a module with ANSI escape sequences and places.
 const PLACED: &str = "(\x1b[0m\x1b[1m\x1b[38;5;11mmodule\x1b[0m
 \x1b[0m\x1b[36m(;@b     ;)\x1b[0m  (\x1b[0m\x1b[1m\x1b[38;5;11mtype \x1b[0m\x1b[0m\x1b[35m(;0;)\x1b[0m \
 (\x1b[0m\x1b[1m\x1b[38;5;11mfunc\x1b[0m))

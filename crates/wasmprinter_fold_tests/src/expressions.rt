@@ -1,12 +1,13 @@
-//! Folded constant expressions: nodes stand on the line of their field, parted by blanks, and a label's comment is a block comment.
+//! Tests of folded constant expressions. Nodes are on the line of their field, separated by spaces, and the
+//! comment of a label is a block comment.
 
 use crate::modules::{NO_PARAMS, Section, expect_field, expect_folded, with_code};
 use std::test::Fail;
 use wasmprinter_samples::sections::{DATA, ELEMENT, FUNCTION, GLOBAL, TABLE, TAG, TYPE};
 
-/// Global sections of one global each, and its text.
+/// Global sections of one global each, with its text.
 const GLOBALS: [(&[u8], &str); 11] = [
-    // no operators, one, and two that aren't operands of another
+    // No operators, one, and two of which neither is an operand of the other
     (&[0x01, 0x7f, 0x00, 0x0b], "(global (;0;) i32 )"),
     (
         &[0x01, 0x7f, 0x01, 0x41, 0x01, 0x0b],
@@ -20,7 +21,7 @@ const GLOBALS: [(&[u8], &str); 11] = [
         &[0x01, 0x7f, 0x00, 0x41, 0x01, 0x41, 0x02, 0x6a, 0x45, 0x0b],
         "(global (;0;) i32 (i32.eqz (i32.add (i32.const 1) (i32.const 2))))",
     ),
-    // blocks
+    // Blocks
     (
         &[0x01, 0x7f, 0x00, 0x02, 0x7f, 0x41, 0x01, 0x0b, 0x0b],
         "(global (;0;) i32 (block (result i32)  (; label = @1 ;) (i32.const 1)))",
@@ -39,7 +40,7 @@ const GLOBALS: [(&[u8], &str); 11] = [
         "(global (;0;) i32 (i32.eqz (if (result i32)  (; label = @1 ;) (i32.const 1) \
         (then (i32.const 2)) (else (i32.const 3)))))",
     ),
-    // the expression's own label has no values
+    // The label of the expression itself has no values
     (
         &[0x01, 0x7f, 0x00, 0x41, 0x01, 0x41, 0x02, 0x0d, 0x00, 0x0b],
         "(global (;0;) i32 (i32.const 1) (br_if 0 (i32.const 2)))",
@@ -52,7 +53,7 @@ const GLOBALS: [(&[u8], &str); 11] = [
         &[0x01, 0x7f, 0x00, 0x41, 0x01, 0xd6, 0x00, 0x0b],
         "(global (;0;) i32 (i32.const 1) (br_on_non_null 0))",
     ),
-    // a return takes nothing there
+    // A return takes nothing in an initialiser
     (
         &[0x01, 0x7f, 0x00, 0x41, 0x01, 0x0f, 0x0b],
         "(global (;0;) i32 (i32.const 1) (return))",
@@ -67,9 +68,9 @@ fn prints_initialisers_on_one_line(rt: HostRuntime) -> Result<(), Fail> {
     Ok(())
 }
 
-/// Sections of one field with short forms of expressions, and its text.
+/// Sections of one field whose expressions may have the short form, each with the text of the field.
 const SHORT_FORMS: [(u8, &[u8], &str); 9] = [
-    // of one operator alone, which isn't folded
+    // A single operator has the short form
     (
         ELEMENT,
         &[0x01, 0x00, 0x41, 0x00, 0x0b, 0x01, 0x00],
@@ -85,19 +86,19 @@ const SHORT_FORMS: [(u8, &[u8], &str); 9] = [
         &[0x01, 0x00, 0x41, 0x00, 0x0b, 0x01, 0x61],
         "(data (;0;) (i32.const 0) \"a\")",
     ),
-    // of none
+    // No operators
     (
         DATA,
         &[0x01, 0x00, 0x0b, 0x00],
         "(data (;0;) (offset ) \"\")",
     ),
-    // of one that takes operands which aren't there
+    // A single operator whose operands are missing
     (
         DATA,
         &[0x01, 0x00, 0x6a, 0x0b, 0x00],
         "(data (;0;) (i32.add) \"\")",
     ),
-    // of several
+    // Several operators
     (
         ELEMENT,
         &[
@@ -117,7 +118,7 @@ const SHORT_FORMS: [(u8, &[u8], &str); 9] = [
         &[0x01, 0x00, 0x41, 0x03, 0x41, 0x04, 0x0b, 0x01, 0x61],
         "(data (;0;) (offset (i32.const 3) (i32.const 4)) \"a\")",
     ),
-    // a block alone is two operators
+    // A block without operators counts as two operators
     (
         DATA,
         &[0x01, 0x00, 0x02, 0x40, 0x0b, 0x0b, 0x01, 0x61],
@@ -133,7 +134,7 @@ fn folds_expressions_but_of_one_operator(rt: HostRuntime) -> Result<(), Fail> {
     Ok(())
 }
 
-/// Two tables whose initialisers need the types of a tag and of a function.
+/// Two tables whose initialisers depend on the types of a tag and of a function.
 const USING_TYPES: [Section; 4] = [
     (
         TYPE,
@@ -151,7 +152,7 @@ const USING_TYPES: [Section; 4] = [
     (TAG, &[0x01, 0x00, 0x00]),
 ];
 
-/// An initialiser stands in front of the tags, and of the bodies, whose types it needs.
+/// An initialiser is printed before the tags and bodies on whose types it depends.
 #[test]
 fn knows_types_of_what_stands_behind(rt: HostRuntime) -> Result<(), Fail> {
     let wasm = with_code(rt.alloc(), &USING_TYPES, &[])?;
@@ -170,7 +171,7 @@ fn knows_types_of_what_stands_behind(rt: HostRuntime) -> Result<(), Fail> {
     )
 }
 
-/// A global with an initialiser, in front of a body.
+/// A global with an initialiser, before a body.
 const BEFORE_A_BODY: [Section; 3] = [
     (TYPE, &NO_PARAMS),
     (FUNCTION, &[0x01, 0x00]),

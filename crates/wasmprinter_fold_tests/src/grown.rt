@@ -1,4 +1,5 @@
-//! What is kept grows where it has to: several imports, blocks in blocks, long texts, lists of many operators, hints of later functions.
+//! Tests in which the buffers of folding must grow: several imports, nested blocks, long texts, expressions with
+//! many operators, and hints of later functions.
 
 use crate::modules::{
     HEADER, NO_PARAMS, Section, expect_body, expect_field, expect_folded, expect_lines, with_code,
@@ -10,9 +11,9 @@ use wasmprinter_samples::sections::{
     CODE, CUSTOM, DATA, ELEMENT, FUNCTION, IMPORT, TYPE, add_section,
 };
 
-/// Operators in blocks, and their lines.
+/// Operators in nested blocks, each list with its lines.
 const NESTED: [(&[u8], &str); 2] = [
-    // an `if` in each arm of an `if`
+    // An `if` in each arm of an `if`
     (
         &[
             0x41, 0x00, 0x04, 0x40, // i32.const and if
@@ -33,7 +34,7 @@ const NESTED: [(&[u8], &str); 2] = [
             (then)))))
 "#,
     ),
-    // operands in the third block
+    // Operands in the third block
     (
         &[
             0x02, 0x40, 0x02, 0x40, 0x02, 0x40, // block, three times
@@ -58,7 +59,7 @@ fn folds_blocks_in_blocks(rt: HostRuntime) -> Result<(), Fail> {
     Ok(())
 }
 
-/// Two function types with a result or a parameter, one with two parameters, and one with nothing.
+/// Four function types: with one result, with one parameter, with two parameters, and without both.
 const FOUR_TYPES: [u8; 17] = [
     0x04, 0x60, 0x00, 0x01, 0x7f, 0x60, 0x01, 0x7f, 0x00, 0x60, 0x02, 0x7f, 0x7f, 0x00, 0x60, 0x00,
     0x00,
@@ -70,7 +71,7 @@ const FOUR_IMPORTS: [u8; 19] = [
     0x04, 0x00, 0x02,
 ];
 
-/// A body that uses each of them.
+/// A body that uses each import.
 const USING_IMPORTS: [u8; 14] = [
     0x10, 0x00, 0x10, 0x01, // call, twice
     0x41, 0x01, 0x08, 0x00, // i32.const and throw
@@ -98,7 +99,7 @@ const FOUR_IMPORTS_TEXT: &str = r#"(module
 )
 "#;
 
-/// What stands in front of that body.
+/// The sections before that body.
 const IMPORTING_SECTIONS: [Section; 3] = [
     (TYPE, &FOUR_TYPES),
     (IMPORT, &FOUR_IMPORTS),
@@ -111,10 +112,11 @@ fn folds_beside_several_imports(rt: HostRuntime) -> Result<(), Fail> {
     expect_folded(rt.alloc(), &wasm, FOUR_IMPORTS_TEXT)
 }
 
-/// How many labels a table of branches has, with the last.
+/// The number of labels of a `br_table`, including the last.
 const LABELS: usize = 101;
 
-/// A code section with a body of 107 bytes without locals: an operand, and a table of 100 labels beside the last.
+/// Returns a code section with a body of 107 bytes without locals: an operand, and a `br_table` with 100 labels
+/// and the last.
 fn branching_code(alloc: Global) -> Result<Vec<u8>, AllocError> {
     let mut code = Vec::from_slice(alloc, &[0x01, 0x6b, 0x00, 0x41, 0x00, 0x0e, 0x64])?;
     code.extend_from_slice(&[0x00; LABELS])?;
@@ -122,7 +124,7 @@ fn branching_code(alloc: Global) -> Result<Vec<u8>, AllocError> {
     Ok(code)
 }
 
-/// Adds the line of that table, and that of its operand.
+/// Adds the line of the `br_table`, and that of its operand.
 fn add_branches(lines: &mut String) -> Result<(), AllocError> {
     lines.push_str("    (br_table")?;
     for _ in 0..LABELS {
@@ -131,7 +133,7 @@ fn add_branches(lines: &mut String) -> Result<(), AllocError> {
     lines.push_str("\n      (i32.const 0))\n")
 }
 
-/// A module with a function of that code.
+/// Returns a module of one function with that code.
 fn with_branches(alloc: Global) -> Result<Vec<u8>, AllocError> {
     let code = branching_code(alloc)?;
     let mut wasm = with_section(alloc, TYPE, &NO_PARAMS)?;
@@ -149,12 +151,12 @@ fn folds_a_long_table_of_branches(rt: HostRuntime) -> Result<(), Fail> {
     expect_body(alloc, &wasm, HEADER, lines.as_str())
 }
 
-/// Two functions behind an imported one, with a hint of the last.
+/// Two functions after an imported one, with a hint for the last function.
 const HINTED: [Section; 5] = [
     (TYPE, &NO_PARAMS),
     (IMPORT, &[0x01, 0x00, 0x00, 0x00, 0x00]),
     (FUNCTION, &[0x02, 0x00, 0x00]),
-    // function 2, at its fourth byte
+    // A hint for function 2, at offset 3
     (
         CUSTOM,
         b"\x19metadata.code.branch_hint\x01\x02\x01\x03\x01\x01",
@@ -189,7 +191,7 @@ fn folds_a_hint_of_a_later_function(rt: HostRuntime) -> Result<(), Fail> {
     )
 }
 
-/// The content of a section of one entry, and its field: an item and an offset of many operators.
+/// Sections of one entry, each with its field: an item and an offset of many operators.
 const LONG: [(u8, &[u8], &str); 2] = [
     (
         ELEMENT,

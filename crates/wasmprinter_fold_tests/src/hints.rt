@@ -1,5 +1,6 @@
-//! Branch hints of folded operators (Code Metadata): each stands on a line of its own, in front of the node of its operator; and those of
-//! operators that have no node of their own, or whose node a hint can't stand in front of, which are refused.
+//! Tests of branch hints of folded operators (Code Metadata). Each is on a line of its own, before the node of its
+//! operator. Hints are refused if their operator has no node of its own, or if folded text has nowhere to put
+//! them.
 
 use crate::modules::{
     Refusal, expect_body, expect_folded, expect_printed, expect_refusal, folding, is_text_refused,
@@ -8,20 +9,21 @@ use crate::modules::{
 use std::alloc::{AllocError, Global};
 use std::test::Fail;
 
-/// The type of functions with one parameter, alone.
+/// A type section with one function type, with one parameter.
 const ONE_PARAM: [u8; 5] = [0x01, 0x60, 0x01, 0x7f, 0x00];
 
-/// A module with a function of one parameter and these operators, and a hint section with this data, which begins at byte 0x2f.
+/// Returns a module with a function of one parameter and these operators, and a hint section with this data, which
+/// starts at byte 0x2f.
 fn module_with_hints(alloc: Global, data: &[u8], operators: &[u8]) -> Result<Vec<u8>, AllocError> {
     with_hints(alloc, &ONE_PARAM, data, operators)
 }
 
-/// A parameter tested in an `if`.
+/// A test of the parameter in an `if`.
 const TESTED: [u8; 5] = [0x20, 0x00, 0x04, 0x40, 0x0b];
 
-/// Data of hint sections, and the lines of those operators.
+/// Data of hint sections, each with the lines of `TESTED`.
 const ROWS: [(&[u8], &str); 5] = [
-    // of the `if`
+    // A hint for the `if`
     (
         &[0x01, 0x00, 0x01, 0x03, 0x01, 0x01],
         r#"    (@metadata.code.branch_hint "\01")
@@ -38,7 +40,7 @@ const ROWS: [(&[u8], &str); 5] = [
       (then))
 "#,
     ),
-    // of its condition, and of both
+    // A hint for its condition, and for both
     (
         &[0x01, 0x00, 0x02, 0x01, 0x01, 0x00, 0x03, 0x01, 0x01],
         r#"    (@metadata.code.branch_hint "\01")
@@ -48,7 +50,7 @@ const ROWS: [(&[u8], &str); 5] = [
       (then))
 "#,
     ),
-    // the first belongs to no operator, so that none is left for the `end`
+    // The first hint belongs to no operator, and so blocks that of the `end`
     (
         &[0x01, 0x00, 0x02, 0x04, 0x01, 0x01, 0x05, 0x01, 0x01],
         r#"    (if ;; label = @1
@@ -56,7 +58,7 @@ const ROWS: [(&[u8], &str); 5] = [
       (then))
 "#,
     ),
-    // the last `end` has none
+    // The last `end` takes no hint
     (
         &[0x01, 0x00, 0x01, 0x06, 0x01, 0x01],
         r#"    (if ;; label = @1
@@ -66,7 +68,7 @@ const ROWS: [(&[u8], &str); 5] = [
     ),
 ];
 
-/// The lines in front of the function's body.
+/// The lines before the function's body.
 const ONE_PARAM_HEADER: &str = "(module
   (type (;0;) (func (param i32)))
   (func (;0;) (type 0) (param i32)
@@ -105,12 +107,12 @@ fn places_hints_as_nodes(rt: HostRuntime) -> Result<(), Fail> {
     )
 }
 
-/// A branch, whose value an operator takes.
+/// A conditional branch whose value is an operand of another operator.
 const OPERANDS: [u8; 11] = [
     0x02, 0x7f, 0x41, 0x01, 0x20, 0x00, 0x0d, 0x00, 0x45, 0x0b, 0x1a,
 ];
 
-/// Hints of a branch, and of the operator that takes its value.
+/// Hints for a branch, and for the operator that takes its value.
 #[test]
 fn prints_hints_of_operands(rt: HostRuntime) -> Result<(), Fail> {
     let alloc = rt.alloc();
@@ -136,13 +138,13 @@ fn prints_hints_of_operands(rt: HostRuntime) -> Result<(), Fail> {
     )
 }
 
-/// Blocks of each kind: at byte 1 a block, which ends at 3; at 4 a loop, which ends at 6; at 7 a `try_table`, which ends at 10; at 13 an
-/// `if`, with its `else` at 15 and its `end` at 16.
+/// Blocks of each kind, by their offsets in the body: a block from 1 to its `end` at 3; a loop from 4 to 6; a
+/// `try_table` from 7 to 10; and an `if` at 13, with its `else` at 15 and its `end` at 16.
 const EACH_KIND: [u8; 16] = [
     0x02, 0x40, 0x0b, 0x03, 0x40, 0x0b, 0x1f, 0x40, 0x00, 0x0b, 0x41, 0x00, 0x04, 0x40, 0x05, 0x0b,
 ];
 
-/// Their text without a hint.
+/// The lines of `EACH_KIND` without a hint.
 const UNHINTED: &str = r#"    (block ;; label = @1
     )
     (loop ;; label = @1
@@ -155,7 +157,7 @@ const UNHINTED: &str = r#"    (block ;; label = @1
       (else))
 "#;
 
-/// Their text with a hint of the constant.
+/// The lines of `EACH_KIND` with a hint for the constant.
 const CONSTANT_HINTED: &str = r#"    (block ;; label = @1
     )
     (loop ;; label = @1
@@ -169,7 +171,7 @@ const CONSTANT_HINTED: &str = r#"    (block ;; label = @1
       (else))
 "#;
 
-/// Their text with a hint of the `if`.
+/// The lines of `EACH_KIND` with a hint for the `if`.
 const IF_HINTED: &str = r#"    (block ;; label = @1
     )
     (loop ;; label = @1
@@ -183,38 +185,40 @@ const IF_HINTED: &str = r#"    (block ;; label = @1
       (else))
 "#;
 
-/// Where a block, a loop and a `try_table` stand, their ends, and the `else` and `end` of the `if`.
+/// The offsets at which hints are refused: of the block, the loop and the `try_table`, of their ends, and of the
+/// `else` and `end` of the `if`.
 const OF_BLOCKS: [u8; 8] = [1, 3, 4, 6, 7, 10, 15, 16];
 
-/// The offsets of the constant, the `if` and the last `end`, each with the text for a hint at it.
+/// The offsets of the constant, the `if` and the last `end`, each with the lines for a hint at it.
 const OF_OTHERS: [(u8, &str); 3] = [(11, CONSTANT_HINTED), (13, IF_HINTED), (17, UNHINTED)];
 
-/// Whether blocks of each kind are refused for a hint at this place, where this is the data of their hints.
+/// Reports whether `EACH_KIND`, with this data of hints, is refused for a hint at this place.
 fn is_hint_refused(alloc: Global, data: &[u8], place: u64) -> Result<bool, AllocError> {
     let wasm = module_with_hints(alloc, data, &EACH_KIND)?;
     Ok(is_text_refused(alloc, &folding(), &wasm, Refusal::Hint(place)))
 }
 
-/// Checks that blocks of each kind are printed by these lines, if this is the data of their hints.
+/// Checks that `EACH_KIND`, with this data of hints, is printed as these lines.
 fn expect_kinds(alloc: Global, data: &[u8], lines: &str) -> Result<(), Fail> {
     let wasm = module_with_hints(alloc, data, &EACH_KIND)?;
     expect_body(alloc, &wasm, ONE_PARAM_HEADER, lines)
 }
 
-/// Where the constant stands, whose hint is printed.
+/// The offset of the constant, whose hint is printed.
 const CONSTANT: u8 = 0x0b;
 
-/// The data of a hint of the operator at this byte, behind the count of functions, the function and the count of its hints.
+/// Returns the data of a hint for the operator at this offset, after the count of functions, the function and the
+/// count of its hints.
 fn hint_at(offset: u8) -> [u8; 6] {
     [0x01, 0x00, 0x01, offset, 0x01, 0x01]
 }
 
-/// The data of a hint of the constant, followed by a hint of the operator at this byte.
+/// Returns the data of a hint for the constant, followed by a hint for the operator at this offset.
 fn hints_at_constant_and(offset: u8) -> [u8; 9] {
     [0x01, 0x00, 0x02, CONSTANT, 0x01, 0x01, offset, 0x01, 0x01]
 }
 
-/// After the hint of the constant, a hint of an earlier operator is never reached.
+/// After the hint for the constant, a hint for an earlier operator is never reached.
 #[test]
 fn refuses_hints_of_blocks_and_of_their_ends(rt: HostRuntime) -> Result<(), Fail> {
     let alloc = rt.alloc();
@@ -236,7 +240,7 @@ fn refuses_hints_of_blocks_and_of_their_ends(rt: HostRuntime) -> Result<(), Fail
     Ok(())
 }
 
-/// A function without operands, with a hint of its block.
+/// A module whose function has no parameters, with a hint for its block.
 const BLOCK_HINTED: [u8; 61] = [
     0x00, 0x61, 0x73, 0x6d, 0x01, 0x00, 0x00, 0x00, // preamble
     0x01, 0x04, 0x01, 0x60, 0x00, 0x00, // types
@@ -247,7 +251,7 @@ const BLOCK_HINTED: [u8; 61] = [
     0x0a, 0x07, 0x01, 0x05, 0x00, 0x02, 0x40, 0x0b, 0x0b, // code
 ];
 
-/// The text of that function, flat.
+/// The text of that module, flat.
 const BLOCK_HINTED_FLAT: &str = r#"(module
   (type (;0;) (func))
   (func (;0;) (type 0)
@@ -258,7 +262,7 @@ const BLOCK_HINTED_FLAT: &str = r#"(module
 )
 "#;
 
-/// No body is printed in an outline, and none folded.
+/// The hint is not refused in a skeleton, which has no bodies.
 #[test]
 fn tells_where_the_hint_stands(rt: HostRuntime) -> Result<(), Fail> {
     expect_refusal(

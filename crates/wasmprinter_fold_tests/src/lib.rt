@@ -1,5 +1,6 @@
-//! Tests of folded operators, through the paths of the crate `wasmprinter` alone: which operands each operator takes, how bodies and
-//! constant expressions are laid out, hints, names, colours, options, calls, refusals and large modules. What is expected is typed by hand.
+//! Tests of folded operators: the operands that each operator takes, the layout of bodies and constant
+//! expressions, hints, names, colors, options, calls, refusals and large modules. They use only paths of the crate
+//! `wasmprinter`. All expected texts and calls are typed by hand.
 #![tactic(auto)]
 
 #[cfg(test)]

@@ -1,4 +1,5 @@
-//! Modules that are made of a few sections, and what is expected of them with operators folded.
+//! Helpers shared by the tests of folded operators: building modules of a few sections, and checking their folded
+//! texts.
 
 use std::alloc::{AllocError, Global};
 use std::test::Fail;
@@ -6,16 +7,17 @@ use wasmprinter::{Config, Error};
 use wasmprinter_samples::sections::{FUNCTION, TYPE, add_custom, add_section};
 use wasmprinter_samples::{PREAMBLE, expect_text};
 
-/// The type of functions without parameters and results, alone.
+/// The content of a type section with one function type, without parameters and results.
 pub const NO_PARAMS: [u8; 4] = [0x01, 0x60, 0x00, 0x00];
 
-/// The lines in front of the body of a function without parameters and results, which is alone in a module.
+/// The lines before the body of the only function of a module, without parameters and results.
 pub const HEADER: &str = "(module\n  (type (;0;) (func))\n  (func (;0;) (type 0)\n";
 
-/// The number of a section, and its content.
+/// The id of a section, and its content.
 pub type Section = (u8, &'static [u8]);
 
-/// Adds a code section with one body: without locals, with these operators, of which there are fewer than 100 bytes, and an `end`.
+/// Adds a code section with one body: no locals, these operators, which must have fewer than 100 bytes, and an
+/// `end`.
 pub fn add_code(wasm: &mut Vec<u8>, operators: &[u8]) -> Result<(), AllocError> {
     let size = operators.len().min(100) as u8 + 2;
     wasm.extend_from_slice(&[0x0a, size + 2, 0x01, size, 0x00])?;
@@ -24,7 +26,7 @@ pub fn add_code(wasm: &mut Vec<u8>, operators: &[u8]) -> Result<(), AllocError> 
     Ok(())
 }
 
-/// Adds these sections in their order.
+/// Adds these sections in order.
 fn add_sections(wasm: &mut Vec<u8>, sections: &[Section]) -> Result<(), AllocError> {
     for (id, content) in sections {
         add_section(wasm, *id, content)?;
@@ -39,21 +41,22 @@ fn add_function(wasm: &mut Vec<u8>, types: &[u8], operators: &[u8]) -> Result<()
     add_code(wasm, operators)
 }
 
-/// A module with these types (the content of a type section), and a function of the first type with these operators.
+/// Returns a module with these types (the content of a type section), and a function of the first type with these
+/// operators.
 pub fn with_body(alloc: Global, types: &[u8], operators: &[u8]) -> Result<Vec<u8>, AllocError> {
     let mut wasm = Vec::from_slice(alloc, &PREAMBLE)?;
     add_function(&mut wasm, types, operators)?;
     Ok(wasm)
 }
 
-/// A module of these sections.
+/// Returns a module of these sections.
 pub fn with_sections(alloc: Global, sections: &[Section]) -> Result<Vec<u8>, AllocError> {
     let mut wasm = Vec::from_slice(alloc, &PREAMBLE)?;
     add_sections(&mut wasm, sections)?;
     Ok(wasm)
 }
 
-/// A module of these sections, and behind them one of code, whose body has these operators.
+/// Returns a module of these sections, followed by a code section whose body has these operators.
 pub fn with_code(
     alloc: Global,
     sections: &[Section],
@@ -64,14 +67,15 @@ pub fn with_code(
     Ok(wasm)
 }
 
-/// A module of one section.
+/// Returns a module of one section.
 pub fn with_section(alloc: Global, id: u8, content: &[u8]) -> Result<Vec<u8>, AllocError> {
     let mut wasm = Vec::from_slice(alloc, &PREAMBLE)?;
     add_section(&mut wasm, id, content)?;
     Ok(wasm)
 }
 
-/// A module with a function of the first of these types, a section of branch hints with this data, and the function's operators.
+/// Returns a module with a function of the first of these types and with these operators, and a hint section with
+/// this data.
 pub fn with_hints(
     alloc: Global,
     types: &[u8],
@@ -85,26 +89,26 @@ pub fn with_hints(
     Ok(wasm)
 }
 
-/// A module of these sections, and behind them one of names with this data.
+/// Returns a module of these sections, followed by a name section with this data.
 pub fn with_names(alloc: Global, sections: &[Section], data: &[u8]) -> Result<Vec<u8>, AllocError> {
     let mut wasm = with_sections(alloc, sections)?;
     add_custom(alloc, &mut wasm, "name", data)?;
     Ok(wasm)
 }
 
-/// Options by which operators are folded.
+/// Returns the options that fold operators.
 pub fn folding() -> Config {
     let mut config = Config::new();
     config.fold_instructions(true);
     config
 }
 
-/// The text of a module, folded.
+/// Returns the folded text of a module.
 pub fn folded_text(alloc: Global, wasm: &[u8]) -> Result<String, Error> {
     folding().print_to_string(alloc, wasm)
 }
 
-/// Holds that a module is printed as it is typed, by these options.
+/// Checks that a module, printed with these options, has the typed text.
 pub fn expect_printed(
     alloc: Global,
     config: &Config,
@@ -116,38 +120,40 @@ pub fn expect_printed(
     Ok(())
 }
 
-/// Holds that a module is printed as it is typed, folded.
+/// Checks that a module, printed folded, has the typed text.
 pub fn expect_folded(alloc: Global, wasm: &[u8], typed: &str) -> Result<(), Fail> {
     expect_printed(alloc, &folding(), wasm, typed)
 }
 
-/// Holds that a module is printed, folded, with these lines in front of the last function's body, and these of it.
+/// Checks that a module, printed folded, has these lines before the body of its last function, and these lines of
+/// that body.
 pub fn expect_body(alloc: Global, wasm: &[u8], header: &str, lines: &str) -> Result<(), Fail> {
     let typed = around(alloc, header, lines)?;
     expect_folded(alloc, wasm, typed.as_str())
 }
 
-/// Holds that a function without parameters and results that has these operators is printed, folded, with these lines of its body.
+/// Checks that a function without parameters and results and with these operators, printed folded, has these lines
+/// of its body.
 pub fn expect_lines(alloc: Global, operators: &[u8], lines: &str) -> Result<(), Fail> {
     let wasm = with_body(alloc, &NO_PARAMS, operators)?;
     expect_body(alloc, &wasm, HEADER, lines)
 }
 
-/// Holds that the only field of a module is printed as it is typed, folded.
+/// Checks that the only field of a module, printed folded, has the typed text.
 pub fn expect_field(alloc: Global, id: u8, content: &[u8], field: &str) -> Result<(), Fail> {
     let wasm = with_section(alloc, id, content)?;
     let typed = around_field(alloc, field)?;
     expect_folded(alloc, &wasm, typed.as_str())
 }
 
-/// What can't be folded, and its place.
+/// The reason why a module cannot be folded, with its place.
 #[derive(Clone, Copy)]
 pub enum Refusal {
     Legacy(u64),
     Hint(u64),
 }
 
-/// Whether that is what an error says.
+/// Reports whether the error states this reason.
 fn is_reason(refusal: Refusal, error: &Error) -> bool {
     match (refusal, error) {
         (Refusal::Legacy(wanted), Error::FoldLegacy { place }) => wanted == *place,
@@ -156,7 +162,7 @@ fn is_reason(refusal: Refusal, error: &Error) -> bool {
     }
 }
 
-/// Whether the text of a module is refused for this.
+/// Reports whether the text of a module is refused for this reason.
 pub fn is_text_refused(alloc: Global, config: &Config, wasm: &[u8], refusal: Refusal) -> bool {
     match config.print_to_string(alloc, wasm) {
         Ok(_) => false,
@@ -164,7 +170,7 @@ pub fn is_text_refused(alloc: Global, config: &Config, wasm: &[u8], refusal: Ref
     }
 }
 
-/// Whether the text of a module in colours is refused for this.
+/// Reports whether the text of a module with ANSI escape sequences is refused for this reason.
 fn is_refused_in_colors(alloc: Global, config: &Config, wasm: &[u8], refusal: Refusal) -> bool {
     match config.print_to_ansi(alloc, wasm) {
         Ok(_) => false,
@@ -172,7 +178,7 @@ fn is_refused_in_colors(alloc: Global, config: &Config, wasm: &[u8], refusal: Re
     }
 }
 
-/// Whether the lines of a module behind a text are refused for this.
+/// Reports whether appending the lines of a module to `storage` is refused for this reason.
 fn are_lines_refused(
     alloc: Global,
     config: &Config,
@@ -186,7 +192,8 @@ fn are_lines_refused(
     }
 }
 
-/// Whether the lines of a module are refused for this, and the text in front of them stays.
+/// Reports whether appending the lines of a module is refused for this reason, and the earlier contents of the
+/// storage remain.
 fn are_lines_refused_behind_text(
     alloc: Global,
     config: &Config,
@@ -200,7 +207,8 @@ fn are_lines_refused_behind_text(
     )
 }
 
-/// Whether a module is refused for this as a text, in colours and by lines.
+/// Reports whether a module is refused for this reason by each call: as a text, with ANSI escape sequences, and as
+/// lines.
 fn is_refused_each_way(
     alloc: Global,
     config: &Config,
@@ -214,7 +222,8 @@ fn is_refused_each_way(
     )
 }
 
-/// Holds that a module is refused for this in each way where it is folded, and printed as it is typed as an outline and flat.
+/// Checks that each call refuses the folded module for this reason, and that the module is printed as typed as a
+/// skeleton (folded) and flat.
 pub fn expect_refusal(
     alloc: Global,
     wasm: &[u8],
@@ -232,7 +241,8 @@ pub fn expect_refusal(
     expect_printed(alloc, &config, wasm, flat)
 }
 
-/// The text of a module with these lines in front of the body of its last function, and these of it.
+/// Returns the text of a module with these lines before the body of its last function, and these lines of that
+/// body.
 pub fn around(alloc: Global, header: &str, lines: &str) -> Result<String, AllocError> {
     let mut text = String::from_str(alloc, header)?;
     text.push_str(lines)?;
@@ -240,7 +250,7 @@ pub fn around(alloc: Global, header: &str, lines: &str) -> Result<String, AllocE
     Ok(text)
 }
 
-/// The text of a module whose only field this is.
+/// Returns the text of a module with this field as its only one.
 fn around_field(alloc: Global, field: &str) -> Result<String, AllocError> {
     let mut text = String::from_str(alloc, "(module\n  ")?;
     text.push_str(field)?;

@@ -1,12 +1,12 @@
-//! Folded operators with names: a line begins behind a node without children whose text holds two semicolons, which could begin a comment,
-//! also where these stand in a name.
+//! Tests of folded operators with names. If the text of a node without children contains two semicolons, which can
+//! start a comment, its closing parenthesis is on a new line. This holds for semicolons in a name too.
 
 use crate::modules::{NO_PARAMS, Section, expect_folded, with_body, with_names};
 use std::alloc::{AllocError, Global};
 use std::test::Fail;
 use wasmprinter_samples::sections::{CODE, DATA, ELEMENT, FUNCTION, GLOBAL, TYPE, add_custom};
 
-/// Globals, and segments whose offsets begin as the first.
+/// Two globals, and segments whose offsets start with the first global.
 const GLOBALS_AND_SEGMENTS: [Section; 3] = [
     (
         GLOBAL,
@@ -21,7 +21,7 @@ const GLOBALS_AND_SEGMENTS: [Section; 3] = [
     (DATA, &[0x01, 0x00, 0x23, 0x00, 0x0b, 0x00]),
 ];
 
-/// Names of globals: that of the first is `a;;b`.
+/// The name of the first global: `a;;b`.
 const OF_GLOBALS: [u8; 9] = [0x07, 0x07, 0x01, 0x00, 0x04, 0x61, 0x3b, 0x3b, 0x62];
 
 #[test]
@@ -45,7 +45,8 @@ fn begins_a_line_behind_a_name_with_semicolons(rt: HostRuntime) -> Result<(), Fa
     )
 }
 
-/// A module with a function of the first of these types, its operators, and names with this data.
+/// Returns a module with a function of the first of these types and with these operators, and a name section with
+/// this data.
 fn with_named_body(
     alloc: Global,
     types: &[u8],
@@ -57,7 +58,7 @@ fn with_named_body(
     Ok(wasm)
 }
 
-/// Names of a function's locals and labels.
+/// The names of a function's locals and labels.
 const OF_A_BODY: [u8; 36] = [
     0x02, 0x09, 0x01, 0x00, 0x01, // locals of function 0
     0x00, 0x04, 0x61, 0x3b, 0x3b, 0x62, // a;;b
@@ -69,7 +70,7 @@ const OF_A_BODY: [u8; 36] = [
     0x04, 0x01, 0x65, // e
 ];
 
-/// Operators that use them.
+/// Operators that use those names.
 const NAMED_OPERATORS: [u8; 35] = [
     0x20, 0x00, 0x1a, // local.get and drop
     0x41, 0x00, 0x21, 0x00, // i32.const and local.set
@@ -120,7 +121,7 @@ fn prints_names_of_labels_and_locals(rt: HostRuntime) -> Result<(), Fail> {
     )
 }
 
-/// A global, a function and a segment with a block each.
+/// A global, a function and a data segment, each with a block.
 const WITH_LABELS: [Section; 5] = [
     (TYPE, &NO_PARAMS),
     (FUNCTION, &[0x01, 0x00]),
@@ -135,10 +136,11 @@ const WITH_LABELS: [Section; 5] = [
     ),
 ];
 
-/// Label 0 of function 0 is called x.
+/// The name of label 0 of function 0: `x`.
 const CALLED_X: [u8; 8] = [0x03, 0x06, 0x01, 0x00, 0x01, 0x00, 0x01, 0x78];
 
-/// Labels of initialisers, and of what stands in front of the bodies, have the names of function 0; behind its body they have none.
+/// Labels in initialisers and other expressions before the bodies have the names of function 0. Labels in
+/// expressions after the body of function 0 have none.
 #[test]
 fn prints_names_of_labels_in_expressions(rt: HostRuntime) -> Result<(), Fail> {
     let wasm = with_names(rt.alloc(), &WITH_LABELS, &CALLED_X)?;
@@ -157,18 +159,19 @@ fn prints_names_of_labels_in_expressions(rt: HostRuntime) -> Result<(), Fail> {
     )
 }
 
-/// An `if` in a block, with a branch in its predicate.
+/// An `if` in a block, with a branch in its condition.
 const WITH_PREDICATE: [u8; 14] = [
     0x02, 0x40, 0x41, 0x00, 0x0d, 0x00, // block, i32.const and br_if
     0x04, 0x40, 0x0c, 0x00, 0x0c, 0x01, 0x0b, 0x0b, // if, with two branches
 ];
 
-/// Labels 0 and 1 of function 0 are called a.
+/// The names of labels 0 and 1 of function 0: both `a`.
 const BOTH_CALLED_A: [u8; 11] = [
     0x03, 0x09, 0x01, 0x00, 0x02, 0x00, 0x01, 0x61, 0x01, 0x01, 0x61,
 ];
 
-/// A predicate stands inside the group of its `if` and outside its block: there the name means the block around.
+/// The condition is inside the group of its `if`, but outside its block, so that the name means the outer block
+/// there.
 #[test]
 fn prints_names_of_labels_in_a_predicate(rt: HostRuntime) -> Result<(), Fail> {
     let wasm = with_named_body(rt.alloc(), &NO_PARAMS, &WITH_PREDICATE, &BOTH_CALLED_A)?;

@@ -1,4 +1,5 @@
-//! Folded operators together with the other options, in each list of operators that a module has; and the lines of folded texts.
+//! Tests of folded operators together with the other options, in each place where a module has operators, and of
+//! the lines of folded texts.
 
 use crate::modules::{Section, expect_folded, expect_printed, folding, with_names};
 use std::alloc::Global;
@@ -7,7 +8,8 @@ use wasmprinter::{Config, Error, OffsetsAndLines};
 use wasmprinter_samples::sections::GLOBAL;
 use wasmprinter_samples::{EMPTY_TEXT, EVERYTHING, EVERYTHING_TEXT, PREAMBLE, expect_text};
 
-/// A table with an initialiser, a global, element and data segments with offsets and items, and a function with an `if`.
+/// A module with a table with an initialiser, a global, element and data segments with offsets and items, and a
+/// function with an `if`.
 const SAMPLE: [u8; 111] = [
     0x00, 0x61, 0x73, 0x6d, 0x01, 0x00, 0x00, 0x00, // preamble
     0x01, 0x06, 0x01, 0x60, 0x01, 0x7f, 0x01, 0x7f, // types from 0x08
@@ -82,13 +84,14 @@ fn folds_each_list_and_takes_it_back(rt: HostRuntime) -> Result<(), Fail> {
     expect_printed(alloc, &Config::new(), &SAMPLE, SAMPLE_FLAT)
 }
 
-/// A module that holds nothing to fold is printed as it is flat.
+/// The text of a module without operators is the same, folded or flat.
 #[test]
 fn folds_an_empty_module(rt: HostRuntime) -> Result<(), Fail> {
     expect_folded(rt.alloc(), &PREAMBLE, EMPTY_TEXT)
 }
 
-/// With places: a block's and its arm's are those of the opening operator, and the `else` has its own.
+/// The text of `SAMPLE` with places. A block and its first arm have the place of the opening operator, and `else`
+/// has its own.
 const SAMPLE_PLACES: &str = r#"(module
 (;@b     ;)  (type (;0;) (func (param i32) (result i32)))
 (;@17    ;)  (table (;0;) 1 funcref (table.get 0 (i32.const 0)))
@@ -173,7 +176,7 @@ fn folds_with_identifiers_that_are_made_up(rt: HostRuntime) -> Result<(), Fail> 
     )
 }
 
-/// With places, identifiers made up, and indented by tabs.
+/// The text of `SAMPLE` with places, with identifiers synthesized, and indented by tabs.
 const SAMPLE_BY_TABS: &str = "(module
 (;@b     ;)\t(type $#type0 (;0;) (func (param i32) (result i32)))
 (;@17    ;)\t(table $#table0 (;0;) 1 funcref (table.get $#table0 (i32.const 0)))
@@ -196,7 +199,7 @@ const SAMPLE_BY_TABS: &str = "(module
 (;@6f    ;))
 ";
 
-/// The same without bodies, items and bytes, by all options at once.
+/// The same as a skeleton, without bodies, items and bytes: all options at once.
 const SAMPLE_BY_ALL: &str = "(module
 (;@b     ;)\t(type $#type0 (;0;) (func (param i32) (result i32)))
 (;@17    ;)\t(table $#table0 (;0;) 1 funcref (table.get $#table0 (i32.const 0)))
@@ -224,7 +227,7 @@ fn folds_by_all_options_at_once(rt: HostRuntime) -> Result<(), Fail> {
     expect_printed(alloc, &config, &SAMPLE, SAMPLE_BY_ALL)
 }
 
-/// Locals stand on a line of their own, in front of the nodes, and a function without operators has no nodes.
+/// Locals are on a line of their own, before the nodes. A function without operators has no nodes.
 #[test]
 fn folds_behind_locals(rt: HostRuntime) -> Result<(), Fail> {
     let alloc = rt.alloc();
@@ -257,7 +260,7 @@ fn folds_behind_locals(rt: HostRuntime) -> Result<(), Fail> {
 
 // ---- lines
 
-/// A line: the place of what stands on it, and its text with the line feed.
+/// A line: its place, and its text with the line feed.
 type Line = (Option<u64>, &'static str);
 
 /// The lines of `SAMPLE`.
@@ -305,12 +308,12 @@ const SAMPLE_LINES: [Line; 20] = [
     (Some(0x6f), ")\n"),
 ];
 
-/// Whether these are the lines.
+/// Reports whether these are the lines.
 fn are_lines(found: OffsetsAndLines<'_>, expected: &[Line]) -> bool {
     found.eq(expected.iter().copied())
 }
 
-/// Whether a module has these lines. Its text is stored.
+/// Reports whether a module has these lines. Its text is written to `storage`.
 fn has_lines(
     alloc: Global,
     config: &Config,
@@ -331,7 +334,7 @@ fn gives_each_folded_line_with_its_place(rt: HostRuntime) -> Result<(), Fail> {
     Ok(())
 }
 
-/// Two globals: the first is what the second begins as.
+/// Two globals. The initialiser of the second reads the first.
 const GLOBALS: [Section; 1] = [(
     GLOBAL,
     &[
@@ -339,10 +342,10 @@ const GLOBALS: [Section; 1] = [(
     ],
 )];
 
-/// Their names: that of the first is `a;;b`.
+/// The name of the first global: `a;;b`.
 const OF_GLOBALS: [u8; 9] = [0x07, 0x07, 0x01, 0x00, 0x04, 0x61, 0x3b, 0x3b, 0x62];
 
-/// Their lines: the one that begins within the initialiser has its operator's place.
+/// The lines of that module. The line that starts within the initialiser has the place of its operator.
 const SEMICOLON_LINES: [Line; 6] = [
     (Some(0x0), "(module\n"),
     (Some(0xb), "  (global $\"a;;b\" (;0;) i32 (i32.const 0))\n"),

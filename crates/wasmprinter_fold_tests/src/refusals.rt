@@ -1,4 +1,5 @@
-//! Legacy exception operators, which can't be folded, in each list of operators; and lists that aren't printed, in which they stay.
+//! Tests of legacy exception handling, which cannot be folded. It is refused in each kind of expression and in
+//! bodies, but not in expressions and bodies that a skeleton leaves out.
 
 use crate::modules::{
     Refusal, expect_printed, expect_refusal, folding, is_text_refused, with_section,
@@ -8,7 +9,7 @@ use std::test::Fail;
 use wasmprinter::Config;
 use wasmprinter_samples::sections::{DATA, ELEMENT, GLOBAL, TABLE};
 
-/// A function with a `try` at byte 23, and a `catch_all` in it.
+/// A module whose function has a `try` at byte 23, with a `catch_all` in it.
 const CAUGHT: [u8; 28] = [
     0x00, 0x61, 0x73, 0x6d, 0x01, 0x00, 0x00, 0x00, // preamble
     0x01, 0x04, 0x01, 0x60, 0x00, 0x00, // types
@@ -16,7 +17,7 @@ const CAUGHT: [u8; 28] = [
     0x0a, 0x08, 0x01, 0x06, 0x00, 0x06, 0x40, 0x19, 0x0b, 0x0b, // code
 ];
 
-/// The text of that function, flat.
+/// The text of that module, flat.
 const CAUGHT_FLAT: &str = r#"(module
   (type (;0;) (func))
   (func (;0;) (type 0)
@@ -38,7 +39,8 @@ fn refuses_legacy_operators_in_bodies(rt: HostRuntime) -> Result<(), Fail> {
     )
 }
 
-/// Sections with one `try` in an initialiser or an offset, the place of the `try`, and the text of a module with that section, flat.
+/// Sections with one `try` in an initialiser or an offset, each with the place of the `try` and the flat text of a
+/// module with that section.
 const PRINTED_IN_A_SKELETON: [(u8, &[u8], u64, &str); 4] = [
     (
         GLOBAL,
@@ -60,7 +62,7 @@ const PRINTED_IN_A_SKELETON: [(u8, &[u8], u64, &str); 4] = [
         12,
         "(module\n  (elem (;0;) (offset try  (; label = @1 ;) delegate 0) func)\n)\n",
     ),
-    // within a block
+    // A `try` within a block
     (
         DATA,
         &[
@@ -71,14 +73,14 @@ const PRINTED_IN_A_SKELETON: [(u8, &[u8], u64, &str); 4] = [
     ),
 ];
 
-/// Options by which operators are folded, and bodies, items and bytes left out.
+/// Returns options that fold operators and print a skeleton, without bodies, items and bytes.
 fn folding_outlines() -> Config {
     let mut config = folding();
     config.print_skeleton(true);
     config
 }
 
-/// Whether a module is refused folded for this, also as an outline.
+/// Reports whether a module is refused for this reason if it is folded, also as a skeleton.
 fn is_refused_where_folded(alloc: Global, wasm: &[u8], refusal: Refusal) -> bool {
     is_text_refused(alloc, &folding(), wasm, refusal)
         && is_text_refused(alloc, &folding_outlines(), wasm, refusal)
@@ -98,7 +100,7 @@ fn refuses_legacy_operators_in_initialisers_and_offsets(rt: HostRuntime) -> Resu
     Ok(())
 }
 
-/// A segment with a `try` at byte 14, in an item.
+/// An element section with a `try` at byte 14, in an item.
 const LEGACY_ITEM: [u8; 9] = [0x01, 0x05, 0x70, 0x01, 0x06, 0x40, 0x18, 0x00, 0x0b];
 
 #[test]

@@ -1,7 +1,7 @@
-//! Operators on vectors and atomic operators, one a line: how many operands each takes and how many results it gives, its bytes, and its
-//! text. All is typed from tables of opcodes, and none of it made from a table of the program or of the definitions.
+//! Vector operators and atomic operators, one on each line: operand count, result count, bytes and text. The lines
+//! are typed from tables of opcodes. They are not generated from a table of the program or of the definitions.
 
-/// Operators on vectors, with the prefix fd.
+/// Vector operators, with the prefix fd.
 pub const VECTORS: &str = "\
 1>1: fd 00 04 00: v128.load
 1>1: fd 01 03 00: v128.load8x8_s

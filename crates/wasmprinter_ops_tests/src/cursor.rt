@@ -1,4 +1,5 @@
-//! Numbers in LEB128 at the edges of their ranges, names and lists. What is expected is typed by hand.
+//! Tests of numbers in LEB128 at the bounds of their ranges, of names and of lists. All expected values are typed
+//! by hand.
 
 use std::process::Abort;
 use std::test::Fail;
@@ -6,7 +7,7 @@ use wasmprinter_bytes::bytes::Cursor;
 use wasmprinter_bytes::lists::read_items;
 use wasmprinter_error::Malformed;
 
-/// A number that is expected, or the place of a fault, under the name of the method that reads it.
+/// An expected number, or the place of an error. The variant names the method that reads it.
 #[derive(Clone, Copy)]
 enum Number {
     U32(Result<u32, Malformed>),
@@ -16,7 +17,7 @@ enum Number {
     S64(Result<i64, Malformed>),
 }
 
-/// Whether the cursor goes on with the number.
+/// Reports whether reading from the cursor gives the expected number or error.
 fn goes_on_with(cursor: &mut Cursor, wanted: Number) -> bool {
     match wanted {
         Number::U32(number) => cursor.u32() == number,
@@ -27,7 +28,7 @@ fn goes_on_with(cursor: &mut Cursor, wanted: Number) -> bool {
     }
 }
 
-/// Numbers, each with the place of its first byte, and its bytes.
+/// Bytes, each with the place of the first byte and the expected number.
 const NUMBERS: [(u64, &[u8], Number); 18] = [
     (0, &[0x03], Number::U32(Ok(3))),
     (0, &[0x83, 0x00], Number::U32(Ok(3))),
@@ -53,7 +54,7 @@ const NUMBERS: [(u64, &[u8], Number); 18] = [
     (0, &[0xc0, 0xbb, 0x78], Number::S33(Ok(-123456))),
     (0, &[0xc0, 0xbb, 0x78], Number::S64(Ok(-123456))),
     (0, &[0xff, 0x00], Number::S64(Ok(127))),
-    // no byte, and one that is followed by none
+    // No byte, and one byte that announces another
     (5, &[], Number::U32(Err(Malformed { place: 5 }))),
     (5, &[0x80], Number::U32(Err(Malformed { place: 6 }))),
     (5, &[], Number::U64(Err(Malformed { place: 5 }))),
@@ -72,25 +73,25 @@ fn numbers_are_read(rt: HostRuntime) {
     }
 }
 
-/// Asserts that the cursor goes on with a name, and that no name stands behind it.
+/// Asserts that the cursor reads a name, and that the bytes after it are no name.
 fn assert_name(rt: &impl Abort, cursor: &mut Cursor) {
     assert!(rt; cursor.name() == Ok("aé"));
     assert!(rt; cursor.fork().name() == Err(Malformed { place: 0x14 }));
 }
 
-/// Asserts where a part of two bytes stands, and what its first byte is.
+/// Asserts the place, the length and the first byte of a part of two bytes.
 fn assert_part(rt: &impl Abort, part: &Cursor) {
     assert!(rt; part.place() == 0x14 && part.len() == 2);
     assert!(rt; part.front(1).len() == 1 && part.peek() == Some(0x01));
 }
 
-/// Asserts that the first byte of a part is read, and that two can't be taken behind it.
+/// Asserts that the first byte of the part is read, and that taking two more fails.
 fn assert_part_is_read(rt: &impl Abort, part: &mut Cursor) {
     assert!(rt; part.u8() == Ok(0x01));
     assert!(rt; part.take(2) == Err(Malformed { place: 0x15 }));
 }
 
-/// Asserts that one byte is left, and is taken.
+/// Asserts that exactly one byte is left, and that it is taken.
 fn assert_end(rt: &impl Abort, cursor: &mut Cursor) {
     let taken: Result<&[u8], Malformed> = Ok(&[0x2a]);
     assert!(rt; cursor.take(1) == taken);
@@ -109,7 +110,7 @@ fn parts_and_names_are_read(rt: HostRuntime) -> Result<(), Fail> {
     Ok(())
 }
 
-/// The sum of the items of a vector of numbers.
+/// Returns the sum of the items of a vector of numbers.
 fn total(cursor: &mut Cursor) -> Result<u64, Malformed> {
     let mut sum: u64 = 0;
     for item in read_items::<u32>(cursor)?.iter() {

@@ -1,4 +1,4 @@
-//! Texts of errors, typed by hand.
+//! Tests of the texts of errors. The expected texts are typed by hand.
 
 use std::alloc::AllocError;
 use std::io;
@@ -6,7 +6,7 @@ use std::test::Fail;
 use wasmprinter_error::{Error, Malformed};
 use wasmprinter_samples::expect_text;
 
-/// One error of each kind with its text.
+/// Returns one error of each kind, with its text.
 fn texts() -> [(Error, &'static str); 11] {
     [
         (

@@ -1,4 +1,5 @@
-//! Where faults are found: no contract says the place. All places are typed by hand, or follow from where an operator is cut.
+//! Tests of the places that errors report. No contract states these places. They are typed by hand, or follow from
+//! where an operator is truncated.
 
 use std::alloc::{AllocError, Global};
 use std::test::Fail;
@@ -8,16 +9,16 @@ use wasmprinter_ops::expression::Expression;
 use wasmprinter_ops::opcode::{Listed, Role, Shape, Space};
 use wasmprinter_ops::operator::read_operator;
 
-/// Where the first byte lies.
+/// The place of the first byte.
 const PLACE: u64 = 0x1a;
 
 /// The byte of `end`.
 const END: u8 = 0x0b;
 
-/// A shape of immediates, the role of an operator that has them, and the operator's bytes.
+/// A shape of immediates, the role of an operator with these, and the bytes of that operator.
 type Spelled = (Shape, Role, &'static [u8]);
 
-/// Operators with nothing behind the opcode, and with blocks, labels and types.
+/// Operators without immediates, and with blocks, labels and types.
 const CONTROL: [Spelled; 24] = [
     (Shape::None, Role::Plain, &[0x01]),
     (Shape::None, Role::Ends, &[0x0b]),
@@ -200,11 +201,11 @@ const NUMBERS: [Spelled; 18] = [
     (Shape::F32, Role::Plain, &[0x43, 0x00, 0x00, 0x80, 0x7f]),
 ];
 
-/// Bytes that spell no operator, each with the place of the fault: opcodes that aren't listed, and immediates that may not stand there. In
-/// a number that has too many bits it is the last byte that there may be.
+/// Bytes that encode no operator, each with the place of the error: opcodes that are not listed, and malformed
+/// immediates. For a number with too many bits, the place is that of the last byte that its width allows.
 const REFUSED: [(&[u8], u64); 46] = [
     (&[], 0x1a),
-    // opcodes
+    // Opcodes
     (&[0xff, 0x00], 0x1a),
     (&[0x16, 0x00], 0x1a),
     (&[0x27, 0x00], 0x1a),
@@ -214,35 +215,35 @@ const REFUSED: [(&[u8], u64); 46] = [
     (&[0xfd, 0x94, 0x82, 0x80, 0x00, 0x00], 0x1a),
     (&[0xfe, 0x04, 0x00], 0x1a),
     (&[0xfb, 0x80, 0x80, 0x80, 0x80, 0x10], 0x1f),
-    // the byte of a fence
+    // The byte of a fence
     (&[0xfe, 0x03, 0x01], 0x1c),
-    // block types
+    // Block types
     (&[0x02, 0x41], 0x1b),
     (&[0x03, 0xff, 0x7f], 0x1b),
     (&[0x06, 0x78], 0x1b),
     (&[0x02, 0x80, 0x80, 0x80, 0x80, 0x10], 0x1f),
     (&[0x04, 0x63, 0x40], 0x1c),
     (&[0x04, 0x64, 0xff, 0x7f], 0x1c),
-    // catch clauses
+    // Catch clauses
     (&[0x1f, 0x40, 0x01, 0x04, 0x00], 0x1d),
     (&[0x1f, 0x40, 0x02, 0x03, 0x04, 0x05, 0x00], 0x1f),
     (
         &[0x1f, 0x40, 0x01, 0x00, 0x80, 0x80, 0x80, 0x80, 0x10, 0x00],
         0x22,
     ),
-    // labels
+    // Labels
     (&[0x0e, 0x02, 0x00, 0x80], 0x1e),
     (&[0x0e, 0x80, 0x80, 0x80, 0x80, 0x10], 0x1f),
     (&[0x0e, 0x01, 0x00, 0xff, 0xff, 0xff, 0xff, 0x1f], 0x21),
-    // value types
+    // Value types
     (&[0x1c, 0x01, 0x78], 0x1c),
     (&[0x1c, 0x01, 0x63, 0x7f], 0x1d),
     (&[0x1c, 0x02, 0x7f, 0x40], 0x1d),
-    // heap types
+    // Heap types
     (&[0xd0, 0x7f], 0x1b),
     (&[0xd0, 0x80, 0x80, 0x80, 0x80, 0x10], 0x1f),
     (&[0xfb, 0x14, 0x40], 0x1c),
-    // casts
+    // Casts
     (&[0xfb, 0x18, 0x04, 0x00, 0x6e, 0x6e], 0x1c),
     (
         &[0xfb, 0x18, 0x01, 0x80, 0x80, 0x80, 0x80, 0x10, 0x6e, 0x6e],
@@ -250,7 +251,7 @@ const REFUSED: [(&[u8], u64); 46] = [
     ),
     (&[0xfb, 0x18, 0x01, 0x00, 0x40, 0x6e], 0x1e),
     (&[0xfb, 0x18, 0x01, 0x00, 0x6e, 0x40], 0x1f),
-    // indices
+    // Indices
     (&[0x20, 0x80, 0x80, 0x80, 0x80, 0x10], 0x1f),
     (&[0x3f, 0x80, 0x80, 0x80, 0x80, 0x7f], 0x1f),
     (&[0x11, 0x81, 0x01, 0xff, 0xff, 0xff, 0xff, 0x10], 0x21),
@@ -259,7 +260,7 @@ const REFUSED: [(&[u8], u64); 46] = [
         0x22,
     ),
     (&[0xfc, 0x0e, 0x8b, 0x80, 0x80, 0x80, 0x10, 0x00], 0x20),
-    // memory operands
+    // Memory operands
     (&[0x28, 0x80, 0x01, 0x00], 0x1b),
     (&[0x28, 0x42, 0x00], 0x1d),
     (&[0xfe, 0x1e, 0x80, 0x01, 0x00], 0x1c),
@@ -270,7 +271,7 @@ const REFUSED: [(&[u8], u64); 46] = [
         ],
         0x25,
     ),
-    // numbers
+    // Numbers
     (&[0x41, 0x80, 0x80, 0x80, 0x80, 0x40], 0x1f),
     (&[0x41, 0xff, 0xff, 0xff, 0xff, 0x0f], 0x1f),
     (
@@ -281,9 +282,9 @@ const REFUSED: [(&[u8], u64); 46] = [
     ),
 ];
 
-/// Expressions with a fault in their second operator, and in their last one, each with the place of the fault.
+/// Expressions with an error in their second operator or in their last one, each with the place of the error.
 const FAULTY: [(&[u8], u64); 27] = [
-    // in the second of several
+    // In the second of several operators
     (&[0x01, 0xff, 0x0b], 0x1b),
     (&[0x01, 0x05, 0x0b], 0x1b),
     (&[0x41, 0x7f, 0xfc, 0x12, 0x00, 0x0b], 0x1c),
@@ -302,7 +303,7 @@ const FAULTY: [(&[u8], u64); 27] = [
         &[0x20, 0x81, 0x01, 0xfd, 0x94, 0x82, 0x00, 0x01, 0x0b],
         0x1d,
     ),
-    // in the last of several: the bytes end before it, in its opcode, and in its immediates
+    // In the last of several operators: the bytes end before it, in its opcode, or in its immediates
     (&[0x20, 0x00, 0x41, 0x01, 0x6a], 0x1f),
     (&[0x20, 0x00, 0x41, 0x01, 0x6a, 0xfb, 0x80], 0x21),
     (&[0x20, 0x00, 0x41, 0x01, 0x6a, 0x41], 0x20),
@@ -321,7 +322,8 @@ const FAULTY: [(&[u8], u64); 27] = [
     (&[0x20, 0x00, 0x41, 0x01, 0x6a, 0x37, 0x42, 0x00], 0x22),
     (&[0x20, 0x00, 0x41, 0x01, 0x6a, 0xd0, 0x80], 0x21),
     (&[0x20, 0x00, 0x41, 0x01, 0x6a, 0x02, 0x40, 0x0b], 0x22),
-    // a byte that no such immediate has
+    // In the last of several operators: immediates with a byte that is not allowed, or an operator that is not well
+    // nested
     (
         &[
             0x20, 0x00, 0x41, 0x01, 0x6a, 0x10, 0xff, 0xff, 0xff, 0xff, 0x1f,
@@ -352,18 +354,18 @@ const FAULTY: [(&[u8], u64); 27] = [
     (&[0x20, 0x00, 0x41, 0x01, 0x6a, 0x19, 0x0b], 0x1f),
 ];
 
-/// What comes of reading an expression.
+/// The result of reading an expression.
 #[derive(Clone, Copy, PartialEq, Eq)]
 enum Outcome {
-    /// It is read, with its `end` at the place.
+    /// The expression is read, and its `end` is at this place.
     Ended(u64),
-    /// It is refused for a fault at the place.
+    /// The expression is refused, and the error reports this place.
     Refused(u64),
-    /// Memory was refused.
+    /// Out of memory.
     Other,
 }
 
-/// What comes of reading these bytes, the first of which lies at `PLACE`, as an expression.
+/// Returns the result of reading these bytes as an expression. The first byte is at `PLACE`.
 fn outcome_of(alloc: Global, bytes: &[u8]) -> Outcome {
     match Expression::read(alloc, &mut Cursor::new(PLACE, bytes)) {
         Ok(expression) => Outcome::Ended(expression.end()),
@@ -372,22 +374,22 @@ fn outcome_of(alloc: Global, bytes: &[u8]) -> Outcome {
     }
 }
 
-/// Operators that occur before the one that is read, so that it is the first, the second or the last of several.
+/// Operators before the one that is read, so that it is the first, the second or the last of several.
 const EARLIER: [&[u8]; 3] = [&[], &[0x01], &[0x20, 0x81, 0x01, 0x41, 0x7f, 0x6a, 0x1a]];
 
-/// Returns bytes with others after them.
+/// Returns the concatenation of both.
 fn joined(alloc: Global, bytes: &[u8], others: &[u8]) -> Result<Vec<u8>, AllocError> {
     let mut both = Vec::from_slice(alloc, bytes)?;
     both.extend_from_slice(others)?;
     Ok(both)
 }
 
-/// Returns the place that is `len` bytes after the first.
+/// Returns the place `len` bytes after the first byte.
 fn place_after(len: usize) -> u64 {
     PLACE.saturating_add(len as u64)
 }
 
-/// Returns the place of the fault in these bytes, if they begin with no operator.
+/// Returns the place of the error in these bytes, or `None` if they begin with an operator.
 fn fault_place(bytes: &[u8]) -> Option<u64> {
     match read_operator(&mut Cursor::new(PLACE, bytes)) {
         Ok(_) => None,
@@ -395,7 +397,8 @@ fn fault_place(bytes: &[u8]) -> Option<u64> {
     }
 }
 
-/// Returns whether a fault is found at this place in the bytes, and in an expression, also after other operators.
+/// Reports whether reading the bytes returns an error with this place, both as an operator and within an
+/// expression, also after other operators.
 fn is_fault_at(alloc: Global, bytes: &[u8], place: u64) -> Result<bool, AllocError> {
     for earlier in EARLIER {
         let expression = joined(alloc, earlier, bytes)?;
@@ -407,7 +410,7 @@ fn is_fault_at(alloc: Global, bytes: &[u8], place: u64) -> Result<bool, AllocErr
     Ok(fault_place(bytes) == Some(place))
 }
 
-/// Returns the number of bytes that are read at once in immediates of this shape: those of a float or a vector.
+/// Returns the number of bytes of the immediates that are taken at once: those of a float or a vector.
 fn fixed_len(shape: Shape) -> usize {
     match shape {
         Shape::F32 => 4,
@@ -417,7 +420,8 @@ fn fixed_len(shape: Shape) -> usize {
     }
 }
 
-/// Returns whether the operator is refused wherever it is cut: at the end of its bytes, or at the first of the bytes that are read at once.
+/// Reports whether each proper prefix of the operator is refused. The place is the end of the prefix, or that of
+/// the first of the bytes that are taken at once.
 fn is_refused_at_each_cut(alloc: Global, shape: Shape, bytes: &[u8]) -> Result<bool, AllocError> {
     let single = bytes.len().saturating_sub(fixed_len(shape));
     for len in 0..bytes.len() {
@@ -428,8 +432,8 @@ fn is_refused_at_each_cut(alloc: Global, shape: Shape, bytes: &[u8]) -> Result<b
     Ok(true)
 }
 
-/// Returns the expected outcome of reading an expression in which only two `end`s follow an operator of this role. The operator occupies the
-/// bytes from `start` to `end`, counted from the first byte.
+/// Returns the expected result of reading an expression in which only two `end`s follow an operator with this
+/// role. The operator occupies the bytes from `start` to `end`, counted from the first byte.
 fn wanted_by(role: Role, start: usize, end: usize) -> Outcome {
     match role {
         Role::Plain => Outcome::Ended(place_after(end)),
@@ -443,7 +447,7 @@ fn wanted_by(role: Role, start: usize, end: usize) -> Outcome {
     }
 }
 
-/// Returns whether reading the operator and two `end`s as an expression, also after other operators, gives what its role asks for.
+/// Reports whether the operator, followed by two `end`s, is read as its role requires, also after other operators.
 fn is_passed(alloc: Global, role: Role, bytes: &[u8]) -> Result<bool, AllocError> {
     for earlier in EARLIER {
         let operators = joined(alloc, earlier, bytes)?;
@@ -456,7 +460,7 @@ fn is_passed(alloc: Global, role: Role, bytes: &[u8]) -> Result<bool, AllocError
     Ok(true)
 }
 
-/// Whether the bytes are an operator whose immediates have this shape, and nothing else.
+/// Reports whether the bytes are exactly an operator whose immediates have this shape.
 fn has_shape(bytes: &[u8], shape: Shape) -> bool {
     let mut cursor = Cursor::new(PLACE, bytes);
     match read_operator(&mut cursor) {
@@ -465,7 +469,7 @@ fn has_shape(bytes: &[u8], shape: Shape) -> bool {
     }
 }
 
-/// Returns whether the bytes are an operator of this shape and role, and refused wherever they are cut.
+/// Reports whether the bytes are an operator with this shape and role, and each proper prefix is refused.
 fn is_spelled(alloc: Global, (shape, role, bytes): Spelled) -> Result<bool, AllocError> {
     Ok(
         has_shape(bytes, shape)

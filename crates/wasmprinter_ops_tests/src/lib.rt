@@ -1,4 +1,5 @@
-//! Tests of errors, of the cursor, and of types, opcodes and operators that are read. What is expected is typed by hand.
+//! Tests of the texts of errors, of the cursor, and of the decoders of types, opcodes and operators. All expected
+//! values are typed by hand.
 #![tactic(auto)]
 
 #[cfg(test)]

@@ -1,5 +1,6 @@
-//! Numbers in LEB128: whether bytes spell one, where it ends, and the place of a malformed byte. All inputs of up to two bytes are tried, inputs
-//! around the greatest length of a number, and longer ones that are drawn at random. What the numbers are is proved.
+//! Tests of numbers in LEB128: whether bytes begin with one, where it ends, and the place of a malformed byte. The
+//! inputs are all those of at most two bytes, those around the greatest length of a number, and longer pseudorandom
+//! ones. The value of a number is proved.
 
 use wasmprinter_bytes::bytes::Cursor;
 use wasmprinter_error::Malformed;
@@ -7,7 +8,7 @@ use wasmprinter_error::Malformed;
 /// The place of the first byte.
 const PLACE: u64 = 0x1a;
 
-/// A byte that is at least this is followed by another one.
+/// The continuation bit: a byte that is at least this is followed by another one.
 const MORE: u8 = 0x80;
 
 /// A method that reads a number.
@@ -22,30 +23,34 @@ enum Way {
 
 const WAYS: [Way; 5] = [Way::U32, Way::U64, Way::S32, Way::S33, Way::S64];
 
-/// How numbers are spelled (section 5.2.2).
+/// How numbers of one kind are encoded (section 5.2.2 of the standard).
 #[derive(Clone, Copy)]
 struct Spelling {
-    /// How many bytes they have at most.
+    /// The greatest number of bytes
     most: usize,
-    /// The last of that many bytes is less than this, where the number isn't negative.
+    /// The last of that many bytes is less than this if the number is not negative
     above: u8,
-    /// It is at least this where the number is negative.
+    /// The last of that many bytes is at least this if the number is negative
     negative: u8,
 }
 
-/// Returns the place of the byte with this number, from 0.
+/// Returns the place of the byte with this index, counted from 0.
 fn place_at(number: usize) -> u64 {
     PLACE.saturating_add(number as u64)
 }
 
 impl Spelling {
-    /// Whether a byte may be the last one, where there are as many as there may be.
+    /// Reports whether a byte may be the last one of a number of the greatest length.
     fn has_last(&self, byte: u8) -> bool {
         byte < self.above || (self.negative <= byte && byte < MORE)
     }
 
-    /// Returns the place after the number that the bytes begin with. If they begin with none, returns as error the place of the byte that has
-    /// too many bits or is followed by too many, or of the byte that is missing.
+    /// Returns the place after the number at the start of the bytes.
+    ///
+    /// # Errors
+    ///
+    /// - The bytes do not begin with a number. The error is the place of the byte that has too many bits or is
+    ///   followed by too many bytes, or of the byte that is missing.
     fn end(&self, bytes: &[u8]) -> Result<u64, u64> {
         for (number, byte) in bytes.iter().enumerate().take(self.most) {
             let after = number.saturating_add(1);
@@ -76,7 +81,7 @@ impl Way {
         }
     }
 
-    /// Reads a number.
+    /// Reads a number with this method.
     fn read(self, cursor: &mut Cursor) -> Result<(), Malformed> {
         match self {
             Way::U32 => {
@@ -98,7 +103,8 @@ impl Way {
         Ok(())
     }
 
-    /// Returns whether the method reads these bytes up to the end of a number, or finds the fault at its place.
+    /// Reports whether the method reads up to the end of the number at the start of the bytes or, if there is none,
+    /// returns the right place.
     fn reads(self, bytes: &[u8]) -> bool {
         let mut cursor = Cursor::new(PLACE, bytes);
         match (self.read(&mut cursor), self.spelling().end(bytes)) {
@@ -109,7 +115,7 @@ impl Way {
     }
 }
 
-/// Returns whether each method does so on these bytes.
+/// Reports whether each method does so on these bytes.
 fn all_read(bytes: &[u8]) -> bool {
     for way in WAYS {
         if !way.reads(bytes) {
@@ -119,7 +125,7 @@ fn all_read(bytes: &[u8]) -> bool {
     true
 }
 
-/// Returns whether each method does so wherever the bytes are cut.
+/// Reports whether each method does so on each prefix of the bytes.
 fn all_read_each_cut(bytes: &[u8]) -> bool {
     for len in 0..=bytes.len() {
         if !all_read(&bytes[..len]) {
@@ -129,7 +135,7 @@ fn all_read_each_cut(bytes: &[u8]) -> bool {
     true
 }
 
-/// Returns whether each method does so on the byte, and on each pair that begins with it.
+/// Reports whether each method does so on the single byte, and on each pair that begins with it.
 fn all_read_pairs(first: u8) -> bool {
     for second in 0..=u8::MAX {
         if !all_read(&[first, second]) {
@@ -147,13 +153,14 @@ fn inputs_of_up_to_two_bytes_are_read(rt: HostRuntime) {
     }
 }
 
-/// How many bytes inputs have at most: a number of 64 bits takes ten, and an input may have more.
+/// The length of the longest inputs. A number of 64 bits has at most ten bytes.
 const LONGEST: usize = 12;
 
-/// Bytes that are repeated before the last one: no bits, all bits, and every second bit.
+/// Bytes that are repeated before the last one: their lower bits are all 0, all 1, or alternating.
 const REPEATED: [u8; 3] = [0x80, 0xff, 0xaa];
 
-/// Returns whether each method reads the repeated byte `len` times, and then any byte; wherever that is cut.
+/// Reports whether each method does so on `len` copies of the repeated byte, followed by any byte and more copies,
+/// and on each prefix.
 fn all_read_last_bytes(repeated: u8, len: usize) -> bool {
     let mut bytes = [repeated; LONGEST];
     for last in 0..=u8::MAX {
@@ -179,21 +186,21 @@ fn last_bytes_are_read(rt: HostRuntime) {
     }
 }
 
-/// How many inputs are drawn.
+/// The number of pseudorandom inputs.
 const DRAWN: u32 = 5_000;
 
-/// Returns the number that is drawn after another.
+/// Returns the pseudorandom number after this one.
 fn next_drawn(number: u32) -> u32 {
     number.wrapping_mul(1_664_525).wrapping_add(1_013_904_223)
 }
 
-/// Returns the byte that a number draws, which is mostly one that is followed by another.
+/// Returns the byte that a pseudorandom number gives. Most bytes have the continuation bit.
 fn drawn_byte(number: u32) -> u8 {
     let [first, second, _, _] = number.to_be_bytes();
     if second % 8 == 0 { first } else { first | 0x80 }
 }
 
-/// Returns the bytes that are drawn after a number, and the last number that was drawn.
+/// Returns the pseudorandom bytes for a seed, and the last pseudorandom number.
 fn drawn_bytes(seed: u32) -> ([u8; LONGEST], u32) {
     let mut number = seed;
     let mut bytes = [0; LONGEST];
@@ -204,7 +211,8 @@ fn drawn_bytes(seed: u32) -> ([u8; LONGEST], u32) {
     (bytes, number)
 }
 
-/// Returns the number that drew the first input that a method reads otherwise, wherever it is cut, if there is one.
+/// Returns the seed of the first pseudorandom input for which a method fails on some prefix, or `None` if there is
+/// no such input.
 fn first_drawn_that_differs(count: u32) -> Option<u32> {
     let mut number = 1;
     for _ in 0..count {

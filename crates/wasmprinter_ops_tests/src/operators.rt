@@ -1,4 +1,4 @@
-//! Walks over operators, and types. What is expected is typed by hand.
+//! Tests of readers over operators, and of types. All expected values are typed by hand.
 
 mod immediates;
 mod opcodes;
@@ -15,7 +15,7 @@ use wasmprinter_ops::operator::{Immediates, Operator, read_operator};
 use wasmprinter_types::composite::{CompositeType, FieldType, StorageType, SubType, SubTypes};
 use wasmprinter_types::{HeapType, RefType, ValType, ValTypes, read_type, read_types};
 
-/// Immediates that are expected.
+/// Expected immediates, with lists as slices.
 #[derive(Clone, Copy)]
 enum Wanted {
     None,
@@ -37,7 +37,7 @@ enum Wanted {
     Bytes([u8; 16]),
 }
 
-/// Whether catch clauses are these.
+/// Reports whether these are the catch clauses.
 fn are_catches(clauses: &Catches, wanted: &[Catch]) -> bool {
     for (clause, catch) in clauses.iter().zip(wanted) {
         if clause != *catch {
@@ -47,7 +47,7 @@ fn are_catches(clauses: &Catches, wanted: &[Catch]) -> bool {
     clauses.len() as usize == wanted.len()
 }
 
-/// Whether the labels of a branch table are these.
+/// Reports whether these are the labels of the branch table.
 fn are_labels(targets: &Targets, wanted: &[u32]) -> bool {
     for (target, label) in targets.iter().zip(wanted) {
         if target != *label {
@@ -57,7 +57,7 @@ fn are_labels(targets: &Targets, wanted: &[u32]) -> bool {
     targets.len() as usize == wanted.len()
 }
 
-/// Whether value types are these.
+/// Reports whether these are the value types.
 fn are_types(types: &ValTypes, wanted: &[ValType]) -> bool {
     for (found, val_type) in types.iter().zip(wanted) {
         if found != *val_type {
@@ -67,7 +67,7 @@ fn are_types(types: &ValTypes, wanted: &[ValType]) -> bool {
     types.len() as usize == wanted.len()
 }
 
-/// Whether immediates are those that are expected.
+/// Reports whether these are the immediates.
 fn are_wanted(immediates: &Immediates, wanted: &Wanted) -> bool {
     match (immediates, wanted) {
         (Immediates::None, Wanted::None) => true,
@@ -101,15 +101,16 @@ fn are_wanted(immediates: &Immediates, wanted: &Wanted) -> bool {
     }
 }
 
-/// Whether an operator has this word and these immediates.
+/// Reports whether an operator has this word and these immediates.
 fn is_operator(operator: &Operator, word: &str, wanted: &Wanted) -> bool {
     operator.opcode.word() == word && are_wanted(&operator.immediates, wanted)
 }
 
-/// An operator that is expected: its place, its word and its immediates.
+/// An expected operator: its place, its word and its immediates.
 type Placed = (u64, &'static str, Wanted);
 
-/// The place of the first operator of these that the reader doesn't come to, if there is one.
+/// Returns the place of the first of these operators that the reader does not return in order, or `None` if it
+/// returns all.
 fn first_missing(reader: &mut OperatorsReader, wanted: &[Placed]) -> Option<u64> {
     for (place, word, immediates) in wanted {
         match reader.next() {
@@ -121,7 +122,7 @@ fn first_missing(reader: &mut OperatorsReader, wanted: &[Placed]) -> Option<u64>
     None
 }
 
-/// Asserts that the bytes are an expression of these operators, and nothing else; the first byte lies at 0x1a.
+/// Asserts that the bytes are exactly an expression of these operators. The first byte is at 0x1a.
 fn assert_walk(
     rt: &impl Abort,
     alloc: Global,
@@ -157,7 +158,7 @@ fn flat_operators_are_walked(rt: HostRuntime) -> Result<(), Fail> {
     )
 }
 
-/// Blocks and loops, one in the other and one behind the other.
+/// Blocks and loops, nested and in sequence.
 const BLOCKS: [Placed; 8] = [
     (0x1a, "block", Wanted::Block(BlockType::Empty)),
     (0x1c, "loop", Wanted::Block(BlockType::Value(ValType::I64))),
@@ -181,7 +182,7 @@ fn blocks_and_loops_are_walked(rt: HostRuntime) -> Result<(), Fail> {
     )
 }
 
-/// An `if` with `else`, one without, and one with nothing in either branch.
+/// An `if` with `else`, one without, and one with two empty arms.
 const IFS: [Placed; 11] = [
     (0x1a, "if", Wanted::Block(BlockType::Value(ValType::I32))),
     (0x1c, "i32.const", Wanted::I32(1)),
@@ -237,7 +238,7 @@ fn tries_are_walked(rt: HostRuntime) -> Result<(), Fail> {
     )
 }
 
-/// A `try_table` with a clause of each kind, and one without any.
+/// A `try_table` with a clause of each kind, and one without clauses.
 const TRY_TABLES: [Placed; 5] = [
     (
         0x1a,
@@ -271,7 +272,7 @@ fn catch_clauses_are_walked(rt: HostRuntime) -> Result<(), Fail> {
     )
 }
 
-/// A `br_table` with labels, and one with the default alone.
+/// A `br_table` with labels, and one with only the default label.
 const BRANCH_TABLES: [Placed; 2] = [
     (0x1a, "br_table", Wanted::BrTable(&[0, 129, 2], 4)),
     (0x21, "br_table", Wanted::BrTable(&[], 5)),
@@ -289,16 +290,16 @@ fn branch_tables_are_walked(rt: HostRuntime) -> Result<(), Fail> {
     )
 }
 
-/// Bytes that spell no operator, each with the place of the fault.
+/// Bytes that encode no operator, each with the place of the error.
 const REFUSED: [(&[u8], u64); 7] = [
     (&[0xff], 0),
     (&[0xfc, 0x12], 0),
-    // a block type that is negative, or that wants 34 bits
+    // A block type that is a negative number, or a number of 34 bits
     (&[0x02, 0x41], 1),
     (&[0x02, 0x80, 0x80, 0x80, 0x80, 0x10], 5),
-    // a fifth kind of catch clause
+    // An unknown kind of catch clause
     (&[0x1f, 0x40, 0x01, 0x04, 0x00], 3),
-    // counts of 2^32 - 1 with nothing behind them, of labels and of clauses
+    // Counts of 2^32 - 1 at the end of the bytes: of labels, and of clauses
     (&[0x0e, 0xff, 0xff, 0xff, 0xff, 0x0f], 6),
     (&[0x1f, 0x40, 0xff, 0xff, 0xff, 0xff, 0x0f], 7),
 ];
@@ -314,7 +315,7 @@ fn other_operators_are_refused(rt: HostRuntime) {
     }
 }
 
-/// The place at which the bytes are refused, none if an expression stands there.
+/// Returns the place at which the bytes are refused, or `None` if they begin with an expression.
 fn place_of_refusal(alloc: Global, bytes: &[u8]) -> Option<u64> {
     match Expression::read(alloc, &mut Cursor::new(0, bytes)) {
         Err(Error::Malformed { place }) => Some(place),
@@ -322,23 +323,24 @@ fn place_of_refusal(alloc: Global, bytes: &[u8]) -> Option<u64> {
     }
 }
 
-/// Bytes that spell operators but no expression, each with the place of the fault.
+/// Bytes that encode operators but no expression, each with the place of the error (section 5.4, "Control
+/// Instructions").
 const NESTINGS: [(&[u8], u64); 13] = [
-    // without an `end`
+    // Without `end`
     (&[0x41, 0x00], 2),
     (&[0x02, 0x40, 0x0b], 3),
-    // `else` outside of an `if`, in a block, and a second one
+    // `else` outside any block, in a block, and after another `else`
     (&[0x05, 0x0b], 0),
     (&[0x02, 0x40, 0x05, 0x0b, 0x0b], 2),
     (&[0x04, 0x40, 0x05, 0x05, 0x0b, 0x0b], 3),
-    // `catch` in a block, in an `if`, and behind `catch_all`
+    // `catch` in a block, in an `if`, and after `catch_all`
     (&[0x02, 0x40, 0x07, 0x00, 0x0b, 0x0b], 2),
     (&[0x04, 0x40, 0x07, 0x00, 0x0b, 0x0b], 2),
     (&[0x06, 0x40, 0x19, 0x07, 0x00, 0x0b, 0x0b], 3),
-    // `catch_all` in a block, and a second one
+    // `catch_all` in a block, and after another `catch_all`
     (&[0x02, 0x40, 0x19, 0x0b, 0x0b], 2),
     (&[0x06, 0x40, 0x19, 0x19, 0x0b, 0x0b], 3),
-    // `delegate` outside of a `try`, in a block, and behind `catch`
+    // `delegate` outside any block, in a block, and after `catch`
     (&[0x18, 0x00, 0x0b], 0),
     (&[0x02, 0x40, 0x18, 0x00, 0x0b], 2),
     (&[0x06, 0x40, 0x07, 0x00, 0x18, 0x00, 0x0b], 4),
@@ -354,14 +356,15 @@ fn other_nesting_is_refused(rt: HostRuntime) {
     }
 }
 
-/// An expression of 100,000 blocks, one in the other.
+/// Returns an expression of 100,000 nested blocks.
 fn nested_blocks(alloc: Global) -> Result<Vec<u8>, AllocError> {
     let mut bytes = [0x02, 0x40].repeat(alloc, 100_000)?;
     bytes.extend_from_slice(&[0x0b].repeat(alloc, 100_001)?)?;
     Ok(bytes)
 }
 
-/// Whether the next 100,000 operators have this opcode of one byte, the first of them at this place, and the others at these distances.
+/// Reports whether the next 100,000 operators have this one-byte opcode, the first at the place `first`, and each
+/// `step` bytes after the one before.
 fn go_on_with(operators: &mut OperatorsReader, number: u32, first: u64, step: u64) -> bool {
     let mut place = first;
     for _ in 0..100_000 {
@@ -389,7 +392,7 @@ fn blocks_nest_deep(rt: HostRuntime) -> Result<(), Fail> {
     Ok(())
 }
 
-/// The second of the value types that stand there.
+/// Returns the second item of a vector of value types, or `None` if there are fewer.
 fn second(cursor: &mut Cursor) -> Result<Option<ValType>, Malformed> {
     let mut types = read_types(cursor)?.iter();
     types.next();
@@ -403,12 +406,12 @@ fn value_types_are_read(rt: HostRuntime) {
     assert!(rt; second(&mut Cursor::new(0, &[0x02, 0x7f, 0x40])) == Err(Malformed { place: 2 }));
 }
 
-/// The value type that the bytes spell from their first on.
+/// Returns the value type at the start of the bytes.
 fn type_of_bytes(bytes: &[u8]) -> Result<ValType, Malformed> {
     read_type(&mut Cursor::new(0, bytes))
 }
 
-/// A reference.
+/// Returns a reference type.
 fn reference(nullable: bool, heap: HeapType) -> ValType {
     ValType::Ref(RefType { nullable, heap })
 }
@@ -465,18 +468,18 @@ fn references_say_whether_they_may_be_null(rt: HostRuntime) {
     }
 }
 
-/// How many types the bytes spell, a count in front.
+/// Returns the number of types in a group, which the bytes encode with the count first.
 fn count_of(bytes: &[u8]) -> Result<u32, Malformed> {
     Ok(SubTypes::read(&mut Cursor::new(0, bytes))?.len())
 }
 
-/// The first type that the bytes spell, without a count in front.
+/// Returns the type at the start of the bytes, encoded without a count.
 fn first_type<'a>(bytes: &'a [u8]) -> Option<SubType<'a>> {
     let mut types = SubTypes::read_one(&mut Cursor::new(0, bytes)).ok()?;
     types.next()
 }
 
-/// Whether the type is a struct with these fields, and no other.
+/// Reports whether the type is a structure type with exactly these fields.
 fn has_fields(composite: &CompositeType, wanted: &[FieldType]) -> bool {
     let CompositeType::Struct(fields) = composite else {
         return false;
@@ -507,7 +510,7 @@ fn fields_are_read(rt: HostRuntime) -> Result<(), Fail> {
     Ok(())
 }
 
-/// Types with their count in front, and how many are read or where the fault is.
+/// Groups of types, encoded with the count first, each with the number of types or the place of the error.
 const COUNTED: [(&[u8], Result<u32, Malformed>); 7] = [
     (&[0x01, 0x5e, 0x77, 0x01], Ok(1)),
     (&[0x01, 0x5e, 0x79, 0x00], Err(Malformed { place: 2 })),

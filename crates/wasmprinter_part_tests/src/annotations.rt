@@ -1,4 +1,4 @@
-//! Custom sections as text. The bytes and the texts are typed by hand.
+//! Tests of the text of custom sections. The bytes and the texts are typed by hand.
 ghost use Rattle.std.specs.Prelude.{None, false};
 
 use std::alloc::Global;
@@ -14,19 +14,20 @@ use wasmprinter_lines::options::PrintOptions;
 use wasmprinter_print::Print;
 use wasmprinter_samples::expect_text;
 
-/// Where each section begins.
+/// The place of each section.
 const PLACE: u64 = 0x10;
 
-/// A printer that writes text down, and answers by a list whether it takes sections: those behind the list it doesn't take.
+/// A printer that keeps the text, and claims sections by a list of answers. It does not claim sections after the
+/// end of the list.
 #[derive(Drop)]
 struct Taker<'a> {
     text: String,
     answers: &'a [bool],
-    /// The names of the sections that it was asked for, with the place and the number of their bytes.
+    /// The name of each section that the printer was asked for, with the place and the length in bytes of its data
     asked: String,
-    /// How many sections it was asked for.
+    /// The number of sections that the printer was asked for
     count: usize,
-    /// The number of a question that fails.
+    /// The number of the question that fails, counted from 1, or 0 for none
     failing: usize,
 }
 
@@ -41,7 +42,7 @@ impl<'a> Taker<'a> {
         }
     }
 
-    /// Holds that a section is printed as the typed text.
+    /// Checks that a section is printed as the typed text.
     fn expect(
         &mut self,
         options: &PrintOptions,
@@ -53,24 +54,26 @@ impl<'a> Taker<'a> {
         Ok(())
     }
 
-    /// Whether it was asked for these sections, and wrote this text.
+    /// Reports whether the printer was asked for these sections and wrote this text.
     fn has(&self, asked: &str, text: &str) -> bool {
         self.asked.as_str() == asked && self.text.as_str() == text
     }
 
-    /// Whether it is asked so for a section that is accepted, and writes nothing.
+    /// Reports whether a section is accepted with this question to the printer, and nothing is written.
     fn is_silent_at(&mut self, section: &CustomEntry, asked: &str) -> bool {
         let result = write_custom(self, &PrintOptions::new(), section);
         matches!(result, Ok(false)) && self.has(asked, "")
     }
 
-    /// Whether it is asked so for a section that is refused for its subsection 9, and writes nothing.
+    /// Reports whether a section is refused for its subsection 9 with this question to the printer, and nothing is
+    /// written.
     fn refuses(&mut self, section: &CustomEntry, asked: &str) -> bool {
         let result = write_custom(self, &PrintOptions::new(), section);
         matches!(result, Err(Error::DylinkSubsection { id: 9 })) && self.has(asked, "")
     }
 
-    /// Whether some of the sections stand at the place or none, and it is asked for these of them and prints this text.
+    /// Reports whether printing the sections at one place returns `any`, the printer is asked for exactly these
+    /// sections, and this text is written.
     fn prints(
         &mut self,
         customs: &[CustomEntry],
@@ -81,13 +84,13 @@ impl<'a> Taker<'a> {
         matches!(result, Ok(found) if found == any) && self.has(asked, text)
     }
 
-    /// Whether one of the sections at the place is refused for its subsection 9.
+    /// Reports whether printing the sections at one place is refused for a subsection 9.
     fn refuses_one_of(&mut self, customs: &[CustomEntry], behind: Option<SectionKind>) -> bool {
         let result = write_customs(self, &PrintOptions::new(), customs, behind);
         matches!(result, Err(Error::DylinkSubsection { id: 9 }))
     }
 
-    /// Whether it breaks at one of the sections in front of all others.
+    /// Reports whether printing the sections before all others fails with the printer's error.
     fn breaks_at(&mut self, customs: &[CustomEntry]) -> bool {
         let result = write_customs(self, &PrintOptions::new(), customs, None);
         matches!(result, Err(Error::Printer(e)) if e.kind() == ErrorKind::BrokenPipe)
@@ -160,13 +163,13 @@ impl<'a> Print for Taker<'a> {
     }
 }
 
-/// The section of these bytes, its name in front.
+/// Reads a section from these bytes, which begin with its name.
 fn entry<'a>(behind: Option<SectionKind>, bytes: &'a [u8]) -> Result<CustomEntry<'a>, Fail> {
     let section = Custom::read(&mut Cursor::new(PLACE, bytes))?;
     Ok(CustomEntry { behind, section })
 }
 
-/// Holds that a section of these bytes is printed as the typed text.
+/// Checks that a section with these bytes is printed as the typed text.
 fn expect_section(
     alloc: Global,
     options: &PrintOptions,
@@ -178,7 +181,7 @@ fn expect_section(
     Taker::new(alloc, &[]).expect(options, &section, typed)
 }
 
-/// Holds that a section of these bytes in front of all others is printed as the typed text.
+/// Checks that a section with these bytes, before all others, is printed as the typed text.
 fn expect_first(alloc: Global, bytes: &[u8], typed: &str) -> Result<(), Fail> {
     expect_section(alloc, &PrintOptions::new(), None, bytes, typed)
 }
@@ -196,7 +199,7 @@ fn raw_sections_stand_as_they_are(rt: HostRuntime) -> Result<(), Fail> {
     expect_section(rt.alloc(), &options, None, b"\x01abytes", typed)
 }
 
-/// The section `a` behind a section of each kind.
+/// The text of the section `a` after a section of each kind.
 const PLACES: [(SectionKind, &str); 12] = [
     (SectionKind::Type, "\n  (@custom \"a\" (after type) \"\")"),
     (
@@ -230,7 +233,7 @@ const PLACES: [(SectionKind, &str); 12] = [
     (SectionKind::Data, "\n  (@custom \"a\" (after data) \"\")"),
 ];
 
-/// Holds that the section `a` is printed as typed behind each of these.
+/// Checks that the section `a` is printed as typed after a section of each of these kinds.
 fn expect_places(alloc: Global, places: &[(SectionKind, &str)]) -> Result<(), Fail> {
     for (kind, typed) in places {
         expect_section(alloc, &PrintOptions::new(), Some(*kind), b"\x01a", typed)?;
@@ -300,7 +303,8 @@ fn producers_may_stand_raw(rt: HostRuntime) -> Result<(), Fail> {
 
 #[test]
 fn subsections_of_dylink_have_lines(rt: HostRuntime) -> Result<(), Fail> {
-    // sizes thrice, libraries, exports with flags 0x3f7, 0x409 and 0xfffffc08, imports with 0x20 and 0, paths
+    // Sizes three times; libraries; exports with flags 0x3f7, 0x409 and 0xfffffc08; imports with flags 0x20 and 0;
+    // paths
     let section = b"\x08dylink.0\
         \x01\x04\x10\x02\x03\x00\x01\x04\x00\x00\x00\x01\x01\x04\x00\x00\x00\x00\
         \x02\x05\x02\x01a\x01b\
@@ -344,10 +348,10 @@ fn names_are_offered_and_not_printed(rt: HostRuntime) -> Result<(), Fail> {
     Ok(())
 }
 
-/// Sections, each with what it stands behind and its bytes.
+/// Sections, each with its place among the others and its bytes.
 type Sections = &'static [(Option<SectionKind>, &'static [u8])];
 
-/// The sections `a` and `b` behind the types, and `c`, one that is refused and `d` behind the code.
+/// The sections `a` and `b` after the type section, and `c`, a refused section and `d` after the code section.
 const FIVE: Sections = &[
     (Some(SectionKind::Type), b"\x01a"),
     (Some(SectionKind::Type), b"\x01b"),
@@ -356,7 +360,7 @@ const FIVE: Sections = &[
     (Some(SectionKind::Code), b"\x01d"),
 ];
 
-/// The sections of these bytes.
+/// Reads the sections from these bytes.
 fn entries_of(alloc: Global, sections: Sections) -> Result<Vec<CustomEntry<'static>>, Fail> {
     let mut entries = Vec::new(alloc);
     for (behind, bytes) in sections {

@@ -1,4 +1,4 @@
-//! What sections hold. The bytes and what is expected are typed by hand.
+//! Tests of the contents of custom sections. The bytes and the expected values are typed by hand.
 
 use bitflags::Flags;
 use std::alloc::{AllocError, Global};
@@ -8,10 +8,10 @@ use wasmprinter_customs::{
     custom_role, is_hint_section,
 };
 
-/// Where the bytes of a section begin.
+/// The place of the bytes of a section.
 const PLACE: u64 = 0x100;
 
-/// The fields of a `producers` section; none where it has another role.
+/// Returns the fields of a `producers` section, or `None` if it has another role.
 fn fields_of<'a>(bytes: &'a [u8]) -> Option<Producers<'a>> {
     let role = custom_role("producers", PLACE, bytes);
     match &role {
@@ -20,7 +20,7 @@ fn fields_of<'a>(bytes: &'a [u8]) -> Option<Producers<'a>> {
     }
 }
 
-/// The subsections of a `dylink.0` section; none where it has another role.
+/// Returns the subsections of a `dylink.0` section, or `None` if it has another role.
 fn subsections_of<'a>(bytes: &'a [u8]) -> Option<Dylink<'a>> {
     let role = custom_role("dylink.0", PLACE, bytes);
     match &role {
@@ -29,14 +29,14 @@ fn subsections_of<'a>(bytes: &'a [u8]) -> Option<Dylink<'a>> {
     }
 }
 
-/// The place, name and version of the second value of the first field.
+/// Returns the place, name and version of the second value of the first field.
 fn second_value(bytes: &[u8]) -> Option<(u64, &str, &str)> {
     let field = fields_of(bytes)?.next()?;
     let value = field.values().nth(1)?;
     Some((value.place(), value.name(), value.version()))
 }
 
-/// The name of the second field.
+/// Returns the name of the second field.
 fn second_name(bytes: &[u8]) -> Option<&str> {
     let field = fields_of(bytes)?.nth(1)?;
     Some(field.name())
@@ -50,7 +50,7 @@ fn fields_of_producers_are_read(rt: HostRuntime) {
     assert!(rt; second_name(bytes) == Some("sdk"));
 }
 
-/// What a role is called here.
+/// Returns this file's word for the role of a section.
 fn role_word(name: &str, bytes: &[u8]) -> &'static str {
     match custom_role(name, 0, bytes) {
         CustomRole::Silent => "silent",
@@ -62,7 +62,7 @@ fn role_word(name: &str, bytes: &[u8]) -> &'static str {
     }
 }
 
-/// Sections by name and bytes, and what their roles are called.
+/// Sections by name and bytes, each with the word for its role.
 const ROLES: [(&str, &[u8], &str); 16] = [
     ("name", b"\xff", "silent"),
     ("metadata.code.branch_hint", b"\xff", "silent"),
@@ -89,7 +89,7 @@ fn sections_have_roles(rt: HostRuntime) {
     }
 }
 
-/// The number of the first unknown subsection, for which a section is refused.
+/// Returns the id of the first unknown subsection, or `None` if the section is not refused.
 fn refused_for(bytes: &[u8]) -> Option<u8> {
     match custom_role("dylink.0", 0, bytes) {
         CustomRole::Refused(id) => Some(id),
@@ -102,7 +102,8 @@ fn unknown_subsections_are_told(rt: HostRuntime) {
     assert!(rt; refused_for(b"\x07\x00") == Some(7));
 }
 
-/// Characters, and what the role of `producers` is called with a field whose name is the character alone.
+/// Characters, each with the word for the role of a `producers` section whose only field has this character as its
+/// name.
 const CHARACTERS: [(u8, &str); 15] = [
     (b'!', "producers"),
     (b'~', "producers"),
@@ -128,18 +129,18 @@ fn identifier_characters_are_known(rt: HostRuntime) {
     }
 }
 
-/// The place of the second subsection.
+/// Returns the place of the second subsection.
 fn second_place(bytes: &[u8]) -> Option<u64> {
     let subsection = subsections_of(bytes)?.nth(1)?;
     Some(subsection.place())
 }
 
-/// The first subsection.
+/// Returns the first subsection.
 fn first_subsection<'a>(bytes: &'a [u8]) -> Option<Subsection<'a>> {
     subsections_of(bytes)?.next()
 }
 
-/// The sizes of memory and of the table, and their alignments, of the first subsection.
+/// Returns the sizes and alignments of the first subsection: those of the memory, then those of the table.
 fn sizes_of(bytes: &[u8]) -> Option<[u32; 4]> {
     let subsection = first_subsection(bytes)?;
     match subsection.content() {
@@ -153,7 +154,7 @@ fn sizes_of(bytes: &[u8]) -> Option<[u32; 4]> {
     }
 }
 
-/// The second name of the first subsection, of libraries or of paths.
+/// Returns the second name of the first subsection, which has libraries or paths.
 fn second_path(bytes: &[u8]) -> Option<&str> {
     let subsection = first_subsection(bytes)?;
     match subsection.content() {
@@ -162,7 +163,7 @@ fn second_path(bytes: &[u8]) -> Option<&str> {
     }
 }
 
-/// The name of the first export, and its flags.
+/// Returns the name and the flags of the first export of the first subsection.
 fn export_of(bytes: &[u8]) -> Option<(&str, u32)> {
     let subsection = first_subsection(bytes)?;
     match subsection.content() {
@@ -174,7 +175,7 @@ fn export_of(bytes: &[u8]) -> Option<(&str, u32)> {
     }
 }
 
-/// The module and the name of the first import, and its flags.
+/// Returns the module, the name and the flags of the first import of the first subsection.
 fn import_of(bytes: &[u8]) -> Option<(&str, &str, u32)> {
     let subsection = first_subsection(bytes)?;
     match subsection.content() {
@@ -200,7 +201,7 @@ fn symbols_of_dylink_are_read(rt: HostRuntime) {
     assert!(rt; import_of(b"\x04\x07\x01\x01m\x01g\x88\x08") == Some(("m", "g", 0x408)));
 }
 
-/// Whether flags have these words, in this order, and these other bits.
+/// Reports whether flags have exactly these words, in this order, and these other bits.
 fn are_flags(flags: SymbolFlags, wanted: &[&str], other_bits: u32) -> bool {
     let mut words = flags.words();
     for word in wanted {
@@ -222,16 +223,16 @@ fn flags_have_words(rt: HostRuntime) {
     assert!(rt; matches!(named, Some(flags) if flags.bits() == 0x80));
 }
 
-/// The place of a hint and whether it is taken.
+/// Returns the place of a hint, and whether the branch is likely taken.
 fn place_and_direction(hint: Option<Hint>) -> Option<(u64, bool)> {
     let hint = hint?;
     Some((hint.place(), hint.is_taken()))
 }
 
-/// Offsets in a function, and the place of the hint that is answered at each, and whether it is taken.
+/// Offsets in a function, each with the expected hint: its place, and whether the branch is likely taken.
 type Offsets = &'static [(u64, Option<(u64, bool)>)];
 
-/// Whether the offsets of a function are answered so, one after the other.
+/// Reports whether a function has the expected hints at these offsets, which are asked for in this order.
 fn are_hints(mut hints: FunctionHints, offsets: Offsets) -> bool {
     for (offset, hint) in offsets {
         if place_and_direction(hints.next_at(*offset)) != *hint {
@@ -241,7 +242,8 @@ fn are_hints(mut hints: FunctionHints, offsets: Offsets) -> bool {
     true
 }
 
-/// What functions are answered, one after the other, by the hints of function 1, at offsets 3 and 7, and of function 4, at offset 2.
+/// The expected hints of functions, asked for in this order. The section has hints of function 1, at offsets 3 and
+/// 7, and of function 4, at offset 2.
 const HINTED: [(u64, Offsets); 4] = [
     (0, &[(3, None)]),
     (
@@ -258,7 +260,7 @@ const HINTED: [(u64, Offsets); 4] = [
     (4, &[(2, Some((0x5b, true)))]),
 ];
 
-/// The number of the first row at which the hints are answered otherwise, if there is one.
+/// Returns the number of the first row whose hints differ, or `None` if none differ.
 fn first_other(hints: &mut Hints, rows: &[(u64, Offsets)]) -> Option<usize> {
     for (number, (function, offsets)) in rows.iter().enumerate() {
         if !are_hints(hints.next_function(*function), offsets) {
@@ -282,7 +284,7 @@ fn sections_of_hints_are_known(rt: HostRuntime) {
     assert!(rt; !is_hint_section("metadata.code.branch_hints"));
 }
 
-/// Sections of hints that are at fault behind or in the first hint, of function 1 at offset 3.
+/// Hint sections with an error in or after the first hint, which is that of function 1 at offset 3.
 const FAULTS: [&[u8]; 4] = [
     b"\x01\x01\x01\x03\x01\x02",
     b"\x01\x01\x01\x03\x02\x01",
@@ -290,7 +292,7 @@ const FAULTS: [&[u8]; 4] = [
     b"\x02\x01\x01\x03\x01\x01",
 ];
 
-/// Whether the next operator of a function, at this offset, has no hint.
+/// Reports whether the next operator of a function, at this offset, has no hint.
 fn has_no_hint(hints: &mut Hints, function: u64, offset: u64) -> bool {
     hints.next_function(function).next_at(offset).is_none()
 }
@@ -303,7 +305,8 @@ fn a_fault_gives_no_hints(rt: HostRuntime) {
     }
 }
 
-/// A section with so many hints of function 100,000, all of the operator at the body's first byte. The count stands in these bytes.
+/// Returns a section with `count` hints of function 100,000, all at offset 0. `count_bytes` is the count, encoded
+/// in LEB128.
 fn many_hints(alloc: Global, count: usize, count_bytes: [u8; 3]) -> Result<Vec<u8>, AllocError> {
     let mut bytes = Vec::from_slice(alloc, &[0x01, 0xa0, 0x8d, 0x06])?;
     bytes.extend_from_slice(&count_bytes)?;
@@ -311,7 +314,7 @@ fn many_hints(alloc: Global, count: usize, count_bytes: [u8; 3]) -> Result<Vec<u
     Ok(bytes)
 }
 
-/// Whether no function in front of this one has a hint at its body's first byte.
+/// Reports whether no function before this one has a hint at offset 0.
 fn have_no_hints_before(hints: &mut Hints, function: u64) -> bool {
     for number in 0..function {
         if !has_no_hint(hints, number, 0) {
@@ -321,7 +324,7 @@ fn have_no_hints_before(hints: &mut Hints, function: u64) -> bool {
     true
 }
 
-// Were the hints read again for each of the functions in front of theirs, this would take minutes.
+// If the hints were read again for each of the earlier functions, this would take minutes.
 #[test]
 fn hints_are_read_once(rt: HostRuntime) -> Result<(), Fail> {
     let bytes = many_hints(rt.alloc(), 131_071, [0xff, 0xff, 0x07])?;

@@ -1,4 +1,4 @@
-//! Labels of a few functions. The names and what is expected are typed by hand.
+//! Tests of the labels of a few functions. The names and the expected labels are typed by hand.
 ghost use Rattle.std.specs.Prelude.{◌≤◌};
 
 use crate::names::names_of;
@@ -9,46 +9,46 @@ use wasmprinter_labels::{Meant, OpenLabels};
 use wasmprinter_names::{Identifier, Identifiers, Name, Space};
 use wasmprinter_ops::opcode::Role;
 
-/// The name `a`, which is its own identifier.
+/// The name `a`, whose identifier is the name itself.
 const A: Identifier<'static> = Identifier::Given(Name {
     given: "a",
     content: "a",
 });
 
-/// The name `b`, which is its own identifier.
+/// The name `b`, whose identifier is the name itself.
 const B: Identifier<'static> = Identifier::Given(Name {
     given: "b",
     content: "b",
 });
 
-/// The identifier that is made up for a block with no block around it.
+/// The identifier that is synthesized for a block outside all other blocks.
 const OUTERMOST: Identifier<'static> = Identifier::Invented {
     space: Space::Label,
     number: 0,
 };
 
-/// The identifier that is made up for a block with one block around it.
+/// The identifier that is synthesized for a block within one other block.
 const INNER: Identifier<'static> = Identifier::Invented {
     space: Space::Label,
     number: 1,
 };
 
-/// What is done with labels, or expected of them.
+/// A step of a test: a change of the open labels, or an expected fact about them.
 #[derive(Clone, Copy)]
 enum Step {
-    /// They go to the front of an expression of the function.
+    /// Start an expression of this function.
     Begin(u64),
-    /// They go on behind an operator of the role.
+    /// Advance past an operator with this role.
     Advance(Role),
-    /// The block that would be opened next has this identifier.
+    /// Expect this identifier for the block that would be opened next.
     Own(Option<Identifier<'static>>),
-    /// So many blocks are open.
+    /// Expect this number of open blocks.
     Depth(u64),
-    /// In an operator of the role the label means this.
+    /// Expect the label to mean this in an operator with this role.
     Find(Role, u32, Meant<'static>),
 }
 
-/// Labels, and behind how many operators they are at most.
+/// Open labels, with an upper bound on the number of operators that they advanced past.
 #[derive(Drop)]
 struct Walk<'n, 'a> {
     labels: OpenLabels<'n, 'a>,
@@ -57,12 +57,13 @@ struct Walk<'n, 'a> {
 }
 
 impl<'n, 'a> Walk<'n, 'a> {
-    /// Goes to the front of an expression of the function.
+    /// Starts an expression of this function.
     fn begin(&mut self, function: u64) {
         self.labels.begin(function);
     }
 
-    /// Goes on behind an operator of the role. Answers whether so many operators can be counted.
+    /// Advances past an operator with this role. Returns false, and does not advance, if the number of operators would
+    /// exceed 32 bits.
     fn advance(&mut self, role: Role) -> bool {
         if self.operators == u32::MAX {
             return false;
@@ -72,7 +73,7 @@ impl<'n, 'a> Walk<'n, 'a> {
         true
     }
 
-    /// Does what the step says, or looks whether all is as the step says. Answers whether it is.
+    /// Performs a step. Returns whether the step could be made, or its expected fact holds.
     fn takes(&mut self, step: &Step) -> bool {
         match step {
             Step::Begin(function) => {
@@ -86,7 +87,7 @@ impl<'n, 'a> Walk<'n, 'a> {
         }
     }
 
-    /// Goes the steps one behind the other. Answers the number of the first one at which all isn't as it says.
+    /// Performs the steps in order. Returns the number of the first that fails, or `None` if none fails.
     fn first_wrong(&mut self, steps: &[Step]) -> Option<usize> {
         for (number, step) in steps.iter().enumerate() {
             if !self.takes(step) {
@@ -97,7 +98,7 @@ impl<'n, 'a> Walk<'n, 'a> {
     }
 }
 
-/// Goes the steps with the labels by the data of a name section.
+/// Asserts that all steps succeed, for labels with the names of this section.
 fn assert_labels(
     rt: &impl Abort,
     alloc: Global,
@@ -121,7 +122,7 @@ fn assert_labels(
     Ok(())
 }
 
-/// Two blocks `a`, with a block `b` between them, each within the one before.
+/// Three nested blocks: `a`, `b` in it, and another `a` in that.
 const HIDDEN: [Step; 20] = [
     Step::Begin(0),
     Step::Own(Some(A)),
@@ -136,9 +137,9 @@ const HIDDEN: [Step; 20] = [
     Step::Own(None),
     Step::Find(Role::Plain, 0, Meant::ByName(A)),
     Step::Find(Role::Plain, 1, Meant::ByName(B)),
-    // the outer `a`
+    // The outer `a`, which the inner one shadows
     Step::Find(Role::Plain, 2, Meant::ByNumber),
-    // the body
+    // The body
     Step::Find(Role::Plain, 3, Meant::ByNumber),
     Step::Find(Role::Plain, 4, Meant::ToNothing),
     Step::Advance(Role::Ends),
@@ -149,25 +150,25 @@ const HIDDEN: [Step; 20] = [
 
 #[test]
 fn a_label_is_hidden_for_a_while(rt: HostRuntime) -> Result<(), Fail> {
-    // labels of function 0: 0 `a`, 1 `b`, 2 `a`
+    // Labels of function 0: 0 `a`, 1 `b`, 2 `a`
     let section = b"\x03\x0c\x01\x00\x03\x00\x01a\x01\x01b\x02\x01a";
     assert_labels(&rt, rt.alloc(), section, false, &HIDDEN)
 }
 
-/// Blocks that end in `delegate`, where it names each block around them.
+/// Blocks that end in `delegate`, with the labels of all blocks around them.
 const DELEGATED: [Step; 16] = [
     Step::Begin(0),
     Step::Find(Role::Delegates, 0, Meant::ByNumber),
     Step::Find(Role::Delegates, 1, Meant::ToNothing),
     Step::Advance(Role::Opens),
     Step::Advance(Role::OpensTry),
-    // the `try` is `b`
+    // The `try` is `b`
     Step::Find(Role::Delegates, 0, Meant::ByName(A)),
     Step::Advance(Role::Delegates),
     Step::Depth(1),
     Step::Find(Role::Plain, 0, Meant::ByName(A)),
     Step::Advance(Role::OpensTry),
-    // the `try` is `a`, and so hides the label that is meant
+    // The `try` is `a`, and so shadows the label of the block around it
     Step::Find(Role::Delegates, 0, Meant::ByNumber),
     Step::Find(Role::Delegates, 1, Meant::ByNumber),
     Step::Find(Role::Delegates, 2, Meant::ToNothing),
@@ -178,12 +179,12 @@ const DELEGATED: [Step; 16] = [
 
 #[test]
 fn delegate_leaves_its_block_out(rt: HostRuntime) -> Result<(), Fail> {
-    // labels of function 0: 0 `a`, 1 `b`, 2 `a`
+    // Labels of function 0: 0 `a`, 1 `b`, 2 `a`
     let section = b"\x03\x0c\x01\x00\x03\x00\x01a\x01\x01b\x02\x01a";
     assert_labels(&rt, rt.alloc(), section, false, &DELEGATED)
 }
 
-/// A block without a name around the block `a`, and one behind them.
+/// A block without a name that contains the block `a` and then another block without a name.
 const NAMELESS: [Step; 9] = [
     Step::Begin(0),
     Step::Own(None),
@@ -198,24 +199,24 @@ const NAMELESS: [Step; 9] = [
 
 #[test]
 fn blocks_without_names_go_by_depth(rt: HostRuntime) -> Result<(), Fail> {
-    // label 1 of function 0: `a`
+    // Label 1 of function 0: `a`
     let section = b"\x03\x06\x01\x00\x01\x01\x01a";
     assert_labels(&rt, rt.alloc(), section, false, &NAMELESS)
 }
 
-/// The identifier by the name `#q` of label 1.
+/// The identifier of label 1, whose name is `#q`.
 const SECOND: Identifier<'static> = Identifier::Given(Name {
     given: "#q",
     content: "#label1 #q",
 });
 
-/// The identifier by the empty name of label 2.
+/// The identifier of label 2, whose name is empty.
 const THIRD: Identifier<'static> = Identifier::Given(Name {
     given: "",
     content: "#label2 ",
 });
 
-/// Blocks with names that are no identifiers and blocks without names, where identifiers are made up.
+/// Blocks whose names are not used as identifiers, and blocks without names, with identifiers synthesized.
 const MADE_UP: [Step; 13] = [
     Step::Begin(0),
     Step::Own(Some(OUTERMOST)),
@@ -226,7 +227,7 @@ const MADE_UP: [Step; 13] = [
     Step::Own(Some(THIRD)),
     Step::Advance(Role::Opens),
     Step::Advance(Role::Ends),
-    // the sibling of both
+    // The third block in the outermost one
     Step::Own(Some(INNER)),
     Step::Advance(Role::Opens),
     Step::Find(Role::Plain, 0, Meant::ByName(INNER)),
@@ -235,25 +236,25 @@ const MADE_UP: [Step; 13] = [
 
 #[test]
 fn identifiers_are_made_up_by_depth(rt: HostRuntime) -> Result<(), Fail> {
-    // labels of function 0: 1 `#q`, 2 empty
+    // Labels of function 0: 1 `#q`, 2 the empty name
     let section = b"\x03\x09\x01\x00\x02\x01\x02#q\x02\x00";
     assert_labels(&rt, rt.alloc(), section, true, &MADE_UP)
 }
 
-/// Blocks of several functions, of which two have a label `a`.
+/// Blocks of several functions, two of which have a label `a`.
 const FUNCTIONS: [Step; 21] = [
     Step::Begin(1),
     Step::Own(Some(A)),
     Step::Advance(Role::Opens),
     Step::Advance(Role::Opens),
-    // none of the blocks before is open
+    // A new expression starts without open blocks
     Step::Begin(3),
     Step::Depth(0),
     Step::Find(Role::Plain, 1, Meant::ToNothing),
     Step::Own(Some(A)),
     Step::Advance(Role::Opens),
     Step::Find(Role::Plain, 0, Meant::ByName(A)),
-    // there is a way back
+    // A function may follow one with a greater index
     Step::Begin(2),
     Step::Own(None),
     Step::Begin(1),
@@ -262,7 +263,7 @@ const FUNCTIONS: [Step; 21] = [
     Step::Own(None),
     Step::Begin(4),
     Step::Own(None),
-    // what closes nothing changes nothing
+    // An `end` without an open block changes nothing
     Step::Begin(1),
     Step::Advance(Role::Ends),
     Step::Depth(0),
@@ -270,7 +271,7 @@ const FUNCTIONS: [Step; 21] = [
 
 #[test]
 fn labels_are_those_of_the_function(rt: HostRuntime) -> Result<(), Fail> {
-    // label 0 of function 1: `a`; of function 3: `a`
+    // Label 0 of function 1: `a`; label 0 of function 3: `a`
     let section = b"\x03\x0b\x02\x01\x01\x00\x01a\x03\x01\x00\x01a";
     assert_labels(&rt, rt.alloc(), section, false, &FUNCTIONS)
 }

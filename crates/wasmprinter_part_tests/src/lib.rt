@@ -1,5 +1,5 @@
-//! Tests of names, of custom sections that are known and their lines, of labels, and of operators as text. What is expected is typed by
-//! hand.
+//! Tests of names, of known custom sections and their lines, of labels, and of the text of operators. All expected
+//! values and texts are typed by hand.
 #![tactic(auto)]
 
 #[cfg(test)]

@@ -1,4 +1,4 @@
-//! Names of a few name sections. The bytes and what is expected are typed by hand.
+//! Tests of the names of a few name sections. The bytes and the expected identifiers are typed by hand.
 
 use std::alloc::{AllocError, Global};
 use std::process::Abort;
@@ -10,7 +10,7 @@ use wasmprinter_names::{
 };
 use wasmprinter_samples::expect_text;
 
-/// Reads the names of these sections, one section behind the other.
+/// Reads the names of these sections in order.
 fn read_sections<'a>(
     alloc: Global,
     builder: &mut NamesBuilder<'a>,
@@ -22,22 +22,22 @@ fn read_sections<'a>(
     Ok(())
 }
 
-/// The names by these sections.
+/// Returns the names that these sections give.
 pub(crate) fn names_of<'a>(alloc: Global, sections: &[&'a [u8]]) -> Result<Names<'a>, Error> {
     let mut builder = NamesBuilder::new(alloc);
     read_sections(alloc, &mut builder, sections)?;
     Ok(builder.finish(alloc)?)
 }
 
-/// Whether this is a name that was given so, with this behind the dollar sign.
+/// Reports whether the item was given this name, and this follows the dollar sign of its identifier.
 fn is_named(name: Option<Name<'_>>, given: &str, content: &str) -> bool {
     matches!(name, Some(name) if name.given == given && name.content == content)
 }
 
-/// An item, by its space, its function or type and its index, and its identifier.
+/// An item by its space, its function or type, and its index, with its identifier.
 type Item = (Space, u32, u32, Option<&'static str>);
 
-/// Looks items up.
+/// Asserts that these items have these identifiers.
 fn assert_found(rt: &impl Abort, names: &Names<'_>, items: &[Item]) {
     for (row, (space, outer, index, identifier)) in items.iter().enumerate() {
         assert!(rt;
@@ -47,7 +47,7 @@ fn assert_found(rt: &impl Abort, names: &Names<'_>, items: &[Item]) {
     }
 }
 
-/// Looks the module and items up among the names by these sections.
+/// Asserts that, by the names of these sections, the module and the items have these identifiers.
 fn assert_names(
     rt: &impl Abort,
     alloc: Global,
@@ -61,7 +61,7 @@ fn assert_names(
     Ok(())
 }
 
-/// Whether a function has this name by this section.
+/// Reports whether a function has this name, by the names of this section.
 fn has_name(
     alloc: Global,
     section: &[u8],
@@ -72,7 +72,7 @@ fn has_name(
     Ok(names.name(Space::Func, 0, function) == wanted)
 }
 
-/// Whether the module has this name by these sections.
+/// Reports whether the module has this name, by the names of these sections.
 fn module_is_named(
     alloc: Global,
     sections: &[&[u8]],
@@ -83,7 +83,8 @@ fn module_is_named(
     Ok(is_named(names.module_name(), given, content))
 }
 
-/// The identifiers of the functions 0 `b`, 1 `a`, 2 without letters, 3 `#x` and 4 `a`.
+/// The identifiers of functions with the names 0 `b`, 1 `a`, 2 the empty name, 3 `#x` and 4 `a`. `a` was first the
+/// name of function 0.
 const MARKED: [Item; 8] = [
     (Space::Func, 0, 0, Some("b")),
     (Space::Func, 0, 1, Some("#func1 a")),
@@ -91,14 +92,14 @@ const MARKED: [Item; 8] = [
     (Space::Func, 0, 3, Some("#func3 #x")),
     (Space::Func, 0, 4, Some("#func4 a")),
     (Space::Func, 0, 5, None),
-    // the outer number means nothing here
+    // Functions belong to no outer item, so its index is ignored
     (Space::Func, 7, 0, Some("b")),
     (Space::Table, 0, 0, None),
 ];
 
 #[test]
 fn names_are_marked(rt: HostRuntime) -> Result<(), Fail> {
-    // functions: 0 `a`, 1 `a`, 2 empty, 3 `#x`, 0 again, now `b`, 4 `a`; a byte is left over
+    // Functions: 0 `a`, 1 `a`, 2 the empty name, 3 `#x`, 0 again, now `b`, 4 `a`; a byte is left over
     let bytes = b"\x01\x14\x06\x00\x01a\x01\x01a\x02\x00\x03\x02#x\x00\x01b\x04\x01a\x07";
     let second = Name {
         given: "a",
@@ -108,7 +109,7 @@ fn names_are_marked(rt: HostRuntime) -> Result<(), Fail> {
     assert_names(&rt, rt.alloc(), &[bytes], None, &MARKED)
 }
 
-/// Local 0 of function 0, which is `x`, and function 0.
+/// Local 0 of function 0, which is `x`, and function 0, which has no name.
 const LOCAL: [Item; 2] = [(Space::Local, 0, 0, Some("x")), (Space::Func, 0, 0, None)];
 
 #[test]
@@ -123,7 +124,7 @@ fn a_cut_name_is_none(rt: HostRuntime) -> Result<(), Fail> {
     Ok(())
 }
 
-/// What is named in front of a fault, and by the section behind it.
+/// The names before an error, and those of the section after it.
 const AROUND_A_FAULT: [Item; 5] = [
     (Space::Local, 1, 0, Some("x")),
     (Space::Local, 0, 0, None),
@@ -134,10 +135,11 @@ const AROUND_A_FAULT: [Item; 5] = [
 
 #[test]
 fn reading_stops_at_the_first_fault(rt: HostRuntime) -> Result<(), Fail> {
-    // the module is `m`; an unknown subsection; locals of function 1: 0 `x`, then a cut name; functions that aren't reached
+    // The module is `m`; an unknown subsection; locals of function 1: 0 `x`, then a truncated name; functions that
+    // are not read
     let first =
         b"\x00\x02\x01m\x0c\x01\xff\x02\x09\x01\x01\x02\x00\x01x\x01\x05y\x01\x04\x01\x00\x01z";
-    // a second section: function 0 `f`, 1 `f`
+    // A second section: functions 0 `f`, 1 `f`
     let second = b"\x01\x07\x02\x00\x01f\x01\x01f";
     assert_names(
         &rt,
@@ -148,7 +150,7 @@ fn reading_stops_at_the_first_fault(rt: HostRuntime) -> Result<(), Fail> {
     )
 }
 
-/// Spaces, the ids of their subsections, and the identifiers of item 1, where items 0 and 1 are `a`.
+/// Spaces, the ids of their subsections, and the identifier of item 1 if items 0 and 1 both have the name `a`.
 const SPACES: [(Space, u8, &str); 10] = [
     (Space::Func, 1, "#func1 a"),
     (Space::Local, 2, "#local1 a"),
@@ -162,14 +164,16 @@ const SPACES: [(Space, u8, &str); 10] = [
     (Space::Tag, 11, "#tag1 a"),
 ];
 
-/// Whether items 0 and 1 have these identifiers in function or type 5, and item 0 has none in another where `is_indirect`.
+/// Reports whether items 0 and 1 have these identifiers in function or type 5 and, if `is_indirect`, item 0 has
+/// none in another.
 fn are_counted(names: &Names, space: Space, second: &str, is_indirect: bool) -> bool {
     names.identifier(space, 5, 0) == Some("a")
         && names.identifier(space, 5, 1) == Some(second)
         && names.identifier(space, 4, 0).is_none() == is_indirect
 }
 
-/// Whether names count in their space, where item 0 and item 1 are `a` in one function or type.
+/// Reports whether items 0 and 1 of one function or type, both with the name `a`, have the expected identifiers in
+/// this space.
 fn count_in(alloc: Global, space: Space, id: u8, second: &str) -> Result<bool, Error> {
     let direct = [id, 7, 2, 0, 1, b'a', 1, 1, b'a'];
     let indirect = [id, 9, 1, 5, 2, 0, 1, b'a', 1, 1, b'a'];
@@ -179,7 +183,8 @@ fn count_in(alloc: Global, space: Space, id: u8, second: &str) -> Result<bool, E
     Ok(are_counted(&names, space, second, is_indirect))
 }
 
-/// The subsection of the first of the spaces in which names don't count so, if there is one.
+/// Returns the id of the subsection of the first space for which this does not hold, or `None` if it holds for
+/// all.
 fn first_uncounted(alloc: Global, spaces: &[(Space, u8, &str)]) -> Result<Option<u8>, Error> {
     for (space, id, second) in spaces {
         if !count_in(alloc, *space, *id, second)? {
@@ -196,7 +201,7 @@ fn names_count_in_their_space(rt: HostRuntime) -> Result<(), Fail> {
     Ok(())
 }
 
-/// Labels 0 and 1 of function 0, which are `a`, and label 2, whose name is empty.
+/// Labels 0 and 1 of function 0, which are both `a`, and label 2, whose name is empty.
 const LABELS: [Item; 3] = [
     (Space::Label, 0, 0, Some("a")),
     (Space::Label, 0, 1, Some("a")),
@@ -206,7 +211,7 @@ const LABELS: [Item; 3] = [
 #[test]
 fn names_of_labels_and_the_module_never_count(rt: HostRuntime) -> Result<(), Fail> {
     let labels = b"\x03\x0b\x01\x00\x03\x00\x01a\x01\x01a\x02\x00";
-    // the module is `m`, and again `m`
+    // The module is `m`, and again `m`
     let module = b"\x00\x02\x01m\x00\x02\x01m";
     let sections: [&[u8]; 2] = [labels, module];
     assert_names(&rt, rt.alloc(), &sections, Some("m"), &LABELS)?;
@@ -215,22 +220,23 @@ fn names_of_labels_and_the_module_never_count(rt: HostRuntime) -> Result<(), Fai
     Ok(())
 }
 
-/// The identifier `f` by a name.
+/// The identifier of an item with the name `f`.
 const NAMED: Identifier<'static> = Identifier::Given(Name {
     given: "f",
     content: "f",
 });
 
-/// The identifier that is made up for a local with a large number.
+/// The identifier that is synthesized for a local whose index exceeds 32 bits.
 const FAR: Identifier<'static> = Identifier::Invented {
     space: Space::Local,
     number: 5_000_000_000,
 };
 
-/// Whether identifiers are made up, then an item by its space, its function or type and its index, and its identifier.
+/// Whether identifiers are synthesized; an item by its space, its function or type, and its index; and its
+/// identifier.
 type Identified = (bool, Space, u64, u64, Option<Identifier<'static>>);
 
-/// Items of a module whose function 0 is called `f`.
+/// Items of a module whose function 0 has the name `f`.
 const IDENTIFIED: [Identified; 4] = [
     (false, Space::Func, 0, 0, Some(NAMED)),
     (false, Space::Func, 0, 1, None),
@@ -238,7 +244,7 @@ const IDENTIFIED: [Identified; 4] = [
     (true, Space::Local, 3, 5_000_000_000, Some(FAR)),
 ];
 
-/// Asks for the identifiers of items.
+/// Asserts that these items have these identifiers.
 fn assert_identified(rt: &impl Abort, names: &Names, items: &[Identified]) {
     for (invents, space, outer, index, identifier) in items {
         let identifiers = Identifiers {
@@ -252,20 +258,20 @@ fn assert_identified(rt: &impl Abort, names: &Names, items: &[Identified]) {
     }
 }
 
-/// The identifier `m` by a name.
+/// The identifier of a module with the name `m`.
 const MODULE: Identifier<'static> = Identifier::Given(Name {
     given: "m",
     content: "m",
 });
 
-/// Whether this is the identifier of the module.
+/// Reports whether this is the identifier of the module.
 fn is_module_identified(names: &Names, invents: bool, wanted: Option<Identifier>) -> bool {
     Identifiers { names, invents }.module() == wanted
 }
 
 #[test]
 fn identifiers_are_given_or_made_up(rt: HostRuntime) -> Result<(), Fail> {
-    // the module is `m`; function 0 is called `f`
+    // The module is `m`; function 0 is `f`
     let names = names_of(rt.alloc(), &[b"\x00\x02\x01m\x01\x04\x01\x00\x01f"])?;
     assert_identified(&rt, &names, &IDENTIFIED);
     assert!(rt; is_module_identified(&names, false, Some(MODULE)));
@@ -289,7 +295,7 @@ fn no_identifier_is_made_up_for_a_module(rt: HostRuntime) -> Result<(), Fail> {
 /// A label: its function, its number and its name.
 type Label = (u64, u64, &'static str);
 
-/// Whether labels are these, each with its name as its identifier.
+/// Reports whether these are the labels, each with its name as its identifier.
 fn are_labels(labels: &[LabelName], wanted: &[Label]) -> bool {
     for (label, (function, number, name)) in labels.iter().zip(wanted) {
         if label.function != *function
@@ -302,18 +308,18 @@ fn are_labels(labels: &[LabelName], wanted: &[Label]) -> bool {
     labels.len() == wanted.len()
 }
 
-/// Whether the labels that have names are these.
+/// Reports whether these are the labels with names.
 fn lists(alloc: Global, names: &Names, wanted: &[Label]) -> Result<bool, AllocError> {
     let labels = names.labels(alloc)?;
     Ok(are_labels(&labels, wanted))
 }
 
-/// Labels of functions 0 and 2.
+/// The labels of functions 0 and 2, sorted by function and number.
 const LISTED: [Label; 3] = [(0, 7, "c"), (2, 0, "a"), (2, 1, "b")];
 
 #[test]
 fn labels_are_listed_by_function_and_number(rt: HostRuntime) -> Result<(), Fail> {
-    // labels of function 2: 1 `b`, 0 `a`; of function 0: 7 `c`; a local and a function have names too
+    // Labels of function 2: 1 `b`, 0 `a`; of function 0: 7 `c`; a local and a function have names too
     let labels = b"\x03\x0e\x02\x02\x02\x01\x01b\x00\x01a\x00\x01\x07\x01c";
     let others = b"\x02\x06\x01\x00\x01\x00\x01x\x01\x04\x01\x00\x01f";
     let names = names_of(rt.alloc(), &[labels, others])?;
@@ -333,7 +339,7 @@ const WITHOUT_GAPS: [Item; 13] = [
     (Space::Local, 1, 0, Some("z")),
     (Space::Local, 1, 1, None),
     (Space::Local, 2, 0, None),
-    // nothing is named in front of the functions or behind the locals
+    // No item has a name in the spaces before that of functions and after that of locals
     (Space::Label, 0, 0, None),
     (Space::Label, 1, 0, None),
     (Space::Tag, 0, 0, None),
@@ -429,7 +435,7 @@ const FROM_THE_LAST: [Item; 15] = [
     (Space::Func, 0, 2, Some("c")),
     (Space::Func, 0, 3, Some("d")),
     (Space::Func, 0, 4, None),
-    // nothing is named between the locals and the globals
+    // No item has a name in the spaces between those of locals and of globals
     (Space::Types, 0, 0, None),
     (Space::Types, 0, 1, None),
 ];
@@ -443,13 +449,13 @@ fn names_given_from_the_last_to_the_first_are_found(rt: HostRuntime) -> Result<(
     assert_names(&rt, rt.alloc(), &sections, None, &FROM_THE_LAST)
 }
 
-/// A number of fewer than 14 bits in two bytes, as the binary format may spell it.
+/// Returns a number of at most 14 bits, encoded in two bytes.
 fn two_bytes(n: u16) -> [u8; 2] {
     let [low, high] = n.wrapping_mul(2).to_le_bytes();
     [low >> 1 | 0x80, high]
 }
 
-/// A name map in which as many items, the first ones, are called `a`.
+/// Returns a name map in which the first `count` items have the name `a`.
 fn map_of(alloc: Global, count: u16) -> Result<Vec<u8>, Error> {
     let mut map = Vec::from_slice(alloc, &two_bytes(count))?;
     for index in 0..count {
@@ -459,7 +465,7 @@ fn map_of(alloc: Global, count: u16) -> Result<Vec<u8>, Error> {
     Ok(map)
 }
 
-/// Forty times this name map, as those of functions or types 0 to 39.
+/// Returns an indirect name map with this name map for each of the functions or types 0 to 39.
 fn maps_of(alloc: Global, map: &[u8]) -> Result<Vec<u8>, Error> {
     let mut maps = Vec::from_slice(alloc, &[40])?;
     for outer in 0..40 {
@@ -469,7 +475,7 @@ fn maps_of(alloc: Global, map: &[u8]) -> Result<Vec<u8>, Error> {
     Ok(maps)
 }
 
-/// A subsection that holds this.
+/// Returns a subsection with this content.
 fn subsection_of(alloc: Global, id: u8, content: &[u8]) -> Result<Vec<u8>, Error> {
     let mut subsection = Vec::from_slice(alloc, &[id])?;
     subsection.extend_from_slice(&two_bytes((content.len() & 0x3fff) as u16))?;
@@ -480,7 +486,7 @@ fn subsection_of(alloc: Global, id: u8, content: &[u8]) -> Result<Vec<u8>, Error
 /// A space, the id of its subsection, and the identifier of the last item.
 type Last = (Space, u8, &'static str);
 
-/// Each space whose items are named by their index alone, where 300 items are called `a`.
+/// The spaces whose items belong to no function or type. 300 items have the name `a`.
 const LAST_OF_300: [Last; 8] = [
     (Space::Func, 1, "#func299 a"),
     (Space::Types, 4, "#type299 a"),
@@ -507,7 +513,8 @@ fn many_names_are_kept(rt: HostRuntime) -> Result<(), Fail> {
     Ok(())
 }
 
-/// Each space whose items belong to a function or a type, where 20 items of each are called `a`. Labels may have the same name.
+/// The spaces whose items belong to a function or type. 20 items of each have the name `a`. Labels may share a
+/// name.
 const LAST_OF_20: [Last; 3] = [
     (Space::Local, 2, "#local19 a"),
     (Space::Label, 3, "a"),

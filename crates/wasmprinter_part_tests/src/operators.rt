@@ -1,4 +1,5 @@
-//! Expressions in one line, and over lines with hints. What is expected is typed by hand.
+//! Tests of the text of expressions, in one line, and over several lines with hints. The expected texts are typed
+//! by hand.
 ghost use Rattle.std.specs.Prelude.{None};
 
 use crate::names::names_of;
@@ -16,7 +17,7 @@ use wasmprinter_samples::expect_text;
 use wasmprinter_text::signature::Signatures;
 use wasmprinter_types::composite::FuncType;
 
-/// No types.
+/// The types of a module without types.
 #[derive(Drop)]
 struct NoTypes;
 
@@ -28,13 +29,13 @@ impl Signatures for NoTypes {
     }
 }
 
-/// The place of a body's first byte.
+/// The place of the first byte of a body.
 const BODY: u64 = 0x10;
 
-/// The place of its first operator, behind the count of its locals.
+/// The place of the first operator of the body, after the count of locals.
 const OPERATORS: u64 = 0x11;
 
-/// The setting of function 0.
+/// Returns the setting of an expression of function 0.
 fn setting(form: Form, nesting: u64) -> Setting<'static, NoTypes> {
     Setting {
         form,
@@ -45,7 +46,7 @@ fn setting(form: Form, nesting: u64) -> Setting<'static, NoTypes> {
     }
 }
 
-/// The operators of an expression of function 0, printed in a module with these identifiers.
+/// Returns the text of the operators of an expression of function 0, in a module with these identifiers.
 fn text_of_expression(
     alloc: Global,
     identifiers: Identifiers<'_, '_>,
@@ -66,7 +67,7 @@ fn text_of_expression(
     Ok(printer.0)
 }
 
-/// The text of the operators of these bytes, in a module with the names of this section.
+/// Returns the text of the operators that these bytes encode, in a module with the names of this section.
 fn text_of_operators(
     alloc: Global,
     section: &[u8],
@@ -84,7 +85,7 @@ fn text_of_operators(
     text_of_expression(alloc, identifiers, setting, hints, &expression)
 }
 
-/// Holds that the operators are printed in one line as typed, in a module with the names of this section.
+/// Checks that the operators are printed in one line as typed, in a module with the names of this section.
 fn expect_line(
     alloc: Global,
     section: &[u8],
@@ -99,12 +100,12 @@ fn expect_line(
     Ok(())
 }
 
-/// Holds that operators in a module without names have this text.
+/// Checks that the operators are printed in one line as typed, in a module without names.
 fn expect_nameless(alloc: Global, bytes: &[u8], typed: &str) -> Result<(), Fail> {
     expect_line(alloc, &[], false, bytes, typed)
 }
 
-/// The operators over lines, with the hints of this section.
+/// Returns the text of the operators over several lines, with the hints of this section.
 fn with_hints(alloc: Global, section: &[u8], bytes: &[u8]) -> Result<String, Fail> {
     let mut hints = Hints::of_section(0, section);
     text_of_operators(
@@ -143,7 +144,7 @@ fn blocks_stand_in_the_line(rt: HostRuntime) -> Result<(), Fail> {
 
 #[test]
 fn names_stand_for_indices(rt: HostRuntime) -> Result<(), Fail> {
-    // local 0 of function 0 is `x`, labels 0 and 1 of it are `a`; memory 0 is `m`, global 0 is `g`
+    // Local 0 of function 0 is `x`, its labels 0 and 1 are `a`; memory 0 is `m`, global 0 is `g`
     let section =
         b"\x02\x06\x01\x00\x01\x00\x01x\x03\x09\x01\x00\x02\x00\x01a\x01\x01a\x06\x04\x01\x00\x01m\x07\x04\x01\x00\x01g";
     expect_line(
@@ -155,7 +156,7 @@ fn names_stand_for_indices(rt: HostRuntime) -> Result<(), Fail> {
         ],
         "local.get $x local.get 1 global.get $g i32.load memory.copy $m 1",
     )?;
-    // the inner `a` hides the outer one, and the third block has no name
+    // The inner `a` shadows the outer one, and the third block has no name
     expect_line(
         rt.alloc(),
         section,
@@ -190,7 +191,7 @@ fn identifiers_are_made_up(rt: HostRuntime) -> Result<(), Fail> {
 
 #[test]
 fn hints_stand_before_their_operators(rt: HostRuntime) -> Result<(), Fail> {
-    // `br_if` stands 5 bytes behind the body's first byte, `if` 10
+    // `br_if` is 5 bytes after the first byte of the body, `if` is 10 bytes after it
     let text = with_hints(
         rt.alloc(),
         &[0x01, 0x00, 0x02, 0x05, 0x01, 0x01, 0x0a, 0x01, 0x00],

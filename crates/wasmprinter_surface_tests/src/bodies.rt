@@ -1,4 +1,5 @@
-//! Modules that are decoded, and walks over their operators: each variant of the types of `wasmprinter::wasm`.
+//! Tests of decoded modules and of readers over their operators. They use each variant of the types of
+//! `wasmprinter::wasm`.
 
 use crate::expecting::{EMPTY, IDENTITY};
 use std::alloc::{AllocError, Global};
@@ -8,7 +9,7 @@ use wasmprinter::wasm::{
     OperatorsReader, RefType, Targets, ValType, ValTypes, decode,
 };
 
-/// A function with immediates of each kind. They need not be valid.
+/// A module whose function has immediates of each kind. The immediates need not be valid.
 const EVERY_KIND: [u8; 112] = [
     0x00, 0x61, 0x73, 0x6d, 0x01, 0x00, 0x00, 0x00, // preamble
     0x01, 0x04, 0x01, 0x60, 0x00, 0x00, // types
@@ -34,7 +35,7 @@ const EVERY_KIND: [u8; 112] = [
     0x08, 0x09, 0x0a, 0x0b, 0x0c, 0x0d, 0x0e, 0x0f, 0x0b, // its last bytes, and the end at 0x6f
 ];
 
-/// An operator: its place, its opcode, its word, and how its immediates are printed for debugging.
+/// An operator: its place, its opcode, its word, and the debug text of its immediates.
 type Row = (u64, (u8, u32), &'static str, &'static str);
 
 /// The operators of `EVERY_KIND`.
@@ -85,7 +86,7 @@ const ROWS: [Row; 19] = [
     ),
 ];
 
-/// Whether the catch clauses are those of the `try_table`.
+/// Reports whether the catch clauses are those of the `try_table`.
 fn are_catches(catches: &Catches<'_>) -> bool {
     let mut clauses = catches.iter();
     catches.len() == 4
@@ -96,7 +97,7 @@ fn are_catches(catches: &Catches<'_>) -> bool {
         && clauses.next() == None
 }
 
-/// Whether the labels are those of the `br_table`.
+/// Reports whether the labels are those of the `br_table`.
 fn are_targets(targets: &Targets<'_>) -> bool {
     let mut labels = targets.iter();
     targets.len() == 2
@@ -105,13 +106,13 @@ fn are_targets(targets: &Targets<'_>) -> bool {
         && labels.next() == None
 }
 
-/// References to functions, which may be null.
+/// The type of nullable references to functions.
 const FUNC_REF: RefType = RefType {
     nullable: true,
     heap: HeapType::Func,
 };
 
-/// Whether the types are those of the `select`.
+/// Reports whether the types are those of the `select`.
 fn are_types(types: &ValTypes<'_>) -> bool {
     let mut found = types.iter();
     types.len() == 2
@@ -127,7 +128,7 @@ const LOADED: MemArg = MemArg {
     offset: 16,
 };
 
-/// Whether immediates are those that `EVERY_KIND` has of their kind.
+/// Reports whether the immediates are those of their kind in `EVERY_KIND`.
 fn are_expected(immediates: &Immediates<'_>) -> bool {
     match immediates {
         Immediates::None => true,
@@ -156,13 +157,13 @@ fn are_expected(immediates: &Immediates<'_>) -> bool {
     }
 }
 
-/// Whether the immediates of an operator are printed so for debugging, and its clone equals it.
+/// Reports whether the immediates of an operator have this debug text, and the clone of the operator equals it.
 fn is_shown_as(alloc: Global, operator: &Operator<'_>, shown: &str) -> Result<bool, AllocError> {
     let found = format!(in alloc; "{:?}", operator.immediates)?;
     Ok(found.as_str() == shown && operator.clone()? == *operator)
 }
 
-/// Whether an operator at a place is this one.
+/// Reports whether an operator at a place is the operator of this row.
 fn is_row(
     alloc: Global,
     place: u64,
@@ -180,7 +181,8 @@ fn is_row(
     )
 }
 
-/// Fails, with the word of the first row that differs, unless the remaining operators are exactly these.
+/// Checks that the remaining operators are exactly those of these rows. If not, the error has the word of the
+/// first row that differs, or reports a surplus operator.
 fn expect_rows(alloc: Global, operators: OperatorsReader<'_>, rows: &[Row]) -> Result<(), Fail> {
     let mut left = operators;
     for row in rows {
@@ -214,7 +216,7 @@ fn shows_an_operator(rt: HostRuntime) -> Result<(), Fail> {
     Ok(())
 }
 
-/// Whether the next two operators differ in their opcodes and their immediates alike, and each equals itself.
+/// Reports whether the next two operators are unequal, their immediates are unequal, and each equals itself.
 fn differ(operators: OperatorsReader<'_>) -> bool {
     let mut left = operators;
     let Some((_, first)) = left.next() else {
@@ -229,8 +231,8 @@ fn differ(operators: OperatorsReader<'_>) -> bool {
         && second.immediates == second.immediates
 }
 
-/// A function whose operators have lists of value types and of labels: of each kind two equal lists, one of another length, and one that
-/// differs in its last item.
+/// A module whose function has operators with lists of value types and of labels. For each, there are two equal
+/// lists, one with another length, and one that differs in its last item.
 const LISTS: [u8; 60] = [
     0x00, 0x61, 0x73, 0x6d, 0x01, 0x00, 0x00, 0x00, // preamble
     0x01, 0x04, 0x01, 0x60, 0x00, 0x00, // types
@@ -243,7 +245,8 @@ const LISTS: [u8; 60] = [
     0x0b,
 ];
 
-/// Whether of four operators the first two are equal, and the other two differ from the first. Clones are compared too.
+/// Reports whether, of the next four operators, the first two are equal and the other two differ from the first.
+/// Clones are compared too.
 fn are_one_pair(operators: &mut OperatorsReader<'_>) -> Result<bool, AllocError> {
     let Some((_, first)) = operators.next() else {
         return Ok(false);
@@ -288,12 +291,12 @@ fn tells_operators_apart(rt: HostRuntime) -> Result<(), Fail> {
     Ok(())
 }
 
-/// Whether a body begins and ends at these places.
+/// Reports whether a body has this place and this end.
 fn lies_at(body: &Body<'_>, place: u64, end: u64) -> bool {
     body.place() == place && body.end() == end
 }
 
-/// Whether a module has one body, at these places.
+/// Reports whether a module has exactly one body, with this place and this end.
 fn has_body_at(module: &Module<'_>, place: u64, end: u64) -> bool {
     match module.body(0) {
         Some(body) => {
@@ -312,7 +315,7 @@ fn tells_where_bodies_lie(rt: HostRuntime) -> Result<(), Fail> {
     Ok(())
 }
 
-/// A function with a `ref.null` of each heap type.
+/// A module whose function has a `ref.null` of each heap type.
 const EVERY_HEAP_TYPE: [u8; 50] = [
     0x00, 0x61, 0x73, 0x6d, 0x01, 0x00, 0x00, 0x00, // preamble
     0x01, 0x04, 0x01, 0x60, 0x00, 0x00, // types
@@ -339,7 +342,7 @@ const HEAP_TYPES: [HeapType; 13] = [
     HeapType::Index(42),
 ];
 
-/// The heap type that an operator has, if it has one alone.
+/// Returns the heap type of an operator, or `None` if a heap type is not its only immediate.
 fn heap_type_of(operator: &Operator<'_>) -> Option<HeapType> {
     match operator.immediates {
         Immediates::Heap(heap) => Some(heap),
@@ -347,7 +350,7 @@ fn heap_type_of(operator: &Operator<'_>) -> Option<HeapType> {
     }
 }
 
-/// Whether the operators that are left have these heap types.
+/// Reports whether the remaining operators have exactly these heap types.
 fn have_heap_types(operators: OperatorsReader<'_>, heap_types: &[HeapType]) -> bool {
     let mut left = operators;
     for heap_type in heap_types {
@@ -367,7 +370,8 @@ fn gives_each_heap_type(rt: HostRuntime) -> Result<(), Fail> {
     Ok(())
 }
 
-/// A function with a `select` of each value type, and blocks of the types that `EVERY_KIND` lacks.
+/// A module whose function has a `select` of each value type, and blocks of the types that `EVERY_KIND` does not
+/// have.
 const EVERY_TYPE: [u8; 40] = [
     0x00, 0x61, 0x73, 0x6d, 0x01, 0x00, 0x00, 0x00, // preamble
     0x01, 0x04, 0x01, 0x60, 0x00, 0x00, // types
@@ -379,7 +383,7 @@ const EVERY_TYPE: [u8; 40] = [
     0x0b,
 ];
 
-/// References to values of the type with the index 3, which can't be null.
+/// The type of references to values of type 3, not nullable.
 const TYPED_REF: RefType = RefType {
     nullable: false,
     heap: HeapType::Index(3),
@@ -396,7 +400,7 @@ const VAL_TYPES: [ValType; 7] = [
     ValType::Ref(TYPED_REF),
 ];
 
-/// Whether an operator has these value types.
+/// Reports whether an operator has these value types.
 fn has_types(operator: &Operator<'_>, types: &[ValType]) -> bool {
     match &operator.immediates {
         Immediates::Types(found) => found.iter().eq(types.iter().copied()),
@@ -404,7 +408,7 @@ fn has_types(operator: &Operator<'_>, types: &[ValType]) -> bool {
     }
 }
 
-/// Whether an operator opens a block of this type.
+/// Reports whether an operator opens a block of this type.
 fn opens(operator: &Operator<'_>, wanted: BlockType) -> bool {
     match operator.immediates {
         Immediates::Block(block_type) => block_type == wanted,

@@ -1,4 +1,4 @@
-//! A printer and a writer with colours that a user of the library implements.
+//! Tests of a user-defined printer and of a user-defined writer with colors.
 ghost use Rattle.std.specs.Prelude.{◌≡◌, None, false, true, Ok};
 
 use crate::expecting::{EMPTY, expect_text};
@@ -8,12 +8,13 @@ use std::test::Fail;
 use wasmprinter::Config;
 use wasmprinter::print::{Color, ColorSpec, Print, PrintTermcolor, WriteColor};
 
-/// A printer that writes a letter before each styled text, `.` after it, and `|` for each line feed. It claims the sections named `mine`.
+/// A printer that writes a letter before each styled text, `.` after it, and `|` for each line feed. It claims the
+/// sections named `mine`.
 #[derive(Drop)]
 struct Letters(String);
 
 impl Letters {
-    /// Appends a piece.
+    /// Appends a piece of text.
     fn push(&mut self, piece: &str) -> io::Result<()> {
         self.0.push_str(piece)?;
         Ok(())
@@ -96,7 +97,7 @@ fn prints_to_a_printer_with_styles(rt: HostRuntime) -> Result<(), Fail> {
     Ok(())
 }
 
-/// A writer that marks each colour with a letter: `r` for red, `o` for any other, and `.` for none.
+/// A writer that writes a letter for each color: `r` for red, `o` for any other, and `.` for a reset.
 #[derive(Drop)]
 struct Marks(Vec<u8>);
 

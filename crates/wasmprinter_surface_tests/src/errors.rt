@@ -1,4 +1,4 @@
-//! Each error: the shortest modules that are refused, and the text of each.
+//! Tests of each error: short modules that are refused with it, and its text.
 
 use crate::expecting::{EMPTY, expect_text};
 use std::alloc::Global;
@@ -8,7 +8,7 @@ use std::test::Fail;
 use wasmprinter::wasm::decode;
 use wasmprinter::{Config, Error, PrintIoWrite, print_bytes};
 
-/// One error of each kind with its text.
+/// Returns one error of each kind, with its text.
 fn texts() -> [(Error, &'static str); 11] {
     [
         (
@@ -58,10 +58,10 @@ fn tells_each_error_in_words(rt: HostRuntime) -> Result<(), Fail> {
     Ok(())
 }
 
-/// A component.
+/// The preamble of a component.
 const COMPONENT: [u8; 8] = [0x00, 0x61, 0x73, 0x6d, 0x0d, 0x00, 0x01, 0x00];
 
-/// A function with 50,001 locals.
+/// A module whose function has 50,001 locals.
 const MANY_LOCALS: [u8; 28] = [
     0x00, 0x61, 0x73, 0x6d, 0x01, 0x00, 0x00, 0x00, // preamble
     0x01, 0x04, 0x01, 0x60, 0x00, 0x00, // types
@@ -69,13 +69,13 @@ const MANY_LOCALS: [u8; 28] = [
     0x0a, 0x08, 0x01, 0x06, 0x01, 0xd1, 0x86, 0x03, 0x7f, 0x0b, // code, with the body at 0x16
 ];
 
-/// A table whose initialiser has no operators.
+/// A module with a table whose initialiser is empty.
 const EMPTY_INITIALISER: [u8; 17] = [
     0x00, 0x61, 0x73, 0x6d, 0x01, 0x00, 0x00, 0x00, // preamble
     0x04, 0x07, 0x01, 0x40, 0x00, 0x70, 0x00, 0x01, 0x0b, // tables, the first of them at 0x0b
 ];
 
-/// A custom section `dylink.0` with a subsection that isn't known.
+/// A module with a `dylink.0` section that has an unknown subsection.
 const UNKNOWN_SUBSECTION: [u8; 21] = [
     0x00, 0x61, 0x73, 0x6d, 0x01, 0x00, 0x00, 0x00, // preamble
     0x00, 0x0b, 0x08, 0x64, 0x79, 0x6c, 0x69, 0x6e, 0x6b, 0x2e, 0x30, 0x09, 0x00,
@@ -99,7 +99,7 @@ fn refuses_what_can_not_be_printed(rt: HostRuntime) {
     assert!(rt; matches!(text, Err(Error::DylinkSubsection { id: 9 })));
 }
 
-/// A function with a `try`.
+/// A module whose function has a `try`.
 const TRY: [u8; 27] = [
     0x00, 0x61, 0x73, 0x6d, 0x01, 0x00, 0x00, 0x00, // preamble
     0x01, 0x04, 0x01, 0x60, 0x00, 0x00, // types
@@ -107,7 +107,7 @@ const TRY: [u8; 27] = [
     0x0a, 0x07, 0x01, 0x05, 0x00, 0x06, 0x40, 0x0b, 0x0b, // code, with the `try` at 0x17
 ];
 
-/// A function with a branch hint at a `block`.
+/// A module whose function has a branch hint for a `block`.
 const HINTED: [u8; 61] = [
     0x00, 0x61, 0x73, 0x6d, 0x01, 0x00, 0x00, 0x00, // preamble
     0x01, 0x04, 0x01, 0x60, 0x00, 0x00, // types
@@ -118,7 +118,7 @@ const HINTED: [u8; 61] = [
     0x0a, 0x07, 0x01, 0x05, 0x00, 0x02, 0x40, 0x0b, 0x0b, // code
 ];
 
-/// The text of a module with its operators folded.
+/// Returns the folded text of a module.
 fn folded(alloc: Global, wasm: &[u8]) -> Result<String, Error> {
     let mut config = Config::new();
     config.fold_instructions(true);
@@ -141,7 +141,7 @@ fn refuses_what_can_not_be_folded(rt: HostRuntime) {
     );
 }
 
-/// A writer that takes nothing.
+/// A writer whose every write fails.
 #[derive(Drop)]
 struct Full;
 

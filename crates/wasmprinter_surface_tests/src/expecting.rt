@@ -1,8 +1,8 @@
-//! What the tests print and expect.
+//! Modules, their texts, and the comparison of texts, shared by the tests.
 
 use std::test::Fail;
 
-/// A function of one i32 that gives it back, exported as f.
+/// A module that exports a function as `f`. The function returns its i32 parameter.
 pub const IDENTITY: [u8; 35] = [
     0x00, 0x61, 0x73, 0x6d, 0x01, 0x00, 0x00, 0x00, // preamble
     0x01, 0x06, 0x01, 0x60, 0x01, 0x7f, 0x01, 0x7f, // types
@@ -21,17 +21,21 @@ pub const IDENTITY_TEXT: &str = r#"(module
 )
 "#;
 
-/// A module of a preamble alone.
+/// A module that consists of the preamble.
 pub const EMPTY: [u8; 8] = [0x00, 0x61, 0x73, 0x6d, 0x01, 0x00, 0x00, 0x00];
 
 /// The text of `EMPTY`.
 pub const EMPTY_TEXT: &str = "(module)\n";
 
-/// A text that isn't the one that is expected.
+/// The error for a text that differs from the expected one.
 #[derive(Debug, Drop)]
 pub struct Different;
 
-/// Fails unless a text is the one that is expected.
+/// Compares a text with the expected one.
+///
+/// # Errors
+///
+/// - The texts differ.
 pub fn expect_text(found: &str, expected: &str) -> Result<(), Different> {
     if found == expected {
         Ok(())

@@ -1,4 +1,4 @@
-//! Files, of the system and of a source made up here.
+//! Tests of printing files, from the system and from a user-defined source.
 ghost use Rattle.std.specs.Prelude.{⊤};
 
 use crate::expecting::{IDENTITY, IDENTITY_TEXT, expect_text};

@@ -1,4 +1,4 @@
-//! Every public item of the crate `wasmprinter`, used by its path. Expected values are typed by hand.
+//! Tests that use every public item of the crate `wasmprinter` by its path. Expected values are typed by hand.
 #![tactic(auto)]
 
 #[cfg(test)]

@@ -1,4 +1,4 @@
-//! Lines with their places, and finding the line of an operator.
+//! Tests of lines with their places, and of finding the line of an operator.
 
 use crate::expecting::{IDENTITY, IDENTITY_TEXT, expect_text};
 use std::alloc::Global;
@@ -6,7 +6,7 @@ use std::test::Fail;
 use wasmprinter::wasm::decode;
 use wasmprinter::{Config, Error, LineStart, OffsetsAndLines, place_of};
 
-/// A line: the place of what stands on it, and its text.
+/// A line: its place and its text.
 type Line = (Option<u64>, &'static str);
 
 /// The lines of `IDENTITY`.
@@ -26,7 +26,7 @@ const LINES: [Line; 7] = [
     (Some(0x23), ")\n"),
 ];
 
-/// Whether the lines that are left are just these.
+/// Reports whether the remaining lines are exactly these.
 fn are_lines(lines: OffsetsAndLines<'_>, expected: &[Line]) -> bool {
     let mut left = lines;
     for (place, text) in expected {
@@ -47,7 +47,7 @@ fn prints_lines_with_places(rt: HostRuntime) -> Result<(), Fail> {
     Ok(())
 }
 
-/// Whether the line with the number begins there.
+/// Reports whether the line with this number has this start.
 fn begins_at(starts: &[LineStart], number: usize, start: LineStart) -> bool {
     starts.get(number) == Some(&start)
 }
@@ -81,7 +81,7 @@ fn prints_a_text_with_the_starts_of_its_lines(rt: HostRuntime) -> Result<(), Fai
     Ok(())
 }
 
-/// The number of the line on which an operator stands, from 0, and the operator's place.
+/// Returns the number of the line of an operator, counted from 0, and the place of the operator.
 fn line_of(alloc: Global, function: u32, operator: u32) -> Result<Option<(usize, u64)>, Error> {
     let mut storage = String::new(alloc);
     let lines = Config::new().offsets_and_lines(alloc, &IDENTITY, &mut storage)?;

@@ -1,20 +1,20 @@
-//! Lists in operators, at each length up to 50: how they are shown for debugging.
+//! Tests of the debug text of lists in operators, for each length up to 50.
 
 use std::alloc::{AllocError, Global};
 use std::test::Fail;
 use wasmprinter::wasm::{Immediates, decode};
 
-/// The greatest length of a list. Each size in the module then fits in one byte.
+/// The greatest length of a list. With it, each size in the module fits in one byte.
 const LONGEST: usize = 50;
 
-/// An operator with a list: its bytes, and how its immediates are shown.
+/// An operator with a list: its bytes, and the debug text of its immediates.
 #[derive(Drop)]
 struct Listing {
-    /// The bytes before the list's length.
+    /// The bytes before the length of the list
     before: &'static [u8],
-    /// Two items, which the list has by turns.
+    /// Two items, which alternate in the list
     items: [&'static [u8]; 2],
-    /// The bytes after the items, with those of further operators.
+    /// The bytes after the items, including those of further operators
     after: &'static [u8],
     shown_before: &'static str,
     shown_items: [&'static str; 2],
@@ -48,13 +48,13 @@ const LISTINGS: [Listing; 3] = [
     },
 ];
 
-/// Returns a size as a LEB128 number of one byte. All sizes here are below 128.
+/// Returns a size, encoded in LEB128 in one byte. All sizes here are below 128.
 fn size_byte(size: usize) -> u8 {
     if size < 128 { size as u8 } else { 127 }
 }
 
 impl Listing {
-    /// Returns the operator with a list of this length, in a body without locals.
+    /// Returns a body without locals whose operator has a list of this length.
     fn body(&self, alloc: Global, len: usize) -> Result<Vec<u8>, AllocError> {
         let mut body = Vec::new(alloc);
         body.push(0)?;
@@ -79,7 +79,7 @@ impl Listing {
         Ok(wasm)
     }
 
-    /// Returns how the immediates are shown with a list of this length.
+    /// Returns the expected debug text of the immediates with a list of this length.
     fn shown(&self, alloc: Global, len: usize) -> Result<String, AllocError> {
         let mut shown = String::from_str(alloc, self.shown_before)?;
         for number in 0..len {
@@ -90,7 +90,7 @@ impl Listing {
         Ok(shown)
     }
 
-    /// Returns whether the immediates are shown as expected.
+    /// Reports whether the immediates have the expected debug text.
     fn is_shown(&self, alloc: Global, len: usize) -> Result<bool, Fail> {
         let wasm = self.module(alloc, len)?;
         let module = decode(alloc, &wasm)?;

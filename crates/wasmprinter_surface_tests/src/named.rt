@@ -1,10 +1,10 @@
-//! Names: those of a module with one for each kind of item, and the words of the spaces.
+//! Tests of names: those of a module with a name in each space, and the words of the spaces.
 
 use crate::expecting::EMPTY;
 use std::test::Fail;
 use wasmprinter::wasm::{Names, Space, decode};
 
-/// A module with a name section that has a name in each subsection. The items need not be there.
+/// A module with a name section that has one name in each subsection. The named items need not exist.
 const NAMED: [u8; 91] = [
     0x00, 0x61, 0x73, 0x6d, 0x01, 0x00, 0x00, 0x00, // preamble
     0x00, 0x51, 0x04, 0x6e, 0x61, 0x6d, 0x65, // a custom section `name`
@@ -15,14 +15,15 @@ const NAMED: [u8; 91] = [
     0x04, 0x04, 0x01, 0x03, 0x01, 0x74, // a type
     0x05, 0x04, 0x01, 0x04, 0x01, 0x61, // a table
     0x06, 0x04, 0x01, 0x05, 0x01, 0x6e, // a memory
-    0x07, 0x04, 0x01, 0x06, 0x01, 0x67, // a global variable
+    0x07, 0x04, 0x01, 0x06, 0x01, 0x67, // a global
     0x08, 0x04, 0x01, 0x07, 0x01, 0x65, // an element segment
     0x09, 0x04, 0x01, 0x08, 0x01, 0x64, // a data segment
     0x0a, 0x06, 0x01, 0x09, 0x01, 0x00, 0x01, 0x69, // a field of type 9
     0x0b, 0x04, 0x01, 0x0a, 0x01, 0x6b, // a tag
 ];
 
-/// A space, its word, and the item of it that `NAMED` names: the function or the type that it belongs to, its index and its identifier.
+/// A space, its word, and the item that `NAMED` names in it: the function or type to which it belongs, its index
+/// and its identifier.
 type Row = (Space, &'static str, u32, u32, &'static str);
 
 /// The names of `NAMED`.
@@ -40,7 +41,8 @@ const ROWS: [Row; 11] = [
     (Space::Tag, "tag", 0, 10, "k"),
 ];
 
-/// Whether names have just these items, of each space.
+/// Reports whether the items of these rows have their identifiers, and no item with index 11 has one in their
+/// spaces.
 fn have_rows(names: &Names<'_>, rows: &[Row]) -> bool {
     rows.iter().all(|(space, _, outer, index, identifier)| {
         names.identifier(*space, *outer, *index) == Some(*identifier)
@@ -48,7 +50,7 @@ fn have_rows(names: &Names<'_>, rows: &[Row]) -> bool {
     })
 }
 
-/// Whether names are those of `NAMED`.
+/// Reports whether these are the names of `NAMED`.
 fn are_expected(names: &Names<'_>) -> bool {
     names.module() == Some("m") && have_rows(names, &ROWS)
 }

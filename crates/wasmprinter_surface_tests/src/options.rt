@@ -1,10 +1,10 @@
-//! Each option of `Config`, and what prints by it.
+//! Tests of each option of `Config`, and of the calls that print with them.
 
 use crate::expecting::{EMPTY, EMPTY_TEXT, IDENTITY, IDENTITY_TEXT, expect_text};
 use std::test::Fail;
 use wasmprinter::{Config, PrintFmtWrite, print_bytes};
 
-/// `IDENTITY` with places and without its body.
+/// The text of `IDENTITY` with places, as a skeleton.
 const OUTLINE_WITH_PLACES: &str = r#"(module
 (;@b     ;)  (type (;0;) (func (param i32) (result i32)))
 (;@17    ;)  (export "f" (func 0))
@@ -12,7 +12,7 @@ const OUTLINE_WITH_PLACES: &str = r#"(module
 (;@23    ;))
 "#;
 
-/// `IDENTITY` without its body, and with identifiers made up.
+/// The text of `IDENTITY` as a skeleton, with identifiers synthesized.
 const OUTLINE_WITH_IDENTIFIERS: &str = r#"(module
   (type $#type0 (;0;) (func (param i32) (result i32)))
   (export "f" (func $#func0))
@@ -20,7 +20,7 @@ const OUTLINE_WITH_IDENTIFIERS: &str = r#"(module
 )
 "#;
 
-/// `IDENTITY` with its operators in parentheses, and with an indent of one blank.
+/// The text of `IDENTITY` with folded operators, and with an indent of one space.
 const FOLDED: &str = r#"(module
  (type (;0;) (func (param i32) (result i32)))
  (export "f" (func 0))
@@ -30,7 +30,7 @@ const FOLDED: &str = r#"(module
 )
 "#;
 
-/// `EMPTY` in colours.
+/// The text of `EMPTY` with ANSI escape sequences.
 const EMPTY_COLORED: &[u8] = b"(\x1b[0m\x1b[1m\x1b[38;5;11mmodule\x1b[0m)\n";
 
 #[test]

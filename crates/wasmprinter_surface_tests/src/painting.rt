@@ -1,4 +1,4 @@
-//! Colours: how text looks, and writers with and without colours.
+//! Tests of colors: the escape sequences of a color, and writers with and without colors.
 
 use crate::expecting::{EMPTY, EMPTY_TEXT};
 use std::alloc::Global;
@@ -18,10 +18,10 @@ fn keeps_how_text_looks(rt: HostRuntime) {
     assert!(rt; spec.fg() == Some(Color::Cyan) && spec.bold() && spec.intense());
 }
 
-/// A colour, whether it is intense and bold, and what a terminal is sent.
+/// A color, whether it is intense, whether it is bold, and its escape sequences.
 type Row = (Color, bool, bool, &'static [u8]);
 
-/// Each colour.
+/// Each color, with its escape sequences.
 const ROWS: [Row; 6] = [
     (Color::Red, false, false, b"\x1b[0m\x1b[31m"),
     (Color::Green, false, false, b"\x1b[0m\x1b[32m"),
@@ -31,7 +31,7 @@ const ROWS: [Row; 6] = [
     (Color::Red, true, true, b"\x1b[0m\x1b[1m\x1b[38;5;9m"),
 ];
 
-/// What a writer is sent for a colour.
+/// Returns the bytes that a writer with colors writes for a color.
 fn painted(alloc: Global, color: Color, intense: bool, bold: bool) -> io::Result<Vec<u8>> {
     let mut spec = ColorSpec::new();
     spec.set_fg(Some(color)).set_bold(bold).set_intense(intense);
@@ -48,7 +48,7 @@ fn sends_a_terminal_each_color(rt: HostRuntime) -> Result<(), Fail> {
     Ok(())
 }
 
-/// Takes colours back and writes a text, and tells whether a writer shows colours, and whether it does so at once.
+/// Resets the color and writes a text. Returns whether the writer supports colors, and whether it is synchronous.
 fn write_plain<W: WriteColor>(writer: &mut W) -> io::Result<(bool, bool)> {
     writer.reset()?;
     writer.write_all(b"a")?;
@@ -67,7 +67,7 @@ fn writes_with_and_without_colors(rt: HostRuntime) -> Result<(), Fail> {
     Ok(())
 }
 
-/// Prints a module to a writer that knows colours.
+/// Prints a module to a writer that takes colors.
 fn print_to<W: WriteColor + Drop>(alloc: Global, writer: W) -> Result<W, Error> {
     let mut printer = PrintTermcolor(writer);
     Config::new().print(alloc, &EMPTY, &mut printer)?;

@@ -1,4 +1,4 @@
-//! Printers: each call on one, those over writers, and one that is written here.
+//! Tests of printers: each call on them, the printers over writers, and a user-defined one.
 
 use crate::expecting::{EMPTY, EMPTY_TEXT, expect_text};
 use std::io;
@@ -21,7 +21,8 @@ impl PrintText for Text {
     }
 }
 
-/// Makes each call on a printer, and tells whether it takes a custom section, runs, and colours as text.
+/// Makes each call on a printer. Returns whether it claims a custom section, takes runs, and takes ANSI escape
+/// sequences within a text.
 fn call_each<P: Print>(p: &mut P) -> io::Result<(bool, bool, bool)> {
     p.start_line(Some(0x10));
     p.write_str("a")?;
@@ -70,7 +71,7 @@ fn writes_bytes_whole(rt: HostRuntime) -> Result<(), Fail> {
     Ok(())
 }
 
-/// Prints a module to a printer of text.
+/// Prints a module to a `PrintText`.
 fn print_to<T: PrintText + Drop>(config: &Config, rt: &HostRuntime, to: T) -> Result<T, Error> {
     let mut printer = to;
     config.print(rt.alloc(), &EMPTY, &mut printer)?;
@@ -84,7 +85,8 @@ fn prints_to_a_printer_of_text(rt: HostRuntime) -> Result<(), Fail> {
     Ok(())
 }
 
-/// Ends a line of a printer, and then one of a printer of text, by the names at the root.
+/// Ends a line of a `Print` and a line of a `PrintText`. The traits are named by their paths at the root of the
+/// crate.
 fn end_lines<P: wasmprinter::Print, T: wasmprinter::PrintText>(
     printer: &mut P,
     text: &mut T,

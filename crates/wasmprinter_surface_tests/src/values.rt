@@ -1,4 +1,4 @@
-//! Texts of single values.
+//! Tests of the texts of single values.
 
 use crate::expecting::expect_text;
 use std::test::Fail;

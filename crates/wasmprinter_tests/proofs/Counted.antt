@@ -1,4 +1,4 @@
--- What a printer counts while a module is printed to it.
+-- The number of failed calls that a printer counts while a module is printed to it.
 use Rattle.std.proofs.Common.{◌≡◌, inl, inr, ℕ, Bool, false, List, [], ◌∷◌, sym, ap, ◌∙◌}
 use Rattle.std.specs.Prelude.{Result, Ok, Err, OnOk, IfErr}
 use Rattle.wasmprinter_spec.specs.Grammar.{some_is}
@@ -12,12 +12,12 @@ use Rattle.wasmprinter.specs.Printed.{Printed}
 use Rattle.wasmprinter.specs.Outcome.{Leaves}
 use Rattle.wasmprinter_tests.specs.Faults.{faults_after}
 
--- calls that succeeded leave the count
+-- Calls that succeed leave the count unchanged.
 run_keeps : (old new : ℕ) (calls : List Call) → Run counting old calls new → new ≡ old
 run_keeps old new [] r = sym r
 run_keeps old new (c ∷ calls) r = run_keeps r.0 new calls r.2 ∙ some_is r.0 old r.1.kept
 
--- what a refusal leaves is what its error says
+-- After a refusal, the count is the one that the error implies.
 refusal_counts : (o : Options) (colours : Bool) (bytes : List ℕ) (old new : ℕ) (e : Error) → Leaves counting colours o bytes old new e → new ≡ faults_after e old
 refusal_counts o colours bytes old new (Printer x) h =
     some_is new (one_fault_more h.left.before) h.left.failed.counted ∙ ap one_fault_more (run_keeps old h.left.before h.left.calls h.left.run)
@@ -33,7 +33,8 @@ refusal_counts o colours bytes old new (EmptyTableInit place) h = h
 refusal_counts o colours bytes old new (FoldLegacy place) h = h
 refusal_counts o colours bytes old new (FoldHint place) h = h
 
--- of an answer
+-- The same facts for a result: after `Ok` the count is unchanged, after `Err` it is the one that the error
+-- implies.
 pub printed_counts : (o : Options) (bytes : List ℕ) (old new : ℕ) (r : Result (Unit {0}) Error) → OnOk r (Printed counting false o bytes old new) → OnOk r (new ≡ old)
 printed_counts o bytes old new (Ok x) v = run_keeps old new v.calls v.run
 printed_counts o bytes old new (Err e) v = tt

@@ -1,10 +1,10 @@
--- How many failed calls a printer has counted after a module was printed to it.
+-- The number of failed calls that a printer has counted after a module was printed to it.
 use Rattle.std.specs.Prelude.{ℕ}
 use Rattle.wasmprinter_error.specs.declared.error.Error.{Error}
 use Rattle.wasmprinter_error.specs.declared.error.Error.TheVariants.{Printer}
 use Rattle.wasmprinter_recorder.specs.Counting.{one_fault_more}
 
--- one more, if the error is that of a call; for any other error no call failed
+-- One more if the error is that of a call. For any other error no call failed.
 abbrev pub faults_after : Error → ℕ → ℕ
 faults_after (Printer e) count = one_fault_more count
 faults_after _ count = count

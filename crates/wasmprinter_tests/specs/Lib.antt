@@ -1,2 +1,2 @@
--- What the contract of a test's function cites.
+-- The definitions in the contract of `print_counted`.
 pub mod Faults

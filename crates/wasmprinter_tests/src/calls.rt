@@ -1,4 +1,4 @@
-//! The calls on a printer, in their order, and which error comes where one of them fails.
+//! Tests of the calls on a printer: their order, and the error that is returned if one of them fails.
 
 use crate::printing::{early_refusal_of, expect_calls, expect_recorded, print_to};
 use std::alloc::Global;
@@ -46,7 +46,8 @@ fn makes_no_call_before_a_refusal(rt: HostRuntime) {
     assert!(rt; matches!(refused, Some(Error::Malformed { .. })));
 }
 
-/// Calls that are refused in turn, each with those before it: the first, a style, a line feed, one in the middle, and the last.
+/// Recorded calls up to and including a refused one. The refused calls are the first, a style, a line feed, one in
+/// the middle, and the last.
 const BEGINNINGS: [&str; 5] = [
     "[0x0](",
     "[0x0]({K}",
@@ -57,7 +58,7 @@ const BEGINNINGS: [&str; 5] = [
     IDENTITY_CALLS,
 ];
 
-/// Whether these calls are one of `BEGINNINGS`.
+/// Reports whether these calls are one of `BEGINNINGS`.
 fn is_listed(calls: &str) -> bool {
     for beginning in BEGINNINGS {
         if beginning == calls {
@@ -67,15 +68,16 @@ fn is_listed(calls: &str) -> bool {
     false
 }
 
-/// How many calls that can fail print `IDENTITY`.
+/// Returns the number of calls that can fail when `IDENTITY` is printed.
 fn call_count(alloc: Global) -> Result<u32, Error> {
     let mut recorder = Recorder::new(alloc);
     print_to(&Config::new(), alloc, &IDENTITY, &mut recorder)?;
     Ok(recorder.call_count())
 }
 
-/// Whether the calls in front of the one with this number, which is refused while `IDENTITY` is printed, are one of `BEGINNINGS`. `None`
-/// where another error is answered, or the calls don't end there or are others than those of `IDENTITY`.
+/// Prints `IDENTITY` to a recorder that refuses the call with this number. Returns whether the calls up to that
+/// one are listed in `BEGINNINGS`, or `None` if another error is returned, a call follows the refused one, or a
+/// call differs from those of `IDENTITY`.
 fn stops_at(alloc: Global, call: u32) -> Option<bool> {
     let mut recorder = Recorder::with_refusal(alloc, call, ErrorKind::BrokenPipe);
     let refused = print_to(&Config::new(), alloc, &IDENTITY, &mut recorder);

@@ -1,5 +1,5 @@
-//! Custom sections: raw ones with their places, `producers`, `dylink.0`, and sections that the printer takes itself (custom sections:
-//! section 5.5.3 of the standard; `producers` and `dylink.0`: tool conventions).
+//! Tests of custom sections (section 5.5.3 of the standard): raw sections with their places, `producers` and
+//! `dylink.0` (tool conventions), and sections that the printer claims.
 
 use crate::printing::{
     expect_calls, expect_printed, expect_recorded, is_malformed, is_printed_as, print_to,
@@ -14,7 +14,7 @@ use wasmprinter_samples::sections::{CUSTOM, START, add_custom, add_section};
 use wasmprinter_samples::{PREAMBLE, expect_text};
 use wasmprinter_wasm::{CustomEntry, Fields, SectionKind};
 
-/// A custom section: its name and the bytes behind it.
+/// A custom section: its name, and the bytes after the name.
 type Section = (&'static str, &'static [u8]);
 
 /// Adds these custom sections.
@@ -25,21 +25,21 @@ fn add_customs(alloc: Global, wasm: &mut Vec<u8>, sections: &[Section]) -> Resul
     Ok(())
 }
 
-/// A module that holds these custom sections alone.
+/// Returns a module that contains only these custom sections.
 fn with_customs(alloc: Global, sections: &[Section]) -> Result<Vec<u8>, AllocError> {
     let mut wasm = Vec::from_slice(alloc, &PREAMBLE)?;
     add_customs(alloc, &mut wasm, sections)?;
     Ok(wasm)
 }
 
-/// The text of a module that holds one custom section alone.
+/// Returns the text of a module that contains only one custom section.
 fn text_of_custom(alloc: Global, name: &str, data: &[u8]) -> Result<String, Error> {
     let mut wasm = Vec::from_slice(alloc, &PREAMBLE)?;
     add_custom(alloc, &mut wasm, name, data)?;
     print_bytes(alloc, &wasm)
 }
 
-/// Holds that the text of a module that holds one custom section alone is the typed one.
+/// Checks that the text of a module that contains only one custom section is the typed text.
 fn expect_custom(alloc: Global, name: &str, data: &[u8], typed: &str) -> Result<(), Fail> {
     let text = text_of_custom(alloc, name, data)?;
     expect_text(text.as_str(), typed)?;
@@ -71,7 +71,7 @@ fn prints_custom_sections_at_their_places(rt: HostRuntime) -> Result<(), Fail> {
     Ok(())
 }
 
-/// Sections, each with a word for it, in the order in which they stand in a module.
+/// Sections, each with the word for its kind, in the order of the standard.
 const SECTIONS: [(u8, &[u8], &str); 13] = [
     (1, &[0x01, 0x60, 0x00, 0x00], "type"),
     (2, &[0x01, 0x01, 0x6d, 0x01, 0x66, 0x00, 0x00], "import"),
@@ -83,13 +83,13 @@ const SECTIONS: [(u8, &[u8], &str); 13] = [
     (7, &[0x01, 0x01, 0x66, 0x00, 0x00], "export"),
     (8, &[0x00], "start"),
     (9, &[0x01, 0x01, 0x00, 0x01, 0x00], "elem"),
-    // the count of data segments, behind which nothing stands
+    // The count of data segments. It is never the place of a custom section.
     (12, &[0x01], "elem"),
     (10, &[0x01, 0x02, 0x00, 0x0b], "code"),
     (11, &[0x01, 0x01, 0x01, 0x61], "data"),
 ];
 
-/// A custom section in front of all sections, and one behind each.
+/// A custom section before all sections, and one after each.
 const EVERY_PLACE_TEXT: &str = r#"(module
   (@custom "c" (before first) "")
   (type (;0;) (func))
@@ -119,7 +119,7 @@ const EVERY_PLACE_TEXT: &str = r#"(module
 )
 "#;
 
-/// Behind what each of these custom sections stands.
+/// The places of these custom sections: the section before each.
 const EVERY_PLACE: [Option<SectionKind>; 14] = [
     None,
     Some(SectionKind::Type),
@@ -137,7 +137,7 @@ const EVERY_PLACE: [Option<SectionKind>; 14] = [
     Some(SectionKind::Data),
 ];
 
-/// Adds a section, and a custom section behind it.
+/// Adds a section, followed by a custom section.
 fn add_with_custom(
     alloc: Global,
     wasm: &mut Vec<u8>,
@@ -148,7 +148,7 @@ fn add_with_custom(
     add_custom(alloc, wasm, "c", &[])
 }
 
-/// Adds sections, and a custom section behind each.
+/// Adds sections, each followed by a custom section.
 fn add_each_with_custom(
     alloc: Global,
     wasm: &mut Vec<u8>,
@@ -160,7 +160,7 @@ fn add_each_with_custom(
     Ok(())
 }
 
-/// A module of a custom section, and then `SECTIONS` with one behind each.
+/// Returns a module of a custom section and then `SECTIONS`, each followed by a custom section.
 fn with_every_place(alloc: Global) -> Result<Vec<u8>, AllocError> {
     let mut wasm = Vec::from_slice(alloc, &PREAMBLE)?;
     add_custom(alloc, &mut wasm, "c", &[])?;
@@ -168,7 +168,7 @@ fn with_every_place(alloc: Global) -> Result<Vec<u8>, AllocError> {
     Ok(wasm)
 }
 
-/// Whether custom sections stand behind these kinds of sections.
+/// Reports whether the custom sections have these kinds of sections as their places.
 fn are_behind(customs: &[CustomEntry<'_>], kinds: &[Option<SectionKind>]) -> bool {
     for (custom, kind) in customs.iter().zip(kinds) {
         if custom.behind != *kind {
@@ -187,7 +187,7 @@ fn knows_every_place(rt: HostRuntime) -> Result<(), Fail> {
     Ok(())
 }
 
-/// Whether a module with a section that holds nothing, and a custom section behind it, has this text.
+/// Reports whether a module of an empty section, followed by a custom section, has this text.
 fn prints_behind_empty(alloc: Global, id: u8, typed: &str) -> Result<bool, AllocError> {
     let mut wasm = Vec::from_slice(alloc, &PREAMBLE)?;
     add_with_custom(alloc, &mut wasm, id, &[0x00])?;
@@ -200,7 +200,7 @@ const BEHIND_START_TEXT: &str = "(module\n  (start 0)\n  (@custom \"c\" (after s
 
 #[test]
 fn passes_over_empty_sections(rt: HostRuntime) -> Result<(), Fail> {
-    // all but the start section, which always counts
+    // An empty section is not the place of a custom section, except the start section, which always counts.
     for (id, _, word) in SECTIONS {
         let typed = if id == START {
             BEHIND_START_TEXT
@@ -215,18 +215,18 @@ fn passes_over_empty_sections(rt: HostRuntime) -> Result<(), Fail> {
     Ok(())
 }
 
-/// Contents of custom sections that don't begin with a name.
+/// Contents of custom sections that do not begin with a name.
 const NAMELESS: [&[u8]; 4] = [
-    // no UTF-8
+    // The name is not UTF-8
     &[0x01, 0xff],
     &[0x02, 0xc3, 0x28],
-    // cut
+    // The name is truncated
     &[0x02, 0x61],
-    // nothing
+    // The section is empty
     &[],
 ];
 
-/// Whether a module that holds a custom section with this content alone is malformed.
+/// Reports whether a module of one custom section with this content is malformed.
 fn is_malformed_with(alloc: Global, content: &[u8]) -> Result<bool, AllocError> {
     let mut wasm = Vec::from_slice(alloc, &PREAMBLE)?;
     add_section(&mut wasm, CUSTOM, content)?;
@@ -261,23 +261,23 @@ fn leaves_the_data_out_of_a_skeleton(rt: HostRuntime) -> Result<(), Fail> {
 
 // ---- `producers`
 
-/// Data of a `producers` section, and what is printed of it.
+/// Data of a `producers` section, each with the text of its module.
 const PRODUCERS: [(&[u8], &str); 9] = [
     (
         b"\x01\x08language\x01\x04Rust\x00",
         "(module\n  (@producers\n    (language \"Rust\" \"\")\n  )\n)\n",
     ),
-    // a field with a blank in its name
+    // A field whose name contains a space
     (
         b"\x01\x03a b\x01\x01x\x011",
         "(module\n  (@custom \"producers\" (before first) \"\\01\\03a b\\01\\01x\\011\")\n)\n",
     ),
-    // a field without a name
+    // A field whose name is empty
     (
         b"\x01\x00\x01\x01x\x011",
         "(module\n  (@custom \"producers\" (before first) \"\\01\\00\\01\\01x\\011\")\n)\n",
     ),
-    // words that mean something elsewhere
+    // Names that begin identifiers or annotations elsewhere
     (
         b"\x01\x01$\x01\x01x\x011",
         "(module\n  (@producers\n    ($ \"x\" \"1\")\n  )\n)\n",
@@ -290,10 +290,10 @@ const PRODUCERS: [(&[u8], &str); 9] = [
         b"\x01\x07@custom\x02\x01x\x011\x01y\x00",
         "(module\n  (@producers\n    (@custom \"x\" \"1\")\n    (@custom \"y\" \"\")\n  )\n)\n",
     ),
-    // no fields, and a field without values
+    // No fields, and a field without values
     (b"\x00", "(module\n  (@producers)\n)\n"),
     (b"\x01\x01a\x00", "(module\n  (@producers)\n)\n"),
-    // a byte is left over
+    // A byte is left over
     (
         b"\x00\x00",
         "(module\n  ;; failed to parse custom section `producers`\n  (@custom \"producers\" (before first) \"\\00\\00\")\n)\n",
@@ -310,9 +310,9 @@ fn prints_producers(rt: HostRuntime) -> Result<(), Fail> {
 
 // ---- `dylink.0`
 
-/// Data of a `dylink.0` section, and what is printed of it.
+/// Data of a `dylink.0` section, each with the text of its module.
 const DYLINK: [(&[u8], &str); 9] = [
-    // sizes
+    // Sizes of memory and table
     (
         b"\x01\x04\x10\x02\x00\x00",
         "(module\n  (@dylink.0\n    (mem-info (memory 16 2))\n  )\n)\n",
@@ -329,7 +329,7 @@ const DYLINK: [(&[u8], &str); 9] = [
         b"\x01\x04\x00\x00\x00\x00",
         "(module\n  (@dylink.0\n    (mem-info)\n  )\n)\n",
     ),
-    // names, with each kind of line, and flags in their order
+    // Names in each kind of line, and flags in their order
     (
         b"\x02\x05\x02\x01a\x01b\x05\x03\x01\x01p",
         "(module\n  (@dylink.0\n    (needed \"a\" \"b\")\n    (runtime-path \"p\")\n  )\n)\n",
@@ -348,9 +348,9 @@ const DYLINK: [(&[u8], &str); 9] = [
 )
 "#,
     ),
-    // nothing
+    // An empty section
     (b"", "(module\n  (@dylink.0)\n)\n"),
-    // a size past the end
+    // A subsection whose size exceeds the section
     (
         b"\x01\x05\x10",
         "(module\n  ;; failed to parse custom section `dylink.0`\n  (@custom \"dylink.0\" (before first) \"\\01\\05\\10\")\n)\n",
@@ -365,17 +365,17 @@ fn prints_dylink(rt: HostRuntime) -> Result<(), Fail> {
     Ok(())
 }
 
-/// A `dylink.0` section with a subsection that is not known, and a section behind it.
+/// A `dylink.0` section with an unknown subsection, and a section after it.
 const UNKNOWN_SUBSECTION: [Section; 2] = [("dylink.0", &[0x09, 0x00]), ("c", &[])];
 
-/// A memory between two custom sections, and behind them `UNKNOWN_SUBSECTION`.
+/// Returns a module of a memory between two custom sections, followed by `UNKNOWN_SUBSECTION`.
 fn with_unknown_subsection(alloc: Global) -> Result<Vec<u8>, AllocError> {
     let mut wasm = Vec::from_slice(alloc, &AROUND_A_MEMORY[..22])?;
     add_customs(alloc, &mut wasm, &UNKNOWN_SUBSECTION)?;
     Ok(wasm)
 }
 
-/// The error of a module that is refused behind these calls on a printer.
+/// Checks that exactly these calls are made on a printer, and returns the error of the module.
 fn late_refusal_of(alloc: Global, wasm: &[u8], typed: &str) -> Result<Option<Error>, Fail> {
     let mut recorder = Recorder::new(alloc);
     let printed = print_to(&Config::new(), alloc, wasm, &mut recorder);
@@ -388,7 +388,7 @@ fn refuses_a_subsection_that_is_not_known(rt: HostRuntime) -> Result<(), Fail> {
     let wasm = with_unknown_subsection(rt.alloc())?;
     let refused = refusal_of(rt.alloc(), &wasm);
     assert!(rt; matches!(refused, Some(Error::DylinkSubsection { id: 9 })));
-    // what stands in front of it was printed
+    // The text before the refused section was printed.
     let refused = late_refusal_of(
         rt.alloc(),
         &wasm,
@@ -401,10 +401,11 @@ fn refuses_a_subsection_that_is_not_known(rt: HostRuntime) -> Result<(), Fail> {
     Ok(())
 }
 
-/// Data of a `dylink.0` section with a subsection that is not known behind a known one, with bytes that stand whole.
+/// Data of a `dylink.0` section: a known subsection and then an unknown one, both complete.
 const UNKNOWN: &[u8] = b"\x01\x04\x00\x00\x00\x00\x07\x01\x00";
 
-/// Data of sections with a fault before that subsection, or with its own size past the end, and the texts of their modules.
+/// Data of sections with an error before the unknown subsection, or with an unknown subsection whose size exceeds
+/// the section, each with the text of its module. The first error decides.
 const FAULTY: [(&[u8], &str); 2] = [
     (
         b"\x01\x01\x00\x07\x01\x00",
@@ -416,7 +417,7 @@ const FAULTY: [(&[u8], &str); 2] = [
     ),
 ];
 
-/// Whether a `dylink.0` section is refused for its subsection 7.
+/// Reports whether a `dylink.0` section is refused for its subsection 7.
 fn is_refused_for_seven(alloc: Global, data: &[u8]) -> bool {
     let text = text_of_custom(alloc, "dylink.0", data);
     matches!(text, Err(Error::DylinkSubsection { id: 7 }))
@@ -433,7 +434,7 @@ fn judges_dylink_in_order(rt: HostRuntime) -> Result<(), Fail> {
 
 // ---- claims
 
-/// A section with a fault between two others.
+/// A `dylink.0` section with an unknown subsection, between two other sections.
 const BETWEEN: [Section; 3] = [("a", &[]), ("dylink.0", &[0x09, 0x00]), ("b", &[])];
 
 #[test]

@@ -1,4 +1,4 @@
-//! What a decoded module gives out, through the crate's own paths.
+//! Tests of decoded modules: functions, bodies, operators, locals, types and exports.
 
 use std::alloc::{AllocError, Global};
 use std::test::Fail;
@@ -10,7 +10,7 @@ use wasmprinter_ops::opcode::Listed;
 use wasmprinter_samples::{CONTROL, EVERYTHING, PREAMBLE, expect_text};
 use wasmprinter_wasm::{BodyParts, Export, ExternKind, Fields, LocalEntry, TypeGroup};
 
-/// What stands behind an opcode, with lists as slices.
+/// The expected immediates of an operator, with lists as slices.
 #[derive(Clone, Copy)]
 enum Wanted {
     None,
@@ -23,7 +23,7 @@ enum Wanted {
 }
 
 impl Wanted {
-    /// Whether these are the immediates.
+    /// Reports whether these are the immediates.
     fn are(self, immediates: &Immediates<'_>) -> bool {
         match (immediates, self) {
             (Immediates::None, Wanted::None) => true,
@@ -104,7 +104,8 @@ const BLOCKS: [Row; 26] = [
     (0x53, 0x0b, "end", Wanted::None),
 ];
 
-/// The place of the first operator that is missing, another or one too many; none where just these come.
+/// Returns the place of the first operator that is missing, different or surplus, or `None` if the reader returns
+/// exactly `rows`.
 fn difference(mut reader: OperatorsReader<'_>, rows: &[Row]) -> Option<u64> {
     for (wanted_place, number, word, immediates) in rows {
         let Some((place, operator)): Option<(u64, Operator<'_>)> = reader.next() else {
@@ -128,7 +129,8 @@ fn difference(mut reader: OperatorsReader<'_>, rows: &[Row]) -> Option<u64> {
     }
 }
 
-/// Whether a module defines so many functions: the last of them has a body, and none behind it.
+/// Reports whether a module defines `count` functions: the last of them has a body, and neither `count` nor the
+/// greatest index has one.
 fn has_functions(module: &Module<'_>, count: u32) -> bool {
     module.function_count() == count
         && (count == 0 || module.body(count.saturating_sub(1)).is_some())
@@ -136,7 +138,7 @@ fn has_functions(module: &Module<'_>, count: u32) -> bool {
         && module.body(u32::MAX).is_none()
 }
 
-/// Whether bytes are decoded as a module that defines so many functions.
+/// Reports whether the bytes are decoded as a module that defines `count` functions.
 pub fn counts_functions(alloc: Global, wasm: &[u8], count: u32) -> Result<bool, Error> {
     let module = decode(alloc, wasm)?;
     Ok(has_functions(&module, count))
@@ -149,12 +151,13 @@ fn counts_the_functions_that_are_defined(rt: HostRuntime) -> Result<(), Fail> {
     Ok(())
 }
 
-/// Whether a walk over a body, from its first operator on, meets these operators alone.
+/// Reports whether a fresh reader over a body returns exactly these operators.
 fn has_operators(body: &Body<'_>, rows: &[Row]) -> bool {
     difference(body.operators(), rows).is_none()
 }
 
-/// Whether the first body of `EVERYTHING` has no operators, and each walk over the second meets `OPERATORS` from the first on.
+/// Reports whether the first body of `EVERYTHING` has no operators, and each reader over the second starts at the
+/// first of `OPERATORS` and returns exactly these.
 fn has_bodies(module: &Module<'_>) -> bool {
     let Some(first) = module.body(0) else {
         return false;
@@ -175,7 +178,7 @@ fn walks_over_operators(rt: HostRuntime) -> Result<(), Fail> {
     Ok(())
 }
 
-/// Whether the body of `CONTROL` has its operators, and ends behind the last.
+/// Reports whether the body of `CONTROL` has its operators and the right end.
 fn has_blocks(module: &Module<'_>) -> bool {
     match module.body(0) {
         Some(body) => has_operators(&body, &BLOCKS) && body.end() == 0x54,
@@ -190,7 +193,7 @@ fn walks_over_blocks(rt: HostRuntime) -> Result<(), Fail> {
     Ok(())
 }
 
-/// Opcodes that the table of operators doesn't list.
+/// Opcodes that are not in the table of operators.
 const NOT_LISTED: [(u8, u32); 10] = [
     (0, 0x27),
     (0, 0x100),
@@ -212,7 +215,7 @@ fn has_no_words_for_opcodes_that_are_not_listed(rt: HostRuntime) -> Result<(), F
     Ok(())
 }
 
-/// Whether these are the types of `EVERYTHING`.
+/// Reports whether these are the types of `EVERYTHING`.
 fn are_types(groups: &[TypeGroup<'_>]) -> bool {
     match groups {
         [first, second] => first.place() == 0x0b && second.place() == 0x0e,
@@ -220,7 +223,7 @@ fn are_types(groups: &[TypeGroup<'_>]) -> bool {
     }
 }
 
-/// Whether an export is this one of a function.
+/// Reports whether an export is that of this function, with this place and name.
 fn is_export(export: &Export<'_>, place: u64, name: &str, function: u32) -> bool {
     export.place() == place
         && export.name() == name
@@ -228,7 +231,7 @@ fn is_export(export: &Export<'_>, place: u64, name: &str, function: u32) -> bool
         && export.index() == function
 }
 
-/// Whether these are the exports of `EVERYTHING`.
+/// Reports whether these are the exports of `EVERYTHING`.
 fn are_exports(exports: &[Export<'_>]) -> bool {
     match exports {
         [first, second] => is_export(first, 0x1b, "go", 1) && is_export(second, 0x20, "", 0),
@@ -236,7 +239,7 @@ fn are_exports(exports: &[Export<'_>]) -> bool {
     }
 }
 
-/// Whether the module has the size, the types and the exports of `EVERYTHING`.
+/// Reports whether the module has the size, the types and the exports of `EVERYTHING`.
 fn has_types_and_exports(module: &Module<'_>) -> bool {
     module.size() == 70 && are_types(module.types()) && are_exports(module.exports())
 }
@@ -248,7 +251,7 @@ fn gives_out_types_and_exports(rt: HostRuntime) -> Result<(), Fail> {
     Ok(())
 }
 
-/// Whether there is an entry of locals with this place, count and type.
+/// Reports whether there is a group of locals with this place, count and type.
 fn is_entry(entry: Option<LocalEntry>, place: u64, count: u32, val_type: ValType) -> bool {
     match entry {
         Some(entry) => {
@@ -258,7 +261,7 @@ fn is_entry(entry: Option<LocalEntry>, place: u64, count: u32, val_type: ValType
     }
 }
 
-/// Whether a body has the locals of the second of `EVERYTHING`.
+/// Reports whether a body has the locals of the second body of `EVERYTHING`.
 fn has_locals(body: &Body<'_>) -> bool {
     let mut locals = body.locals();
     locals.len() == 2
@@ -266,7 +269,7 @@ fn has_locals(body: &Body<'_>) -> bool {
         && is_entry(locals.next(), 0x2d, 1, ValType::I64)
 }
 
-/// Whether the module has the second body of `EVERYTHING`, with its locals.
+/// Reports whether the module has the second body of `EVERYTHING`, with its locals.
 fn has_second_body(module: &Module<'_>) -> bool {
     match module.body(1) {
         Some(body) => body.place() == 0x2a && body.end() == 0x45 && has_locals(&body),
@@ -274,7 +277,7 @@ fn has_second_body(module: &Module<'_>) -> bool {
     }
 }
 
-/// Whether the first function of the module is that of `EVERYTHING`.
+/// Reports whether the first function of the module is that of `EVERYTHING`.
 fn has_first_function(module: &Module<'_>) -> bool {
     if module.function_count() != 2 {
         return false;
@@ -290,7 +293,7 @@ fn gives_out_what_a_body_holds(rt: HostRuntime) -> Result<(), Fail> {
     Ok(())
 }
 
-/// Numbers of opcodes, and what stands behind them.
+/// Numbers of opcodes, each with the shape of its immediates.
 const SHAPES: [(u32, &str); 8] = [
     (0x0f, "Some(None)"),
     (0x10, "Some(Index(Func))"),
@@ -302,7 +305,7 @@ const SHAPES: [(u32, &str); 8] = [
     (0x27, "None"),
 ];
 
-/// Whether the shape of what stands behind an opcode is shown as this.
+/// Reports whether the shape of an opcode's immediates has this debug text.
 fn shows_shape(alloc: Global, number: u32, shape: &str) -> Result<bool, AllocError> {
     let found = Opcode { prefix: 0, number }.shape();
     let shown = format!(in alloc; "{found:?}")?;

@@ -1,4 +1,4 @@
-//! A printer that counts the calls that failed: the count tells whether one did while a module was printed.
+//! A printer that counts its failed calls. After a module is printed, the count shows whether a call failed.
 ghost use Rattle.std.specs.Prelude.{◌≡◌, OnOk, IfErr};
 ghost use Rattle.wasmprinter_tests.specs.Faults.{faults_after};
 
@@ -12,7 +12,8 @@ use wasmprinter_recorder::Recorder;
 #[cfg(test)]
 use wasmprinter_samples::IDENTITY;
 
-/// Prints a module. The recorder counts one failed call more if the answer is `Printer`, and else none. A count of 2^64 - 1 stays.
+/// Prints a module. The recorder counts one more failed call if the error is `Printer`, and otherwise none. A
+/// count of 2^64 - 1 does not increase.
 pub fn print_counted(
     config: &Config,
     alloc: Global,
@@ -25,7 +26,8 @@ pub fn print_counted(
     config.print(alloc, wasm, recorder)
 }
 
-/// Whether printing by these options fails at the call with this number, with its error, and counts one failed call.
+/// Reports whether printing with these options fails at the call with this number, returns that call's error, and
+/// counts one failed call.
 #[cfg(test)]
 fn fails_once(config: &Config, alloc: Global, call: u32) -> bool {
     let mut recorder = Recorder::with_refusal(alloc, call, ErrorKind::BrokenPipe);

@@ -1,4 +1,4 @@
-//! Branch hints (Code Metadata): each stands on a line of its own, directly in front of its operator.
+//! Tests of branch hints (Code Metadata): each is on a line of its own, directly before its operator.
 
 use crate::printing::{expect_calls, expect_printed};
 use std::alloc::{AllocError, Global};
@@ -8,13 +8,13 @@ use wasmprinter_recorder::Recorder;
 use wasmprinter_samples::sections::{CODE, add_custom, add_section};
 use wasmprinter_samples::{PREAMBLE, expect_text};
 
-/// The name of hint sections.
+/// The name of a hint section.
 const HINTS: &str = "metadata.code.branch_hint";
 
-/// Sections, each with its number.
+/// Sections, each with its id.
 type Sections = &'static [(u8, &'static [u8])];
 
-/// Adds these sections, and behind them one of hints and one of code.
+/// Adds these sections, then a hint section and a code section.
 fn add_hinted(
     alloc: Global,
     wasm: &mut Vec<u8>,
@@ -29,7 +29,7 @@ fn add_hinted(
     add_section(wasm, CODE, code)
 }
 
-/// A module of these sections, and behind them one of hints and one of code.
+/// Returns a module of these sections, followed by a hint section and a code section.
 fn hinted(
     alloc: Global,
     sections: Sections,
@@ -41,32 +41,32 @@ fn hinted(
     Ok(wasm)
 }
 
-/// The type of functions of one parameter, and a function of it.
+/// A function type with one parameter, and a function of that type.
 const ONE_FUNCTION: Sections = &[(1, &[0x01, 0x60, 0x01, 0x7f, 0x00]), (3, &[0x01, 0x00])];
 
 /// A body that tests the parameter in an `if`.
 const ONE_BODY: &[u8] = &[0x01, 0x07, 0x00, 0x20, 0x00, 0x04, 0x40, 0x0b, 0x0b];
 
-/// A module with a function of one parameter, which it tests in an `if`, and a hint section with this data.
+/// Returns a module with a function that tests its only parameter in an `if`, and a hint section with this data.
 fn module_with_hints(alloc: Global, data: &[u8]) -> Result<Vec<u8>, AllocError> {
     hinted(alloc, ONE_FUNCTION, data, ONE_BODY)
 }
 
-/// The text of that module in front of its `if`.
+/// The text of that module before its `if`.
 const BEFORE: &str = r#"(module
   (type (;0;) (func (param i32)))
   (func (;0;) (type 0) (param i32)
     local.get 0
 "#;
 
-/// And from there on.
+/// The text of that module from its `if` on.
 const BEHIND: &str = r#"    if ;; label = @1
     end
   )
 )
 "#;
 
-/// Holds that the text of that module has this line in front of its `if`, or none.
+/// Checks that the text of that module has exactly this text before its `if`: the line of a hint, or nothing.
 fn expect_hint(alloc: Global, wasm: &[u8], line: &str) -> Result<(), Fail> {
     let text = print_bytes(alloc, wasm)?;
     let behind = text.strip_prefix(BEFORE).ok_or("another beginning")?;
@@ -75,41 +75,42 @@ fn expect_hint(alloc: Global, wasm: &[u8], line: &str) -> Result<(), Fail> {
     Ok(())
 }
 
-/// Holds the same of the module with this data.
+/// Checks the same of the module whose hint section has this data.
 fn expect_hint_of(alloc: Global, data: &[u8], line: &str) -> Result<(), Fail> {
     let wasm = module_with_hints(alloc, data)?;
     expect_hint(alloc, &wasm, line)
 }
 
-/// The line of a branch that is likely to be taken.
+/// The line of a hint that the branch is likely taken.
 const TAKEN: &str = "    (@metadata.code.branch_hint \"\\01\")\n";
 
-/// And of one that isn't.
+/// The line of a hint that the branch is likely not taken.
 const NOT_TAKEN: &str = "    (@metadata.code.branch_hint \"\\00\")\n";
 
-/// Data of hint sections, and the line that stands in front of the `if`.
+/// Data of hint sections, each with the line before the `if`. Hints are taken in order; a malformed section gives
+/// no hints.
 const ROWS: [(&[u8], &str); 9] = [
     (&[0x01, 0x00, 0x01, 0x03, 0x01, 0x01], TAKEN),
     (&[0x01, 0x00, 0x01, 0x03, 0x01, 0x00], NOT_TAKEN),
-    // a flag that means nothing
+    // A flag that is neither 0 nor 1
     (&[0x01, 0x00, 0x01, 0x03, 0x01, 0x02], ""),
-    // the second stands before the first
+    // The second hint has a lower offset than the first
     (
         &[0x01, 0x00, 0x02, 0x03, 0x01, 0x01, 0x01, 0x01, 0x00],
         TAKEN,
     ),
-    // the first belongs to no operator
+    // The first hint belongs to no operator, and so blocks the second
     (&[0x01, 0x00, 0x02, 0x09, 0x01, 0x01, 0x03, 0x01, 0x01], ""),
-    // two for one operator
+    // Two hints for one operator: the first counts
     (
         &[0x01, 0x00, 0x02, 0x03, 0x01, 0x01, 0x03, 0x01, 0x00],
         TAKEN,
     ),
-    // of no function that there is
+    // The first hints are those of a function that does not exist
     (&[0x02, 0x07, 0x00, 0x00, 0x01, 0x03, 0x01, 0x01], ""),
-    // a byte is left over
+    // A byte is left over
     (&[0x01, 0x00, 0x01, 0x03, 0x01, 0x01, 0x00], ""),
-    // for the last `end`
+    // A hint for the last `end`, which has no line
     (&[0x01, 0x00, 0x01, 0x06, 0x01, 0x01], ""),
 ];
 
@@ -121,7 +122,7 @@ fn prints_hints_in_front_of_their_operators(rt: HostRuntime) -> Result<(), Fail>
     Ok(())
 }
 
-/// An `if` within a block, with hints for the block, the `if`, its `else` and its `end`.
+/// Hints for a block, an `if` in it, its `else`, and both `end`s.
 const NESTED: [u8; 18] = [
     0x01, 0x00, 0x05, // five hints of function 0
     0x01, 0x01, 0x00, // of the block
@@ -134,7 +135,7 @@ const NESTED: [u8; 18] = [
 /// A function without parameters.
 const NESTED_FUNCTION: Sections = &[(1, &[0x01, 0x60, 0x00, 0x00]), (3, &[0x01, 0x00])];
 
-/// Its body.
+/// The body of that function: an `if` with an `else` within a block.
 const NESTED_BODY: &[u8] = &[
     0x01, 0x0b, 0x00, 0x02, 0x40, 0x41, 0x00, 0x04, 0x40, 0x05, 0x0b, 0x0b, 0x0b,
 ];
@@ -170,7 +171,7 @@ fn takes_the_last_hint_section_alone(rt: HostRuntime) -> Result<(), Fail> {
     let alloc = rt.alloc();
     let mut wasm = module_with_hints(alloc, &[0x01, 0x00, 0x01, 0x03, 0x01, 0x01])?;
     expect_hint(alloc, &wasm, TAKEN)?;
-    // a second one, which says nothing
+    // The second hint section is empty, and it alone counts.
     add_custom(alloc, &mut wasm, HINTS, &[0x00])?;
     expect_hint(alloc, &wasm, "")
 }
@@ -179,7 +180,8 @@ fn takes_the_last_hint_section_alone(rt: HostRuntime) -> Result<(), Fail> {
 fn makes_the_calls_of_a_hint(rt: HostRuntime) -> Result<(), Fail> {
     let alloc = rt.alloc();
     let wasm = module_with_hints(alloc, &[0x01, 0x00, 0x01, 0x03, 0x01, 0x01])?;
-    // the section is asked for behind the function section, of which no line stands; taken or not, its hints are printed
+    // The printer is asked for the section after the function section, which has no line. The hints are printed
+    // whether the printer claims the section or not.
     let calls = r#"[0x0]({K}module{R}
 [0xb]  ({K}type {R}{N}(;0;){R} ({K}func{R} ({K}param{R} {T}i32{R}))){? "metadata.code.branch_hint" 0x2f [1, 0, 1, 3, 1, 1]}
 [0x39]  ({K}func {R}{N}(;0;){R} ({K}type {R}{N}0{R}) ({K}param{R} {T}i32{R})
@@ -197,25 +199,25 @@ fn makes_the_calls_of_a_hint(rt: HostRuntime) -> Result<(), Fail> {
     Ok(())
 }
 
-/// An imported function, and two that are defined, all of one type.
+/// An imported function and two defined functions, all of one type.
 const THREE_FUNCTIONS: Sections = &[
     (1, &[0x01, 0x60, 0x01, 0x7f, 0x00]),
     (2, &[0x01, 0x01, b'a', 0x01, b'f', 0x00, 0x00]),
     (3, &[0x02, 0x00, 0x00]),
 ];
 
-/// Hints of function 1, not taken; of function 2, taken.
+/// A hint for function 1 (not taken) and one for function 2 (taken).
 const TWO_HINTS: &[u8] = &[
     0x02, 0x01, 0x01, 0x03, 0x01, 0x00, 0x02, 0x01, 0x03, 0x01, 0x01,
 ];
 
-/// Bodies that test their parameter in an `if`.
+/// Two bodies, each of which tests the parameter in an `if`.
 const TWO_BODIES: &[u8] = &[
     0x02, 0x07, 0x00, 0x20, 0x00, 0x04, 0x40, 0x0b, 0x0b, 0x07, 0x00, 0x20, 0x00, 0x04, 0x40, 0x0b,
     0x0b,
 ];
 
-/// A module that imports a function and defines two, each of which tests its parameter in an `if`, with a hint for each of these.
+/// Returns a module that imports a function and defines two, with a hint for the `if` of each defined function.
 fn module_with_two_hint_sections(alloc: Global) -> Result<Vec<u8>, AllocError> {
     hinted(alloc, THREE_FUNCTIONS, TWO_HINTS, TWO_BODIES)
 }

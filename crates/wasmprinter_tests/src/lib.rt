@@ -1,5 +1,7 @@
-//! Tests that cross crates, through the paths of the crate `wasmprinter` alone: refusals, limits, names, custom sections, branch hints,
-//! decoded modules, and calls on printers that record them or fail. What is expected is typed by hand.
+//! Tests across crates: refusals, limits, names, custom sections, branch hints, decoded modules, and calls on
+//! printers that record them or fail. They call the crate `wasmprinter`. Parts of a decoded module that it does
+//! not export are read through the traits of `wasmprinter_wasm` and `wasmprinter_ops`. All expected texts and
+//! calls are typed by hand.
 #![tactic(auto)]
 
 #[cfg(test)]

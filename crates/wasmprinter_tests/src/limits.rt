@@ -1,4 +1,5 @@
-//! The greatest numbers that are taken, and what comes past them.
+//! Tests of the limits on locals and functions: the greatest number that is accepted, and the error for one more
+//! (appendix "Implementation Limitations" of the standard).
 
 use crate::decoding::counts_functions;
 use crate::printing::{early_refusal_of, expect_printed, refusal_of};
@@ -8,21 +9,21 @@ use wasmprinter::wasm::decode;
 use wasmprinter::{Error, print_bytes};
 use wasmprinter_samples::PREAMBLE;
 
-/// Adds a type, a function of it, and this code section.
+/// Adds a type, a function of that type, and this code section.
 fn add_code(wasm: &mut Vec<u8>, code: &[u8]) -> Result<(), AllocError> {
     wasm.extend_from_slice(&[0x01, 0x04, 0x01, 0x60, 0x00, 0x00])?;
     wasm.extend_from_slice(&[0x03, 0x02, 0x01, 0x00])?;
     wasm.extend_from_slice(code)
 }
 
-/// A module of these.
+/// Returns a module of a type, a function of that type, and this code section.
 fn with_code(alloc: Global, code: &[u8]) -> Result<Vec<u8>, AllocError> {
     let mut wasm = Vec::from_slice(alloc, &PREAMBLE)?;
     add_code(&mut wasm, code)?;
     Ok(wasm)
 }
 
-/// The text of a module whose function has this many locals of i32, and no operators.
+/// Returns the text of a module whose only function has `count` locals of type i32 and no operators.
 fn text_with_locals(alloc: Global, count: u32) -> Result<String, AllocError> {
     let mut text = String::from_str(
         alloc,
@@ -54,7 +55,7 @@ fn takes_fifty_thousand_locals_and_no_more(rt: HostRuntime) -> Result<(), Fail> 
     Ok(())
 }
 
-/// Adds so many equal entries.
+/// Adds `count` copies of an entry.
 fn add_entries(wasm: &mut Vec<u8>, count: u32, entry: &[u8]) -> Result<(), AllocError> {
     for _ in 0..count {
         wasm.extend_from_slice(entry)?;
@@ -62,8 +63,8 @@ fn add_entries(wasm: &mut Vec<u8>, count: u32, entry: &[u8]) -> Result<(), Alloc
     Ok(())
 }
 
-/// Adds one type and so many functions of it, without locals and operators. Given are their count, the size of the function section and
-/// that of the code section, as the binary format spells them.
+/// Adds one type and `count` functions of that type, without locals and operators. The count, the size of the
+/// function section and that of the code section are also given as encoded in LEB128.
 fn add_functions(
     wasm: &mut Vec<u8>,
     count: u32,
@@ -82,7 +83,7 @@ fn add_functions(
     add_entries(wasm, count, &[0x02, 0x00, 0x0b])
 }
 
-/// A module of these.
+/// Returns a module of what `add_functions` adds.
 fn with_functions(
     alloc: Global,
     count: u32,
@@ -98,8 +99,9 @@ fn with_functions(
 /// The most functions that a module may define.
 const MOST: u32 = 1_000_000;
 
-/// The bytes of the text of a module with so many: 30 in front, 23 and the digits of its number for each function (10 numbers of one digit,
-/// 90 of two, .. and 900,000 of six have 5,888,890), and 2 behind.
+/// The length in bytes of the text of a module with `MOST` functions: 30 bytes before the functions, 23 bytes and
+/// the digits of its number for each function, and 2 bytes at the end. The digits add up to 5,888,890: 10 numbers
+/// have one digit, 90 two, .., and 900,000 six.
 const MOST_TEXT: usize = 30 + 23_000_000 + 5_888_890 + 2;
 
 fn with_most_functions(alloc: Global) -> Result<Vec<u8>, AllocError> {
@@ -119,7 +121,7 @@ fn takes_a_million_functions(rt: HostRuntime) -> Result<(), Fail> {
     Ok(())
 }
 
-/// Whether a line is that of the function with this number.
+/// Reports whether a line is that of the function with this number.
 fn is_function_line(line: &str, number: u32) -> bool {
     let Some(rest) = line.strip_prefix("  (func (;") else {
         return false;
@@ -130,7 +132,8 @@ fn is_function_line(line: &str, number: u32) -> bool {
     matches!(digits.parse::<u32>(), Ok(found) if found == number)
 }
 
-/// Whether a text is that of a module with the most functions. Its length leaves no room for a sign or a zero before a number.
+/// Reports whether a text is that of a module with the most functions. Its length excludes signs and leading zeros
+/// in the numbers, which `parse` accepts.
 fn is_most_text(text: &str) -> bool {
     let mut lines = text.split('\n');
     if lines.next() != Some("(module") || lines.next() != Some("  (type (;0;) (func))") {
@@ -145,7 +148,7 @@ fn is_most_text(text: &str) -> bool {
     text.len() == MOST_TEXT && lines.eq([")", ""])
 }
 
-/// It takes a second as `rt test` builds it, and more than the 60 seconds that `rt try --test` gives.
+/// Takes one second in the build of `rt test`, and more than the limit of 60 seconds in that of `rt try --test`.
 #[test]
 fn prints_a_million_functions(rt: HostRuntime) -> Result<(), Fail> {
     let wasm = with_most_functions(rt.alloc())?;
@@ -170,15 +173,15 @@ fn refuses_a_function_more(rt: HostRuntime) -> Result<(), Fail> {
     Ok(())
 }
 
-/// How many types and exports the module has, that count as the binary format spells it, and the size of a section of so many entries of
-/// three bytes.
+/// The number of types, and of exports, in the module below. The next constants are this count, encoded in LEB128,
+/// and the size of a section of that many entries of three bytes.
 const THOUSANDS: u32 = 3_000;
 
 const THOUSANDS_SPELLED: [u8; 2] = [0xb8, 0x17];
 
 const THOUSANDS_SIZE: [u8; 2] = [0xaa, 0x46];
 
-/// Adds a section of that many entries.
+/// Adds a section of `THOUSANDS` copies of an entry.
 fn add_thousands(wasm: &mut Vec<u8>, id: u8, entry: [u8; 3]) -> Result<(), AllocError> {
     wasm.push(id)?;
     wasm.extend_from_slice(&THOUSANDS_SIZE)?;
@@ -186,7 +189,8 @@ fn add_thousands(wasm: &mut Vec<u8>, id: u8, entry: [u8; 3]) -> Result<(), Alloc
     add_entries(wasm, THOUSANDS, &entry)
 }
 
-/// A module of types of functions without parameters and results, and of exports of function 0 under the empty name.
+/// Returns a module with `THOUSANDS` function types without parameters and results, and as many exports of
+/// function 0 under the empty name.
 fn with_thousands(alloc: Global) -> Result<Vec<u8>, AllocError> {
     let mut wasm = Vec::from_slice(alloc, &PREAMBLE)?;
     add_thousands(&mut wasm, 0x01, [0x60, 0x00, 0x00])?;
@@ -194,7 +198,7 @@ fn with_thousands(alloc: Global) -> Result<Vec<u8>, AllocError> {
     Ok(wasm)
 }
 
-/// The text of that module.
+/// Returns the text of that module.
 fn text_of_thousands(alloc: Global) -> Result<String, AllocError> {
     let mut text = String::from_str(alloc, "(module\n")?;
     for number in 0..THOUSANDS {

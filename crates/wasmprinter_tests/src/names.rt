@@ -1,4 +1,5 @@
-//! Modules with name sections: texts with the identifiers that names give, and with identifiers made up for all other items.
+//! Tests of modules with name sections: their texts with the identifiers that the names give, and with identifiers
+//! synthesized for all other items.
 
 use crate::printing::expect_printed;
 use std::alloc::{AllocError, Global};
@@ -10,14 +11,14 @@ use wasmprinter_samples::{
     EVERY_SPACE, EVERY_SPACE_NAMES, IDENTITY, IDENTITY_TEXT, PREAMBLE, expect_text,
 };
 
-/// The text of a module with identifiers made up for what has no name.
+/// Returns the text of a module with identifiers synthesized for items without names.
 fn text_with_invented(alloc: Global, wasm: &[u8]) -> Result<String, Error> {
     Config::new()
         .name_unnamed(true)
         .print_to_string(alloc, wasm)
 }
 
-/// Holds that this text is the typed one.
+/// Checks that this text is the typed text.
 fn expect_invented(alloc: Global, wasm: &[u8], typed: &str) -> Result<(), Fail> {
     let text = text_with_invented(alloc, wasm)?;
     expect_text(text.as_str(), typed)?;
@@ -31,14 +32,14 @@ fn add_names(alloc: Global, wasm: &mut Vec<u8>, subsections: &[u8]) -> Result<()
     add_section(wasm, CUSTOM, &content)
 }
 
-/// A module with a name section behind it.
+/// Returns a module followed by a name section.
 fn with_names(alloc: Global, wasm: &[u8], subsections: &[u8]) -> Result<Vec<u8>, AllocError> {
     let mut named = Vec::from_slice(alloc, wasm)?;
     add_names(alloc, &mut named, subsections)?;
     Ok(named)
 }
 
-/// The content of a code section with one body of these operators, of which there are fewer than 90 bytes.
+/// Returns the content of a code section of one body with these operators, which must have fewer than 90 bytes.
 fn code_of(alloc: Global, operators: &[u8]) -> Result<Vec<u8>, AllocError> {
     let size = operators.len().min(90) as u8 + 2;
     let mut code = Vec::from_slice(alloc, &[0x01, size, 0x00])?;
@@ -47,14 +48,15 @@ fn code_of(alloc: Global, operators: &[u8]) -> Result<Vec<u8>, AllocError> {
     Ok(code)
 }
 
-/// Adds functions that have no parameters: sections of their type, of the functions and of their code.
+/// Adds the type, function and code sections of functions without parameters.
 fn add_functions(wasm: &mut Vec<u8>, functions: &[u8], code: &[u8]) -> Result<(), AllocError> {
     add_section(wasm, 1, &[0x01, 0x60, 0x00, 0x00])?;
     add_section(wasm, 3, functions)?;
     add_section(wasm, 10, code)
 }
 
-/// A module with one function that has no parameters and these operators, of which there are fewer than 90 bytes.
+/// Returns a module of one function without parameters and with these operators, which must have fewer than 90
+/// bytes.
 fn one_function(alloc: Global, operators: &[u8]) -> Result<Vec<u8>, AllocError> {
     let code = code_of(alloc, operators)?;
     let mut wasm = Vec::from_slice(alloc, &PREAMBLE)?;
@@ -62,7 +64,8 @@ fn one_function(alloc: Global, operators: &[u8]) -> Result<Vec<u8>, AllocError> 
     Ok(wasm)
 }
 
-/// Holds that these are the lines behind the one of a function of type 0, in a text that has but one.
+/// Checks that these are the lines after the header of a function of type 0, in a text with only one such
+/// function.
 fn expect_body(text: &str, typed: &str) -> Result<(), Fail> {
     let parts = match text.split_once("(type 0)\n") {
         Some(parts) => Some(parts),
@@ -73,13 +76,13 @@ fn expect_body(text: &str, typed: &str) -> Result<(), Fail> {
     Ok(())
 }
 
-/// Holds that these are the lines of the only function's operators in the text of a module, and of what ends it.
+/// Checks that the text of a module, after the header of its only function, is the typed text.
 fn expect_operators(alloc: Global, wasm: &[u8], typed: &str) -> Result<(), Fail> {
     let text = print_bytes(alloc, wasm)?;
     expect_body(text.as_str(), typed)
 }
 
-/// The same with identifiers made up.
+/// Checks the same with identifiers synthesized.
 fn expect_invented_operators(alloc: Global, wasm: &[u8], typed: &str) -> Result<(), Fail> {
     let text = text_with_invented(alloc, wasm)?;
     expect_body(text.as_str(), typed)
@@ -102,7 +105,7 @@ fn names_a_parameter(rt: HostRuntime) -> Result<(), Fail> {
     )
 }
 
-/// Whether names call local 0 of function 0 `x`, and neither the function nor the module.
+/// Reports whether names call local 0 of function 0 `x`, and name neither the function nor the module.
 fn call_a_local_alone(names: &Names) -> bool {
     names.identifier(Space::Local, 0, 0) == Some("x")
         && names.identifier(Space::Func, 0, 0) == None
@@ -143,11 +146,12 @@ fn makes_up_identifiers(rt: HostRuntime) -> Result<(), Fail> {
 /// The bodies of five functions.
 const FIVE_BODIES: &[u8] = b"\x05\x02\x00\x0b\x02\x00\x0b\x02\x00\x0b\x02\x00\x0b\x02\x00\x0b";
 
-/// Function 0 is called `a`, and in a second subsection 1 `a`, 2 nothing, 3 `#x`, 4 `a b`.
+/// Names of functions: `a` for 0 and, in a second subsection, `a` for 1, the empty name for 2, `#x` for 3, and
+/// `a b` for 4.
 const FIVE_NAMES: &[u8] =
     b"\x01\x04\x01\x00\x01a\x01\x0f\x04\x01\x01a\x02\x00\x03\x02#x\x04\x03a b";
 
-/// A module with five functions that have these names.
+/// Returns a module of five functions with these names.
 fn five_functions(alloc: Global) -> Result<Vec<u8>, AllocError> {
     let mut wasm = Vec::from_slice(alloc, &PREAMBLE)?;
     add_functions(
@@ -247,7 +251,7 @@ fn makes_up_labels(rt: HostRuntime) -> Result<(), Fail> {
     )
 }
 
-/// `EVERY_SPACE` with its names: what has none goes by its number.
+/// The text of `EVERY_SPACE` with its names. Items without names are printed by their numbers.
 const EVERY_SPACE_TEXT: &str = r#"(module $all
   (type $sig (;0;) (func (param i32) (result i32)))
   (type (;1;) (struct (field i32) (field $x (mut i64))))
@@ -316,7 +320,7 @@ const EVERY_SPACE_TEXT: &str = r#"(module $all
 )
 "#;
 
-/// `EVERY_SPACE` without its name section, with identifiers made up.
+/// The text of `EVERY_SPACE` without its name section, with identifiers synthesized.
 const EVERY_SPACE_INVENTED: &str = r#"(module
   (type $#type0 (;0;) (func (param i32) (result i32)))
   (type $#type1 (;1;) (struct (field $#field0 i32) (field $#field1 (mut i64))))

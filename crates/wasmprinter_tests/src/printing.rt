@@ -1,4 +1,5 @@
-//! What the tests share: modules are printed as a text or to a recorder, and held against what is typed.
+//! Helpers shared by the tests: each prints a module to a text or to a recorder, and compares the result with a
+//! typed one.
 
 use std::alloc::Global;
 use std::test::Fail;
@@ -6,14 +7,14 @@ use wasmprinter::{Config, Error, Print, print_bytes};
 use wasmprinter_recorder::Recorder;
 use wasmprinter_samples::expect_text;
 
-/// Holds that the text of a module is the typed one.
+/// Checks that the text of a module is the typed text.
 pub fn expect_printed(alloc: Global, wasm: &[u8], typed: &str) -> Result<(), Fail> {
     let text = print_bytes(alloc, wasm)?;
     expect_text(text.as_str(), typed)?;
     Ok(())
 }
 
-/// Whether a module has this text.
+/// Reports whether printing a module succeeds with this text.
 pub fn is_printed_as(alloc: Global, wasm: &[u8], typed: &str) -> bool {
     match print_bytes(alloc, wasm) {
         Ok(text) => text.as_str() == typed,
@@ -21,17 +22,17 @@ pub fn is_printed_as(alloc: Global, wasm: &[u8], typed: &str) -> bool {
     }
 }
 
-/// The error of a module that has no text.
+/// Returns the error with which printing a module fails, or `None` if it is printed.
 pub fn refusal_of(alloc: Global, wasm: &[u8]) -> Option<Error> {
     print_bytes(alloc, wasm).err()
 }
 
-/// Whether a module has no text because it is malformed, at a place within it or at its end.
+/// Reports whether a module is refused as malformed, at a byte offset within it or at its end.
 pub fn is_malformed(alloc: Global, wasm: &[u8]) -> bool {
     matches!(print_bytes(alloc, wasm), Err(Error::Malformed { place }) if place <= wasm.len() as u64)
 }
 
-/// Prints to any printer. It promises nothing, so that no caller works out what the promises mean for its own printer.
+/// Prints to any printer. It has no contract, so that callers need not prove anything about their own printer.
 pub fn print_to<P: Print>(
     config: &Config,
     alloc: Global,
@@ -41,7 +42,7 @@ pub fn print_to<P: Print>(
     config.print(alloc, wasm, printer)
 }
 
-/// Holds that a recorder has written down these calls, and lost none.
+/// Checks that a recorder recorded exactly these calls and missed none.
 pub fn expect_recorded(recorder: &Recorder, typed: &str) -> Result<(), Fail> {
     expect_text(recorder.calls(), typed)?;
     if !recorder.is_complete() {
@@ -50,7 +51,7 @@ pub fn expect_recorded(recorder: &Recorder, typed: &str) -> Result<(), Fail> {
     Ok(())
 }
 
-/// Holds that a module is printed to a recorder by these calls.
+/// Checks that printing a module to a recorder makes exactly these calls.
 pub fn expect_calls(
     alloc: Global,
     wasm: &[u8],
@@ -61,7 +62,7 @@ pub fn expect_calls(
     expect_recorded(&recorder, typed)
 }
 
-/// The error of a module that is refused before the first call on the printer.
+/// Returns the error of a module that is refused before the first call on the printer, and otherwise `None`.
 pub fn early_refusal_of(alloc: Global, wasm: &[u8]) -> Option<Error> {
     let mut recorder = Recorder::new(alloc);
     let printed = print_to(&Config::new(), alloc, wasm, &mut recorder);
@@ -72,7 +73,7 @@ pub fn early_refusal_of(alloc: Global, wasm: &[u8]) -> Option<Error> {
     }
 }
 
-/// Whether no call was made on a recorder.
+/// Reports whether no call was made on a recorder.
 fn is_unused(recorder: &Recorder) -> bool {
     recorder.calls().is_empty() && recorder.call_count() == 0 && recorder.is_complete()
 }

@@ -1,4 +1,4 @@
-//! What is refused, and how.
+//! Tests of refusals: which modules are malformed or components, and at which byte offset.
 
 use crate::printing::{early_refusal_of, expect_printed, is_malformed, refusal_of};
 use std::alloc::{AllocError, Global};
@@ -7,10 +7,10 @@ use wasmprinter::wasm::decode;
 use wasmprinter::{Error, print_bytes};
 use wasmprinter_samples::{IDENTITY, IDENTITY_TEXT, MINUS_ONE, PREAMBLE};
 
-/// What stands behind the first section of `IDENTITY`, cut off.
+/// The text of `IDENTITY` if it is cut off after its first section.
 const TYPE_TEXT: &str = "(module\n  (type (;0;) (func (param i32) (result i32)))\n)\n";
 
-/// The text of a beginning of `IDENTITY` with so many bytes. There is none where it ends within a section.
+/// Returns the text of the prefix of `IDENTITY` with `len` bytes, or `None` if the prefix ends within a section.
 fn text_of_beginning(len: usize) -> Option<&'static str> {
     match len {
         8 => Some("(module)\n"),
@@ -19,7 +19,8 @@ fn text_of_beginning(len: usize) -> Option<&'static str> {
     }
 }
 
-/// Whether a beginning of `IDENTITY` has its text, or is refused at a place within it where it has none.
+/// Reports whether a prefix of `IDENTITY` is printed as its text or, if it has none, is refused at a byte offset
+/// within it.
 fn is_taken_or_refused(alloc: Global, beginning: &[u8]) -> bool {
     let typed = text_of_beginning(beginning.len());
     match print_bytes(alloc, beginning) {
@@ -47,7 +48,7 @@ fn refuses_a_body_without_end(rt: HostRuntime) {
     assert!(rt; is_malformed(rt.alloc(), &wasm));
 }
 
-/// Whether a module of these bytes behind the preamble is malformed.
+/// Reports whether a module of the preamble and these sections is malformed.
 fn are_malformed(alloc: Global, sections: &[&[u8]]) -> Result<bool, AllocError> {
     let mut wasm = Vec::from_slice(alloc, &PREAMBLE)?;
     for section in sections {
@@ -56,7 +57,8 @@ fn are_malformed(alloc: Global, sections: &[&[u8]]) -> Result<bool, AllocError> 
     Ok(is_malformed(alloc, &wasm))
 }
 
-/// The number of the type section, and its size in too many bytes.
+/// The id of the type section, and its size in six bytes: a 32-bit number has at most five (section 5.2.2 of the
+/// standard).
 const LONG_SIZE: [u8; 7] = [0x01, 0x86, 0x80, 0x80, 0x80, 0x80, 0x00];
 
 #[test]
@@ -65,7 +67,7 @@ fn refuses_a_size_in_too_many_bytes(rt: HostRuntime) -> Result<(), Fail> {
     Ok(())
 }
 
-/// Two functions of one type, and one body.
+/// Two functions of one type, but only one body: the counts must be equal (section 5.5 of the standard).
 const WITHOUT_A_BODY: [&[u8]; 3] = [
     &[0x01, 0x04, 0x01, 0x60, 0x00, 0x00],
     &[0x03, 0x03, 0x02, 0x00, 0x00],
@@ -78,14 +80,14 @@ fn refuses_functions_without_bodies(rt: HostRuntime) -> Result<(), Fail> {
     Ok(())
 }
 
-/// Sections of modules that have a count of 2^32 - 1 with nothing behind it.
+/// Sections of modules with a count of 2^32 - 1 at the end of the section.
 const COUNTS: [&[&[u8]]; 5] = [
-    // of types, functions, exports and bodies
+    // The count of types, functions, exports and bodies
     &[&[0x01, 0x05, 0xff, 0xff, 0xff, 0xff, 0x0f]],
     &[&[0x03, 0x05, 0xff, 0xff, 0xff, 0xff, 0x0f]],
     &[&[0x07, 0x05, 0xff, 0xff, 0xff, 0xff, 0x0f]],
     &[&[0x0a, 0x05, 0xff, 0xff, 0xff, 0xff, 0x0f]],
-    // of entries of locals, in a body
+    // The count of groups of locals in a body
     &[
         &[0x01, 0x04, 0x01, 0x60, 0x00, 0x00],
         &[0x03, 0x02, 0x01, 0x00],
@@ -101,17 +103,17 @@ fn refuses_counts_that_no_bytes_follow(rt: HostRuntime) -> Result<(), Fail> {
     Ok(())
 }
 
-/// The eight bytes that mark a component.
+/// The preamble of a component.
 const COMPONENT: [u8; 8] = [0x00, 0x61, 0x73, 0x6d, 0x0d, 0x00, 0x01, 0x00];
 
-/// Whether each public call refuses the bytes as a component, and none calls the printer.
+/// Reports whether each public call refuses the bytes as a component, before any call on the printer.
 fn is_component(alloc: Global, wasm: &[u8]) -> bool {
     matches!(early_refusal_of(alloc, wasm), Some(Error::Component))
         && matches!(refusal_of(alloc, wasm), Some(Error::Component))
         && matches!(decode(alloc, wasm), Err(Error::Component))
 }
 
-/// Whether each public call refuses the bytes as malformed at the first of them, and none calls the printer.
+/// Reports whether each public call refuses the bytes as malformed at offset 0, before any call on the printer.
 fn is_malformed_at_its_start(alloc: Global, wasm: &[u8]) -> bool {
     matches!(
         early_refusal_of(alloc, wasm),
@@ -120,7 +122,7 @@ fn is_malformed_at_its_start(alloc: Global, wasm: &[u8]) -> bool {
         && matches!(decode(alloc, wasm), Err(Error::Malformed { place: 0 }))
 }
 
-/// The mark of a component, and 92 bytes behind it.
+/// Returns the preamble of a component, followed by 92 bytes.
 fn long_component(alloc: Global) -> Result<Vec<u8>, AllocError> {
     let mut long = Vec::from_slice(alloc, &COMPONENT)?;
     for byte in 0..92 {

@@ -1,4 +1,4 @@
-//! Blocks, labels and branches: texts of functions, what isn't well nested, and deep nesting.
+//! Tests of blocks, labels and branches: texts of functions, operators that are not well nested, and deep nesting.
 
 use crate::printing::{expect_printed, is_malformed};
 use std::alloc::{AllocError, Global};
@@ -6,14 +6,14 @@ use std::test::Fail;
 use wasmprinter::{Error, print_bytes};
 use wasmprinter_samples::PREAMBLE;
 
-/// A type section with the type of functions without parameters and results.
+/// A type section with one function type, without parameters and results.
 const NO_PARAMS: [u8; 6] = [0x01, 0x04, 0x01, 0x60, 0x00, 0x00];
 
-/// A type section with the type of functions of one i32.
+/// A type section with one function type, with one i32 parameter.
 const ONE_PARAM: [u8; 7] = [0x01, 0x05, 0x01, 0x60, 0x01, 0x7f, 0x00];
 
-/// A module with this type section, and a function of the first type without locals and with these operators and an `end`. There are fewer
-/// operators than 100 bytes.
+/// Returns a module with this type section and one function of its first type, which has no locals, these
+/// operators and an `end`. The operators must have fewer than 100 bytes.
 fn with_operators(alloc: Global, types: &[u8], operators: &[u8]) -> Result<Vec<u8>, AllocError> {
     let size = operators.len().min(100) as u8 + 2;
     let mut wasm = Vec::from_slice(alloc, &PREAMBLE)?;
@@ -25,21 +25,21 @@ fn with_operators(alloc: Global, types: &[u8], operators: &[u8]) -> Result<Vec<u
     Ok(wasm)
 }
 
-/// The text of such a module with functions that have no parameters.
+/// Returns the text of a module whose function has no parameters and has these operators.
 pub fn text_of(alloc: Global, operators: &[u8]) -> Result<String, Error> {
     print_bytes(alloc, &with_operators(alloc, &NO_PARAMS, operators)?)
 }
 
-/// Holds that the text of such a module is the typed one.
+/// Checks that the text of a module whose function has these operators is the typed text.
 ///
 /// # Errors
 ///
-/// Where the module is refused, or its text is another.
+/// - The module is refused, or its text differs.
 pub fn expect_operators(alloc: Global, operators: &[u8], typed: &str) -> Result<(), Fail> {
     expect_printed(alloc, &with_operators(alloc, &NO_PARAMS, operators)?, typed)
 }
 
-/// Whether such a module is refused as malformed.
+/// Reports whether a module whose function has these operators is refused as malformed.
 pub fn are_malformed(alloc: Global, operators: &[u8]) -> Result<bool, AllocError> {
     Ok(is_malformed(alloc, &with_operators(alloc, &NO_PARAMS, operators)?))
 }
@@ -116,12 +116,12 @@ fn prints_the_signature_of_a_block(rt: HostRuntime) -> Result<(), Fail> {
     )
 }
 
-/// A type section with the type of functions without parameters and results, and that of arrays of i32.
+/// A type section with a function type without parameters and results, and an array type of i32.
 const ARRAY: [u8; 9] = [0x01, 0x07, 0x02, 0x60, 0x00, 0x00, 0x5e, 0x7f, 0x00];
 
 #[test]
 fn prints_no_signature_of_a_type_that_has_none(rt: HostRuntime) -> Result<(), Fail> {
-    // the type of a block is that of arrays, and then one that isn't declared
+    // The first block has the array type, the second a type that is not declared.
     let operators = [0x02, 0x01, 0x0b, 0x03, 0x02, 0x0b];
     let wasm = with_operators(rt.alloc(), &ARRAY, &operators)?;
     expect_printed(
@@ -245,7 +245,7 @@ fn refuses_what_is_not_nested(rt: HostRuntime) -> Result<(), Fail> {
     Ok(())
 }
 
-/// Appends bytes so many times.
+/// Appends the bytes `times` times.
 fn repeat(wasm: &mut Vec<u8>, times: u32, bytes: &[u8]) -> Result<(), AllocError> {
     for _ in 0..times {
         wasm.extend_from_slice(bytes)?;
@@ -253,9 +253,9 @@ fn repeat(wasm: &mut Vec<u8>, times: u32, bytes: &[u8]) -> Result<(), AllocError
     Ok(())
 }
 
-/// A module whose function opens so many blocks in one another by these two bytes each, and closes each by these.
-/// Given are the bytes from the code section on up to the first block: its number and size, the count of bodies, the size of the body,
-/// and no locals.
+/// Returns a module whose function opens `depth` nested blocks with the bytes `opens` each, and closes each with
+/// the bytes `closes`. `code` has the bytes from the code section to the first block: the id and size of the
+/// section, the count of bodies, the size of the body, and a count of no locals.
 pub fn with_blocks(
     alloc: Global,
     depth: u32,
@@ -273,7 +273,7 @@ pub fn with_blocks(
     Ok(wasm)
 }
 
-/// The levels by which a line is indented at most.
+/// The most levels by which a line is indented.
 const MOST_LEVELS: u32 = 50;
 
 /// Appends the indent of a line at this nesting depth.
@@ -284,13 +284,14 @@ fn push_indent(text: &mut String, depth: u32) -> Result<(), AllocError> {
     Ok(())
 }
 
-/// Appends the line that opens the block with this label by this word. The function's body has depth 2, and the first block the label 1.
+/// Appends the line that opens the block with this label. The function's body has depth 2, and the first block has
+/// label 1.
 fn push_opening(text: &mut String, word: &str, label: u32) -> Result<(), AllocError> {
     push_indent(text, label.saturating_add(1))?;
     write!(text, "{word} ;; label = @{label}\n")
 }
 
-/// Appends a line of the block with this label.
+/// Appends a line at the indent of the block with this label.
 fn push_line(text: &mut String, label: u32, line: &str) -> Result<(), AllocError> {
     push_indent(text, label.saturating_add(1))?;
     text.push_str(line)?;
@@ -306,7 +307,7 @@ fn push_delegate(text: &mut String, label: u32) -> Result<(), AllocError> {
     }
 }
 
-/// Returns the beginning of the text of a module whose function opens `depth` blocks in one another by this word.
+/// Returns the start of the text of a module whose function opens `depth` nested blocks with this word.
 fn opened(alloc: Global, depth: u32, word: &str) -> Result<String, AllocError> {
     let mut text = String::from_str(
         alloc,
@@ -318,7 +319,7 @@ fn opened(alloc: Global, depth: u32, word: &str) -> Result<String, AllocError> {
     Ok(text)
 }
 
-/// Returns the text of the module, if these lines close each block.
+/// Returns the text of that module if these lines close each block.
 fn closed_by(alloc: Global, depth: u32, word: &str, lines: &[&str]) -> Result<String, AllocError> {
     let mut text = opened(alloc, depth, word)?;
     for outer in 0..depth {
@@ -330,7 +331,7 @@ fn closed_by(alloc: Global, depth: u32, word: &str, lines: &[&str]) -> Result<St
     Ok(text)
 }
 
-/// Returns the text of the module, if a `delegate` closes each block.
+/// Returns the text of that module if a `delegate` closes each block.
 fn closed_by_delegates(alloc: Global, depth: u32) -> Result<String, AllocError> {
     let mut text = opened(alloc, depth, "try")?;
     for outer in 0..depth {
@@ -342,7 +343,7 @@ fn closed_by_delegates(alloc: Global, depth: u32) -> Result<String, AllocError> 
 
 #[test]
 fn prints_deep_blocks(rt: HostRuntime) -> Result<(), Fail> {
-    // a section of 300,006 bytes, with a body of 300,002
+    // A section of 300,006 bytes, with a body of 300,002 bytes.
     let code = [0x0a, 0xe6, 0xa7, 0x12, 0x01, 0xe2, 0xa7, 0x12, 0x00];
     let wasm = with_blocks(rt.alloc(), 100_000, &[0x02, 0x40], &[0x0b], &code)?;
     let typed = closed_by(rt.alloc(), 100_000, "block", &["end"])?;
@@ -351,7 +352,7 @@ fn prints_deep_blocks(rt: HostRuntime) -> Result<(), Fail> {
 
 #[test]
 fn prints_deep_ifs(rt: HostRuntime) -> Result<(), Fail> {
-    // a section of 80,006 bytes, with a body of 80,002
+    // A section of 80,006 bytes, with a body of 80,002 bytes.
     let code = [0x0a, 0x86, 0xf1, 0x04, 0x01, 0x82, 0xf1, 0x04, 0x00];
     let wasm = with_blocks(rt.alloc(), 20_000, &[0x04, 0x40], &[0x05, 0x0b], &code)?;
     let typed = closed_by(rt.alloc(), 20_000, "if", &["else", "end"])?;
@@ -360,7 +361,7 @@ fn prints_deep_ifs(rt: HostRuntime) -> Result<(), Fail> {
 
 #[test]
 fn prints_deep_tries(rt: HostRuntime) -> Result<(), Fail> {
-    // a section of 80,006 bytes, with a body of 80,002
+    // A section of 80,006 bytes, with a body of 80,002 bytes.
     let code = [0x0a, 0x86, 0xf1, 0x04, 0x01, 0x82, 0xf1, 0x04, 0x00];
     let wasm = with_blocks(rt.alloc(), 20_000, &[0x06, 0x40], &[0x18, 0x00], &code)?;
     let typed = closed_by_delegates(rt.alloc(), 20_000)?;

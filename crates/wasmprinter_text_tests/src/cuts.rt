@@ -1,6 +1,7 @@
-//! How quoted strings are split into calls on a user-defined printer. Contracts fix the text alone. Here the calls for each character and
-//! each byte are typed, and a string is made of its characters' calls, also up to a call that fails. The lengths are around the sizes of the
-//! runs that the library writes to its own printers.
+//! Tests of how quoted strings are split into calls on a user-defined printer. The contracts fix only the text.
+//! Here the calls for each character and each byte are typed. The expected calls of a string are those of its
+//! characters, also up to a call that fails. The lengths are around the sizes of the runs that the library writes
+//! to its own printers.
 
 pub mod calls;
 mod samples;
@@ -15,14 +16,14 @@ use wasmprinter::text::{write_bytes, write_quoted};
 use wasmprinter::{Config, Error, Print};
 use wasmprinter_samples::{PREAMBLE, expect_text};
 
-/// What is written in quotes.
+/// The content of a quoted string.
 #[derive(Clone, Copy)]
 enum Input<'a> {
     Bytes(&'a [u8]),
     Text(&'a str),
 }
 
-/// Writes the input. It promises nothing, so that no caller works out what the promises mean for its own printer.
+/// Writes the input. It has no contract, so that callers need not prove anything about their own printer.
 fn write_input<P: Print>(p: &mut P, input: Input) -> Result<(), Error> {
     match input {
         Input::Bytes(bytes) => write_bytes(p, bytes),
@@ -30,13 +31,14 @@ fn write_input<P: Print>(p: &mut P, input: Input) -> Result<(), Error> {
     }
 }
 
-/// Returns whether writing the input makes these calls.
+/// Reports whether writing the input makes exactly these calls.
 fn makes(alloc: Global, input: Input, wanted: &[u8]) -> bool {
     let mut found = Calls::new(alloc, 0);
     Ending::of(write_input(&mut found, input)) == Ending::Whole && found.are(wanted)
 }
 
-/// Returns whether writing the input stops at the call with this number, if that call fails: the calls up to it are the first of these.
+/// Reports whether writing the input stops at the call with this number if that call fails, and all calls up to it
+/// are the first of `wanted`.
 fn stops_at(alloc: Global, input: Input, wanted: &[u8], refused: usize) -> bool {
     let mut found = Calls::new(alloc, refused);
     Ending::of(write_input(&mut found, input)) == Ending::Refused
@@ -45,7 +47,7 @@ fn stops_at(alloc: Global, input: Input, wanted: &[u8], refused: usize) -> bool 
         && wanted.starts_with(found.list())
 }
 
-/// Returns whether writing the input makes these calls, and stops at any of them that fails.
+/// Reports whether writing the input makes these calls, and stops at each of them if that call fails.
 fn stops_at_each_call(alloc: Global, input: Input, wanted: &[u8]) -> bool {
     let mut whole = Calls::new(alloc, usize::MAX);
     if Ending::of(write_input(&mut whole, input)) != Ending::Whole || !whole.are(wanted) {
@@ -59,7 +61,7 @@ fn stops_at_each_call(alloc: Global, input: Input, wanted: &[u8]) -> bool {
     true
 }
 
-/// Returns the calls for a string whose content takes these calls.
+/// Returns the calls for a quoted string, given those for its content.
 fn in_quotes(alloc: Global, content: &[u8]) -> Result<Vec<u8>, AllocError> {
     let mut calls = Vec::from_slice(alloc, b"\xfe\"\xff")?;
     calls.extend_from_slice(content)?;
@@ -67,7 +69,7 @@ fn in_quotes(alloc: Global, content: &[u8]) -> Result<Vec<u8>, AllocError> {
     Ok(calls)
 }
 
-/// Returns whether the text is split as it has to be, as a quoted string and as a byte string.
+/// Reports whether the text is split into the expected calls, as a quoted string and as a byte string.
 fn is_split(alloc: Global, sample: &Sample) -> Result<bool, AllocError> {
     let text = Input::Text(sample.text.as_str());
     let bytes = Input::Bytes(sample.text.as_bytes());
@@ -77,7 +79,7 @@ fn is_split(alloc: Global, sample: &Sample) -> Result<bool, AllocError> {
     )
 }
 
-/// Returns whether the text is split as it has to be, also up to any call that fails.
+/// Reports whether the text is split into the expected calls, also up to any call that fails.
 fn is_split_up_to_each_call(alloc: Global, sample: &Sample) -> Result<bool, AllocError> {
     let text = Input::Text(sample.text.as_str());
     let bytes = Input::Bytes(sample.text.as_bytes());
@@ -87,7 +89,8 @@ fn is_split_up_to_each_call(alloc: Global, sample: &Sample) -> Result<bool, Allo
     )
 }
 
-/// Lengths of texts, as ranges. A run of characters has at most 256 bytes, and a run of bytes is made of at most 85.
+/// Lengths of texts, as ranges. A run has at most 256 characters in a quoted string, and covers at most 85 bytes
+/// in a byte string.
 const LENGTHS: [(usize, usize); 7] = [
     (0, 6),
     (80, 90),
@@ -98,17 +101,18 @@ const LENGTHS: [(usize, usize); 7] = [
     (1_018, 1_030),
 ];
 
-/// Positions around the end of the first run, of bytes and of characters.
+/// Positions around the end of the first run, of a byte string and of a quoted string.
 const THRESHOLDS: [(usize, usize); 2] = [(83, 87), (252, 258)];
 
 /// Characters that are escaped, of one, two and four bytes.
 const ESCAPED: [Letter; 3] = [QUOTE, ACUTE, GREATEST];
 
-/// How texts are mixed: the number that a text begins to draw with, and which bits of a drawn number are 0 where the character is not a
-/// plain letter. So one character in 2, 8, 64 and 256 isn't.
+/// Parameters of pseudorandom texts: the seed, and a mask. A character is not a plain letter if all bits of the
+/// mask are 0 in its random number. So this holds of one character in 2, 8, 64 and 256.
 const MIXES: [(u32, u32); 4] = [(1, 1), (7, 7), (11, 63), (23, 255)];
 
-/// Returns whether plain letters are split, if this character replaces the one at any of these places.
+/// Reports whether plain letters are split into the expected calls if this character replaces the letter at any of
+/// these positions.
 fn is_split_at_places(
     alloc: Global,
     len: usize,
@@ -123,7 +127,7 @@ fn is_split_at_places(
     Ok(true)
 }
 
-/// Returns whether plain letters are split, if this character replaces one of the last five, or one at a threshold.
+/// Reports the same for the last five positions and those around each threshold.
 fn is_split_with(alloc: Global, len: usize, letter: Letter) -> Result<bool, AllocError> {
     for threshold in THRESHOLDS {
         if !is_split_at_places(alloc, len, threshold, letter)? {
@@ -184,7 +188,7 @@ fn splits_mixed_texts(rt: HostRuntime) -> Result<(), Fail> {
     Ok(())
 }
 
-/// The calls for the characters below 128 in a quoted string, sixteen in a row, as `Calls::shown` writes them.
+/// The calls for the characters below 128 in a quoted string, sixteen in a row, in the form of `Calls::shown`.
 const CHARACTERS: [&str; 8] = [
     r"\u{|0|}|\u{|1|}|\u{|2|}|\u{|3|}|\u{|4|}|\u{|5|}|\u{|6|}|\u{|7|}|\u{|8|}|\u{|9|}|\u{|a|}|\u{|b|}|\u{|c|}|\u{|d|}|\u{|e|}|\u{|f|}|",
     r"\u{|1|0|}|\u{|1|1|}|\u{|1|2|}|\u{|1|3|}|\u{|1|4|}|\u{|1|5|}|\u{|1|6|}|\u{|1|7|}|\u{|1|8|}|\u{|1|9|}|\u{|1|a|}|\u{|1|b|}|\u{|1|c|}|\u{|1|d|}|\u{|1|e|}|\u{|1|f|}|",
@@ -216,7 +220,7 @@ const BYTES: [&str; 16] = [
     r"\|f|0|\|f|1|\|f|2|\|f|3|\|f|4|\|f|5|\|f|6|\|f|7|\|f|8|\|f|9|\|f|a|\|f|b|\|f|c|\|f|d|\|f|e|\|f|f|",
 ];
 
-/// Checks that writing the input makes the calls of these rows, in quotes.
+/// Checks that writing the input makes the calls of these rows, between quotes.
 fn expect_rows(alloc: Global, input: Input, rows: &[&str]) -> Result<(), Fail> {
     let mut calls = Calls::new(alloc, 0);
     write_input(&mut calls, input)?;
@@ -259,10 +263,10 @@ fn stops_in_the_middle_of_an_escape(rt: HostRuntime) {
     assert!(rt; calls.are(b"\xfe\"\xffa\xff\\\xff1\xff"));
 }
 
-/// Lengths of texts of which each call fails in turn.
+/// Lengths of the texts for which each call is refused in turn.
 const REFUSED_LENGTHS: [usize; 6] = [0, 1, 3, 86, 254, 257];
 
-/// How these texts are mixed.
+/// The seeds and masks of these texts.
 const REFUSED_MIXES: [(u32, u32); 2] = [(1, 1), (11, 63)];
 
 #[test]
@@ -285,22 +289,22 @@ fn stops_at_each_call_of_mixed_texts(rt: HostRuntime) -> Result<(), Fail> {
     Ok(())
 }
 
-/// A type, at 0xb, and imports of two functions without names, at 0x11 and 0x15.
+/// A type at 0xb, and imports of two functions with empty names at 0x11 and 0x15.
 const TWO_IMPORTS: [u8; 17] = [
     0x01, 0x04, 0x01, 0x60, 0x00, 0x00, // types
     0x02, 0x09, 0x02, 0x00, 0x00, 0x00, 0x00, 0x00, 0x00, 0x00, 0x00, // imports
 ];
 
-/// The offset of the data of the name section after these.
+/// The offset of the data of the name section that follows these sections.
 const NAMES: usize = 0x21;
 
-/// Appends a number that is less than 2^14, in two bytes.
+/// Appends a number below 2^14, encoded in two bytes.
 fn push_number(wasm: &mut Vec<u8>, number: usize) -> Result<(), AllocError> {
     wasm.extend_from_slice(&[(number % 128) as u8 | 0x80, (number / 128 % 128) as u8])
 }
 
-/// Returns the length of the subsection with a name of this length for two functions: a count, and twice an index, a length of two bytes
-/// and the name.
+/// Returns the length in bytes of a subsection that gives two functions a name of this length: a count, and for
+/// each function an index, a length of two bytes and the name.
 fn subsection_len(name_len: usize) -> usize {
     name_len
         .saturating_add(3)
@@ -308,12 +312,12 @@ fn subsection_len(name_len: usize) -> usize {
         .saturating_add(1)
 }
 
-/// Returns the length of the data of that name section: an id, a size of two bytes, and the subsection.
+/// Returns the length in bytes of the data of that name section: an id, a size of two bytes, and the subsection.
 fn names_len(name_len: usize) -> usize {
     subsection_len(name_len).saturating_add(3)
 }
 
-/// Returns a module with two imports of functions that both have the name, which is shorter than 2^12 bytes.
+/// Returns a module that imports two functions, both with this name. The name must have fewer than 2^12 bytes.
 fn with_name(alloc: Global, name: &str) -> Result<Vec<u8>, AllocError> {
     let mut wasm = Vec::from_slice(alloc, &PREAMBLE)?;
     wasm.extend_from_slice(&TWO_IMPORTS)?;
@@ -330,12 +334,12 @@ fn with_name(alloc: Global, name: &str) -> Result<Vec<u8>, AllocError> {
     Ok(wasm)
 }
 
-/// The calls for that module up to what follows the dollar sign of the first identifier.
+/// The calls for that module up to and including the dollar sign of the first identifier.
 const UP_TO_FIRST: &str = r#"[0x0](|{K}module|{R}
 [0xb]  |(|{K}type| |{R}{N}(;|0|;)|{R} |(|{K}func|{R})|)|
 [0x11]  |(|{K}import| |{R}{L}"|"|{R} |{L}"|"|{R} |(|{K}func| |{R}{N}$|"#;
 
-/// The calls from there to the name in the second identifier, which the first function has already.
+/// The calls from there to the name in the second identifier. That name was already given to the first function.
 const UP_TO_SECOND: &str = r##" |(;|0|;)|{R} |(|{K}type| |{R}{N}0|{R})|)|)|
 [0x15]  |(|{K}import| |{R}{L}"|"|{R} |{L}"|"|{R} |(|{K}func| |{R}{N}$|"|#|f|u|n|c|1| |"##;
 
@@ -345,7 +349,8 @@ const UP_TO_ANNOTATION: &str = r#""| |(|{K}@name "|{R}"#;
 /// The calls from there to the place and the length of the name section.
 const UP_TO_SECTION: &str = r#"")| |(;|1|;)|{R} |(|{K}type| |{R}{N}0|{R})|)|)|{? name "#;
 
-/// Returns the calls for the module with this name, as `Calls::shown` writes them. An identifier without quotes is one call.
+/// Returns the calls for the module with this name, in the form of `Calls::shown`. An identifier without quotes is
+/// one call.
 fn named_calls(alloc: Global, sample: &Sample) -> Result<String, AllocError> {
     let quoted = shown_calls(alloc, &sample.quoted)?;
     let mut calls = String::from_str(alloc, UP_TO_FIRST)?;
@@ -365,12 +370,13 @@ fn named_calls(alloc: Global, sample: &Sample) -> Result<String, AllocError> {
     Ok(calls)
 }
 
-/// Prints a module to any printer. It promises nothing, so that no caller works out what the promises mean for its own printer.
+/// Prints a module to any printer. It has no contract, so that callers need not prove anything about their own
+/// printer.
 fn print_to<P: Print>(alloc: Global, wasm: &[u8], p: &mut P) -> Result<(), Error> {
     Config::new().print(alloc, wasm, p)
 }
 
-/// Checks the calls for two functions with this name.
+/// Checks that a module of two functions with this name makes the expected calls.
 fn expect_named(alloc: Global, sample: &Sample) -> Result<(), Fail> {
     let mut calls = Calls::new(alloc, 0);
     print_to(alloc, &with_name(alloc, sample.text.as_str())?, &mut calls)?;
@@ -384,7 +390,7 @@ fn expect_named(alloc: Global, sample: &Sample) -> Result<(), Fail> {
     Ok(())
 }
 
-/// Lengths of names, which aren't empty.
+/// Lengths of names that are not empty, as ranges.
 const NAME_LENGTHS: [(usize, usize); 6] = [
     (1, 6),
     (84, 87),
@@ -425,7 +431,8 @@ fn splits_the_annotation_of_an_empty_name(rt: HostRuntime) -> Result<(), Fail> {
     Ok(())
 }
 
-/// Returns whether printing a module stops at the call with this number, if that call fails: the calls up to it are the first of these.
+/// Reports whether printing a module stops at the call with this number if that call fails, and all calls up to it
+/// are the first of `wanted`.
 fn prints_up_to(alloc: Global, wasm: &[u8], wanted: &str, refused: usize) -> Result<bool, Fail> {
     let mut found = Calls::new(alloc, refused);
     let ending = Ending::of(print_to(alloc, wasm, &mut found));

@@ -1,4 +1,4 @@
-//! Floats by their bits, as a caller of the library writes them to a printer.
+//! Tests of floats: each is given by its bits, and written to a printer as a caller of the library writes it.
 
 use std::alloc::Global;
 use std::io::ErrorKind;
@@ -8,7 +8,7 @@ use wasmprinter::{Error, PrintFmtWrite};
 use wasmprinter_recorder::Recorder;
 use wasmprinter_samples::expect_text;
 
-/// The bits of f32, each with its text.
+/// Bits of f32, each with its text.
 const SINGLES: [(u32, &str); 14] = [
     (0x3fc0_0000, "0x1.8p+0"),
     (0x0000_0000, "0x0p+0"),
@@ -26,7 +26,7 @@ const SINGLES: [(u32, &str); 14] = [
     (0xffff_ffff, "-nan:0x7fffff (;=NaN;)"),
 ];
 
-/// The bits of f64, each with its text.
+/// Bits of f64, each with its text.
 const DOUBLES: [(u64, &str); 8] = [
     (0x3ff0_0000_0000_0000, "0x1p+0"),
     (0x0000_0000_0000_0001, "0x1.p-1074"),
@@ -88,7 +88,8 @@ fn makes_the_calls_of_infinity_and_nan(rt: HostRuntime) -> Result<(), Fail> {
     Ok(())
 }
 
-/// Whether a float whose call of this number is refused ends with that error, and no call is made behind it.
+/// Reports whether writing a float returns the error of the call with this number and makes no call after it, if
+/// that call is refused.
 fn is_refused_at(alloc: Global, call: u32) -> bool {
     let mut recorder = Recorder::with_refusal(alloc, call, ErrorKind::BrokenPipe);
     let refused = write_f64(&mut recorder, 0xfff0_0000_0000_0001);

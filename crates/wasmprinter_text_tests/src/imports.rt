@@ -1,11 +1,12 @@
-//! Imports of each kind, and the numbers of what is defined behind them.
+//! Tests of imports of each kind, and of the numbers of the items defined after them.
 
 use crate::printing::{expect_printed, is_malformed_section, with_sections};
 use std::test::Fail;
 use wasmprinter::wasm::decode;
 use wasmprinter_samples::sections::{IMPORT, TYPE};
 
-/// A function type; imports of two functions, a table, a memory, a global and a tag; and one of each defined.
+/// A module with a function type; imports of two functions, a table, a memory, a global and a tag; and one
+/// definition of each.
 const ALL_KINDS: [u8; 93] = [
     0x00, 0x61, 0x73, 0x6d, 0x01, 0x00, 0x00, 0x00, // preamble
     0x01, 0x04, 0x01, 0x60, 0x00, 0x00, // types
@@ -75,13 +76,13 @@ fn prints_signatures_of_imports(rt: HostRuntime) -> Result<(), Fail> {
 #[test]
 fn refuses_other_imports(rt: HostRuntime) -> Result<(), Fail> {
     let contents: [&[u8]; 4] = [
-        // a kind that there isn't
+        // An unknown kind of import
         &[0x01, 0x00, 0x00, 0x05, 0x00],
-        // a tag with another attribute
+        // A tag whose attribute is not 0
         &[0x01, 0x00, 0x00, 0x04, 0x01, 0x00],
-        // a name that isn't UTF-8
+        // A name that is not UTF-8
         &[0x01, 0x01, 0xff, 0x00, 0x00, 0x00],
-        // a table of numbers
+        // A table whose elements are numbers
         &[0x01, 0x00, 0x00, 0x01, 0x7f, 0x00, 0x00],
     ];
     for content in contents {

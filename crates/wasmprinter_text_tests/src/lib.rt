@@ -1,5 +1,5 @@
-//! Tests of texts, through the paths of the crate `wasmprinter` alone: of modules, of each operator, of single values and of the fields of
-//! each section. What is expected is typed by hand.
+//! Tests of texts: whole modules, each operator, single values, and the fields of each section. They use only
+//! paths of the crate `wasmprinter`. All expected texts and calls are typed by hand.
 #![tactic(auto)]
 
 #[cfg(test)]

@@ -1,15 +1,15 @@
-//! Each operator but those that open, part or end blocks, with immediates and how these are printed. All is typed from tables of opcodes,
-//! and none of it made from a table of the program or of the definitions.
+//! Each operator except those that open, divide or close blocks, with its immediates and their text. The operators
+//! are typed from tables of opcodes. They are not generated from a table of the program or of the definitions.
 
 /// Operators with the same prefix and the same immediates.
 pub struct Group {
-    /// 0 for none.
+    /// The prefix byte, or 0 for none
     pub prefix: u8,
     pub immediates: &'static [u8],
-    /// What the immediates are printed as, behind the word.
+    /// The text of the immediates, which follows the word
     pub text: &'static str,
-    /// A number with `@` in front, and then the word of this number, of the next, and so on. Numbers are hexadecimal without a prefix and
-    /// behind FE, else decimal.
+    /// Words, each separated by white space. `@` starts a number: it is the number of the next word, and each further
+    /// word has the next number. Numbers are hexadecimal without a prefix and after FE, and decimal otherwise.
     pub words: &'static str,
 }
 
@@ -147,7 +147,7 @@ pub const PLAIN: [Group; 4] = [
     },
 ];
 
-/// Operators on memories, each with its natural alignment and no offset.
+/// Operators with a memory operand, each with its natural alignment and an offset of 0.
 pub const MEMORIES: [Group; 13] = [
     Group {
         prefix: 0,
@@ -391,7 +391,7 @@ pub const LANES: [Group; 7] = [
     },
 ];
 
-/// Operators with indices, also those that are left out where they are 0.
+/// Operators with indices, also those whose text leaves out an index of 0.
 pub const INDICES: [Group; 9] = [
     Group {
         prefix: 0,

@@ -1,4 +1,4 @@
-//! All opcodes: the line of each operator, and the numbers that no operator has, which are malformed.
+//! Tests of all opcodes: the line of each operator, and the numbers of no operator, which are malformed.
 
 use crate::control::{are_malformed, expect_operators, text_of};
 use crate::opcode_words::{Group, INDICES, LANES, MEMORIES, OTHERS, PLAIN};
@@ -6,7 +6,7 @@ use std::alloc::{AllocError, Global};
 use std::num::ParseIntError;
 use std::test::Fail;
 
-/// The text of a module whose function has these lines.
+/// Returns the text of a module whose function has these lines.
 fn text_with_lines(alloc: Global, lines: &[&str]) -> Result<String, AllocError> {
     let mut text = String::from_str(
         alloc,
@@ -21,17 +21,18 @@ fn text_with_lines(alloc: Global, lines: &[&str]) -> Result<String, AllocError> 
     Ok(text)
 }
 
-/// Holds that operators are printed on these lines.
+/// Checks that operators are printed on these lines.
 ///
 /// # Errors
 ///
-/// Where they are refused, or their lines are others.
+/// - The operators are refused, or their lines differ.
 fn expect_lines(alloc: Global, operators: &[u8], lines: &[&str]) -> Result<(), Fail> {
     let typed = text_with_lines(alloc, lines)?;
     expect_operators(alloc, operators, typed.as_str())
 }
 
-/// The bytes of an opcode: its number alone where it has no prefix, else the prefix and the number. Numbers are below 2^14.
+/// Returns the bytes of an opcode: its number alone if it has no prefix, otherwise the prefix and the number.
+/// Numbers are below 2^14.
 fn opcode(alloc: Global, prefix: u8, number: u32) -> Result<Vec<u8>, AllocError> {
     let mut bytes = Vec::new(alloc);
     if prefix != 0 {
@@ -46,10 +47,10 @@ fn opcode(alloc: Global, prefix: u8, number: u32) -> Result<Vec<u8>, AllocError>
     Ok(bytes)
 }
 
-/// A prefix, 0 for none, and a number.
+/// A prefix (0 for none) and a number.
 type Code = (u8, u32);
 
-/// An operator and the line that it is printed on.
+/// An operator and the line on which it is printed.
 #[derive(Drop)]
 struct Sample {
     code: Code,
@@ -57,7 +58,7 @@ struct Sample {
     line: String,
 }
 
-/// The operators of a group.
+/// Returns the operators of a group.
 fn samples_of(alloc: Global, group: &Group) -> Result<Vec<Sample>, Fail> {
     let mut samples = Vec::new(alloc);
     let mut number = 0;
@@ -77,7 +78,7 @@ fn samples_of(alloc: Global, group: &Group) -> Result<Vec<Sample>, Fail> {
     Ok(samples)
 }
 
-/// A number as a group writes it.
+/// Parses a number as a group writes it.
 fn number_of(prefix: u8, digits: &str) -> Result<u32, ParseIntError> {
     match prefix {
         0 | 0xfe => u32::from_str_radix(digits, 16),
@@ -85,7 +86,8 @@ fn number_of(prefix: u8, digits: &str) -> Result<u32, ParseIntError> {
     }
 }
 
-/// The first operator of some groups that isn't printed on its line, by the text that is printed.
+/// Returns the printed text of the first operator of these groups that is not printed on its line, or `None` if
+/// there is no such operator.
 fn first_fault(alloc: Global, groups: &[Group]) -> Result<Option<String>, Fail> {
     for group in groups {
         for sample in &samples_of(alloc, group)? {
@@ -128,7 +130,7 @@ fn prints_operators_with_types_and_numbers(rt: HostRuntime) -> Result<(), Fail> 
     Ok(())
 }
 
-/// Operators that open, part and end blocks, and the lines that they are printed on.
+/// Operators that open, divide and close blocks, each with the lines on which they are printed.
 const BLOCKS: [(&[u8], &[&str]); 6] = [
     (&[0x02, 0x40, 0x0b], &["block ;; label = @1", "end"]),
     (&[0x03, 0x40, 0x0b], &["loop ;; label = @1", "end"]),
@@ -150,7 +152,7 @@ const BLOCKS: [(&[u8], &[&str]); 6] = [
     ),
 ];
 
-/// The numbers of these.
+/// The opcodes of these operators.
 const BLOCK_OPCODES: [u32; 10] = [0x02, 0x03, 0x04, 0x05, 0x06, 0x07, 0x0b, 0x18, 0x19, 0x1f];
 
 #[test]
@@ -161,7 +163,7 @@ fn prints_operators_of_blocks(rt: HostRuntime) -> Result<(), Fail> {
     Ok(())
 }
 
-/// Other immediates: what is left out, what isn't, and longer spellings.
+/// Other immediates: those that the text leaves out, those that it does not, and longer encodings than needed.
 const SPECIAL: [(&[u8], &str); 20] = [
     (&[0x11, 0x00, 0x00], "call_indirect (type 0)"),
     (&[0x3f, 0x00], "memory.size"),
@@ -210,8 +212,8 @@ fn prints_other_immediates(rt: HostRuntime) -> Result<(), Fail> {
     Ok(())
 }
 
-/// Immediates that are no operator's: the flags of a cast, the first number of a memory operand, the byte of a fence, a type, a lane that
-/// is cut off.
+/// Operators with malformed immediates: the flags of a cast, the first number of a memory operand, the byte of a
+/// fence, a type, a truncated lane.
 const MISSPELLED: [&[u8]; 7] = [
     &[0xfb, 0x18, 0x04, 0x00, 0x6e, 0x6e],
     &[0xfb, 0x19, 0xff, 0x00, 0x6e, 0x6e],
@@ -230,7 +232,8 @@ fn refuses_immediates_of_no_operator(rt: HostRuntime) -> Result<(), Fail> {
     Ok(())
 }
 
-/// Numbers below these bounds that no operator has: the prefix, 0 for none; the first and the last of a run.
+/// The numbers of no operator, below the bounds of `NUMBERS`: the prefix (0 for none), and the first and last
+/// number of a range.
 const UNLISTED: [(u8, u32, u32); 23] = [
     (0, 0x16, 0x17),
     (0, 0x1d, 0x1e),
@@ -257,17 +260,18 @@ const UNLISTED: [(u8, u32, u32); 23] = [
     (0xfe, 0x4f, 0x7f),
 ];
 
-/// Each prefix, 0 for none, with the number after the last that is tried: opcodes of one byte up to FA, those after FB and FC up to 63, after
-/// FD up to 511 and after FE up to 7F.
+/// Each prefix (0 for none) with the number after the last one that is tested: one-byte opcodes up to FA, those
+/// after FB and FC up to 63, after FD up to 511, and after FE up to 7F.
 const NUMBERS: [Code; 5] = [(0, 0xfb), (0xfb, 64), (0xfc, 64), (0xfd, 512), (0xfe, 0x80)];
 
-/// How many these are.
+/// The number of tested opcodes.
 const NUMBERS_LEN: usize = 251 + 64 + 64 + 512 + 128;
 
-/// Zeros, which could be the immediates of an operator of any shape, or operators.
+/// Zeros, which can be read as immediates of any shape, or as operators.
 const ZEROS: [u8; 20] = [0x00; 20];
 
-/// Whether an opcode is refused, with zeros behind it, and also where it would open a block.
+/// Reports whether an opcode followed by zeros is refused, both with one `end` after them and with two, for an
+/// opcode that opens a block.
 fn is_refused(alloc: Global, prefix: u8, number: u32) -> Result<bool, AllocError> {
     let mut bytes = opcode(alloc, prefix, number)?;
     bytes.extend_from_slice(&ZEROS)?;
@@ -286,7 +290,7 @@ fn refuses_each_other_number(rt: HostRuntime) -> Result<(), Fail> {
     Ok(())
 }
 
-/// Adds the opcodes of some groups.
+/// Adds the opcodes of these groups.
 fn add_groups(opcodes: &mut Vec<Code>, alloc: Global, groups: &[Group]) -> Result<(), Fail> {
     for group in groups {
         for sample in &samples_of(alloc, group)? {
@@ -321,7 +325,7 @@ fn tested_opcodes(alloc: Global) -> Result<Vec<Code>, Fail> {
     Ok(opcodes)
 }
 
-/// Each number is printed or refused by a test above, and by one alone.
+/// Each number is printed or refused by exactly one test above.
 #[test]
 fn leaves_out_no_number(rt: HostRuntime) -> Result<(), Fail> {
     let opcodes = tested_opcodes(rt.alloc())?;

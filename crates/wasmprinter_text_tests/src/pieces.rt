@@ -1,6 +1,6 @@
-//! How a text is split into calls on a user-defined printer. Contracts fix the text and the styles alone; here each piece of text, each
-//! style and each line is typed, for one module that has pieces of many kinds: flat and folded, with places, and with synthesized
-//! identifiers.
+//! Tests of how a text is split into calls on a user-defined printer. The contracts fix only the text and the
+//! styles. Here each piece of text, each style and each line is typed. The module has pieces of many kinds, and is
+//! printed flat and folded, with places, and with synthesized identifiers.
 
 mod lists;
 mod module;
@@ -14,7 +14,7 @@ use std::test::Fail;
 use wasmprinter::{Config, Error, Print};
 use wasmprinter_samples::{IDENTITY, expect_text};
 
-/// Prints to any printer. It promises nothing, so that no caller works out what the promises mean for its own printer.
+/// Prints to any printer. It has no contract, so that callers need not prove anything about their own printer.
 fn print_to<P: Print>(
     config: &Config,
     alloc: Global,
@@ -24,7 +24,7 @@ fn print_to<P: Print>(
     config.print(alloc, wasm, printer)
 }
 
-/// Checks that printing a module makes these calls.
+/// Checks that printing a module makes exactly these calls.
 fn expect_calls(alloc: Global, config: &Config, wasm: &[u8], wanted: &str) -> Result<(), Fail> {
     let mut calls = Calls::new(alloc, 0);
     print_to(config, alloc, wasm, &mut calls)?;
@@ -80,7 +80,8 @@ fn splits_an_indent_text_by_levels(rt: HostRuntime) -> Result<(), Fail> {
     expect_calls(rt.alloc(), &config, &IDENTITY, TABS)
 }
 
-/// Returns the end of a line with an `end` that is indented by this many levels: the two spaces of each level are part of one call.
+/// Returns the end of a line with an `end` that is indented by `level` levels: the two spaces of each level are
+/// part of one call.
 fn end_at(alloc: Global, level: u32) -> Result<String, AllocError> {
     let mut row = String::from_str(alloc, "]")?;
     for _ in 0..level {
@@ -90,10 +91,11 @@ fn end_at(alloc: Global, level: u32) -> Result<String, AllocError> {
     Ok(row)
 }
 
-/// Sixty blocks in one another: the outermost is indented by two levels, and each by one more, up to fifty.
+/// Prints sixty nested blocks. The outermost is indented by two levels, and each inner one by one more level, up
+/// to fifty.
 #[test]
 fn splits_indents_of_each_level(rt: HostRuntime) -> Result<(), Fail> {
-    // a section of 185 bytes, with a body of 182
+    // A section of 185 bytes, with a body of 182 bytes.
     let code = [0x0a, 0xb9, 0x01, 0x01, 0xb6, 0x01, 0x00];
     let wasm = with_blocks(rt.alloc(), 60, &[0x02, 0x40], &[0x0b], &code)?;
     let mut calls = Calls::new(rt.alloc(), 0);

@@ -1,5 +1,5 @@
-//! Runs of characters. A printer that takes runs gets each run of a quoted string by one call of `write_each_char`. Any other printer gets
-//! no such call, even if it implements `write_each_char`.
+//! Tests of runs of characters. A printer that takes runs receives each run of a quoted string in one call of
+//! `write_each_char`. Any other printer receives no such call, even if it implements `write_each_char`.
 ghost use Rattle.std.specs.Prelude.{None, false};
 
 use crate::cuts::calls::Calls;
@@ -10,7 +10,8 @@ use wasmprinter::text::{write_bytes, write_quoted};
 use wasmprinter::{Error, Print, PrintText};
 use wasmprinter_samples::expect_text;
 
-/// The pieces of text so far: one of `write_str` has a bar after it, one of `write_each_char` has angle brackets around it.
+/// The pieces of text so far. One from `write_str` has a bar after it, one from `write_each_char` has angle
+/// brackets around it.
 #[derive(Drop)]
 struct Pieces {
     text: String,
@@ -108,7 +109,7 @@ impl Print for WithRuns {
     }
 }
 
-/// A printer that implements `write_each_char`, but leaves `takes_runs` as the trait has it.
+/// A printer that implements `write_each_char`, but keeps the trait's default of `takes_runs`.
 #[derive(Drop)]
 struct WithoutRuns(Pieces);
 
@@ -175,7 +176,7 @@ impl Print for WithoutRuns {
     }
 }
 
-/// A printer of text alone.
+/// A printer that only writes text.
 #[derive(Drop)]
 struct Plainly(Pieces);
 
@@ -185,7 +186,7 @@ impl PrintText for Plainly {
     }
 }
 
-/// A printer of text alone that takes runs.
+/// A printer that only writes text and takes runs.
 #[derive(Drop)]
 struct PlainlyInRuns(Pieces);
 
@@ -199,7 +200,7 @@ impl PrintText for PlainlyInRuns {
     }
 }
 
-/// Writes a quoted string. It has no contract, so that its callers don't apply one to their own printers.
+/// Writes a quoted string. It has no contract, so that callers need not prove anything about their own printer.
 fn quote<P: Print>(p: &mut P, text: &str) -> Result<(), Error> {
     write_quoted(p, text)
 }
@@ -209,12 +210,12 @@ fn quote_bytes<P: Print>(p: &mut P, bytes: &[u8]) -> Result<(), Error> {
     write_bytes(p, bytes)
 }
 
-/// Writes a text by the printer's `write_each_char`.
+/// Writes a text with the printer's `write_each_char`.
 fn write_each<P: Print>(p: &mut P, text: &str) -> io::Result<()> {
     p.write_each_char(text)
 }
 
-/// Returns this text repeated, between two others.
+/// Returns `part` repeated `count` times, between two other texts.
 fn repeated(
     alloc: Global,
     before: &str,
@@ -230,7 +231,7 @@ fn repeated(
     Ok(text)
 }
 
-/// Checks the pieces of a quoted string on a printer that takes runs.
+/// Checks the pieces of a quoted string that a printer receives if it takes runs.
 fn expect_runs(alloc: Global, text: &str, wanted: &str) -> Result<(), Fail> {
     let mut printer = WithRuns(Pieces::new(alloc));
     quote(&mut printer, text)?;
@@ -238,7 +239,7 @@ fn expect_runs(alloc: Global, text: &str, wanted: &str) -> Result<(), Fail> {
     Ok(())
 }
 
-/// Checks the pieces of a byte string on a printer that takes runs.
+/// Checks the pieces of a byte string that a printer receives if it takes runs.
 fn expect_byte_runs(alloc: Global, bytes: &[u8], wanted: &str) -> Result<(), Fail> {
     let mut printer = WithRuns(Pieces::new(alloc));
     quote_bytes(&mut printer, bytes)?;
@@ -263,7 +264,7 @@ fn writes_byte_strings_in_runs(rt: HostRuntime) -> Result<(), Fail> {
     expect_byte_runs(rt.alloc(), b"a\"\0b\xff", "\"|<a\\22\\00b\\ff>\"|")
 }
 
-/// A run of plain characters has at most 256.
+/// A run has at most 256 plain characters.
 #[test]
 fn ends_a_run_at_256_characters(rt: HostRuntime) -> Result<(), Fail> {
     let text = repeated(rt.alloc(), "", "x", 256, "y")?;
@@ -271,7 +272,7 @@ fn ends_a_run_at_256_characters(rt: HostRuntime) -> Result<(), Fail> {
     expect_runs(rt.alloc(), text.as_str(), wanted.as_str())
 }
 
-/// A run of a byte string has at most 85 bytes, which take at most 255 characters.
+/// A run of a byte string covers at most 85 bytes, which are at most 255 characters.
 #[test]
 fn ends_a_run_at_85_bytes(rt: HostRuntime) -> Result<(), Fail> {
     let wanted = repeated(rt.alloc(), "\"|<", "\\00", 85, "><\\00>\"|")?;

@@ -1,4 +1,4 @@
-//! Memories, tags and the start function: texts of modules with one section, or with types and one section.
+//! Tests of memories, tags and the start function, in modules with one section, or with types and one section.
 
 use crate::printing::{
     expect_printed, expect_section, is_malformed, is_malformed_section, with_sections,
@@ -6,9 +6,9 @@ use crate::printing::{
 use std::test::Fail;
 use wasmprinter_samples::sections::{MEMORY, START, TAG, TYPE};
 
-/// Memory sections of one memory each, and its text.
+/// Memory sections of at most one memory, each with the text of its module.
 const MEMORIES: [(&[u8], &str); 5] = [
-    // pages of one byte
+    // Pages of one byte
     (
         &[0x01, 0x08, 0x01, 0x00],
         "(module\n  (memory (;0;) 1 (pagesize 0x1))\n)\n",
@@ -17,19 +17,19 @@ const MEMORIES: [(&[u8], &str); 5] = [
         &[0x01, 0x0f, 0x01, 0x02, 0x10],
         "(module\n  (memory (;0;) i64 1 2 shared (pagesize 0x10000))\n)\n",
     ),
-    // the largest pages, and none of them
+    // Pages of the greatest size, and a minimum of 0 pages
     (
         &[0x01, 0x0c, 0x00, 0x3f],
         "(module\n  (memory (;0;) i64 0 (pagesize 0x8000000000000000))\n)\n",
     ),
-    // the greatest size
+    // The greatest maximum
     (
         &[
             0x01, 0x05, 0x7f, 0xff, 0xff, 0xff, 0xff, 0xff, 0xff, 0xff, 0xff, 0xff, 0x01,
         ],
         "(module\n  (memory (;0;) i64 127 18446744073709551615)\n)\n",
     ),
-    // no memories
+    // No memories
     (&[0x00], "(module)\n"),
 ];
 
@@ -41,7 +41,7 @@ fn prints_each_memory(rt: HostRuntime) -> Result<(), Fail> {
     Ok(())
 }
 
-/// A memory of each flags without the size of a page.
+/// A memory for each combination of flags without the one for a page size.
 const FLAGS: [u8; 21] = [
     0x08, // memories
     0x00, 0x01, 0x01, 0x01, 0x02, 0x02, 0x01, 0x03, 0x01, 0x02, // with addresses of 32 bits
@@ -71,11 +71,11 @@ fn prints_memories_by_their_flags(rt: HostRuntime) -> Result<(), Fail> {
 #[test]
 fn refuses_other_memories(rt: HostRuntime) -> Result<(), Fail> {
     let contents: [&[u8]; 3] = [
-        // flags that mean nothing
+        // An undefined flag
         &[0x01, 0x10, 0x01],
-        // pages of 2^64 bytes
+        // Pages of 2^64 bytes
         &[0x01, 0x08, 0x01, 0x40],
-        // no greatest size
+        // A maximum is announced but missing
         &[0x01, 0x01, 0x01],
     ];
     for content in contents {
@@ -84,7 +84,7 @@ fn refuses_other_memories(rt: HostRuntime) -> Result<(), Fail> {
     Ok(())
 }
 
-/// Two function types and a structure.
+/// A type section with two function types and a structure type.
 const TYPES: [u8; 12] = [
     0x03, 0x60, 0x02, 0x7f, 0x63, 0x00, 0x00, 0x60, 0x00, 0x00, 0x5f, 0x00,
 ];

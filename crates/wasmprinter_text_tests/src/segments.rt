@@ -1,4 +1,4 @@
-//! Element and data segments: texts of modules with one section, and what is refused.
+//! Tests of element and data segments: texts of modules with one section, and refusals.
 
 use crate::printing::{
     expect_printed, expect_section, is_malformed, is_malformed_section, with_sections,
@@ -7,7 +7,7 @@ use std::alloc::{AllocError, Global};
 use std::test::Fail;
 use wasmprinter_samples::sections::{DATA, DATA_COUNT, ELEMENT};
 
-/// Element segments of each flags.
+/// An element segment for each value of the flags.
 const ELEMENTS: [u8; 58] = [
     0x08, // segments
     0x00, 0x41, 0x01, 0x0b, 0x02, 0x00, 0x01, // active, of functions
@@ -54,11 +54,11 @@ fn prints_a_segment_of_no_functions_with_its_table(rt: HostRuntime) -> Result<()
 #[test]
 fn refuses_other_element_segments(rt: HostRuntime) -> Result<(), Fail> {
     let contents: [&[u8]; 3] = [
-        // flags above 7
+        // Flags above 7
         &[0x01, 0x08, 0x00, 0x00],
-        // items of another kind than functions
+        // An element kind that is not 0, that of functions
         &[0x01, 0x01, 0x01, 0x00],
-        // items of a type of numbers
+        // Elements of a number type
         &[0x01, 0x05, 0x7f, 0x00],
     ];
     for content in contents {
@@ -67,7 +67,7 @@ fn refuses_other_element_segments(rt: HostRuntime) -> Result<(), Fail> {
     Ok(())
 }
 
-/// Data segments of each flags, and three more that are active.
+/// A data segment for each value of the flags, and three more that are active.
 const DATAS: [u8; 42] = [
     0x06, // segments
     0x00, 0x41, 0x08, 0x0b, 0x05, 0x61, 0x22, 0x5c, 0x00, 0xff, // active
@@ -99,9 +99,9 @@ fn prints_each_data_segment(rt: HostRuntime) -> Result<(), Fail> {
 #[test]
 fn refuses_other_data_segments(rt: HostRuntime) -> Result<(), Fail> {
     let contents: [&[u8]; 2] = [
-        // flags above 2
+        // Flags above 2
         &[0x01, 0x03, 0x00],
-        // more bytes than there are
+        // A length that exceeds the section
         &[0x01, 0x01, 0x02, 0x00],
     ];
     for content in contents {
@@ -110,10 +110,10 @@ fn refuses_other_data_segments(rt: HostRuntime) -> Result<(), Fail> {
     Ok(())
 }
 
-/// A data section with one segment, which is passive and has no bytes.
+/// A data section with one segment, which is passive and empty.
 const ONE: [u8; 3] = [0x01, 0x01, 0x00];
 
-/// A module with this count of data segments, and one segment.
+/// Returns a module with this count of data segments, and one data segment.
 fn with_count(alloc: Global, count: u8) -> Result<Vec<u8>, AllocError> {
     with_sections(alloc, (DATA_COUNT, &[count]), (DATA, &ONE))
 }
@@ -125,7 +125,7 @@ fn compares_the_count_of_data_segments(rt: HostRuntime) -> Result<(), Fail> {
     for count in [0, 2] {
         assert!(rt; is_malformed(rt.alloc(), &with_count(rt.alloc(), count)?));
     }
-    // none are counted and none stand there
+    // A count without a data section must be 0.
     expect_section(rt.alloc(), DATA_COUNT, &[0x00], "(module)\n")?;
     assert!(rt; is_malformed_section(rt.alloc(), DATA_COUNT, &[0x01])?);
     Ok(())

@@ -1,4 +1,4 @@
-//! Strings and bytes in quotes, as a caller of the library writes them to a printer of its own.
+//! Tests of quoted strings and byte strings, as a caller of the library writes them to its own printer.
 
 use std::io::ErrorKind;
 use std::test::Fail;

@@ -1,4 +1,4 @@
-//! Tables and globals: texts of modules with one section, and what is refused.
+//! Tests of tables and globals: texts of modules with one section, and refusals.
 
 use crate::printing::{expect_section, is_malformed_section, with_section};
 use std::alloc::{AllocError, Global};
@@ -6,13 +6,13 @@ use std::test::Fail;
 use wasmprinter::{Error, print_bytes};
 use wasmprinter_samples::sections::{GLOBAL, TABLE};
 
-/// Tables of each flags, and one with an initialiser.
+/// Tables with different flags, and one with an initialiser.
 const TABLES: [u8; 26] = [
     0x05, // tables
-    0x70, 0x00, 0x01, // of no greatest size
-    0x6f, 0x01, 0x01, 0x02, // of one
-    0x70, 0x04, 0x01, // with indices of 64 bits
-    0x64, 0x00, 0x05, 0x00, 0x80, 0x80, 0x01, // of both, and of references to a type that aren't null
+    0x70, 0x00, 0x01, // without a maximum
+    0x6f, 0x01, 0x01, 0x02, // with a maximum
+    0x70, 0x04, 0x01, // with addresses of 64 bits
+    0x64, 0x00, 0x05, 0x00, 0x80, 0x80, 0x01, // with both, and with non-nullable references to a type as elements
     0x40, 0x00, 0x70, 0x00, 0x03, 0xd0, 0x70, 0x0b, // with an initialiser
 ];
 
@@ -33,7 +33,8 @@ fn prints_each_table(rt: HostRuntime) -> Result<(), Fail> {
     )
 }
 
-/// The place of the table with an empty initialiser for which a table section is refused, if it is.
+/// Returns the place of the table with an empty initialiser for which a table section is refused, or `None` if it
+/// is not refused for one.
 fn empty_initialiser(alloc: Global, content: &[u8]) -> Result<Option<u64>, AllocError> {
     match print_bytes(alloc, &with_section(alloc, TABLE, content)?) {
         Err(Error::EmptyTableInit { place }) => Ok(Some(place)),
@@ -53,13 +54,13 @@ fn refuses_an_initialiser_without_operators(rt: HostRuntime) -> Result<(), Fail>
 #[test]
 fn refuses_other_tables(rt: HostRuntime) -> Result<(), Fail> {
     let contents: [&[u8]; 4] = [
-        // shared
+        // Shared
         &[0x01, 0x70, 0x03, 0x01, 0x02],
-        // with a page size
+        // With a page size
         &[0x01, 0x70, 0x08, 0x01, 0x00],
-        // with another reserved byte
+        // With a reserved byte other than 0
         &[0x01, 0x40, 0x01, 0x70, 0x00, 0x03, 0xd0, 0x70, 0x0b],
-        // of numbers
+        // With elements of a number type
         &[0x01, 0x7f, 0x00, 0x01],
     ];
     for content in contents {
@@ -68,12 +69,12 @@ fn refuses_other_tables(rt: HostRuntime) -> Result<(), Fail> {
     Ok(())
 }
 
-/// Globals that may change or not, with one and several operators.
+/// Mutable and immutable globals, with initialisers of one and several operators.
 const GLOBALS: [u8; 28] = [
     0x04, // globals
     0x7f, 0x00, 0x41, 0x7f, 0x0b, // one operator
     0x7e, 0x01, 0x42, 0x01, 0x42, 0x02, 0x7c, 0x0b, // three
-    0x64, 0x70, 0x01, 0xd2, 0x03, 0x0b, // of references that aren't null
+    0x64, 0x70, 0x01, 0xd2, 0x03, 0x0b, // of non-nullable references
     0x7d, 0x00, 0x43, 0x00, 0x00, 0xc0, 0x3f, 0x0b, // a float
 ];
 
@@ -119,11 +120,11 @@ fn prints_blocks_of_an_initialiser_in_its_line(rt: HostRuntime) -> Result<(), Fa
 #[test]
 fn refuses_other_globals(rt: HostRuntime) -> Result<(), Fail> {
     let contents: [&[u8]; 3] = [
-        // shared
+        // Shared
         &[0x01, 0x7f, 0x02, 0x41, 0x00, 0x0b],
-        // without an end
+        // With an initialiser without `end`
         &[0x01, 0x7f, 0x00, 0x41, 0x00],
-        // with a block that doesn't end
+        // With a block without `end`
         &[0x01, 0x7f, 0x00, 0x02, 0x40, 0x0b],
     ];
     for content in contents {

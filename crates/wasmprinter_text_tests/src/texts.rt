@@ -1,4 +1,4 @@
-//! Whole texts.
+//! Tests of whole texts, also of modules with numbers in longer encodings than needed.
 
 use crate::printing::expect_printed;
 use std::alloc::{AllocError, Global};
@@ -8,7 +8,7 @@ use wasmprinter_samples::{
     IDENTITY_TEXT, KINDS, KINDS_TEXT, MINUS_ONE, MINUS_ONE_TEXT, PREAMBLE,
 };
 
-/// Modules with their texts.
+/// Modules, each with its text.
 const MODULES: [(&[u8], &str); 7] = [
     (&PREAMBLE, EMPTY_TEXT),
     (&IDENTITY, IDENTITY_TEXT),
@@ -27,42 +27,42 @@ fn prints_each_module(rt: HostRuntime) -> Result<(), Fail> {
     Ok(())
 }
 
-/// A number of `IDENTITY` that is spelled in more bytes than it needs.
+/// A number of `IDENTITY`, encoded in more bytes than it needs (section 5.2.2 of the standard).
 struct Longer {
-    /// The bytes from here on are replaced ..
+    /// The first byte that is replaced
     from: usize,
-    /// .. up to here ..
+    /// The first byte after those that are replaced
     to: usize,
-    /// .. by these.
+    /// The bytes that replace them
     by: &'static [u8],
 }
 
 const LONGER: [Longer; 5] = [
-    // the size of the type section
+    // The size of the type section
     Longer {
         from: 9,
         to: 10,
         by: &[0x86, 0x00],
     },
-    // the same in five bytes, the most that there may be
+    // The size of the type section in five bytes, the most that are allowed
     Longer {
         from: 9,
         to: 10,
         by: &[0x86, 0x80, 0x80, 0x80, 0x00],
     },
-    // the count of types, and with it the size of the section
+    // The count of types, and with it the size of the section
     Longer {
         from: 9,
         to: 11,
         by: &[0x07, 0x81, 0x00],
     },
-    // the count of functions, and with it the size of the section
+    // The count of functions, and with it the size of the section
     Longer {
         from: 17,
         to: 19,
         by: &[0x03, 0x81, 0x00],
     },
-    // the index of an export, and with it the size of the section
+    // The index of an export, and with it the size of the section
     Longer {
         from: 21,
         to: 27,
@@ -70,7 +70,7 @@ const LONGER: [Longer; 5] = [
     },
 ];
 
-/// `IDENTITY` with this number.
+/// Returns `IDENTITY` with this longer encoding.
 fn with_longer(alloc: Global, longer: &Longer) -> Result<Vec<u8>, AllocError> {
     let mut wasm = Vec::new(alloc);
     for (place, byte) in IDENTITY.iter().enumerate() {

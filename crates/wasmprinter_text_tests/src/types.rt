@@ -1,4 +1,4 @@
-//! Types: texts of value types, composite types, subtypes and groups, their places, and many types.
+//! Tests of types: texts of value types, composite types, subtypes and groups, type indices, and many types.
 
 use crate::printing::{expect_printed, expect_section, with_section};
 use std::alloc::{AllocError, Global};
@@ -6,7 +6,7 @@ use std::test::Fail;
 use wasmprinter_samples::PREAMBLE;
 use wasmprinter_samples::sections::TYPE;
 
-/// The contents of type sections, and the texts of their modules.
+/// The contents of type sections, each with the text of its module.
 const ROWS: [(&[u8], &str); 8] = [
     (
         &[0x01, 0x4e, 0x01, 0x60, 0x00, 0x00],
@@ -22,29 +22,29 @@ const ROWS: [(&[u8], &str); 8] = [
         ],
         "(module\n  (type (;0;) (sub (array i32)))\n  (type (;1;) (sub final 0 (func)))\n)\n",
     ),
-    // number types and the vector type
+    // Number types and the vector type
     (
         &[0x01, 0x60, 0x04, 0x7f, 0x7e, 0x7d, 0x7c, 0x01, 0x7b],
         "(module\n  (type (;0;) (func (param i32 i64 f32 f64) (result v128)))\n)\n",
     ),
-    // references: by an index, by a word, and in full
+    // References: by an index, by one word, and written out
     (
         &[
             0x01, 0x60, 0x04, 0x63, 0x00, 0x70, 0x64, 0x70, 0x64, 0x00, 0x01, 0x63, 0x70,
         ],
         "(module\n  (type (;0;) (func (param (ref null 0) funcref (ref func) (ref 0)) (result funcref)))\n)\n",
     ),
-    // fields of arrays
+    // Elements of arrays
     (
         &[0x02, 0x5e, 0x77, 0x01, 0x5e, 0x63, 0x00, 0x01],
         "(module\n  (type (;0;) (array (mut i16)))\n  (type (;1;) (array (mut (ref null 0))))\n)\n",
     ),
-    // more than one supertype, and a structure without fields
+    // More than one supertype, and a structure without fields
     (
         &[0x01, 0x50, 0x02, 0x03, 0x04, 0x5f, 0x00],
         "(module\n  (type (;0;) (sub 3 4 (struct)))\n)\n",
     ),
-    // a group without types
+    // A group without types
     (&[0x01, 0x4e, 0x00], "(module\n  (rec)\n)\n"),
 ];
 
@@ -56,7 +56,7 @@ fn prints_each_type(rt: HostRuntime) -> Result<(), Fail> {
     Ok(())
 }
 
-/// References to each abstract heap type: those that may be null as parameters, the others as results.
+/// References to each abstract heap type: nullable ones as parameters, the others as results.
 const ABSTRACT: [u8; 40] = [
     0x01, 0x60, 0x0c, // parameters
     0x69, 0x6a, 0x6b, 0x6c, 0x6d, 0x6e, 0x6f, 0x70, 0x71, 0x72, 0x73, 0x74, // each by its word
@@ -100,7 +100,7 @@ fn numbers_types_over_all_groups(rt: HostRuntime) -> Result<(), Fail> {
     )
 }
 
-/// A function whose locals are references.
+/// A module with a function whose locals are references.
 const LOCALS: [u8; 29] = [
     0x00, 0x61, 0x73, 0x6d, 0x01, 0x00, 0x00, 0x00, // preamble
     0x01, 0x04, 0x01, 0x60, 0x00, 0x00, // types
@@ -123,10 +123,10 @@ fn prints_locals_that_are_references(rt: HostRuntime) -> Result<(), Fail> {
     )
 }
 
-/// A module with a thousand types of functions without parameters and results.
+/// Returns a module with a thousand types of functions without parameters and results.
 fn with_a_thousand_types(alloc: Global) -> Result<Vec<u8>, AllocError> {
     let mut wasm = Vec::from_slice(alloc, &PREAMBLE)?;
-    // 3,002 bytes, of which two are the count
+    // 3,002 bytes, two of which are the count
     wasm.extend_from_slice(&[0x01, 0xba, 0x17, 0xe8, 0x07])?;
     for _ in 0..1000 {
         wasm.extend_from_slice(&[0x60, 0x00, 0x00])?;
@@ -134,7 +134,7 @@ fn with_a_thousand_types(alloc: Global) -> Result<Vec<u8>, AllocError> {
     Ok(wasm)
 }
 
-/// The text of that module.
+/// Returns the text of that module.
 fn text_of_a_thousand_types(alloc: Global) -> Result<String, AllocError> {
     let mut text = String::from_str(alloc, "(module\n")?;
     for number in 0..1000 {

@@ -1,4 +1,5 @@
-//! Custom sections: their names and bytes, what is at fault in one, and the names of a module. What is expected is typed by hand.
+//! Tests of custom sections: their names and bytes, errors in them, and the names of a module. All expected values
+//! are typed by hand.
 
 use crate::modules::{CODE, FUNCTIONS, TYPES, fault_place, is_accepted, module};
 use std::alloc::{AllocError, Global};
@@ -7,22 +8,22 @@ use wasmprinter_error::Error;
 use wasmprinter_names::{Names, Space};
 use wasmprinter_wasm::{CustomEntry, Fields, decode};
 
-/// A name section that calls the module `m` and function 0 `a`.
+/// A name section with the names `m` for the module and `a` for function 0.
 const FIRST_NAMES: &[u8] = b"\x00\x0f\x04name\x00\x02\x01m\x01\x04\x01\x00\x01a";
 
-/// A name section that calls function 0 `b` and function 1 `a`.
+/// A name section with the names `b` for function 0 and `a` for function 1.
 const SECOND_NAMES: &[u8] = b"\x00\x0e\x04name\x01\x07\x02\x00\x01b\x01\x01a";
 
-/// What the first name section holds, in a custom section called `names`.
+/// The data of the first name section, in a custom section named `names`.
 const OTHER_NAMES: &[u8] = b"\x00\x10\x05names\x00\x02\x01m\x01\x04\x01\x00\x01a";
 
 /// A name section without names.
 const NO_NAMES: &[u8] = b"\x00\x05\x04name";
 
-/// A name section whose only subsection, the names of functions, is cut behind the first.
+/// A name section whose only subsection, with function names, is truncated after the first name.
 const CUT_NAMES: &[u8] = b"\x00\x0e\x04name\x01\x07\x02\x00\x01c\x01\x05d";
 
-/// A module with one function, and name sections among its sections.
+/// Returns a module with one function, and with these sections at three places among its own.
 fn with_names(alloc: Global, [before, amid, behind]: [&[u8]; 3]) -> Result<Vec<u8>, AllocError> {
     module(alloc, &[before, &TYPES, &FUNCTIONS, amid, &CODE, behind])
 }
@@ -30,10 +31,10 @@ fn with_names(alloc: Global, [before, amid, behind]: [&[u8]; 3]) -> Result<Vec<u
 /// No section.
 const NONE: &[u8] = &[];
 
-/// Sections at three places, in front of all others, among them and behind all.
+/// Sections at three places: before all others, among them, and after them.
 type Places = [&'static [u8]; 3];
 
-/// Name sections with the places of their contents.
+/// Name sections, each list with the places of their contents.
 const PLACED: &[(Places, &[u64]); 8] = &[
     ([NONE, NONE, NONE], &[]),
     ([FIRST_NAMES, NONE, NONE], &[0x0a]),
@@ -45,7 +46,7 @@ const PLACED: &[(Places, &[u64]); 8] = &[
     ([NO_NAMES, NO_NAMES, NO_NAMES], &[0x0a, 0x1b, 0x28]),
 ];
 
-/// Whether custom sections are name sections with contents at these places.
+/// Reports whether the custom sections are name sections with contents at these places.
 fn are_name_sections_at(customs: &[CustomEntry], places: &[u64]) -> bool {
     for (custom, place) in customs.iter().zip(places) {
         let section = &custom.section;
@@ -56,7 +57,8 @@ fn are_name_sections_at(customs: &[CustomEntry], places: &[u64]) -> bool {
     customs.len() == places.len()
 }
 
-/// Whether the custom sections of a module, whose bytes these are, are name sections with contents at these places.
+/// Reports whether the custom sections of the module that these bytes encode are name sections with contents at
+/// these places.
 fn has_name_sections_at(alloc: Global, bytes: &[u8], places: &[u64]) -> Result<bool, Error> {
     let decoded = decode(alloc, bytes)?;
     Ok(are_name_sections_at(decoded.customs(), places))
@@ -71,7 +73,8 @@ fn name_sections_may_stand_anywhere(rt: HostRuntime) -> Result<(), Fail> {
     Ok(())
 }
 
-/// Whether a custom section holds these bytes, at this place, and a cursor over it the same.
+/// Reports whether a custom section has this data at this place, and a cursor over its data has the same place and
+/// length.
 fn holds(custom: &CustomEntry, place: u64, bytes: &[u8]) -> bool {
     let cursor = custom.section.cursor();
     custom.section.bytes_place() == place
@@ -80,7 +83,8 @@ fn holds(custom: &CustomEntry, place: u64, bytes: &[u8]) -> bool {
         && cursor.len() == bytes.len()
 }
 
-/// Whether there are two custom sections, one without bytes at 0x0f, and one with the first name section's at 0x20.
+/// Reports whether there are exactly two custom sections: one without data at 0x0f, and one with the data of
+/// `FIRST_NAMES` at 0x20.
 fn hold_names_behind_none(customs: &[CustomEntry]) -> bool {
     match customs {
         [first, second] => {
@@ -109,7 +113,7 @@ fn two_name_sections_may_stand_together(rt: HostRuntime) -> Result<(), Fail> {
     Ok(())
 }
 
-/// Custom sections that are no name sections, with their names and the bytes behind these.
+/// Custom sections that are not name sections, each with its name and its data.
 const OTHERS: &[(&[u8], &str, &[u8]); 6] = &[
     (b"\x00\x06\x05names", "names", b""),
     (b"\x00\x04\x03nam", "nam", b""),
@@ -119,13 +123,14 @@ const OTHERS: &[(&[u8], &str, &[u8]); 6] = &[
     (b"\x00\x0b\x09producers\x00", "producers", b"\x00"),
 ];
 
-/// Whether a custom section is no name section, but has this name and these bytes behind it.
+/// Reports whether a custom section has this name and this data, and is not a name section.
 fn is_other(custom: &CustomEntry, name: &str, content: &[u8]) -> bool {
     let section = &custom.section;
     section.name() == name && section.bytes() == content && !section.is_name_section()
 }
 
-/// Whether there are two custom sections, both of which are no name sections, but have this name and these bytes behind it.
+/// Reports whether there are exactly two custom sections, both with this name and this data, and neither is a name
+/// section.
 fn are_others(customs: &[CustomEntry], name: &str, content: &[u8]) -> bool {
     match customs {
         [first, second] => is_other(first, name, content) && is_other(second, name, content),
@@ -133,7 +138,7 @@ fn are_others(customs: &[CustomEntry], name: &str, content: &[u8]) -> bool {
     }
 }
 
-/// Whether a module, whose bytes these are, has two such custom sections.
+/// Reports whether the module that these bytes encode has two such custom sections.
 fn has_others(alloc: Global, bytes: &[u8], name: &str, content: &[u8]) -> Result<bool, Error> {
     let decoded = decode(alloc, bytes)?;
     Ok(are_others(decoded.customs(), name, content))
@@ -148,9 +153,10 @@ fn custom_sections_may_have_any_name(rt: HostRuntime) -> Result<(), Fail> {
     Ok(())
 }
 
-/// Sections that are refused in front of all others and behind them; their faults lie so many bytes behind their first.
+/// Custom sections that are refused before all other sections and after them, each with the offset of the error
+/// from the first byte of the section.
 const REFUSED: [(&[u8], u64); 6] = [
-    // no name, names that are cut by the section's end, ones that aren't UTF-8, one with a length of six bytes
+    // No name, names that exceed the section, names that are not UTF-8, and a name whose length has six bytes
     (b"\x00\x00", 2),
     (b"\x00\x04\x04nam", 3),
     (b"\x00\x04\x09pro", 3),
@@ -170,7 +176,7 @@ fn custom_sections_without_a_whole_name_are_refused(rt: HostRuntime) -> Result<(
     Ok(())
 }
 
-/// Name sections, and the names of the module and of functions 0 and 1 by them.
+/// Name sections, with the names that they give to the module and to functions 0 and 1.
 type Named = (Places, Option<&'static str>, [Option<&'static str>; 2]);
 
 const NAMED: [Named; 8] = [
@@ -179,7 +185,7 @@ const NAMED: [Named; 8] = [
     ([OTHER_NAMES, NONE, NONE], None, [None, None]),
     ([FIRST_NAMES, NONE, NONE], Some("m"), [Some("a"), None]),
     ([NONE, NONE, SECOND_NAMES], None, [Some("b"), Some("a")]),
-    // a name that was given before is marked, and a later name of a function counts
+    // A name that was given before is replaced, and the last name of a function counts
     (
         [FIRST_NAMES, NONE, SECOND_NAMES],
         Some("m"),
@@ -190,7 +196,7 @@ const NAMED: [Named; 8] = [
         Some("m"),
         [Some("#func0 a"), Some("a")],
     ),
-    // the section behind a fault counts too
+    // A section after one with an error counts too
     (
         [CUT_NAMES, NO_NAMES, FIRST_NAMES],
         Some("m"),
@@ -198,7 +204,7 @@ const NAMED: [Named; 8] = [
     ),
 ];
 
-/// Whether the module and functions 0 and 1 have these names.
+/// Reports whether the module and functions 0 and 1 have these names.
 fn are_given(names: &Names, of_module: Option<&str>, of_functions: [Option<&str>; 2]) -> bool {
     let [first, second] = of_functions;
     names.module() == of_module

@@ -1,14 +1,16 @@
-//! Where the bytes of a section are at fault: the place that is told is that of the byte, number or entry that the binary format doesn't
-//! allow there, or the end of the section where something is missing. The places are counted by hand.
+//! Tests of the places of errors in sections. The place is that of the first byte, number or entry that the binary
+//! format does not allow, or the end of the section if something is missing. The places are counted by hand.
 
 use crate::modules::{fault_place, module};
 use std::alloc::{AllocError, Global};
 use std::test::Fail;
 
-/// Sections that stand alone in a module, with the place of their fault. The id stands at 8, the size at 9, the content from 10 on.
+/// Sections, each with the place of the error if it is the only section of a module. Its id is at 8, its size at
+/// 9, and its content starts at 10.
 type Faults = &'static [(&'static [u8], u64)];
 
-/// Custom sections with a name that isn't UTF-8 and with one that is cut, and sections with the first id that is free.
+/// Custom sections with a name that is not UTF-8 and with one that is truncated, and sections with the lowest
+/// unknown id.
 const UNKNOWN: Faults = &[
     (&[0x00, 0x02, 0x01, 0xff], 0x0a),
     (&[0x00, 0x02, 0x02, 0x6e], 0x0b),
@@ -16,18 +18,18 @@ const UNKNOWN: Faults = &[
     (&[0x0e, 0x00], 0x08),
 ];
 
-/// Entries of types, imports, functions and tags, and the start function.
+/// Types, imports, functions, tags, and the start function.
 const DECLARATIONS: Faults = &[
-    // types: an unknown form, a group in a group, another storage type, another mutability
+    // Types: an unknown form, a nested group, an unknown storage type, an unknown mutability
     (&[0x01, 0x02, 0x01, 0x5d], 0x0b),
     (&[0x01, 0x05, 0x01, 0x4e, 0x01, 0x4e, 0x00], 0x0d),
     (&[0x01, 0x04, 0x01, 0x5e, 0x79, 0x00], 0x0c),
     (&[0x01, 0x04, 0x01, 0x5e, 0x7f, 0x02], 0x0d),
-    // a parameter that is no value type, a missing type, and a byte behind the last one
+    // A parameter that is not a value type, a missing type, and a byte after the last type
     (&[0x01, 0x05, 0x01, 0x60, 0x01, 0x40, 0x00], 0x0d),
     (&[0x01, 0x01, 0x01], 0x0b),
     (&[0x01, 0x05, 0x01, 0x60, 0x00, 0x00, 0x00], 0x0e),
-    // imports: a name that isn't UTF-8, an unknown kind
+    // Imports: a name that is not UTF-8, an unknown kind
     (
         &[0x02, 0x07, 0x01, 0x01, 0xff, 0x01, 0x66, 0x00, 0x00],
         0x0b,
@@ -40,7 +42,7 @@ const DECLARATIONS: Faults = &[
         &[0x02, 0x07, 0x01, 0x01, 0x6d, 0x01, 0x66, 0x05, 0x00],
         0x0f,
     ),
-    // flags of a table and of a memory, another mutability, a tag that is no exception
+    // Unknown flags of a table and of a memory, an unknown mutability, a tag whose attribute is not 0
     (
         &[
             0x02, 0x09, 0x01, 0x01, 0x6d, 0x01, 0x66, 0x01, 0x70, 0x02, 0x01,
@@ -59,24 +61,24 @@ const DECLARATIONS: Faults = &[
         &[0x02, 0x08, 0x01, 0x01, 0x6d, 0x01, 0x66, 0x04, 0x01, 0x00],
         0x10,
     ),
-    // functions: a missing index, and the fifth byte of one of 33 bits and of one of six bytes
+    // Functions: a missing index, and the fifth byte of an index of 33 bits and of one of six bytes
     (&[0x03, 0x01, 0x01], 0x0b),
     (&[0x03, 0x06, 0x01, 0xff, 0xff, 0xff, 0xff, 0x1f], 0x0f),
     (
         &[0x03, 0x07, 0x01, 0x80, 0x80, 0x80, 0x80, 0x80, 0x00],
         0x0f,
     ),
-    // tags: one that is no exception, a missing index
+    // Tags: one whose attribute is not 0, a missing index
     (&[0x0d, 0x03, 0x01, 0x01, 0x00], 0x0b),
     (&[0x0d, 0x02, 0x01, 0x00], 0x0c),
-    // a missing start function, and a second one
+    // A missing start function, and a second one
     (&[0x08, 0x00], 0x0a),
     (&[0x08, 0x02, 0x00, 0x00], 0x0b),
 ];
 
-/// Entries of tables, memories, globals and exports.
+/// Tables, memories, globals and exports.
 const DEFINITIONS: Faults = &[
-    // tables: no reference type, other flags, another byte behind 40, an initialiser without `end`
+    // Tables: not a reference type, unknown flags, a byte after 40 that is not 00, an initialiser without `end`
     (&[0x04, 0x04, 0x01, 0x7f, 0x00, 0x01], 0x0b),
     (&[0x04, 0x04, 0x01, 0x70, 0x02, 0x01], 0x0c),
     (&[0x04, 0x05, 0x01, 0x70, 0x07, 0x01, 0x02], 0x0c),
@@ -91,18 +93,18 @@ const DEFINITIONS: Faults = &[
         0x12,
     ),
     (&[0x04, 0x01, 0x01], 0x0b),
-    // memories: other flags, a missing size, a missing greatest size, the exponent of a page
+    // Memories: unknown flags, a missing minimum, a missing maximum, the exponent of a page size
     (&[0x05, 0x03, 0x01, 0x10, 0x01], 0x0b),
     (&[0x05, 0x02, 0x01, 0x00], 0x0c),
     (&[0x05, 0x03, 0x01, 0x01, 0x01], 0x0d),
     (&[0x05, 0x04, 0x01, 0x08, 0x01, 0x40], 0x0d),
     (&[0x05, 0x04, 0x01, 0x00, 0x01, 0x02], 0x0d),
-    // globals: no value type, another mutability, an unknown operator, an initialiser without `end`
+    // Globals: not a value type, an unknown mutability, an unknown operator, an initialiser without `end`
     (&[0x06, 0x06, 0x01, 0x40, 0x00, 0x41, 0x00, 0x0b], 0x0b),
     (&[0x06, 0x06, 0x01, 0x7f, 0x02, 0x41, 0x07, 0x0b], 0x0c),
     (&[0x06, 0x05, 0x01, 0x7f, 0x00, 0xff, 0x0b], 0x0d),
     (&[0x06, 0x05, 0x01, 0x7f, 0x00, 0x41, 0x07], 0x0f),
-    // exports: a name that isn't UTF-8, a name that is cut, an unknown kind, a missing index
+    // Exports: a name that is not UTF-8, a truncated name, an unknown kind, a missing index
     (&[0x07, 0x05, 0x01, 0x01, 0xff, 0x00, 0x00], 0x0b),
     (&[0x07, 0x04, 0x01, 0x05, 0x66, 0x00], 0x0c),
     (&[0x07, 0x04, 0x01, 0x00, 0x05, 0x00], 0x0c),
@@ -111,36 +113,37 @@ const DEFINITIONS: Faults = &[
 
 /// Element segments, data segments and bodies.
 const SEGMENTS: Faults = &[
-    // element segments: other flags, another kind of items, no reference type
+    // Element segments: unknown flags, an unknown element kind, not a reference type
     (&[0x09, 0x04, 0x01, 0x08, 0x00, 0x00], 0x0b),
     (&[0x09, 0x05, 0x01, 0x88, 0x00, 0x00, 0x00], 0x0b),
     (&[0x09, 0x04, 0x01, 0x01, 0x01, 0x00], 0x0c),
     (&[0x09, 0x04, 0x01, 0x05, 0x7f, 0x00], 0x0c),
-    // a missing function, a missing expression, an offset without `end`, a byte behind the last segment
+    // A missing function, a missing expression, an offset without `end`, a byte after the last segment
     (&[0x09, 0x04, 0x01, 0x01, 0x00, 0x01], 0x0e),
     (&[0x09, 0x04, 0x01, 0x05, 0x70, 0x01], 0x0e),
     (&[0x09, 0x04, 0x01, 0x00, 0x41, 0x00], 0x0e),
     (&[0x09, 0x05, 0x01, 0x01, 0x00, 0x00, 0x00], 0x0e),
-    // a missing data count, and a second one
+    // A missing data count, and a second one
     (&[0x0c, 0x00], 0x0a),
     (&[0x0c, 0x02, 0x00, 0x00], 0x0b),
-    // data segments: other flags, in one byte and in two; a missing memory, an offset without `end`, bytes that are cut
+    // Data segments: unknown flags, in one byte and in two; a missing memory, an offset without `end`, truncated
+    // bytes
     (&[0x0b, 0x03, 0x01, 0x03, 0x00], 0x0b),
     (&[0x0b, 0x04, 0x01, 0x83, 0x00, 0x00], 0x0b),
     (&[0x0b, 0x02, 0x01, 0x02], 0x0c),
     (&[0x0b, 0x04, 0x01, 0x00, 0x41, 0x00], 0x0e),
     (&[0x0b, 0x05, 0x01, 0x01, 0x05, 0xaa, 0xbb], 0x0d),
-    // bodies: one that is cut, locals of no value type, an unknown operator, an `else` by itself
+    // Bodies: a truncated one, locals that are not of a value type, an unknown operator, an `else` outside any `if`
     (&[0x0a, 0x03, 0x01, 0x05, 0x00], 0x0c),
     (&[0x0a, 0x06, 0x01, 0x04, 0x01, 0x01, 0x40, 0x0b], 0x0e),
     (&[0x0a, 0x05, 0x01, 0x03, 0x00, 0xff, 0x0b], 0x0d),
     (&[0x0a, 0x05, 0x01, 0x03, 0x00, 0x05, 0x0b], 0x0d),
-    // a body without `end`, and one with bytes behind it
+    // A body without `end`, and one with bytes after it
     (&[0x0a, 0x04, 0x01, 0x02, 0x00, 0x01], 0x0e),
     (&[0x0a, 0x05, 0x01, 0x03, 0x00, 0x0b, 0x0b], 0x0e),
 ];
 
-/// Whether the first fault that is told in a module with this section alone is this one.
+/// Reports whether a module with only this section is refused with this place.
 fn is_at_fault(alloc: Global, section: &[u8], wanted: u64) -> Result<bool, AllocError> {
     let bytes = module(alloc, &[section])?;
     Ok(fault_place(alloc, &bytes) == Some(wanted))

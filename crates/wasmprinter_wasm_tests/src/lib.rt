@@ -1,5 +1,5 @@
-//! Tests of the decoder: modules that are decoded, and what they hold; modules that are refused, and where they are at fault. What is
-//! expected is typed by hand.
+//! Tests of the decoder: the contents of decoded modules, and the places of errors in refused ones. All expected
+//! values are typed by hand.
 #![tactic(auto)]
 
 #[cfg(test)]

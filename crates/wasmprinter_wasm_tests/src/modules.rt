@@ -1,4 +1,4 @@
-//! Modules that are decoded and modules that are refused. What is expected is typed by hand.
+//! Tests of modules that are decoded or refused. All expected values are typed by hand.
 
 use std::alloc::{AllocError, Global};
 use std::test::Fail;
@@ -11,7 +11,7 @@ use wasmprinter_wasm::{
     Export, ExternKind, Fields, Limits, Memory, MemoryType, Module, Tag, TypeGroup, decode,
 };
 
-/// A type section with the one type of no parameters and no results.
+/// A type section with one function type, without parameters and results.
 pub(crate) const TYPES: [u8; 6] = [0x01, 0x04, 0x01, 0x60, 0x00, 0x00];
 
 /// A function section with one function.
@@ -20,7 +20,7 @@ pub(crate) const FUNCTIONS: [u8; 4] = [0x03, 0x02, 0x01, 0x00];
 /// A code section with one body without locals and operators.
 pub(crate) const CODE: [u8; 6] = [0x0a, 0x04, 0x01, 0x02, 0x00, 0x0b];
 
-/// A preamble, and the sections behind it.
+/// Returns the preamble, followed by these sections.
 pub(crate) fn module(alloc: Global, sections: &[&[u8]]) -> Result<Vec<u8>, AllocError> {
     let mut bytes = Vec::new(alloc);
     bytes.extend_from_slice(&PREAMBLE)?;
@@ -30,27 +30,27 @@ pub(crate) fn module(alloc: Global, sections: &[&[u8]]) -> Result<Vec<u8>, Alloc
     Ok(bytes)
 }
 
-/// Whether the bytes are accepted.
+/// Reports whether the bytes are accepted.
 pub(crate) fn is_accepted(alloc: Global, bytes: &[u8]) -> bool {
     decode(alloc, bytes).is_ok()
 }
 
-/// Whether the bytes are refused as malformed.
+/// Reports whether the bytes are refused as malformed.
 pub(crate) fn is_malformed(alloc: Global, bytes: &[u8]) -> bool {
     matches!(decode(alloc, bytes), Err(Error::Malformed { .. }))
 }
 
-/// Whether these sections make up a module that is refused as malformed.
+/// Reports whether a module of these sections is refused as malformed.
 pub(crate) fn are_malformed(alloc: Global, sections: &[&[u8]]) -> Result<bool, AllocError> {
     Ok(is_malformed(alloc, &module(alloc, sections)?))
 }
 
-/// Whether these sections make up a module that is accepted.
+/// Reports whether a module of these sections is accepted.
 pub(crate) fn are_accepted(alloc: Global, sections: &[&[u8]]) -> Result<bool, AllocError> {
     Ok(is_accepted(alloc, &module(alloc, sections)?))
 }
 
-/// The place of the fault, if the bytes are malformed.
+/// Returns the place of the error, or `None` if the bytes are not refused as malformed.
 pub(crate) fn fault_place(alloc: Global, bytes: &[u8]) -> Option<u64> {
     match decode(alloc, bytes) {
         Err(Error::Malformed { place }) => Some(place),
@@ -118,22 +118,22 @@ fn functions_are_limited(rt: HostRuntime) -> Result<(), Fail> {
     Ok(())
 }
 
-/// Sections of modules that are malformed.
+/// The sections of malformed modules.
 const MALFORMED: [&[&[u8]]; 9] = [
-    // two functions with one body, types twice, types behind functions
+    // Two functions but one body, types twice, types after functions
     &[&TYPES, &[0x03, 0x03, 0x02, 0x00, 0x00], &CODE],
     &[&TYPES, &TYPES],
     &[&FUNCTIONS, &TYPES, &CODE],
-    // a body with a byte behind its end, and one without end
+    // A body with a byte after its `end`, and one without `end`
     &[
         &TYPES,
         &FUNCTIONS,
         &[0x0a, 0x05, 0x01, 0x03, 0x00, 0x0b, 0x0b],
     ],
     &[&TYPES, &FUNCTIONS, &[0x0a, 0x04, 0x01, 0x02, 0x00, 0x1a]],
-    // a section that is longer than the module
+    // A section that is longer than the module
     &[&[0x01, 0x7f, 0x01, 0x60]],
-    // a name that isn't UTF-8, more types than bytes, an unknown section
+    // A name that is not UTF-8, more types than bytes, an unknown section
     &[
         &TYPES,
         &FUNCTIONS,
@@ -154,12 +154,12 @@ fn malformed_modules_are_refused(rt: HostRuntime) -> Result<(), Fail> {
     Ok(())
 }
 
-/// A module with one function, whose code section this is.
+/// Returns a module with one function and this code section.
 fn with_code(alloc: Global, code: &[u8]) -> Result<Vec<u8>, AllocError> {
     module(alloc, &[&TYPES, &FUNCTIONS, code])
 }
 
-/// Code sections with one body, and whether they are accepted.
+/// Code sections with one body, each with whether it is accepted. A comment lists the operators.
 const NESTINGS: [(&[u8], bool); 4] = [
     // block end end
     (
@@ -194,7 +194,7 @@ fn bodies_end_at_the_end_that_closes_them(rt: HostRuntime) -> Result<(), Fail> {
 
 #[test]
 fn blocks_nest_deep(rt: HostRuntime) -> Result<(), Fail> {
-    // a section of 300006 bytes with one body of 300002
+    // A section of 300,006 bytes with one body of 300,002 bytes.
     let head = [0x0a, 0xe6, 0xa7, 0x12, 0x01, 0xe2, 0xa7, 0x12, 0x00];
     let mut bytes = with_code(rt.alloc(), &head)?;
     for _ in 0..100_000 {
@@ -219,7 +219,7 @@ fn components_are_refused(rt: HostRuntime) {
     assert!(rt; matches!(decode(rt.alloc(), &component), Err(Error::Component)));
 }
 
-/// Whether the operators to be read have these places and words, and none follows.
+/// Reports whether the reader returns exactly the operators with these places and words.
 fn are_operators(reader: &mut OperatorsReader, wanted: &[(u64, &str)]) -> bool {
     for (wanted_place, word) in wanted {
         match reader.next() {
@@ -231,7 +231,7 @@ fn are_operators(reader: &mut OperatorsReader, wanted: &[(u64, &str)]) -> bool {
     reader.next().is_none()
 }
 
-/// Whether a module has one function, and its operators have these places and words.
+/// Reports whether a module has exactly one function, and its operators have these places and words.
 fn has_operators(decoded: &Module, wanted: &[(u64, &str)]) -> bool {
     let Some(body) = decoded.body(0) else {
         return false;
@@ -258,9 +258,10 @@ fn operators_have_their_places(rt: HostRuntime) -> Result<(), Fail> {
     Ok(())
 }
 
-/// Type sections, and whether they are accepted.
+/// Type sections, each with whether it is accepted.
 const TYPE_SECTIONS: [(&[u8], bool); 9] = [
-    // a group of one, a structure, an open array, a function type below another, an empty group
+    // A group of one type, a structure type, an array type that is not final, a function type with a supertype, an
+    // empty group
     (&[0x01, 0x06, 0x01, 0x4e, 0x01, 0x60, 0x00, 0x00], true),
     (
         &[0x01, 0x07, 0x01, 0x5f, 0x02, 0x78, 0x01, 0x7f, 0x00],
@@ -272,7 +273,7 @@ const TYPE_SECTIONS: [(&[u8], bool); 9] = [
         true,
     ),
     (&[0x01, 0x03, 0x01, 0x4e, 0x00], true),
-    // a group in a group, another storage type, another mutability, another type
+    // A nested group, an unknown storage type, an unknown mutability, an unknown form of types
     (&[0x01, 0x05, 0x01, 0x4e, 0x01, 0x4e, 0x00], false),
     (&[0x01, 0x04, 0x01, 0x5e, 0x79, 0x00], false),
     (&[0x01, 0x04, 0x01, 0x5e, 0x7f, 0x02], false),
@@ -290,7 +291,8 @@ fn type_sections_hold_groups(rt: HostRuntime) -> Result<(), Fail> {
     Ok(())
 }
 
-/// Whether groups of types have these places, are written so, and have so many types.
+/// Reports whether the groups of types have these places, are written as groups or not, and have these numbers of
+/// types.
 fn are_groups(groups: &[TypeGroup], wanted: &[(u64, bool, u32)]) -> bool {
     for (group, (place, is_written, len)) in groups.iter().zip(wanted) {
         if group.place() != *place
@@ -303,13 +305,13 @@ fn are_groups(groups: &[TypeGroup], wanted: &[(u64, bool, u32)]) -> bool {
     groups.len() == wanted.len()
 }
 
-/// Whether a function type has one parameter, of type f32, and no results.
+/// Reports whether a function type has one parameter, of type f32, and no results.
 fn takes_a_float(signature: &FuncType) -> bool {
     let mut params = signature.params();
     params.next() == Some(ValType::F32) && params.next().is_none() && signature.results().len() == 0
 }
 
-/// Whether types 1 and 2 alone of four are function types, the first of them takes a float, and there is no type 4.
+/// Reports whether, of types 0 to 4, exactly types 1 and 2 are function types, and type 1 has one f32 parameter.
 fn has_signatures(decoded: &Module) -> bool {
     decoded.signature(0).is_none()
         && decoded
@@ -345,13 +347,13 @@ pub(crate) const MEMORIES: [u8; 5] = [0x05, 0x03, 0x01, 0x00, 0x01];
 /// A tag section with one tag.
 pub(crate) const TAGS: [u8; 5] = [0x0d, 0x03, 0x01, 0x00, 0x00];
 
-/// An export section that gives the first function out without a name.
+/// An export section that exports function 0 under the empty name.
 pub(crate) const EXPORTS: [u8; 6] = [0x07, 0x04, 0x01, 0x00, 0x00, 0x00];
 
-/// A start section with the first function.
+/// A start section with function 0.
 pub(crate) const START: [u8; 3] = [0x08, 0x01, 0x00];
 
-/// Sections in order, and sections that are not: one is too early, or comes again.
+/// Sections, each list with whether it is accepted. In the refused lists, a section is too early or occurs twice.
 const ORDERS: [(&[&[u8]], bool); 13] = [
     (
         &[
@@ -384,7 +386,8 @@ fn sections_of_a_kind_stand_in_their_place_once(rt: HostRuntime) -> Result<(), F
     Ok(())
 }
 
-/// Sections that may stand alone: without items, or with lengthened numbers.
+/// Sections that are accepted as the only section of a module: without items, or with longer encodings of numbers
+/// than needed.
 const ACCEPTED_SECTIONS: &[&[u8]; 8] = &[
     &[0x05, 0x01, 0x00],
     &[0x07, 0x01, 0x00],
@@ -396,39 +399,39 @@ const ACCEPTED_SECTIONS: &[&[u8]; 8] = &[
     &[0x08, 0x05, 0xff, 0xff, 0xff, 0xff, 0x0f],
 ];
 
-/// Sections that are refused.
+/// Sections that are refused as the only section of a module.
 const REFUSED_SECTIONS: &[&[u8]; 43] = &[
-    // no count
+    // No count
     &[0x05, 0x00],
     &[0x07, 0x00],
     &[0x0d, 0x00],
-    // a count that no item follows
+    // A count that no item follows
     &[0x05, 0x01, 0x01],
     &[0x07, 0x01, 0x01],
     &[0x0d, 0x01, 0x01],
     &[0x05, 0x05, 0xff, 0xff, 0xff, 0xff, 0x0f],
     &[0x07, 0x05, 0xff, 0xff, 0xff, 0xff, 0x0f],
     &[0x0d, 0x05, 0xff, 0xff, 0xff, 0xff, 0x0f],
-    // one item more or less than the count says
+    // One item more or fewer than the count
     &[0x05, 0x03, 0x00, 0x00, 0x01],
     &[0x05, 0x03, 0x02, 0x00, 0x01],
     &[0x0d, 0x03, 0x00, 0x00, 0x00],
     &[0x0d, 0x03, 0x02, 0x00, 0x00],
-    // a tag behind another byte, behind 00 in two bytes, and without an index
+    // A tag with an attribute other than 00, with 00 in two bytes, and without an index
     &[0x0d, 0x03, 0x01, 0x01, 0x00],
     &[0x0d, 0x04, 0x01, 0x80, 0x00, 0x00],
     &[0x0d, 0x02, 0x01, 0x00],
-    // an export of a kind that there is not, of one in two bytes, and without an index
+    // An export of an unknown kind, with a kind in two bytes, and without an index
     &[0x07, 0x04, 0x01, 0x00, 0x05, 0x00],
     &[0x07, 0x05, 0x01, 0x00, 0x84, 0x00, 0x00],
     &[0x07, 0x03, 0x01, 0x00, 0x04],
-    // no start function, two, one that doesn't end, and ones of six bytes and of 33 bits
+    // No start function, two, a truncated index, and indices of six bytes and of 33 bits
     &[0x08, 0x00],
     &[0x08, 0x02, 0x00, 0x00],
     &[0x08, 0x01, 0x80],
     &[0x08, 0x06, 0x80, 0x80, 0x80, 0x80, 0x80, 0x00],
     &[0x08, 0x05, 0xff, 0xff, 0xff, 0xff, 0x1f],
-    // a memory with flags that mean nothing, and with the flag 00 in two bytes
+    // A memory with unknown flags, and with the flags 00 in two bytes
     &[0x05, 0x03, 0x01, 0x10, 0x01],
     &[0x05, 0x04, 0x01, 0x11, 0x01, 0x02],
     &[0x05, 0x04, 0x01, 0x18, 0x01, 0x03],
@@ -438,19 +441,20 @@ const REFUSED_SECTIONS: &[&[u8]; 43] = &[
     &[0x05, 0x03, 0x01, 0x80, 0x01],
     &[0x05, 0x05, 0x01, 0xff, 0x01, 0x02, 0x03],
     &[0x05, 0x04, 0x01, 0x80, 0x00, 0x01],
-    // a memory without flags, a size or its greatest size, and with one that no flag tells of
+    // A memory without flags, without a minimum, without the maximum that its flags announce, and with a maximum that
+    // they do not
     &[0x05, 0x01, 0x01],
     &[0x05, 0x02, 0x01, 0x00],
     &[0x05, 0x03, 0x01, 0x01, 0x01],
     &[0x05, 0x04, 0x01, 0x00, 0x01, 0x02],
-    // a memory with a size of 65 bits, and with one in eleven bytes
+    // A memory with a minimum of 65 bits, and with one in eleven bytes
     &[
         0x05, 0x0c, 0x01, 0x00, 0xff, 0xff, 0xff, 0xff, 0xff, 0xff, 0xff, 0xff, 0xff, 0x02,
     ],
     &[
         0x05, 0x0d, 0x01, 0x00, 0x86, 0x80, 0x80, 0x80, 0x80, 0x80, 0x80, 0x80, 0x80, 0x80, 0x00,
     ],
-    // a memory with pages without an exponent, with one of 64, of 128, and of 16 in six bytes
+    // A memory whose page size has no exponent, the exponent 64, 128, or 16 in six bytes
     &[0x05, 0x03, 0x01, 0x08, 0x01],
     &[0x05, 0x04, 0x01, 0x08, 0x01, 0x40],
     &[0x05, 0x05, 0x01, 0x08, 0x01, 0x80, 0x01],
@@ -470,13 +474,13 @@ fn sections_hold_what_they_say(rt: HostRuntime) -> Result<(), Fail> {
     Ok(())
 }
 
-/// A module with one memory, the bytes of whose type these are.
+/// Returns a module with one memory, whose type these bytes encode.
 fn with_memory(alloc: Global, memory_type: &[u8]) -> Result<Vec<u8>, AllocError> {
     let size = u8::try_from(memory_type.len() + 1).unwrap_or(0);
     module(alloc, &[&[0x05, size, 0x01], memory_type])
 }
 
-/// The type of the only memory of a module.
+/// Returns the type of the only memory of a module.
 fn only_memory(alloc: Global, bytes: &[u8]) -> Option<MemoryType> {
     let decoded = decode(alloc, bytes).ok()?;
     match decoded.memories() {
@@ -485,8 +489,8 @@ fn only_memory(alloc: Global, bytes: &[u8]) -> Option<MemoryType> {
     }
 }
 
-/// Types of memories with a least size of 1: whether addresses have 64 bits, whether the memory is
-/// shared, its greatest size, and the exponent of the size of a page.
+/// Types of memories with a minimum of 1, each with whether addresses have 64 bits, whether the memory is shared,
+/// its maximum, and the exponent of its page size.
 const MEMORY_TYPES: [(&[u8], bool, bool, Option<u64>, Option<u32>); 22] = [
     (&[0x00, 0x01], false, false, None, None),
     (&[0x01, 0x01, 0x02], false, false, Some(2), None),
@@ -504,7 +508,7 @@ const MEMORY_TYPES: [(&[u8], bool, bool, Option<u64>, Option<u32>); 22] = [
     (&[0x0d, 0x01, 0x02, 0x03], true, false, Some(2), Some(3)),
     (&[0x0e, 0x01, 0x03], true, true, None, Some(3)),
     (&[0x0f, 0x01, 0x02, 0x03], true, true, Some(2), Some(3)),
-    // the greatest size of all, which takes ten bytes, and 6 in ten bytes
+    // The greatest maximum, which has ten bytes, and a maximum of 6 in ten bytes
     (
         &[
             0x01, 0x01, 0xff, 0xff, 0xff, 0xff, 0xff, 0xff, 0xff, 0xff, 0xff, 0x01,
@@ -523,7 +527,7 @@ const MEMORY_TYPES: [(&[u8], bool, bool, Option<u64>, Option<u32>); 22] = [
         Some(6),
         None,
     ),
-    // pages of one byte, of the usual size, and of the greatest, also in five bytes
+    // Pages of one byte, of the default size, and of the greatest size, also in five bytes
     (&[0x08, 0x01, 0x00], false, false, None, Some(0)),
     (&[0x08, 0x01, 0x10], false, false, None, Some(16)),
     (&[0x08, 0x01, 0x3f], false, false, None, Some(63)),
@@ -551,7 +555,7 @@ fn flags_say_what_a_memory_is(rt: HostRuntime) -> Result<(), Fail> {
     Ok(())
 }
 
-/// Whether memories have these places and least sizes.
+/// Reports whether the memories have these places and minimums.
 fn are_memories(memories: &[Memory], wanted: &[(u64, u64)]) -> bool {
     for (memory, (place, min)) in memories.iter().zip(wanted) {
         if memory.place() != *place || memory.ty().limits.min != *min {
@@ -570,7 +574,7 @@ fn memories_have_their_places(rt: HostRuntime) -> Result<(), Fail> {
     Ok(())
 }
 
-/// Whether tags have these places and types.
+/// Reports whether the tags have these places and types.
 fn are_tags(tags: &[Tag], wanted: &[(u64, u32)]) -> bool {
     for (tag, (place, type_index)) in tags.iter().zip(wanted) {
         if tag.place() != *place || tag.type_index() != *type_index {
@@ -589,7 +593,7 @@ fn tags_have_types_and_places(rt: HostRuntime) -> Result<(), Fail> {
     Ok(())
 }
 
-/// An export: its place, its name, of which kind of thing, and with which index.
+/// An export: its place and name, and the kind and index of the exported item.
 type Exported = (u64, &'static str, ExternKind, u32);
 
 /// One export of each kind.
@@ -601,7 +605,7 @@ const EXPORTED: [Exported; 5] = [
     (0x1b, "e", ExternKind::Tag, 9),
 ];
 
-/// Whether exports are these.
+/// Reports whether these are the exports.
 fn are_exports(exports: &[Export], wanted: &[Exported]) -> bool {
     for (export, (place, name, kind, index)) in exports.iter().zip(wanted) {
         if export.place() != *place
@@ -627,7 +631,8 @@ fn exports_have_kinds(rt: HostRuntime) -> Result<(), Fail> {
     Ok(())
 }
 
-/// The place of the start function and its index, where a module, whose bytes these are, has one.
+/// Returns the place and the index of the start function, or `None` if the module that these bytes encode has
+/// none.
 fn start_of(alloc: Global, bytes: &[u8]) -> Result<Option<(u64, u32)>, Error> {
     let decoded = decode(alloc, bytes)?;
     Ok(match decoded.start() {

@@ -1,4 +1,5 @@
-//! What custom sections stand behind. What is expected is typed by hand.
+//! Tests of the places of custom sections: each is the last section before it with a count above 0. The expected
+//! places are typed by hand.
 
 use crate::modules::{CODE, EXPORTS, FUNCTIONS, MEMORIES, START, TAGS, TYPES, module};
 use std::alloc::Global;
@@ -6,25 +7,25 @@ use std::test::Fail;
 use wasmprinter_error::Error;
 use wasmprinter_wasm::{CustomEntry, Fields, SectionKind, decode};
 
-/// A custom section called `n`.
+/// A custom section named `n`.
 const NOTE: &[u8] = b"\x00\x02\x01n";
 
-/// An import section with one function, whose names have no letters.
+/// An import section with one function, whose names are empty.
 const IMPORTS: [u8; 7] = [0x02, 0x05, 0x01, 0x00, 0x00, 0x00, 0x00];
 
 /// A table section with one table.
 const TABLES: [u8; 6] = [0x04, 0x04, 0x01, 0x70, 0x00, 0x01];
 
-/// A global section with one global variable.
+/// A global section with one global.
 const GLOBALS: [u8; 8] = [0x06, 0x06, 0x01, 0x7f, 0x00, 0x41, 0x00, 0x0b];
 
-/// An element section with one segment, which has no items.
+/// An element section with one segment without items.
 const ELEMENTS: [u8; 6] = [0x09, 0x04, 0x01, 0x01, 0x00, 0x00];
 
-/// A data count of one.
+/// A data count section with the count 1.
 const DATA_COUNT: [u8; 3] = [0x0c, 0x01, 0x01];
 
-/// A data section with one segment, which has no bytes.
+/// A data section with one segment without bytes.
 const DATA: [u8; 5] = [0x0b, 0x03, 0x01, 0x01, 0x00];
 
 /// A function section and a code section without functions.
@@ -32,10 +33,10 @@ const NO_FUNCTIONS: [u8; 3] = [0x03, 0x01, 0x00];
 
 const NO_CODE: [u8; 3] = [0x0a, 0x01, 0x00];
 
-/// Sections, and what the custom sections among them stand behind.
+/// Sections, with the places of the custom sections among them.
 type Row = (&'static [&'static [u8]], &'static [Option<SectionKind>]);
 
-/// A custom section behind each section that there is.
+/// A custom section after a section of each kind.
 const ALL: Row = (
     &[
         NOTE,
@@ -84,7 +85,7 @@ const ALL: Row = (
     ],
 );
 
-/// One behind each section without items.
+/// A custom section after a section of each kind whose count is 0.
 const EMPTY: Row = (
     &[
         &[0x01, 0x01, 0x00],
@@ -115,7 +116,7 @@ const EMPTY: Row = (
     &[None; 12],
 );
 
-/// Sections in front of custom sections.
+/// Modules with custom sections, each with their places.
 const ROWS: &[Row] = &[
     (&[NOTE], &[None]),
     (&[NOTE, &TYPES], &[None]),
@@ -124,31 +125,31 @@ const ROWS: &[Row] = &[
         &[NOTE, &TYPES, NOTE, &MEMORIES, NOTE],
         &[None, Some(SectionKind::Type), Some(SectionKind::Memory)],
     ),
-    // two in a row
+    // Two custom sections in a row
     (&[NOTE, NOTE, &TYPES], &[None, None]),
     (
         &[&TYPES, NOTE, NOTE, &MEMORIES],
         &[Some(SectionKind::Type), Some(SectionKind::Type)],
     ),
-    // sections without functions
+    // Sections without functions do not count
     (&[&NO_FUNCTIONS, NOTE], &[None]),
     (
         &[&TYPES, &NO_FUNCTIONS, NOTE, &NO_CODE, NOTE],
         &[Some(SectionKind::Type), Some(SectionKind::Type)],
     ),
-    // a start function, and none behind it
+    // A start section always counts
     (&[&START, NOTE], &[Some(SectionKind::Start)]),
     (
         &[&EXPORTS, NOTE, &START, &NO_CODE, NOTE],
         &[Some(SectionKind::Export), Some(SectionKind::Start)],
     ),
-    // a data count
+    // A data count section never counts
     (&[&DATA_COUNT, NOTE, &DATA], &[None]),
     (
         &[&MEMORIES, &DATA_COUNT, NOTE, &DATA],
         &[Some(SectionKind::Memory)],
     ),
-    // code and data
+    // Code and data
     (
         &[&TYPES, &FUNCTIONS, &CODE, NOTE],
         &[Some(SectionKind::Code)],
@@ -157,12 +158,12 @@ const ROWS: &[Row] = &[
         &[&TYPES, &FUNCTIONS, NOTE, &CODE, &DATA, NOTE],
         &[Some(SectionKind::Function), Some(SectionKind::Data)],
     ),
-    // all sections, with items and without
+    // All kinds of sections, with items and without
     ALL,
     EMPTY,
 ];
 
-/// Whether custom sections stand behind these.
+/// Reports whether custom sections have these places.
 fn stand_behind(customs: &[CustomEntry], places: &[Option<SectionKind>]) -> bool {
     for (custom, place) in customs.iter().zip(places) {
         if custom.behind != *place {
@@ -172,7 +173,7 @@ fn stand_behind(customs: &[CustomEntry], places: &[Option<SectionKind>]) -> bool
     customs.len() == places.len()
 }
 
-/// Whether the custom sections of a module, whose bytes these are, stand behind these.
+/// Reports whether the custom sections of the module that these bytes encode have these places.
 fn has_customs_behind(
     alloc: Global,
     bytes: &[u8],

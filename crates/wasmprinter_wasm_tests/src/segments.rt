@@ -1,5 +1,5 @@
-//! Imports, tables, globals, element and data segments that are decoded, and such that are refused. What is
-//! expected is typed by hand.
+//! Tests of imports, tables, globals, element segments and data segments that are decoded or refused. All expected
+//! values are typed by hand.
 
 use crate::modules::{are_accepted, are_malformed, module};
 use std::alloc::Global as Alloc;
@@ -15,7 +15,7 @@ use wasmprinter_wasm::{
 /// The place of the first item of the first section.
 const FIRST: u64 = 0x0b;
 
-/// Table entries: the bytes, whether indices have 64 bits, the greatest size where there is one.
+/// Table sections of one table, each with whether its addresses have 64 bits, and its maximum if it has one.
 const TABLE_TYPES: &[(&[u8], bool, Option<u64>); 4] = &[
     (&[0x04, 0x04, 0x01, 0x6f, 0x00, 0x03], false, None),
     (&[0x04, 0x05, 0x01, 0x6f, 0x01, 0x03, 0x07], false, Some(7)),
@@ -23,7 +23,7 @@ const TABLE_TYPES: &[(&[u8], bool, Option<u64>); 4] = &[
     (&[0x04, 0x05, 0x01, 0x6f, 0x05, 0x03, 0x07], true, Some(7)),
 ];
 
-/// Whether there is one table, the first item of its section, of this type and without an initialiser.
+/// Reports whether there is exactly one table, at the place `FIRST`, with this type and without an initialiser.
 fn is_only_table(tables: &[Table], wanted: &TableType) -> bool {
     match tables {
         [table] => { table.place() == FIRST && table.ty() == *wanted && table.init().is_none() }
@@ -31,7 +31,7 @@ fn is_only_table(tables: &[Table], wanted: &TableType) -> bool {
     }
 }
 
-/// Whether a module, whose bytes these are, has one such table.
+/// Reports whether the module that these bytes encode has exactly one such table.
 fn has_only_table(alloc: Alloc, bytes: &[u8], wanted: &TableType) -> Result<bool, Error> {
     let decoded = decode(alloc, bytes)?;
     Ok(is_only_table(decoded.tables(), wanted))
@@ -54,12 +54,13 @@ fn tables_have_types(rt: HostRuntime) -> Result<(), Fail> {
     Ok(())
 }
 
-/// Whether an expression has one operator in front of its end.
+/// Reports whether an expression has one operator before its `end`.
 fn has_one_operator(expression: &Expression) -> bool {
     expression.operators().count() == 1
 }
 
-/// Whether there is a table without an initialiser, and one at 0x0e, whose initialiser has one operator and ends at 0x15.
+/// Reports whether there are exactly two tables: one without an initialiser, and one at 0x0e, whose initialiser
+/// has one operator and ends at 0x15.
 fn are_plain_and_initialised(tables: &[Table]) -> bool {
     let [plain, initialised] = tables else {
         return false;
@@ -104,32 +105,32 @@ fn empty_initialisers_are_refused(rt: HostRuntime) -> Result<(), Fail> {
     Ok(())
 }
 
-/// Sections that are not in the grammar.
+/// Malformed sections.
 const REFUSED: [&[u8]; 16] = [
-    // tables with other flags
+    // Tables with other flags
     &[0x04, 0x04, 0x01, 0x70, 0x02, 0x01],
     &[0x04, 0x05, 0x01, 0x70, 0x03, 0x01, 0x02],
     &[0x04, 0x04, 0x01, 0x70, 0x06, 0x01],
     &[0x04, 0x05, 0x01, 0x70, 0x07, 0x01, 0x02],
     &[0x04, 0x04, 0x01, 0x70, 0x08, 0x01],
-    // a table of numbers, and another byte behind 40
+    // A table with elements of a number type, and a byte after 40 that is not 00
     &[0x04, 0x04, 0x01, 0x7f, 0x00, 0x01],
     &[
         0x04, 0x09, 0x01, 0x40, 0x01, 0x70, 0x00, 0x01, 0xd0, 0x70, 0x0b,
     ],
-    // a global variable that can be changed in another way, and one without an `end`
+    // A global with an unknown mutability, and one without an `end`
     &[0x06, 0x06, 0x01, 0x7f, 0x02, 0x41, 0x07, 0x0b],
     &[0x06, 0x05, 0x01, 0x7f, 0x00, 0x41, 0x07],
-    // an import of another kind
+    // An import of an unknown kind
     &[0x02, 0x07, 0x01, 0x01, 0x6d, 0x01, 0x66, 0x05, 0x00],
-    // element segments with other flags, and of another kind
+    // Element segments with other flags, and one with an unknown element kind
     &[0x09, 0x04, 0x01, 0x08, 0x00, 0x00],
     &[0x09, 0x04, 0x01, 0x09, 0x00, 0x00],
     &[0x09, 0x04, 0x01, 0x01, 0x01, 0x00],
-    // data segments with other flags
+    // Data segments with other flags
     &[0x0b, 0x03, 0x01, 0x03, 0x00],
     &[0x0b, 0x03, 0x01, 0x04, 0x00],
-    // a data count without data segments
+    // A data count above 0 without data segments
     &[0x0c, 0x01, 0x01],
 ];
 
@@ -141,7 +142,7 @@ fn other_sections_are_refused(rt: HostRuntime) -> Result<(), Fail> {
     Ok(())
 }
 
-/// Whether a global has this place and type, and an initialiser of one operator.
+/// Reports whether a global has this place and type, and an initialiser of one operator.
 fn is_global(global: &Global, place: u64, ty: &GlobalType) -> bool {
     global.place() == place && global.ty() == *ty && has_one_operator(global.init())
 }
@@ -169,17 +170,17 @@ fn globals_have_types(rt: HostRuntime) -> Result<(), Fail> {
     Ok(())
 }
 
-/// An import section: one import of each kind.
+/// An import section with one import of each kind.
 const IMPORTS: [u8; 38] = [
     0x02, 0x24, 0x05, 0x01, 0x6d, 0x01, 0x66, 0x00, 0x03, 0x01, 0x6d, 0x01, 0x74, 0x01, 0x70, 0x00,
     0x01, 0x01, 0x6d, 0x01, 0x65, 0x02, 0x00, 0x01, 0x01, 0x6d, 0x01, 0x67, 0x03, 0x7f, 0x01, 0x01,
     0x6d, 0x01, 0x78, 0x04, 0x00, 0x02,
 ];
 
-/// An import: its place, its name, and what it is.
+/// An import: its place, its name and its type.
 type Imported = (u64, &'static str, ExternType);
 
-/// What the imports of `IMPORTS` are, which are all from `m`.
+/// The imports of `IMPORTS`, all from the module `m`.
 const IMPORTED: [Imported; 5] = [
     (0x0b, "f", ExternType::Func(3)),
     (0x11, "t", ExternType::Table(TABLE)),
@@ -215,7 +216,7 @@ const GLOBAL: GlobalType = GlobalType {
     ty: ValType::I32,
 };
 
-/// Whether imports are these.
+/// Reports whether these are the imports.
 fn are_imports(imports: &[Import], wanted: &[Imported]) -> bool {
     for (import, (place, name, ty)) in imports.iter().zip(wanted) {
         if import.place() != *place
@@ -229,7 +230,7 @@ fn are_imports(imports: &[Import], wanted: &[Imported]) -> bool {
     imports.len() == wanted.len()
 }
 
-/// Whether one thing of each kind is imported.
+/// Reports whether exactly one item of each kind is imported.
 fn imports_one_of_each(decoded: &Module) -> bool {
     decoded.imported_count(ExternKind::Func) == 1
         && decoded.imported_count(ExternKind::Table) == 1
@@ -248,7 +249,7 @@ fn imports_have_types(rt: HostRuntime) -> Result<(), Fail> {
     Ok(())
 }
 
-/// Whether a segment is active for this table, by an offset of one operator, or isn't active where no table is wanted.
+/// Reports whether a segment is active for this table, at an offset of one operator or, for `None`, is not active.
 fn is_active_for(mode: &ElementMode, wanted: Option<u32>) -> bool {
     match mode {
         ElementMode::Active { table, offset } => {
@@ -258,7 +259,7 @@ fn is_active_for(mode: &ElementMode, wanted: Option<u32>) -> bool {
     }
 }
 
-/// How many functions, and how many expressions.
+/// Returns the number of functions, and of expressions.
 fn counts_of(items: &ElementItems) -> (u32, usize) {
     match items {
         ElementItems::Functions(indices) => (indices.len(), 0),
@@ -266,10 +267,11 @@ fn counts_of(items: &ElementItems) -> (u32, usize) {
     }
 }
 
-/// What an element segment is: the table of an active one, whether it is named, functions, expressions.
+/// An element segment: the table of an active one, whether the bytes name the table, and the numbers of functions
+/// and of expressions.
 type Segment = (Option<u32>, bool, u32, usize);
 
-/// Element segments of all flags.
+/// An element section of one segment for each value of the flags.
 const ELEMENTS: [(&[u8], Segment); 8] = [
     (
         &[0x09, 0x08, 0x01, 0x00, 0x41, 0x00, 0x0b, 0x02, 0x05, 0x06],
@@ -311,7 +313,7 @@ const ELEMENTS: [(&[u8], Segment); 8] = [
     ),
 ];
 
-/// Whether a segment is this one, the first item of its section, and its offset, where it is active, has one operator.
+/// Reports whether this is the segment, at the place `FIRST`, with an offset of one operator if it is active.
 fn is_segment(element: &Element, wanted: Segment) -> bool {
     let (table, names_table, functions, expressions) = wanted;
     is_active_for(element.mode(), table)
@@ -320,7 +322,7 @@ fn is_segment(element: &Element, wanted: Segment) -> bool {
         && counts_of(element.items()) == (functions, expressions)
 }
 
-/// Whether there is one segment, and it is this one.
+/// Reports whether there is exactly one segment, and this is it.
 fn is_only_segment(elements: &[Element], wanted: Segment) -> bool {
     match elements {
         [element] => is_segment(element, wanted),
@@ -338,13 +340,14 @@ fn flags_say_what_an_element_segment_is(rt: HostRuntime) -> Result<(), Fail> {
     Ok(())
 }
 
-/// A data section with an active segment, a passive one, and one for memory 5.
+/// A data section with an active segment, a passive one, and an active one for memory 5.
 const DATA: &[u8] = &[
     0x0b, 0x11, 0x03, 0x00, 0x41, 0x00, 0x0b, 0x02, 0xaa, 0xbb, 0x01, 0x01, 0xcc, 0x02, 0x05, 0x41,
     0x01, 0x0b, 0x00,
 ];
 
-/// Whether a segment has this place, is for this memory if it is active, and has these bytes.
+/// Reports whether a segment has this place and these bytes, and is active for this memory or, for `None`,
+/// passive.
 fn is_data(data: &Data, place: u64, memory: Option<u32>, bytes: &[u8]) -> bool {
     let found = match data.mode() {
         DataMode::Active { memory, .. } => Some(*memory),
@@ -353,7 +356,7 @@ fn is_data(data: &Data, place: u64, memory: Option<u32>, bytes: &[u8]) -> bool {
     data.place() == place && found == memory && data.bytes() == bytes
 }
 
-/// Whether segments are those of `DATA`, the first of which lies at 0x0e.
+/// Reports whether these are the segments of `DATA`, the first of which is at 0x0e.
 fn are_datas(datas: &[Data]) -> bool {
     let [active, passive, last] = datas else {
         return false;

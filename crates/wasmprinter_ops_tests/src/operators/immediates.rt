@@ -1,4 +1,4 @@
-//! Immediates of each shape. What is expected is typed by hand.
+//! Tests of immediates of each shape. All expected immediates are typed by hand.
 ghost use Rattle.std.specs.Prelude.{◌<◌};
 
 use super::{Placed, Wanted, assert_walk, is_operator};
@@ -13,7 +13,7 @@ use wasmprinter_types::{HeapType, RefType, ValType};
 /// An operator: its bytes, its word and its immediates.
 type Spelled = (&'static [u8], &'static str, Wanted);
 
-/// Whether the bytes are an operator with the word and these immediates, and nothing else.
+/// Reports whether the bytes are exactly an operator with this word and these immediates.
 fn are_operator(bytes: &[u8], word: &str, wanted: &Wanted) -> bool {
     let mut cursor = Cursor::new(0, bytes);
     match read_operator(&mut cursor) {
@@ -22,14 +22,14 @@ fn are_operator(bytes: &[u8], word: &str, wanted: &Wanted) -> bool {
     }
 }
 
-/// Asserts that the bytes of each row are an operator with the word and these immediates, and nothing else.
+/// Asserts that the bytes of each row are exactly an operator with this word and these immediates.
 fn assert_operators(rt: &impl Abort, rows: &[(&[u8], &'static str, Wanted)]) {
     for (bytes, word, wanted) in rows {
         assert!(rt; are_operator(bytes, word, wanted), "{word}");
     }
 }
 
-/// The place at which the bytes are refused, none if an operator stands there.
+/// Returns the place at which the bytes are refused, or `None` if they begin with an operator.
 fn place_of_refusal(bytes: &[u8]) -> Option<u64> {
     match read_operator(&mut Cursor::new(0, bytes)) {
         Ok(_) => None,
@@ -37,7 +37,7 @@ fn place_of_refusal(bytes: &[u8]) -> Option<u64> {
     }
 }
 
-/// A memory operand.
+/// Returns a memory operand.
 fn operand(exponent: u32, memory: u32, offset: u64) -> MemArg
     requires { exponent < 64 }
 {
@@ -66,7 +66,7 @@ fn indices_are_read_in_order(rt: HostRuntime) {
     assert!(rt; place_of_refusal(&[0xfc, 14, 11]) == Some(3));
 }
 
-/// References to exceptions, which may be null.
+/// The type of nullable references to exceptions.
 const EXN: ValType = ValType::Ref(RefType {
     nullable: true,
     heap: HeapType::Exn,
@@ -97,7 +97,7 @@ fn types_are_read(rt: HostRuntime) {
     assert!(rt; place_of_refusal(&[0xd0, 0x40]) == Some(1));
 }
 
-/// Casts, of which one may be from null and the other to null.
+/// Casts, one from a nullable type and one to a nullable type.
 const CASTS: [Spelled; 2] = [
     (
         &[0xfb, 24, 1, 0x81, 0x01, 0x6e, 2],
@@ -165,7 +165,7 @@ fn memory_operands_are_read(rt: HostRuntime) {
     assert!(rt; place_of_refusal(&[0x28, 64, 0]) == Some(3));
 }
 
-/// Sixteen bytes.
+/// Sixteen different bytes.
 const LANES: [u8; 16] = [1, 2, 3, 4, 5, 6, 7, 8, 9, 10, 11, 12, 13, 14, 15, 255];
 
 #[test]
@@ -189,7 +189,7 @@ fn lanes_are_read(rt: HostRuntime) {
     assert!(rt; place_of_refusal(&lanes[..17]) == Some(2));
 }
 
-/// Constants of each type of numbers.
+/// Constants of each number type.
 const CONSTANTS: [Spelled; 4] = [
     (&[0x41, 0x7f], "i32.const", Wanted::I32(-1)),
     (&[0x42, 0x80, 0x01], "i64.const", Wanted::I64(128)),
@@ -217,7 +217,7 @@ fn behind_a_fence_stands_zero(rt: HostRuntime) {
     assert!(rt; place_of_refusal(&[0xfe, 3, 1]) == Some(2));
 }
 
-/// An operator of each prefix.
+/// An operator with each prefix.
 const PREFIXES: [Placed; 4] = [
     (0x1a, "any.convert_extern", Wanted::None),
     (0x1c, "i64.trunc_sat_f64_u", Wanted::None),

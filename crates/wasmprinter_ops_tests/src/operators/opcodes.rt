@@ -1,4 +1,4 @@
-//! Opcodes, their words, shapes, arities and roles. What is expected is typed by hand.
+//! Tests of opcodes: their words, shapes, arities and roles. All expected values are typed by hand.
 use wasmprinter_ops::opcode::{Arity, Listed, Opcode, Role, Shape, Space};
 
 /// Opcodes by prefix and number, each with its word and the shape of its immediates.
@@ -58,7 +58,7 @@ const OPCODES: [(u8, u32, &str, Shape); 38] = [
     (0xfe, 0x4e, "i64.atomic.rmw32.cmpxchg_u", Shape::Memory(2)),
 ];
 
-/// Whether an opcode has this word and immediates of this shape.
+/// Reports whether an opcode has this word and immediates of this shape.
 fn has_shape(opcode: Opcode, word: &str, shape: Shape) -> bool {
     opcode.word() == word && opcode.shape() == Some(shape)
 }
@@ -107,7 +107,7 @@ const ARITIES: [(u8, u32, &str, Arity); 29] = [
     (0xfe, 0x1e, "i32.atomic.rmw.add", Arity::Fixed(2, 1)),
 ];
 
-/// Whether an opcode has this word and this arity.
+/// Reports whether an opcode has this word and this arity.
 fn has_arity(opcode: Opcode, word: &str, arity: Arity) -> bool {
     opcode.word() == word && opcode.arity() == Some(arity)
 }
@@ -123,7 +123,7 @@ fn opcodes_have_arities(rt: HostRuntime) {
     }
 }
 
-/// Prefixes and numbers of no opcodes.
+/// Prefixes and numbers that are opcodes of no operator.
 const OTHERS: [(u8, u32); 15] = [
     (0, 0x16),
     (0, 0x27),
@@ -142,7 +142,7 @@ const OTHERS: [(u8, u32); 15] = [
     (0xff, 0),
 ];
 
-/// Whether an opcode is of no operator.
+/// Reports whether an opcode is that of no operator.
 fn is_of_none(opcode: Opcode) -> bool {
     opcode.word() == ""
         && opcode.shape() == None

@@ -1,4 +1,4 @@
-//! A printer for tests of how a text is cut into calls: it keeps each call apart, and refuses one if it is told to.
+//! A printer for tests of how a text is split into calls. It keeps the calls separate, and can refuse one.
 ghost use Rattle.std.specs.Prelude.{None, false};
 
 use std::alloc::{AllocError, Global};
@@ -6,16 +6,16 @@ use std::io;
 use std::io::{ErrorKind, Write};
 use wasmprinter::{Error, Print};
 
-/// How what hands calls over ended.
+/// How a function that makes the calls ended.
 #[derive(Clone, Copy, Debug, PartialEq, Eq)]
 pub enum Ending {
     /// No call failed.
     Whole,
-    /// With the error of the call that was refused.
+    /// The function returned the error of the refused call.
     Refused,
-    /// With the error of a call behind that one.
+    /// The function returned the error of a call after the refused one.
     Late,
-    /// In another way.
+    /// The function returned any other error.
     Other,
 }
 
@@ -30,28 +30,29 @@ impl Ending {
     }
 }
 
-/// The calls so far, in their order. Each stands by bytes of which no text has one:
+/// The calls so far, in order, in this encoding. The bytes that mark calls occur in no text:
 ///
-/// - a text as it is, with `0xff` behind it, so that two texts differ from one that is their sum;
+/// - a text as it is, with `0xff` after it, so that two texts differ from their concatenation;
 /// - `0xfe` for `start_literal`, `0xfd` for `reset_color`;
 /// - `0xfc`, `0xfb`, `0xfa` and `0xf9` for the other styles, in the order of the trait's methods;
 /// - `0xf8` for `newline`;
-/// - `0xf7` for the beginning of a line, with `[0x1f]` or `[]` after it;
-/// - `0xf6` for the question whether a custom section is taken, with its name, the place and the length of its data after it.
+/// - `0xf7` for `start_line`, with `[0x1f]` or `[]` after it;
+/// - `0xf6` for `print_custom_section`, with the name of the section, its place and the length of its data after
+///   it.
 #[derive(Drop)]
 pub struct Calls {
     list: Vec<u8>,
-    /// How many calls that can fail were made.
+    /// The number of calls so far that can fail.
     made: usize,
-    /// The number of the call that is refused, the first of which is 1; none is where it is 0. All behind it are refused too, with another
-    /// error.
+    /// The number of the call that is refused, counted from 1, or 0 for none. All calls after it are refused too, with
+    /// another error.
     refused: usize,
-    /// A call could not be kept.
+    /// Whether a call could not be recorded.
     lost: bool,
 }
 
 impl Calls {
-    /// A printer that refuses the call of this number, none where it is 0.
+    /// Returns a printer that refuses the call with this number, or no call if the number is 0.
     pub fn new(alloc: Global, refused: usize) -> Calls {
         Calls {
             list: Vec::new(alloc),
@@ -61,22 +62,22 @@ impl Calls {
         }
     }
 
-    /// The calls, as they are kept.
+    /// Returns the recorded calls in their encoding.
     pub fn list(&self) -> &[u8] {
         self.list.as_slice()
     }
 
-    /// How many calls that can fail were made.
+    /// Returns the number of calls so far that can fail.
     pub fn count(&self) -> usize {
         self.made
     }
 
-    /// Whether each call was kept.
+    /// Reports whether each call was recorded.
     pub fn is_complete(&self) -> bool {
         !self.lost
     }
 
-    /// Whether these calls were made, and no other, and each was kept.
+    /// Reports whether exactly these calls were made, and each was recorded.
     pub fn are(&self, list: &[u8]) -> bool {
         self.is_complete() && self.list() == list
     }
@@ -86,7 +87,7 @@ impl Calls {
         shown_calls(alloc, self.list())
     }
 
-    /// The answer to a call that was kept so.
+    /// Returns the result of a call, given whether it could be recorded.
     fn answer(&mut self, kept: Result<(), AllocError>) -> io::Result<()> {
         self.made = self.made.saturating_add(1);
         self.lost = self.lost || kept.is_err();
@@ -128,7 +129,7 @@ impl Calls {
     }
 }
 
-/// Returns what a write into memory returned: it fails only if an allocation does.
+/// Converts the result of a write into memory, which fails only if an allocation fails.
 fn without_cause(written: io::Result<()>) -> Result<(), AllocError> {
     match written {
         Ok(()) => Ok(()),
@@ -151,7 +152,7 @@ pub fn shown_calls(alloc: Global, list: &[u8]) -> Result<String, AllocError> {
     Ok(shown)
 }
 
-/// Appends what stands for a byte of the list of calls.
+/// Appends the readable form of one byte of the list of calls.
 fn show_byte(shown: &mut String, byte: u8) -> Result<(), AllocError> {
     match byte {
         0xff => shown.push('|'),

@@ -1,12 +1,12 @@
-//! Texts with the calls that write their content in quotes. The calls of each character are typed by hand.
+//! Texts, each with the calls that write it as a quoted string. The calls of each character are typed by hand.
 
 use std::alloc::{AllocError, Global};
 
-/// A character, and the calls that write it as `Calls` keeps them: each ends with the byte `0xff`.
+/// A character, and the calls that write it, in the encoding of `Calls`: each ends with the byte `0xff`.
 #[derive(Clone, Copy)]
 pub struct Letter {
     c: char,
-    /// Whether an identifier without quotes may have it.
+    /// Whether an identifier without quotes may contain it.
     is_id: bool,
     /// The calls in a quoted string.
     quoted: &'static [u8],
@@ -92,7 +92,7 @@ pub const GREATEST: Letter = Letter {
     bytes: b"\\\xfff\xff4\xff\\\xff8\xfff\xff\\\xffb\xfff\xff\\\xffb\xfff\xff",
 };
 
-/// Characters for texts that are mixed.
+/// Characters for pseudorandom texts.
 const ODD: [Letter; 16] = [
     SPACE,
     QUOTE,
@@ -180,7 +180,7 @@ pub struct Sample {
     pub quoted: Vec<u8>,
     /// The calls in a byte string, without those for its quotes.
     pub bytes: Vec<u8>,
-    /// Whether an identifier may have the text without quotes, if the text isn't empty.
+    /// Whether the text, if it is not empty, may be an identifier without quotes.
     pub is_id: bool,
 }
 
@@ -203,7 +203,7 @@ impl Sample {
     }
 }
 
-/// Returns the plain letter at a place of a text.
+/// Returns the plain letter at a position of a text.
 fn plain_at(place: usize) -> Letter {
     match PLAIN.get(place % PLAIN_LEN) {
         Some(letter) => *letter,
@@ -211,7 +211,7 @@ fn plain_at(place: usize) -> Letter {
     }
 }
 
-/// Returns this many plain letters, except for the character at the place.
+/// Returns a text of `len` plain letters, with `letter` at the position `place`.
 pub fn letters_but(
     alloc: Global,
     len: usize,
@@ -225,12 +225,12 @@ pub fn letters_but(
     Ok(sample)
 }
 
-/// Returns this many plain letters.
+/// Returns a text of `len` plain letters.
 pub fn letters(alloc: Global, len: usize) -> Result<Sample, AllocError> {
     letters_but(alloc, len, len, SPACE)
 }
 
-/// Returns a character this many times.
+/// Returns a text of `len` copies of a character.
 pub fn repeated(alloc: Global, len: usize, letter: Letter) -> Result<Sample, AllocError> {
     let mut sample = Sample::new(alloc);
     for _ in 0..len {
@@ -239,12 +239,12 @@ pub fn repeated(alloc: Global, len: usize, letter: Letter) -> Result<Sample, All
     Ok(sample)
 }
 
-/// Returns the number that is drawn after another.
+/// Returns the pseudorandom number after this one.
 fn drawn_after(number: u32) -> u32 {
     number.wrapping_mul(1_664_525).wrapping_add(1_013_904_223)
 }
 
-/// Returns the character that a number draws.
+/// Returns the odd character that a pseudorandom number selects.
 fn drawn_letter(number: u32) -> Letter {
     match ODD.get((number >> 28) as usize) {
         Some(letter) => *letter,
@@ -252,7 +252,8 @@ fn drawn_letter(number: u32) -> Letter {
     }
 }
 
-/// Returns a text of this many drawn characters: a plain letter where the drawn number has a bit of the mask, else an odd character.
+/// Returns a pseudorandom text of `len` characters: a plain letter if the number has a bit of the mask, otherwise
+/// an odd character.
 pub fn mixed(alloc: Global, len: usize, (seed, mask): (u32, u32)) -> Result<Sample, AllocError> {
     let mut sample = Sample::new(alloc);
     let mut number = seed;

@@ -1,7 +1,8 @@
-//! The calls for modules, typed from how each piece of a layout was written when every call on a printer was checked at once. A row is a
-//! line of the text; `Calls::shown` says how a call is written. A backslash at the end of a line continues the row.
+//! The calls for modules. They were typed from an earlier version of the code, which checked the result of every
+//! call on a printer immediately. A row is a line of the text; `Calls::shown` defines how a call is written. A
+//! backslash at the end of a line continues the row.
 
-/// The calls for the module with places.
+/// The calls for the module, printed with places.
 pub const FLAT: &str = "\
 [0x0](|{K}module|{R} |$|m|{? dylink.0 0x13 11}
 [0xa]{C}(;@|a| | | | | |;)|{R}  |(|{K}@|dylink.0|{R}
@@ -92,7 +93,7 @@ i32|{R})|)|)|
 [0x1bb]{C}(;@|1|b|b| | | |;)|{R}|)|
 ";
 
-/// The calls for the module folded and with places.
+/// The calls for the module, folded and printed with places.
 pub const FOLDED: &str = "\
 [0x0](|{K}module|{R} |$|m|{? dylink.0 0x13 11}
 [0xa]{C}(;@|a| | | | | |;)|{R}  |(|{K}@|dylink.0|{R}
@@ -180,7 +181,7 @@ i32|{R})|)|)|
 [0x1bb]{C}(;@|1|b|b| | | |;)|{R}|)|
 ";
 
-/// The calls for the module with synthesized identifiers.
+/// The calls for the module, printed with synthesized identifiers.
 pub const NAMED: &str = "\
 [0x0](|{K}module|{R} |$|m|{? dylink.0 0x13 11}
 [0xa]  |(|{K}@|dylink.0|{R}
@@ -266,7 +267,7 @@ field| |$#|field|1| |(|{K}ref|{R} |null| |{N}$#|type|0|{R})|)|)|)|)|
 [0x1bb]|)|
 ";
 
-/// The calls for the module folded and with synthesized identifiers.
+/// The calls for the module, folded and printed with synthesized identifiers.
 pub const NAMED_FOLDED: &str = "\
 [0x0](|{K}module|{R} |$|m|{? dylink.0 0x13 11}
 [0xa]  |(|{K}@|dylink.0|{R}
@@ -349,7 +350,7 @@ field| |$#|field|1| |(|{K}ref|{R} |null| |{N}$#|type|0|{R})|)|)|)|)|
 [0x1bb]|)|
 ";
 
-/// The calls for `IDENTITY` with a tab as indent text: it is written once for each level.
+/// The calls for `IDENTITY` with a tab as indent text, which is written once for each level.
 pub const TABS: &str = "\
 [0x0](|{K}module|{R}
 [0xb]\t|(|{K}type| |{R}{N}(;|0|;)|{R} |(|{K}func|{R} |(|{K}param|{R} |{T}i32|{R})| |(|{K}result|{R} |{T}i32|{R})|)|)|
