@@ -17,7 +17,7 @@ use Rattle.wasmprinter_spec.proofs.Each.{all_both, all_parts}
 use Rattle.wasmprinter_print.specs.PrintsLaws.{all_calls-append}
 use Rattle.wasmprinter.specs.Printed.{no_claims}
 
--- -- Calls that are alike
+-- ---- Calls that are alike
 
 texts_unclaimed : (s : List ℕ) → AllByRecursion IsUnclaimed (map (λ b. Text (b ∷ [])) s)
 texts_unclaimed [] = tt
@@ -49,7 +49,7 @@ whole_unclaimed (c ∷ cs) h =
 pub alike_unclaimed : (k l : List Call) → atoms k ≡ atoms l → AllByRecursion IsUnclaimed k → AllByRecursion IsUnclaimed l
 alike_unclaimed k l e h = whole_unclaimed l (subst (λ (cs : List Call). AllByRecursion IsUnclaimed cs) e (atoms_unclaimed k h))
 
--- -- The parts of a layout
+-- ---- The parts of a layout
 
 module _ (o : Options) where
   abbrev AreUnclaimedIn : List Piece → Type 0

@@ -11,7 +11,7 @@ use Rattle.wasmprinter_wasm.specs.Modules.{body_at}
 use Rattle.wasmprinter.specs.Found.{place_at, NamesItsLine, FindsItsLine}
 use Rattle.wasmprinter.proofs.Named.{one_module}
 
--- -- An operator is found by its body, then by its place, then by its line
+-- ---- An operator is found by its body, then by its place, then by its line
 
 abbrev numbered : List TextLine → ℕ → Option (ℕ × ℕ)
 numbered lines place = line_from 0 place lines >>= λ number. Some (number, place)
@@ -48,7 +48,7 @@ module _ (m : PlacedModule) (lines : List TextLine) (i j : ℕ) (b : Placed Body
   pub its_line : (place number : ℕ) → place_at b.value.operators j ≡ Some place → line_from 0 place lines ≡ Some number → place_of m lines i j ≡ Some (number, place)
   its_line place number f g = at_place place f ∙ ap (λ (x : Option ℕ). x >>= λ number. Some (number, place)) g
 
--- -- The result
+-- ---- The result
 
 pub names : (m : PlacedModule) (lines : List TextLine) (i j : ℕ) (result : Option (ℕ × ℕ)) → result ≡ place_of m lines i j → NamesItsLine m lines i j result
 names m lines i j result e number place f = finds_place m lines i j number place (sym e ∙ f)

@@ -21,7 +21,7 @@ use Rattle.wasmprinter_entries.specs.Refusals.{HasCustom, KeepsSome}
 use Rattle.wasmprinter_wasm.specs.Decoding.{HoldsSome, IsRefusal}
 use Rattle.wasmprinter_error.specs.declared.error.Error.TheVariants.{Memory}
 
--- -- Identifiers
+-- ---- Identifiers
 
 -- Two namings that name each item the same give the same names.
 pub same_names : (invents : Bool) (a b : Naming) → ((s outer index : ℕ) → a s outer index ≡ b s outer index) → names_by invents a ≡ names_by invents b
@@ -32,7 +32,7 @@ pub are_names : (invents : Bool) (m : PlacedModule) (a : Naming) → ((s outer i
     → names_by invents a ≡ module_names invents m
 are_names invents m a e = same_names invents a (name_of (name_entries m.customs)) e
 
--- -- Memory
+-- ---- Memory
 
 -- If name sections give entries, there is at least one custom section.
 no_entries : (cs : List CustomEntry) → name_entries cs ≢ [] → 0 < length cs
@@ -82,7 +82,7 @@ keeps_custom bytes m s some =
 pub holds_custom : (m : PlacedModule) → 0 < length m.customs → HoldsSome m
 holds_custom m some = omega (arith, some)
 
--- -- Errors
+-- ---- Errors
 
 pub one_module : (bytes : List ℕ) (m n : PlacedModule) → Spells bytes m → Spells bytes n → m ≡ n
 one_module bytes m n s t = some_is m n (sym (binary.complete (input 0 bytes) m s.spelled) ∙ binary.complete (input 0 bytes) n t.spelled)
@@ -97,7 +97,7 @@ names_refusal bytes m s some =
 pub unnamed : (entries : List Entry) → entries ≡ [] → (s outer index : ℕ) → name_of entries s outer index ≡ None
 unnamed entries e s outer index = rw e refl
 
--- -- Printing with these names
+-- ---- Printing with these names
 
 -- The identifiers that are printed with the names of a module's sections are those of the module.
 pub shown_names : (o : Options) (m : PlacedModule) (s : Scan) (items : List NamedItem) → s.named ≡ items → s.invents ≡ o.invents →

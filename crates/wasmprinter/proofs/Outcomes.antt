@@ -74,7 +74,7 @@ refusal_left m colours o bytes old (EmptyTableInit place) h = refl
 refusal_left m colours o bytes old Memory h = inl refl
 refusal_left m colours o bytes old _ h = absurd h
 
--- -- Modules that can't be folded
+-- ---- Modules that can't be folded
 
 module _ {P : Type 0} (m : Meaning P) (o : Options) (bytes : List ℕ) (placed : PlacedModule) (spelled : Spells bytes placed) (within : IsWithinLimits placed) (folds : o.folds ≡ true) (old : P) where
   -- Each error of folding has its cause.

@@ -13,7 +13,7 @@ use Rattle.wasmprinter_spec.specs.Layout.{early_scope, section_order, section_pa
 use Rattle.wasmprinter_spec.specs.Layout.Customs.{Part, Laid, laid_parts, parts_at}
 use Rattle.wasmprinter_annotations.proofs.Parts.{laid_behind, joined-append}
 
--- -- Calls
+-- ---- Calls
 
 piece-paints : (o : Options) (b : Bool) (p : Piece) → calls (in_colours o b) p ≡ calls o p
 piece-paints o b (Break place nesting) = refl
@@ -58,7 +58,7 @@ pub calls-paints : (o : Options) (b : Bool) (ps : List Piece) → all_calls (in_
 calls-paints o b [] = refl
 calls-paints o b (p ∷ ps) = ap₂ (λ (xs ys : List Call). xs ++ ys) (piece-paints o b p) (calls-paints o b ps)
 
--- -- Refusals
+-- ---- Refusals
 
 record HaveSameEnd (xs ys : List Part) : Type 0 where
   end : (laid_parts xs).refused ≡ (laid_parts ys).refused

@@ -125,7 +125,7 @@ module _ (o : Options) (answers : Answers) (m : PlacedModule) (id : ℕ) where
   unfolding module_parts
   module_if names = both_if (customs_if None) (sections_if names section_order)
 
--- -- The refused section is one of the module's
+-- ---- The refused section is one of the module's
 
 forgets : (id : ℕ) (cs : List CustomEntry) (ps : List Piece) → AnyIsAsked id cs ps → AnyIsUnknown id cs
 forgets id [] ps h = absurd h
@@ -144,7 +144,7 @@ refused_unknown m old new id [] h = absurd h
 refused_unknown m old new id (c ∷ cs) (inl r) = inl r.unknown
 refused_unknown m old new id (c ∷ cs) (inr h) = inr (refused_unknown m old new id cs h)
 
--- -- The calls end with the claim for it
+-- ---- The calls end with the claim for it
 
 module _ {P : Type 0} (meaning : Meaning P) (old new : P) (o : Options) (id : ℕ) where
   -- If pieces end with the claim for a refused section, their calls do.

@@ -48,7 +48,7 @@ printed_lines o bytes base t kept v =
           (function_lines bytes v.placed by no_claims v.spelled whole flat own.accepted i f e);
     }
 
--- -- The storage after an error
+-- ---- The storage after an error
 
 -- A tracker claims no custom section.
 run_claims_none : (s t : Tracked) (calls : List Call) → Run tracked_meaning s calls t → AllByRecursion IsUnclaimed calls
@@ -137,7 +137,7 @@ module _ (o : Options) (bytes : List ℕ) (old new : Tracked) where
     };
   })
 
--- -- The result of `finish` is returned, with its error as `Memory`
+-- ---- The result of `finish` is returned, with its error as `Memory`
 
 pub told_as : {T A : Type 0} (R : A → Error → Type 0) → ((e : A) (y : Error) → R e y → y ≡ Memory) →
     (x : Result T A) (r : Result T Error) → MatchResult x (λ v. r ≡ Ok v) (λ e. IsErrAnd r (R e)) → (Q : Error → Type 0) → Q Memory → IfErr r Q

@@ -25,7 +25,7 @@ use Rattle.wasmprinter_c.specs.Refused.{IsTooLong, HasBufferCause, HoldsPrefix, 
 use Rattle.wasmprinter_c.specs.declared.copier.Copier.{Copier}
 use Rattle.wasmprinter_c.proofs.Runs.{HasCopied, IsFresh, run_copied, claims_never}
 
--- -- A printer to which nothing was printed before
+-- ---- A printer to which nothing was printed before
 
 module _ (old : Copier) (fresh : IsFresh old) where
   whole_holds : (new : Copier) (l : List Call) → Whole copied_meaning old new l → new.out.now ≡ over (text_of l) old.out.now

@@ -106,7 +106,7 @@ module _ (o : Options) (bytes old : List ℕ) (before : List WasmprinterLine) wh
     untouched = λ t. absurd (omega (arith, t));
   }
 
--- -- The result of the function that prints
+-- ---- The result of the function that prints
 
 module _ (bytes old new : List ℕ) (before after : List WasmprinterLine) (r : Outcome) where
   abbrev Comes : Options → Type 0

@@ -118,7 +118,7 @@ run_copied old new calls fresh r =
     copied_calls old old new [] [] calls
     (record { same_buffer = refl; copied = refl; counted = fresh.text; small = omega (arith, none); same_table = refl; lines = λ few. (refl, fresh.lines) }) r
 
--- -- The entries of calls that differ only in how text is split
+-- ---- The entries of calls that differ only in how text is split
 
 bytes_entries : (at : ℕ) (s : List ℕ) (k : List Call) → entries at (map (λ b. Text (b ∷ [])) s ++ k) ≡ entries (at + length s) k
 bytes_entries at [] k = let same : at ≡ at + length {A = ℕ} [] = omega arith in ap (λ (n : ℕ). entries n k) same
@@ -137,7 +137,7 @@ entries-atoms at (Claim name place bytes answer ∷ cs) = entries-atoms at cs
 alike_entries : (k l : List Call) → atoms k ≡ atoms l → entries 0 k ≡ entries 0 l
 alike_entries k l e = sym (entries-atoms 0 k) ∙ ap (λ (c : List Call). entries 0 c) e ∙ entries-atoms 0 l
 
--- -- A module that was printed completely
+-- ---- A module that was printed completely
 
 pub printed_over : (o : Options) (bytes : List ℕ) (old new : Copier) → IsFresh old → Printed copied_meaning false o bytes old new →
     HasLinesOver o bytes old.out.now new.out.now old.lines.now new.lines.now new.written new.count

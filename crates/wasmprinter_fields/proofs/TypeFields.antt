@@ -14,7 +14,7 @@ use Rattle.wasmprinter_spec.specs.Layout.Groups.{has_break, close, group, number
 use Rattle.wasmprinter_spec.specs.Layout.Types.{member_pieces, group_pieces_by, type_group_pieces, type_section_pieces}
 use Rattle.wasmprinter_fields.specs.TypeLines.{listed_pieces}
 
--- -- The types of a group
+-- ---- The types of a group
 
 -- If no type is left, no piece is left.
 pub types-none : (f : ℕ → SubType → List Piece) (i : ℕ) (ts : List SubType) → ts ≡ [] → numbered_pieces f i ts ≡ []
@@ -44,7 +44,7 @@ pub group-bare : (names : Names) (written : Bool) (place i : ℕ) (ts : List Sub
 group-bare names true place i ts e = absurd cc
 group-bare names false place i ts e = refl
 
--- -- Groups
+-- ---- Groups
 
 -- The pieces after the first k groups are those of group k and those of the groups after it.
 pub groups-next : (names : Names) (i k : ℕ) (gs : List (Placed TypeGroup)) (g d : Placed TypeGroup) → k < length gs → g ≡ get_or gs k d →

@@ -25,7 +25,7 @@ use Rattle.wasmprinter_spec.specs.Layout.Imports.{import_parts}
 use Rattle.wasmprinter_spec.specs.Layout.Exports.{export_parts, kind_word}
 use Rattle.wasmprinter_fields.proofs.Declared.{table-parts, global-parts}
 
--- -- Fields on one line
+-- ---- Fields on one line
 
 pub import-unbroken : (s : Scope) (n : ℕ) (i : Import) → has_break (import_parts s n i) ≡ false
 import-unbroken s n i = stays_unbroken {ps = import_parts s n i} (then_stay refl (then_stay refl (then_stay refl (then_stay refl (extern_stays s n i.type)))))
@@ -42,7 +42,7 @@ export-unbroken s e = stays_unbroken {ps = export_parts s e} (then_stay refl (th
 pub start-unbroken : (s : Scope) (f : ℕ) → has_break (item_index s row.Func f) ≡ false
 start-unbroken s f = stays_unbroken (item_stays s row.Func f)
 
--- -- Fields with expressions
+-- ---- Fields with expressions
 
 -- A result that is an error satisfies every property of successful results.
 pub no_answer : {T E : Type 0} (Q : E → Type 0) (P : T → Type 0) (r : Result T E) → IsErrAnd r Q → IfOk r P

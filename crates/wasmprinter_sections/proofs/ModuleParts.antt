@@ -15,7 +15,7 @@ use Rattle.wasmprinter_annotations.proofs.Parts.{same_part_lines}
 use Rattle.wasmprinter_annotations.proofs.Places.{one_table}
 use Rattle.wasmprinter_sections.specs.Sections.{sections_parts}
 
--- -- Answers by kinds
+-- ---- Answers by kinds
 
 -- The answers for the custom sections after the section of a kind.
 abbrev answers_behind : List Kind → List Answers → Kind → Answers
@@ -40,7 +40,7 @@ module _ (o : Options) (s : Scope) (m : PlacedModule) where
   sections-table first (a ∷ b ∷ c ∷ d ∷ e ∷ f ∷ g ∷ h ∷ i ∷ j ∷ k ∷ l ∷ []) many = refl
   sections-table first _ many = absurd cc
 
--- -- The whole module
+-- ---- The whole module
 
 -- If sections were written one after the other, each with its own answers, the parts of the module were written
 -- with one function of answers. Their lines may be printed with other options.

@@ -66,7 +66,7 @@ module-whole o answers names m =
     let last : List Part = Shown (closing o m.size (has_break (laid_parts inner).pieces)) ∷ [] in
     ap (before_laid opening) (joined-append inner last) ∙ sym (either_laid o names m.size laid.pieces laid.refused)
 
--- -- The result of writing a module
+-- ---- The result of writing a module
 
 -- The result of a call that failed.
 abbrev pub failed : IoError → Result (Unit {0}) IoError
