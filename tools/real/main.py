@@ -1,6 +1,6 @@
-"""main.py PROGRAM WORK: makes the modules, prints each with every set of options, assembles the texts again, compares, and prints the tables.
+"""main.py PROGRAM WORK: makes the modules, prints each with every set of options, reassembles and compares the texts, and prints the tables.
 
-It is called by tools/real.sh, which says what it does.
+tools/real.sh calls it and documents it.
 """
 
 import datetime
@@ -15,17 +15,17 @@ from modules import all_modules, newest
 from printing import printed_texts
 from readers import READERS, Original, assembled
 from running import found, limited, run, version
-from tables import failures, groups, notes, refusals, told
+from tables import failures, groups, messages, notes, refusals
 from wasm import Malformed
 
-FEW = ((), ("--name-unnamed", "--fold", "--offsets"))  # the texts that are assembled of great modules and of those in groups of many
-MANY = ("sets of small ones", "objects in archives")
-FEATURES = "all,-shared-everything-threads"  # of which `wasm-tools validate` takes modules; without what printwasm leaves out by design
-GREAT = 30_000_000  # bytes of text
+FEW = ((), ("--name-unnamed", "--fold", "--offsets"))  # the sets whose texts are assembled for modules with a large text or in a large group
+MANY = ("sets of small ones", "objects in archives")  # the large groups
+FEATURES = "all,-shared-everything-threads"  # the features with which `wasm-tools validate` runs: all except those out of scope of printwasm
+LARGE = 30_000_000  # bytes of text
 
 
 class Result:
-    """What became of one module."""
+    """The results for one module."""
 
     def __init__(self, module, printed):
         self.group, self.row, self.path, self.size = module.group, module.row, module.path, module.size
@@ -35,20 +35,20 @@ class Result:
 
 
 def judged(path):
-    """What `wasm-tools` says of bytes that something refuses."""
+    """Returns the result of `wasm-tools` for a module that printwasm or an assembler refuses."""
     if run([found("wasm-tools"), "validate", "--features", FEATURES, path]).status == 0:
         return "valid"
     return "not valid, but it prints them" if run([found("wasm-tools"), "print", path, "-o", os.devnull]).status == 0 else "refused too"
 
 
 def chosen(module, printed):
-    """The texts to assemble."""
-    great = module.group in MANY or any(os.path.getsize(path) > GREAT for path in printed.texts.values())
-    return {words: path for words, path in printed.texts.items() if not great or words in FEW}
+    """Returns the texts to assemble, by their options."""
+    only_few = module.group in MANY or any(os.path.getsize(path) > LARGE for path in printed.texts.values())
+    return {words: path for words, path in printed.texts.items() if not only_few or words in FEW}
 
 
 def examined(program, module):
-    """Prints a module, assembles its texts, compares."""
+    """Prints a module, assembles its texts, compares, and returns the results."""
     folder = tempfile.mkdtemp(prefix="wasmprinter-real-")
     try:
         printed = printed_texts(program, module.path, folder)
@@ -61,14 +61,14 @@ def examined(program, module):
         if found("wasm-tools") and (printed.refused or any(verdict.word == "refused" for _, _, verdict in result.verdicts)):
             result.judged = judged(module.path)
     except Malformed as fault:
-        result.failed.append(f"it prints, but its sections don't stand whole: {fault}")
+        result.failed.append(f"printwasm prints it, but its sections are malformed: {fault}")
     finally:
         shutil.rmtree(folder)
     return result
 
 
 def worked(job):
-    """The job of one worker, which tells what it is at where it takes long."""
+    """Runs the job of one worker. Reports the path of a module of over 1 MB on standard error, since it takes long."""
     program, module = job
     if module.size > 1_000_000:
         print(f"real: {module.path}", file=sys.stderr, flush=True)
@@ -76,38 +76,38 @@ def worked(job):
 
 
 def machine():
-    """The processor, how many, the memory."""
+    """Returns a description of the machine: its processors, memory and kernel."""
     with open("/proc/cpuinfo", encoding="utf-8") as info:
         models = [line.split(":", 1)[1].strip() for line in info if line.startswith("model name")]
     memory = os.sysconf("SC_PAGE_SIZE") * os.sysconf("SC_PHYS_PAGES") / 2**30
     return f"{models[0] if models else platform.machine()}, {os.cpu_count()} processors, {memory:.1f} GiB of memory, Linux {platform.release()}"
 
 
-def head(program, begun, lacking):
-    """When, where and with what."""
+def head(program, started, missing):
+    """Returns the head of the tables: the date, the machine, the versions, and what could not be made."""
     clang = newest("clang")
     versions = [f"{name} {version(name)}" for name in ("wasm-tools", "wat2wasm", "wasm-as")]
     versions.append(run([clang, "--version"]).out.decode().splitlines()[0] if clang else "no clang")
-    lines = [f"Date: {begun:%Y-%m-%d}. Machine: {machine()}.", f"Versions: {', '.join(versions)}. Program: {os.environ.get('PROGRAM_IS', program)}.", *lacking]
+    lines = [f"Date: {started:%Y-%m-%d}. Machine: {machine()}.", f"Versions: {', '.join(versions)}. Program: {os.environ.get('PROGRAM_IS', program)}.", *missing]
     return "\n".join(lines) + "\n\n"
 
 
-def whole(results, program, begun, lacking):
-    """All tables."""
+def whole(results, program, started, missing):
+    """Returns all tables with their headings."""
     readers = [reader.name for reader in READERS if reader.path]
     sets, modules = sum(it.sets for it in results), len(results)
     texts = sum(len(it.verdicts) for it in results)
-    parts = [head(program, begun, lacking), f"{modules:,} modules, {sets:,} texts printed, {texts:,} texts assembled.\n\n", groups(results, readers)]
+    parts = [head(program, started, missing), f"{modules:,} modules, {sets:,} texts printed, {texts:,} texts assembled.\n\n", groups(results, readers)]
     parts += ["### What printwasm refuses\n\n", refusals(results), "\n### Checks of texts that failed\n\n", failures(results)]
-    parts += ["\n### What assemblers refuse\n\n", told(results, ("refused",))]
-    parts += ["\n### Where modules differ, or can't be compared\n\n", told(results, ("differs", "unknown"))]
+    parts += ["\n### What assemblers refuse\n\n", messages(results, ("refused",))]
+    parts += ["\n### Where modules differ, or can't be compared\n\n", messages(results, ("differs", "unknown"))]
     parts += ["\n### Names and custom sections\n\n", notes(results)]
     return "".join(parts)
 
 
 def main(program, work):
-    begun, lacking = datetime.date.today(), []
-    modules = all_modules(work, lacking)
+    started, missing = datetime.date.today(), []
+    modules = all_modules(work, missing)
     only = os.environ.get("ONLY")
     modules = [it for it in modules if not only or only in it.path or only in it.group]
     order = sorted(range(len(modules)), key=lambda at: -modules[at].size)
@@ -117,7 +117,7 @@ def main(program, work):
             results[at] = result
             if count % 200 == 199:
                 print(f"real: {count + 1} of {len(modules)}", file=sys.stderr, flush=True)
-    text = whole(results, program, begun, lacking)
+    text = whole(results, program, started, missing)
     with open(os.path.join(work, "tables.md"), "w", encoding="utf-8") as file:
         file.write(text)
     print(text, end="")

@@ -1,4 +1,4 @@
-"""The modules: compiled from C and C++, assembled from the texts in `wat`, and those in packages of others."""
+"""Makes and finds the modules: compiled from C and C++, assembled from the texts in `wat`, and from Debian packages."""
 
 import glob
 import hashlib
@@ -12,7 +12,7 @@ HERE = os.path.dirname(os.path.abspath(__file__))
 LINKED = "-nostdlib -Wl,--no-entry -Wl,--export-all -Wl,--allow-undefined".split()
 SHARED = "-matomics -mbulk-memory -Wl,--shared-memory -Wl,--max-memory=1048576 -Wl,--import-memory"
 MANY = "-mbulk-memory -mreference-types -mnontrapping-fptoint -msign-ext -mmultivalue -Xclang -target-abi -Xclang experimental-mv -mwide-arithmetic"
-# The name of each compiled module, its source, and the compiler's words; what is compiled with `-c` stays an object, with relocations.
+# The name of each compiled module, its source, and the compiler's arguments. With `-c` the module is an object file, with relocations.
 COMPILED = (
     ("plain-O0", "plain.c", "-O0"), ("plain-O0-g", "plain.c", "-O0 -g"), ("plain-O2", "plain.c", "-O2"), ("plain-O2-g", "plain.c", "-O2 -g"),
     ("plain-Os", "plain.c", "-Os -Wl,--compress-relocations -Wl,--strip-all"), ("plain-object", "plain.c", "-O1 -g -c"),
@@ -28,25 +28,25 @@ ASSEMBLERS = (
     ("wat2wasm", ("--debug-names", *(f"--enable-{it}" for it in "threads function-references code-metadata gc custom-page-sizes wide-arithmetic".split()))),
 )
 RUST = "/usr/lib/rustlib/wasm32-unknown-unknown/lib"
-OLDER = "spectest/v1/"  # an older state of the tests of `spectest/v2/`
-SINGLE = 1000  # a folder of a package with more modules than this, or an archive, has one row
+OLDER = "spectest/v1/"  # an older version of the tests in `spectest/v2/`
+SINGLE = 1000  # in a package with fewer modules, every module is in the row of its file name
 
 
 class Module:
-    """A module to print: its group, the row of the table that it belongs to, its file."""
+    """A module to print: its group, its row of the table, its file and its size in bytes."""
 
     def __init__(self, group, row, path):
         self.group, self.row, self.path, self.size = group, row, path, os.path.getsize(path)
 
 
 def newest(tool):
-    """The program of LLVM with the highest version."""
+    """Returns the path of an LLVM program in its highest installed version, or `None`."""
     known = [path for path in glob.glob(f"/usr/bin/{tool}-[0-9]*") if path.rsplit("-", 1)[1].isdigit()]
     return max(known, key=lambda path: int(path.rsplit("-", 1)[1]), default=found(tool))
 
 
-def compiled(folder, told):
-    """Modules of the sources in `c`. Why one can't be made is told."""
+def compiled(folder, missing):
+    """Returns the modules compiled from the sources in `c`. Appends the reason to `missing` if one can't be compiled."""
     made = []
     for name, source, words in COMPILED:
         compiler, out = newest("clang++" if source.endswith("cpp") else "clang"), os.path.join(folder, f"c-{name}.wasm")
@@ -54,14 +54,14 @@ def compiled(folder, told):
         linked = [] if "-c" in words else LINKED
         ran = run([compiler, "--target=wasm32", *linked, *words, os.path.join(HERE, "c", source), "-o", out]) if compiler else None
         if ran is None or ran.status != 0:
-            told.append(f"`{name}` couldn't be compiled: {ran.fault() if ran else 'no clang'}")
+            missing.append(f"`{name}` couldn't be compiled: {ran.fault() if ran else 'no clang'}")
         else:
             made.append(Module("compiled from C and C++", name, out))
     return made
 
 
-def whole_library(folder, told):
-    """Rust's core library of Debian, with all that is in it, linked to one module."""
+def whole_library(folder, missing):
+    """Links every object of Debian's Rust core and allocating libraries into one module. Appends the reason to `missing` if that fails."""
     archives = sorted(glob.glob(f"{RUST}/liballoc-*.rlib") + glob.glob(f"{RUST}/libcore-*.rlib"))
     parts = [content for path in archives for _, content in members(read(path))]
     objects = [write(os.path.join(folder, "parts", f"{count}.o"), content) for count, content in enumerate(parts)]
@@ -69,13 +69,13 @@ def whole_library(folder, told):
     words = "--no-entry --export-all --allow-undefined --allow-multiple-definition --no-gc-sections".split()
     ran = run([linker, *words, *objects, "-o", out]) if linker and objects else None
     if ran is None or ran.status != 0:
-        told.append(f"Rust's library couldn't be linked: {ran.fault() if ran else 'no linker or no library'}")
+        missing.append(f"Rust's library couldn't be linked: {ran.fault() if ran else 'no linker or no library'}")
         return []
     return [Module("linked from others' archives", "Rust's core and allocating library, whole", out)]
 
 
-def assembled(folder, told):
-    """Modules of the texts in `wat`, by each assembler that reads them; what none reads is told. Equal modules count once."""
+def assembled(folder, missing):
+    """Returns the modules that each assembler makes of the texts in `wat`, without duplicates. Appends texts that none reads to `missing`."""
     made, seen = [], set()
     for text in sorted(glob.glob(os.path.join(HERE, "wat", "*.wat"))):
         name, read_by = os.path.basename(text)[:-4], []
@@ -88,12 +88,12 @@ def assembled(folder, told):
                 seen.add(read(out))
                 made.append(Module("assembled from texts", f"{name}, {tool}", out))
         if not read_by:
-            told.append(f"`{name}.wat` is read by no assembler")
+            missing.append(f"`{name}.wat` is read by no assembler")
     return made
 
 
 def kept_once(paths, seen):
-    """Those files whose bytes weren't seen before."""
+    """Returns the files that are not empty and whose contents are not in `seen` yet, and adds their digests to it."""
     kept = []
     for path in paths:
         digest = hashlib.sha256(read(path)).digest()
@@ -104,7 +104,7 @@ def kept_once(paths, seen):
 
 
 def packaged(folder):
-    """The modules in packages of others that were unpacked to a folder; those of one big set of tests have one row for each of its parts."""
+    """Returns the modules of the packages that are unpacked in a folder. In a large package, small modules share a row for each part of its tests."""
     made, seen = [], set()
     for package in sorted(os.listdir(folder)) if os.path.isdir(folder) else []:
         paths = sorted(it for it in glob.glob(os.path.join(folder, package, "**", "*.wasm"), recursive=True) if OLDER not in it)
@@ -119,7 +119,7 @@ def packaged(folder):
 
 
 def archived(folder):
-    """Objects in archives of packages of others, each in a file of its own."""
+    """Returns the objects in the archives of installed packages. Writes each to its own file."""
     made, seen = [], set()
     patterns = ("/usr/lib/wasm32-wasi/*.[ao]", "/usr/lib/llvm-*/lib/wasm32-wasi/*.a", "/usr/lib/llvm-*/lib/clang/*/lib/wasi/*.a",
                 *(f"{RUST}/lib{name}-*.rlib" for name in ("compiler_builtins", "alloc", "core")))
@@ -134,11 +134,11 @@ def archived(folder):
     return made
 
 
-def all_modules(work, told):
-    """All modules there are, the folder of those that are made emptied first."""
+def all_modules(work, missing):
+    """Returns all modules. Empties the folders `made` and `objects` of the working folder first."""
     for name in ("made", "objects"):
         shutil.rmtree(os.path.join(work, name), ignore_errors=True)
         os.makedirs(os.path.join(work, name))
     made = os.path.join(work, "made")
     found_ones = packaged(os.path.join(work, "packages")) + archived(os.path.join(work, "objects"))
-    return compiled(made, told) + assembled(made, told) + whole_library(made, told) + found_ones
+    return compiled(made, missing) + assembled(made, missing) + whole_library(made, missing) + found_ones

@@ -1,8 +1,8 @@
-"""Prints a module with every set of options, and checks what of the texts needs no assembler.
+"""Prints a module with every set of options, and makes the checks of the texts that need no assembler.
 
-The texts with `--color` have to be those without, sequences of colours deleted. Those with `--offsets` have to be those without, but for the
-places at the beginnings of lines and for white space. Each line of a skeleton has to stand in the whole text, in order, up to the points
-that stand for what is left out; and each field of the module has to have one.
+With the ANSI escape sequences deleted, a text with `--color` must equal the text without it. A text with `--offsets` must equal the text
+without it, except for white space and the places at the start of lines. Each line of a skeleton must occur in the whole text, in order, up
+to the `...` that replaces the omitted part. A skeleton must have a line for each field of the module.
 """
 
 import hashlib
@@ -17,19 +17,19 @@ SEQUENCE = re.compile(rb"\x1b\[[0-9;]*m")
 PLACE = re.compile(rb"^\(;@[0-9a-f]+ *;\)", re.M)
 FIELD = re.compile(rb"^(?:\(;@[0-9a-f]+ *;\))?  \(")
 PIECE = 1 << 22
-WORDS = ("--name-unnamed", "--fold")  # these make other texts; `--offsets`, `--skeleton` and `--color` add to one or take away
-EXPECTED = (b"error: legacy exception operator at byte", b"error: branch hint at byte")  # what is refused on purpose with --fold
+WORDS = ("--name-unnamed", "--fold")  # the options that change a text; `--offsets`, `--skeleton` and `--color` only add to it or omit parts
+EXPECTED = (b"error: legacy exception operator at byte", b"error: branch hint at byte")  # the intended errors with --fold
 
 
 class Printed:
-    """What printing a module with all sets gave: the texts to assemble, how many sets printed, refusals, and checks that failed."""
+    """The results of printing a module: the texts to assemble, the number of sets that printed, the refusals, and the failed checks."""
 
     def __init__(self):
         self.texts, self.sets, self.refused, self.failed = {}, 0, {}, []
 
 
 def pieces(text):
-    """A text in pieces of whole lines, so that a long one takes little memory besides."""
+    """Yields a text in pieces of whole lines, so that checking a long text needs little additional memory."""
     at = 0
     while at < len(text):
         cut = text.find(b"\n", at + PIECE)
@@ -39,58 +39,58 @@ def pieces(text):
 
 
 def squeezed(text):
-    """What tells texts apart that differ in more than places and white space."""
+    """Returns a digest of a text without its places and white space."""
     digest = hashlib.sha256()
     for piece in pieces(text):
         digest.update(PLACE.sub(b"", piece).translate(None, b" \t\n"))
     return digest.digest()
 
 
-def stands(line, whole):
-    """Whether a line of a skeleton says the beginning of a line, or all of it."""
+def matches(line, whole):
+    """Reports whether a line of a skeleton equals a line of the whole text, except for closing parentheses, or equals it up to ` ...)`."""
     cut = line.find(b" ...)")
     return line.rstrip(b")") == whole.rstrip(b")") if cut < 0 else whole.startswith(line[:cut])
 
 
 def skeleton_fault(skeleton, whole):
-    """What is wrong with a skeleton beside the whole text, or nothing."""
+    """Returns the first difference between a skeleton and the whole text, or `None`."""
     lines, fields = io.BytesIO(whole), 0
     for line in io.BytesIO(skeleton):
         line = line.rstrip(b"\n")
         fields += FIELD.match(line) is not None
-        if PLACE.sub(b"", line).strip() != b")" and not any(stands(line, other.rstrip(b"\n")) for other in lines):
-            return f"its line {line[:80]!r} isn't in the whole text, or not in order"
-    wanted = sum(FIELD.match(line) is not None for line in io.BytesIO(whole))
-    return None if fields == wanted else f"it has {fields} fields, the whole text {wanted}"
+        if PLACE.sub(b"", line).strip() != b")" and not any(matches(line, other.rstrip(b"\n")) for other in lines):
+            return f"line {line[:80]!r} is missing in the whole text, or out of order"
+    expected = sum(FIELD.match(line) is not None for line in io.BytesIO(whole))
+    return None if fields == expected else f"the skeleton has {fields} fields, the whole text {expected}"
 
 
-def colour_fault(coloured, text):
-    """What is wrong with a text in colours, or nothing."""
+def color_fault(colored, text):
+    """Returns the first difference between a text with ANSI escape sequences and the text without them, or `None`."""
     at = 0
-    for piece in pieces(coloured):
+    for piece in pieces(colored):
         plain = SEQUENCE.sub(b"", piece)
         if text[at:at + len(plain)] != plain:
-            return "without its sequences it isn't the text"
+            return "without its escape sequences it differs from the text"
         at += len(plain)
     if at != len(text):
-        return "without its sequences it is only a beginning of the text"
-    return "it has no colours" if coloured == text else None
+        return "without its escape sequences it is only a prefix of the text"
+    return "it contains no escape sequences" if colored == text else None
 
 
 class Printer:
-    """The program on one module."""
+    """Runs printwasm on one module."""
 
     def __init__(self, program, path, printed):
         self.program, self.path, self.printed = program, path, printed
 
     def text(self, words):
-        """The text with a set of options, or nothing where it is refused."""
+        """Returns the text with a set of options, or `None` if printwasm refuses it. Checks that a refusal is one line and status 1."""
         ran = run([self.program, *words, self.path])
-        if ran.status == 0 and not ran.told:
+        if ran.status == 0 and not ran.err:
             self.printed.sets += 1
             return ran.out
-        if ran.status != 1 or ran.out or ran.told.count(b"\n") != 1 or not ran.told.startswith(b"error: "):
-            self.failed(words, f"status {ran.status}, {len(ran.out)} bytes of text, told {ran.told[:200]!r}")
+        if ran.status != 1 or ran.out or ran.err.count(b"\n") != 1 or not ran.err.startswith(b"error: "):
+            self.failed(words, f"status {ran.status}, {len(ran.out)} bytes of text, message {ran.err[:200]!r}")
         self.printed.refused[words] = ran.fault()
         return None
 
@@ -102,22 +102,22 @@ class Printer:
             self.failed(words, fault)
 
     def both(self, words):
-        """The text with a set of options; the same in colours is checked against it."""
+        """Returns the text with a set of options, and checks the text with `--color` against it."""
         text = self.text(words)
-        coloured = self.text((*words, "--color"))
-        if text is None or coloured is None:
-            if text is not coloured:
-                self.failed(words, "it prints in colours alone, or without alone")
+        colored = self.text((*words, "--color"))
+        if text is None or colored is None:
+            if text is not colored:
+                self.failed(words, "it prints only with or only without --color")
             return text
-        self.judged((*words, "--color"), colour_fault(coloured, text))
+        self.judged((*words, "--color"), color_fault(colored, text))
         return text
 
     def kind(self, words):
-        """The eight sets of one kind of text. The texts are written to files, for the assemblers."""
+        """Prints and checks the eight sets of options that contain these of WORDS. Returns the whole text without and with places."""
         whole = self.both(words)
         placed = self.both((*words, "--offsets"))
         if whole is not None and placed is not None and squeezed(placed) != squeezed(whole):
-            self.failed((*words, "--offsets"), "but for places it isn't the text")
+            self.failed((*words, "--offsets"), "it differs from the text in more than places and white space")
         for extra, text in (((), whole), (("--offsets",), placed)):
             skeleton = self.both((*words, *extra, "--skeleton"))
             if skeleton is not None and text is not None:
@@ -126,7 +126,7 @@ class Printer:
 
 
 def printed_texts(program, path, folder):
-    """Prints with all 32 sets; the eight texts without colours that are whole stand in files of the folder."""
+    """Prints with all 32 sets. Writes the eight texts without `--color` and `--skeleton` to files of the folder, for the assemblers."""
     printed = Printed()
     printer = Printer(program, path, printed)
     for count in range(len(WORDS) + 1):

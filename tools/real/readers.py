@@ -1,10 +1,10 @@
-"""The assemblers, and the comparison of what they make of a text with the module that was printed.
+"""Calls the assemblers, and compares each module that they make of a text with the module that was printed.
 
-Two modules are compared by their sections, byte for byte: first as they stand, then each normalised by one tool, which spells numbers in
-the shortest way, drops sections that hold nothing, and so on. For `wasm-tools parse` and `wat2wasm` that is `wasm-tools print` and then
-`wasm-tools parse`. `wasm-as` assembles to code of its own, so there it is `wasm-opt` without passes, which reads and writes as `wasm-as` does.
-Where `wat2wasm` and `wasm-as` spell by rules of their own, what they make of our text is compared with what they make of the text that
-`wasm-tools print` gives of the same module with the same options.
+The sections of two modules are compared byte for byte, first unchanged and then normalised. Normalising encodes numbers in the fewest bytes,
+drops empty sections, and so on. For `wasm-tools parse` and `wat2wasm` it is `wasm-tools print` followed by `wasm-tools parse`. `wasm-as`
+generates code of its own, so for it normalising is `wasm-opt` without passes, which reads and writes as `wasm-as` does. Since `wat2wasm` and
+`wasm-as` encode some things by rules of their own, the module that they make of our text is also compared with the module that they make of
+the text of `wasm-tools print` for the same module and options.
 """
 
 import hashlib
@@ -15,12 +15,12 @@ from wasm import Malformed, custom_sections, names, plain_sections
 
 SECTION = "custom type import function table memory global export start element code data datacount tag".split()
 PEER_WORDS = {"--name-unnamed": "--name-unnamed", "--fold": "--fold-instructions"}
-# Everything but compact imports: with `--enable-all`, imports are written in a form that is out of scope.
+# All features except compact imports: with `--enable-all`, imports are written in a form that is out of scope.
 WABT = tuple(f"--enable-{it}" for it in "threads function-references code-metadata gc custom-page-sizes wide-arithmetic".split())
 
 
 class Reader:
-    """An assembler: its name, how it is called, how it reads bytes, and whether its modules keep names and custom sections."""
+    """An assembler: its name, its arguments, the command that reads a module, and whether names and custom sections are compared."""
 
     def __init__(self, name, words, binary, keeps_names, keeps_customs):
         self.name, self.words, self.binary = name, words, binary
@@ -36,14 +36,14 @@ READERS = [
 
 
 class Verdict:
-    """What became of one text at one assembler: a word, and what there is to say of it."""
+    """The result of one assembler for one text: a word of the tables, the reason, and notes on names and custom sections."""
 
     def __init__(self, word, why="", notes=()):
         self.word, self.why, self.notes = word, why, tuple(notes)
 
 
 def roundtrip(source, folder):
-    """A module as `wasm-tools` writes it again, or what it told instead."""
+    """Returns a module printed and parsed by `wasm-tools`, and `None`; or `None` and the error."""
     text, out = os.path.join(folder, "norm.wat"), os.path.join(folder, "norm.wasm")
     for command in ([found("wasm-tools"), "print", source, "-o", text], [found("wasm-tools"), "parse", text, "-o", out]):
         ran = run(command)
@@ -53,33 +53,33 @@ def roundtrip(source, folder):
 
 
 def rewritten(source, folder):
-    """A module as `wasm-opt` writes it again."""
+    """Returns a module read and written by `wasm-opt`, and `None`; or `None` and the error."""
     out = os.path.join(folder, "norm.wasm")
     ran = run([found("wasm-opt"), "-all", "-n", "-q", source, "-o", out])
     return (read(out), None) if ran.status == 0 else (None, ran.fault())
 
 
 class Original:
-    """The module that was printed, and what each normaliser makes of it, once."""
+    """The module that was printed, and its normalised forms, each computed once."""
 
     def __init__(self, path, folder):
         self.path, self.folder, self.wasm = path, folder, read(path)
         self.plain, self.normal, self.known, self.binaries = plain_sections(self.wasm), {}, {}, {}
 
     def normalised(self, reader, path):
-        """The sections of a module, normalised, or nothing; and what the normaliser told."""
+        """Returns the normalised sections of a module, or `None`, and the error of normalising, or `None`."""
         wasm, fault = (rewritten if reader.name == "wasm-as" else roundtrip)(path, self.folder)
         return (plain_sections(wasm) if wasm is not None else None), fault
 
     def own(self, reader):
-        """The same of the original."""
+        """Returns the normalised sections of the original, and the error, as `normalised` does."""
         way = reader.name == "wasm-as"
         if way not in self.normal:
             self.normal[way] = self.normalised(reader, self.path)
         return self.normal[way]
 
     def by_other_text(self, reader, words):
-        """The sections of what an assembler makes of the text that `wasm-tools print` gives with the same options, or nothing."""
+        """Returns the sections that an assembler makes of the text of `wasm-tools print` with the same options, or `None`."""
         text, out = os.path.join(self.folder, "other.wat"), os.path.join(self.folder, "other.wasm")
         options = [PEER_WORDS[word] for word in words if word in PEER_WORDS]
         if run([found("wasm-tools"), "print", *options, self.path, "-o", text]).status != 0:
@@ -87,7 +87,7 @@ class Original:
         return plain_sections(read(out)) if run([reader.path, *reader.words, text, "-o", out]).status == 0 else None
 
     def refused_by(self, reader):
-        """What a tool of the reader's family tells of the bytes themselves, where it refuses these too."""
+        """Returns the error of the tool that reads modules for this assembler, if it refuses the original too, or `None`."""
         if reader.name not in self.binaries:
             command = [found(reader.binary[0]), *reader.binary[1:], self.path, "-o", os.path.join(self.folder, "binary.out")]
             ran = run(command)
@@ -96,12 +96,12 @@ class Original:
 
 
 def first_difference(ours, theirs):
-    """Where two lists of sections begin to differ."""
+    """Describes the first difference between two lists of sections."""
     kinds = [kind for kind, _ in ours], [kind for kind, _ in theirs]
     if kinds[0] != kinds[1]:
-        lacks = [SECTION[k] if k < len(SECTION) else str(k) for k in kinds[0] if k not in kinds[1]]
-        more = [SECTION[k] if k < len(SECTION) else str(k) for k in kinds[1] if k not in kinds[0]]
-        return f"sections: lacks {' '.join(lacks) or 'none'}, has more {' '.join(more) or 'none'}"
+        missing = [SECTION[k] if k < len(SECTION) else str(k) for k in kinds[0] if k not in kinds[1]]
+        extra = [SECTION[k] if k < len(SECTION) else str(k) for k in kinds[1] if k not in kinds[0]]
+        return f"sections: missing {' '.join(missing) or 'none'}, extra {' '.join(extra) or 'none'}"
     for (kind, a), (_, b) in zip(ours, theirs):
         if a != b:
             at = next((i for i, (x, y) in enumerate(zip(a, b)) if x != y), min(len(a), len(b)))
@@ -109,30 +109,33 @@ def first_difference(ours, theirs):
     return "nothing"
 
 
-def name_notes(original, again, made_up):
-    """Of which kinds names came back otherwise or were lost, and of which some came besides."""
+def name_notes(original, again, synthesized):
+    """Returns a note for each kind of names of which one differs or is missing, and for each kind of which one was added.
+
+    Added names are expected if the text has synthesized identifiers.
+    """
     ours, theirs = names(original), names(again)
     lost = dict.fromkeys(key[0] for key in ours if theirs.get(key) != ours[key])
-    more = {} if made_up else dict.fromkeys(key[0] for key in theirs if key not in ours)
-    return [f"names of the kind {kind} otherwise or not there" for kind in lost] + [f"names of the kind {kind} besides" for kind in more]
+    added = {} if synthesized else dict.fromkeys(key[0] for key in theirs if key not in ours)
+    return [f"names of the kind {kind} differ or are missing" for kind in lost] + [f"names of the kind {kind} were added" for kind in added]
 
 
 def custom_notes(original, again):
-    """Custom sections, but name sections, that came back otherwise or elsewhere, were lost, or came besides."""
+    """Returns a note for each custom section, except name sections, that differs, moved or is missing, or one note if only the order differs."""
     ours = [it for it in custom_sections(original) if it[0] != b"name"]
     theirs = [it for it in custom_sections(again) if it[0] != b"name"]
     lost = [it for it in ours if it not in theirs]
     if not lost and len(ours) == len(theirs):
         return [] if ours == theirs else ["custom sections in another order"]
-    bare = [(name, data) for name, data, _ in theirs]
-    moved = [name for name, data, _ in lost if (name, data) in bare]
-    gone = [name for name, data, _ in lost if (name, data) not in bare]
+    contents = [(name, data) for name, data, _ in theirs]
+    moved = [name for name, data, _ in lost if (name, data) in contents]
+    gone = [name for name, data, _ in lost if (name, data) not in contents]
     notes = [f"custom section {name.decode('utf-8', 'replace')} at another place" for name in moved]
-    return notes + [f"custom section {name.decode('utf-8', 'replace')} otherwise or not there" for name in gone]
+    return notes + [f"custom section {name.decode('utf-8', 'replace')} differs or is missing" for name in gone]
 
 
 def compared(original, reader, words, path):
-    """The sections of the module that was assembled beside those of the original."""
+    """Compares the sections of the assembled module with those of the original."""
     again = plain_sections(read(path))
     if again == original.plain:
         return Verdict("same")
@@ -145,12 +148,12 @@ def compared(original, reader, words, path):
     if ours is None:
         return Verdict("unknown", f"can't normalise the original: {fault}")
     if theirs is None:
-        return Verdict("unknown", f"can't normalise what was assembled: {other_fault}")
+        return Verdict("unknown", f"can't normalise the assembled module: {other_fault}")
     return Verdict("differs", first_difference(ours, theirs))
 
 
 def noted(original, reader, words, verdict, path):
-    """The verdict, with what is to say of names and custom sections where the assembler keeps them."""
+    """Returns the verdict with notes on names and custom sections, if the assembler keeps them."""
     again, notes = read(path), []
     if reader.keeps_names:
         notes += name_notes(original.wasm, again, "--name-unnamed" in words)
@@ -160,7 +163,7 @@ def noted(original, reader, words, verdict, path):
 
 
 def assembled(original, reader, words, text):
-    """Assembles a text and judges what came of it. What was judged once isn't judged again."""
+    """Assembles a text and returns the verdict. Modules with the same bytes are compared once."""
     out = os.path.join(original.folder, "again.wasm")
     if os.path.exists(out):
         os.remove(out)
@@ -173,5 +176,5 @@ def assembled(original, reader, words, text):
         try:
             original.known[key] = noted(original, reader, words, compared(original, reader, words, out), out)
         except Malformed as fault:
-            original.known[key] = Verdict("differs", f"what was assembled isn't whole: {fault}")
+            original.known[key] = Verdict("differs", f"the assembled module is malformed: {fault}")
     return original.known[key]

@@ -1,4 +1,4 @@
-"""The tables, in markdown."""
+"""Formats the tables in Markdown."""
 
 import collections
 
@@ -8,13 +8,13 @@ WORDS = ("same", "normal", "alike", "differs", "unknown", "refused")
 
 
 def table(heads, lines):
-    """A table whose first column is words."""
+    """Returns a table with these headings and rows."""
     rows_of_cells = [[str(cell).replace("|", "\\|") for cell in cells] for cells in [heads, ["---"] * len(heads), *lines]]
     return "\n".join("| " + " | ".join(cells) + " |" for cells in rows_of_cells) + "\n"
 
 
 def counts(results, reader):
-    """How often each verdict came, of the texts that one assembler was given."""
+    """Returns the number of each verdict of one assembler."""
     total = collections.Counter(v.word for it in results for r, _, v in it.verdicts if r == reader)
     return ", ".join(f"{total[word]} {word}" for word in WORDS if total[word]) or "-"
 
@@ -25,7 +25,7 @@ def size(results):
 
 
 def rows(results, readers):
-    """For each row: how many modules and bytes, how many sets printed, were refused, failed a check, and the verdicts of the assemblers."""
+    """Returns the table of one group: for each row its modules and bytes, the sets that printed, were refused or failed a check, and the verdicts."""
     named = collections.OrderedDict()
     for it in results:
         named.setdefault(it.row, []).append(it)
@@ -37,7 +37,7 @@ def rows(results, readers):
 
 
 def groups(results, readers):
-    """A table for each group of modules."""
+    """Returns a table for each group of modules."""
     named = collections.OrderedDict()
     for it in results:
         named.setdefault(it.group, []).append(it)
@@ -45,7 +45,7 @@ def groups(results, readers):
 
 
 def refusals(results):
-    """What printwasm refused, with what `wasm-tools` says of the same bytes."""
+    """Returns the table of the errors of printwasm, with the result of `wasm-tools` for the same bytes."""
     found = collections.OrderedDict()
     for it in results:
         for words, fault in it.refused.items():
@@ -55,17 +55,17 @@ def refusals(results):
         modules = {it.path for it, _ in its}
         smallest = min((it for it, _ in its), key=lambda it: it.size)
         lines.append([f"`{fault}`", judged, len(modules), len(its), f"{smallest.row}, {smallest.name}, {smallest.size} bytes"])
-    return table(["printwasm tells", "wasm-tools of these bytes", "modules", "sets", "the smallest"], lines) if lines else "None.\n"
+    return table(["error of printwasm", "wasm-tools on these bytes", "modules", "sets", "smallest module"], lines) if lines else "None.\n"
 
 
 def failures(results):
-    """Checks that failed."""
+    """Returns the table of failed checks, at most 100 of them."""
     lines = [[it.row, it.name, it.size, fault] for it in results for fault in it.failed]
-    return table(["module", "file", "bytes", "what"], lines[:100]) if lines else "None.\n"
+    return table(["module", "file", "bytes", "failed check"], lines[:100]) if lines else "None.\n"
 
 
-def told(results, words):
-    """What the assemblers told of texts that they refused, or where their modules differ, by kind of message."""
+def messages(results, words):
+    """Returns the table of the messages for these verdicts, one row for each kind of message, with its reason."""
     found = collections.OrderedDict()
     for it in results:
         for reader, options, verdict in it.verdicts:
@@ -80,11 +80,11 @@ def told(results, words):
         smallest, options, verdict = min(its, key=lambda entry: entry[0].size)
         shown = f"`{message or (verdict.why if verdict.word == 'differs' else general(verdict.why))}`"
         lines.append([reader, why, shown, also, len({it.path for it, _, _ in its}), len(its), f"{smallest.row} ({smallest.name}) {' '.join(options)}"])
-    return table(["assembler", "why", "told", "and", "modules", "texts", "the smallest"], lines) if lines else "None.\n"
+    return table(["assembler", "reason", "message", "binary input", "modules", "texts", "smallest module"], lines) if lines else "None.\n"
 
 
 def notes(results):
-    """What came back otherwise of names and custom sections."""
+    """Returns the table of the notes on names and custom sections."""
     found = collections.OrderedDict()
     for it in results:
         for reader, options, verdict in it.verdicts:
@@ -94,4 +94,4 @@ def notes(results):
     for (reader, note), its in sorted(found.items(), key=lambda pair: (pair[0][0], -len(pair[1]))):
         smallest, options = min(its, key=lambda entry: entry[0].size)
         lines.append([reader, note, note_reason(reader, note), len({it.path for it, _ in its}), len(its), f"{smallest.row} ({smallest.name}) {' '.join(options)}"])
-    return table(["assembler", "what", "why", "modules", "texts", "the smallest"], lines) if lines else "None.\n"
+    return table(["assembler", "difference", "reason", "modules", "texts", "smallest module"], lines) if lines else "None.\n"

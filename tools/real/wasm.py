@@ -1,4 +1,4 @@
-"""What a module's bytes are made of, as far as comparing needs it: sections, custom sections with their places, names. And members of archives."""
+"""Reads the parts of modules that are compared: sections, custom sections with their places, and names. Also reads archives."""
 
 MAGIC = b"\0asm\1\0\0\0"
 CUSTOM, START, DATA_COUNT = 0, 8, 12
@@ -7,15 +7,15 @@ INDIRECT_MAPS = {2: "local", 3: "label", 10: "field"}
 
 
 class Malformed(Exception):
-    """Bytes that don't stand whole."""
+    """The bytes are malformed."""
 
 
 def number(data, at):
-    """An unsigned number in LEB128, and where it ends."""
+    """Reads an unsigned LEB128 number, and returns it with the offset after it."""
     value = shift = 0
     while True:
         if at >= len(data):
-            raise Malformed("a number is cut")
+            raise Malformed("a number is truncated")
         byte = data[at]
         value |= (byte & 0x7F) << shift
         at, shift = at + 1, shift + 7
@@ -24,17 +24,17 @@ def number(data, at):
 
 
 def chunk(data, at):
-    """Bytes behind their number, and where they end."""
+    """Reads a length and that many bytes, and returns the bytes with the offset after them."""
     size, at = number(data, at)
     if at + size > len(data):
-        raise Malformed("bytes are cut")
+        raise Malformed("a list of bytes is truncated")
     return data[at:at + size], at + size
 
 
 def sections(wasm):
-    """The sections in order: the id of each, and what it holds."""
+    """Returns the id and the contents of each section, in order."""
     if wasm[:8] != MAGIC:
-        raise Malformed("no core module")
+        raise Malformed("not a core module")
     found, at = [], 8
     while at < len(wasm):
         kind = wasm[at]
@@ -44,17 +44,17 @@ def sections(wasm):
 
 
 def holds_something(kind, content):
-    """Whether the text tells of a section: a start section always, another where its list isn't empty, a data count never."""
+    """Reports whether a section shows in the text: a start section always, a data count never, any other if its list is not empty."""
     return kind == START or (kind != DATA_COUNT and content[:1] != b"\0")
 
 
 def plain_sections(wasm):
-    """The sections that aren't custom, but for those that hold nothing."""
+    """Returns the sections that are neither custom nor empty."""
     return [(kind, content) for kind, content in sections(wasm) if kind != CUSTOM and (kind == DATA_COUNT or holds_something(kind, content))]
 
 
 def custom_sections(wasm):
-    """The custom sections in order: name, bytes, and the last other section in front that holds something."""
+    """Returns the custom sections in order: name, contents, and the id of the last section before it that shows in the text."""
     found, place = [], None
     for kind, content in sections(wasm):
         if kind == CUSTOM:
@@ -66,7 +66,7 @@ def custom_sections(wasm):
 
 
 def name_map(data, at, label, found):
-    """The names of a map into `found`, by what they are of; where the map ends."""
+    """Adds the names of a name map to `found`, under the label and their indices. Returns the offset after the map."""
     count, at = number(data, at)
     for _ in range(count):
         index, at = number(data, at)
@@ -76,7 +76,7 @@ def name_map(data, at, label, found):
 
 
 def subsection_names(kind, data, found):
-    """The names of one subsection into `found`."""
+    """Adds the names of one subsection of a name section to `found`."""
     if kind == 0:
         found[("module",)] = chunk(data, 0)[0]
     elif kind in NAME_MAPS:
@@ -89,7 +89,7 @@ def subsection_names(kind, data, found):
 
 
 def names(wasm):
-    """The names that name sections give, each by the kind and the index of what has it. Reading a section ends at its first fault."""
+    """Returns the names of all name sections, by the kind and the index of the item. Reading a section stops at its first malformed byte."""
     found = {}
     for name, data, _ in custom_sections(wasm):
         at = 0
@@ -104,7 +104,7 @@ def names(wasm):
 
 
 def members(archive):
-    """The members of an archive of the Unix kind that are modules, with their names."""
+    """Returns the name and the contents of each member of a Unix archive that is a module."""
     found, at, long_names = [], 8, b""
     while at + 60 <= len(archive):
         name, size = archive[at:at + 16].decode("latin-1").strip(), int(archive[at + 48:at + 58])

@@ -1,4 +1,4 @@
-"""Bodies of functions as a compiler might make them: statements over typed expressions, drawn by a seeded generator of random numbers."""
+"""Generates bodies of functions as a compiler might make them: statements over typed expressions, drawn by a seeded random generator."""
 
 import struct
 
@@ -8,7 +8,7 @@ BINARY = {
     "i32": range(0x6A, 0x79), "i64": range(0x7C, 0x8B), "f32": range(0x92, 0x99), "f64": range(0xA0, 0xA7), "v128": (78, 80, 81, 174, 177, 181, 240, 242),
 }
 UNARY = {"i32": range(0x67, 0x6A), "i64": range(0x79, 0x7C), "f32": range(0x8B, 0x92), "f64": range(0x99, 0xA0), "v128": (77, 160, 236)}
-# opcodes that turn a value of one type into one of another, those of vectors with the number of a lane where they have one
+# opcodes by the type of their result, each with the type of its operand; those of vectors include a lane index if they have one
 CONVERT = {
     "i32": (("i64", b"\xa7"), ("f64", b"\xaa"), ("v128", b"\xfd\x1b\x02"), ("i32", b"\x45"), ("i64", b"\x50")),
     "i64": (("i32", b"\xac"), ("i32", b"\xad"), ("f64", b"\xbd")),
@@ -17,7 +17,7 @@ CONVERT = {
     "v128": (("i32", b"\xfd\x11"), ("f64", b"\xfd\x14")),
 }
 COMPARE = (("i32", range(0x46, 0x50)), ("i64", range(0x51, 0x5B)), ("f64", range(0x61, 0x67)))
-# opcodes with the greatest alignment that each may have, as an exponent
+# opcodes, each with its greatest alignment as an exponent of 2
 LOADS = {
     "i32": ((b"\x28", 2), (b"\x28", 2), (b"\x2c", 0), (b"\x2d", 0), (b"\x2f", 1)), "i64": ((b"\x29", 3), (b"\x31", 0), (b"\x35", 2)),
     "f32": ((b"\x2a", 2),), "f64": ((b"\x2b", 3),), "v128": ((b"\xfd\x00", 4),),
@@ -31,7 +31,7 @@ FLOATS = (0.0, 1.0, -1.0, 0.5, 100.0, 3.141592653589793, 1e-9, 6.02e23, float("i
 
 
 class Body:
-    """A body under way: what it may use, and its bytes so far."""
+    """A body that is being generated: the items that it may use, and its bytes so far."""
 
     def __init__(self, rng, world, signature):
         self.rng, self.world, self.out = rng, world, bytearray()
@@ -49,7 +49,7 @@ class Body:
     # values
 
     def const(self, kind):
-        """A constant."""
+        """Appends a constant."""
         rng = self.rng
         if kind in ("i32", "i64"):
             bits = self.pick(BITS) * (2 if kind == "i64" and rng.random() < 0.3 else 1)
@@ -64,7 +64,7 @@ class Body:
             self.out += b"\xfd\x0c" + rng.randbytes(16)
 
     def leaf(self, kind):
-        """A value without operands: a local, a global or a constant."""
+        """Appends an operator without operands: a local, a global or a constant."""
         locals_ = self.by_kind.get(kind)
         chance = self.rng.random()
         if locals_ and chance < 0.68:
@@ -75,13 +75,13 @@ class Body:
             self.const(kind)
 
     def memory(self, forms):
-        """A load or a store with its alignment and offset."""
+        """Appends a load or a store with its alignment and offset."""
         opcode, align = self.pick(forms)
         offset = int(self.rng.random() ** 4 * 4000) if self.rng.random() < 0.9 else 1048576 + int(self.rng.random() * 65536)
         self.out += opcode + unsigned(align if self.rng.random() < 0.8 else 0) + unsigned(offset)
 
     def plain(self, kind, opcode):
-        """An operator without immediates; that of vectors with its prefix."""
+        """Appends an operator without immediates, of vectors with its prefix."""
         self.out += b"\xfd" + unsigned(opcode) if kind == "v128" else bytes([opcode])
 
     def binary(self, kind, depth):
@@ -101,7 +101,7 @@ class Body:
         self.out += b"\x1b" if kind != "v128" else b"\x1c\x01\x7b"
 
     def if_value(self, kind, depth):
-        """An `if` that gives a value."""
+        """Appends an `if` with a result."""
         self.condition(depth - 1)
         self.out += bytes([0x04, TYPES[kind]])
         self.labels += 1
@@ -112,7 +112,7 @@ class Body:
         self.labels -= 1
 
     def condition(self, depth):
-        """A comparison, most often."""
+        """Appends a comparison in 70% of cases, or any value."""
         if self.rng.random() < 0.3:
             return self.value("i32", depth)
         kind, opcodes = self.pick(COMPARE)
@@ -121,13 +121,13 @@ class Body:
         self.out.append(self.pick(opcodes))
 
     def call(self, index):
-        """A call with its operands."""
+        """Appends a call with its operands."""
         for kind in self.world.signature(index)[0]:
             self.value(kind, 1)
         self.out += b"\x10" + unsigned(index)
 
     def value(self, kind, depth):
-        """A value of a type, of operators nested so deep at most."""
+        """Appends operators that compute a value of a type. `depth` limits their nesting."""
         chance = self.rng.random()
         if depth <= 0 or chance < 0.15:
             self.leaf(kind)
@@ -148,15 +148,15 @@ class Body:
         elif chance < 0.96 and kind in self.by_kind:
             self.value(kind, depth - 1)
             self.out += b"\x22" + unsigned(self.pick(self.by_kind[kind]))
-        elif self.world.giving.get(kind):
-            self.call(self.pick(self.world.giving[kind]))
+        elif self.world.with_result.get(kind):
+            self.call(self.pick(self.world.with_result[kind]))
         else:
             self.leaf(kind)
 
     # statements
 
     def nested(self, head, depth):
-        """A `block`, a `loop` or the beginning of an `if` with some statements."""
+        """Appends the start of a `block`, a `loop`, an `if` or an `else`, with one to four statements."""
         self.out += head
         self.labels += 1
         for _ in range(1 + int(self.rng.random() * 4)):
@@ -167,14 +167,14 @@ class Body:
         self.out.append(0x0B)
 
     def looped(self, depth):
-        """A loop that is gone through again where a condition holds."""
+        """Appends a loop that repeats if a condition holds."""
         self.nested(b"\x03\x40", depth)
         self.condition(2)
         self.out += b"\x0d\x00"
         self.close()
 
     def branched(self, depth):
-        """An `if`, with an `else` in one of two cases."""
+        """Appends an `if`, in half of the cases with an `else`."""
         self.condition(2)
         self.nested(b"\x04\x40", depth)
         if self.rng.random() < 0.5:
@@ -183,7 +183,7 @@ class Body:
         self.close()
 
     def switched(self, depth):
-        """Blocks in each other and a table of branches to them."""
+        """Appends nested blocks with a `br_table` to them."""
         count = 2 + int(self.rng.random() * 5)
         self.out += b"\x02\x40" * count
         self.labels += count
@@ -194,7 +194,7 @@ class Body:
             self.statement(depth - 2)
 
     def assigned(self):
-        """A local, a global or the memory is set."""
+        """Appends an assignment to a local, to a global or to memory."""
         chance = self.rng.random()
         if chance < 0.6:
             index = int(self.rng.random() * len(self.local_kinds))
@@ -210,7 +210,7 @@ class Body:
             self.memory(STORES[kind])
 
     def called(self):
-        """A call whose results, if any, are dropped; one of ten through the table."""
+        """Appends a call and drops its results. One call in ten is indirect."""
         if self.rng.random() < 0.1:
             number = int(self.rng.random() * len(self.world.types))
             for kind in self.world.types[number][0]:
@@ -225,7 +225,7 @@ class Body:
         self.out += b"\x1a" * len(results)
 
     def statement(self, depth):
-        """A statement: it leaves no value."""
+        """Appends a statement: operators that leave no value on the stack."""
         chance = self.rng.random()
         if depth <= 0 or chance < 0.5:
             self.assigned()
@@ -245,7 +245,7 @@ class Body:
             self.switched(depth)
 
     def whole(self, size):
-        """A body of about this many bytes, with its locals."""
+        """Returns a body of about `size` bytes, with its locals."""
         while len(self.out) < size:
             self.statement(4)
         for kind in self.results:

@@ -1,11 +1,11 @@
-"""The binary format's numbers, strings, lists and sections."""
+"""Encodes numbers, strings, lists and sections in the binary format."""
 
 TYPES = {"i32": 0x7F, "i64": 0x7E, "f32": 0x7D, "f64": 0x7C, "v128": 0x7B}
 FUNCREF = 0x70
 
 
 def unsigned(n):
-    """An unsigned number in LEB128."""
+    """Returns an unsigned number in LEB128."""
     out = bytearray()
     while n > 0x7F:
         out.append(n & 0x7F | 0x80)
@@ -15,7 +15,7 @@ def unsigned(n):
 
 
 def signed(n):
-    """A signed number in LEB128."""
+    """Returns a signed number in LEB128."""
     out = bytearray()
     while not -64 <= n <= 63:
         out.append(n & 0x7F | 0x80)
@@ -25,36 +25,36 @@ def signed(n):
 
 
 def string(text):
-    """A string with its length."""
+    """Returns the UTF-8 bytes of a string after their number."""
     data = text.encode()
     return unsigned(len(data)) + data
 
 
 def listed(items):
-    """A list of items with their number."""
+    """Returns a list of items after their number."""
     return unsigned(len(items)) + b"".join(items)
 
 
 def sized(data):
-    """Bytes with their number."""
+    """Returns bytes after their number."""
     return unsigned(len(data)) + data
 
 
 def section(kind, data):
-    """A section: its kind, its size, what it holds."""
+    """Returns a section: its id, its size and its contents."""
     return bytes([kind]) + sized(data)
 
 
 def custom(name, data):
-    """A custom section."""
+    """Returns a custom section."""
     return section(0, string(name) + data)
 
 
 def types(names):
-    """A list of value types."""
+    """Returns a list of value types."""
     return unsigned(len(names)) + bytes(TYPES[n] for n in names)
 
 
 def counted_i32(n):
-    """The expression of an i32 constant, with its end."""
+    """Returns the expression of an i32 constant, with its `end`."""
     return b"\x41" + signed(n) + b"\x0b"

@@ -1,4 +1,4 @@
-"""Modules of one kind and of any size, the same bytes each time: types, imports, functions, exports, elements, data, names."""
+"""Generates modules of any size: types, imports, functions, exports, elements, data, names. The same size gives the same bytes."""
 
 import random
 
@@ -11,30 +11,30 @@ LOCAL_NAMES = ("self", "len", "ptr", "i", "cap", "out", "state", "value", "key",
 
 
 class World:
-    """What the bodies of a module may use: types, functions, globals."""
+    """The types, functions and globals that the bodies of a module may use."""
 
     def __init__(self, rng, functions):
         self.globals, self.functions = 6, functions + IMPORTED
         self.types = [drawn_type(rng) for _ in range(24 + functions // 100)]
         self.type_of = [int(rng.random() ** 2 * len(self.types)) for _ in range(self.functions)]
-        self.giving = {}
+        self.with_result = {}  # the functions with a result of each type
         for index in range(self.functions):
             for kind in self.signature(index)[1]:
-                self.giving.setdefault(kind, []).append(index)
+                self.with_result.setdefault(kind, []).append(index)
 
     def signature(self, index):
         return self.types[self.type_of[index]]
 
 
 def drawn_type(rng):
-    """A function type: parameters, and a result or none."""
+    """Returns a function type: its parameters, and at most one result."""
     kinds = ("i32", "i32", "i32", "i32", "i64", "f64", "f32", "v128")
     params = [rng.choice(kinds) for _ in range(rng.choice((0, 1, 1, 2, 2, 3, 4, 6)))]
     return params, [rng.choice(kinds)] if rng.random() < 0.6 else []
 
 
 def function_name(rng, index):
-    """A name as compilers give them: plain, mangled, or with signs that an identifier has to quote."""
+    """Returns a name as compilers give them: plain, mangled, or with characters that an identifier must quote."""
     words = [rng.choice(WORDS) for _ in range(rng.randrange(2, 5))]
     chance = rng.random()
     if chance < 0.2:
@@ -47,14 +47,14 @@ def function_name(rng, index):
 
 
 def local_names(rng, world, index, bodies):
-    """The names of a function's locals."""
+    """Returns the entry of a function's local names."""
     count = len(bodies[index].local_kinds)
     names = [unsigned(i) + string(rng.choice(LOCAL_NAMES) + (str(i) if rng.random() < 0.8 else "")) for i in range(count)]
     return unsigned(index + IMPORTED) + listed(names)
 
 
 def name_section(rng, world, bodies):
-    """Names of the module, of all functions, and of the locals of half of them."""
+    """Returns the name section: names of the module, of all functions, of the locals of half of the functions, and of a global."""
     functions = [unsigned(i) + string(function_name(rng, i)) for i in range(world.functions)]
     locals_ = [local_names(rng, world, i, bodies) for i in range(len(bodies)) if rng.random() < 0.5]
     globals_ = [unsigned(0) + string("__stack_pointer")]
@@ -62,7 +62,7 @@ def name_section(rng, world, bodies):
 
 
 def data_bytes(rng):
-    """Some bytes: of text, of zeros, of small numbers, or of all kinds."""
+    """Returns the bytes of a data segment: text, zeros, small numbers, or random bytes."""
     size, chance = 8 + int(rng.random() ** 3 * 6000), rng.random()
     if chance < 0.4:
         return " ".join(rng.choice(WORDS) for _ in range(size // 6 + 1)).encode()
@@ -76,7 +76,7 @@ def data_bytes(rng):
 
 
 def data_segments(rng, size):
-    """Segments of this many bytes together: in the memory at their places, one of ten of them at none."""
+    """Returns data segments of about this many bytes in total. One in ten is passive, the others are active and do not overlap."""
     segments, place = [], 1024
     while place - 1024 < size:
         data = data_bytes(rng)
@@ -86,24 +86,24 @@ def data_segments(rng, size):
 
 
 def imports(world):
-    """Imported functions."""
+    """Returns the imported functions."""
     return [string("env") + string(f"host_{i}") + b"\x00" + unsigned(world.type_of[i]) for i in range(IMPORTED)]
 
 
 def exports(rng, world):
-    """The memory, and one function of twenty."""
+    """Returns the exports: the memory, and one function in twenty."""
     chosen = [i for i in range(IMPORTED, world.functions) if i % 20 == 0]
     return [string("memory") + b"\x02\x00"] + [string(f"{rng.choice(WORDS)}_{i}") + b"\x00" + unsigned(i) for i in chosen]
 
 
 def elements(rng, world):
-    """A segment that puts one function of three into the table, and one at no place."""
+    """Returns the element segments: an active one with one function in three, and a passive one."""
     placed = [unsigned(i) for i in range(IMPORTED, world.functions) if rng.random() < 0.34]
     return [b"\x00" + counted_i32(1) + listed(placed), b"\x01\x00" + listed(placed[:8])]
 
 
 def module(target, seed=1):
-    """A module of about so many bytes."""
+    """Returns a module of about `target` bytes."""
     rng = random.Random(seed)
     world = World(rng, max(1, target // 500))
     bodies = [Body(rng, world, world.signature(i)) for i in range(IMPORTED, world.functions)]

@@ -1,13 +1,13 @@
-"""The tables, in markdown, and which wanted limits are missed."""
+"""Formats the tables in Markdown, and lists the limits that are missed."""
 
-TIME_LIMIT = 0.9  # of the time of wasm-tools
-MEMORY_LIMIT = 1.5  # of the bytes of module and text together
-GROWTH_LIMIT = 1.25  # of how the size grows, between the two greatest modules that are made
-JUDGED = 100_000  # bytes: smaller files are shown, and not judged
+TIME_LIMIT = 0.9  # divided by the time of wasm-tools
+MEMORY_LIMIT = 1.5  # divided by the bytes of module and text together
+GROWTH_LIMIT = 1.25  # divided by the growth in size, between the two largest generated modules
+JUDGED = 100_000  # bytes: the limits apply to files larger than this
 
 
 class Row:
-    """What was measured of one file in one mode."""
+    """The results of all tools for one file in one mode."""
 
     def __init__(self, name, size, made, results):
         self.name, self.size, self.made, self.results = name, size, made, results
@@ -16,21 +16,21 @@ class Row:
         return tool in self.results and self.results[tool].fault is None
 
     def ratio(self, field, peer):
-        """Ours by a peer's, or nothing where one of them failed or took too little to be told."""
+        """Returns our value divided by a peer's, or `None` if one of them failed or the peer's value is 0."""
         if not self.ok("printwasm") or not self.ok(peer):
             return None
         theirs = getattr(self.results[peer], field)
         return getattr(self.results["printwasm"], field) / theirs if theirs else None
 
     def share(self, tool, start=0):
-        """The peak of memory, less what starting takes, by the bytes of module and text together; nothing of small files."""
+        """Returns the peak of memory minus `start`, divided by the bytes of module and text together. Returns `None` for small files."""
         if self.size <= JUDGED or not self.ok(tool):
             return None
         return (self.results[tool].memory - start) / (self.size + self.results[tool].text)
 
 
 def digits(value):
-    """A number with some three digits; a dash for none."""
+    """Formats a number with about three digits, and `None` as a dash."""
     if value is None:
         return "-"
     return f"{value:.3f}" if value < 10 else f"{value:.1f}"
@@ -41,24 +41,24 @@ def millions(value):
 
 
 def table(heads, lines):
-    """A table whose first column is words, and all others numbers."""
+    """Returns a table whose first column holds words, and all others numbers."""
     marks = ["---"] + ["---:"] * (len(heads) - 1)
     return "\n".join("| " + " | ".join(cells) + " |" for cells in [heads, marks, *lines]) + "\n"
 
 
 def each(row, tools, show):
-    """What is to show of each tool, and a dash for one that failed."""
+    """Returns the cell of each tool, and a dash for one that failed."""
     return [show(row.results[tool]) if row.ok(tool) else "-" for tool in tools]
 
 
 def sizes(rows, tools):
-    """How long each module and its texts are."""
+    """Returns the table of the sizes of each module and its texts."""
     heads = ["file", "module MB", *(f"text of {t} MB" for t in tools)]
     return table(heads, [[row.name, millions(row.size), *each(row, tools, lambda r: millions(r.text))] for row in rows])
 
 
 def times(rows, tools):
-    """Seconds, and ratios of ours to the peers', on the clock and of the processor."""
+    """Returns the table of elapsed seconds, with the ratios of our elapsed and processor times to the peers'."""
     peers = tools[1:]
     heads = ["file", "module MB", *(f"{t} s" for t in tools), *(f"ours / {p}" for p in peers), *(f"processor / {p}" for p in peers)]
     lines = []
@@ -69,12 +69,15 @@ def times(rows, tools):
 
 
 def started(rows, tool):
-    """The memory that the module takes which holds nothing."""
+    """Returns the memory that a tool needs for the empty module."""
     return rows[0].results[tool].memory
 
 
 def memories(rows, tools):
-    """Peaks of memory, ratios of ours to the peers', and peaks by the bytes of module and text; of ours also without what starting takes."""
+    """Returns the table of peaks of memory: the ratios of ours to the peers', and the peaks divided by the bytes of module and text.
+
+    The last column subtracts the memory for the empty module.
+    """
     peers = tools[1:]
     heads = ["file", *(f"{t} MB" for t in tools), *(f"ours / {p}" for p in peers), *(f"{t} share" for t in tools), "printwasm net"]
     lines = []
@@ -86,7 +89,7 @@ def memories(rows, tools):
 
 
 def grown(rows, tool, field):
-    """By how much time or memory grows from each made module to the next, for each time that the size does; what failed is left out."""
+    """Returns each pair of consecutive generated modules with the growth of a value, divided by the growth in size. Skips failed runs."""
     pairs = []
     for small, big in zip(rows, rows[1:]):
         if small.ok(tool) and big.ok(tool):
@@ -96,9 +99,9 @@ def grown(rows, tool, field):
 
 
 def growth(rows, tools):
-    """Time and memory by MB of the module, and how they grow with it."""
+    """Returns the table of time and memory per MB of the module, and of their growth relative to the module's."""
     made = [row for row in rows if row.made]
-    heads = ["by MB of module", *(r.name for r in made), *(f"{a.name} to {b.name}" for a, b in zip(made, made[1:]))]
+    heads = ["per MB of module", *(r.name for r in made), *(f"{a.name} to {b.name}" for a, b in zip(made, made[1:]))]
     lines = []
     for field, unit, scale in (("wall", "s", 1e-6), ("memory", "MB", 1)):
         for tool in tools:
@@ -109,38 +112,38 @@ def growth(rows, tools):
 
 
 def missed_by(row, mode):
-    """The limits that one file misses."""
+    """Returns the limits that one file misses."""
     ours = row.results["printwasm"]
     if ours.fault is not None:
         return [f"{row.name}, {mode}: printwasm failed: {ours.fault}"]
     missed, ratio, share = [], row.ratio("wall", "wasm-tools"), row.share("printwasm")
     if ratio is None:
-        missed.append(f"{row.name}, {mode}: time not judged: wasm-tools gave none")
+        missed.append(f"{row.name}, {mode}: time not compared: no time of wasm-tools")
     elif ratio > TIME_LIMIT:
-        missed.append(f"{row.name}, {mode}: time {digits(ratio)} of wasm-tools (wanted: at most {TIME_LIMIT})")
+        missed.append(f"{row.name}, {mode}: time {digits(ratio)} of wasm-tools (limit: at most {TIME_LIMIT})")
     if share is not None and share >= MEMORY_LIMIT:
-        missed.append(f"{row.name}, {mode}: memory {digits(share)} of module and text (wanted: under {MEMORY_LIMIT})")
+        missed.append(f"{row.name}, {mode}: memory {digits(share)} of module and text (limit: under {MEMORY_LIMIT})")
     return missed
 
 
 def missed(rows, mode):
-    """All limits that are missed, of files over 100 KB, and of growth."""
+    """Returns all limits that are missed, of files over 100 KB and of growth."""
     lines = [line for row in rows if row.size > JUDGED for line in missed_by(row, mode)]
     for field, word in (("wall", "time"), ("memory", "memory")):
         for small, big, value in grown([r for r in rows if r.made], "printwasm", field)[-1:]:
             if value > GROWTH_LIMIT:
-                lines.append(f"{small.name} to {big.name}, {mode}: {word} grows {digits(value)} times as fast as the module (wanted: at most {GROWTH_LIMIT})")
+                lines.append(f"{small.name} to {big.name}, {mode}: {word} grows {digits(value)} times as fast as the module (limit: at most {GROWTH_LIMIT})")
     return lines
 
 
 def faults(rows, mode):
-    """What each peer told that failed."""
+    """Returns the error of each peer that failed."""
     failed = [(row, tool) for row in rows for tool in row.results if tool != "printwasm" and not row.ok(tool)]
     return [f"{row.name}, {mode}: {tool} failed: {row.results[tool].fault}" for row, tool in failed]
 
 
 def compared(rows, mode, peer):
-    """On how many files printwasm is slower than a peer, and where most so."""
+    """Returns on how many files printwasm is slower than a peer, and the file with the largest ratio."""
     judged = [(row.ratio("wall", peer), row.name) for row in rows if row.size > JUDGED and row.ratio("wall", peer) is not None]
     if not judged:
         return f"{mode}: no file to compare with {peer}"
