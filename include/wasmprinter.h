@@ -2,17 +2,17 @@
  *
  * Link libwasmprinter.so, or libwasmprinter.a (tools/install.sh installs both, and `pkg-config wasmprinter` names the flags).
  *
- * Every length is a number of bytes. Every place is a byte offset from the start of the module. Texts have no zero byte at their end.
+ * Every length is a number of bytes. Every place is a byte offset from the start of the module. Texts are not null-terminated.
  *
- * Threads: no function keeps anything between calls, and none takes a lock. Any number of threads may call any of them at the same
+ * Threads: no function keeps state between calls, and none takes a lock. Any number of threads may call any of them at the same
  * time, on buffers of their own. Threads may share the input of a call, `wasm`, `options` and `indent`, as long as no thread writes to it.
  * Do not call a function from a signal handler, or in the forked child of a process with threads.
  *
  * Memory: the caller owns every buffer, and no function keeps a pointer after it returns. The functions that print allocate with `malloc`
  * and free what they allocate before they return. The text itself is never allocated.
  *
- * Pointers: none may be null, also if its length is 0, except for the functions whose name ends in `_nullable`. What a function writes to
- * must not overlap anything else that is passed to it. */
+ * Pointers: no pointer may be null, even if its length is 0, except for the functions whose name ends in `_nullable`. An object that a
+ * function writes to must not overlap any other object that is passed to it. */
 #ifndef WASMPRINTER_H
 #define WASMPRINTER_H
 
@@ -27,7 +27,7 @@ extern "C" {
 /* The version that this header describes, as wasmprinter_version() returns it: 0.263.0. */
 #define WASMPRINTER_VERSION 263000
 
-/* What is printed of a module, and how. All false is the default. Each field holds 0 or 1. */
+/* The options of printing. The default is false for each. Each field must hold 0 or 1. */
 typedef struct WasmprinterOptions {
     bool offsets;      /* begin each line with its place */
     bool skeleton;     /* leave out bodies, items of element segments, and bytes of data segments and custom sections */
@@ -35,11 +35,11 @@ typedef struct WasmprinterOptions {
     bool fold;         /* put each operator in parentheses with its operands */
 } WasmprinterOptions;
 
-/* The default indent, with its length: two spaces for each level of nesting. */
+/* The default indent and its length: two spaces for each level of nesting. */
 #define WASMPRINTER_INDENT ((const uint8_t *)"  ")
 #define WASMPRINTER_INDENT_LEN ((size_t)2)
 
-/* What the printing functions return. Each error stores a detail, which is 0 if nothing else is said. */
+/* The statuses that the printing functions return. Each error stores a detail, which is 0 unless stated otherwise. */
 enum {
     WASMPRINTER_OK = 0,
     WASMPRINTER_MALFORMED = 1,          /* not in the binary format; detail: the place of the first unexpected byte, number or entry */
@@ -48,7 +48,7 @@ enum {
     WASMPRINTER_TOO_MANY_FUNCTIONS = 4, /* more than 1,000,000 functions; detail: their number */
     WASMPRINTER_EMPTY_TABLE_INIT = 5,   /* a table whose initialiser has no operators; detail: the place of the table */
     WASMPRINTER_FOLD_LEGACY = 6,        /* only with `fold`: a legacy exception operator; detail: its place */
-    WASMPRINTER_FOLD_HINT = 7,          /* only with `fold`: a branch hint that folded text has no room for; detail: its place */
+    WASMPRINTER_FOLD_HINT = 7,          /* only with `fold`: a branch hint that has no position in folded text; detail: its place */
     WASMPRINTER_DYLINK_SUBSECTION = 8,  /* an unknown subsection of `dylink.0`; detail: its id */
     WASMPRINTER_UNREADABLE = 9,         /* never returned: no function reads a file */
     WASMPRINTER_TOO_LONG = 10,          /* the text has more than SIZE_MAX bytes */
@@ -56,17 +56,17 @@ enum {
     WASMPRINTER_INVALID_INDENT = 12     /* the indent is not UTF-8 */
 };
 
-/* Prints the text of a module over `out`, as snprintf does: writes the first bytes of the text, as many as fit, and stores the length of
- * the whole text. The text was cut if *length > out_len. A call with out_len 0 only measures.
+/* Prints the text of a module to `out`, as snprintf does: writes as many of the first bytes of the text as fit, and stores the length of
+ * the whole text. The text is truncated if *length > out_len. A call with out_len 0 only measures.
  *
  * wasm, wasm_len      the bytes of the module; any bytes are allowed
- * options             what is printed
+ * options             the options of printing
  * indent, indent_len  the text of one level of nesting, in UTF-8
  * out, out_len        the buffer; its bytes after the text are unchanged
- * length              stores the length of the whole text, or 0 after an error
- * detail              stores the detail of an error, or 0
+ * length              receives the length of the whole text, or 0 after an error
+ * detail              receives the detail of an error, or 0
  *
- * Returns WASMPRINTER_OK or the number of an error. WASMPRINTER_COMPONENT is returned before all others. After
+ * Returns WASMPRINTER_OK or the number of an error. WASMPRINTER_COMPONENT takes precedence over all others. After
  * WASMPRINTER_DYLINK_SUBSECTION, WASMPRINTER_TOO_LONG and, with `fold`, WASMPRINTER_MEMORY, the buffer may hold a prefix of the text. After
  * any other error it is unchanged.
  *
@@ -76,16 +76,16 @@ uint32_t wasmprinter_print(const uint8_t *wasm, size_t wasm_len, const Wasmprint
 
 /* A line of the text. */
 typedef struct WasmprinterLine {
-    size_t start;       /* the offset of its first byte in bytes from the start of the text */
-    uint64_t place;     /* the place of what the line shows, or 0 if has_place is 0 */
+    size_t start;       /* the byte offset of the line from the start of the text */
+    uint64_t place;     /* the place of the line in the module, or 0 if has_place is 0 */
     uint32_t has_place; /* 1 if the line has a place, 0 if it shows nothing of the module */
 } WasmprinterLine;
 
-/* Does the same as wasmprinter_print, and writes a table of the lines: the first entries, as many as fit. A line ends where the next one
+/* Does the same as wasmprinter_print, and writes a table of the lines: as many of the first entries as fit. A line ends where the next one
  * starts, or at the end of the text. Its last byte is a line feed.
  *
- * lines, lines_len  the table and the number of entries that it has room for; the entries after the last line are unchanged
- * count             stores the number of lines, or 0 after an error
+ * lines, lines_len  the table and its capacity in entries; the entries after the last line are unchanged
+ * count             receives the number of lines, or 0 after an error
  *
  * After an error the entries of the table are not specified. */
 uint32_t wasmprinter_print_lines(const uint8_t *wasm, size_t wasm_len, const WasmprinterOptions *options, const uint8_t *indent,
@@ -95,8 +95,8 @@ uint32_t wasmprinter_print_lines(const uint8_t *wasm, size_t wasm_len, const Was
 /* The description of a status has at most this length. */
 #define WASMPRINTER_ERROR_TEXT_LEN ((size_t)200)
 
-/* Writes the description of a status with its detail over `out`, in English and ASCII, such as `malformed module at byte 0x1f`. Writes
- * the first bytes, as many as fit, and returns the length of the whole description. A status that no function returns is described as
+/* Writes the description of a status with its detail to `out`, in English and ASCII, such as `malformed module at byte 0x1f`. Writes as
+ * many of its first bytes as fit, and returns the length of the whole description. A status that no function returns is described as
  * unknown. Allocates nothing. */
 size_t wasmprinter_error_text(uint32_t status, uint64_t detail, uint8_t *out, size_t out_len);
 
@@ -106,7 +106,7 @@ uint32_t wasmprinter_version(void);
 
 /* ---- The same functions for pointers that may be null.
  *
- * `wasm`, `indent`, `out` and `lines` may be null if their length is 0, as `data()` of an empty vector or string in C++. `options` may be
+ * `wasm`, `indent`, `out` and `lines` may be null if their length is 0, such as `data()` of an empty vector in C++. `options` may be
  * null for the default. `length`, `count` and `detail` may be null if their value is not needed. */
 
 static inline uint32_t wasmprinter_print_nullable(const uint8_t *wasm, size_t wasm_len, const WasmprinterOptions *options,

@@ -1,6 +1,6 @@
 #!/bin/sh
-# Tests the bindings in bindings/: builds the library, and checks with C, C++, Rust and Python that every row of bindings/rows.txt comes out
-# as typed. Uses the machine's `cc`, `c++`, `cargo --offline` and `python3`, and fails if one of them is missing. Fails if a row differs.
+# Tests the bindings in bindings/: builds the library, and checks in C, C++, Rust and Python that every row of bindings/rows.txt prints as
+# typed. Uses the machine's `cc`, `c++`, `cargo --offline` and `python3`. Fails if one of them is missing or if a row differs.
 set -eu
 cd "$(dirname "$0")/.."
 for tool in cc c++ cargo python3; do
@@ -22,8 +22,8 @@ cc -std=c99 "$@" -c bindings/c/fuzz.c -o "$work/fuzz.o"
 cc -std=c99 "$@" bindings/c/example.c "$work/libwasmprinter.a" -o "$work/example_c"
 c++ -std=c++17 "$@" bindings/cpp/example.cpp -L"$work" -lwasmprinter -Wl,-rpath,"$work" -o "$work/example_cpp"
 
-# case_of STATUS OUTPUT FILE: starts an example with a file of the work folder and its standard output written to OUTPUT. It has to end
-# with the status, write the file `out` to OUTPUT unless that is full, and write the file `err` to standard error.
+# case_of STATUS OUTPUT FILE: runs an example on a file of the work folder, with its standard output redirected to OUTPUT. Checks that it ends
+# with the status, that OUTPUT equals the file `out` (unless OUTPUT is /dev/full), and that its standard error equals the file `err`.
 case_of() {
     status=0
     "$work/$example" "$work/$3" >"$2" 2>"$work/reported" || status=$?

@@ -5,10 +5,10 @@ An edit of `must-fail/` first names the clause that rejects it: `clause: FUNCTIO
 edit names a file of its crate by a line `file: PATH`, and changes it by pairs of lines `old: TEXT` and `new: TEXT`, in order: each later pair
 applies to the result of the earlier ones. Nothing is written: the pairs are applied to a copy of the file in memory. An edit is bad if it names
 no clause although it is one of the gate's, if it names no file of its crate or has no pair, if a line `old:` has no line `new:` after it, if an
-old text does not occur exactly once, or if the result is the original. Prints each bad edit and the counts; the status is 1 if an edit is bad or
-there is none.
+old text does not occur exactly once, or if the result is the original. Prints each bad edit and the counts. The status is 1 if an edit is bad,
+or if there are no edits.
 
-The prover is not asked: tools/wrong-bodies.sh and the gate say whether it rejects the edits.
+The prover does not run here: tools/wrong-bodies.sh and the gate check that it rejects the edits.
 """
 
 import pathlib
@@ -18,7 +18,7 @@ ROOT = pathlib.Path(__file__).resolve().parent.parent
 
 
 class BadEdit(Exception):
-    """Why an edit does not apply."""
+    """The reason why an edit does not apply."""
 
 
 def value(line, key):
@@ -37,7 +37,7 @@ def original(crate, path):
 
 
 def replaced(text, old, new):
-    """Returns the text with `new` at the only place of `old`."""
+    """Returns the text with its only occurrence of `old` replaced by `new`."""
     count = text.count(old) if old else 0
     if count != 1:
         raise BadEdit(f"the old text occurs {count} times: {old}")

@@ -1,8 +1,8 @@
 #!/usr/bin/env python3
-"""tools/failing_file.py PROGRAM FILE: starts PROGRAM on a file that fails after the bytes of FILE were read, and forwards what it writes.
+"""tools/failing_file.py PROGRAM FILE: starts PROGRAM on a file that fails after the bytes of FILE were read, and forwards its output.
 
-That file is a terminal. Its other end writes the bytes, waits until they were read, and is closed: the next read fails. The status is that of
-the program, or 9 if the bytes were not read within half a minute.
+That file is a terminal. This script writes the bytes to the terminal's other end, waits until they were read, and closes that end. The next
+read then fails. The status is that of the program, or 9 if the bytes were not read within 30 seconds.
 """
 
 import fcntl
@@ -25,7 +25,7 @@ def unread(terminal):
 
 
 def all_is_read(terminal):
-    """Waits until the terminal holds no bytes. Returns whether that happened in time."""
+    """Waits until the terminal holds no bytes. Reports whether that happened within the time limit."""
     end = time.monotonic() + SECONDS
     while unread(terminal) != 0 and time.monotonic() < end:
         time.sleep(STEP)

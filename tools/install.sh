@@ -1,8 +1,8 @@
 #!/bin/sh
 # Installs the program printwasm and the library for C: the static and the shared library, the header, and a file for pkg-config.
 #
-# tools/install.sh [PREFIX]: installs under the prefix, /usr/local if it is missing. DESTDIR, if set, is put before every path that is written
-# to. Proves what has changed and builds it first, with `rt`, `cc` and `ar`.
+# tools/install.sh [PREFIX]: installs under the prefix, by default /usr/local. DESTDIR, if set, is prepended to every path of an installed file.
+# First proves the crates that changed, and builds the program and the library, with `rt`, `cc` and `ar`.
 #
 #   PREFIX/bin/printwasm
 #   PREFIX/include/wasmprinter.h

@@ -1,8 +1,8 @@
 #!/bin/sh
-# Tests `main`: starts the built program with the words of each case below, and compares its standard output, its standard error and its
-# status with the texts typed here. It also prints files that can't be read, and files that can be read once. `rt ci` itself starts the program
-# without words only, and the crate's tests call `run` and `start`. The program is crates/printwasm/out/printwasm, as `rt ci` and `rt run`
-# leave it. Exits with a status other than 0 if a case differs.
+# Tests `main`: starts the built program with the arguments of each case below, and compares its standard output, its standard error and its
+# status with the texts typed here. Some cases pass a file that can't be read, or one that can be read only once. `rt ci` itself starts the
+# program only without arguments, and the crate's tests call `run` and `start`. The program is crates/printwasm/out/printwasm, which `rt ci`
+# and `rt run` build. The status is not 0 if a case differs.
 set -eu
 cd "$(dirname "$0")/.."
 tools=$PWD/tools
@@ -21,8 +21,8 @@ colored() {
         s/{L}/{R}$escape[31m/g; s/{C}/{R}$escape[36m/g; s/{R}/$escape[0m/g"
 }
 
-# started STATUS COMMAND..: runs the command. It has to end with the status, write the file `out` to standard output, and the file `err` to
-# standard error.
+# started STATUS COMMAND..: runs the command, and checks that it ends with the status, that its standard output equals the file `out`, and
+# that its standard error equals the file `err`.
 started() {
     expected=$1
     shift
@@ -30,21 +30,21 @@ started() {
     status=0
     timeout 60 "$@" >written 2>reported || status=$?
     if [ "$status" != "$expected" ] || ! cmp -s out written || ! cmp -s err reported; then
-        echo "program: $* ended with status $status, not $expected, or wrote another text:"
+        echo "program: $*: status $status, expected $expected. Differences of the output:"
         diff out written || true
         diff err reported || true
         failed=$((failed + 1))
     fi
 }
 
-# case_of STATUS WORD..: starts the program with the words, in the same way.
+# case_of STATUS WORD..: runs the program with these arguments, and checks the same.
 case_of() {
     expected=$1
     shift
     started "$expected" "$program" "$@"
 }
 
-# as_user STATUS FILE: starts the program on a file as a user who is not root.
+# as_user STATUS FILE: runs the program on a file as a user other than root, and checks the same.
 as_user() {
     if [ "$(id -u)" = 0 ]; then
         started "$1" setpriv --reuid=65534 --regid=65534 --clear-groups "$program" "$2"
@@ -164,7 +164,7 @@ END
 case_of 0 --offsets --skeleton --name-unnamed --fold --color same.wasm
 case_of 0 same.wasm --color --fold --name-unnamed --skeleton --offsets
 
-# standard output takes nothing
+# writing to standard output fails
 : >out
 echo "error: the printer failed" >err
 started 1 sh -c '"$0" same.wasm >/dev/full' "$program"

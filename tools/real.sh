@@ -1,25 +1,25 @@
 #!/bin/sh
-# Makes modules with what Debian packages, prints each through `printwasm` with every set of options, assembles the texts again with
-# `wasm-tools parse`, `wat2wasm` and `wasm-as`, and compares. No part of the gate. What is compared, and tables of it: docs/REAL-FILES.md.
+# Makes modules with the tools of Debian packages, prints each with `printwasm` and every set of options, reassembles the texts with
+# `wasm-tools parse`, `wat2wasm` and `wasm-as`, and compares the modules. It is not part of the gate. docs/REAL-FILES.md says what is
+# compared, and has the tables.
 #
-# tools/real.sh: everything it makes stands under ${TMPDIR:-/tmp}/wasmprinter-real, the tables in tables.md there and on standard output.
-# It ends with status 0 whatever it finds; with 2 where the program isn't there, and with another where installing fails. It wants a machine
-# that runs Debian on x86-64, root and the network the first time (tools/real/install.sh, by apt-get), python3, 5 GB of disk, and some GB of
-# memory for each worker.
+# tools/real.sh: writes all files to ${TMPDIR:-/tmp}/wasmprinter-real, and the tables to tables.md there and to standard output. The status
+# is 0 whatever the comparison finds, 2 if the program is missing, and another one if installing fails. Needs Debian on x86-64, root and the
+# network on the first run (tools/real/install.sh uses apt-get), python3, 5 GB of disk, and some GB of memory for each worker.
 #
-#   PRINTWASM   the program (crates/printwasm/out/printwasm if not set; the README says how it is built)
-#   PROGRAM_IS  what the tables call it, such as "proved, of commit .."
-#   PEERS       a folder with `wasm-tools`, `wat2wasm`, `wasm2wat`, `wasm-as` and `wasm-opt`; if set, nothing is installed, and compilers and
-#               packages that aren't there give no modules
-#   JOBS        how many modules are worked on at once (as many as there are processors if not set)
-#   ONLY        a word: only the modules that have it in their path or in the name of their group
-#   MEMORY_GB   what a program that is run may take of memory at most (4 if not set)
+#   PRINTWASM   the program (default: crates/printwasm/out/printwasm; the README says how it is built)
+#   PROGRAM_IS  the description of the program in the tables, such as "proved, of commit .."
+#   PEERS       a folder with `wasm-tools`, `wat2wasm`, `wasm2wat`, `wasm-as` and `wasm-opt`. If set, nothing is installed, and modules
+#               whose compiler or package is missing are left out
+#   JOBS        the number of modules that are processed at once (default: the number of processors)
+#   ONLY        a word: only modules with this word in their path or in the name of their group are processed
+#   MEMORY_GB   the limit of memory of each program that is run, in GiB (default: 4)
 set -eu
 root=$(cd "$(dirname "$0")/.." && pwd)
 program=${PRINTWASM:-$root/crates/printwasm/out/printwasm}
 work=${TMPDIR:-/tmp}/wasmprinter-real
 if [ ! -x "$program" ]; then
-    echo "real: no program $program: build it (see the README), or name one by PRINTWASM" >&2
+    echo "real: $program is missing: build it (see the README), or set PRINTWASM to a program" >&2
     exit 2
 fi
 if [ -z "${PEERS:-}" ]; then

@@ -1,33 +1,33 @@
 #!/bin/sh
-# Lets each allocation of the program `refusals` fail in turn, and checks how the library takes that. The status is not 0 if a run ends in
-# another way than expected, faults or hangs. It proves nothing (`rt try`), and takes some minutes.
+# Lets each allocation of the program `refusals` fail in turn, and checks that the library reports it. The status is not 0 if a run ends
+# in an unexpected way, faults or hangs. It proves nothing (`rt try`), and takes some minutes.
 #
-# First each shape is printed without a failure, before the empty module (which is the last shape, and is then printed alone): status 0, and
-# `printed` for each. This also counts the allocations. One of them may be the program's own, for the text to which lines are appended. Two
-# pairs of shapes must make equally many allocations: a second name for an item needs no allocation (`names once` and `names replaced`), and
-# neither do the calls that are listed in src/without_memory.rt (`setup` and `calls without memory`).
+# First, each shape is printed without a failure, and then the empty module, which is the last shape and is printed alone in its own run. The
+# status must be 0, with `printed` for each module. This run also counts the allocations. One of them may be the program's own, for the text
+# to which lines are appended. Two pairs of shapes must make the same number of allocations: a second name for an item needs no allocation
+# (`names once` and `names replaced`), and neither do the calls that are listed in src/without_memory.rt (`setup` and `calls without memory`).
 #
 # Then each of these allocations fails in a run of its own, which must end with status 1, `out of memory` for one module and `printed` for the
-# other. In one more run for each shape the allocation after the last would fail: it must end as the first run. For three shapes a table
-# gives the length of the text before each failure. The number of allocations is not known for the shape that reads a file. It must be that of
-# the shape that copies the same bytes, or more, and the runs in which one of them fails must come before those in which none does.
+# other. In one more run for each shape, the allocation after the last would fail: this run must end as the first run. For three shapes, a
+# table gives the length of the text before each failure. The number of allocations is not known for the shape that reads a file. It must be
+# at least that of the shape that copies the same bytes. The runs in which one of its allocations fails must come before those without.
 #
 # Names of 1 to 300 characters are written to a text that has room for a part of the name only: each character by itself, as a quoted
-# string, and as a byte string. In a run for each name the growth of the text fails, and the program checks that exactly the pieces that fit
-# are in the text.
+# string, and as a byte string. In one run for each name, the allocation that extends the text fails, and the program checks that the text
+# contains exactly the pieces that fit.
 #
-# It is always the same allocation that fails, by its number. A run makes allocations of its own before it prints, one fewer than the run
-# before, so that another allocation of the library has that number. The runs are distributed among as many builds as there are processors.
+# The allocation that fails always has the same number. Before it prints, each run makes allocations of its own, one fewer than the previous
+# run, so that a later allocation of the library gets that number. The runs are distributed among as many builds as there are processors.
 set -eu
 cd "$(dirname "$0")/../crates/refusals"
 shapes=$(wc -l <stdout)
-hands=$(nproc)
+workers=$(nproc)
 began=$(date +%s)
 work=$(mktemp -d)
 trap 'rm -rf "$work"' EXIT
 
-# lengths: for three shapes, the number of bytes of text that are printed before the first allocation fails, before the second fails, and so
-# on. A faster library must leave the same numbers. `-` is the program's own allocation.
+# lengths: prints a line for each of three shapes: the number of bytes of text before the first allocation fails, before the second fails,
+# and so on. A faster library must leave the same numbers. `-` is the program's own allocation.
 lengths() {
     cat <<'END'
 lines: - 0 0 0 0 0 0 0 1 11 28 61 108 123 249 252 501 555 971
@@ -49,9 +49,9 @@ names() {
     }' | sort -u
 }
 
-# runs NUMBER: runs the cases in $work/cases*, in each of which the allocation with that number fails. Their output goes to $work/out, the
-# report on them to $work/err. A case's file holds the number of allocations to make first, and the number of the shape, both with four
-# digits. For a name three more numbers follow: its form, the width of its characters, and the number of characters.
+# runs NUMBER: runs the cases in $work/cases*, and lets the allocation with that number fail in each. Writes their output to $work/out, and
+# the report of `rt try` to $work/err. The file of a case contains the number of allocations to make first, and the number of the shape, both
+# with four digits. For a name, three more numbers follow: its form, the width of its characters, and the number of characters.
 runs() {
     for cases in "$work"/cases*; do
         rt try --data everything.wasm=data/everything.wasm --fail-alloc "$1" --cases "$cases" >"$cases.out" 2>"$cases.err" || touch "$cases.failed" &
@@ -61,15 +61,15 @@ runs() {
     cat "$work"/cases*.err >"$work/err"
     if ls "$work"/cases*.failed >"$work/failed" 2>&1; then
         cat "$work/err"
-        echo "refusals: a run faulted, hung, or differed between the two ways in which it is run"
+        echo "refusals: a run faulted, hung, or differed between its two executions"
         exit 1
     fi
     rm -r "$work"/cases*
 }
 
-# ended: writes a line for each run, `SHAPE REQUEST STATUS PRINTED REFUSED REQUESTS LENGTH`: the two parts of its name, how it ended, how
-# many lines were `printed` and `out of memory` (any other line is reported, and makes the status 9), how many allocations were made (`-` if
-# that is not known), and the number of bytes of text before the failure.
+# ended: prints a line for each run, `SHAPE REQUEST STATUS PRINTED REFUSED REQUESTS LENGTH`: the two parts of its name, its status, the
+# number of lines `printed` and of lines `out of memory`, the number of allocations (`-` if it is not known), and the number of bytes of text
+# before the failure. Any other line of a run is reported, and makes the status 9.
 ended() {
     awk -v err="$work/err" '
         BEGIN { made = "-" }
@@ -90,7 +90,7 @@ ended() {
     ' "$work/out" "$work/err"
 }
 
-# nothing fails: no run makes so many allocations
+# no allocation fails: no run makes 9999 allocations
 mkdir "$work/cases0"
 shape=0
 while [ "$shape" -lt "$shapes" ]; do
@@ -105,7 +105,7 @@ if ! awk -v shapes="$shapes" '
     END { exit well != shapes }
 ' stdout "$work/whole"; then
     cat "$work/whole"
-    echo "refusals: a shape is not printed"
+    echo "refusals: a shape was not printed"
     exit 1
 fi
 
@@ -120,7 +120,7 @@ if ! awk '
     exit 1
 fi
 
-# each allocation fails, and the one after the last; for a name the fourth, which is the growth of the text
+# each allocation fails, and the one after the last; for a name the fourth allocation, which extends the text
 growth=4
 last=$(awk '$6 + 2 > last { last = $6 + 2 } END { print last }' "$work/whole")
 run=0
@@ -128,15 +128,15 @@ while read -r shape _ _ _ _ requests _; do
     request=1
     [ "$requests" != - ] || requests=$((last - 2))
     while [ "$request" -le $((requests + 1)) ]; do
-        mkdir -p "$work/cases$((run % hands))"
-        printf '%04d%04d' "$((last - request))" "$shape" >"$work/cases$((run % hands))/$shape-$request"
+        mkdir -p "$work/cases$((run % workers))"
+        printf '%04d%04d' "$((last - request))" "$shape" >"$work/cases$((run % workers))/$shape-$request"
         request=$((request + 1))
         run=$((run + 1))
     done
 done <"$work/whole"
 names >"$work/names"
 while read -r form width chars; do
-    case="$work/cases$((run % hands))/name.$form.$width.$chars-$growth"
+    case="$work/cases$((run % workers))/name.$form.$width.$chars-$growth"
     printf '%04d0000%04d%04d%04d' "$((last - growth))" "$form" "$width" "$chars" >"$case"
     run=$((run + 1))
 done <"$work/names"
@@ -151,7 +151,7 @@ awk -v runs="$run" -v shapes="$shapes" -v names="$(wc -l <"$work/names")" -v las
     $1 ~ /^name/ && $3 == 1 && $4 == 0 && $5 == 1 { named++; next }
     $1 ~ /^name/ { print "refusals: " $1 ": status " $3; next }
     { whole = $1 + 1 == shapes ? 1 : 2 }
-    $3 == 1 && $5 == 1 && $4 == whole - 1 { failed[$1, $2] = 1; answered++; next }
+    $3 == 1 && $5 == 1 && $4 == whole - 1 { failed[$1, $2] = 1; reported++; next }
     $3 == 0 && $5 == 0 && $4 == whole { unrefused++; next }
     { print "refusals: allocation " $2 " of shape " $1 ": status " $3 ", " $4 " printed, " $5 " out of memory" }
     END {
@@ -162,18 +162,18 @@ awk -v runs="$run" -v shapes="$shapes" -v names="$(wc -l <"$work/names")" -v las
                 requests[shape] = count
             }
             for (i = 1; i < last; i++) if (((shape, i) in failed) != (i <= requests[shape])) {
-                print "refusals: allocation " i " of shape " shape " failed, or did not"
+                print "refusals: allocation " i " of shape " shape ": expected " (i <= requests[shape] ? "a failure" : "no failure")
                 differ++
             }
         }
         for (shape in expected) {
             found = ""
             for (i = 1; i <= requests[shape]; i++) if (len[shape, i] != "-" || i == 1) found = found " " len[shape, i]
-            if (found != expected[shape]) { print "refusals: shape " shape ": text of" found " bytes, not of" expected[shape]; differ++ }
+            if (found != expected[shape]) { print "refusals: shape " shape ": text of" found " bytes, expected" expected[shape]; differ++ }
         }
-        print "refusals: " answered + 0 " failed allocations in " shapes " shapes were reported as such"
+        print "refusals: " reported + 0 " failed allocations in " shapes " shapes were reported as such"
         print "refusals: of " names " names, " named + 0 " left exactly the pieces that fit"
-        exit differ || named != names || answered + unrefused + named != runs
+        exit differ || named != names || reported + unrefused + named != runs
     }
 ' stdout "$work/lengths" "$work/whole" "$work/refused"
 echo "refusals: $(($(date +%s) - began)) seconds"

@@ -1,9 +1,10 @@
 #!/bin/sh
-# Tries the wrong bodies that the gate leaves out, since each would cost it half a minute or more: crates/NAME/wrong-bodies/*.edit, in the form
-# of crates/NAME/must-fail/*.edit. The prover has to refuse each. Exits with a status other than 0 if it accepts one, or can't read one.
+# Tries the deliberately wrong implementations that the gate leaves out, since each takes half a minute or more: the files
+# crates/NAME/wrong-bodies/*.edit, which have the format of crates/NAME/must-fail/*.edit. The prover must reject each of them. The status is
+# not 0 if it accepts one, or if one can't be read.
 #
-# tools/wrong-bodies.sh [NAME..]: those of these crates, or of all. It works on a copy, with `rt ci`: crates that passed on this machine are
-# not proved again, and several crates are tried at once.
+# tools/wrong-bodies.sh [NAME..]: tries those of the named crates, or of all crates. It runs `rt ci` on a copy: crates that passed on this
+# machine are not proved again, and several crates are tried at once.
 set -eu
 cd "$(dirname "$0")/.."
 began=$(date +%s)
@@ -19,6 +20,6 @@ done
 { rt ci "$@" 2>&1 || touch failed; } | tee run
 refused=$(grep -c '^rt: must-fail .*: refused, as it must be' run || true)
 wrong=$(ls crates/*/must-fail/*.edit | wc -l)
-echo "wrong bodies: $refused of $wrong refused, $(($(date +%s) - began)) seconds"
-# `rt ci` succeeds also if an edit doesn't compile
+echo "wrong bodies: $refused of $wrong rejected, $(($(date +%s) - began)) seconds"
+# `rt ci` succeeds even if an edit does not compile
 [ ! -e failed ] && [ "$refused" = "$wrong" ]

@@ -1,4 +1,4 @@
-/* checked.h: calls of the printing functions over guarded buffers, for test.c and fuzz.c. */
+/* checked.h: calls the printing functions on guarded buffers, for test.c and fuzz.c. */
 #ifndef CHECKED_H
 #define CHECKED_H
 
@@ -9,7 +9,7 @@
 /* Buffers are filled with this byte before a call. */
 enum { GUARD = 0xa5 };
 
-/* What the printing functions read. */
+/* The input of the printing functions. */
 typedef struct Input {
     const uint8_t *wasm;
     size_t wasm_len;
@@ -18,7 +18,7 @@ typedef struct Input {
     size_t indent_len;
 } Input;
 
-/* What they return and store. */
+/* The values that the printing functions return and store. */
 typedef struct Outcome {
     uint32_t status;
     uint64_t detail;
@@ -34,7 +34,7 @@ static inline Outcome print_text(const Input *input, uint8_t *out, size_t out_le
     return outcome;
 }
 
-/* Prints the text, and the table of its lines. */
+/* Prints the text and the table of its lines. */
 static inline Outcome print_lines(const Input *input, uint8_t *out, size_t out_len, WasmprinterLine *lines, size_t lines_len) {
     Outcome outcome = {GUARD, GUARD, GUARD, GUARD};
     outcome.status = wasmprinter_print_lines_nullable(input->wasm, input->wasm_len, &input->options, input->indent, input->indent_len, out,
@@ -53,7 +53,7 @@ static inline bool is_unchanged(const void *buffer, size_t start, size_t end) {
     return true;
 }
 
-/* Returns whether the bytes of a buffer are those of a text, as many as fit in its first `room` bytes, and the others are unchanged. */
+/* Returns whether the first `room` bytes of a buffer hold as much of a text as fits, and the other bytes are unchanged. */
 static inline bool is_over(const uint8_t *buffer, size_t len, size_t room, const void *text, size_t length) {
     size_t fits = length < room ? length : room;
     return memcmp(buffer, text, fits) == 0 && is_unchanged(buffer, fits, len);

@@ -1,5 +1,5 @@
-/* A target for libFuzzer: prints any bytes with any options, whole, cut and with lines, and checks what the header promises of them. The
- * first byte of the input chooses the options, and the second one the indent.
+/* A target for libFuzzer: prints any bytes with any options, whole, truncated and with lines, and checks that the results are as the header
+ * says. The first byte of the input chooses the options, and the second one the indent.
  *
  * clang -fsanitize=fuzzer,address,undefined -Iinclude bindings/c/fuzz.c libwasmprinter.a */
 #include "checked.h"
@@ -31,7 +31,7 @@ static void *guarded(size_t len) {
     return buffer;
 }
 
-/* Checks what an error returns, and its description. */
+/* Checks the results and the description of an error. */
 static void check_error(const Input *input, Outcome outcome) {
     require(outcome.status <= WASMPRINTER_INVALID_INDENT && outcome.status != WASMPRINTER_UNREADABLE && outcome.length == 0);
     uint8_t *text = (uint8_t *)guarded(WASMPRINTER_ERROR_TEXT_LEN);
@@ -42,7 +42,7 @@ static void check_error(const Input *input, Outcome outcome) {
     require(again.status == outcome.status && again.detail == outcome.detail && again.length == 0 && again.count == 0);
 }
 
-/* Prints half of a text. The bytes after it have to be unchanged. */
+/* Prints half of a text, and checks that the bytes after it are unchanged. */
 static void check_half(const Input *input, const uint8_t *text, size_t length) {
     uint8_t *half = (uint8_t *)guarded(length);
     Outcome outcome = print_text(input, half, length / 2);
@@ -50,7 +50,7 @@ static void check_half(const Input *input, const uint8_t *text, size_t length) {
     free(half);
 }
 
-/* Prints with a table of the lines. */
+/* Prints with a table of the lines, and checks its entries. */
 static void check_lines(const Input *input, const uint8_t *text, size_t length) {
     size_t count = print_lines(input, NULL, 0, NULL, 0).count;
     uint8_t *again = (uint8_t *)guarded(length);

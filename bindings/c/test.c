@@ -13,7 +13,7 @@
 
 enum { MOST_LINES = 64, LINE_ROOM = 512, WASM_ROOM = 1 << 20, TEXT_ROOM = 4096 };
 
-/* A row: what is printed, and what is expected. */
+/* A row: the input and the expected results. */
 typedef struct Row {
     char title[LINE_ROOM];
     Input input;
@@ -21,7 +21,7 @@ typedef struct Row {
     bool has_places;
     Outcome outcome;
     char error[LINE_ROOM];
-    char text[TEXT_ROOM]; /* what the buffer holds after the call */
+    char text[TEXT_ROOM]; /* the text in the buffer after the call */
     size_t text_len;
     WasmprinterLine lines[MOST_LINES];
 } Row;
@@ -46,15 +46,15 @@ static uint8_t wasm[WASM_ROOM];
 static unsigned rows;
 static unsigned failed;
 
-/* Stops if the row file itself is wrong. */
+/* Stops the test if the row file itself is wrong. */
 static void expect_file(bool is_right, const char *line) {
     if (!is_right) {
-        fprintf(stderr, LANGUAGE ": can't read the row file at: %s\n", line);
+        fprintf(stderr, LANGUAGE ": the row file can't be read at: %s\n", line);
         exit(2);
     }
 }
 
-/* Returns what follows a word and a space at the start of a line, or null if the line starts with another word. */
+/* Returns the rest of a line after its first word and a space, or null if the line starts with another word. */
 static const char *after(const char *word, const char *line) {
     size_t len = strlen(word);
     if (strncmp(line, word, len) != 0 || (line[len] != ' ' && line[len] != '\0')) {
@@ -63,7 +63,7 @@ static const char *after(const char *word, const char *line) {
     return line + len + (line[len] == ' ');
 }
 
-/* Appends bytes in hexadecimal to a buffer. */
+/* Appends bytes in hexadecimal to a buffer, and returns its new length. */
 static size_t read_bytes(const char *words, uint8_t *bytes, size_t len, size_t room) {
     for (;;) {
         char *end;
@@ -96,14 +96,14 @@ static void read_options(const char *words, WasmprinterOptions *options) {
     }
 }
 
-/* Adds bytes to the text. */
+/* Appends bytes to the text. */
 static void add_text(Row *row, const char *text, size_t len) {
     expect_file(len <= TEXT_ROOM - row->text_len, text);
     memcpy(row->text + row->text_len, text, len);
     row->text_len += len;
 }
 
-/* Adds a line of the text, with its place. */
+/* Appends a line of the text, with its place. */
 static void read_text(Row *row, const char *line) {
     const char *bar = strchr(line, '|');
     expect_file(bar != NULL && row->outcome.count < MOST_LINES, line);
@@ -165,10 +165,10 @@ static void start_row(Row *row, const char *title) {
     row->input.indent_len = WASMPRINTER_INDENT_LEN;
 }
 
-/* Reports a difference. Returns whether there is none. */
+/* Prints a message if a result is wrong. Returns whether it is right. */
 static bool expect(const char *title, bool is_right, const char *what) {
     if (!is_right) {
-        printf(LANGUAGE ": %s: another %s\n", title, what);
+        printf(LANGUAGE ": %s: wrong %s\n", title, what);
         failed++;
     }
     return is_right;
@@ -181,7 +181,7 @@ static bool expect_outcome(const Row *row, Outcome outcome, size_t count) {
            expect(row->title, outcome.count == count, "count of lines");
 }
 
-/* Prints into a buffer of every size from 0 to one byte more than the text. */
+/* Prints to a buffer of each size from 0 to one byte more than the text. */
 static void check_text(const Row *row) {
     static uint8_t out[TEXT_ROOM + 1];
     bool is_right = true;
@@ -204,7 +204,7 @@ static bool expect_lines(const Row *row, const WasmprinterLine *lines, size_t co
     return is_right;
 }
 
-/* Prints with a table of every size from 0 to one line more than the text has. */
+/* Prints with a table of each size from 0 to one line more than the text has. */
 static void check_lines(const Row *row) {
     static uint8_t out[TEXT_ROOM];
     WasmprinterLine lines[MOST_LINES + 1];
@@ -223,7 +223,7 @@ static void check_lines(const Row *row) {
     }
 }
 
-/* Describes a status into a buffer of every size. */
+/* Writes the description of a status to a buffer of each size. */
 static void check_error_text(const char *title, uint32_t status, uint64_t detail, const char *text) {
     uint8_t out[WASMPRINTER_ERROR_TEXT_LEN];
     bool is_right = true;

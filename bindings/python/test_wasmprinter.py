@@ -13,7 +13,7 @@ ONE_TYPE = EMPTY + b"\1\4\1\x60\0\0"
 
 
 class Row:
-    """A row: what is printed, and what is expected."""
+    """A row: the input and the expected results."""
 
     def __init__(self, title):
         self.title = title

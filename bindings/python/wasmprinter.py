@@ -3,8 +3,8 @@
     >>> print_bytes(b"\\0asm\\1\\0\\0\\0")
     '(module)\\n'
 
-The printer is the proved library libwasmprinter.so, which this module calls by ctypes. It is found by the environment variable
-WASMPRINTER_SO, or else where the system finds libraries. Calls from several threads run at the same time.
+This module calls the proved library libwasmprinter.so through ctypes. The environment variable WASMPRINTER_SO names the library. If it is
+not set, the library is loaded from the system's search path. Calls from several threads run at the same time.
 """
 
 from __future__ import annotations
@@ -24,18 +24,21 @@ BytesLike = Union[bytes, bytearray, memoryview]
 _SUCCESS = 0
 _ERROR_TEXT_LEN = 200
 
-# how the parts of the version are counted
+# factors of the parts of the version number
 _MAJOR, _MINOR = 1_000_000, 1_000
 
 
 class Error(Exception):
-    """Why a module was not printed. `status` is the number of the error in wasmprinter.h, and `detail` its place, count or id, or 0."""
+    """The reason why a module was not printed.
+
+    `status` is the number of the error in wasmprinter.h. `detail` is its place, count or id, or 0.
+    """
 
     status: ClassVar[int] = _SUCCESS
     _by_status: ClassVar[Dict[int, Type[Error]]] = {}
 
     def __init_subclass__(cls, *, status: Optional[int] = None, **others: Any) -> None:
-        """Enters the class in the table of errors, under its status."""
+        """Registers the class under its status."""
         super().__init_subclass__(**others)
         if status is not None:
             cls.status = status
@@ -76,7 +79,7 @@ class FoldLegacy(Error, status=6):
 
 
 class FoldHint(Error, status=7):
-    """Operators are folded, and folded text has no room for a branch hint. `detail` is its byte offset."""
+    """Operators are folded, and a branch hint has no position in folded text. `detail` is its byte offset."""
 
 
 class DylinkSubsection(Error, status=8):
@@ -92,7 +95,7 @@ class OutOfMemory(Error, MemoryError, status=11):
 
 
 class Line(NamedTuple):
-    """A line of the text, with its line feed, and the byte offset of what it shows in the module, if it shows anything."""
+    """A line of the text with its line feed, and its byte offset in the module, or `None` if it shows nothing of the module."""
 
     place: Optional[int]
     text: str
@@ -133,7 +136,7 @@ _version = _function("wasmprinter_version", ctypes.c_uint32)
 
 
 def _check(status: int, detail: int) -> None:
-    """Raises the error with a status, unless the status is that of success."""
+    """Raises the error with this status, unless the status is success."""
     if status in Error._by_status:
         raise Error._by_status[status](detail)
     if status != _SUCCESS:

@@ -1,4 +1,4 @@
-//! Links the static library. `WASMPRINTER_LIB` names the folder with `libwasmprinter.a`; without it, `pkg-config wasmprinter` does.
+//! Links the static library. `WASMPRINTER_LIB` names the folder with `libwasmprinter.a`. If it is not set, `pkg-config wasmprinter` names it.
 
 use std::env;
 use std::path::Path;

@@ -1,9 +1,9 @@
 #!/bin/sh
-# install.sh WORK: puts on the machine what tools/real.sh needs, as root, all of it by apt-get. What is there already isn't fetched again.
+# install.sh WORK: installs what tools/real.sh needs, as root and with apt-get. Packages that are already installed are not fetched again.
 #
 # Compilers and libraries for wasm32 come from the release that the machine runs: the newest `clang-N` and `lld-N` that it offers, `wasi-libc`,
-# and the libraries in C++ and Rust. The assemblers are newer in Debian unstable, and so are most packages that hold modules: these are
-# unpacked under WORK, and the programs run there in place, by the loader and the libraries that they came with. Nothing of them is installed.
+# and the libraries for C++ and Rust. Debian unstable has newer versions of the assemblers and of most packages that contain modules. These
+# packages are unpacked under WORK and not installed. Their programs run there, with the loader and the libraries of the same packages.
 set -eu
 work=$1
 newer=$work/newer
@@ -12,7 +12,7 @@ export DEBIAN_FRONTEND=noninteractive
 PEERS="wasm-tools wabt binaryen"
 PACKAGES="esbuild-wasm guile-hoot node-csl-validator-wasm pdfjs-jbig2 pdfjs-openjpeg pdfjs-qcms pdfjs-quickjs golang-github-tetratelabs-wazero-dev"
 
-# The newest version of LLVM for which there is a clang, an lld and a library for wasm32, as apt-cache tells.
+# Prints the newest version of LLVM for which apt-cache lists a clang, an lld and a library for wasm32.
 newest_llvm() {
     apt-cache search --names-only '^libclang-rt-[0-9]+-dev-wasm32$' | sed 's/^libclang-rt-\([0-9]*\)-.*/\1/' | sort -rn | while read -r version; do
         if apt-cache show "clang-$version" "lld-$version" >/dev/null 2>&1; then
@@ -22,7 +22,7 @@ newest_llvm() {
     done
 }
 
-# apt-get for Debian unstable, with lists and packages in folders of its own.
+# Runs apt-get for Debian unstable, with its own folders for lists and packages.
 from_newer() {
     apt-get -q -o Dir::Etc::sourcelist="$newer/newer.sources" -o Dir::Etc::sourceparts=- -o Dir::State::lists="$newer/lists" \
         -o Dir::State::status="$newer/status" -o Dir::Cache="$newer/cache" --no-install-recommends "$@"
@@ -35,7 +35,7 @@ install_compilers() {
         "libc++-$version-dev-wasm32" wasi-libc libstd-rust-dev-wasm32
 }
 
-# The first mirror in the machine's own apt sources, which have two formats: `deb` lines, and fields `URIs:`.
+# Prints the first mirror of the machine's apt sources, which have two formats: `deb` lines, and fields `URIs:`.
 mirror() {
     for file in /etc/apt/sources.list /etc/apt/sources.list.d/*.sources /etc/apt/sources.list.d/*.list; do
         [ ! -f "$file" ] || sed -n 's/^deb  *\(\[[^]]*\]  *\)\{0,1\}\([^ ]*\).*/\2/p; s/^URIs:[[:space:]]*\([^[:space:]]*\).*/\1/p' "$file"
@@ -56,7 +56,7 @@ fetch_newer() {
     # shellcheck disable=SC2086 # a list of words
     from_newer -y --download-only install $PEERS
     for package in $PACKAGES; do
-        (cd "$newer/packages" && from_newer download "$package") || echo "real: no package $package" >&2
+        (cd "$newer/packages" && from_newer download "$package") || echo "real: package $package can't be downloaded" >&2
     done
 }
 

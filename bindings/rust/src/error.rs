@@ -3,7 +3,7 @@
 use crate::raw;
 use std::fmt;
 
-/// Why a module was not printed. Places are byte offsets from the start of the module.
+/// The reason why a module was not printed. Places are byte offsets from the start of the module.
 #[derive(Clone, Copy, Debug, PartialEq, Eq, Hash)]
 #[non_exhaustive]
 pub enum Error {
@@ -19,7 +19,7 @@ pub enum Error {
     EmptyTableInit { place: u64 },
     /// Operators are folded, and the operator at `place` is a legacy exception operator.
     FoldLegacy { place: u64 },
-    /// Operators are folded, and folded text has no room for the branch hint at `place`.
+    /// Operators are folded, and the branch hint at `place` has no position in folded text.
     FoldHint { place: u64 },
     /// A `dylink.0` section has an unknown subsection.
     DylinkSubsection { id: u8 },
@@ -29,11 +29,11 @@ pub enum Error {
     Memory,
 }
 
-/// Makes an error from its detail.
+/// Constructs an error from its detail.
 type FromDetail = fn(u64) -> Error;
 
-/// The errors by their statuses, each made from its detail. The statuses 9 and 12 are missing: this crate reads no file, and an indent is
-/// UTF-8. The casts lose nothing: the library counts functions in 32 bits, and an id is a byte.
+/// The status and the constructor of each error. The statuses 9 and 12 are missing: this crate reads no file, and an indent is UTF-8. The
+/// casts lose no bits: the library counts functions in 32 bits, and an id is a byte.
 const ERRORS: [(u32, FromDetail); 10] = [
     (1, |place| Error::Malformed { place }),
     (2, |_| Error::Component),

@@ -21,12 +21,12 @@ pub type Result<T> = std::result::Result<T, Error>;
 ///
 /// # Errors
 ///
-/// As [`Config::print_to_string`].
+/// The errors of [`Config::print_to_string`].
 pub fn print_bytes(wasm: impl AsRef<[u8]>) -> Result<String> {
     Config::new().print_to_string(wasm)
 }
 
-/// What is printed of a module, and how.
+/// The options of printing.
 #[derive(Clone, Debug)]
 pub struct Config {
     options: raw::Options,
@@ -39,7 +39,7 @@ impl Default for Config {
     }
 }
 
-/// How much of a text there is.
+/// The length of a text in bytes, and the number of its lines.
 struct Extent {
     length: usize,
     count: usize,
@@ -93,8 +93,8 @@ impl Config {
         Ok(self.print_whole(wasm.as_ref(), false)?.0)
     }
 
-    /// Appends the text of a module to `storage`, and returns an iterator over its lines: each with its place, or `None` if it shows
-    /// nothing of the module, and with its line feed.
+    /// Appends the text of a module to `storage`, and returns an iterator over its lines. Each item is the place of a line, or `None` if it
+    /// shows nothing of the module, and the line with its line feed.
     ///
     /// ```
     /// let mut storage = String::new();
@@ -106,7 +106,7 @@ impl Config {
     ///
     /// # Errors
     ///
-    /// As [`Config::print_to_string`]. `storage` is unchanged then.
+    /// The errors of [`Config::print_to_string`]. After an error `storage` is unchanged.
     pub fn offsets_and_lines<'a>(
         &self,
         wasm: &[u8],
@@ -126,12 +126,12 @@ impl Config {
         }))
     }
 
-    /// Writes the first bytes of the text over `out`, as many as fit, and returns the length of the whole text. With an empty `out` it
-    /// only measures.
+    /// Writes as many of the first bytes of the text to `out` as fit, and returns the length of the whole text. With an empty `out` it only
+    /// measures.
     ///
     /// # Errors
     ///
-    /// As [`Config::print_to_string`]. A prefix of the text may be in `out` then.
+    /// The errors of [`Config::print_to_string`]. After an error `out` may hold a prefix of the text.
     pub fn print_over(&self, wasm: &[u8], out: &mut [u8]) -> Result<usize> {
         Ok(self.print(wasm, out, &mut [])?.length)
     }
@@ -152,10 +152,10 @@ impl Config {
         }
     }
 
-    /// Writes as much of the text and of the table of its lines as fits, and returns their whole extent.
+    /// Writes as much of the text and of the table of its lines as fits, and returns the size of the whole text and table.
     fn print(&self, wasm: &[u8], out: &mut [u8], lines: &mut [raw::Line]) -> Result<Extent> {
         let (mut length, mut count, mut detail) = (0, 0, 0);
-        // SAFETY: each pointer and length is that of a reference that lives through the call. Those that are written to are of mutable
+        // SAFETY: each pointer and length comes from a reference that is valid during the call. The library writes only through mutable
         // references, so they overlap nothing. The library requires nothing else.
         let status = unsafe {
             raw::wasmprinter_print_lines(
@@ -180,7 +180,7 @@ impl Config {
     }
 }
 
-/// Sets the length of a buffer.
+/// Sets the length of a buffer. Returns [`Error::Memory`] if an allocation fails.
 fn resize<T: Clone + Default>(buffer: &mut Vec<T>, len: usize) -> Result<()> {
     let more = len.saturating_sub(buffer.len());
     buffer.try_reserve_exact(more).map_err(|_| Error::Memory)?;
@@ -192,7 +192,7 @@ fn resize<T: Clone + Default>(buffer: &mut Vec<T>, len: usize) -> Result<()> {
 pub fn version() -> (u32, u32, u32) {
     const MAJOR: u32 = 1_000_000;
     const MINOR: u32 = 1_000;
-    // SAFETY: the function takes nothing.
+    // SAFETY: the function has no parameters.
     let version = unsafe { raw::wasmprinter_version() };
     (version / MAJOR, version % MAJOR / MINOR, version % MINOR)
 }

@@ -7,7 +7,7 @@ const ROWS: &str = include_str!("../../rows.txt");
 /// Buffers are filled with this byte before a call.
 const GUARD: u8 = 0xa5;
 
-/// An error, as a row gives it: its name, its description, and the text in the buffer after it.
+/// The expected error of a row: its name, its description, and the text in the buffer after it.
 #[derive(Default)]
 struct Refusal {
     name: String,
@@ -15,12 +15,12 @@ struct Refusal {
     left: String,
 }
 
-/// A row: what is printed, and what is expected.
+/// A row: the input and the expected results.
 #[derive(Default)]
 struct Row {
     title: String,
     config: Config,
-    /// The indent is not UTF-8, so it is not a string.
+    /// The indent is not UTF-8, so it has no `String`.
     is_unprintable: bool,
     wasm: Vec<u8>,
     has_places: bool,
@@ -98,7 +98,7 @@ impl Row {
         }
     }
 
-    /// Prints over a buffer of this size. It has to hold the first bytes of the text, as many as fit. Its other bytes have to be unchanged.
+    /// Prints to a buffer of `room` bytes. Checks that it holds as much of the text as fits, and that its other bytes are unchanged.
     fn check_over(&self, room: usize, typed: &str) -> wasmprinter::Result<usize> {
         let mut out = vec![GUARD; room];
         let printed = self.config.print_over(&self.wasm, &mut out);
@@ -187,7 +187,7 @@ fn keeps_lines_without_the_module() {
 }
 
 #[test]
-fn is_of_this_version() {
+fn returns_this_version() {
     assert_eq!(version(), (0, 263, 0));
 }
 

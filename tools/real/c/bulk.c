@@ -1,4 +1,4 @@
-/* Copying and filling of whole blocks, conversions that saturate, sign extension, reference types, results of several values. */
+/* Bulk copying and filling of memory, saturating conversions, sign extension, reference types, multiple results. */
 
 typedef __externref_t object;
 struct pair { int first; double second; };

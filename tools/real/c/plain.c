@@ -1,4 +1,4 @@
-/* Arithmetic of all widths, memory, loops, switches, pointers to functions, strings, floats: what C is mostly made of. */
+/* Arithmetic of all widths, memory, loops, switches, pointers to functions, strings, floats: the common parts of C. */
 
 typedef unsigned int u32;
 typedef unsigned long long u64;

@@ -1,4 +1,4 @@
-/* Calls in place of the caller, direct and through pointers. */
+/* Tail calls, direct and through pointers. */
 
 typedef int step(int n, int sum);
 

@@ -1,4 +1,4 @@
-/* Atomic operators, waiting and waking, and variables of a thread's own, over a shared memory. */
+/* Atomic operators, waiting and waking, and thread-local variables, on a shared memory. */
 
 _Thread_local int own = 7;
 int shared;

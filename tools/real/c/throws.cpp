@@ -1,4 +1,4 @@
-// Exceptions that are thrown, caught by type and rethrown, and objects that are destroyed on the way.
+// Exceptions that are thrown, caught by type and rethrown, and objects that are destroyed during unwinding.
 
 struct Guard {
     int &count;

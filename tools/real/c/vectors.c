@@ -1,4 +1,4 @@
-/* Vectors of 128 bits, by the compiler's own vector types. */
+/* Vectors of 128 bits, with the compiler's own vector types. */
 
 typedef signed char i8 __attribute__((vector_size(16)));
 typedef unsigned char u8 __attribute__((vector_size(16)));

@@ -1,4 +1,4 @@
-;; Custom sections in all places, those that tools write among them, and annotations that readers pass over.
+;; Custom sections in all places, including those that tools write, and annotations that readers skip.
 (module
   (@custom "first" (before first) "\00\01\02 first")
   (@custom "" (before type) "without a name")

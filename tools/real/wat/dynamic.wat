@@ -1,4 +1,4 @@
-;; A `dylink.0` section: what a shared library asks for.
+;; A `dylink.0` section: the requirements of a shared library.
 (module
   (@dylink.0
     (mem-info (memory 16 4) (table 2 0))

@@ -1,4 +1,4 @@
-;; Exceptions of today: tags, `throw`, `try_table` with all kinds of catches, references to exceptions.
+;; Standard exception handling: tags, `throw`, `try_table` with all kinds of catches, references to exceptions.
 (module
   (type $error (func (param i32 i64)))
   (import "env" "imported" (tag $imported (type $error)))

@@ -1,4 +1,4 @@
-;; Globals of all types, imported, exported and computed; constant expressions that compute.
+;; Globals of all types, imported, exported and computed; constant expressions with operators.
 (module
   (type $unary (func (param i32) (result i32)))
   (import "env" "value" (global $value i32))

@@ -1,4 +1,4 @@
-;; The older exceptions: `try`, `catch`, `catch_all`, `rethrow`, `delegate`. These aren't folded.
+;; Legacy exception handling: `try`, `catch`, `catch_all`, `rethrow`, `delegate`. These operators can't be folded.
 (module
   (tag $error (param i32))
   (tag $other)

@@ -1,4 +1,4 @@
-;; Names of everything, strange ones among them, and names that hide others.
+;; Names of every kind of item, including unusual names, and names that shadow others.
 (module $"a module's name"
   (type $"type with blanks" (func (param i32)))
   (type $pair (struct (field $left i32) (field $"right (mut)" (mut i64)) (field f32)))

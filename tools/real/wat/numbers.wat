@@ -1,4 +1,4 @@
-;; Operators on numbers, conversions, and constants at the ends of their ranges.
+;; Operators on numbers, conversions, and constants at the limits of their ranges.
 (module $numbers
   (func $i32_unary (export "i32_unary") (param $i i32) (param $l i64) (param $f f32) (param $d f64)
     (drop (i32.clz (local.get $i)))

@@ -1,4 +1,4 @@
-;; Sizes of pages: of one byte, and the usual size said by itself.
+;; Page sizes: one byte, and the default size given explicitly.
 (module
   (memory $bytes (export "bytes") 10 20 (pagesize 1))
   (memory $pages 1 (pagesize 65536))

@@ -1,4 +1,4 @@
-;; Calls in place of the caller, and calls by reference.
+;; Tail calls, and calls by reference.
 (module
   (type $binary (func (param i32 i32) (result i32)))
   (import "env" "other" (func $other (type $binary)))
