@@ -29,7 +29,7 @@ extern "C" {
 
 /* The options of printing. The default is false for each. Each field must hold 0 or 1. */
 typedef struct WasmprinterOptions {
-    bool offsets;      /* begin each line with its place */
+    bool offsets;      /* begin each line after the first with its place */
     bool skeleton;     /* leave out bodies, items of element segments, and bytes of data segments and custom sections */
     bool name_unnamed; /* synthesize identifiers for items without a name */
     bool fold;         /* put each operator in parentheses with its operands */

@@ -165,9 +165,9 @@ def print_bytes(
 ) -> str:
     """Returns the text of a module.
 
-    offsets begins each line with its byte offset in the module. skeleton leaves out bodies, items of element segments, and bytes of data
-    segments and custom sections. name_unnamed synthesizes identifiers for items without a name. fold puts each operator in parentheses
-    with its operands. indent is the text of one level of nesting.
+    offsets begins each line after the first with its byte offset in the module. skeleton leaves out bodies, items of element segments,
+    and bytes of data segments and custom sections. name_unnamed synthesizes identifiers for items without a name. fold puts each operator
+    in parentheses with its operands. indent is the text of one level of nesting.
 
     Raises a subclass of Error if the module can't be printed.
     """

@@ -54,7 +54,7 @@ impl Config {
         }
     }
 
-    /// Chooses whether each line begins with its place.
+    /// Chooses whether each line after the first begins with its place.
     pub fn print_offsets(&mut self, print: bool) -> &mut Self {
         self.options.offsets = print;
         self

@@ -6,9 +6,9 @@ use Rattle.std.specs.declared.io.Error.{Error as IoError}
 use Rattle.wasmprinter_error.specs.declared.error.Error.{Error}
 use Rattle.wasmprinter_error.specs.declared.error.Error.TheVariants.{Printer}
 use Rattle.wasmprinter_spec.specs.Options.{Options}
-use Rattle.wasmprinter.specs.Printed.{HasTextBy}
-use Rattle.wasmprinter.specs.Coloured.{HasColouredTextBy}
-use Rattle.wasmprinter.specs.OfFile.{Reading, IsRefusedBy}
+use Rattle.wasmprinter.specs.Printed.{IsTextOf}
+use Rattle.wasmprinter.specs.Colored.{HasColoredTextBy}
+use Rattle.wasmprinter.specs.TextOfFile.{Reading, IsRefusedBy}
 use Rattle.printwasm.specs.Words.{Choice, named_file, choice_of}
 
 -- The possible results of writing a text, with the states of the sink before and after. The text is `None` if no
@@ -18,12 +18,12 @@ TextWrite W = W → Option (List ℕ) → Result (Unit {0}) IoError → W → Ty
 
 -- The text is that of the module with these options, with ANSI escape sequences or without.
 abbrev pub HasTextIn : Bool → Options → List ℕ → List ℕ → Type 0
-HasTextIn true o wasm text = HasColouredTextBy o wasm text
-HasTextIn false o wasm text = HasTextBy o wasm text
+HasTextIn true o wasm text = HasColoredTextBy o wasm text
+HasTextIn false o wasm text = IsTextOf o wasm text
 
 -- The text, in the chosen form, of the module that the bytes encode.
 abbrev pub IsTextBy : Choice → List ℕ → List ℕ → Type 0
-IsTextBy c wasm text = HasTextIn c.coloured c.options wasm text
+IsTextBy c wasm text = HasTextIn c.colored c.options wasm text
 
 -- Reading the file may return bytes that encode a module with this text in the chosen form.
 abbrev pub GivesText : Choice → Reading → List ℕ → Type 0
@@ -60,8 +60,8 @@ abbrev pub Rendering : Type 0 → Type 1
 Rendering X = X → Option (List ℕ) → Type 0
 
 -- This error was reported: the line with its text was written in one write, whatever the result.
-abbrev pub TellsError : {V X : Type 0} → TextWrite V → V → V → Rendering X → X → Type 0
-TellsError tells old new renders error = (text : Option (List ℕ)) × renders error text × Tells tells old new (error_line text)
+abbrev pub ReportsError : {V X : Type 0} → TextWrite V → V → V → Rendering X → X → Type 0
+ReportsError reports old new renders error = (text : Option (List ℕ)) × renders error text × Tells reports old new (error_line text)
 
 -- The outcome of a run with these words, where errors have the texts that `renders` gives.
 -- The status is 2 exactly if the words do not name one file, with only options of the program besides it. Then the
@@ -69,16 +69,16 @@ TellsError tells old new renders error = (text : Option (List ℕ)) × renders e
 -- If the status is 0, the text of the module in the named file, in the chosen form, was written completely, and
 -- nothing was reported.
 -- If the status is 1, the module was not printed, for an error that was reported.
-pub record HasOutcome {W V : Type 0} (gives : List ℕ → Reading) (takes : TextWrite W) (tells : TextWrite V) (renders : Rendering Error)
+pub record HasOutcome {W V : Type 0} (gives : List ℕ → Reading) (takes : TextWrite W) (reports : TextWrite V) (renders : Rendering Error)
     (words : List (List ℕ)) (out new_out : W) (err new_err : V) (status : ℕ) : Type 0 where
   pub usage : (status ≡ 2) ↔ (named_file words ≡ None)
   pub bound : status ≤ 2
   pub silent : status ≡ 2 → new_out ≡ out
-  pub misused : status ≡ 2 → Tells tells err new_err (Some usage_line)
+  pub misused : status ≡ 2 → Tells reports err new_err (Some usage_line)
   pub printed : status ≡ 0 →
       (file : List ℕ) × (named_file words ≡ Some file) × WritesModuleText (choice_of words) (gives file) takes out new_out (Ok tt)
   pub quiet : status ≡ 0 → new_err ≡ err
   pub refused : status ≡ 1 →
       (file : List ℕ) × (error : Error) × (named_file words ≡ Some file)
       × FailsToWrite (choice_of words) (gives file) takes out new_out error
-      × TellsError tells err new_err renders error
+      × ReportsError reports err new_err renders error

@@ -49,7 +49,7 @@ named_file words = if list_all is_known words then the_only (files words) else N
 -- The choices that words make: the options of printing, and whether the text has ANSI escape sequences.
 pub record Choice : Type 0 where
   pub options : Options
-  pub coloured : Bool
+  pub colored : Bool
 
 -- The choices of the options, at any position and any number of times.
 abbrev pub choice_of : List (List ℕ) → Choice
@@ -57,10 +57,10 @@ choice_of words = record {
   options = record defaults {
     offsets = has words offsets_option;
     skeleton = has words skeleton_option;
-    invents = has words name_unnamed_option;
+    synthesizes = has words name_unnamed_option;
     folds = has words fold_option;
   };
-  coloured = has words color_option;
+  colored = has words color_option;
 }
 
 -- All items of the iterator in order, except the first, which is the program's name.

@@ -7,8 +7,8 @@ ghost use Rattle.std.specs.declared.io.Error.{Error as IoError};
 ghost use Rattle.wasmprinter_spec.specs.Binary.{IsComponent};
 ghost use Rattle.printwasm.specs.Unread.{words_error};
 ghost use Rattle.printwasm.specs.Words.{AreWordsOf, WantsWords, is_option, is_known, named_file, has, choice_of};
-ghost use Rattle.printwasm.specs.Outcome.{IsTextBy, GivesText, GivesNoText, WritesModuleText, FailsToWrite, TellsError, HasOutcome};
-ghost use Rattle.wasmprinter.specs.Outcome.{HasTextCause, IsTrueOfText};
+ghost use Rattle.printwasm.specs.Outcome.{IsTextBy, GivesText, GivesNoText, WritesModuleText, FailsToWrite, ReportsError, HasOutcome};
+ghost use Rattle.wasmprinter.specs.Outcome.{HasListedTextCause, IsSoundTextRefusal};
 
 use crate::rendering::{Render, WordsError};
 use crate::system::Sink;
@@ -65,7 +65,7 @@ impl Model for Choice {
 
     ghost Value = { ChosenValue };
 
-    ghost view = { λ c. record { options = c.config; coloured = c.is_colored } };
+    ghost view = { λ c. record { options = c.config; colored = c.is_colored } };
 }
 
 /// Runs the program with all its arguments, of which the first is its own name, and returns the exit status.
@@ -89,7 +89,7 @@ where
         × HasOutcome (S.gives source.now) O.takes E.takes (⟦<R as Render<Error>>⟧.renders renderer.now)
         words out.old out.new err.old err.new (exit_status result))
         ⊎ ((error : IoError) × WantsWords args error
-        × TellsError E.takes err.old err.new (⟦<R as Render<WordsError>>⟧.renders renderer.now) (words_error error)
+        × ReportsError E.takes err.old err.new (⟦<R as Render<WordsError>>⟧.renders renderer.now) (words_error error)
         × (out.new ≡ out.old) × (exit_status result ≡ 1)) }
 {
     let status = match words_of(alloc, args) {
@@ -223,8 +223,8 @@ fn print_file<S: Source>(
 /// Returns the text of a module.
 fn print(alloc: Global, choice: &Choice, wasm: &[u8]) -> Result<Vec<u8>, Error>
     ensures printed { IfOk result (λ text. IsTextBy choice.now wasm.now text.items) }
-    ensures caused { IfErr result (HasTextCause choice.now.options wasm.now) }
-    ensures refused { IfErr result (IsTrueOfText choice.now.options wasm.now) }
+    ensures caused { IfErr result (HasListedTextCause choice.now.options wasm.now) }
+    ensures refused { IfErr result (IsSoundTextRefusal choice.now.options wasm.now) }
     ensures component { IsErrOf result Error.Component ↔ IsComponent wasm.now }
 {
     if choice.is_colored {
@@ -239,7 +239,7 @@ fn print(alloc: Global, choice: &Choice, wasm: &[u8]) -> Result<Vec<u8>, Error>
 
 /// Writes the line of an error, and returns exit status 1. A failure to write the line is ignored.
 fn refuse<X: Drop, R: Render<X>, E: Sink>(renderer: &R, err: &mut E, error: X) -> u8
-    ensures told { TellsError E.takes err.old err.new (R.renders renderer.now) error }
+    ensures told { ReportsError E.takes err.old err.new (R.renders renderer.now) error }
     ensures status { result ≡ 1 }
 {
     let _ = renderer.write_line(err, &error);

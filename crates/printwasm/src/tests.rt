@@ -75,7 +75,7 @@ pub fn has_printed(outcome: &Outcome, text: &str) -> bool {
 }
 
 /// Returns whether a run ended with this status, printed nothing, and reported this text.
-fn has_told(outcome: &Outcome, status: u8, text: &str) -> bool {
+fn has_reported(outcome: &Outcome, status: u8, text: &str) -> bool {
     outcome.status == status && outcome.out.is_empty() && outcome.err.as_slice() == text.as_bytes()
 }
 
@@ -90,14 +90,14 @@ fn prints_file(rt: &HostRuntime, name: &str, bytes: &[u8], text: &str) -> Result
 }
 
 /// Returns whether the program with these words ends with this status, prints nothing, and reports this text.
-fn tells(rt: &HostRuntime, words: &[&str], status: u8, text: &str) -> Result<bool, Fail> {
-    Ok(has_told(&run_with(rt, words)?, status, text))
+fn reports(rt: &HostRuntime, words: &[&str], status: u8, text: &str) -> Result<bool, Fail> {
+    Ok(has_reported(&run_with(rt, words)?, status, text))
 }
 
 /// Returns whether the program over a file with these bytes ends with status 1, prints nothing, and reports this
 /// text.
 fn refuses_file(rt: &HostRuntime, name: &str, bytes: &[u8], text: &str) -> Result<bool, Fail> {
-    Ok(has_told(&run_over(rt, name, bytes)?, 1, text))
+    Ok(has_reported(&run_over(rt, name, bytes)?, 1, text))
 }
 
 #[test]
@@ -294,7 +294,7 @@ fn refuses_what_cannot_be_folded_in_colors_or_without(rt: HostRuntime) -> Result
     let told = "error: legacy exception operator at byte 0x17 can't be folded\n";
     fs::write(&rt, "try.wasm", &OLDER_TRY)?;
     for words in FOLD_ORDERS {
-        assert!(rt; tells(&rt, words, 1, told)?, "{words:?}");
+        assert!(rt; reports(&rt, words, 1, told)?, "{words:?}");
     }
     // A skeleton has no bodies.
     let words = ["--fold", "--skeleton", "try.wasm"];
@@ -340,7 +340,7 @@ fn reads_the_file_of_that_very_name(rt: HostRuntime) -> Result<(), Fail> {
 
 #[test]
 fn refuses_a_file_that_is_missing(rt: HostRuntime) -> Result<(), Fail> {
-    assert!(rt; tells(&rt, &["no such file"], 1, UNREADABLE)?);
+    assert!(rt; reports(&rt, &["no such file"], 1, UNREADABLE)?);
     Ok(())
 }
 
@@ -359,9 +359,9 @@ const MISUSES: [&[&str]; 10] = [
 ];
 
 #[test]
-fn tells_its_usage(rt: HostRuntime) -> Result<(), Fail> {
+fn prints_its_usage(rt: HostRuntime) -> Result<(), Fail> {
     for words in MISUSES {
-        assert!(rt; tells(&rt, words, 2, USAGE)?, "{words:?}");
+        assert!(rt; reports(&rt, words, 2, USAGE)?, "{words:?}");
     }
     Ok(())
 }
@@ -413,7 +413,7 @@ fn fills(rt: &HostRuntime, words: &[&str], text: &str, room: usize) -> Result<bo
 }
 
 #[test]
-fn tells_that_the_text_could_not_be_written(rt: HostRuntime) -> Result<(), Fail> {
+fn reports_that_the_text_could_not_be_written(rt: HostRuntime) -> Result<(), Fail> {
     fs::write(&rt, "narrow.wasm", &PREAMBLE)?;
     for room in [0, 5] {
         assert!(rt; fills(&rt, &["narrow.wasm"], "(module)\n", room)?, "{room}");
@@ -435,7 +435,7 @@ fn keeps_status(rt: &HostRuntime, words: &[&str], room: usize, status: u8) -> Re
 const UNMET: [(&[&str], u8); 2] = [(&["no such file"], 1), (&[], 2)];
 
 #[test]
-fn keeps_its_status_where_errors_can_not_be_told(rt: HostRuntime) -> Result<(), Fail> {
+fn keeps_its_status_if_errors_can_not_be_written(rt: HostRuntime) -> Result<(), Fail> {
     for (words, status) in UNMET {
         for room in [0, 5] {
             assert!(rt; keeps_status(&rt, words, room, status)?, "{words:?}");
@@ -487,7 +487,7 @@ fn refuses_to_start(rt: &HostRuntime, error: io::Error, text: &str) -> bool {
 }
 
 #[test]
-fn tells_that_its_words_can_not_be_held(rt: HostRuntime) {
+fn reports_that_its_words_do_not_fit_in_memory(rt: HostRuntime) {
     let error = io::Error::from(AllocError);
     assert!(rt; refuses_to_start(&rt, error, "error: out of memory\n"));
 }
@@ -582,7 +582,7 @@ impl Write for Late {
 
 /// Returns whether the program with these words writes nothing to a sink after a failed write, and reports that
 /// the text could not be written.
-fn stops_behind_a_failed_write(rt: &HostRuntime, words: &[&str]) -> Result<bool, Fail> {
+fn stops_after_a_failed_write(rt: &HostRuntime, words: &[&str]) -> Result<bool, Fail> {
     let mut out = Late {
         taken: Vec::new(rt.alloc()),
         is_late: false,
@@ -593,9 +593,9 @@ fn stops_behind_a_failed_write(rt: &HostRuntime, words: &[&str]) -> Result<bool,
 }
 
 #[test]
-fn writes_nothing_behind_a_failed_write(rt: HostRuntime) -> Result<(), Fail> {
+fn writes_nothing_after_a_failed_write(rt: HostRuntime) -> Result<(), Fail> {
     fs::write(&rt, "late.wasm", &PREAMBLE)?;
-    assert!(rt; stops_behind_a_failed_write(&rt, &["late.wasm"])?);
+    assert!(rt; stops_after_a_failed_write(&rt, &["late.wasm"])?);
     fs::remove_file(&rt, "late.wasm")?;
     Ok(())
 }

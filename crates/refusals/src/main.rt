@@ -108,7 +108,7 @@ fn are_granted(alloc: Global, count: u32) -> bool {
 }
 
 /// Writes an ending, and returns its status.
-fn tell(rt: &HostRuntime, name: &str, ending: Ending) -> io::Result<u8> {
+fn report(rt: &HostRuntime, name: &str, ending: Ending) -> io::Result<u8> {
     match ending.printed_len() {
         Some(len) => println!(rt; "{}: {} after {} bytes", name, ending.word(), len)?,
         None => println!(rt; "{}: {}", name, ending.word())?,
@@ -118,7 +118,7 @@ fn tell(rt: &HostRuntime, name: &str, ending: Ending) -> io::Result<u8> {
 
 /// Prints a shape, writes its ending, and returns the status of the ending.
 fn print_shape(rt: &HostRuntime, shape: &Shape) -> io::Result<u8> {
-    tell(rt, shape.name, ending_of(rt, shape))
+    report(rt, shape.name, ending_of(rt, shape))
 }
 
 /// Prints what standard input requests, writes each ending, and returns the status of the worst ending.
@@ -128,7 +128,7 @@ fn print_all(rt: &HostRuntime) -> io::Result<u8> {
         return Ok(Ending::Other("own request").status());
     }
     if let Some(name) = wanted.name {
-        return tell(rt, "name", name.ending(rt.alloc()));
+        return report(rt, "name", name.ending(rt.alloc()));
     }
     let mut status = Ending::Printed.status();
     for (number, shape) in SHAPES.iter().enumerate() {

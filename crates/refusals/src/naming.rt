@@ -8,7 +8,7 @@ use std::fmt::Write;
 use std::io::ErrorKind;
 use wasmprinter::text::{write_bytes, write_quoted};
 use wasmprinter::{Error, Print};
-use wasmprinter_tracker::Tracker;
+use wasmprinter_tracker::LineTracker;
 
 /// The number of characters that each of the first four entries of `LETTERS` has.
 const LETTERS_LEN: usize = 8;
@@ -210,7 +210,7 @@ impl Name {
         let whole = self.expected(alloc, &content)?;
         let room = self.room(whole.len());
         let text = self.old_text(alloc, room)?;
-        let mut tracker = Tracker::new(alloc, text);
+        let mut tracker = LineTracker::new(alloc, text);
         let written = self.write(&mut tracker, &content);
         let (text, _) = tracker.finish();
         Ok(match written {

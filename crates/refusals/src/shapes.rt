@@ -181,21 +181,21 @@ pub const SHAPES: [Shape; 44] = [
         functions: 1,
     },
     Shape {
-        name: "colours of blocks",
+        name: "colors of blocks",
         way: Way::Colors,
         wasm: &BLOCKS,
         text: BLOCKS_COLORED,
         functions: 1,
     },
     Shape {
-        name: "colours",
+        name: "colors",
         way: Way::Colors,
         wasm: &EVERYTHING,
         text: EVERYTHING_COLORED,
         functions: 1,
     },
     Shape {
-        name: "colours in a vector",
+        name: "colors in a vector",
         way: Way::Termcolor,
         wasm: &EVERYTHING,
         text: EVERYTHING_COLORED,
@@ -272,7 +272,7 @@ pub const SHAPES: [Shape; 44] = [
         functions: 1,
     },
     Shape {
-        name: "folded colours",
+        name: "folded colors",
         way: Way::FoldedColors,
         wasm: &OPERANDS,
         text: FOLDED_OPERANDS_COLORED,

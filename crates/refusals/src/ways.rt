@@ -223,7 +223,7 @@ fn by_lines(alloc: Global, config: &Config, shape: &Shape) -> Ending {
 /// Prints in color.
 fn by_colors(alloc: Global, config: &Config, shape: &Shape) -> Ending {
     match config.print_to_ansi(alloc, shape.wasm) {
-        Ok(text) => Ending::of(*text == *shape.text.as_bytes(), "wrong colours"),
+        Ok(text) => Ending::of(*text == *shape.text.as_bytes(), "wrong colors"),
         Err(error) => Ending::of_error(error),
     }
 }

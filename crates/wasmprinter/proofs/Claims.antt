@@ -8,10 +8,10 @@ use Rattle.wasmprinter_spec.specs.Placed.{CustomEntry, PlacedModule}
 use Rattle.wasmprinter_spec.specs.Names.{Names}
 use Rattle.wasmprinter_spec.specs.ModuleNames.{module_names}
 use Rattle.wasmprinter_spec.specs.Options.{Options, Answers}
-use Rattle.wasmprinter_spec.specs.Piece.{Piece, Begin, Feed, Open, all_calls}
+use Rattle.wasmprinter_spec.specs.Piece.{Piece, Begin, EndLine, Open, all_calls}
 use Rattle.wasmprinter_spec.specs.Layout.{early_scope, section_pieces, section_order, section_parts, module_parts, module_pieces_of, module_pieces_with, module_pieces, layout, refusal}
 use Rattle.wasmprinter_spec.specs.Layout.Groups.{close, has_break, group_at}
-use Rattle.wasmprinter_spec.specs.Layout.Identifiers.{leading_mark_pieces}
+use Rattle.wasmprinter_spec.specs.Layout.Identifiers.{leading_id_and_name_pieces}
 use Rattle.wasmprinter_spec.specs.Layout.Customs.{Part, Shown, Stops, Laid, laid_parts, custom_part, same_place, parts_at}
 use Rattle.wasmprinter_spec.proofs.Each.{all_both, all_parts}
 use Rattle.wasmprinter_print.specs.PrintsLaws.{all_calls-append}
@@ -63,14 +63,14 @@ module _ (o : Options) where
   pieces_front ps qs h =
       (all_parts IsUnclaimed (all_calls o ps) (all_calls o qs) (subst (λ (cs : List Call). AllByRecursion IsUnclaimed cs) (all_calls-append o ps qs) h)).0
 
-  pieces_behind : (ps qs : List Piece) → AreUnclaimedIn (ps ++ qs) → AreUnclaimedIn qs
-  pieces_behind ps qs h =
+  pieces_after : (ps qs : List Piece) → AreUnclaimedIn (ps ++ qs) → AreUnclaimedIn qs
+  pieces_after ps qs h =
       (all_parts IsUnclaimed (all_calls o ps) (all_calls o qs) (subst (λ (cs : List Call). AllByRecursion IsUnclaimed cs) (all_calls-append o ps qs) h)).1
 
   parts_unclaimed : (parts : List Part) → (laid_parts parts).refused ≡ None → AreUnclaimedIn (laid_parts parts).pieces → AllByRecursion IsUnclaimedPart parts
   parts_unclaimed [] e h = tt
   parts_unclaimed (Shown ps ∷ parts) e h =
-      (pieces_front ps (laid_parts parts).pieces h, parts_unclaimed parts e (pieces_behind ps (laid_parts parts).pieces h))
+      (pieces_front ps (laid_parts parts).pieces h, parts_unclaimed parts e (pieces_after ps (laid_parts parts).pieces h))
   parts_unclaimed (Stops ps id ∷ parts) e h = absurd cc
 
   -- If the part of a custom section has no claim that was answered yes, the answer for this section is no.
@@ -82,10 +82,10 @@ module _ (o : Options) where
   place_same : (answers : Answers) (place : Option Kind) (n : ℕ) (cs : List CustomEntry) → AllByRecursion IsUnclaimedPart (parts_at o.skeleton answers place n cs) →
       parts_at o.skeleton answers place n cs ≡ parts_at o.skeleton no_claims place n cs
   place_same answers place n [] h = refl
-  place_same answers place n (c ∷ cs) h = by (same_place c.behind place) (λ others. place_same answers place (n + 1) cs others) refl
+  place_same answers place n (c ∷ cs) h = by (same_place c.after place) (λ others. place_same answers place (n + 1) cs others) refl
     where
       by : (t : Bool) → (AllByRecursion IsUnclaimedPart (parts_at o.skeleton answers place (n + 1) cs) → parts_at o.skeleton answers place (n + 1) cs ≡ parts_at o.skeleton no_claims place (n + 1) cs) →
-          same_place c.behind place ≡ t → parts_at o.skeleton answers place n (c ∷ cs) ≡ parts_at o.skeleton no_claims place n (c ∷ cs)
+          same_place c.after place ≡ t → parts_at o.skeleton answers place n (c ∷ cs) ≡ parts_at o.skeleton no_claims place n (c ∷ cs)
       by true others e =
           let parts : AllByRecursion IsUnclaimedPart (custom_part o.skeleton (answers n) c ∷ parts_at o.skeleton answers place (n + 1) cs) = rw e at h in
           rw (e, answered_no (answers n) c parts.0, others parts.1) refl
@@ -123,12 +123,12 @@ module _ (o : Options) where
   inner_unclaimed : (names : Names) (size : ℕ) (ps : List Piece) → AreUnclaimedIn (module_pieces_of o names size ps None) → AreUnclaimedIn ps
   unfolding group_at
   inner_unclaimed names size ps h =
-      let mark : List Piece = leading_mark_pieces names.module_name in
-      let shut : List Piece = close (Some size) 0 (o.offsets || has_break (mark ++ ps)) in
+      let id_and_name : List Piece = leading_id_and_name_pieces names.module_name in
+      let write_close_paren : List Piece = close (Some size) 0 (o.offsets || has_break (id_and_name ++ ps)) in
       let front : List Piece = Begin 0 ∷ (Open (codes "module") ∷ []) in
-      let inner : AreUnclaimedIn (mark ++ ps) =
-      pieces_front (mark ++ ps) shut (pieces_front ((mark ++ ps) ++ shut) (Feed ∷ []) (pieces_behind front (((mark ++ ps) ++ shut) ++ (Feed ∷ [])) h)) in
-      pieces_behind mark ps inner
+      let inner : AreUnclaimedIn (id_and_name ++ ps) =
+      pieces_front (id_and_name ++ ps) write_close_paren (pieces_front ((id_and_name ++ ps) ++ write_close_paren) (EndLine ∷ []) (pieces_after front (((id_and_name ++ ps) ++ write_close_paren) ++ (EndLine ∷ [])) h)) in
+      pieces_after id_and_name ps inner
 
   whole_unclaimed_in : (names : Names) (size : ℕ) (l : Laid) → l.refused ≡ None → AreUnclaimedIn (module_pieces_of o names size l.pieces l.refused) → AreUnclaimedIn l.pieces
   whole_unclaimed_in names size l e h = inner_unclaimed names size l.pieces (rw e at h)
@@ -142,7 +142,7 @@ pub record IsSame (o : Options) (answers : Answers) (m : PlacedModule) : Type 0 
 pub unclaimed_layout : (o : Options) (answers : Answers) (m : PlacedModule) → refusal o answers m ≡ None → AllByRecursion IsUnclaimed (layout o answers m) → IsSame o answers m
 unfolding layout module_pieces module_pieces_with
 unclaimed_layout o answers m e h =
-    let names : Names = module_names o.invents m in
+    let names : Names = module_names o.synthesizes m in
     let laid : Laid = laid_parts (module_parts o answers names m) in
     let same : module_parts o answers names m ≡ module_parts o no_claims names m =
     parts_same o answers names m (parts_unclaimed o (module_parts o answers names m) e (whole_unclaimed_in o names m.size laid e h)) in

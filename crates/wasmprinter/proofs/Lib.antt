@@ -1,13 +1,13 @@
-pub mod Paints
+pub mod ColorPieces
 pub mod Headline
 pub mod Outcomes
 pub mod Texts
 pub mod TrackedLines
-pub mod Colours
+pub mod Colors
 pub mod FindingSteps
 pub mod FoundLines
 pub mod Named
 pub mod Claims
 pub mod Subsections
-pub mod OfFile
+pub mod TextOfFile
 pub mod Prefixes

@@ -6,7 +6,7 @@ use Rattle.std.proofs.lemmas.List.{length-append}
 use Rattle.wasmprinter_spec.specs.Grammar.{◌>>=◌, bind_some, some_is, Placed, input}
 use Rattle.wasmprinter_spec.specs.Choices.{tested}
 use Rattle.wasmprinter_spec.specs.Placed.{Custom, CustomEntry, PlacedFunction, PlacedModule}
-use Rattle.wasmprinter_spec.specs.Sections.{Kind, CustomSection, Section, section, are_above, place_behind, with_custom, customs_behind}
+use Rattle.wasmprinter_spec.specs.Sections.{Kind, CustomSection, Section, section, are_above, place_after, with_custom, customs_after}
 use Rattle.wasmprinter_spec.specs.Repeated.{until_end}
 use Rattle.wasmprinter_spec.specs.Binary.{Spells, binary, customs_in, type_indices_in, bodies_in, data_count_in, datas_in, function_pairs, counts_data, module_from}
 use Rattle.wasmprinter_spec.specs.Names.{Naming, names_by}
@@ -24,13 +24,13 @@ use Rattle.wasmprinter_error.specs.declared.error.Error.TheVariants.{Memory}
 -- ---- Identifiers
 
 -- Two namings that name each item the same give the same names.
-pub same_names : (invents : Bool) (a b : Naming) → ((s outer index : ℕ) → a s outer index ≡ b s outer index) → names_by invents a ≡ names_by invents b
-same_names invents a b e = ap (names_by invents) (fun_ext (λ s. fun_ext (λ outer. fun_ext (λ index. e s outer index))))
+pub same_names : (synthesizes : Bool) (a b : Naming) → ((s outer index : ℕ) → a s outer index ≡ b s outer index) → names_by synthesizes a ≡ names_by synthesizes b
+same_names synthesizes a b e = ap (names_by synthesizes) (fun_ext (λ s. fun_ext (λ outer. fun_ext (λ index. e s outer index))))
 
 -- A naming that names each item by the entries of a module gives the names of the module.
-pub are_names : (invents : Bool) (m : PlacedModule) (a : Naming) → ((s outer index : ℕ) → a s outer index ≡ name_of (name_entries m.customs) s outer index)
-    → names_by invents a ≡ module_names invents m
-are_names invents m a e = same_names invents a (name_of (name_entries m.customs)) e
+pub are_names : (synthesizes : Bool) (m : PlacedModule) (a : Naming) → ((s outer index : ℕ) → a s outer index ≡ name_of (name_entries m.customs) s outer index)
+    → names_by synthesizes a ≡ module_names synthesizes m
+are_names synthesizes m a e = same_names synthesizes a (name_of (name_entries m.customs)) e
 
 -- ---- Memory
 
@@ -41,22 +41,22 @@ no_entries (c ∷ cs) some = omega arith
 
 -- If bytes after a prefix encode sections up to the end and one of them is a custom section, the input has a
 -- custom section.
-custom_among : (last : Option Kind) (p : ℕ) (before text : List ℕ) (ss : List Section) → (until_end section).spells (p + length before) text ss → 0 < length (customs_behind last ss)
+custom_among : (last : Option Kind) (p : ℕ) (before text : List ℕ) (ss : List Section) → (until_end section).spells (p + length before) text ss → 0 < length (customs_after last ss)
     → HasCustom (input p (before ++ text))
 custom_among last p before text [] s some = absurd (omega (arith, some))
 custom_among last p before text (x ∷ xs) s some =
     elim (picks CustomSection x) [
       | inl other ↦
-          let next : Option Kind = place_behind last x in
+          let next : Option Kind = place_after last x in
           let rest : HasCustom (input p ((before ++ s.0) ++ s.1)) =
           custom_among next p (before ++ s.0) s.1 xs
           (subst (λ (q : ℕ). (until_end section).spells q s.1 xs) (omega (arith, length-append before s.0)) s.5)
-          (subst (λ (cs : List CustomEntry). 0 < length cs) (ap (λ (o : Option (Placed Custom)). with_custom last o (customs_behind next xs)) other) some) in
+          (subst (λ (cs : List CustomEntry). 0 < length cs) (ap (λ (o : Option (Placed Custom)). with_custom last o (customs_after next xs)) other) some) in
           subst (λ (bs : List ℕ). HasCustom (input p bs)) (append_assoc before s.0 s.1 ∙ ap (λ (r : List ℕ). before ++ r) (sym s.2)) rest
       | inr own ↦ record {
         before = before;
         text = s.0;
-        behind = s.1;
+        after = s.1;
         parts = ap (λ (r : List ℕ). before ++ r) s.2;
         custom = own.0;
         spelled = subst (λ (y : Section). section.spells (p + length before) s.0 y) own.1 s.4;
@@ -100,10 +100,10 @@ unnamed entries e s outer index = rw e refl
 -- ---- Printing with these names
 
 -- The identifiers that are printed with the names of a module's sections are those of the module.
-pub shown_names : (o : Options) (m : PlacedModule) (s : Scan) (items : List NamedItem) → s.named ≡ items → s.invents ≡ o.invents →
-    ((t outer index : ℕ) → name_at items t outer index ≡ name_of (name_entries m.customs) t outer index) → names_of s ≡ module_names o.invents m
-shown_names o m s items same invents given =
-    ap (λ (x : List NamedItem). names_by s.invents (name_at x)) same ∙ ap (λ (b : Bool). names_by b (name_at items)) invents ∙ are_names o.invents m (name_at items) given
+pub shown_names : (o : Options) (m : PlacedModule) (s : Scan) (items : List NamedItem) → s.named ≡ items → s.synthesizes ≡ o.synthesizes →
+    ((t outer index : ℕ) → name_at items t outer index ≡ name_of (name_entries m.customs) t outer index) → names_of s ≡ module_names o.synthesizes m
+shown_names o m s items same synthesizes given =
+    ap (λ (x : List NamedItem). names_by s.synthesizes (name_at x)) same ∙ ap (λ (b : Bool). names_by b (name_at items)) synthesizes ∙ are_names o.synthesizes m (name_at items) given
 
 -- A refusal is not a success.
 pub not_ok : false ≡ true → ⊥

@@ -7,7 +7,7 @@ use Rattle.wasmprinter_spec.specs.Binary.{Spells, IsComponent, magic, preamble_b
 use Rattle.wasmprinter_spec.specs.Placed.{PlacedModule}
 use Rattle.wasmprinter_spec.specs.Limits.{IsWithinLimits}
 use Rattle.wasmprinter_spec.specs.Meaning.{Meaning}
-use Rattle.wasmprinter_spec.specs.Options.{Options, Answers, in_colours}
+use Rattle.wasmprinter_spec.specs.Options.{Options, Answers, in_colors}
 use Rattle.wasmprinter_spec.specs.Names.{Names}
 use Rattle.wasmprinter_spec.specs.Layout.{module_pieces, layout, refusal}
 use Rattle.wasmprinter_spec.specs.Layout.Customs.{Laid}
@@ -24,12 +24,12 @@ use Rattle.wasmprinter_spec.specs.Call.{Call}
 use Rattle.wasmprinter_spec.specs.Folding.Refusals.{IsFoldable}
 use Rattle.wasmprinter_foldable.specs.Refused.{HasFoldReason}
 use Rattle.wasmprinter.specs.Printed.{Printed}
-use Rattle.wasmprinter.specs.Outcome.{HasCause, HasTextCause, IsTrueOf, IsTrueOfText, IsLegacyAt, IsMisplacedAt, AnyIsRefused, MadeUpTo, Leaves, as_growth}
+use Rattle.wasmprinter.specs.Outcome.{HasListedCause, HasListedTextCause, IsSoundRefusal, IsSoundTextRefusal, IsLegacyAt, IsMisplacedAt, AnyIsRefused, MadeUpTo, Leaves, as_growth}
 use Rattle.wasmprinter_spec.specs.Names.Content.{name_of}
 use Rattle.wasmprinter_spec.specs.ModuleNames.{name_entries, module_names}
 use Rattle.wasmprinter_names.specs.Views.{NamedItem, name_at}
 use Rattle.wasmprinter_labels.specs.Scan.{Scan, names_of}
-use Rattle.wasmprinter.proofs.Paints.{calls-paints}
+use Rattle.wasmprinter.proofs.ColorPieces.{calls-color}
 use Rattle.wasmprinter.proofs.Headline.{printed}
 use Rattle.wasmprinter.proofs.Named.{shown_names, one_module}
 use Rattle.wasmprinter.proofs.Subsections.{refusal_unknown, refused_unknown, made_refused}
@@ -46,7 +46,7 @@ not_component bytes placed s c =
     absurd cc
 
 -- Each error of the decoder has its cause.
-pub refusal_cause : {P : Type 0} (m : Meaning P) (o : Options) (bytes : List ℕ) (old : P) (e : Error) → IsRefusal bytes e → HasCause m o bytes old old e
+pub refusal_cause : {P : Type 0} (m : Meaning P) (o : Options) (bytes : List ℕ) (old : P) (e : Error) → IsRefusal bytes e → HasListedCause m o bytes old old e
 refusal_cause m o bytes old (Malformed place) h = λ placed s. h.0 placed s
 refusal_cause m o bytes old Component h = λ placed s. not_component bytes placed s h
 refusal_cause m o bytes old (TooManyLocals place) h = λ placed s. h.1 placed s
@@ -56,7 +56,7 @@ refusal_cause m o bytes old Memory h = λ placed s. inl (h.1 placed s)
 refusal_cause m o bytes old _ h = absurd h
 
 -- Each error of the decoder is true of the bytes.
-pub refusal_true : (o : Options) (bytes : List ℕ) (e : Error) → IsRefusal bytes e → IsTrueOf o bytes e
+pub refusal_true : (o : Options) (bytes : List ℕ) (e : Error) → IsRefusal bytes e → IsSoundRefusal o bytes e
 refusal_true o bytes (Printer x) h = absurd h
 refusal_true o bytes (DylinkSubsection id) h = absurd h
 refusal_true o bytes (FoldLegacy place) h = absurd h
@@ -65,35 +65,35 @@ refusal_true o bytes Memory h = inl h
 refusal_true o bytes _ h = h
 
 -- Each error of the decoder leaves the printer unchanged.
-pub refusal_left : {P : Type 0} (m : Meaning P) (colours : Bool) (o : Options) (bytes : List ℕ) (old : P) (e : Error) → IsRefusal bytes e → Leaves m colours o bytes old old e
-refusal_left m colours o bytes old (Malformed place) h = refl
-refusal_left m colours o bytes old Component h = refl
-refusal_left m colours o bytes old (TooManyLocals place) h = refl
-refusal_left m colours o bytes old (TooManyFunctions count) h = refl
-refusal_left m colours o bytes old (EmptyTableInit place) h = refl
-refusal_left m colours o bytes old Memory h = inl refl
-refusal_left m colours o bytes old _ h = absurd h
+pub refusal_left : {P : Type 0} (m : Meaning P) (colors : Bool) (o : Options) (bytes : List ℕ) (old : P) (e : Error) → IsRefusal bytes e → Leaves m colors o bytes old old e
+refusal_left m colors o bytes old (Malformed place) h = refl
+refusal_left m colors o bytes old Component h = refl
+refusal_left m colors o bytes old (TooManyLocals place) h = refl
+refusal_left m colors o bytes old (TooManyFunctions count) h = refl
+refusal_left m colors o bytes old (EmptyTableInit place) h = refl
+refusal_left m colors o bytes old Memory h = inl refl
+refusal_left m colors o bytes old _ h = absurd h
 
 -- ---- Modules that can't be folded
 
 module _ {P : Type 0} (m : Meaning P) (o : Options) (bytes : List ℕ) (placed : PlacedModule) (spelled : Spells bytes placed) (within : IsWithinLimits placed) (folds : o.folds ≡ true) (old : P) where
   -- Each error of folding has its cause.
-  pub fold_cause : (e : Error) → HasFoldReason o placed e → HasCause m o bytes old old e
+  pub fold_cause : (e : Error) → HasFoldReason o placed e → HasListedCause m o bytes old old e
   fold_cause (FoldLegacy place) h = λ other s. subst (λ (n : PlacedModule). IsLegacyAt o n place) (one_module bytes placed other spelled s) (folds, h)
   fold_cause (FoldHint place) h = λ other s. subst (λ (n : PlacedModule). IsMisplacedAt o n place) (one_module bytes placed other spelled s) (folds, h)
   fold_cause _ h = absurd h
 
   -- Each error of folding is true of the bytes.
-  pub fold_true : (e : Error) → HasFoldReason o placed e → IsTrueOf o bytes e
+  pub fold_true : (e : Error) → HasFoldReason o placed e → IsSoundRefusal o bytes e
   fold_true (FoldLegacy place) h = record { placed = placed; spelled = spelled; within = within; so = (folds, h) }
   fold_true (FoldHint place) h = record { placed = placed; spelled = spelled; within = within; so = (folds, h) }
   fold_true _ h = absurd h
 
   -- Each error of folding leaves the printer unchanged.
-  pub fold_left : (colours : Bool) (e : Error) → HasFoldReason o placed e → Leaves m colours o bytes old old e
-  fold_left colours (FoldLegacy place) h = refl
-  fold_left colours (FoldHint place) h = refl
-  fold_left colours _ h = absurd h
+  pub fold_left : (colors : Bool) (e : Error) → HasFoldReason o placed e → Leaves m colors o bytes old old e
+  fold_left colors (FoldLegacy place) h = refl
+  fold_left colors (FoldHint place) h = refl
+  fold_left colors _ h = absurd h
 
 -- If folding is off, the module counts as foldable.
 pub flat_foldable : (o : Options) (m : PlacedModule) → o.folds ≡ false → IsFoldable o m
@@ -109,32 +109,32 @@ abbrev pub own_laid : Options → Answers → PlacedModule → Laid
 own_laid o answers m = record { pieces = module_pieces o answers m; refused = refusal o answers m }
 
 module _ (o : Options) (answers : Answers) (m : PlacedModule) where
-  by_names : (n : Names) → n ≡ module_names o.invents m → module_laid o answers n m ≡ own_laid o answers m
+  by_names : (n : Names) → n ≡ module_names o.synthesizes m → module_laid o answers n m ≡ own_laid o answers m
   unfolding module_pieces
   by_names n e = ap (λ (x : Names). module_laid o answers x m) e
 
-  pub own_layout : (s : Scan) (items : List NamedItem) → s.named ≡ items → s.invents ≡ o.invents →
+  pub own_layout : (s : Scan) (items : List NamedItem) → s.named ≡ items → s.synthesizes ≡ o.synthesizes →
       ((t outer index : ℕ) → name_at items t outer index ≡ name_of (name_entries m.customs) t outer index) → module_laid o answers (names_of s) m ≡ own_laid o answers m
-  own_layout s items same invents given = by_names (names_of s) (shown_names o m s items same invents given)
+  own_layout s items same synthesizes given = by_names (names_of s) (shown_names o m s items same synthesizes given)
 
-module _ {P : Type 0} (m : Meaning P) (colours : Bool) (o : Options) (bytes : List ℕ) (placed : PlacedModule)
+module _ {P : Type 0} (m : Meaning P) (colors : Bool) (o : Options) (bytes : List ℕ) (placed : PlacedModule)
     (spelled : Spells bytes placed) (within : IsWithinLimits placed) (foldable : IsFoldable o placed) (old new : P) (answers : Answers) where
   abbrev by : Options
-  by = in_colours o colours
+  by = in_colors o colors
 
   made : (r : Ending) → Written m o old new r (module_pieces by answers placed) → Made m old new r (layout by answers placed)
   unfolding layout
-  made r v = subst (λ (l : List Call). Made m old new r l) (sym (calls-paints o colours (module_pieces by answers placed))) (written m v)
+  made r v = subst (λ (l : List Call). Made m old new r l) (sym (calls-color o colors (module_pieces by answers placed))) (written m v)
 
   -- The result of printing, with the calls that were made.
   abbrev Ended : Result (Unit {0}) Error → Type 0
   Ended r = PrintsLaid m o old new o.folds r (own_laid by answers placed)
 
   -- A module that was written with the names of its sections was printed as its own layout says.
-  pub own_ended : (r : Result (Unit {0}) Error) (s : Scan) (items : List NamedItem) → s.named ≡ items → s.invents ≡ o.invents →
+  pub own_ended : (r : Result (Unit {0}) Error) (s : Scan) (items : List NamedItem) → s.named ≡ items → s.synthesizes ≡ o.synthesizes →
       ((t outer index : ℕ) → name_at items t outer index ≡ name_of (name_entries placed.customs) t outer index) →
       PrintsLaid m o old new o.folds r (module_laid by answers (names_of s) placed) → Ended r
-  own_ended r s items same invents given v = subst (λ (l : Laid). PrintsLaid m o old new o.folds r l) (own_layout by answers placed s items same invents given) v
+  own_ended r s items same synthesizes given v = subst (λ (l : Laid). PrintsLaid m o old new o.folds r l) (own_layout by answers placed s items same synthesizes given) v
 
   never : Written m o old new Never (module_pieces by answers placed) → ⊥
   never v = (made Never v).made
@@ -169,29 +169,29 @@ module _ {P : Type 0} (m : Meaning P) (colours : Bool) (o : Options) (bytes : Li
         by_result (Err e) v = by_error e v
 
     -- Each error of printing has its cause: a failed call, a refused section, or a failed allocation.
-    pub ended_caused : Ended r → IfErr r (HasCause m o bytes old new)
+    pub ended_caused : Ended r → IfErr r (HasListedCause m o bytes old new)
     ended_caused v =
-        with_folds (HasCause m o bytes old new) (λ x b other s. record { calls = b.calls; before = b.before; run = b.run; call = b.call; failed = b.failed })
+        with_folds (HasListedCause m o bytes old new) (λ x b other s. record { calls = b.calls; before = b.before; run = b.run; call = b.call; failed = b.failed })
         (λ id u other s. subst (λ (n : PlacedModule). AnyIsRefused m old new id n.customs) (one_module bytes placed other spelled s) (made_refused m old new by id answers placed u))
         (λ folds b other s. inr folds) v
 
     -- Each error of printing is true of the bytes.
-    pub ended_true : Ended r → IfErr r (IsTrueOf o bytes)
+    pub ended_true : Ended r → IfErr r (IsSoundRefusal o bytes)
     ended_true v =
-        with_folds (IsTrueOf o bytes) (λ x b. record { placed = placed; spelled = spelled; within = within })
+        with_folds (IsSoundRefusal o bytes) (λ x b. record { placed = placed; spelled = spelled; within = within })
         (λ id u. record { placed = placed; spelled = spelled; within = within; so = refusal_unknown by answers placed id u.ends })
         (λ folds b. inr (folds, record { placed = placed; spelled = spelled; within = within })) v
 
     -- After an error of printing, the calls that were made are those up to the error.
-    pub ended_left : Ended r → IfErr r (Leaves m colours o bytes old new)
+    pub ended_left : Ended r → IfErr r (Leaves m colors o bytes old new)
     ended_left v =
-        with_folds (Leaves m colours o bytes old new) (λ x b. record { placed = placed; spelled = spelled; within = within; foldable = foldable; answers = answers; left = b })
+        with_folds (Leaves m colors o bytes old new) (λ x b. record { placed = placed; spelled = spelled; within = within; foldable = foldable; answers = answers; left = b })
         (λ id u. record { placed = placed; spelled = spelled; within = within; foldable = foldable; answers = answers; left = u })
         (λ folds b. inr (folds, record { placed = placed; spelled = spelled; within = within; foldable = foldable; answers = answers; left = b })) v
 
   -- If writing succeeds, the module was printed.
-  pub ended_printed : (r : Result (Unit {0}) Error) → Ended r → OnOk r (Printed m colours o bytes old new)
-  ended_printed (Ok x) v = printed m colours o bytes placed answers spelled within foldable v.refused (made Through v.written).made
+  pub ended_printed : (r : Result (Unit {0}) Error) → Ended r → OnOk r (Printed m colors o bytes old new)
+  ended_printed (Ok x) v = printed m colors o bytes placed answers spelled within foldable v.refused (made Through v.written).made
   ended_printed (Err e) v = tt
 
   -- Printing does not return `Component`.
@@ -214,14 +214,14 @@ fold_unmarked o bytes placed r e spelled h f = (λ q. absurd (unmarked r e h f q
     unmarked (Err y) e h f q = let same : y ≡ Component = cc in no_reason e (sym f ∙ same) h
 
 -- If a printer fails only because of failed allocations, the error that is returned for its error has its cause.
-pub growth_cause : {P : Type 0} (m : Meaning P) (o : Options) (bytes : List ℕ) (old new : P) (e : Error) → HasCause m o bytes old new e → HasTextCause o bytes (as_growth e)
+pub growth_cause : {P : Type 0} (m : Meaning P) (o : Options) (bytes : List ℕ) (old new : P) (e : Error) → HasListedCause m o bytes old new e → HasListedTextCause o bytes (as_growth e)
 growth_cause m o bytes old new (Printer x) h = λ placed s. tt
 growth_cause m o bytes old new Memory h = λ placed s. tt
 growth_cause m o bytes old new (DylinkSubsection id) h = λ placed s. refused_unknown m old new id placed.customs (h placed s)
 growth_cause m o bytes old new _ h = h
 
 -- That error is true of the bytes.
-pub growth_true : (o : Options) (bytes : List ℕ) (e : Error) → IsTrueOf o bytes e → IsTrueOfText o bytes (as_growth e)
+pub growth_true : (o : Options) (bytes : List ℕ) (e : Error) → IsSoundRefusal o bytes e → IsSoundTextRefusal o bytes (as_growth e)
 growth_true o bytes (Printer x) h = inr h
 growth_true o bytes Memory (inl h) = inl h
 growth_true o bytes Memory (inr h) = inr h.1

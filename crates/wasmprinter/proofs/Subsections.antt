@@ -10,14 +10,14 @@ use Rattle.wasmprinter_spec.specs.Call.{Call, Claim, atoms}
 use Rattle.wasmprinter_spec.specs.Meaning.{Meaning}
 use Rattle.wasmprinter_spec.specs.Options.{Options, Answers}
 use Rattle.wasmprinter_spec.specs.Piece.{Piece, Begin, Open, Claimed, all_calls}
-use Rattle.wasmprinter_spec.specs.Customs.{CustomRole, Silent, Listed, Linked, Refused, Raw, Faulted, custom_role_of}
-use Rattle.wasmprinter_spec.specs.Layout.Identifiers.{leading_mark_pieces}
+use Rattle.wasmprinter_spec.specs.Customs.{CustomRole, Silent, Listed, Linked, Refused, Raw, Malformed, custom_role_of}
+use Rattle.wasmprinter_spec.specs.Layout.Identifiers.{leading_id_and_name_pieces}
 use Rattle.wasmprinter_spec.specs.Layout.{early_scope, section_pieces, section_order, section_parts, module_parts, module_pieces_of, module_pieces_with, module_pieces, layout, refusal}
 use Rattle.wasmprinter_spec.specs.Layout.Customs.{Part, Shown, Stops, Laid, laid_parts, role_part, custom_part, same_place, parts_at}
 use Rattle.wasmprinter_print.specs.EmitsLaws.{atoms-append}
 use Rattle.wasmprinter_print.specs.Emits.{Whole}
 use Rattle.wasmprinter_print.specs.PrintsLaws.{all_calls-append}
-use Rattle.wasmprinter_annotations.proofs.Parts.{laid_behind, joined-append}
+use Rattle.wasmprinter_annotations.proofs.Parts.{laid_after, joined-append}
 use Rattle.wasmprinter.specs.Outcome.{AnyIsUnknown, IsRefused, AnyIsRefused, MadeUpTo}
 
 abbrev Stop : List Part → ℕ → Type 0
@@ -41,11 +41,11 @@ AnyIsAsked id [] ps = ⊥
 AnyIsAsked id (c ∷ cs) ps = IsAsked id c ps ⊎ AnyIsAsked id cs ps
 
 -- If pieces end with such a claim, they do so after other pieces too.
-asked_behind : (id : ℕ) (cs : List CustomEntry) (ps qs : List Piece) → AnyIsAsked id cs qs → AnyIsAsked id cs (ps ++ qs)
-asked_behind id [] ps qs h = absurd h
-asked_behind id (c ∷ cs) ps qs (inl a) =
+asked_after : (id : ℕ) (cs : List CustomEntry) (ps qs : List Piece) → AnyIsAsked id cs qs → AnyIsAsked id cs (ps ++ qs)
+asked_after id [] ps qs h = absurd h
+asked_after id (c ∷ cs) ps qs (inl a) =
     inl (record { unknown = a.unknown; front = ps ++ a.front; ends = ap (λ (rs : List Piece). ps ++ rs) a.ends ∙ sym (append_assoc ps a.front (question c ∷ [])) })
-asked_behind id (c ∷ cs) ps qs (inr h) = inr (asked_behind id cs ps qs h)
+asked_after id (c ∷ cs) ps qs (inr h) = inr (asked_after id cs ps qs h)
 
 -- The first part does not stop the layout: its pieces come before those of the other parts, which stop it.
 record GoesOn (part : Part) (others : List Part) (id : ℕ) : Type 0 where
@@ -64,7 +64,7 @@ role_stops skeleton c (Listed fields) others id e h = inr (shown_on _ others id 
 role_stops skeleton c (Linked ss) others id e h = inr (shown_on _ others id h)
 role_stops skeleton c (Refused i) others id e h = inl (record { unknown = e ∙ ap (λ (n : ℕ). Refused n) (some_is i id h); front = []; ends = refl })
 role_stops skeleton c Raw others id e h = inr (shown_on _ others id h)
-role_stops skeleton c Faulted others id e h = inr (shown_on _ others id h)
+role_stops skeleton c Malformed others id e h = inr (shown_on _ others id h)
 
 custom_stops : (skeleton answer : Bool) (c : CustomEntry) (others : List Part) (id : ℕ) → Stop (custom_part skeleton answer c ∷ others) id →
     IsAsked id c (pieces_of (custom_part skeleton answer c ∷ others)) ⊎ GoesOn (custom_part skeleton answer c) others id
@@ -77,19 +77,19 @@ module _ (skeleton : Bool) (answers : Answers) (place : Option Kind) (id : ℕ) 
 
   place_stops : (n : ℕ) (cs : List CustomEntry) → Stop (own_parts n cs) id → AnyIsAsked id cs (pieces_of (own_parts n cs))
   place_stops n [] h = absurd cc
-  place_stops n (c ∷ cs) h = by (same_place c.behind place) (λ rest. place_stops (n + 1) cs rest) refl
+  place_stops n (c ∷ cs) h = by (same_place c.after place) (λ rest. place_stops (n + 1) cs rest) refl
     where
       others : List Part
       others = own_parts (n + 1) cs
 
       here : (Stop others id → AnyIsAsked id cs (pieces_of others)) → (part : Part) → IsAsked id c (pieces_of (part ∷ others)) ⊎ GoesOn part others id →
           AnyIsAsked id (c ∷ cs) (pieces_of (part ∷ others))
-      here behind part (inl a) = inl a
-      here behind part (inr g) = inr (subst (AnyIsAsked id cs) (sym g.pieces) (asked_behind id cs g.front (pieces_of others) (behind g.stops)))
+      here after part (inl a) = inl a
+      here after part (inr g) = inr (subst (AnyIsAsked id cs) (sym g.pieces) (asked_after id cs g.front (pieces_of others) (after g.stops)))
 
-      by : (t : Bool) → (Stop others id → AnyIsAsked id cs (pieces_of others)) → same_place c.behind place ≡ t → AnyIsAsked id (c ∷ cs) (pieces_of (own_parts n (c ∷ cs)))
-      by true behind e = rw e (here behind (custom_part skeleton (answers n) c) (custom_stops skeleton (answers n) c others id (rw e at h)))
-      by false behind e = rw e (inr (behind (rw e at h)))
+      by : (t : Bool) → (Stop others id → AnyIsAsked id cs (pieces_of others)) → same_place c.after place ≡ t → AnyIsAsked id (c ∷ cs) (pieces_of (own_parts n (c ∷ cs)))
+      by true after e = rw e (here after (custom_part skeleton (answers n) c) (custom_stops skeleton (answers n) c others id (rw e at h)))
+      by false after e = rw e (inr (after (rw e at h)))
 
 module _ (o : Options) (answers : Answers) (m : PlacedModule) (id : ℕ) where
   -- If the parts stop for this subsection, their pieces end with the claim for such a section.
@@ -97,11 +97,11 @@ module _ (o : Options) (answers : Answers) (m : PlacedModule) (id : ℕ) where
     stops : Stop parts id → AnyIsAsked id m.customs (pieces_of parts)
 
   joined_if : (l k : Laid) → (l.refused ≡ Some id → AnyIsAsked id m.customs l.pieces) → (k.refused ≡ Some id → AnyIsAsked id m.customs k.pieces) →
-      (laid_behind l.pieces l.refused k).refused ≡ Some id → AnyIsAsked id m.customs (laid_behind l.pieces l.refused k).pieces
+      (laid_after l.pieces l.refused k).refused ≡ Some id → AnyIsAsked id m.customs (laid_after l.pieces l.refused k).pieces
   joined_if l k f g h = by l.refused f h
     where
-      by : (r : Option ℕ) → (r ≡ Some id → AnyIsAsked id m.customs l.pieces) → (laid_behind l.pieces r k).refused ≡ Some id → AnyIsAsked id m.customs (laid_behind l.pieces r k).pieces
-      by None f h = asked_behind id m.customs l.pieces k.pieces (g h)
+      by : (r : Option ℕ) → (r ≡ Some id → AnyIsAsked id m.customs l.pieces) → (laid_after l.pieces r k).refused ≡ Some id → AnyIsAsked id m.customs (laid_after l.pieces r k).pieces
+      by None f h = asked_after id m.customs l.pieces k.pieces (g h)
       by (Some i) f h = f h
 
   both_if : {xs ys : List Part} → IsAskedIf xs → IsAskedIf ys → IsAskedIf (xs ++ ys)
@@ -114,7 +114,7 @@ module _ (o : Options) (answers : Answers) (m : PlacedModule) (id : ℕ) where
 
   section_if : (names : Names) (k : Kind) → IsAskedIf (section_parts o (early_scope o names m) m answers k)
   section_if names k = record {
-    stops = λ h. asked_behind id m.customs (section_pieces o (early_scope o names m) m k) (pieces_of (parts_at o.skeleton answers (Some k) 0 m.customs)) ((customs_if (Some k)).stops h);
+    stops = λ h. asked_after id m.customs (section_pieces o (early_scope o names m) m k) (pieces_of (parts_at o.skeleton answers (Some k) 0 m.customs)) ((customs_if (Some k)).stops h);
   }
 
   sections_if : (names : Names) (ks : List Kind) → IsAskedIf (flat_map (section_parts o (early_scope o names m) m answers) ks)
@@ -133,11 +133,11 @@ forgets id (c ∷ cs) ps (inl a) = inl a.unknown
 forgets id (c ∷ cs) ps (inr h) = inr (forgets id cs ps h)
 
 asked : (o : Options) (answers : Answers) (m : PlacedModule) (id : ℕ) → refusal o answers m ≡ Some id →
-    AnyIsAsked id m.customs (pieces_of (module_parts o answers (module_names o.invents m) m))
-asked o answers m id h = (module_if o answers m id (module_names o.invents m)).stops h
+    AnyIsAsked id m.customs (pieces_of (module_parts o answers (module_names o.synthesizes m) m))
+asked o answers m id h = (module_if o answers m id (module_names o.synthesizes m)).stops h
 
 pub refusal_unknown : (o : Options) (answers : Answers) (m : PlacedModule) (id : ℕ) → refusal o answers m ≡ Some id → AnyIsUnknown id m.customs
-refusal_unknown o answers m id h = forgets id m.customs (pieces_of (module_parts o answers (module_names o.invents m) m)) (asked o answers m id h)
+refusal_unknown o answers m id h = forgets id m.customs (pieces_of (module_parts o answers (module_names o.synthesizes m) m)) (asked o answers m id h)
 
 pub refused_unknown : {P : Type 0} (m : Meaning P) (old new : P) (id : ℕ) (cs : List CustomEntry) → AnyIsRefused m old new id cs → AnyIsUnknown id cs
 refused_unknown m old new id [] h = absurd h
@@ -173,8 +173,8 @@ module _ {P : Type 0} (meaning : Meaning P) (old new : P) (o : Options) (id : �
   pub made_refused : (answers : Answers) (m : PlacedModule) → MadeUpTo meaning old new id o m answers → AnyIsRefused meaning old new id m.customs
   unfolding layout module_pieces module_pieces_with
   made_refused answers m h =
-      let names : Names = module_names o.invents m in
+      let names : Names = module_names o.synthesizes m in
       let laid : Laid = laid_parts (module_parts o answers names m) in
-      let head : List Piece = Begin 0 ∷ (Open (codes "module") ∷ leading_mark_pieces names.module_name) in
+      let head : List Piece = Begin 0 ∷ (Open (codes "module") ∷ leading_id_and_name_pieces names.module_name) in
       any_refused head m.customs laid.pieces (asked o answers m id h.ends)
       (subst (λ (r : Option ℕ). Whole meaning old new (all_calls o (module_pieces_of o names m.size laid.pieces r))) h.ends h.made)

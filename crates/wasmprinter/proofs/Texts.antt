@@ -5,7 +5,7 @@ use Rattle.wasmprinter_error.specs.declared.error.Error.{Error}
 use Rattle.std.proofs.Common.{sym, ap, subst, ◌∙◌, inl}
 use Rattle.wasmprinter_spec.specs.Call.{Call, IsUnclaimed, atoms, text_of}
 use Rattle.wasmprinter_spec.specs.Meaning.{Meaning, Run}
-use Rattle.wasmprinter_spec.specs.Options.{Options, defaults, IsBlank, in_colours}
+use Rattle.wasmprinter_spec.specs.Options.{Options, defaults, IsBlank, in_colors}
 use Rattle.wasmprinter_spec.specs.Plain.{IsPlainText}
 use Rattle.wasmprinter_spec.specs.Binary.{Spells}
 use Rattle.wasmprinter_spec.specs.Placed.{PlacedModule}
@@ -20,7 +20,7 @@ use Rattle.wasmprinter_spec.specs.Text.Hints.{text_hints}
 use Rattle.wasmprinter_print.specs.TextOnly.{text_only}
 use Rattle.wasmprinter_print.proofs.TextRuns.{takes_none, text_is_gained}
 use Rattle.wasmprinter.specs.Plain.{appends}
-use Rattle.wasmprinter.specs.Printed.{Printed, HasTextBy, HasText, no_claims}
+use Rattle.wasmprinter.specs.Printed.{Printed, IsTextOf, HasText, no_claims}
 use Rattle.wasmprinter.proofs.Claims.{IsSame, alike_unclaimed, unclaimed_layout}
 use Rattle.wasmprinter.proofs.Headline.{foldable_in}
 
@@ -31,30 +31,30 @@ none_claimed m never old new [] r = tt
 none_claimed m never old new (c ∷ calls) r = (never old c r.0 r.1.step, none_claimed m never r.0 new calls r.2)
 
 -- If a module was printed to a printer that never claims a section, its layout is the one without claims.
-pub unclaimed_printed : {P : Type 0} (m : Meaning P) (colours : Bool) (o : Options) → ((s : P) (c : Call) (t : P) → m.after s c t → IsUnclaimed c) →
-    (bytes : List ℕ) (old new : P) → (v : Printed m colours o bytes old new) → IsSame (in_colours o colours) v.answers v.placed
-unclaimed_printed m colours o never bytes old new v =
-    unclaimed_layout (in_colours o colours) v.answers v.placed v.accepted
-    (alike_unclaimed v.calls (layout (in_colours o colours) v.answers v.placed) v.alike (none_claimed m never old new v.calls v.run))
+pub unclaimed_printed : {P : Type 0} (m : Meaning P) (colors : Bool) (o : Options) → ((s : P) (c : Call) (t : P) → m.after s c t → IsUnclaimed c) →
+    (bytes : List ℕ) (old new : P) → (v : Printed m colors o bytes old new) → IsSame (in_colors o colors) v.answers v.placed
+unclaimed_printed m colors o never bytes old new v =
+    unclaimed_layout (in_colors o colors) v.answers v.placed v.accepted
+    (alike_unclaimed v.calls (layout (in_colors o colors) v.answers v.placed) v.alike (none_claimed m never old new v.calls v.run))
 
 -- The calls are those of the layout without colors, however text is split. No section of it is claimed or refused.
 pub record IsPlainly (o : Options) (calls : List Call) (placed : PlacedModule) : Type 0 where
-  pub accepted : refusal (in_colours o false) no_claims placed ≡ None
-  pub alike : atoms calls ≡ atoms (layout (in_colours o false) no_claims placed)
+  pub accepted : refusal (in_colors o false) no_claims placed ≡ None
+  pub alike : atoms calls ≡ atoms (layout (in_colors o false) no_claims placed)
 
 -- If a module was printed to a printer that never claims a section and can't write colors, its calls are those of
 -- the layout without colors and without claims.
 pub plainly_printed : {P : Type 0} (m : Meaning P) (o : Options) → ((s : P) (c : Call) (t : P) → m.after s c t → IsUnclaimed c) → (bytes : List ℕ) (old new : P) →
     (v : Printed m false o bytes old new) → IsPlainly o v.calls v.placed
 plainly_printed m o never bytes old new v =
-    let own : IsSame (in_colours o false) v.answers v.placed = unclaimed_printed m false o never bytes old new v in
+    let own : IsSame (in_colors o false) v.answers v.placed = unclaimed_printed m false o never bytes old new v in
     record { accepted = own.refusal; alike = v.alike ∙ ap atoms own.layout }
 
 -- The text of the layout without claims is that of the module.
 abbrev pub module_text : (o : Options) (bytes : List ℕ) (placed : PlacedModule) → Spells bytes placed → IsWithinLimits placed → IsFoldable o placed →
-    refusal (in_colours o false) no_claims placed ≡ None → (text : List ℕ) → text ≡ text_of (layout (in_colours o false) no_claims placed) → HasTextBy o bytes text
+    refusal (in_colors o false) no_claims placed ≡ None → (text : List ℕ) → text ≡ text_of (layout (in_colors o false) no_claims placed) → IsTextOf o bytes text
 module_text o bytes placed spelled within foldable accepted text is =
-    let by : Options = in_colours o false in
+    let by : Options = in_colors o false in
     let can_fold : IsFoldable by placed = foldable_in o false placed foldable in
     record {
       placed = placed;
@@ -70,19 +70,19 @@ module_text o bytes placed spelled within foldable accepted text is =
     }
 
 -- If a module was printed to an empty text in memory, the result is the module's text.
-pub printed_text : (o : Options) (bytes old new : List ℕ) → old ≡ [] → Printed (text_only appends) false o bytes old new → HasTextBy o bytes new
+pub printed_text : (o : Options) (bytes old new : List ℕ) → old ≡ [] → Printed (text_only appends) false o bytes old new → IsTextOf o bytes new
 printed_text o bytes old new empty v =
     let handed : new ≡ text_of v.calls =
     text_is_gained (λ text. text) appends (λ a piece b h. h) old v.calls new v.run ∙ ap (λ t. t ++ text_of v.calls) empty in
     let own : IsPlainly o v.calls v.placed = plainly_printed (text_only appends) o (takes_none appends) bytes old new v in
     module_text o bytes v.placed v.spelled v.within v.foldable own.accepted new
-    (handed ∙ alike_texts v.calls (layout (in_colours o false) no_claims v.placed) own.alike)
+    (handed ∙ alike_texts v.calls (layout (in_colors o false) no_claims v.placed) own.alike)
 
 two_blanks : IsBlank defaults.indent
 two_blanks = (inl refl, (inl refl, tt))
 
 -- The same with the default options.
-pub default_text : (bytes text : List ℕ) → HasTextBy defaults bytes text → HasText bytes text
+pub default_text : (bytes text : List ℕ) → IsTextOf defaults bytes text → HasText bytes text
 default_text bytes text v = record {
   placed = v.placed;
   spelled = v.spelled;
@@ -94,6 +94,6 @@ default_text bytes text v = record {
   hints = λ hs given. v.hints hs refl two_blanks given;
 }
 
-pub default_if_ok : {T : Type 0} (view : T → List ℕ) (bytes : List ℕ) (r : Result T Error) → IfOk r (λ t. HasTextBy defaults bytes (view t)) → IfOk r (λ t. HasText bytes (view t))
+pub default_if_ok : {T : Type 0} (view : T → List ℕ) (bytes : List ℕ) (r : Result T Error) → IfOk r (λ t. IsTextOf defaults bytes (view t)) → IfOk r (λ t. HasText bytes (view t))
 default_if_ok view bytes (Ok t) h = default_text bytes (view t) h
 default_if_ok view bytes (Err e) h = tt

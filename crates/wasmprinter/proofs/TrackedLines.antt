@@ -8,7 +8,7 @@ use Rattle.wasmprinter_error.specs.declared.error.Error.TheVariants.{Malformed, 
 use Rattle.wasmprinter_spec.specs.Placed.{PlacedModule}
 use Rattle.wasmprinter_spec.specs.Call.{Call, IsUnclaimed, text_of, atoms}
 use Rattle.wasmprinter_spec.specs.Meaning.{Run}
-use Rattle.wasmprinter_spec.specs.Options.{Options, Answers, in_colours}
+use Rattle.wasmprinter_spec.specs.Options.{Options, Answers, in_colors}
 use Rattle.wasmprinter_spec.specs.Layout.{layout}
 use Rattle.wasmprinter_spec.specs.Lines.{TextLine, lines_of, joined_lines, line_places, hint_places, HasFunctionLines}
 use Rattle.wasmprinter_spec.proofs.Texts.{alike_texts, alike_lines}
@@ -21,7 +21,7 @@ use Rattle.wasmprinter_tracker.proofs.Runs.{claims_never, run_tracks, run_text, 
 use Rattle.wasmprinter_places.proofs.Starts.{lines_join}
 use Rattle.wasmprinter_places.proofs.FunctionLines.{function_lines}
 use Rattle.wasmprinter.specs.Printed.{Printed, no_claims}
-use Rattle.wasmprinter.specs.Outcome.{Leaves, LeavesBeginning, IsTrueOfText, as_growth}
+use Rattle.wasmprinter.specs.Outcome.{Leaves, LeavesBeginning, IsSoundTextRefusal, as_growth}
 use Rattle.wasmprinter.specs.Lined.{HasLinesBy, GainsPrefix, LeavesStorage}
 use Rattle.wasmprinter.proofs.Claims.{alike_unclaimed}
 use Rattle.wasmprinter.proofs.Prefixes.{broken_alike}
@@ -31,7 +31,7 @@ use Rattle.wasmprinter.proofs.Texts.{IsPlainly, plainly_printed, none_claimed, m
 pub printed_lines : (o : Options) (bytes base : List ℕ) (t : Tracked) → t.lost ≡ false → Printed tracked_meaning false o bytes (without_lines base) t →
     HasLinesBy o bytes base t.text t.lines
 printed_lines o bytes base t kept v =
-    let by : Options = in_colours o false in
+    let by : Options = in_colors o false in
     let own : IsPlainly o v.calls v.placed = plainly_printed tracked_meaning o claims_never bytes (without_lines base) t v in
     let laid : List Call = layout by no_claims v.placed in
     let tracks : Tracks base v.calls t = run_tracks base v.calls t v.run in
@@ -83,7 +83,7 @@ module _ (o : Options) (bytes : List ℕ) (old new : Tracked) where
     within = h.1.within;
     foldable = h.1.foldable;
     answers = h.1.answers;
-    left = begun_gains (in_colours o false) old new h.1.placed h.1.answers h.1.left;
+    left = begun_gains (in_colors o false) old new h.1.placed h.1.answers h.1.left;
   })
 
   -- After each error the storage is as promised. An error of the tracker is a failed allocation.
@@ -103,10 +103,10 @@ module _ (o : Options) (bytes : List ℕ) (old new : Tracked) where
     answers = h.answers;
     left = record {
       ends = h.left.ends;
-      unclaimed = alike_unclaimed h.left.made.calls (layout (in_colours o false) h.answers h.placed) h.left.made.alike
+      unclaimed = alike_unclaimed h.left.made.calls (layout (in_colors o false) h.answers h.placed) h.left.made.alike
           (run_claims_none old new h.left.made.calls h.left.made.run);
       appended = run_text old h.left.made.calls new h.left.made.run
-          ∙ ap (λ (t : List ℕ). old.text ++ t) (alike_texts h.left.made.calls (layout (in_colours o false) h.answers h.placed) h.left.made.alike);
+          ∙ ap (λ (t : List ℕ). old.text ++ t) (alike_texts h.left.made.calls (layout (in_colors o false) h.answers h.placed) h.left.made.alike);
     };
   }
   refusal_leaves (Printer x) h = inr (record {
@@ -115,7 +115,7 @@ module _ (o : Options) (bytes : List ℕ) (old new : Tracked) where
     within = h.within;
     foldable = h.foldable;
     answers = h.answers;
-    left = broken_gains (in_colours o false) old new x h.placed h.answers h.left;
+    left = broken_gains (in_colors o false) old new x h.placed h.answers h.left;
   })
   refusal_leaves Memory h = memory_leaves h
   refusal_leaves _ h = absurd h
@@ -161,7 +161,7 @@ module _ (o : Options) (bytes base text : List ℕ) (old t : Tracked) (is_old : 
       (subst (λ (s : Tracked). LeavesStorage o bytes e s.text t.text) is_old h)
 
   -- If a module was printed, `Memory` for the entry of a line is true of its bytes.
-  pub printable : Printed tracked_meaning false o bytes old t → IsTrueOfText o bytes Memory
+  pub printable : Printed tracked_meaning false o bytes old t → IsSoundTextRefusal o bytes Memory
   printable v = inr (record { placed = v.placed; spelled = v.spelled; within = v.within })
 
   -- If `finish` succeeds, the lines that begin at its places are those of the module.

@@ -1,9 +1,9 @@
 -- Definitions that the contracts of the library cite: what each printing call promises, and what each error leaves.
-pub mod Coloured
+pub mod Colored
 pub mod Found
 pub mod Lined
-pub mod OfFile
+pub mod TextOfFile
 pub mod Outcome
-pub mod Painted
+pub mod AnsiText
 pub mod Plain
 pub mod Printed

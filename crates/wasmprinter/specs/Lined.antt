@@ -5,12 +5,12 @@ use Rattle.wasmprinter_error.specs.declared.error.Error.{Error}
 use Rattle.wasmprinter_error.specs.declared.error.Error.TheVariants.{DylinkSubsection, Memory}
 use Rattle.wasmprinter_spec.specs.Placed.{PlacedModule, PlacedFunction}
 use Rattle.wasmprinter_spec.specs.Call.{Call, IsUnclaimed, atoms, text_of}
-use Rattle.wasmprinter_spec.specs.Options.{Options, Answers, in_colours}
+use Rattle.wasmprinter_spec.specs.Options.{Options, Answers, in_colors}
 use Rattle.wasmprinter_spec.specs.Layout.{layout, refusal}
 use Rattle.wasmprinter_spec.specs.Lines.{TextLine, lines_of, joined_lines, line_places, hint_places, HasFunctionLines}
 use Rattle.wasmprinter_tracker.specs.declared.lines.LineStart.{LineStart}
 use Rattle.wasmprinter_tracker.specs.Cuts.{lines_at_starts}
-use Rattle.wasmprinter.specs.Printed.{HasTextBy, no_claims}
+use Rattle.wasmprinter.specs.Printed.{IsTextOf, no_claims}
 use Rattle.wasmprinter.specs.Outcome.{WhilePrinting}
 
 -- The storage is the old text followed by the text of the module that the bytes encode. The lines are those of its
@@ -18,9 +18,9 @@ use Rattle.wasmprinter.specs.Outcome.{WhilePrinting}
 -- locals and each of its operators.
 pub record HasLinesBy (o : Options) (bytes old storage : List ℕ) (lines : List TextLine) : Type 0 where
   pub text : List ℕ
-  pub printed : HasTextBy o bytes text
+  pub printed : IsTextOf o bytes text
   pub appended : storage ≡ old ++ text
-  pub are : lines ≡ lines_of (layout (in_colours o false) no_claims printed.placed)
+  pub are : lines ≡ lines_of (layout (in_colors o false) no_claims printed.placed)
   pub joined : joined_lines lines ≡ text
   pub functions : o.skeleton ≡ false → o.folds ≡ false → (i : ℕ) (f : PlacedFunction) → slice_get printed.placed.functions i ≡ Some f →
       HasFunctionLines (hint_places printed.placed) (line_places lines) f
@@ -49,6 +49,6 @@ pub record GainsTextBefore (id : ℕ) (o : Options) (old new : List ℕ) (placed
 -- before that section. If an allocation failed, a prefix of the module's text may have been appended. After any
 -- other error it is unchanged.
 abbrev pub LeavesStorage : Options → List ℕ → Error → List ℕ → List ℕ → Type 0
-LeavesStorage o bytes (DylinkSubsection id) old new = WhilePrinting o bytes (GainsTextBefore id (in_colours o false) old new)
-LeavesStorage o bytes Memory old new = (new ≡ old) ⊎ WhilePrinting o bytes (GainsPrefix (in_colours o false) old new)
+LeavesStorage o bytes (DylinkSubsection id) old new = WhilePrinting o bytes (GainsTextBefore id (in_colors o false) old new)
+LeavesStorage o bytes Memory old new = (new ≡ old) ⊎ WhilePrinting o bytes (GainsPrefix (in_colors o false) old new)
 LeavesStorage o bytes e old new = new ≡ old

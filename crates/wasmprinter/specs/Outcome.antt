@@ -8,7 +8,7 @@ use Rattle.wasmprinter_spec.specs.Customs.{Refused, custom_role_of}
 use Rattle.wasmprinter_spec.specs.Limits.{IsWithinLimits, most_functions}
 use Rattle.wasmprinter_spec.specs.Call.{Call, Claim, atoms}
 use Rattle.wasmprinter_spec.specs.Meaning.{Meaning, Run, Failed}
-use Rattle.wasmprinter_spec.specs.Options.{Options, Answers, in_colours}
+use Rattle.wasmprinter_spec.specs.Options.{Options, Answers, in_colors}
 use Rattle.wasmprinter_spec.specs.Layout.{layout, refusal}
 use Rattle.wasmprinter_spec.specs.Folding.Refusals.{legacy_places, misplaced_hints, IsFoldable}
 use Rattle.wasmprinter_print.specs.Emits.{Whole, Broken, Begun}
@@ -112,15 +112,15 @@ MayGrow o m = HoldsSome m ⊎ (o.folds ≡ true)
 -- allocation that failed, only if the module holds something that is kept or operators are folded; a subsection of
 -- a `dylink.0` section that the printer does not claim; an operator or a hint that can't be folded; a call on the
 -- printer that failed with exactly this error.
-abbrev pub HasCause : {P : Type 0} → Meaning P → Options → List ℕ → P → P → Error → Type 0
-HasCause m o bytes old new e =
+abbrev pub HasListedCause : {P : Type 0} → Meaning P → Options → List ℕ → P → P → Error → Type 0
+HasListedCause m o bytes old new e =
     (placed : PlacedModule) → Spells bytes placed →
     HasPrintReason (print_reasons o placed (PrinterFailed m old new) (λ id. AnyIsRefused m old new id placed.customs)) (causes (MayGrow o placed) placed) e
 
 -- The same for text that is built in memory: an allocation may fail for any module, no printer fails, and no
 -- section is claimed.
-abbrev pub HasTextCause : Options → List ℕ → Error → Type 0
-HasTextCause o bytes e =
+abbrev pub HasListedTextCause : Options → List ℕ → Error → Type 0
+HasListedTextCause o bytes e =
     (placed : PlacedModule) → Spells bytes placed →
     HasPrintReason (print_reasons o placed (λ x. ⊥) (λ id. AnyIsUnknown id placed.customs)) (causes (Unit {0}) placed) e
 
@@ -168,8 +168,8 @@ folding_reasons o bytes decoding = record decoding { memory = decoding.memory �
 -- For any bytes, the error has its reason in them. An error of the decoder is true of the bytes. An error of the
 -- printer, of a `dylink.0` section or of folding is returned only if the bytes encode a module within the limits.
 -- The module then has such a section, or such an operator or hint at the reported place.
-abbrev pub IsTrueOf : Options → List ℕ → Error → Type 0
-IsTrueOf o bytes e =
+abbrev pub IsSoundRefusal : Options → List ℕ → Error → Type 0
+IsSoundRefusal o bytes e =
     HasPrintReason (bytes_reasons o bytes (λ x. ArePrintable bytes)) (folding_reasons o bytes (module_reasons bytes (IsComponent bytes))) e
 
 -- The reasons for text that is built in memory: an allocation fails in the decoder, or the bytes encode a module
@@ -177,8 +177,8 @@ IsTrueOf o bytes e =
 abbrev pub text_reasons : List ℕ → Reasons → Reasons
 text_reasons bytes decoding = record decoding { memory = decoding.memory ⊎ ArePrintable bytes }
 
-abbrev pub IsTrueOfText : Options → List ℕ → Error → Type 0
-IsTrueOfText o bytes e = HasPrintReason (bytes_reasons o bytes (λ x. ⊥)) (text_reasons bytes (module_reasons bytes (IsComponent bytes))) e
+abbrev pub IsSoundTextRefusal : Options → List ℕ → Error → Type 0
+IsSoundTextRefusal o bytes e = HasPrintReason (bytes_reasons o bytes (λ x. ⊥)) (text_reasons bytes (module_reasons bytes (IsComponent bytes))) e
 
 -- A module within the limits that the bytes encode, and that can be folded if folding is on, was being printed.
 -- `Left` holds of it, with the answers to its claims.
@@ -210,9 +210,9 @@ each_reason so = record {
 -- Either no call was made, or operators are folded and the calls that were made are a prefix of the layout,
 -- however text is split.
 abbrev pub LeavesBeginning : {P : Type 0} → Meaning P → Bool → Options → List ℕ → P → P → Type 0
-LeavesBeginning m colours o bytes old new =
+LeavesBeginning m colors o bytes old new =
     (new ≡ old)
-    ⊎ ((o.folds ≡ true) × WhilePrinting o bytes (λ placed answers. Begun m old new (layout (in_colours o colours) answers placed)))
+    ⊎ ((o.folds ≡ true) × WhilePrinting o bytes (λ placed answers. Begun m old new (layout (in_colors o colors) answers placed)))
 
 -- The state of the printer after an error.
 -- If a call on the printer failed, a module was being printed. The calls before the failed one, followed by it,
@@ -221,13 +221,13 @@ LeavesBeginning m colours o bytes old new =
 -- If a `dylink.0` section was refused, the calls are those of the layout up to that section. If an allocation
 -- failed during folding, the calls are a prefix of the layout. After any other error no call was made.
 abbrev pub Leaves : {P : Type 0} → Meaning P → Bool → Options → List ℕ → P → P → Error → Type 0
-Leaves m colours o bytes old new e =
+Leaves m colors o bytes old new e =
     HasPrintReason
     (record {
-      failed = λ x. WhilePrinting o bytes (λ placed answers. Broken m old new x (layout (in_colours o colours) answers placed));
-      unknown = λ id. WhilePrinting o bytes (MadeUpTo m old new id (in_colours o colours));
+      failed = λ x. WhilePrinting o bytes (λ placed answers. Broken m old new x (layout (in_colors o colors) answers placed));
+      unknown = λ id. WhilePrinting o bytes (MadeUpTo m old new id (in_colors o colors));
       legacy = λ place. new ≡ old;
       hint = λ place. new ≡ old;
     })
-    (record (each_reason (new ≡ old)) { memory = LeavesBeginning m colours o bytes old new })
+    (record (each_reason (new ≡ old)) { memory = LeavesBeginning m colors o bytes old new })
     e

@@ -1,12 +1,12 @@
 //! Printing a module as text with ANSI escape sequences.
 ghost use Rattle.std.specs.Prelude.{◌↔◌, IfOk, IfErr, IsErrOf};
 ghost use Rattle.wasmprinter_spec.specs.Binary.{IsComponent};
-ghost use Rattle.wasmprinter.specs.Coloured.{HasColouredTextBy};
-ghost use Rattle.wasmprinter.specs.Outcome.{HasTextCause, IsTrueOfText};
+ghost use Rattle.wasmprinter.specs.Colored.{HasColoredTextBy};
+ghost use Rattle.wasmprinter.specs.Outcome.{HasListedTextCause, IsSoundTextRefusal};
 
+use crate::ansi_text::AnsiText;
 use crate::config::Config;
 use crate::in_memory::without_printer;
-use crate::painted::Painted;
 use std::alloc::Global;
 use wasmprinter_error::Error;
 
@@ -18,12 +18,12 @@ impl Config {
     ///
     /// The errors of [`Config::print_to_string`].
     pub fn print_to_ansi(&self, alloc: Global, wasm: &[u8]) -> Result<Vec<u8>, Error>
-        ensures printed { IfOk result (λ text. HasColouredTextBy self.now wasm.now text.items) }
-        ensures caused { IfErr result (HasTextCause self.now wasm.now) }
-        ensures refused { IfErr result (IsTrueOfText self.now wasm.now) }
+        ensures printed { IfOk result (λ text. HasColoredTextBy self.now wasm.now text.items) }
+        ensures caused { IfErr result (HasListedTextCause self.now wasm.now) }
+        ensures refused { IfErr result (IsSoundTextRefusal self.now wasm.now) }
         ensures component { IsErrOf result Error.Component ↔ IsComponent wasm.now }
     {
-        let mut printer = Painted::new(alloc);
+        let mut printer = AnsiText::new(alloc);
         match self.print(alloc, wasm, &mut printer) {
             Ok(()) => Ok(printer.into_bytes()),
             Err(error) => Err(without_printer(error)),

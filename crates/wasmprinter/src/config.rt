@@ -3,8 +3,8 @@ ghost use Rattle.std.specs.Prelude.{◌≡◌, ◌↔◌, true, OnOk, IfOk, IfEr
 ghost use Rattle.wasmprinter_spec.specs.Binary.{IsComponent};
 ghost use Rattle.wasmprinter_spec.specs.Folding.Refusals.{IsFoldable};
 ghost use Rattle.wasmprinter_foldable.specs.Refused.{HasFoldReason};
-ghost use Rattle.wasmprinter.specs.Printed.{Printed, HasTextBy};
-ghost use Rattle.wasmprinter.specs.Outcome.{HasCause, HasTextCause, IsTrueOf, IsTrueOfText, Leaves};
+ghost use Rattle.wasmprinter.specs.Printed.{Printed, IsTextOf};
+ghost use Rattle.wasmprinter.specs.Outcome.{HasListedCause, HasListedTextCause, IsSoundRefusal, IsSoundTextRefusal, Leaves};
 
 use crate::in_memory::without_printer;
 use crate::plain::Plain;
@@ -70,9 +70,9 @@ impl Config {
     /// Sets whether identifiers are synthesized for items without a name, for example `$#func3`. Allocates nothing.
     pub fn name_unnamed(&mut self, name: bool) -> &mut Self
         ensures itself { result.ghost_name ≡ self.entry.ghost_name }
-        ensures options { result.now ≡ record self.old { invents = name } }
+        ensures options { result.now ≡ record self.old { synthesizes = name } }
     {
-        self.options.invents = name;
+        self.options.synthesizes = name;
         self
     }
 
@@ -137,8 +137,8 @@ impl Config {
     /// - `Printer`: a call on the printer failed. It holds the error of that call.
     pub fn print<P: Print>(&self, alloc: Global, wasm: &[u8], printer: &mut P) -> Result<(), Error>
         ensures printed { OnOk result (Printed P.meaning (P.colors printer.old) self.now wasm.now printer.old printer.new) }
-        ensures caused { IfErr result (HasCause P.meaning self.now wasm.now printer.old printer.new) }
-        ensures refused { IfErr result (IsTrueOf self.now wasm.now) }
+        ensures caused { IfErr result (HasListedCause P.meaning self.now wasm.now printer.old printer.new) }
+        ensures refused { IfErr result (IsSoundRefusal self.now wasm.now) }
         ensures left { IfErr result (Leaves P.meaning (P.colors printer.old) self.now wasm.now printer.old printer.new) }
         ensures component { IsErrOf result Error.Component ↔ IsComponent wasm.now }
     {
@@ -147,7 +147,7 @@ impl Config {
         let names = module.names(alloc)?;
         let identifiers = Identifiers {
             names: &names,
-            invents: self.options.invents,
+            synthesizes: self.options.synthesizes,
         };
         let labels = OpenLabels::new(alloc, identifiers)?;
         write_module(alloc, printer, &self.options, &module, labels)
@@ -160,9 +160,9 @@ impl Config {
     /// The errors of [`Config::print`], except that `Printer` is never returned. `Memory` is also returned if the
     /// text can't grow.
     pub fn print_to_string(&self, alloc: Global, wasm: &[u8]) -> Result<String, Error>
-        ensures printed { IfOk result (λ text. HasTextBy self.now wasm.now (string_bytes text)) }
-        ensures caused { IfErr result (HasTextCause self.now wasm.now) }
-        ensures refused { IfErr result (IsTrueOfText self.now wasm.now) }
+        ensures printed { IfOk result (λ text. IsTextOf self.now wasm.now (string_bytes text)) }
+        ensures caused { IfErr result (HasListedTextCause self.now wasm.now) }
+        ensures refused { IfErr result (IsSoundTextRefusal self.now wasm.now) }
         ensures component { IsErrOf result Error.Component ↔ IsComponent wasm.now }
     {
         let mut printer = Plain::new(alloc);

@@ -5,7 +5,7 @@
 ghost use Rattle.std.specs.Prelude.{ℕ, List, Option, Some, None, MatchResult, IfOk, IfErr, string_bytes, ⊤};
 ghost use Rattle.std.specs.Path.{path_bytes};
 ghost use Rattle.wasmprinter_spec.specs.Options.{defaults};
-ghost use Rattle.wasmprinter.specs.OfFile.{IsTextOf, IsRefusedBy};
+ghost use Rattle.wasmprinter.specs.TextOfFile.{IsTextOfFile, IsRefusedBy};
 
 use crate::in_memory::print_bytes;
 use std::alloc::Global;
@@ -44,7 +44,7 @@ impl<R: Files + AllocGlobal> Source for R {
 /// - `Unreadable`: the file can't be read. If an allocation fails during reading, this error is returned too.
 /// - The errors of [`print_bytes`] for the bytes of the file.
 pub fn print_file<S: Source>(source: &S, alloc: Global, file: Path<'_>) -> Result<String, Error>
-    ensures printed { IfOk result (λ text. IsTextOf (S.gives source.now (path_bytes file.entry)) (string_bytes text)) }
+    ensures printed { IfOk result (λ text. IsTextOfFile (S.gives source.now (path_bytes file.entry)) (string_bytes text)) }
     ensures refused { IfErr result (IsRefusedBy defaults (S.gives source.now (path_bytes file.entry))) }
 {
     let wasm = source.read(file).map_err(|_| Error::Unreadable)?;

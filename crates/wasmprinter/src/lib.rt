@@ -10,12 +10,12 @@
 //! bytes encode, under the conditions that the contracts state. docs/LIBRARY.md has examples, which the tests run.
 #![tactic(auto)]
 
+mod ansi_text;
 mod colored;
 mod config;
 mod files;
 mod in_memory;
 mod lined;
-mod painted;
 mod places;
 mod plain;
 pub mod print;

@@ -3,14 +3,14 @@ ghost use Rattle.std.specs.Prelude.{◌↔◌, IfOk, IfErr, IsErrOf, string_byte
 ghost use Rattle.wasmprinter_spec.specs.Binary.{IsComponent};
 ghost use Rattle.wasmprinter_tracker.specs.Cuts.{IsCuttable};
 ghost use Rattle.wasmprinter.specs.Lined.{HasLinesBy, HasLinesAt, LeavesStorage};
-ghost use Rattle.wasmprinter.specs.Outcome.{HasTextCause, IsTrueOfText};
+ghost use Rattle.wasmprinter.specs.Outcome.{HasListedTextCause, IsSoundTextRefusal};
 
 use crate::config::Config;
 use crate::in_memory::without_printer;
 use std::alloc::Global;
 use std::mem;
 use wasmprinter_error::Error;
-use wasmprinter_tracker::{LineStart, OffsetsAndLines, Tracker};
+use wasmprinter_tracker::{LineStart, LineTracker, OffsetsAndLines};
 
 impl Config {
     /// Appends the text of a module in the binary format to `storage`, and returns where its lines begin.
@@ -39,13 +39,13 @@ impl Config {
         ensures lines { IfOk result (λ starts.
             HasLinesAt self.now wasm.now (string_bytes storage.old) (string_bytes storage.new) starts.items) }
         ensures cuttable { IfOk result (λ starts. IsCuttable starts.items (string_bytes storage.new)) }
-        ensures caused { IfErr result (HasTextCause self.now wasm.now) }
-        ensures refused { IfErr result (IsTrueOfText self.now wasm.now) }
+        ensures caused { IfErr result (HasListedTextCause self.now wasm.now) }
+        ensures refused { IfErr result (IsSoundTextRefusal self.now wasm.now) }
         ensures component { IsErrOf result Error.Component ↔ IsComponent wasm.now }
         ensures left { IfErr result (λ e. LeavesStorage self.now wasm.now e (string_bytes storage.old) (string_bytes storage.new)) }
     {
         let text = mem::replace(storage, String::new(alloc));
-        let mut printer = Tracker::new(alloc, text);
+        let mut printer = LineTracker::new(alloc, text);
         let printed = self.print(alloc, wasm, &mut printer);
         let (text, starts) = printer.finish();
         *storage = text;
@@ -73,8 +73,8 @@ impl Config {
         storage: &'a mut String,
     ) -> Result<OffsetsAndLines<'a>, Error>
         ensures lines { IfOk result (λ it. HasLinesBy self.now wasm.now (string_bytes storage.old) it.storage it.lines) }
-        ensures caused { IfErr result (HasTextCause self.now wasm.now) }
-        ensures refused { IfErr result (IsTrueOfText self.now wasm.now) }
+        ensures caused { IfErr result (HasListedTextCause self.now wasm.now) }
+        ensures refused { IfErr result (IsSoundTextRefusal self.now wasm.now) }
         ensures component { IsErrOf result Error.Component ↔ IsComponent wasm.now }
     {
         let starts = self.print_with_line_starts(alloc, wasm, storage)?;

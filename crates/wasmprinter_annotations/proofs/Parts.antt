@@ -19,23 +19,23 @@ use Rattle.wasmprinter_annotations.specs.Lines.{PrintsPartLines}
 -- ---- Layouts, one after another
 
 -- The layout that consists of pieces and then, unless they end in a refusal, of another layout.
-abbrev pub laid_behind : List Piece → Option ℕ → Laid → Laid
-laid_behind ps None l = before_laid ps l
-laid_behind ps (Some id) l = record { pieces = ps; refused = Some id }
+abbrev pub laid_after : List Piece → Option ℕ → Laid → Laid
+laid_after ps None l = before_laid ps l
+laid_after ps (Some id) l = record { pieces = ps; refused = Some id }
 
-before-behind : (ps qs : List Piece) (refused : Option ℕ) (l : Laid) → before_laid ps (laid_behind qs refused l) ≡ laid_behind (ps ++ qs) refused l
-before-behind ps qs None l = ap (λ (xs : List Piece). record l { pieces = xs }) (sym (append_assoc ps qs l.pieces))
-before-behind ps qs (Some id) l = refl
+before-after : (ps qs : List Piece) (refused : Option ℕ) (l : Laid) → before_laid ps (laid_after qs refused l) ≡ laid_after (ps ++ qs) refused l
+before-after ps qs None l = ap (λ (xs : List Piece). record l { pieces = xs }) (sym (append_assoc ps qs l.pieces))
+before-after ps qs (Some id) l = refl
 
 -- The layout of two lists of parts, joined, is that of the first and, unless that is refused, that of the second.
-pub joined-append : (xs ys : List Part) → laid_parts (xs ++ ys) ≡ laid_behind (laid_parts xs).pieces (laid_parts xs).refused (laid_parts ys)
+pub joined-append : (xs ys : List Part) → laid_parts (xs ++ ys) ≡ laid_after (laid_parts xs).pieces (laid_parts xs).refused (laid_parts ys)
 joined-append [] ys = refl
-joined-append (Shown ps ∷ xs) ys = ap (before_laid ps) (joined-append xs ys) ∙ before-behind ps (laid_parts xs).pieces (laid_parts xs).refused (laid_parts ys)
+joined-append (Shown ps ∷ xs) ys = ap (before_laid ps) (joined-append xs ys) ∙ before-after ps (laid_parts xs).pieces (laid_parts xs).refused (laid_parts ys)
 joined-append (Stops ps id ∷ xs) ys = refl
 
 -- If the first list of parts is not refused, its pieces are followed by the layout of the second.
 pub joined-through : (xs ys : List Part) → (laid_parts xs).refused ≡ None → laid_parts (xs ++ ys) ≡ before_laid (laid_parts xs).pieces (laid_parts ys)
-joined-through xs ys e = joined-append xs ys ∙ ap (λ (q : Option ℕ). laid_behind (laid_parts xs).pieces q (laid_parts ys)) e
+joined-through xs ys e = joined-append xs ys ∙ ap (λ (q : Option ℕ). laid_after (laid_parts xs).pieces q (laid_parts ys)) e
 
 -- ---- The calls made for them
 
@@ -80,20 +80,20 @@ module _ {P : Type 0} (m : Meaning P) {o : Options} {keeps : Bool} where
   answered v = record { written = v.written; refused = v.refused }
 
   refused_ends : {U : Type 0} {a t : P} {id : ℕ} (ps : List Piece) (refused : Option ℕ) (l : Laid) → refused ≡ Some id →
-      Written m o a t Through ps → PrintsLaid {T = U} m o a t keeps (Err (DylinkSubsection id)) (laid_behind ps refused l)
+      Written m o a t Through ps → PrintsLaid {T = U} m o a t keeps (Err (DylinkSubsection id)) (laid_after ps refused l)
   refused_ends ps None l e v = absurd cc
   refused_ends ps (Some i) l e v = record { written = v; refused = e }
 
   call_ends : {U : Type 0} {a t : P} {e : IoError} (ps : List Piece) (refused : Option ℕ) (l : Laid) →
-      Written m o a t (AtCall e) ps → PrintsLaid {T = U} m o a t keeps (Err (Printer e)) (laid_behind ps refused l)
+      Written m o a t (AtCall e) ps → PrintsLaid {T = U} m o a t keeps (Err (Printer e)) (laid_after ps refused l)
   call_ends ps None l v = shown_ends l v
   call_ends ps (Some id) l v = record { written = v; refused = tt }
 
-  stop_ends : {T : Type 0} {a t : P} (ps : List Piece) (refused : Option ℕ) (k : Laid) → Written m o a t (at_growth keeps) ps → PrintsLaid {T = T} m o a t keeps (Err Memory) (laid_behind ps refused k)
+  stop_ends : {T : Type 0} {a t : P} (ps : List Piece) (refused : Option ℕ) (k : Laid) → Written m o a t (at_growth keeps) ps → PrintsLaid {T = T} m o a t keeps (Err Memory) (laid_after ps refused k)
   stop_ends {T} ps None k v = let stopped : Result T Error = Err Memory in record { written = pieces_halt m keeps stopped Memory k.pieces refl v; refused = tt }
   stop_ends ps (Some id) k v = record { written = v; refused = tt }
 
-  laid_ends : {T U : Type 0} {a t : P} (e : Error) (l k : Laid) → PrintsLaid {T = T} m o a t keeps (Err e) l → PrintsLaid {T = U} m o a t keeps (Err e) (laid_behind l.pieces l.refused k)
+  laid_ends : {T U : Type 0} {a t : P} (e : Error) (l k : Laid) → PrintsLaid {T = T} m o a t keeps (Err e) l → PrintsLaid {T = U} m o a t keeps (Err e) (laid_after l.pieces l.refused k)
   laid_ends (Malformed place) l k v = absurd (never m v.written)
   laid_ends Component l k v = absurd (never m v.written)
   laid_ends (TooManyLocals place) l k v = absurd (never m v.written)
@@ -146,13 +146,13 @@ module _ {P : Type 0} (m : Meaning P) {o : Options} {keeps : Bool} where
   }
 
   -- Writing pieces in which no line begins, and then parts, has the result of the parts.
-  pub part_lines_behind : {a s t : P} (r : Result Bool Error) {ps : List Piece} (parts : List Part) → has_break ps ≡ false →
+  pub part_lines_after : {a s t : P} (r : Result Bool Error) {ps : List Piece} (parts : List Part) → has_break ps ≡ false →
       Written m o a s Through ps → PrintsPartLines m o s t keeps r parts → PrintsPartLines m o a t keeps r (Shown ps ∷ parts)
-  part_lines_behind (Ok b) {ps} parts e v w = record {
+  part_lines_after (Ok b) {ps} parts e v w = record {
     prints = shown_then parts v w.prints;
     lines = w.lines ∙ sym (has_break-append ps (laid_parts parts).pieces ∙ ap (λ (x : Bool). x || has_break (laid_parts parts).pieces) e);
   }
-  part_lines_behind (Err y) parts e v w = record { prints = shown_then parts v w.prints; lines = tt }
+  part_lines_after (Err y) parts e v w = record { prints = shown_then parts v w.prints; lines = tt }
 
 -- A function that keeps nothing meets the contract of one that may keep something.
 pub may_keep : {P : Type 0} (m : Meaning P) {o : Options} {a t : P} (keeps : Bool) (r : Result Bool Error) {parts : List Part} →

@@ -36,7 +36,7 @@ place-other a b other = by (same_place a b) refl
 module _ (skeleton : Bool) (place : Option Kind) where
   -- The parts at a place depend only on the answers to the sections at that place.
   pub parts_at-agree : (a b : Answers) (n : ℕ) (cs : List CustomEntry) →
-      ((i : ℕ) (c : CustomEntry) → slice_get cs i ≡ Some c → same_place c.behind place ≡ true → a (n + i) ≡ b (n + i)) →
+      ((i : ℕ) (c : CustomEntry) → slice_get cs i ≡ Some c → same_place c.after place ≡ true → a (n + i) ≡ b (n + i)) →
       parts_at skeleton a place n cs ≡ parts_at skeleton b place n cs
   parts_at-agree a b n [] agree = refl
   parts_at-agree a b n (c ∷ cs) agree =
@@ -44,9 +44,9 @@ module _ (skeleton : Bool) (place : Option Kind) where
       parts_at-agree a b (n + 1) cs (λ i d at same.
       let number : (n + 1) + i ≡ n + suc i = omega arith in
       ap a number ∙ agree (suc i) d at same ∙ sym (ap b number)) in
-      by (same_place c.behind place) refl others
+      by (same_place c.after place) refl others
     where
-      by : (t : Bool) → same_place c.behind place ≡ t → parts_at skeleton a place (n + 1) cs ≡ parts_at skeleton b place (n + 1) cs →
+      by : (t : Bool) → same_place c.after place ≡ t → parts_at skeleton a place (n + 1) cs ≡ parts_at skeleton b place (n + 1) cs →
           parts_at skeleton a place n (c ∷ cs) ≡ parts_at skeleton b place n (c ∷ cs)
       by true e others =
           let number : n + 0 ≡ n = omega arith in
@@ -57,14 +57,14 @@ module _ (skeleton : Bool) (place : Option Kind) where
   -- ---- One section, and those after it
 
   -- A section at another place is skipped.
-  pub parts_at-passed : (a : Answers) (n : ℕ) (c : CustomEntry) (cs : List CustomEntry) → (c.behind ≡ place → ⊥) →
+  pub parts_at-passed : (a : Answers) (n : ℕ) (c : CustomEntry) (cs : List CustomEntry) → (c.after ≡ place → ⊥) →
       parts_at skeleton a place n (c ∷ cs) ≡ parts_at skeleton a place (n + 1) cs
-  parts_at-passed a n c cs other = rw (place-other c.behind place other) refl
+  parts_at-passed a n c cs other = rw (place-other c.after place other) refl
 
   -- A section at this place is the first part.
-  pub parts_at-here : (a : Answers) (n : ℕ) (c : CustomEntry) (cs : List CustomEntry) → c.behind ≡ place →
+  pub parts_at-here : (a : Answers) (n : ℕ) (c : CustomEntry) (cs : List CustomEntry) → c.after ≡ place →
       parts_at skeleton a place n (c ∷ cs) ≡ custom_part skeleton (a n) c ∷ parts_at skeleton a place (n + 1) cs
-  parts_at-here a n c cs here = rw (place-same c.behind place here) refl
+  parts_at-here a n c cs here = rw (place-same c.after place here) refl
 
 -- ---- Answers that are given one by one
 
@@ -75,14 +75,14 @@ with_answer n answer others = λ k. cond (k == n) answer (others k)
 with_answer-at : (n : ℕ) (answer : Bool) (others : Answers) → with_answer n answer others n ≡ answer
 with_answer-at n answer others = rw (eq-eqb n n refl) refl
 
-with_answer-behind : (n i : ℕ) (answer : Bool) (others : Answers) → with_answer n answer others ((n + 1) + i) ≡ others ((n + 1) + i)
-with_answer-behind n i answer others = rw (ne_eqb ((n + 1) + i) n (λ e. omega (arith, e))) refl
+with_answer-after : (n i : ℕ) (answer : Bool) (others : Answers) → with_answer n answer others ((n + 1) + i) ≡ others ((n + 1) + i)
+with_answer-after n i answer others = rw (ne_eqb ((n + 1) + i) n (λ e. omega (arith, e))) refl
 
 -- The parts from a section at the place on are that section's, by its own answer, and those after it.
-pub parts_at-answered : (skeleton : Bool) (place : Option Kind) (answer : Bool) (others : Answers) (n : ℕ) (c : CustomEntry) (cs : List CustomEntry) → c.behind ≡ place →
+pub parts_at-answered : (skeleton : Bool) (place : Option Kind) (answer : Bool) (others : Answers) (n : ℕ) (c : CustomEntry) (cs : List CustomEntry) → c.after ≡ place →
     parts_at skeleton (with_answer n answer others) place n (c ∷ cs) ≡ custom_part skeleton answer c ∷ parts_at skeleton others place (n + 1) cs
 parts_at-answered skeleton place answer others n c cs here =
-    let agree = parts_at-agree skeleton place (with_answer n answer others) others (n + 1) cs (λ i d at same. with_answer-behind n i answer others) in
+    let agree = parts_at-agree skeleton place (with_answer n answer others) others (n + 1) cs (λ i d at same. with_answer-after n i answer others) in
     parts_at-here skeleton place (with_answer n answer others) n c cs here
     ∙ ap₂ (λ (x : Bool) (ps : List Part). custom_part skeleton x c ∷ ps) (with_answer-at n answer others) agree
 
@@ -90,7 +90,7 @@ parts_at-answered skeleton place answer others n c cs here =
 
 abbrev answer_of : (Option Kind → Answers) → ℕ → Option CustomEntry → Bool
 answer_of table n None = false
-answer_of table n (Some c) = table c.behind n
+answer_of table n (Some c) = table c.after n
 
 -- If each place has answers to its sections, there are answers to all sections that agree with them at each place.
 pub one_table : (skeleton : Bool) (table : Option Kind → Answers) (cs : List CustomEntry) →
@@ -100,5 +100,5 @@ one_table skeleton table cs =
       answers,
       λ place. parts_at-agree skeleton place answers (table place) 0 cs (λ i c at same.
           let number : 0 + i ≡ i = omega arith in
-          ap answers number ∙ ap (answer_of table i) at ∙ ap (λ (q : Option Kind). table q i) (same_place-is c.behind place same) ∙ sym (ap (table place) number)),
+          ap answers number ∙ ap (answer_of table i) at ∙ ap (λ (q : Option Kind). table q i) (same_place-is c.after place same) ∙ sym (ap (table place) number)),
     )

@@ -8,7 +8,7 @@ use Rattle.wasmprinter_spec.specs.Call.{Claim}
 use Rattle.wasmprinter_spec.specs.Meaning.{Meaning, Succeeded, Failed}
 use Rattle.wasmprinter_spec.specs.Options.{Options}
 use Rattle.wasmprinter_spec.specs.Placed.{Custom, CustomEntry}
-use Rattle.wasmprinter_spec.specs.Customs.{CustomRole, Silent, Listed, Linked, Refused, Raw, Faulted, custom_role_of}
+use Rattle.wasmprinter_spec.specs.Customs.{CustomRole, Silent, Listed, Linked, Refused, Raw, Malformed, custom_role_of}
 use Rattle.wasmprinter_spec.specs.Piece.{Piece, Claimed}
 use Rattle.wasmprinter_spec.specs.Layout.Groups.{has_break}
 use Rattle.wasmprinter_spec.specs.Layout.Customs.{Shown, Stops, Laid, before_laid, laid_parts, raw_pieces, faulted_pieces, role_part, custom_part}
@@ -26,14 +26,14 @@ abbrev pub claim_of : Custom → Bool → Piece
 claim_of s answer = Claimed s.name s.bytes.place s.bytes.value answer
 
 -- The part of an unclaimed section is its claim and then the part after the claim.
-behind_claim : (skeleton : Bool) (claim : Piece) (c : CustomEntry) (r : CustomRole) →
+after_claim : (skeleton : Bool) (claim : Piece) (c : CustomEntry) (r : CustomRole) →
     laid_parts (role_part skeleton claim c r ∷ []) ≡ before_laid (claim ∷ []) (laid_parts (unclaimed_part skeleton c r ∷ []))
-behind_claim skeleton claim c Silent = refl
-behind_claim skeleton claim c (Listed fields) = refl
-behind_claim skeleton claim c (Linked ss) = refl
-behind_claim skeleton claim c (Refused id) = refl
-behind_claim skeleton claim c Raw = refl
-behind_claim skeleton claim c Faulted = refl
+after_claim skeleton claim c Silent = refl
+after_claim skeleton claim c (Listed fields) = refl
+after_claim skeleton claim c (Linked ss) = refl
+after_claim skeleton claim c (Refused id) = refl
+after_claim skeleton claim c Raw = refl
+after_claim skeleton claim c Malformed = refl
 
 -- A raw section begins a line.
 pub raw-break : (skeleton : Bool) (c : CustomEntry) → has_break (raw_pieces skeleton c) ≡ true
@@ -82,7 +82,7 @@ module _ {P : Type 0} (m : Meaning P) (o : Options) where
         PrintsPart m o a t false r (custom_part skeleton false c)
     left_to_us {a} {s} {t} {r} v w =
         let x : Custom = c.section.value in
-        let same = behind_claim skeleton (claim_of x false) c (custom_role_of x) in
+        let same = after_claim skeleton (claim_of x false) c (custom_role_of x) in
         record {
           prints = subst (λ (l : Laid). PrintsLaid m o a t false r l) (sym same) (laid_then m (claimed false v) w.prints);
           lines = subst (λ (l : Laid). IfOk r (λ lines. lines ≡ has_break l.pieces)) (sym same) w.lines;

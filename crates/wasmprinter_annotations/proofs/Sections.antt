@@ -40,7 +40,7 @@ module _ {P : Type 0} (m : Meaning P) (o : Options) (place : Option Kind) (cs : 
         ∙ ap (λ (x : CustomEntry). parts_at o.skeleton answers place i (x ∷ drop (i + 1) cs)) (sym is)
 
     -- If the next section is at another place, the invariant holds after it.
-    pub walk_passes : {a t : P} {lines : Bool} → Walked m o a t place cs i lines → (c.behind ≡ place → ⊥) → Walked m o a t place cs (i + 1) lines
+    pub walk_passes : {a t : P} {lines : Bool} → Walked m o a t place cs i lines → (c.after ≡ place → ⊥) → Walked m o a t place cs (i + 1) lines
     walk_passes w other = record {
       done = w.done;
       prints = w.prints;
@@ -49,7 +49,7 @@ module _ {P : Type 0} (m : Meaning P) (o : Options) (place : Option Kind) (cs : 
           (f.0, f.1 ∙ ap (λ (ps : List Part). w.done ++ ps) (next others ∙ parts_at-passed o.skeleton place others i c (drop (i + 1) cs) other));
     }
 
-    module _ (here : c.behind ≡ place) (answer : Bool) where
+    module _ (here : c.after ≡ place) (answer : Bool) where
       -- All parts are those written so far, that of the next section and those after it.
       whole : {a t : P} {lines : Bool} (w : Walked m o a t place cs i lines) (others : Answers) → (answers : Answers) ×
           (parts_at o.skeleton answers place 0 cs ≡ w.done ++ (custom_part o.skeleton answer c ∷ parts_at o.skeleton others place (i + 1) (drop (i + 1) cs)))

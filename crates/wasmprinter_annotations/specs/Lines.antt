@@ -6,7 +6,7 @@ use Rattle.wasmprinter_error.specs.declared.error.Error.TheVariants.{Printer}
 use Rattle.wasmprinter_spec.specs.Meaning.{Meaning}
 use Rattle.wasmprinter_spec.specs.Options.{Options}
 use Rattle.wasmprinter_spec.specs.Layout.Customs.{Part, laid_parts}
-use Rattle.wasmprinter_print.specs.Prints.{TellsLines}
+use Rattle.wasmprinter_print.specs.Prints.{ReportsLines}
 use Rattle.wasmprinter_annotations.specs.Parts.{PrintsParts}
 
 -- The parts were written, up to a failed call or a refusal, which is returned. On success the result says whether
@@ -14,7 +14,7 @@ use Rattle.wasmprinter_annotations.specs.Parts.{PrintsParts}
 pub record PrintsPartLines {P : Type 0} (m : Meaning P) (o : Options) (old new : P) (keeps : Bool) (r : Result Bool Error)
     (parts : List Part) : Type 0 where
   pub prints : PrintsParts m o old new keeps r parts
-  pub lines : TellsLines r (laid_parts parts).pieces
+  pub lines : ReportsLines r (laid_parts parts).pieces
 
 -- `PrintsPartLines` for one part.
 abbrev pub PrintsPart : {P : Type 0} → Meaning P → Options → P → P → Bool → Result Bool Error → Part → Type 0

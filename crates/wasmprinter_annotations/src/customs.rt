@@ -53,7 +53,7 @@ fn write_role<P: Print>(
         CustomRole::Dylink(subsections) => with_lines(write_dylink(p, options, place, subsections)),
         CustomRole::Refused(id) => Err(Error::DylinkSubsection { id: *id }),
         CustomRole::Raw => with_lines(write_raw(p, options, entry)),
-        CustomRole::Faulted => with_lines(write_faulted(p, options, entry)),
+        CustomRole::Malformed => with_lines(write_faulted(p, options, entry)),
     }
 }
 
@@ -80,10 +80,10 @@ pub fn write_custom<P: Print>(
 }
 
 /// Reports whether a section comes after one of the kind or, for `None`, before all others.
-fn stands_at(entry: &CustomEntry<'_>, behind: Option<SectionKind>) -> bool
-    ensures { IsTrue result ↔ (entry.now.behind ≡ place_view behind) }
+fn stands_at(entry: &CustomEntry<'_>, after: Option<SectionKind>) -> bool
+    ensures { IsTrue result ↔ (entry.now.after ≡ place_view after) }
 {
-    entry.behind == behind
+    entry.after == after
 }
 
 /// Writes the custom sections that come after a section of the kind or, for `None`, before all others. Returns
@@ -96,14 +96,14 @@ pub fn write_customs<P: Print>(
     p: &mut P,
     options: &PrintOptions,
     customs: &[CustomEntry<'_>],
-    behind: Option<SectionKind>,
+    after: Option<SectionKind>,
 ) -> Result<bool, Error>
     ensures { (answers : Answers) × PrintsPartLines P.meaning options.now p.old p.new false result
-        (parts_at options.now.skeleton answers (place_view behind) 0 customs.now) }
+        (parts_at options.now.skeleton answers (place_view after) 0 customs.now) }
 {
     let mut lines = false;
     for entry in customs {
-        if stands_at(entry, behind) {
+        if stands_at(entry, after) {
             lines |= write_custom(p, options, entry)?;
         }
     }

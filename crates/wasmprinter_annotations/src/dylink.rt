@@ -17,7 +17,7 @@ use wasmprinter_print::Print;
 use wasmprinter_words::annotations::open_note;
 use wasmprinter_words::numbers::number_word;
 use wasmprinter_words::strings::write_string;
-use wasmprinter_words::words::{gap, open, open_gap, open_plain, shut};
+use wasmprinter_words::words::{open, open_gap, open_plain, write_close_paren, write_space};
 
 /// Writes a space and a group of a word, a size and an alignment. Writes nothing if both numbers are 0.
 #[tactic(auto, unfolding(wasmprinter_spec::specs::Layout::Customs::sizes_group))]
@@ -27,13 +27,13 @@ fn write_sizes_group<P: Print>(p: &mut P, word: &str, size: u32, alignment: u32)
     if size == 0 && alignment == 0 {
         return Ok(());
     }
-    gap(p)?;
+    write_space(p)?;
     open_plain(p, word)?;
-    gap(p)?;
+    write_space(p)?;
     number_word(p, u64::from(size))?;
-    gap(p)?;
+    write_space(p)?;
     number_word(p, u64::from(alignment))?;
-    shut(p)
+    write_close_paren(p)
 }
 
 /// Writes the sizes and alignments of memory and table space that a module needs.
@@ -50,7 +50,7 @@ fn write_sizes<P: Print>(
     open(p, "mem-info")?;
     write_sizes_group(p, "memory", sizes.memory_size(), sizes.memory_alignment())?;
     write_sizes_group(p, "table", sizes.table_size(), sizes.table_alignment())?;
-    shut(p)
+    write_close_paren(p)
 }
 
 /// Writes a line with a keyword and names.
@@ -67,7 +67,7 @@ fn write_names<P: Print>(
     break_line(p, options, Some(place), LINE_NESTING)?;
     open(p, keyword)?;
     gap_strings(p, names)?;
-    shut(p)
+    write_close_paren(p)
 }
 
 /// Writes a line with an export and its flags.
@@ -84,7 +84,7 @@ fn write_export<P: Print>(
     open_gap(p, "export-info")?;
     write_string(p, export.name())?;
     write_flags(p, export.flags())?;
-    shut(p)
+    write_close_paren(p)
 }
 
 /// Writes exports, each on a line of its own.
@@ -115,10 +115,10 @@ fn write_import<P: Print>(
     break_line(p, options, Some(place), LINE_NESTING)?;
     open_gap(p, "import-info")?;
     write_string(p, import.source())?;
-    gap(p)?;
+    write_space(p)?;
     write_string(p, import.name())?;
     write_flags(p, import.flags())?;
-    shut(p)
+    write_close_paren(p)
 }
 
 /// Writes imports, each on a line of its own.

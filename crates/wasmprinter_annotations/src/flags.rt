@@ -11,13 +11,13 @@ use std::io;
 use wasmprinter_customs::SymbolFlags;
 use wasmprinter_print::{Print, text};
 use wasmprinter_words::numbers::write_hexadecimal;
-use wasmprinter_words::words::{gap, word};
+use wasmprinter_words::words::{word, write_space};
 
 /// Writes a space and a word.
 fn gap_word<P: Print>(p: &mut P, flag: &str) -> io::Result<()>
     ensures { PrintsAlways P.meaning p.old p.new result (Gap ∷ (Word flag.now ∷ [])) }
 {
-    gap(p)?;
+    write_space(p)?;
     word(p, flag)
 }
 
@@ -47,7 +47,7 @@ fn write_others<P: Print>(p: &mut P, bits: u32) -> io::Result<()>
     if bits == 0 {
         return Ok(());
     }
-    gap(p)?;
+    write_space(p)?;
     write_bits(p, bits)
 }
 

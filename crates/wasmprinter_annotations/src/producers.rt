@@ -13,7 +13,7 @@ use wasmprinter_lines::options::PrintOptions;
 use wasmprinter_print::Print;
 use wasmprinter_words::annotations::{open_note, open_run};
 use wasmprinter_words::strings::write_string;
-use wasmprinter_words::words::{gap, shut};
+use wasmprinter_words::words::{write_close_paren, write_space};
 
 /// Writes a value of a field, on a line of its own.
 #[tactic(auto, unfolding(wasmprinter_spec::specs::Layout::Customs::values_pieces))]
@@ -27,11 +27,11 @@ fn write_value<P: Print>(
 {
     break_line(p, options, Some(value.place()), LINE_NESTING)?;
     open_run(p, field)?;
-    gap(p)?;
+    write_space(p)?;
     write_string(p, value.name())?;
-    gap(p)?;
+    write_space(p)?;
     write_string(p, value.version())?;
-    shut(p)
+    write_close_paren(p)
 }
 
 /// Writes the values of a field.

@@ -6,7 +6,7 @@ use std::io;
 use wasmprinter_customs::DylinkNames;
 use wasmprinter_print::Print;
 use wasmprinter_words::strings::write_string;
-use wasmprinter_words::words::gap;
+use wasmprinter_words::words::write_space;
 
 /// The nesting depth of the annotation of a section.
 pub(crate) const SECTION_NESTING: u64 = 1;
@@ -18,7 +18,7 @@ pub(crate) const LINE_NESTING: u64 = 2;
 fn gap_string<P: Print>(p: &mut P, s: &str) -> io::Result<()>
     ensures { PrintsAlways P.meaning p.old p.new result (gap_quoted s.now) }
 {
-    gap(p)?;
+    write_space(p)?;
     write_string(p, s)
 }
 

@@ -13,7 +13,7 @@ use wasmprinter_print::Print;
 use wasmprinter_text::data_strings::write_shown_bytes;
 use wasmprinter_words::annotations::{open_note_gap, plain_ending};
 use wasmprinter_words::strings::write_string;
-use wasmprinter_words::words::{gap, open_plain, shut, word};
+use wasmprinter_words::words::{open_plain, word, write_close_paren, write_space};
 
 /// Returns the word for the kind of section that a custom section follows.
 fn place_word(kind: SectionKind) -> &'static str
@@ -40,17 +40,17 @@ fn write_two_words<P: Print>(p: &mut P, first: &str, second: &str) -> io::Result
     ensures { PrintsAlways P.meaning p.old p.new result (two_words first.now second.now) }
 {
     open_plain(p, first)?;
-    gap(p)?;
+    write_space(p)?;
     word(p, second)?;
-    shut(p)
+    write_close_paren(p)
 }
 
 /// Writes the place of a section among the other sections.
 #[tactic(auto, unfolding(wasmprinter_spec::specs::Layout::Customs::place_pieces))]
-fn write_place<P: Print>(p: &mut P, behind: Option<SectionKind>) -> io::Result<()>
-    ensures { PrintsAlways P.meaning p.old p.new result (place_pieces (place_view behind)) }
+fn write_place<P: Print>(p: &mut P, after: Option<SectionKind>) -> io::Result<()>
+    ensures { PrintsAlways P.meaning p.old p.new result (place_pieces (place_view after)) }
 {
-    match behind {
+    match after {
         None => write_two_words(p, "before", "first"),
         Some(kind) => write_two_words(p, "after", place_word(kind)),
     }
@@ -68,11 +68,11 @@ pub(crate) fn write_raw<P: Print>(
     break_line(p, options, Some(entry.section.place()), SECTION_NESTING)?;
     open_note_gap(p, "custom")?;
     write_string(p, entry.section.name())?;
-    gap(p)?;
-    write_place(p, entry.behind)?;
-    gap(p)?;
+    write_space(p)?;
+    write_place(p, entry.after)?;
+    write_space(p)?;
     write_shown_bytes(p, options, entry.section.bytes())?;
-    shut(p)
+    write_close_paren(p)
 }
 
 /// Writes a line that says that the section is malformed, and then the section as a raw annotation.

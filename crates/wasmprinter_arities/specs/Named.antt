@@ -4,7 +4,7 @@ use Rattle.wasmprinter_spec.specs.Grammar.{◌>>=◌}
 use Rattle.wasmprinter_spec.specs.Types.{FuncType, signature_at, fields_at}
 use Rattle.wasmprinter_spec.specs.Operator.{Immediates, Block, TryTable, Index, Indices, BranchTable, Cast}
 use Rattle.wasmprinter_spec.specs.Placed.{PlacedModule}
-use Rattle.wasmprinter_spec.specs.Folding.Arities.{Signatures, types_of, function_type, tag_type, block_gives, label_count}
+use Rattle.wasmprinter_spec.specs.Folding.Arities.{Signatures, types_of, function_type, tag_type, block_results, label_count}
 
 -- The index, if it is the only immediate.
 abbrev pub index_in : Immediates → Option ℕ
@@ -34,8 +34,8 @@ count_in _ = None
 
 -- The number of results of a block with the block type in the immediates.
 abbrev pub block_gives_in : Signatures → Immediates → Option ℕ
-block_gives_in s (Block t) = block_gives s t
-block_gives_in s (TryTable t cs) = block_gives s t
+block_gives_in s (Block t) = block_results s t
+block_gives_in s (TryTable t cs) = block_results s t
 block_gives_in s _ = None
 
 -- The type of the function that the index refers to.

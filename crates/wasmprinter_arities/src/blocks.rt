@@ -3,11 +3,11 @@
 ghost use Rattle.std.specs.Prelude.{◌≡◌, ℕ, Option, length, option_map};
 ghost use Rattle.wasmprinter_spec.specs.Types.{signature_at};
 ghost use Rattle.wasmprinter_spec.specs.Folding.Arities.{types_of, signatures_within};
-ghost use Rattle.wasmprinter_spec.specs.Folding.Arities.{is_loop, block_takes, block_gives};
+ghost use Rattle.wasmprinter_spec.specs.Folding.Arities.{is_loop, block_operands, block_results};
 ghost use Rattle.wasmprinter_spec.specs.Folding.Arities.{label_of_type, label_of_block};
 ghost use Rattle.wasmprinter_ops.specs.Blocks.{block_type_view};
 
-use crate::callees::Callees;
+use crate::callees::CalleeTypes;
 use crate::counts::{parameter_count_of, result_count_of};
 use wasmprinter_ops::blocks::BlockType;
 use wasmprinter_ops::opcode::Opcode;
@@ -18,7 +18,7 @@ const LOOP: u32 = 0x03;
 
 /// Returns the number of parameters of the function type with the index, or `None` if there is no such function
 /// type.
-fn parameter_count(callees: &Callees, type_index: u32) -> Option<u32>
+fn parameter_count(callees: &CalleeTypes, type_index: u32) -> Option<u32>
     ensures { result ≡ option_map (λ t. length t.params)
         (signature_at (types_of callees.now) type_index) }
 {
@@ -29,7 +29,7 @@ fn parameter_count(callees: &Callees, type_index: u32) -> Option<u32>
 }
 
 /// Returns the number of results of the function type with the index, or `None` if there is no such function type.
-fn result_count(callees: &Callees, type_index: u32) -> Option<u32>
+fn result_count(callees: &CalleeTypes, type_index: u32) -> Option<u32>
     ensures { result ≡ option_map (λ t. length t.results)
         (signature_at (types_of callees.now) type_index) }
 {
@@ -40,10 +40,10 @@ fn result_count(callees: &Callees, type_index: u32) -> Option<u32>
 }
 
 /// Returns the number of parameters of a block with the type.
-fn block_takes(callees: &Callees, block_type: BlockType) -> Option<u32>
+fn block_operands(callees: &CalleeTypes, block_type: BlockType) -> Option<u32>
     // The enclosing function does not matter.
     ensures { (own : Option ℕ) →
-        result ≡ block_takes (signatures_within callees.now own) (block_type_view block_type) }
+        result ≡ block_operands (signatures_within callees.now own) (block_type_view block_type) }
 {
     match block_type {
         BlockType::Empty | BlockType::Value(_) => Some(0),
@@ -52,10 +52,10 @@ fn block_takes(callees: &Callees, block_type: BlockType) -> Option<u32>
 }
 
 /// Returns the number of results of a block with the type.
-pub(crate) fn block_gives(callees: &Callees, block_type: BlockType) -> Option<u32>
+pub(crate) fn block_results(callees: &CalleeTypes, block_type: BlockType) -> Option<u32>
     // The enclosing function does not matter.
     ensures { (own : Option ℕ) →
-        result ≡ block_gives (signatures_within callees.now own) (block_type_view block_type) }
+        result ≡ block_results (signatures_within callees.now own) (block_type_view block_type) }
 {
     match block_type {
         BlockType::Empty => Some(0),
@@ -73,22 +73,22 @@ fn is_loop(opcode: Opcode) -> bool
 
 /// Returns the number of values that the label of a block with the type expects. A branch to the label of a loop
 /// goes to the start of the loop, so it passes the loop's parameters.
-fn label_of_type(callees: &Callees, is_loop: bool, block_type: BlockType) -> Option<u32>
+fn label_of_type(callees: &CalleeTypes, is_loop: bool, block_type: BlockType) -> Option<u32>
     // The enclosing function does not matter.
     ensures { (own : Option ℕ) → result
         ≡ label_of_type (signatures_within callees.now own) is_loop (block_type_view block_type) }
 {
     if is_loop {
-        block_takes(callees, block_type)
+        block_operands(callees, block_type)
     } else {
-        block_gives(callees, block_type)
+        block_results(callees, block_type)
     }
 }
 
 /// Returns the number of values that the label of an operator's block expects: the parameters of a loop, the
 /// results of any other block. Returns `None` if the block's type is unknown, and for an operator that opens no
 /// block.
-pub fn label_of_block(callees: &Callees, operator: &Operator<'_>) -> Option<u32>
+pub fn label_of_block(callees: &CalleeTypes, operator: &Operator<'_>) -> Option<u32>
     // The enclosing function does not matter.
     ensures { (own : Option ℕ) →
         result ≡ label_of_block (signatures_within callees.now own) operator.now }
@@ -97,7 +97,7 @@ pub fn label_of_block(callees: &Callees, operator: &Operator<'_>) -> Option<u32>
         Immediates::Block(block_type) => {
             label_of_type(callees, is_loop(operator.opcode), *block_type)
         }
-        Immediates::TryTable(block_type, _) => block_gives(callees, *block_type),
+        Immediates::TryTable(block_type, _) => block_results(callees, *block_type),
         _ => None,
     }
 }

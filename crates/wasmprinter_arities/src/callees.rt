@@ -12,7 +12,7 @@ use wasmprinter_wasm::{ExternType, Fields, Module};
 
 /// The types of the items that a module's operators refer to.
 #[derive(Drop)]
-pub struct Callees<'m, 'a> {
+pub struct CalleeTypes<'m, 'a> {
     module: &'m Module<'a>,
     /// The type indices of imported functions.
     functions: Vec<u32>,
@@ -20,7 +20,7 @@ pub struct Callees<'m, 'a> {
     tags: Vec<u32>,
 }
 
-impl<'m, 'a> Model for Callees<'m, 'a> {
+impl<'m, 'a> Model for CalleeTypes<'m, 'a> {
     ghost use Rattle.std.specs.Prelude.{◌≡◌};
     ghost use Rattle.wasmprinter_spec.specs.Placed.{PlacedModule};
     ghost use Rattle.wasmprinter_spec.specs.Module.{without_places, imported_types, func_import, tag_import};
@@ -34,7 +34,7 @@ impl<'m, 'a> Model for Callees<'m, 'a> {
         × (c.tags.items ≡ imported_types tag_import (without_places c.module.now.imports)) };
 }
 
-impl<'m, 'a> Callees<'m, 'a> {
+impl<'m, 'a> CalleeTypes<'m, 'a> {
     /// Gathers the types of imports in time proportional to the number of imports. Each look-up then takes constant
     /// time.
     ///
@@ -54,7 +54,7 @@ impl<'m, 'a> Callees<'m, 'a> {
                 ExternType::Table(_) | ExternType::Memory(_) | ExternType::Global(_) => {}
             }
         }
-        Ok(Callees {
+        Ok(CalleeTypes {
             module,
             functions,
             tags,

@@ -1,6 +1,6 @@
 //! Numbers of operands and results.
 ghost use Rattle.std.specs.Prelude.{◌≡◌, length, option_map};
-ghost use Rattle.wasmprinter_spec.specs.Folding.Arities.{takes_and_gives, saturating_sum};
+ghost use Rattle.wasmprinter_spec.specs.Folding.Arities.{operands_and_results, saturating_sum};
 ghost use Rattle.wasmprinter_arities.specs.Counted.{counts_view};
 
 use wasmprinter_types::composite::FuncType;
@@ -9,19 +9,22 @@ use wasmprinter_types::composite::FuncType;
 #[derive(Clone, Copy, Debug, PartialEq, Eq)]
 pub struct Counts {
     /// The number of operands.
-    pub takes: u32,
+    pub operands: u32,
     /// The number of results.
-    pub gives: u32,
+    pub results: u32,
 }
 
 /// No operands and no results.
-pub(crate) const NOTHING: Counts = Counts { takes: 0, gives: 0 };
+pub(crate) const NOTHING: Counts = Counts {
+    operands: 0,
+    results: 0,
+};
 
 /// Returns the counts with these numbers of operands and results.
-pub(crate) fn takes_and_gives(takes: u32, gives: u32) -> Counts
-    ensures { counts_view result ≡ takes_and_gives takes gives }
+pub(crate) fn operands_and_results(operands: u32, results: u32) -> Counts
+    ensures { counts_view result ≡ operands_and_results operands results }
 {
-    Counts { takes, gives }
+    Counts { operands, results }
 }
 
 /// Returns `count + 1`, or the greatest 32-bit number if that overflows.
@@ -48,12 +51,12 @@ pub(crate) fn result_count_of(func_type: &FuncType<'_>) -> u32
 /// Returns the operands and results of a call of a function with the type.
 pub(crate) fn counts_of_call(func_type: Option<FuncType<'_>>) -> Option<Counts>
     ensures { option_map counts_view result
-        ≡ option_map (λ t. takes_and_gives (length t.params) (length t.results)) func_type.entry }
+        ≡ option_map (λ t. operands_and_results (length t.params) (length t.results)) func_type.entry }
 {
     match func_type {
         Some(func_type) => Some(Counts {
-            takes: parameter_count_of(&func_type),
-            gives: result_count_of(&func_type),
+            operands: parameter_count_of(&func_type),
+            results: result_count_of(&func_type),
         }),
         None => None,
     }

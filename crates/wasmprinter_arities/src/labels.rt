@@ -59,7 +59,7 @@ impl LabelCounts {
             Role::Delegates | Role::Ends => {
                 self.counts.pop();
             }
-            Role::Plain | Role::Turns | Role::Catches | Role::CatchesAll => {}
+            Role::Plain | Role::Else | Role::Catches | Role::CatchesAll => {}
         }
         Ok(())
     }

@@ -8,8 +8,8 @@ ghost use Rattle.wasmprinter_ops.specs.Arities.{arity_view};
 ghost use Rattle.wasmprinter_ops.specs.Immediates.{immediates_view};
 ghost use Rattle.wasmprinter_arities.specs.Counted.{counts_view, known_view};
 
-use crate::callees::Callees;
-use crate::counts::{Counts, NOTHING, counts_of_call, one_more, takes_and_gives};
+use crate::callees::CalleeTypes;
+use crate::counts::{Counts, NOTHING, counts_of_call, one_more, operands_and_results};
 use crate::labels::LabelCounts;
 use crate::named::{
     block_gives_in, cast_label_in, count_in, field_count_named, function_named, index_in,
@@ -21,7 +21,7 @@ use wasmprinter_ops::operator::{Immediates, Operator};
 /// Returns the operands and results of an operator with the arity, or `None` if the item that it refers to is
 /// unknown.
 fn counts_by_arity(
-    callees: &Callees,
+    callees: &CalleeTypes,
     own: Option<u32>,
     labels: &LabelCounts,
     arity: Arity,
@@ -38,22 +38,30 @@ fn counts_by_arity(
     let last_label = || labels.find_if_any(own, last_label_in(immediates));
     let cast_label = || labels.find_if_any(own, cast_label_in(immediates));
     match arity {
-        Arity::Fixed(takes, gives) => Some(takes_and_gives(takes, gives)),
+        Arity::Fixed(operands, results) => Some(operands_and_results(operands, results)),
         Arity::OfCall => call(),
-        Arity::OfReturnCall => call().map(|of| takes_and_gives(of.takes, 0)),
-        Arity::OfIndirectCall => indirect().map(|of| takes_and_gives(one_more(of.takes), of.gives)),
-        Arity::OfReturnIndirectCall => indirect().map(|of| takes_and_gives(one_more(of.takes), 0)),
-        Arity::OfThrow => tag().map(|of| takes_and_gives(of.takes, 0)),
-        Arity::OfReturn => own.map(|n| takes_and_gives(n, 0)),
-        Arity::OfBranch => label().map(|v| takes_and_gives(v, 0)),
-        Arity::OfBranchIf => label().map(|v| takes_and_gives(one_more(v), v)),
-        Arity::OfBranchTable => last_label().map(|v| takes_and_gives(one_more(v), 0)),
-        Arity::OfBranchOnNull => label().map(|v| takes_and_gives(one_more(v), one_more(v))),
-        Arity::OfBranchOnNonNull => label().map(|v| takes_and_gives(v, v.saturating_sub(1))),
-        Arity::OfBranchOnCast => cast_label().map(|v| takes_and_gives(v, v)),
-        Arity::OfBlock => block_gives_in(callees, immediates).map(|n| takes_and_gives(0, n)),
-        Arity::OfStruct => field_count_named(callees, immediates).map(|n| takes_and_gives(n, 1)),
-        Arity::OfCount => count_in(immediates).map(|n| takes_and_gives(n, 1)),
+        Arity::OfReturnCall => call().map(|of| operands_and_results(of.operands, 0)),
+        Arity::OfIndirectCall => indirect().map(|of| operands_and_results(
+            one_more(of.operands),
+            of.results,
+        )),
+        Arity::OfReturnIndirectCall => indirect().map(|of| operands_and_results(
+            one_more(of.operands),
+            0,
+        )),
+        Arity::OfThrow => tag().map(|of| operands_and_results(of.operands, 0)),
+        Arity::OfReturn => own.map(|n| operands_and_results(n, 0)),
+        Arity::OfBranch => label().map(|v| operands_and_results(v, 0)),
+        Arity::OfBranchIf => label().map(|v| operands_and_results(one_more(v), v)),
+        Arity::OfBranchTable => last_label().map(|v| operands_and_results(one_more(v), 0)),
+        Arity::OfBranchOnNull => label().map(|v| operands_and_results(one_more(v), one_more(v))),
+        Arity::OfBranchOnNonNull => label().map(|v| operands_and_results(v, v.saturating_sub(1))),
+        Arity::OfBranchOnCast => cast_label().map(|v| operands_and_results(v, v)),
+        Arity::OfBlock => block_gives_in(callees, immediates).map(|n| operands_and_results(0, n)),
+        Arity::OfStruct => field_count_named(callees, immediates).map(|n| operands_and_results(
+            n, 1,
+        )),
+        Arity::OfCount => count_in(immediates).map(|n| operands_and_results(n, 1)),
     }
 }
 
@@ -64,7 +72,7 @@ fn counts_by_arity(
 /// Counts saturate at the greatest 32-bit number. An operator takes and gives nothing if the item that it refers to
 /// is unknown. A block takes nothing, whatever its parameters are.
 pub fn counts(
-    callees: &Callees,
+    callees: &CalleeTypes,
     own: Option<u32>,
     labels: &LabelCounts,
     operator: &Operator<'_>,

@@ -16,7 +16,7 @@ use Rattle.wasmprinter_text.specs.declared.types.variables.Before.TheVariants as
 use Rattle.wasmprinter_text.specs.Variables.{end_pieces, walk_pieces}
 use Rattle.wasmprinter_text.proofs.Walks.{walk-line}
 use Rattle.wasmprinter_bodies.specs.declared.locals.Position.{Position}
-use Rattle.wasmprinter_bodies.specs.LocalWalk.{behind_one, behind_all, local_parts, locals_parts}
+use Rattle.wasmprinter_bodies.specs.LocalWalk.{after_one, after_all, local_parts, locals_parts}
 
 -- ---- Locals, one after another
 
@@ -27,16 +27,16 @@ walk_from names f x ts = walk_pieces names (codes "local") (names.locals f) x.be
 module _ (names : Names) (f : ℕ) where
   -- The pass over two lists of locals writes the first and passes over the second from the position after the first.
   walk-append : (x : Position) (ts us : List ValType) →
-      walk_from names f x (ts ++ us) ≡ locals_parts names f x ts ++ walk_from names f (behind_all (names.locals f) x ts) us
+      walk_from names f x (ts ++ us) ≡ locals_parts names f x ts ++ walk_from names f (after_all (names.locals f) x ts) us
   walk-append x [] us = refl
   walk-append x (t ∷ ts) us =
-      ap (λ ps. local_parts names f x t ++ ps) (walk-append (behind_one (names.locals f) x) ts us)
-      ∙ sym (append_assoc (local_parts names f x t) (locals_parts names f (behind_one (names.locals f) x) ts) (walk_from names f (behind_all (names.locals f) x (t ∷ ts)) us))
+      ap (λ ps. local_parts names f x t ++ ps) (walk-append (after_one (names.locals f) x) ts us)
+      ∙ sym (append_assoc (local_parts names f x t) (locals_parts names f (after_one (names.locals f) x) ts) (walk_from names f (after_all (names.locals f) x (t ∷ ts)) us))
 
   -- The pass over entries writes the locals of the first entry and passes over those of the others.
   pub entries-next : (x : Position) (es rest : List (Placed LocalEntry)) (e : Placed LocalEntry) → es ≡ e ∷ rest →
       walk_from names f x (locals_of es) ≡ locals_parts names f x (replicate e.value.count e.value.type)
-      ++ walk_from names f (behind_all (names.locals f) x (replicate e.value.count e.value.type)) (locals_of rest)
+      ++ walk_from names f (after_all (names.locals f) x (replicate e.value.count e.value.type)) (locals_of rest)
   entries-next x es rest e p =
       ap (λ xs. walk_from names f x (locals_of xs)) p ∙ walk-append x (replicate e.value.count e.value.type) (locals_of rest)
 
@@ -46,7 +46,7 @@ module _ (names : Names) (f : ℕ) where
 
   -- If some of n locals with one type are left, their pieces are those of the next one and of the others.
   pub times-next : (x : Position) (n i : ℕ) (t : ValType) → i < n →
-      locals_parts names f x (replicate (n - i) t) ≡ local_parts names f x t ++ locals_parts names f (behind_one (names.locals f) x) (replicate (n - (i + 1)) t)
+      locals_parts names f x (replicate (n - i) t) ≡ local_parts names f x t ++ locals_parts names f (after_one (names.locals f) x) (replicate (n - (i + 1)) t)
   times-next x n i t h = let e : n - i ≡ suc (n - (i + 1)) = omega arith in ap (λ m. locals_parts names f x (replicate m t)) e
 
   -- If none of n locals with one type is left, there are no pieces.
@@ -55,17 +55,17 @@ module _ (names : Names) (f : ℕ) where
 
 module _ (named : ℕ → Option Named) where
   -- The position after the rest of n locals is that after the next one and the others.
-  pub behind_times-next : (x : Position) (n i : ℕ) (t : ValType) → i < n →
-      behind_all named x (replicate (n - i) t) ≡ behind_all named (behind_one named x) (replicate (n - (i + 1)) t)
-  behind_times-next x n i t h = let e : n - i ≡ suc (n - (i + 1)) = omega arith in ap (λ m. behind_all named x (replicate m t)) e
+  pub after_times-next : (x : Position) (n i : ℕ) (t : ValType) → i < n →
+      after_all named x (replicate (n - i) t) ≡ after_all named (after_one named x) (replicate (n - (i + 1)) t)
+  after_times-next x n i t h = let e : n - i ≡ suc (n - (i + 1)) = omega arith in ap (λ m. after_all named x (replicate m t)) e
 
-  pub behind_times-none : (x : Position) (n i : ℕ) (t : ValType) → n ≤ i → behind_all named x (replicate (n - i) t) ≡ x
-  behind_times-none x n i t h = let e : n - i ≡ 0 = omega arith in ap (λ m. behind_all named x (replicate m t)) e
+  pub after_times-none : (x : Position) (n i : ℕ) (t : ValType) → n ≤ i → after_all named x (replicate (n - i) t) ≡ x
+  after_times-none x n i t h = let e : n - i ≡ 0 = omega arith in ap (λ m. after_all named x (replicate m t)) e
 
   -- The number after n locals is the number before them plus n.
-  pub behind_times-number : (x : Position) (n : ℕ) (t : ValType) → (behind_all named x (replicate n t)).number ≡ x.number + n
-  behind_times-number x zero t = omega arith
-  behind_times-number x (suc n) t = let others = behind_times-number (behind_one named x) n t in omega (arith, others)
+  pub after_times-number : (x : Position) (n : ℕ) (t : ValType) → (after_all named x (replicate n t)).number ≡ x.number + n
+  after_times-number x zero t = omega arith
+  after_times-number x (suc n) t = let others = after_times-number (after_one named x) n t in omega (arith, others)
 
 -- ---- The line of locals
 

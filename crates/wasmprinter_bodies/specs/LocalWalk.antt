@@ -8,13 +8,13 @@ use Rattle.wasmprinter_text.specs.Variables.{before_next, variable_pieces}
 use Rattle.wasmprinter_bodies.specs.declared.locals.Position.{Position}
 
 -- The position after the next local.
-abbrev pub behind_one : (ℕ → Option Named) → Position → Position
-behind_one named x = record { before = before_next (named x.number); number = x.number + 1 }
+abbrev pub after_one : (ℕ → Option Named) → Position → Position
+after_one named x = record { before = before_next (named x.number); number = x.number + 1 }
 
 -- The position after locals with these types.
-abbrev pub behind_all : (ℕ → Option Named) → Position → List ValType → Position
-behind_all named x [] = x
-behind_all named x (t ∷ ts) = behind_all named (behind_one named x) ts
+abbrev pub after_all : (ℕ → Option Named) → Position → List ValType → Position
+after_all named x [] = x
+after_all named x (t ∷ ts) = after_all named (after_one named x) ts
 
 -- The pieces of the next local of the function f.
 abbrev pub local_parts : Names → ℕ → Position → ValType → List Piece
@@ -23,4 +23,4 @@ local_parts names f x t = variable_pieces names (codes "local") x.before (names.
 -- The pieces of the next locals. The last group is left open.
 abbrev pub locals_parts : Names → ℕ → Position → List ValType → List Piece
 locals_parts names f x [] = []
-locals_parts names f x (t ∷ ts) = local_parts names f x t ++ locals_parts names f (behind_one (names.locals f) x) ts
+locals_parts names f x (t ∷ ts) = local_parts names f x t ++ locals_parts names f (after_one (names.locals f) x) ts

@@ -2,7 +2,7 @@
 ghost use Rattle.std.specs.Prelude.{◌≡◌, codes};
 ghost use Rattle.wasmprinter_spec.specs.Layout.Functions.{result_count, body_pieces, inner_pieces, function_group, function_pieces};
 ghost use Rattle.wasmprinter_spec.specs.Layout.Groups.{line_group_gap, group_gap_at};
-ghost use Rattle.wasmprinter_print.specs.Prints.{PrintsAlways, PrintsOrStops, TellsLines};
+ghost use Rattle.wasmprinter_print.specs.Prints.{PrintsAlways, PrintsOrStops, ReportsLines};
 ghost use Rattle.wasmprinter_scope.specs.Scopes.{scope_view, function_scope_view, folds_in};
 ghost use Rattle.wasmprinter_bodies.specs.Functions.{parameter_count_of, outline_parts, definition_parts};
 
@@ -18,7 +18,7 @@ use wasmprinter_scope::headers::write_function_header;
 use wasmprinter_scope::scope::{FIELD_NESTING, Scope};
 use wasmprinter_text::signature::Signatures;
 use wasmprinter_wasm::{Body, BodyParts, Function};
-use wasmprinter_words::words::{gap, open_gap, shut, word};
+use wasmprinter_words::words::{open_gap, word, write_close_paren, write_space};
 
 /// The nesting depth of the operators of a body.
 const BODY_NESTING: u64 = 2;
@@ -35,7 +35,7 @@ fn write_outline<P: Print>(
         (outline_parts (function_scope_view scope.now number) function.now) }
 {
     write_function_header(p, scope, number, function.type_index())?;
-    gap(p)?;
+    write_space(p)?;
     word(p, "...")
 }
 
@@ -52,7 +52,7 @@ fn write_outline_group<P: Print>(
 {
     open_gap(p, "func")?;
     write_outline(p, scope, number, function)?;
-    shut(p)
+    write_close_paren(p)
 }
 
 /// Returns the number of parameters of a function with the type, or 0 if it is not a function type.
@@ -88,7 +88,7 @@ fn write_body<P: Print>(
 ) -> Result<bool, Error>
     ensures pieces { PrintsOrStops P.meaning options.now p.old p.new (folds_in (scope_view scope.old)) result
         (body_pieces (function_scope_view scope.old number) type_index hints.entry body.now) }
-    ensures lines { TellsLines result (body_pieces (function_scope_view scope.old number) type_index hints.entry body.now) }
+    ensures lines { ReportsLines result (body_pieces (function_scope_view scope.old number) type_index hints.entry body.now) }
     ensures scope { scope_view scope.new ≡ scope_view scope.old }
 {
     let results = result_count(scope, type_index);
@@ -112,7 +112,7 @@ fn write_body<P: Print>(
 
 /// Writes the locals and operators of a function, which follow its type use. Returns whether a line began.
 #[tactic(auto, unfolding(wasmprinter_spec::specs::Layout::Functions::inner_pieces))]
-fn write_inner<P: Print>(
+fn write_locals_and_body<P: Print>(
     p: &mut P,
     options: &PrintOptions,
     scope: &mut Scope<'_, '_>,
@@ -122,7 +122,7 @@ fn write_inner<P: Print>(
 ) -> Result<bool, Error>
     ensures pieces { PrintsOrStops P.meaning options.now p.old p.new (folds_in (scope_view scope.old)) result
         (inner_pieces (function_scope_view scope.old number) hints.entry function.now) }
-    ensures lines { TellsLines result (inner_pieces (function_scope_view scope.old number) hints.entry function.now) }
+    ensures lines { ReportsLines result (inner_pieces (function_scope_view scope.old number) hints.entry function.now) }
     ensures scope { scope_view scope.new ≡ scope_view scope.old }
 {
     let type_index = function.type_index();
@@ -145,11 +145,11 @@ fn write_definition<P: Print>(
 ) -> Result<bool, Error>
     ensures pieces { PrintsOrStops P.meaning options.now p.old p.new (folds_in (scope_view scope.old)) result
         (definition_parts (function_scope_view scope.old number) hints.entry function.now) }
-    ensures lines { TellsLines result (definition_parts (function_scope_view scope.old number) hints.entry function.now) }
+    ensures lines { ReportsLines result (definition_parts (function_scope_view scope.old number) hints.entry function.now) }
     ensures scope { scope_view scope.new ≡ scope_view scope.old }
 {
     write_function_header(p, scope, number, function.type_index())?;
-    write_inner(p, options, scope, number, hints, function)
+    write_locals_and_body(p, options, scope, number, hints, function)
 }
 
 /// Writes a function with its body, as a group.

@@ -9,7 +9,7 @@ ghost use Rattle.wasmprinter_types.specs.ValTypes.{type_view};
 ghost use Rattle.wasmprinter_labels.specs.Scan.{names_of};
 ghost use Rattle.wasmprinter_text.specs.Variables.{walk_pieces};
 ghost use Rattle.wasmprinter_text.specs.declared.types.variables.Before.TheVariants.{Line};
-ghost use Rattle.wasmprinter_bodies.specs.LocalWalk.{behind_one, behind_all, local_parts, locals_parts};
+ghost use Rattle.wasmprinter_bodies.specs.LocalWalk.{after_one, after_all, local_parts, locals_parts};
 
 use std::io;
 use wasmprinter_lines::lines::break_line;
@@ -60,7 +60,7 @@ fn write_local<P: Print>(
     requires { position.number + 1 < 2 ^ 64 }
     ensures pieces { PrintsAlways P.meaning p.old p.new result
         (local_parts (names_of scope.now.labels) function position (type_view value_type)) }
-    ensures behind { IfOk result (λ x. x ≡ behind_one ((names_of scope.now.labels).locals function) position) }
+    ensures after { IfOk result (λ x. x ≡ after_one ((names_of scope.now.labels).locals function) position) }
 {
     let Position { before, number } = position;
     let before = write_variable(
@@ -89,7 +89,7 @@ fn write_entry<P: Print>(
     requires { start.number + entry.now.value.count < 2 ^ 64 }
     ensures pieces { PrintsAlways P.meaning p.old p.new result
         (locals_parts (names_of scope.now.labels) function start (replicate entry.now.value.count entry.now.value.type)) }
-    ensures behind { IfOk result (λ x. x ≡ behind_all ((names_of scope.now.labels).locals function) start
+    ensures after { IfOk result (λ x. x ≡ after_all ((names_of scope.now.labels).locals function) start
         (replicate entry.now.value.count entry.now.value.type)) }
 {
     let mut position = start;

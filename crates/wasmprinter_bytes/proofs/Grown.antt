@@ -25,8 +25,8 @@ part_fault nothing grows whole grows_whole at old none more ends = reason_implie
 module _ {A : Type 0} (parse : Input → Option (A × Input)) (old start at : Input) (count i : ℕ) (front : List A) (counted : u32.parse old ≡ Some (count, start)) (lt : i < count)
     (so_far : with_front front (items_at parse (count - i) at) ≡ items_at parse count start) where
   -- If an item can't be read, the list can't be read.
-  none_behind : parse at ≡ None → vec_at parse old ≡ None
-  none_behind e =
+  none_after : parse at ≡ None → vec_at parse old ≡ None
+  none_after e =
       let k : count - i ≡ suc (count - (i + 1)) = omega arith in
       let missing : with_front front (items_at parse (count - i) at) ≡ None = rw (k, e) refl in
       let none : items_at parse count start ≡ None = sym so_far ∙ missing in
@@ -39,4 +39,4 @@ module _ {A : Type 0} (parse : Input → Option (A × Input)) (old start at : In
   -- An error of an item is an error of the list.
   pub list_fault : (grows : Type 0) → end_of at ≡ end_of old → (f : Error) → HasReason (reader_reasons (parse at ≡ None) grows at) f
       → HasReason (reader_reasons (vec_at parse old ≡ None) (CountsItems old) old) f
-  list_fault grows ends = part_fault (parse at ≡ None) grows (vec_at parse old ≡ None) (CountsItems old) at old none_behind (λ h. counted_some) ends
+  list_fault grows ends = part_fault (parse at ≡ None) grows (vec_at parse old ≡ None) (CountsItems old) at old none_after (λ h. counted_some) ends

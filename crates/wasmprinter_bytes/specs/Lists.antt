@@ -9,7 +9,7 @@ use Rattle.wasmprinter_error.specs.Reasons.{Reasons, HasReason}
 
 -- A count, and that many values.
 abbrev pub count_and_items_at : {A : Type 0} → (Input → Option (A × Input)) → Input → Option ((ℕ × List A) × Input)
-count_and_items_at parse at = u32.parse at >>= λ (count, behind). items_at parse count behind >>= λ (xs, after). Some ((count, xs), after)
+count_and_items_at parse at = u32.parse at >>= λ (count, mid). items_at parse count mid >>= λ (xs, after). Some ((count, xs), after)
 
 -- The values without their count: `(vec g).parse` is `vec_at g.parse`.
 abbrev pub vec_at : {A : Type 0} → (Input → Option (A × Input)) → Input → Option (List A × Input)

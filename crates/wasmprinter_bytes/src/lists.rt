@@ -11,7 +11,7 @@ use std::marker::{Model, PhantomData};
 use wasmprinter_error::{Error, Malformed};
 
 /// A value that can be read from bytes without allocating, and that borrows nothing.
-pub trait Spelled: Drop {
+pub trait Decode: Drop {
     ghost use Rattle.std.specs.Prelude.{Option};
     ghost use Rattle.wasmprinter_spec.specs.Grammar.{Input};
 
@@ -25,7 +25,7 @@ pub trait Spelled: Drop {
         ensures end { end_of cursor.new ≡ end_of cursor.old };
 }
 
-impl Spelled for u32 {
+impl Decode for u32 {
     ghost use Rattle.wasmprinter_spec.specs.Name.{u32};
 
     ghost parse = { u32.parse };
@@ -36,7 +36,7 @@ impl Spelled for u32 {
 }
 
 /// A value that can be read from bytes without allocating, and that may borrow the bytes.
-pub trait SpelledIn<'a>: Drop {
+pub trait DecodeIn<'a>: Drop {
     ghost use Rattle.std.specs.Prelude.{Option};
     ghost use Rattle.wasmprinter_spec.specs.Grammar.{Input};
 
@@ -57,7 +57,7 @@ pub trait SpelledIn<'a>: Drop {
 /// - `Malformed` if the bytes do not encode the count or one of the values, with the place of the
 ///   first unexpected byte or number.
 /// - `Memory` if an allocation fails.
-pub fn read_list<'a, T: SpelledIn<'a>>(
+pub fn read_list<'a, T: DecodeIn<'a>>(
     alloc: Global,
     cursor: &mut Cursor<'a>,
 ) -> Result<Vec<T>, Error>
@@ -113,13 +113,13 @@ pub fn read_grown_list<'a, T: GrownIn<'a>>(
 
 /// A list of values whose encoding was checked. Each value is read again from the bytes when it is requested.
 #[derive(Drop)]
-pub struct Items<'a, T: Spelled> {
+pub struct Items<'a, T: Decode> {
     left: u32,
     cursor: Cursor<'a>,
     item: PhantomData<T>,
 }
 
-impl<'a, T: Spelled> Model for Items<'a, T> {
+impl<'a, T: Decode> Model for Items<'a, T> {
     ghost use Rattle.std.specs.Prelude.{List};
     ghost use Rattle.wasmprinter_bytes.specs.Items.{items_of, HasItems};
 
@@ -131,7 +131,7 @@ impl<'a, T: Spelled> Model for Items<'a, T> {
 }
 
 /// Returns an empty list.
-pub fn no_items<'a, T: Spelled>(cursor: &Cursor<'a>) -> Items<'a, T>
+pub fn no_items<'a, T: Decode>(cursor: &Cursor<'a>) -> Items<'a, T>
     ensures { result ≡ [] }
 {
     Items {
@@ -147,7 +147,7 @@ pub fn no_items<'a, T: Spelled>(cursor: &Cursor<'a>) -> Items<'a, T>
 ///
 /// `Malformed` if the bytes do not encode the count or one of the values, with the place of the
 /// first unexpected byte or number.
-pub fn read_items<'a, T: Spelled>(cursor: &mut Cursor<'a>) -> Result<Items<'a, T>, Malformed>
+pub fn read_items<'a, T: Decode>(cursor: &mut Cursor<'a>) -> Result<Items<'a, T>, Malformed>
     ensures reads { Reads (λ t. t) (vec_at T.parse) cursor.old result cursor.new }
     ensures within { IsWithin cursor.old result }
     ensures end { end_of cursor.new ≡ end_of cursor.old }
@@ -164,7 +164,7 @@ pub fn read_items<'a, T: Spelled>(cursor: &mut Cursor<'a>) -> Result<Items<'a, T
     })
 }
 
-impl<'a, T: Spelled> Items<'a, T> {
+impl<'a, T: Decode> Items<'a, T> {
     /// Returns the number of values.
     pub fn len(&self) -> u32
         ensures { result ≡ length self.now }
@@ -184,7 +184,7 @@ impl<'a, T: Spelled> Items<'a, T> {
     }
 }
 
-impl<'a, T: Spelled> Iterator for Items<'a, T> {
+impl<'a, T: Decode> Iterator for Items<'a, T> {
     ghost use Rattle.std.specs.Iterator.{YieldsFirst, item_count};
 
     type Item = T;
@@ -206,7 +206,7 @@ impl<'a, T: Spelled> Iterator for Items<'a, T> {
 }
 
 // A clone is a second view of the same bytes, and allocates nothing.
-impl<T: Spelled> Clone for Items<'_, T> {
+impl<T: Decode> Clone for Items<'_, T> {
     ghost use Rattle.std.specs.Prelude.{◌≡◌, ⊤};
 
     ghost is_clone = { λ s r. r ≡ s };
@@ -219,7 +219,7 @@ impl<T: Spelled> Clone for Items<'_, T> {
 }
 
 // Two lists are equal if their values are equal; the places of the values do not matter.
-impl<T: Spelled + PartialEq> PartialEq for Items<'_, T> {
+impl<T: Decode + PartialEq> PartialEq for Items<'_, T> {
     ghost use Rattle.std.specs.Cmp.Lexicographic.{pointwise, lists_per};
 
     ghost eq = { λ x y. pointwise T.eq x y };
@@ -239,7 +239,7 @@ impl<T: Spelled + PartialEq> PartialEq for Items<'_, T> {
 }
 
 // Formats the values as a list.
-impl<T: Spelled + fmt::Debug> fmt::Debug for Items<'_, T> {
+impl<T: Decode + fmt::Debug> fmt::Debug for Items<'_, T> {
     fn fmt<W: fmt::Write>(&self, f: &mut fmt::Formatter<W>) -> fmt::Result {
         f.debug_list().entries(self.iter()).finish()
     }

@@ -63,7 +63,7 @@ module_start o names size ps (Some id) = record { place = Some 0; rest = _; is =
 layout_start : (o : Options) (answers : Answers) (m : PlacedModule) → HasStart (layout o answers m)
 unfolding layout module_pieces module_pieces_with
 layout_start o answers m =
-    let names : Names = module_names o.invents m in
+    let names : Names = module_names o.synthesizes m in
     let laid : Laid = laid_parts (module_parts o answers names m) in
     module_start o names m.size laid.pieces laid.refused
 

@@ -7,13 +7,13 @@ use Rattle.wasmprinter_error.specs.declared.error.Error.{Error}
 use Rattle.wasmprinter_error.specs.declared.error.Error.TheVariants.{Malformed, Component, TooManyLocals, TooManyFunctions, EmptyTableInit, FoldLegacy, FoldHint, DylinkSubsection, Printer, Memory}
 use Rattle.wasmprinter_spec.specs.Call.{Call, IsUnclaimed, call_text, text_of, atoms}
 use Rattle.wasmprinter_spec.specs.Meaning.{Run}
-use Rattle.wasmprinter_spec.specs.Options.{Options, in_colours}
+use Rattle.wasmprinter_spec.specs.Options.{Options, in_colors}
 use Rattle.wasmprinter_spec.specs.Layout.{layout}
 use Rattle.wasmprinter_spec.proofs.Texts.{alike_texts}
 use Rattle.wasmprinter_print.proofs.Prefixes.{broken_parts}
 use Rattle.wasmprinter_print.specs.Emits.{Whole, Broken, Begun}
 use Rattle.wasmprinter.specs.Printed.{Printed}
-use Rattle.wasmprinter.specs.Outcome.{HasCause, Leaves, LeavesBeginning}
+use Rattle.wasmprinter.specs.Outcome.{HasListedCause, Leaves, LeavesBeginning}
 use Rattle.wasmprinter.proofs.Claims.{alike_unclaimed}
 use Rattle.wasmprinter.proofs.Prefixes.{broken_alike}
 use Rattle.wasmprinter.proofs.Texts.{none_claimed}
@@ -71,10 +71,10 @@ module _ (old : Copier) (fresh : IsFresh old) where
       spelled = h.spelled;
       within = h.within;
       answers = h.answers;
-      long = broken_long new x (layout (in_colours o false) h.answers h.placed) h.left;
+      long = broken_long new x (layout (in_colors o false) h.answers h.placed) h.left;
     }
 
-    buffer_cause : (e : Error) → Leaves copied_meaning false o bytes old new e → HasCause copied_meaning o bytes old new e → HasBufferCause o bytes e
+    buffer_cause : (e : Error) → Leaves copied_meaning false o bytes old new e → HasListedCause copied_meaning o bytes old new e → HasBufferCause o bytes e
     buffer_cause (Malformed place) l h = h
     buffer_cause Component l h = h
     buffer_cause (TooManyLocals place) l h = h
@@ -100,7 +100,7 @@ module _ (old : Copier) (fresh : IsFresh old) where
         within = h.1.within;
         foldable = h.1.foldable;
         answers = h.1.answers;
-        left = begun_holds new (layout (in_colours o false) h.1.answers h.1.placed) h.1.left;
+        left = begun_holds new (layout (in_colors o false) h.1.answers h.1.placed) h.1.left;
       },
     )
 
@@ -120,9 +120,9 @@ module _ (old : Copier) (fresh : IsFresh old) where
       answers = h.answers;
       left = record {
         ends = h.left.ends;
-        unclaimed = alike_unclaimed h.left.made.calls (layout (in_colours o false) h.answers h.placed) h.left.made.alike
+        unclaimed = alike_unclaimed h.left.made.calls (layout (in_colors o false) h.answers h.placed) h.left.made.alike
             (run_claims_none new h.left.made.calls h.left.made.run);
-        copied = whole_holds new (layout (in_colours o false) h.answers h.placed) h.left.made;
+        copied = whole_holds new (layout (in_colors o false) h.answers h.placed) h.left.made;
       };
     }
     leaves_buffer (Printer x) h = record {
@@ -131,13 +131,13 @@ module _ (old : Copier) (fresh : IsFresh old) where
       within = h.within;
       foldable = h.foldable;
       answers = h.answers;
-      left = broken_holds new x (layout (in_colours o false) h.answers h.placed) h.left;
+      left = broken_holds new x (layout (in_colors o false) h.answers h.placed) h.left;
     }
     leaves_buffer Memory h = memory_left h
     leaves_buffer _ h = absurd h
 
     pub if_err_caused : {T : Type 0} (r : Result T Error) → IfErr r (Leaves copied_meaning false o bytes old new) →
-        IfErr r (HasCause copied_meaning o bytes old new) → IfErr r (HasBufferCause o bytes)
+        IfErr r (HasListedCause copied_meaning o bytes old new) → IfErr r (HasBufferCause o bytes)
     if_err_caused (Ok x) l h = tt
     if_err_caused (Err e) l h = buffer_cause e l h
 

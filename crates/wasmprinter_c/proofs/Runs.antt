@@ -5,7 +5,7 @@ use Rattle.wasmprinter_error.specs.declared.error.Error.{Error}
 use Rattle.wasmprinter_spec.specs.Call.{Call, Text, Newline, Line, Start, Claim, IsUnclaimed, text_of, atoms}
 use Rattle.wasmprinter_spec.specs.Lines.{TextLine, lines_of, joined_lines, line_places, hint_places, HasFunctionLines}
 use Rattle.wasmprinter_spec.specs.Meaning.{Run}
-use Rattle.wasmprinter_spec.specs.Options.{Options, in_colours}
+use Rattle.wasmprinter_spec.specs.Options.{Options, in_colors}
 use Rattle.wasmprinter_spec.specs.Layout.{layout}
 use Rattle.wasmprinter_spec.proofs.Texts.{alike_texts}
 use Rattle.wasmprinter_places.proofs.Starts.{lines_join}
@@ -142,7 +142,7 @@ alike_entries k l e = sym (entries-atoms 0 k) ∙ ap (λ (c : List Call). entrie
 pub printed_over : (o : Options) (bytes : List ℕ) (old new : Copier) → IsFresh old → Printed copied_meaning false o bytes old new →
     HasLinesOver o bytes old.out.now new.out.now old.lines.now new.lines.now new.written new.count
 printed_over o bytes old new fresh v =
-    let by : Options = in_colours o false in
+    let by : Options = in_colors o false in
     let own : IsPlainly o v.calls v.placed = plainly_printed copied_meaning o claims_never bytes old new v in
     let laid : List Call = layout by no_claims v.placed in
     let has : HasCopied old (text_of v.calls) (entries 0 v.calls) new = run_copied old new v.calls fresh v.run in

@@ -7,9 +7,9 @@ use Rattle.wasmprinter_spec.specs.Binary.{Spells}
 use Rattle.wasmprinter_spec.specs.Placed.{PlacedModule}
 use Rattle.wasmprinter_spec.specs.Limits.{IsWithinLimits}
 use Rattle.wasmprinter_spec.specs.Call.{Call, IsUnclaimed, atoms, text_of}
-use Rattle.wasmprinter_spec.specs.Options.{Options, Answers, defaults, in_colours}
+use Rattle.wasmprinter_spec.specs.Options.{Options, Answers, defaults, in_colors}
 use Rattle.wasmprinter_spec.specs.Layout.{layout, refusal}
-use Rattle.wasmprinter.specs.Outcome.{HasPrintReason, print_reasons, causes, AnyIsUnknown, MayGrow, IsTrueOf, WhilePrinting}
+use Rattle.wasmprinter.specs.Outcome.{HasPrintReason, print_reasons, causes, AnyIsUnknown, MayGrow, IsSoundRefusal, WhilePrinting}
 use Rattle.wasmprinter_c.specs.Over.{over}
 
 -- The number of an error.
@@ -50,9 +50,9 @@ pub record IsTooLong (o : Options) (bytes : List ℕ) : Type 0 where
   pub spelled : Spells bytes placed
   pub within : IsWithinLimits placed
   pub answers : Answers
-  pub long : 2 ^ 64 ≤ length (text_of (layout (in_colours o false) answers placed))
+  pub long : 2 ^ 64 ≤ length (text_of (layout (in_colors o false) answers placed))
 
--- If the bytes encode a module, the error has one of the causes of `HasCause`. The printer fails only if the text
+-- If the bytes encode a module, the error has one of the causes of `HasListedCause`. The printer fails only if the text
 -- is too long. An allocation may also fail for a copy of the indent.
 abbrev pub HasBufferCause : Options → List ℕ → Error → Type 0
 HasBufferCause o bytes e =
@@ -63,7 +63,7 @@ HasBufferCause o bytes e =
 -- The error is true of the bytes, as for `Config::print`, or the indent was not copied because an allocation
 -- failed.
 abbrev pub IsTrueOrUncopied : Options → List ℕ → Error → Type 0
-IsTrueOrUncopied o bytes e = IsTrueOf o bytes e ⊎ ((e ≡ Memory) × IsCopied o.indent)
+IsTrueOrUncopied o bytes e = IsSoundRefusal o bytes e ⊎ ((e ≡ Memory) × IsCopied o.indent)
 
 -- The text of calls that are a prefix of a layout, however text is split, was written over the buffer. The calls
 -- claim no custom section.
@@ -77,7 +77,7 @@ pub record HoldsPrefix (layout : List Call) (old new : List ℕ) : Type 0 where
 -- The module that the bytes encode was being printed. The buffer holds a prefix of the text of its layout.
 abbrev pub HoldsPrefixOf : Options → List ℕ → List ℕ → List ℕ → Type 0
 HoldsPrefixOf o bytes old new =
-    WhilePrinting o bytes (λ placed answers. HoldsPrefix (layout (in_colours o false) answers placed) old new)
+    WhilePrinting o bytes (λ placed answers. HoldsPrefix (layout (in_colors o false) answers placed) old new)
 
 -- The layout ends at a `dylink.0` section because of its subsection with this id, and no custom section is claimed
 -- in it. All of its text was written over the buffer.
@@ -90,7 +90,7 @@ pub record HoldsTextBefore (id : ℕ) (o : Options) (old new : List ℕ) (placed
 -- unchanged. After an unknown subsection of a `dylink.0` section, it holds the text before that section. If the
 -- text is too long, or an allocation failed while operators were folded, it holds a prefix of the text.
 abbrev pub LeavesBuffer : Options → List ℕ → Error → List ℕ → List ℕ → Type 0
-LeavesBuffer o bytes (DylinkSubsection id) old new = WhilePrinting o bytes (HoldsTextBefore id (in_colours o false) old new)
+LeavesBuffer o bytes (DylinkSubsection id) old new = WhilePrinting o bytes (HoldsTextBefore id (in_colors o false) old new)
 LeavesBuffer o bytes (Printer e) old new = HoldsPrefixOf o bytes old new
 LeavesBuffer o bytes Memory old new = (new ≡ old) ⊎ ((o.folds ≡ true) × HoldsPrefixOf o bytes old new)
 LeavesBuffer o bytes e old new = new ≡ old

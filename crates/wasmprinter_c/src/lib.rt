@@ -7,7 +7,7 @@
 ghost use Rattle.std.specs.Prelude.{◌≡◌, ◌↔◌, IsTrue, OnOk, OnErr, IfOk, IfErr, IsErrOf, codes, length};
 ghost use Rattle.std.specs.Str.{IsUtf8};
 ghost use Rattle.wasmprinter_spec.specs.Binary.{IsComponent};
-ghost use Rattle.wasmprinter.specs.Outcome.{IsTrueOf};
+ghost use Rattle.wasmprinter.specs.Outcome.{IsSoundRefusal};
 ghost use Rattle.wasmprinter_c.specs.Over.{over};
 ghost use Rattle.wasmprinter_c.specs.Messages.{message};
 ghost use Rattle.wasmprinter_c.specs.Printing.{chosen, HasTextOver, HasLinesOver};
@@ -119,7 +119,7 @@ fn print_to(
     ensures printed { OnOk result (HasLinesOver config.now wasm.now copier.old.out.now copier.new.out.now
         copier.old.lines.now copier.new.lines.now copier.new.written copier.new.count) }
     ensures caused { IfErr result (HasBufferCause config.now wasm.now) }
-    ensures refused { IfErr result (IsTrueOf config.now wasm.now) }
+    ensures refused { IfErr result (IsSoundRefusal config.now wasm.now) }
     ensures left { IfErr result (λ e. LeavesBuffer config.now wasm.now e copier.old.out.now copier.new.out.now) }
     ensures component { IsErrOf result Error.Component ↔ IsComponent wasm.now }
 {
@@ -137,7 +137,7 @@ fn print_over(
 ) -> Result<Extent, Error>
     ensures printed { IfOk result (λ x. HasLinesOver config.now wasm.now out.old out.new lines.old lines.new x.length x.count) }
     ensures caused { IfErr result (HasBufferCause config.now wasm.now) }
-    ensures refused { IfErr result (IsTrueOf config.now wasm.now) }
+    ensures refused { IfErr result (IsSoundRefusal config.now wasm.now) }
     ensures left { IfErr result (λ e. LeavesBuffer config.now wasm.now e out.old out.new) }
     ensures component { IsErrOf result Error.Component ↔ IsComponent wasm.now }
 {

@@ -51,11 +51,11 @@ flags_are_bits : AreBits flag_words
 unfolding AreBits
 flags_are_bits = (bit 0, (bit 1, (bit 2, (bit 4, (bit 5, (bit 6, (bit 7, (bit 8, (bit 9, tt)))))))))
 
-bits_behind : (i : ℕ) (rows : List (ℕ × List ℕ)) → AreBits rows → AreBits (drop i rows)
+bits_after : (i : ℕ) (rows : List (ℕ × List ℕ)) → AreBits rows → AreBits (drop i rows)
 unfolding AreBits
-bits_behind zero rows h = h
-bits_behind (suc i) [] h = h
-bits_behind (suc i) (row ∷ rows) h = bits_behind i rows h.1
+bits_after zero rows h = h
+bits_after (suc i) [] h = h
+bits_after (suc i) (row ∷ rows) h = bits_after i rows h.1
 
 first_is_bit : (rows rest : List (ℕ × List ℕ)) (row : ℕ × List ℕ) → rows ≡ row ∷ rest → AreBits rows → IsBit row.0
 unfolding AreBits
@@ -90,7 +90,7 @@ module _ {X : Type 0} (shown : X → ℕ × List ℕ) (items : List X) (all : ma
       (drop_more (map shown items) i (shown d) short ∙ ap (λ (row : ℕ × List ℕ). row ∷ drop (i + 1) (map shown items)) (get_or-map shown items i d (shown d) lt))
 
   pub row_is_bit : IsBit (shown item).0
-  row_is_bit = first_is_bit (drop i flag_words) (drop (i + 1) flag_words) (shown item) row_there (bits_behind i flag_words flags_are_bits)
+  row_is_bit = first_is_bit (drop i flag_words) (drop (i + 1) flag_words) (shown item) row_there (bits_after i flag_words flags_are_bits)
 
   module _ (rest bits : ℕ) (same : bits ≡ (shown item).0) where
     set : bit_and rest bits ≡ bits → has_flag rest bits ≡ true

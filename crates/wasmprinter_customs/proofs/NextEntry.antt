@@ -4,7 +4,7 @@ use Rattle.std.proofs.Common.{sym}
 use Rattle.wasmprinter_spec.specs.Customs.Hints.{FunctionHints}
 use Rattle.wasmprinter_customs.specs.Entries.{entries_left}
 
-pub next_is_first : (next : Option FunctionHints) (had behind : List FunctionHints) →
-    MatchOption next ((had ≡ []) × (behind ≡ [])) (λ x. had ≡ x ∷ behind) → entries_left next behind ≡ had
-next_is_first None had behind h = sym h.0
-next_is_first (Some x) had behind h = sym h
+pub next_is_first : (next : Option FunctionHints) (had after : List FunctionHints) →
+    MatchOption next ((had ≡ []) × (after ≡ [])) (λ x. had ≡ x ∷ after) → entries_left next after ≡ had
+next_is_first None had after h = sym h.0
+next_is_first (Some x) had after h = sym h

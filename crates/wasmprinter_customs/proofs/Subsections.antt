@@ -4,7 +4,7 @@ use Rattle.std.specs.Prelude.{◌==◌}
 use Rattle.std.proofs.lemmas.Bool.{eqb-true, eqb-false, eq-eqb, ne_eqb}
 use Rattle.std.proofs.lemmas.List.{length-append, nil_from_length}
 use Rattle.wasmprinter_spec.specs.Grammar.{Input}
-use Rattle.wasmprinter_spec.specs.Lenient.{give, read_behind, repeat_at, continue_with}
+use Rattle.wasmprinter_spec.specs.Lenient.{give, read_after, repeat_at, continue_with}
 use Rattle.wasmprinter_spec.specs.Customs.Dylink.{Subsection, subsection, one_subsection, Judged, Whole, Unknown, Faulty, other_of, first_some, first_other, judgement_by, judgement_of}
 use Rattle.wasmprinter_customs.specs.Sound.{subsections_in, IsFaultless}
 
@@ -12,8 +12,8 @@ use Rattle.wasmprinter_customs.specs.Sound.{subsections_in, IsFaultless}
 pub shrinks : (at : Input) (x : Subsection × Input) → subsection.parse at ≡ Some x → length x.1.bytes < length at.bytes
 shrinks at x e =
     let s = subsection.sound at x e in
-    let (begins, (value, kept, (front, behind, joined, id_spelled, spelled))) = s.spelled in
-    omega (arith, ap length s.parts, length-append s.text x.1.bytes, ap length joined, length-append front behind, ap length id_spelled)
+    let (begins, (value, kept, (front, after, joined, id_spelled, spelled))) = s.spelled in
+    omega (arith, ap length s.parts, length-append s.text x.1.bytes, ap length joined, length-append front after, ap length id_spelled)
 
 -- ---- The bound on the number of subsections suffices
 
@@ -27,7 +27,7 @@ abbrev on_from : (Input → List Subsection × Option Input) → Option (Subsect
 on_from k None = ([], None)
 on_from k (Some x) = (x.0 ∷ (k x.1).0, (k x.1).1)
 
-on_by : (k : Input → List Subsection × Option Input) (r : Option (Subsection × Input)) → continue_with one_subsection (read_behind subsection (λ s. give (s ∷ [])) r) k ≡ on_from k r
+on_by : (k : Input → List Subsection × Option Input) (r : Option (Subsection × Input)) → continue_with one_subsection (read_after subsection (λ s. give (s ∷ [])) r) k ≡ on_from k r
 on_by k None = refl
 on_by k (Some x) = refl
 
@@ -69,8 +69,8 @@ abbrev judged_from : (Input → Judged) → Option (Subsection × Input) → Jud
 judged_from k None = Faulty
 judged_from k (Some x) = decided x.0 (other_of x.0.value) (k x.1)
 
-decided_by : (s : Subsection) (ss : List Subsection) (here behind : Option ℕ) (end : Option Input) → judgement_by (s ∷ ss) (first_some here behind) end ≡ decided s here (judgement_by ss behind end)
-decided_by s ss (Some id) behind end = refl
+decided_by : (s : Subsection) (ss : List Subsection) (here after : Option ℕ) (end : Option Input) → judgement_by (s ∷ ss) (first_some here after) end ≡ decided s here (judgement_by ss after end)
+decided_by s ss (Some id) after end = refl
 decided_by s ss None (Some id) end = refl
 decided_by s ss None None (Some at) = refl
 decided_by s ss None None None = refl

@@ -4,5 +4,5 @@ use Rattle.std.specs.Prelude.{List, [], ◌∷◌, Option, Some, None}
 use Rattle.wasmprinter_spec.specs.Customs.Hints.{FunctionHints}
 
 abbrev pub entries_left : Option FunctionHints → List FunctionHints → List FunctionHints
-entries_left None behind = []
-entries_left (Some entry) behind = entry ∷ behind
+entries_left None after = []
+entries_left (Some entry) after = entry ∷ after

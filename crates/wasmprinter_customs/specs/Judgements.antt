@@ -3,8 +3,8 @@ use Rattle.std.specs.Prelude.{◌≡◌, None}
 use Rattle.wasmprinter_spec.specs.Customs.Dylink as d
 use Rattle.wasmprinter_customs.specs.declared.dylink.Found.{Found}
 use Rattle.wasmprinter_customs.specs.declared.dylink.Found.TheVariants as f
-use Rattle.wasmprinter_customs.specs.declared.dylink.Judgement.{Judgement}
-use Rattle.wasmprinter_customs.specs.declared.dylink.Judgement.TheVariants as j
+use Rattle.wasmprinter_customs.specs.declared.dylink.DylinkContents.{DylinkContents}
+use Rattle.wasmprinter_customs.specs.declared.dylink.DylinkContents.TheVariants as j
 
 -- A subsection; only the place and the id if the id is unknown.
 abbrev pub found_view : Found → d.Subsection
@@ -16,7 +16,7 @@ abbrev pub HasKnownId : Found → Type 0
 HasKnownId (f.Known s) = d.other_of s.value ≡ None
 HasKnownId (f.Other place id) = Unit {0}
 
-abbrev pub judgement_view : Judgement → d.Judged
+abbrev pub judgement_view : DylinkContents → d.Judged
 judgement_view (j.Whole ss) = d.Whole ss
 judgement_view (j.Unknown id) = d.Unknown id
 judgement_view j.Faulty = d.Faulty

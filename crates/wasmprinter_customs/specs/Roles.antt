@@ -9,4 +9,4 @@ role_view (r.Producers fields) = d.Listed fields
 role_view (r.Dylink subsections) = d.Linked subsections
 role_view (r.Refused id) = d.Refused id
 role_view r.Raw = d.Raw
-role_view r.Faulted = d.Faulted
+role_view r.Malformed = d.Malformed

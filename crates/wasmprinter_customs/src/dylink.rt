@@ -352,7 +352,7 @@ impl<'a> Iterator for Dylink<'a> {
 
 /// The result of checking a section. The first subsection with an unknown id, or the first error, decides.
 #[derive(Drop)]
-pub(crate) enum Judgement<'a> {
+pub(crate) enum DylinkContents<'a> {
     /// A well-formed section: each subsection has a known id.
     Whole(Dylink<'a>),
     /// The first unknown id, with no error before it.
@@ -361,7 +361,7 @@ pub(crate) enum Judgement<'a> {
     Faulty,
 }
 
-impl<'a> Judgement<'a> {
+impl<'a> DylinkContents<'a> {
     /// Checks the content of a section after its name.
     pub(crate) fn of(section: Cursor<'a>) -> Self
         ensures { judgement_view result ≡ judgement_of section.entry }
@@ -369,12 +369,12 @@ impl<'a> Judgement<'a> {
         let mut cursor = section.fork();
         'subsections: while !cursor.is_empty() {
             let Ok(found) = Found::read(&mut cursor) else {
-                return Judgement::Faulty;
+                return DylinkContents::Faulty;
             };
             if let Found::Other { id, .. } = found {
-                return Judgement::Unknown(id);
+                return DylinkContents::Unknown(id);
             }
         }
-        Judgement::Whole(Dylink { cursor: section })
+        DylinkContents::Whole(Dylink { cursor: section })
     }
 }

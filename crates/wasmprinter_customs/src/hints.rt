@@ -2,14 +2,14 @@
 ghost use Rattle.std.specs.Prelude.{◌≡◌, ◌+◌, ◌<◌, ◌^◌, [], length, codes, bytes_eq};
 ghost use Rattle.wasmprinter_spec.specs.Grammar.{value_with_place};
 ghost use Rattle.wasmprinter_spec.specs.Customs.Hints.{hint as hint_grammar, flag, function_hints, hint_section, hints_given};
-ghost use Rattle.wasmprinter_spec.specs.Customs.Hints.{next_hints, hints_behind, next_hint, hint_behind};
+ghost use Rattle.wasmprinter_spec.specs.Customs.Hints.{next_hints, hints_after, next_hint, hint_after};
 ghost use Rattle.wasmprinter_spec.specs.FirstByte.{only};
 ghost use Rattle.wasmprinter_bytes.specs.Reads.{Reads, IsWithin, end_of};
 
 use crate::items::{ItemsIn, ReadFrom};
 use std::marker::Model;
 use wasmprinter_bytes::bytes::Cursor;
-use wasmprinter_bytes::lists::{Items, Spelled, no_items, read_items};
+use wasmprinter_bytes::lists::{Decode, Items, no_items, read_items};
 use wasmprinter_error::Malformed;
 
 /// The name of sections with branch hints. If there are several, the last one counts.
@@ -74,7 +74,7 @@ fn flag_of(byte: u8) -> Option<bool>
     }
 }
 
-impl Spelled for Hint {
+impl Decode for Hint {
     ghost parse = { (value_with_place hint_grammar).parse };
 
     fn read(cursor: &mut Cursor) -> Result<Hint, Malformed> {
@@ -138,12 +138,12 @@ impl<'a> FunctionHints<'a> {
     /// Takes the next hint if its operator is `offset` bytes after the first byte of the body.
     pub fn next_at(&mut self, offset: u64) -> Option<Hint>
         ensures gives { result ≡ next_hint offset self.old }
-        ensures behind { self.new ≡ hint_behind offset self.old }
+        ensures after { self.new ≡ hint_after offset self.old }
     {
-        let mut behind = self.hints.iter();
-        match behind.next() {
+        let mut after = self.hints.iter();
+        match after.next() {
             Some(hint) if u64::from(hint.offset) == offset => {
-                self.hints = behind;
+                self.hints = after;
                 Some(hint)
             }
             _ => None,
@@ -199,7 +199,7 @@ fn read_entries<'a>(section: Cursor<'a>) -> Option<ItemsIn<Entry<'a>>>
 pub struct Hints<'a> {
     /// The next entry, kept so that it is read only once.
     next: Option<Entry<'a>>,
-    behind: ItemsIn<Entry<'a>>,
+    after: ItemsIn<Entry<'a>>,
 }
 
 impl<'a> Model for Hints<'a> {
@@ -209,7 +209,7 @@ impl<'a> Model for Hints<'a> {
 
     ghost Value = { List FunctionHintsValue };
 
-    ghost view = { λ h. entries_left h.next h.behind };
+    ghost view = { λ h. entries_left h.next h.after };
 }
 
 impl<'a> Hints<'a> {
@@ -219,7 +219,7 @@ impl<'a> Hints<'a> {
     {
         Hints {
             next: None,
-            behind: ItemsIn::none(Cursor::new(0, &[])),
+            after: ItemsIn::none(Cursor::new(0, &[])),
         }
     }
 
@@ -228,9 +228,9 @@ impl<'a> Hints<'a> {
     fn of(entries: ItemsIn<Entry<'a>>) -> Self
         ensures { result ≡ entries.entry }
     {
-        let mut behind = entries;
-        let next = behind.next();
-        Hints { next, behind }
+        let mut after = entries;
+        let next = after.next();
+        Hints { next, after }
     }
 
     /// Returns the hints of a section, or no hints if the section is malformed. `place` is the place of
@@ -249,12 +249,12 @@ impl<'a> Hints<'a> {
     #[tactic(auto, using(crate::proofs::NextEntry::next_is_first))]
     pub fn next_function(&mut self, number: u64) -> FunctionHints<'a>
         ensures gives { result ≡ next_hints number self.old }
-        ensures behind { self.new ≡ hints_behind number self.old }
+        ensures after { self.new ≡ hints_after number self.old }
     {
         match &self.next {
             Some(entry) if u64::from(entry.function) == number => {
                 let hints = entry.hints.iter();
-                self.next = self.behind.next();
+                self.next = self.after.next();
                 FunctionHints { hints }
             }
             _ => FunctionHints::none(),

@@ -5,7 +5,7 @@ ghost use Rattle.wasmprinter_spec.specs.Grammar.{value_with_place};
 ghost use Rattle.wasmprinter_spec.specs.Customs.Producers.{value as value_grammar, field as field_grammar, producers, are_runs};
 
 use crate::items::{ItemsIn, ReadFrom};
-use crate::runs::is_run;
+use crate::runs::is_id;
 use std::marker::Model;
 use wasmprinter_bytes::bytes::Cursor;
 use wasmprinter_error::Malformed;
@@ -132,7 +132,7 @@ pub(crate) fn are_runs(fields: Producers) -> bool
     ensures { result ≡ are_runs fields.entry }
 {
     for field in fields {
-        if !is_run(field.name()) {
+        if !is_id(field.name()) {
             return false;
         }
     }

@@ -6,7 +6,7 @@ ghost use Rattle.wasmprinter_spec.specs.Customs.Producers.{producers};
 ghost use Rattle.wasmprinter_spec.specs.Customs.Dylink.{judgement_of};
 ghost use Rattle.wasmprinter_customs.specs.Roles.{role_view};
 
-use crate::dylink::{Dylink, Judgement};
+use crate::dylink::{Dylink, DylinkContents};
 use crate::hints::HINT_SECTION;
 use crate::producers::{Producers, are_runs, read_producers};
 use wasmprinter_bytes::bytes::Cursor;
@@ -34,7 +34,7 @@ pub enum CustomRole<'a> {
     /// The section is printed as raw bytes.
     Raw,
     /// The section is printed as raw bytes, after a line that reports its error.
-    Faulted,
+    Malformed,
 }
 
 /// Returns the role of a `producers` section.
@@ -44,7 +44,7 @@ fn producers_role(section: Cursor) -> CustomRole
     match read_producers(section) {
         Some(fields) if are_runs(fields.iter()) => CustomRole::Producers(fields),
         Some(_) => CustomRole::Raw,
-        None => CustomRole::Faulted,
+        None => CustomRole::Malformed,
     }
 }
 
@@ -52,10 +52,10 @@ fn producers_role(section: Cursor) -> CustomRole
 fn dylink_role(section: Cursor) -> CustomRole
     ensures { role_view result ≡ dylink_role (judgement_of section.entry) }
 {
-    match Judgement::of(section) {
-        Judgement::Whole(subsections) => CustomRole::Dylink(subsections),
-        Judgement::Unknown(id) => CustomRole::Refused(id),
-        Judgement::Faulty => CustomRole::Faulted,
+    match DylinkContents::of(section) {
+        DylinkContents::Whole(subsections) => CustomRole::Dylink(subsections),
+        DylinkContents::Unknown(id) => CustomRole::Refused(id),
+        DylinkContents::Faulty => CustomRole::Malformed,
     }
 }
 

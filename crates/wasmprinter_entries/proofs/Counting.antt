@@ -12,9 +12,9 @@ module _ {A : Type 0} (g : Grammar A) (at : Input) (x : List A × Input) (read :
   vec_counted =
       let (listed, parsed, given) = bind_some ((seq u32 (λ n. times g n)).parse at) (λ ((_, xs), rest). Some (xs, rest)) x read in
       let ((front, list), end) = listed in
-      let ((count, after), has_count, behind) =
+      let ((count, after), has_count, remains) =
       bind_some (u32.parse at) (λ n. items_at g.parse n.0 n.1 >>= λ xs. Some ((n.0, xs.0), xs.1)) listed parsed in
-      let (items, has_items, together) = bind_some (items_at g.parse count after) (λ xs. Some ((count, xs.0), xs.1)) listed behind in
+      let (items, has_items, together) = bind_some (items_at g.parse count after) (λ xs. Some ((count, xs.0), xs.1)) listed remains in
       let first : items.0 ≡ list = ap (λ (((_, xs), _) : (ℕ × List A) × Input). xs) (some_is ((count, items.0), items.1) listed together) in
       let made : list ≡ x.0 = ap (λ (y : List A × Input). y.0) (some_is (list, end) x given) in
       let same : count ≡ length x.0 = sym (times_sound g count after items has_items).spelled.0 ∙ ap length (first ∙ made) in

@@ -30,10 +30,10 @@ pub many_in_part : (at part : Input) (t r : List ℕ) (place : ℕ) → at.bytes
 many_in_part at part t r place parts begins m = record {
   before = t ++ m.before;
   text = m.text;
-  behind = m.behind ++ r;
+  after = m.after ++ r;
   parts = parts ∙ ap (λ (bs : List ℕ). t ++ (bs ++ r)) m.parts
-      ∙ ap (λ (bs : List ℕ). t ++ bs) (append_assoc m.before (m.text ++ m.behind) r ∙ ap (λ (bs : List ℕ). m.before ++ bs) (append_assoc m.text m.behind r))
-      ∙ sym (append_assoc t m.before (m.text ++ (m.behind ++ r)));
+      ∙ ap (λ (bs : List ℕ). t ++ bs) (append_assoc m.before (m.text ++ m.after) r ∙ ap (λ (bs : List ℕ). m.before ++ bs) (append_assoc m.text m.after r))
+      ∙ sym (append_assoc t m.before (m.text ++ (m.after ++ r)));
   starts = omega (arith, m.starts, begins, length-append t m.before);
   locals = m.locals;
   spelled = m.spelled;
@@ -45,10 +45,10 @@ pub empty_in_part : (at part : Input) (t r : List ℕ) (place : ℕ) → at.byte
 empty_in_part at part t r place parts begins h = record {
   before = t ++ h.before;
   text = h.text;
-  behind = h.behind ++ r;
+  after = h.after ++ r;
   parts = parts ∙ ap (λ (bs : List ℕ). t ++ (bs ++ r)) h.parts
-      ∙ ap (λ (bs : List ℕ). t ++ bs) (append_assoc h.before (h.text ++ h.behind) r ∙ ap (λ (bs : List ℕ). h.before ++ bs) (append_assoc h.text h.behind r))
-      ∙ sym (append_assoc t h.before (h.text ++ (h.behind ++ r)));
+      ∙ ap (λ (bs : List ℕ). t ++ bs) (append_assoc h.before (h.text ++ h.after) r ∙ ap (λ (bs : List ℕ). h.before ++ bs) (append_assoc h.text h.after r))
+      ∙ sym (append_assoc t h.before (h.text ++ (h.after ++ r)));
   starts = omega (arith, h.starts, begins, length-append t h.before);
   type = h.type;
   spelled = h.spelled;
@@ -70,8 +70,8 @@ section_later start at kind count l h = record {
   before = l.text ++ h.before;
   size_text = h.size_text;
   count_text = h.count_text;
-  behind = h.behind;
-  parts = l.parts ∙ ap (λ (bs : List ℕ). l.text ++ bs) h.parts ∙ sym (append_assoc l.text h.before (h.id ∷ (h.size_text ++ (h.count_text ++ h.behind))));
+  after = h.after;
+  parts = l.parts ∙ ap (λ (bs : List ℕ). l.text ++ bs) h.parts ∙ sym (append_assoc l.text h.before (h.id ∷ (h.size_text ++ (h.count_text ++ h.after))));
   size = h.size;
   sized = h.sized;
   counted = h.counted;
@@ -86,8 +86,8 @@ pub custom_later : (start at : Input) → IsLater start at → HasCustom at → 
 custom_later start at l h = record {
   before = l.text ++ h.before;
   text = h.text;
-  behind = h.behind;
-  parts = l.parts ∙ ap (λ (bs : List ℕ). l.text ++ bs) h.parts ∙ sym (append_assoc l.text h.before (h.text ++ h.behind));
+  after = h.after;
+  parts = l.parts ∙ ap (λ (bs : List ℕ). l.text ++ bs) h.parts ∙ sym (append_assoc l.text h.before (h.text ++ h.after));
   custom = h.custom;
   spelled = subst (λ (p : ℕ). section.spells p h.text (holds CustomSection h.custom)) (omega (arith, l.begins, length-append l.text h.before)) h.spelled;
 }
@@ -104,7 +104,7 @@ custom_read at after c e =
     record {
       before = [];
       text = s.text;
-      behind = after.bytes;
+      after = after.bytes;
       parts = s.parts;
       custom = c;
       spelled = subst (λ (p : ℕ). section.spells p s.text (holds CustomSection c)) (omega arith) s.spelled;

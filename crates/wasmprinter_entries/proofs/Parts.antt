@@ -49,8 +49,8 @@ module _ (old mid part new : Input) (size : ℕ) (size_read : u32.parse old ≡ 
   -- The part ends no later than the whole.
   pub part_within : end_of part ≤ end_of old
   part_within =
-      let (text, split, behind, spelled) = old_parts in
-      omega (arith, ap length split, behind, length-append text (part.bytes ++ new.bytes), length-append part.bytes new.bytes)
+      let (text, split, after, spelled) = old_parts in
+      omega (arith, ap length split, after, length-append text (part.bytes ++ new.bytes), length-append part.bytes new.bytes)
 
   module _ {A : Type 0} (w : Remainder A) where
     -- A size, and a value of that many bytes.
@@ -66,11 +66,11 @@ module _ (old mid part new : Input) (size : ℕ) (size_read : u32.parse old ≡ 
     cut_out r = r >>= λ a. Some (a, new)
 
     -- The value that was read, with its size.
-    abbrev behind_size : Option (A × Input) → Option ((ℕ × A) × Input)
-    behind_size r = r >>= λ b. Some ((size, b.0), b.1)
+    abbrev after_size : Option (A × Input) → Option ((ℕ × A) × Input)
+    after_size r = r >>= λ b. Some ((size, b.0), b.1)
 
     -- Adding the size after the position gives the same result as adding both at once.
-    regroup : (r : Option A) → behind_size (cut_out r) ≡ with_size r
+    regroup : (r : Option A) → after_size (cut_out r) ≡ with_size r
     regroup None = refl
     regroup (Some a) = refl
 

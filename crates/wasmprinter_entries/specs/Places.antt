@@ -20,4 +20,4 @@ section_kind_view k.Code = CodeSection
 section_kind_view k.Data = DataSection
 
 abbrev pub place_view : Option SectionKind → Option Kind
-place_view behind = option_map section_kind_view behind
+place_view after = option_map section_kind_view after

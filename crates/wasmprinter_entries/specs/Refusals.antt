@@ -15,8 +15,8 @@ use Rattle.wasmprinter_spec.specs.Limits.{local_count, most_locals, HasNoEmptyIn
 pub record HasManyLocals (at : Input) (place : ℕ) : Type 0 where
   pub before : List ℕ
   pub text : List ℕ
-  pub behind : List ℕ
-  pub parts : at.bytes ≡ before ++ (text ++ behind)
+  pub after : List ℕ
+  pub parts : at.bytes ≡ before ++ (text ++ after)
   pub starts : place ≡ at.place + length before
   pub locals : List (Placed LocalEntry)
   pub spelled : (vec (value_with_place local_entry)).spells place text locals
@@ -29,8 +29,8 @@ pub record BeginsSection (at : Input) (kind : Kind) (count : ℕ) : Type 0 where
   pub of_kind : kind_of id ≡ Some kind
   pub size_text : List ℕ
   pub count_text : List ℕ
-  pub behind : List ℕ
-  pub parts : at.bytes ≡ before ++ id ∷ (size_text ++ (count_text ++ behind))
+  pub after : List ℕ
+  pub parts : at.bytes ≡ before ++ id ∷ (size_text ++ (count_text ++ after))
   pub size : ℕ
   pub sized : u32.spells (at.place + length before + 1) size_text size
   pub counted : u32.spells (at.place + length before + 1 + length size_text) count_text count
@@ -64,8 +64,8 @@ pub record BeginsItems (at : Input) : Type 0 where
 pub record HasCustom (at : Input) : Type 0 where
   pub before : List ℕ
   pub text : List ℕ
-  pub behind : List ℕ
-  pub parts : at.bytes ≡ before ++ (text ++ behind)
+  pub after : List ℕ
+  pub parts : at.bytes ≡ before ++ (text ++ after)
   pub custom : Placed Custom
   pub spelled : section.spells (at.place + length before) text (holds CustomSection custom)
 
@@ -86,8 +86,8 @@ AnyIsOver place (b ∷ bs) = IsOver place b ⊎ AnyIsOver place bs
 pub record HasEmptyInit (at : Input) (place : ℕ) : Type 0 where
   pub before : List ℕ
   pub text : List ℕ
-  pub behind : List ℕ
-  pub parts : at.bytes ≡ before ++ (text ++ behind)
+  pub after : List ℕ
+  pub parts : at.bytes ≡ before ++ (text ++ after)
   pub starts : place ≡ at.place + length before
   pub type : TableType
   pub spelled : table.spells place text (table_of type (Some []))

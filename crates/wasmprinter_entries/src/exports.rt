@@ -11,7 +11,7 @@ use crate::expected::expect_end;
 use std::alloc::Global;
 use std::marker::Model;
 use wasmprinter_bytes::bytes::Cursor;
-use wasmprinter_bytes::lists::{SpelledIn, read_list};
+use wasmprinter_bytes::lists::{DecodeIn, read_list};
 use wasmprinter_error::{Error, Malformed};
 
 /// The kinds of items that a module can import and export (section 2.3, "External Types").
@@ -75,7 +75,7 @@ impl<'a> Model for Export<'a> {
     ghost view = { λ e. record { place = e.place; value = record { name = e.name.now; kind = kind_view e.kind; index = e.index } } };
 }
 
-impl<'a> SpelledIn<'a> for Export<'a> {
+impl<'a> DecodeIn<'a> for Export<'a> {
     ghost parse = { (value_with_place export).parse };
 
     fn read(cursor: &mut Cursor<'a>) -> Result<Export<'a>, Malformed> {

@@ -16,7 +16,7 @@ use crate::tags::read_tag_type;
 use std::alloc::Global;
 use std::marker::Model;
 use wasmprinter_bytes::bytes::Cursor;
-use wasmprinter_bytes::lists::{SpelledIn, read_list};
+use wasmprinter_bytes::lists::{DecodeIn, read_list};
 use wasmprinter_error::{Error, Malformed};
 
 /// The type of an import (section 2.3, "External Types").
@@ -88,7 +88,7 @@ impl<'a> Model for Import<'a> {
     ghost invariant = { λ i. HasPage i.ty };
 }
 
-impl<'a> SpelledIn<'a> for Import<'a> {
+impl<'a> DecodeIn<'a> for Import<'a> {
     ghost parse = { (value_with_place import_grammar).parse };
 
     fn read(cursor: &mut Cursor<'a>) -> Result<Import<'a>, Malformed> {

@@ -13,7 +13,7 @@ use crate::limits::{Limits, MAX_BIT, WIDE_BIT};
 use std::alloc::Global;
 use std::marker::Model;
 use wasmprinter_bytes::bytes::Cursor;
-use wasmprinter_bytes::lists::{SpelledIn, read_list};
+use wasmprinter_bytes::lists::{DecodeIn, read_list};
 use wasmprinter_error::{Error, Malformed};
 
 /// The flags are below this.
@@ -100,7 +100,7 @@ impl MemoryType {
     }
 }
 
-impl<'a> SpelledIn<'a> for Memory {
+impl<'a> DecodeIn<'a> for Memory {
     ghost parse = { (value_with_place memory_type_grammar).parse };
 
     fn read(cursor: &mut Cursor<'a>) -> Result<Memory, Malformed> {

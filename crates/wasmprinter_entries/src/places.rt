@@ -36,7 +36,7 @@ pub enum SectionKind {
 #[derive(Drop)]
 pub struct CustomEntry<'a> {
     /// The section that it follows, or `None` at the start of the module.
-    pub behind: Option<SectionKind>,
+    pub after: Option<SectionKind>,
     /// The custom section.
     pub section: Custom<'a>,
 }
@@ -47,5 +47,5 @@ impl<'a> Model for CustomEntry<'a> {
 
     ghost Value = { CustomEntryValue };
 
-    ghost view = { λ e. custom_entry (place_view e.behind) e.section };
+    ghost view = { λ e. custom_entry (place_view e.after) e.section };
 }

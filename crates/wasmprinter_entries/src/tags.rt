@@ -10,7 +10,7 @@ use crate::expected::{expect_end, read_only};
 use std::alloc::Global;
 use std::marker::Model;
 use wasmprinter_bytes::bytes::Cursor;
-use wasmprinter_bytes::lists::{SpelledIn, read_list};
+use wasmprinter_bytes::lists::{DecodeIn, read_list};
 use wasmprinter_error::{Error, Malformed};
 
 /// The byte before the type index of a tag: the tag is that of an exception.
@@ -42,7 +42,7 @@ pub(crate) fn read_tag_type(cursor: &mut Cursor) -> Result<u32, Malformed>
     cursor.u32()
 }
 
-impl<'a> SpelledIn<'a> for Tag {
+impl<'a> DecodeIn<'a> for Tag {
     ghost parse = { (value_with_place tag_grammar).parse };
 
     fn read(cursor: &mut Cursor<'a>) -> Result<Tag, Malformed> {

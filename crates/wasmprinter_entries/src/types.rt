@@ -11,7 +11,7 @@ use crate::expected::expect_end;
 use std::alloc::{AllocError, Global};
 use std::marker::Model;
 use wasmprinter_bytes::bytes::Cursor;
-use wasmprinter_bytes::lists::{SpelledIn, read_list};
+use wasmprinter_bytes::lists::{DecodeIn, read_list};
 use wasmprinter_error::{Error, Malformed};
 use wasmprinter_types::composite::{CompositeType, FuncType, SubType, SubTypes};
 
@@ -38,7 +38,7 @@ impl<'a> Model for TypeGroup<'a> {
     ghost invariant = { λ g. g.is_written ≡ true → g.place + 2 < 2 ^ 64 };
 }
 
-impl<'a> SpelledIn<'a> for TypeGroup<'a> {
+impl<'a> DecodeIn<'a> for TypeGroup<'a> {
     ghost parse = { (value_with_place group_grammar).parse };
 
     fn read(cursor: &mut Cursor<'a>) -> Result<TypeGroup<'a>, Malformed> {

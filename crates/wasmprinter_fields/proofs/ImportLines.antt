@@ -8,7 +8,7 @@ use Rattle.wasmprinter_spec.specs.Types.{ExternType, FuncExtern, TableExtern, Me
 use Rattle.wasmprinter_spec.specs.Placed.{Import}
 use Rattle.wasmprinter_spec.specs.Piece.{Piece, Break}
 use Rattle.wasmprinter_spec.specs.Layout.Declarations.{Scope}
-use Rattle.wasmprinter_spec.specs.Layout.Imports.{Numbers, number_of, numbers_behind, extern_pieces, import_pieces, imports_pieces, extern_parts, import_parts}
+use Rattle.wasmprinter_spec.specs.Layout.Imports.{Numbers, number_of, numbers_after, extern_pieces, import_pieces, imports_pieces, extern_parts, import_parts}
 use Rattle.wasmprinter_spec.specs.Layout.Exports.{kind_word}
 use Rattle.wasmprinter_spec.specs.Layout.Groups.{line_group_gap}
 use Rattle.wasmprinter_entries.specs.Externs.{kind_of_type}
@@ -31,24 +31,24 @@ import-line s n i = ap (λ (ps : List Piece). Break (Some i.place) 1 ∷ ps) (sy
 
 -- The pieces after the first k imports are those of import k and those of the imports after it.
 pub imports-next : (s : Scope) (n : Numbers) (k : ℕ) (is : List (Placed Import)) (i d : Placed Import) → k < length is → i ≡ get_or is k d →
-    imports_pieces s n (drop k is) ≡ import_line s (number_of i.value.type n) i ++ imports_pieces s (numbers_behind i.value.type n) (drop (k + 1) is)
+    imports_pieces s n (drop k is) ≡ import_line s (number_of i.value.type n) i ++ imports_pieces s (numbers_after i.value.type n) (drop (k + 1) is)
 unfolding imports_pieces import_pieces
 imports-next s n k is i d lt e =
     at_drop_more (imports_pieces s n) is k d lt
-    ∙ ap (λ (x : Placed Import). import_pieces s (number_of x.value.type n) x ++ imports_pieces s (numbers_behind x.value.type n) (drop (k + 1) is)) (sym e)
-    ∙ ap (λ (ps : List Piece). ps ++ imports_pieces s (numbers_behind i.value.type n) (drop (k + 1) is)) (import-line s (number_of i.value.type n) i)
+    ∙ ap (λ (x : Placed Import). import_pieces s (number_of x.value.type n) x ++ imports_pieces s (numbers_after x.value.type n) (drop (k + 1) is)) (sym e)
+    ∙ ap (λ (ps : List Piece). ps ++ imports_pieces s (numbers_after i.value.type n) (drop (k + 1) is)) (import-line s (number_of i.value.type n) i)
 
 -- The number of preceding imports of all kinds.
 abbrev pub total : Numbers → ℕ
 total n = n.functions + (n.tables + (n.memories + (n.globals + n.tags)))
 
 -- Counting an import increases that number by one.
-pub total-behind : (t : ExternType) (n : Numbers) → total (numbers_behind t n) ≡ total n + 1
-total-behind (FuncExtern i) n = omega arith
-total-behind (TableExtern t) n = omega arith
-total-behind (MemoryExtern t) n = omega arith
-total-behind (GlobalExtern t) n = omega arith
-total-behind (TagExtern i) n = omega arith
+pub total-after : (t : ExternType) (n : Numbers) → total (numbers_after t n) ≡ total n + 1
+total-after (FuncExtern i) n = omega arith
+total-after (TableExtern t) n = omega arith
+total-after (MemoryExtern t) n = omega arith
+total-after (GlobalExtern t) n = omega arith
+total-after (TagExtern i) n = omega arith
 
 -- The number of preceding imports of one kind is at most that number.
 pub number-total : (t : ExternType) (n : Numbers) → number_of t n ≤ total n

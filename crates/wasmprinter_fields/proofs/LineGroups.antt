@@ -14,7 +14,7 @@ use Rattle.wasmprinter_print.specs.PrintsLaws.{both_pieces, pieces_end}
 pub group_closes : {P : Type 0} (m : Meaning P) {o : Options} {a s t u : P} {r : Ending} (w : List ℕ) (ps : List Piece) →
     Written m o a s Through (OpenGap w ∷ []) → Written m o s t Through ps → Written m o t u r (Shut ∷ []) → Written m o a u r (line_group_gap w ps)
 unfolding line_group_gap
-group_closes m w ps opened written shut = both_pieces m opened (both_pieces m written shut)
+group_closes m w ps opened written write_close_paren = both_pieces m opened (both_pieces m written write_close_paren)
 
 -- If a call failed in the contents, it failed in the group.
 pub group_breaks : {P U : Type 0} (m : Meaning P) {o : Options} {a s t : P} (r : Result U IoError) {e : IoError} (w : List ℕ) (ps : List Piece) →

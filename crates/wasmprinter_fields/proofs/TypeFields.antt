@@ -60,12 +60,12 @@ unfolding type_section_pieces
 groups-none names i k gs le = ap (type_section_pieces names i) (drop_of_length-le gs le)
 
 -- The number of types after the first k groups.
-abbrev pub types_behind : ℕ → List (Placed TypeGroup) → ℕ
-types_behind k gs = length (all_types (groups_of (drop k gs)))
+abbrev pub types_after : ℕ → List (Placed TypeGroup) → ℕ
+types_after k gs = length (all_types (groups_of (drop k gs)))
 
 -- That number is the sum of those in group k and in the groups after it.
-pub behind-next : (k : ℕ) (gs : List (Placed TypeGroup)) (g d : Placed TypeGroup) → k < length gs → g ≡ get_or gs k d →
-    types_behind k gs ≡ length g.value.types + types_behind (k + 1) gs
-behind-next k gs g d lt is =
+pub after-next : (k : ℕ) (gs : List (Placed TypeGroup)) (g d : Placed TypeGroup) → k < length gs → g ≡ get_or gs k d →
+    types_after k gs ≡ length g.value.types + types_after (k + 1) gs
+after-next k gs g d lt is =
     at_drop_more (λ xs. length (all_types (groups_of xs))) gs k d lt ∙ length-append (get_or gs k d).value.types (all_types (groups_of (drop (k + 1) gs)))
-    ∙ ap (λ (x : Placed TypeGroup). length x.value.types + types_behind (k + 1) gs) (sym is)
+    ∙ ap (λ (x : Placed TypeGroup). length x.value.types + types_after (k + 1) gs) (sym is)

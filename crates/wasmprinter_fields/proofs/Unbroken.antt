@@ -17,7 +17,7 @@ use Rattle.wasmprinter_spec.specs.Layout.DataSegments.{named_memory, data_mode_p
 use Rattle.wasmprinter_spec.specs.Layout.ValTypes.{ref_pieces}
 use Rattle.wasmprinter_spec.proofs.OneLine.{stays_unbroken, both_stay, then_stay, line_group_gap_stays, ref_stays}
 use Rattle.wasmprinter_places.proofs.FieldLines.{header_stays, item_stays, declared_stays, table_type_stays, memory_type_stays, global_type_stays, extern_stays, extern_index_stays, named_table_stays, function_items_stay, named_memory_stays, bytes_stay}
-use Rattle.wasmprinter_scope.proofs.Groups.{behind-line, before-line, or-false}
+use Rattle.wasmprinter_scope.proofs.Groups.{after-line, before-line, or-false}
 use Rattle.wasmprinter_lines.proofs.Groups.{has_break-append, or-assoc}
 use Rattle.wasmprinter_spec.specs.Layout.Memories.{declared_memory}
 use Rattle.wasmprinter_spec.specs.Layout.Globals.{declared_global, global_parts}
@@ -64,34 +64,34 @@ last_lines {lines} whole e h = sym (or-false lines) ∙ ap (λ b. lines || b) (s
 pub table-breaks : (s : Scope) (i : ℕ) (t : Table (Placed Operator)) → has_break (table_parts s i t) ≡ has_break (init_pieces s t.init)
 table-breaks s i t =
     ap has_break (table-parts s i t)
-    ∙ behind-line (declared_table s i t.type) (init_pieces s t.init) (stays_unbroken (both_stay (declared_stays s row.Table i) (then_stay refl (table_type_stays s.names t.type))))
+    ∙ after-line (declared_table s i t.type) (init_pieces s t.init) (stays_unbroken (both_stay (declared_stays s row.Table i) (then_stay refl (table_type_stays s.names t.type))))
 
 pub global-breaks : (s : Scope) (i : ℕ) (g : Global (Placed Operator)) → has_break (global_parts s i g) ≡ has_break (constant_pieces s 2 g.init)
 global-breaks s i g =
     ap has_break (global-parts s i g)
-    ∙ behind-line (declared_global s i g.type) (Gap ∷ constant_pieces s 2 g.init) (stays_unbroken (both_stay (declared_stays s row.Global i) (then_stay refl (global_type_stays s.names g.type))))
+    ∙ after-line (declared_global s i g.type) (Gap ∷ constant_pieces s 2 g.init) (stays_unbroken (both_stay (declared_stays s row.Global i) (then_stay refl (global_type_stays s.names g.type))))
 
 -- A line begins in the mode of an element segment exactly if one begins in its offset.
 pub offset-breaks : (s : Scope) (names : Bool) (t : ℕ) (ps : List Piece) → has_break (named_table s names t ++ (Gap ∷ ps)) ≡ has_break ps
-offset-breaks s names t ps = behind-line (named_table s names t) (Gap ∷ ps) (stays_unbroken (named_table_stays s names t))
+offset-breaks s names t ps = after-line (named_table s names t) (Gap ∷ ps) (stays_unbroken (named_table_stays s names t))
 
 pub functions-unbroken : (s : Scope) (is : List ℕ) → has_break (function_items s is) ≡ false
 functions-unbroken s is = stays_unbroken (function_items_stay s is)
 
 pub items-break : (s : Scope) (t : RefType) (ps : List Piece) → has_break (ref_pieces s.names t ++ ps) ≡ has_break ps
-items-break s t ps = behind-line (ref_pieces s.names t) ps (stays_unbroken (ref_stays s.names t))
+items-break s t ps = after-line (ref_pieces s.names t) ps (stays_unbroken (ref_stays s.names t))
 
 -- A line begins in an element segment exactly if one begins in its mode or in its items.
 pub element-breaks : (skeleton : Bool) (s : Scope) (i : ℕ) (e : ElementEntry) →
     has_break (element_parts skeleton s i e) ≡ (has_break (mode_pieces s e.names_table e.element.mode) || has_break (shown_items skeleton s e.element.items))
 element-breaks skeleton s i e =
-    behind-line (item_declaration s row.Elem i) _ (stays_unbroken (declared_stays s row.Elem i))
+    after-line (item_declaration s row.Elem i) _ (stays_unbroken (declared_stays s row.Elem i))
     ∙ has_break-append (mode_pieces s e.names_table e.element.mode) (Gap ∷ shown_items skeleton s e.element.items)
 
 pub data_mode-breaks : (s : Scope) (memory : ℕ) (ps : List Piece) → has_break (named_memory s memory ++ (ps ++ (Gap ∷ []))) ≡ has_break ps
-data_mode-breaks s memory ps = behind-line (named_memory s memory) (ps ++ (Gap ∷ [])) (stays_unbroken (named_memory_stays s memory)) ∙ before-line ps (Gap ∷ []) refl
+data_mode-breaks s memory ps = after-line (named_memory s memory) (ps ++ (Gap ∷ [])) (stays_unbroken (named_memory_stays s memory)) ∙ before-line ps (Gap ∷ []) refl
 
 pub data-breaks : (skeleton : Bool) (s : Scope) (i : ℕ) (d : Data (Placed Operator)) → has_break (data_parts skeleton s i d) ≡ has_break (data_mode_pieces s d.mode)
 data-breaks skeleton s i d =
-    behind-line (item_declaration s row.Data i) _ (stays_unbroken (declared_stays s row.Data i))
+    after-line (item_declaration s row.Data i) _ (stays_unbroken (declared_stays s row.Data i))
     ∙ before-line (data_mode_pieces s d.mode) (shown_bytes skeleton d.bytes) (stays_unbroken (bytes_stay skeleton d.bytes))

@@ -1,7 +1,7 @@
 //! Data segments (section 6.6 of the WebAssembly Core Specification, "Data Segments").
 ghost use Rattle.std.specs.Prelude.{◌≡◌, codes};
 ghost use Rattle.wasmprinter_spec.specs.Layout.DataSegments.{named_memory, data_mode_pieces, data_parts};
-ghost use Rattle.wasmprinter_print.specs.Prints.{PrintsAlways, PrintsOrStops, TellsLines};
+ghost use Rattle.wasmprinter_print.specs.Prints.{PrintsAlways, PrintsOrStops, ReportsLines};
 ghost use Rattle.wasmprinter_segments.specs.Segments.{data_mode_view};
 ghost use Rattle.wasmprinter_scope.specs.Scopes.{scope_view, folds_in};
 
@@ -15,7 +15,7 @@ use wasmprinter_scope::expressions::write_constant_group;
 use wasmprinter_scope::scope::{Scope, write_declaration_in, write_index_group_in};
 use wasmprinter_text::data_strings::write_shown_bytes;
 use wasmprinter_wasm::{Data, DataMode};
-use wasmprinter_words::words::gap;
+use wasmprinter_words::words::write_space;
 
 /// Writes the memory of a segment and a space, or nothing for memory 0.
 fn write_named_memory<P: Print>(p: &mut P, scope: &Scope<'_, '_>, memory: u32) -> io::Result<()>
@@ -25,7 +25,7 @@ fn write_named_memory<P: Print>(p: &mut P, scope: &Scope<'_, '_>, memory: u32) -
         return Ok(());
     }
     write_index_group_in(p, scope, "memory", Space::Memory, memory)?;
-    gap(p)
+    write_space(p)
 }
 
 /// Writes the mode of a segment, followed by a space if the segment is active. Returns whether a line began.
@@ -38,7 +38,7 @@ fn write_data_mode<P: Print>(
 ) -> Result<bool, Error>
     ensures pieces { PrintsOrStops P.meaning options.now p.old p.new (folds_in (scope_view scope.old)) result
         (data_mode_pieces (scope_view scope.old) (data_mode_view mode.now)) }
-    ensures lines { TellsLines result (data_mode_pieces (scope_view scope.old) (data_mode_view mode.now)) }
+    ensures lines { ReportsLines result (data_mode_pieces (scope_view scope.old) (data_mode_view mode.now)) }
     ensures scope { scope_view scope.new ≡ scope_view scope.old }
 {
     match mode {
@@ -46,7 +46,7 @@ fn write_data_mode<P: Print>(
         DataMode::Active { memory, offset } => {
             write_named_memory(p, scope, *memory)?;
             let lines = write_constant_group(p, options, scope, "offset", offset)?;
-            gap(p)?;
+            write_space(p)?;
             Ok(lines)
         }
     }
@@ -75,7 +75,7 @@ impl<'a> Field for Data<'a> {
         number: u64,
     ) -> Result<bool, Error> {
         write_declaration_in(p, scope, Space::Data, number)?;
-        gap(p)?;
+        write_space(p)?;
         let lines = write_data_mode(p, options, scope, self.mode())?;
         write_shown_bytes(p, options, self.bytes())?;
         Ok(lines)

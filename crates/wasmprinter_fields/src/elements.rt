@@ -6,7 +6,7 @@ ghost use Rattle.wasmprinter_spec.specs.Layout.Declarations.{item_index};
 ghost use Rattle.wasmprinter_spec.specs.Layout.Expressions.{constant_group};
 ghost use Rattle.wasmprinter_spec.specs.Layout.Elements.{named_table, mode_pieces, function_items, expression_items};
 ghost use Rattle.wasmprinter_spec.specs.Layout.Elements.{items_pieces, shown_items, element_parts};
-ghost use Rattle.wasmprinter_print.specs.Prints.{PrintsAlways, PrintsOrStops, TellsLines};
+ghost use Rattle.wasmprinter_print.specs.Prints.{PrintsAlways, PrintsOrStops, ReportsLines};
 ghost use Rattle.wasmprinter_segments.specs.Segments.{element_mode_view, element_items_view, constants_of};
 ghost use Rattle.wasmprinter_scope.specs.Scopes.{scope_view, folds_in};
 
@@ -23,7 +23,7 @@ use wasmprinter_scope::scope::{
     Scope, write_declaration_in, write_index_group_in, write_index_in, write_ref_type_in,
 };
 use wasmprinter_wasm::{Element, ElementItems, ElementMode};
-use wasmprinter_words::words::{gap, word};
+use wasmprinter_words::words::{word, write_space};
 
 /// Writes a space and the table of a segment if the bytes name the table.
 fn write_named_table<P: Print>(
@@ -37,7 +37,7 @@ fn write_named_table<P: Print>(
     if !is_named {
         return Ok(());
     }
-    gap(p)?;
+    write_space(p)?;
     write_index_group_in(p, scope, "table", Space::Table, table)
 }
 
@@ -53,19 +53,19 @@ fn write_element_mode<P: Print>(
 ) -> Result<bool, Error>
     ensures pieces { PrintsOrStops P.meaning options.now p.old p.new (folds_in (scope_view scope.old)) result
         (mode_pieces (scope_view scope.old) names_table (element_mode_view mode.now)) }
-    ensures lines { TellsLines result (mode_pieces (scope_view scope.old) names_table (element_mode_view mode.now)) }
+    ensures lines { ReportsLines result (mode_pieces (scope_view scope.old) names_table (element_mode_view mode.now)) }
     ensures scope { scope_view scope.new ≡ scope_view scope.old }
 {
     match mode {
         ElementMode::Passive => Ok(false),
         ElementMode::Declared => {
-            gap(p)?;
+            write_space(p)?;
             word(p, "declare")?;
             Ok(false)
         }
         ElementMode::Active { table, offset } => {
             write_named_table(p, scope, names_table, *table)?;
-            gap(p)?;
+            write_space(p)?;
             write_constant_group(p, options, scope, "offset", offset)
         }
     }
@@ -76,7 +76,7 @@ fn write_function_item<P: Print>(p: &mut P, scope: &Scope<'_, '_>, function: u32
     ensures { PrintsAlways P.meaning p.old p.new result
         (Gap ∷ item_index (scope_view scope.now) row.Func function) }
 {
-    gap(p)?;
+    write_space(p)?;
     write_index_in(p, scope, Space::Func, function)
 }
 
@@ -103,10 +103,10 @@ fn write_expression_item<P: Print>(
 ) -> Result<bool, Error>
     ensures pieces { PrintsOrStops P.meaning options.now p.old p.new (folds_in (scope_view scope.old)) result
         (Gap ∷ constant_group (scope_view scope.old) 2 (codes "item") expression.now.items) }
-    ensures lines { TellsLines result (Gap ∷ constant_group (scope_view scope.old) 2 (codes "item") expression.now.items) }
+    ensures lines { ReportsLines result (Gap ∷ constant_group (scope_view scope.old) 2 (codes "item") expression.now.items) }
     ensures scope { scope_view scope.new ≡ scope_view scope.old }
 {
-    gap(p)?;
+    write_space(p)?;
     write_constant_group(p, options, scope, "item", expression)
 }
 
@@ -119,7 +119,7 @@ fn write_expression_items<P: Print>(
 ) -> Result<bool, Error>
     ensures pieces { PrintsOrStops P.meaning options.now p.old p.new (folds_in (scope_view scope.old)) result
         (expression_items (scope_view scope.old) (constants_of expressions.now)) }
-    ensures lines { TellsLines result (expression_items (scope_view scope.old) (constants_of expressions.now)) }
+    ensures lines { ReportsLines result (expression_items (scope_view scope.old) (constants_of expressions.now)) }
     ensures scope { scope_view scope.new ≡ scope_view scope.old }
 {
     let mut lines = false;
@@ -139,7 +139,7 @@ fn write_items<P: Print>(
 ) -> Result<bool, Error>
     ensures pieces { PrintsOrStops P.meaning options.now p.old p.new (folds_in (scope_view scope.old)) result
         (items_pieces (scope_view scope.old) (element_items_view items.now)) }
-    ensures lines { TellsLines result (items_pieces (scope_view scope.old) (element_items_view items.now)) }
+    ensures lines { ReportsLines result (items_pieces (scope_view scope.old) (element_items_view items.now)) }
     ensures scope { scope_view scope.new ≡ scope_view scope.old }
 {
     match items {
@@ -164,7 +164,7 @@ fn write_shown_items<P: Print>(
 ) -> Result<bool, Error>
     ensures pieces { PrintsOrStops P.meaning options.now p.old p.new (folds_in (scope_view scope.old)) result
         (shown_items options.now.skeleton (scope_view scope.old) (element_items_view items.now)) }
-    ensures lines { TellsLines result (shown_items options.now.skeleton (scope_view scope.old) (element_items_view items.now)) }
+    ensures lines { ReportsLines result (shown_items options.now.skeleton (scope_view scope.old) (element_items_view items.now)) }
     ensures scope { scope_view scope.new ≡ scope_view scope.old }
 {
     if options.skeleton {
@@ -199,7 +199,7 @@ impl<'a> Field for Element<'a> {
     ) -> Result<bool, Error> {
         write_declaration_in(p, scope, Space::Elem, number)?;
         let offset = write_element_mode(p, options, scope, self.names_table(), self.mode())?;
-        gap(p)?;
+        write_space(p)?;
         let items = write_shown_items(p, options, scope, self.items())?;
         Ok(offset | items)
     }

@@ -18,7 +18,7 @@ use wasmprinter_scope::scope::{Scope, write_index_in};
 use wasmprinter_wasm::{Export, ExternKind};
 use wasmprinter_words::numbers::number_word;
 use wasmprinter_words::strings::write_string;
-use wasmprinter_words::words::{gap, open_gap, shut};
+use wasmprinter_words::words::{open_gap, write_close_paren, write_space};
 
 /// Returns the keyword of a kind.
 #[tactic(auto, unfolding(wasmprinter_spec::specs::Layout::Exports::kind_word))]
@@ -77,7 +77,7 @@ fn write_extern<P: Print>(
 {
     open_gap(p, kind_word(kind))?;
     write_extern_index(p, scope, kind, index)?;
-    shut(p)
+    write_close_paren(p)
 }
 
 impl<'a> Field for Export<'a> {
@@ -103,7 +103,7 @@ impl<'a> Field for Export<'a> {
         _number: u64,
     ) -> Result<bool, Error> {
         write_string(p, self.name())?;
-        gap(p)?;
+        write_space(p)?;
         write_extern(p, scope, self.kind(), self.index())?;
         Ok(false)
     }

@@ -1,7 +1,7 @@
 //! Fields of one kind (section 6.6 of the WebAssembly Core Specification), each on a line of its own.
 ghost use Rattle.std.specs.Prelude.{◌≡◌, ◌+◌, ◌<◌, ◌^◌, length};
 ghost use Rattle.wasmprinter_spec.specs.Layout.Groups.{numbered_pieces};
-ghost use Rattle.wasmprinter_print.specs.Prints.{PrintsOrStops, TellsLines};
+ghost use Rattle.wasmprinter_print.specs.Prints.{PrintsOrStops, ReportsLines};
 ghost use Rattle.wasmprinter_scope.specs.Scopes.{scope_view, folds_in};
 ghost use Rattle.wasmprinter_fields.specs.Parts.{field_line};
 
@@ -47,7 +47,7 @@ pub trait Field {
     ) -> Result<bool, Error>
         ensures pieces { PrintsOrStops P.meaning options.now p.old p.new (folds_in (scope_view scope.old)) result
             (parts options.now (scope_view scope.old) number self.now) }
-        ensures lines { TellsLines result (parts options.now (scope_view scope.old) number self.now) }
+        ensures lines { ReportsLines result (parts options.now (scope_view scope.old) number self.now) }
         ensures scope { scope_view scope.new ≡ scope_view scope.old };
 }
 

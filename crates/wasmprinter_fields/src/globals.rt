@@ -16,7 +16,7 @@ use wasmprinter_print::Print;
 use wasmprinter_scope::expressions::write_constant;
 use wasmprinter_scope::scope::{Scope, write_declaration_in, write_val_type_in};
 use wasmprinter_wasm::{Global, GlobalType};
-use wasmprinter_words::words::{gap, open_type_gap, shut};
+use wasmprinter_words::words::{open_type_gap, write_close_paren, write_space};
 
 /// Writes the type of a global, in a group `(mut ..)` if the global is mutable.
 #[tactic(auto, unfolding(wasmprinter_spec::specs::Layout::Globals::global_type_pieces))]
@@ -33,7 +33,7 @@ fn write_global_type<P: Print>(
     }
     open_type_gap(p, "mut")?;
     write_val_type_in(p, scope, global_type.ty)?;
-    shut(p)
+    write_close_paren(p)
 }
 
 /// Writes the declaration of a global, with its type.
@@ -47,7 +47,7 @@ pub(crate) fn write_declared_global<P: Print>(
         (declared_global (scope_view scope.now) number (global_type_view global_type)) }
 {
     write_declaration_in(p, scope, Space::Global, number)?;
-    gap(p)?;
+    write_space(p)?;
     write_global_type(p, scope, global_type)
 }
 
@@ -74,7 +74,7 @@ impl<'a> Field for Global<'a> {
         number: u64,
     ) -> Result<bool, Error> {
         write_declared_global(p, scope, number, self.ty())?;
-        gap(p)?;
+        write_space(p)?;
         write_constant(p, options, scope, self.init())
     }
 }

@@ -1,6 +1,6 @@
 //! Imports (section 6.6 of the WebAssembly Core Specification, "Imports").
 ghost use Rattle.std.specs.Prelude.{◌≡◌, ◌+◌, ◌<◌, ◌^◌, codes, length};
-ghost use Rattle.wasmprinter_spec.specs.Layout.Imports.{number_of, numbers_behind, no_numbers};
+ghost use Rattle.wasmprinter_spec.specs.Layout.Imports.{number_of, numbers_after, no_numbers};
 ghost use Rattle.wasmprinter_spec.specs.Layout.Imports.{extern_pieces, imports_pieces, extern_parts, import_parts};
 ghost use Rattle.wasmprinter_print.specs.Prints.{PrintsAlways, PrintsOrStops};
 ghost use Rattle.wasmprinter_entries.specs.Externs.{extern_view, HasPage};
@@ -20,7 +20,7 @@ use wasmprinter_scope::headers::{write_function_header, write_tag_header};
 use wasmprinter_scope::scope::Scope;
 use wasmprinter_wasm::{ExternType, Import};
 use wasmprinter_words::strings::write_string;
-use wasmprinter_words::words::{gap, open_gap, shut};
+use wasmprinter_words::words::{open_gap, write_close_paren, write_space};
 
 /// The number of preceding imports of each kind.
 #[derive(Drop)]
@@ -76,7 +76,7 @@ impl Numbers {
     /// Counts one more import of this type.
     fn count(&mut self, extern_type: ExternType)
         requires { number_of (extern_view extern_type) self.old + 1 < 2 ^ 64 }
-        ensures { self.new ≡ numbers_behind (extern_view extern_type) self.old }
+        ensures { self.new ≡ numbers_after (extern_view extern_type) self.old }
     {
         match extern_type {
             ExternType::Func(_) => self.functions += 1,
@@ -121,7 +121,7 @@ fn write_extern_type<P: Print>(
 {
     open_gap(p, kind_word(extern_type.kind()))?;
     write_extern_parts(p, scope, number, extern_type)?;
-    shut(p)
+    write_close_paren(p)
 }
 
 impl<'a> Field for Import<'a> {
@@ -147,9 +147,9 @@ impl<'a> Field for Import<'a> {
         number: u64,
     ) -> Result<bool, Error> {
         write_string(p, self.module())?;
-        gap(p)?;
+        write_space(p)?;
         write_string(p, self.name())?;
-        gap(p)?;
+        write_space(p)?;
         write_extern_type(p, scope, number, self.ty())?;
         Ok(false)
     }

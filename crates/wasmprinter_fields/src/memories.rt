@@ -17,7 +17,7 @@ use wasmprinter_print::Print;
 use wasmprinter_scope::scope::{Scope, write_declaration_in};
 use wasmprinter_wasm::{Memory, MemoryType};
 use wasmprinter_words::limits::page_size;
-use wasmprinter_words::words::{gap, gap_type_word, open_gap, shut};
+use wasmprinter_words::words::{gap_type_word, open_gap, write_close_paren, write_space};
 
 /// Writes that a memory is shared, if it is.
 fn write_shared<P: Print>(p: &mut P, shared: bool) -> io::Result<()>
@@ -39,7 +39,7 @@ fn write_page_group<P: Print>(p: &mut P, exponent: u32) -> io::Result<()>
 {
     open_gap(p, "pagesize")?;
     page_size(p, exponent)?;
-    shut(p)
+    write_close_paren(p)
 }
 
 /// Writes a space and the page size, if it is given.
@@ -49,7 +49,7 @@ fn write_page<P: Print>(p: &mut P, page: Option<u32>) -> io::Result<()>
 {
     match page {
         Some(exponent) => {
-            gap(p)?;
+            write_space(p)?;
             write_page_group(p, exponent)
         }
         None => Ok(()),
@@ -81,7 +81,7 @@ pub(crate) fn write_declared_memory<P: Print>(
         (declared_memory (scope_view scope.now) number (memory_type_view memory_type)) }
 {
     write_declaration_in(p, scope, Space::Memory, number)?;
-    gap(p)?;
+    write_space(p)?;
     write_memory_type(p, memory_type)
 }
 

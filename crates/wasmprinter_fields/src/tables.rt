@@ -2,7 +2,7 @@
 //! Types").
 ghost use Rattle.std.specs.Prelude.{◌≡◌, codes};
 ghost use Rattle.wasmprinter_spec.specs.Layout.Tables.{table_type_pieces, init_pieces, declared_table, table_parts};
-ghost use Rattle.wasmprinter_print.specs.Prints.{PrintsAlways, PrintsOrStops, TellsLines};
+ghost use Rattle.wasmprinter_print.specs.Prints.{PrintsAlways, PrintsOrStops, ReportsLines};
 ghost use Rattle.wasmprinter_entries.specs.Externs.{table_type_view};
 ghost use Rattle.wasmprinter_labels.specs.Scan.{names_of};
 ghost use Rattle.wasmprinter_scope.specs.Scopes.{scope_view, folds_in};
@@ -17,7 +17,7 @@ use wasmprinter_print::Print;
 use wasmprinter_scope::expressions::write_constant;
 use wasmprinter_scope::scope::{Scope, write_declaration_in, write_ref_type_in};
 use wasmprinter_wasm::{Table, TableType};
-use wasmprinter_words::words::gap;
+use wasmprinter_words::words::write_space;
 
 /// Writes the type of a table.
 #[tactic(auto, unfolding(wasmprinter_spec::specs::Layout::Tables::table_type_pieces))]
@@ -31,7 +31,7 @@ fn write_table_type<P: Print>(
 {
     write_wide(p, table_type.wide)?;
     write_sizes(p, table_type.limits)?;
-    gap(p)?;
+    write_space(p)?;
     write_ref_type_in(p, scope, table_type.element)
 }
 
@@ -46,7 +46,7 @@ pub(crate) fn write_declared_table<P: Print>(
         (declared_table (scope_view scope.now) number (table_type_view table_type)) }
 {
     write_declaration_in(p, scope, Space::Table, number)?;
-    gap(p)?;
+    write_space(p)?;
     write_table_type(p, scope, table_type)
 }
 
@@ -60,12 +60,12 @@ fn write_init<P: Print>(
 ) -> Result<bool, Error>
     ensures pieces { PrintsOrStops P.meaning options.now p.old p.new (folds_in (scope_view scope.old)) result
         (init_pieces (scope_view scope.old) table.now.value.init) }
-    ensures lines { TellsLines result (init_pieces (scope_view scope.old) table.now.value.init) }
+    ensures lines { ReportsLines result (init_pieces (scope_view scope.old) table.now.value.init) }
     ensures scope { scope_view scope.new ≡ scope_view scope.old }
 {
     match table.init() {
         Some(init) => {
-            gap(p)?;
+            write_space(p)?;
             write_constant(p, options, scope, init)
         }
         None => Ok(false),

@@ -17,7 +17,7 @@ use wasmprinter_print::Print;
 use wasmprinter_scope::scope::{FIELD_NESTING, Scope, write_type_in};
 use wasmprinter_types::composite::SubType;
 use wasmprinter_wasm::TypeGroup;
-use wasmprinter_words::words::{open, shut};
+use wasmprinter_words::words::{open, write_close_paren};
 
 /// The nesting depth of the types of a `rec` group.
 const MEMBER_NESTING: u64 = 2;
@@ -84,7 +84,7 @@ fn close_below<P: Print>(p: &mut P, options: &PrintOptions) -> io::Result<()>
     ensures { Prints P.meaning options.now p.old p.new result (close None 1 true) }
 {
     break_line(p, options, None, FIELD_NESTING)?;
-    shut(p)
+    write_close_paren(p)
 }
 
 /// Closes a `rec` group, on a line of its own if a line began in it.
@@ -94,7 +94,7 @@ fn close_group<P: Print>(p: &mut P, options: &PrintOptions, changed: bool) -> io
     if changed {
         close_below(p, options)
     } else {
-        shut(p)
+        write_close_paren(p)
     }
 }
 
@@ -118,7 +118,7 @@ fn write_rec<P: Print>(
 }
 
 /// Writes a group after the start of its line.
-fn write_group_behind<P: Print>(
+fn write_group_after<P: Print>(
     p: &mut P,
     options: &PrintOptions,
     scope: &Scope<'_, '_>,
@@ -149,7 +149,7 @@ fn write_group<P: Print>(
     ensures { Prints P.meaning options.now p.old p.new result (type_group_pieces (names_of scope.now.labels) first group.now) }
 {
     break_line(p, options, Some(group.place()), FIELD_NESTING)?;
-    write_group_behind(p, options, scope, group, first)
+    write_group_after(p, options, scope, group, first)
 }
 
 /// Writes groups of types. The types of all groups are indexed consecutively.

@@ -1,7 +1,7 @@
 -- The number of open blocks.
 use Rattle.std.specs.Prelude.{◌≡◌, ℕ, suc, ◌-◌, ◌≤◌, List, [], ◌∷◌, length}
 use Rattle.std.proofs.Common.{arith}
-use Rattle.wasmprinter_spec.specs.Row.{Role, Plain, Opens, OpensIf, OpensTry, Turns, Catches, CatchesAll, Delegates, Ends}
+use Rattle.wasmprinter_spec.specs.Row.{Role, Plain, Opens, OpensIf, OpensTry, Else, Catches, CatchesAll, Delegates, Ends}
 use Rattle.wasmprinter_spec.specs.Labels.{Label, labels_after, count_after, labels_outside}
 
 -- An operator opens at most one block.
@@ -10,7 +10,7 @@ after-length Plain x xs = omega arith
 after-length Opens x xs = omega arith
 after-length OpensIf x xs = omega arith
 after-length OpensTry x xs = omega arith
-after-length Turns x xs = omega arith
+after-length Else x xs = omega arith
 after-length Catches x xs = omega arith
 after-length CatchesAll x xs = omega arith
 after-length Delegates x [] = omega arith
@@ -23,7 +23,7 @@ after-count Plain n = omega arith
 after-count Opens n = omega arith
 after-count OpensIf n = omega arith
 after-count OpensTry n = omega arith
-after-count Turns n = omega arith
+after-count Else n = omega arith
 after-count Catches n = omega arith
 after-count CatchesAll n = omega arith
 after-count Delegates n = omega arith
@@ -40,7 +40,7 @@ labels_outside-length Plain xs = omega arith
 labels_outside-length Opens xs = omega arith
 labels_outside-length OpensIf xs = omega arith
 labels_outside-length OpensTry xs = omega arith
-labels_outside-length Turns xs = omega arith
+labels_outside-length Else xs = omega arith
 labels_outside-length Catches xs = omega arith
 labels_outside-length CatchesAll xs = omega arith
 labels_outside-length Delegates [] = omega arith

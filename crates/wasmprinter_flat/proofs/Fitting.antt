@@ -10,7 +10,7 @@ use Rattle.wasmprinter_spec.specs.Operator.{Opcode, BlockType, Catch, Immediates
 use Rattle.wasmprinter_spec.specs.Table.{by_opcode, shape_of_row, shape_of}
 use Rattle.wasmprinter_spec.specs.Labels.{Label}
 use Rattle.wasmprinter_spec.specs.Piece.{Gap, Constant, Float}
-use Rattle.wasmprinter_spec.specs.Layout.Identifiers.{leading_mark_pieces}
+use Rattle.wasmprinter_spec.specs.Layout.Identifiers.{leading_id_and_name_pieces}
 use Rattle.wasmprinter_spec.specs.Layout.ValTypes.{ref_pieces}
 use Rattle.wasmprinter_spec.specs.Layout.Operators.{Setting, block_pieces, ending_pieces, catches_pieces, label_pieces, labels_pieces, select_pieces, lane_pieces, immediate_pieces}
 use Rattle.wasmprinter_ops.specs.Immediates.{HasShape, IsListedAs}
@@ -23,14 +23,14 @@ module _ (s : Setting) (inner xs : List Label) (own : Label) where
   none-out _ h = absurd cc
 
   pub block-out : (shape : Shape) (t : BlockType) → HasShape shape (Block t) →
-      immediate_pieces s inner xs own shape (Block t) ≡ leading_mark_pieces own ++ (block_pieces s t ++ ending_pieces s.form own (suc (length xs)))
+      immediate_pieces s inner xs own shape (Block t) ≡ leading_id_and_name_pieces own ++ (block_pieces s t ++ ending_pieces s.form own (suc (length xs)))
   unfolding immediate_pieces
   block-out BlockShape t h = refl
   block-out _ t h = absurd cc
 
   pub try_table-out : (shape : Shape) (t : BlockType) (cs : List Catch) → HasShape shape (TryTable t cs) →
       immediate_pieces s inner xs own shape (TryTable t cs)
-      ≡ leading_mark_pieces own ++ (block_pieces s t ++ (catches_pieces s inner xs cs ++ ending_pieces s.form own (suc (length xs))))
+      ≡ leading_id_and_name_pieces own ++ (block_pieces s t ++ (catches_pieces s inner xs cs ++ ending_pieces s.form own (suc (length xs))))
   unfolding immediate_pieces
   try_table-out TryTableShape t cs h = refl
   try_table-out _ t cs h = absurd cc

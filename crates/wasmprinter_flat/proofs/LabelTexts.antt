@@ -2,7 +2,7 @@
 use Rattle.std.specs.Prelude.{◌≡◌, ℕ, List, [], ◌∷◌, ◌++◌, Bool, true, false, ◌||◌, codes, decimal, length, Some, None}
 use Rattle.std.proofs.Common.{refl, ap}
 use Rattle.wasmprinter_spec.specs.Labels.{Label, Named, is_hidden, Target, Around, Own, Nothing, target}
-use Rattle.wasmprinter_spec.specs.Piece.{Piece, Gap, Word, Number, Remark}
+use Rattle.wasmprinter_spec.specs.Piece.{Piece, Gap, Word, Number, BlockComment}
 use Rattle.wasmprinter_spec.specs.Layout.Operators.{label_name_pieces, named_pieces, target_pieces, label_pieces, labels_pieces}
 use Rattle.wasmprinter_labels.specs.Found.{Found, ByName, ByNumber, ToBlock, ToNothing, found_named, found_by, found_among}
 
@@ -11,8 +11,8 @@ use Rattle.wasmprinter_labels.specs.Found.{Found, ByName, ByNumber, ToBlock, ToN
 abbrev pub found_pieces : ℕ → Found → List Piece
 found_pieces l (ByName n) = label_name_pieces n.given l n
 found_pieces l ByNumber = Number l ∷ []
-found_pieces l (ToBlock block) = Number l ∷ (Remark true (64 ∷ decimal block) ∷ [])
-found_pieces l ToNothing = Word (decimal l) ∷ (Remark false (codes " INVALID ") ∷ [])
+found_pieces l (ToBlock block) = Number l ∷ (BlockComment true (64 ∷ decimal block) ∷ [])
+found_pieces l ToNothing = Word (decimal l) ∷ (BlockComment false (codes " INVALID ") ∷ [])
 
 named-out : (l : ℕ) (n : Named) (hidden : Bool) → named_pieces l n hidden ≡ found_pieces l (found_named n hidden)
 named-out l n true = refl

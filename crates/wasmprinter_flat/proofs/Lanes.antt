@@ -4,7 +4,7 @@ use Rattle.std.specs.List.{push}
 use Rattle.std.specs.Fmt.{digit_glyph}
 use Rattle.std.proofs.Common.{ap, ◌∙◌, arith}
 use Rattle.std.proofs.lemmas.List.{reverse-append}
-use Rattle.wasmprinter_spec.specs.Piece.{behind_blanks}
+use Rattle.wasmprinter_spec.specs.Piece.{after_blanks}
 use Rattle.wasmprinter_spec.specs.Layout.Operators.{lane_pieces, lanes_pieces, hex_digits, hex_word, hex_words}
 
 -- The pieces of a list of lanes are those of the first lane and those of the others.
@@ -25,9 +25,9 @@ digits-last bs rest b e = ap (λ xs. hex_digits (reverse xs)) e ∙ ap hex_digit
 -- The words of bytes, each with a space before it, are the word of the first four bytes and the words of the
 -- others.
 pub words-next : (bs word rest : List ℕ) → bs ≡ word ++ rest → length word ≡ 4 →
-    behind_blanks (hex_words bs) ≡ (32 ∷ hex_word word) ++ behind_blanks (hex_words rest)
+    after_blanks (hex_words bs) ≡ (32 ∷ hex_word word) ++ after_blanks (hex_words rest)
 unfolding hex_words
-words-next bs (a ∷ (b ∷ (c ∷ (d ∷ [])))) rest e n = ap (λ xs. behind_blanks (hex_words xs)) e
+words-next bs (a ∷ (b ∷ (c ∷ (d ∷ [])))) rest e n = ap (λ xs. after_blanks (hex_words xs)) e
 words-next bs [] rest e n = absurd (omega (arith, n))
 words-next bs (a ∷ []) rest e n = absurd (omega (arith, n))
 words-next bs (a ∷ (b ∷ [])) rest e n = absurd (omega (arith, n))
@@ -35,7 +35,7 @@ words-next bs (a ∷ (b ∷ (c ∷ []))) rest e n = absurd (omega (arith, n))
 words-next bs (a ∷ (b ∷ (c ∷ (d ∷ (x ∷ xs))))) rest e n = absurd (omega (arith, n))
 
 -- Fewer than four bytes have no words.
-pub words-none : (bs : List ℕ) → length bs < 4 → behind_blanks (hex_words bs) ≡ []
+pub words-none : (bs : List ℕ) → length bs < 4 → after_blanks (hex_words bs) ≡ []
 unfolding hex_words
 words-none [] h = refl
 words-none (a ∷ []) h = refl

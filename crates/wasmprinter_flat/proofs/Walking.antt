@@ -10,7 +10,7 @@ use Rattle.wasmprinter_spec.specs.Table.{role_of}
 use Rattle.wasmprinter_spec.specs.Names.{Names}
 use Rattle.wasmprinter_spec.specs.Labels.{Label, labels_after, count_after}
 use Rattle.wasmprinter_spec.specs.Options.{Options}
-use Rattle.wasmprinter_spec.specs.Customs.Hints.{Hint, next_hint, hint_behind}
+use Rattle.wasmprinter_spec.specs.Customs.Hints.{Hint, next_hint, hint_after}
 use Rattle.wasmprinter_spec.specs.Meaning.{Meaning}
 use Rattle.wasmprinter_spec.specs.Layout.Groups.{has_break}
 use Rattle.wasmprinter_spec.specs.Layout.Operators.{Setting, level, before_word, operator_pieces, hint_pieces, operators_pieces}
@@ -20,7 +20,7 @@ use Rattle.wasmprinter_print.specs.Prints.{Written, Lacks}
 use Rattle.wasmprinter_print.specs.PrintsLaws.{no_piece, next_written, lacks_none}
 use Rattle.wasmprinter_ops.specs.Operators.{placed_view, pairs}
 use Rattle.wasmprinter_ops.proofs.Pairs.{first-pair, no-pair}
-use Rattle.wasmprinter_labels.specs.Scan.{Scan, names_of, own_label, at_start_again, behind_operator}
+use Rattle.wasmprinter_labels.specs.Scan.{Scan, names_of, own_label, at_start_again, after_operator}
 use Rattle.wasmprinter_flat.specs.Settings.{word_pieces, over_lines}
 use Rattle.wasmprinter_flat.proofs.Depths.{after-length, after-count}
 
@@ -37,7 +37,7 @@ operators-of : (s : Setting) (hs : List (Placed Hint)) (first : Bool) (n : ℕ) 
     operators_pieces s hs first n xs os
     ≡ hint_pieces (s.nesting + length xs) (next_hint (o.place - s.body) hs)
     ++ (operator_pieces s first (s.names.labels s.function n (length xs)) xs o
-    ++ operators_pieces s (hint_behind (o.place - s.body) hs) false (count_after (role_of o.value.opcode) n)
+    ++ operators_pieces s (hint_after (o.place - s.body) hs) false (count_after (role_of o.value.opcode) n)
     (labels_after (role_of o.value.opcode) (s.names.labels s.function n (length xs)) xs) rest)
 unfolding operators_pieces
 operators-of s hs first n xs os rest o e = ap (λ ps. operators_pieces s hs first n xs ps) e
@@ -69,7 +69,7 @@ operator-fits s l first o f =
 pub record Progress {P : Type 0} (m : Meaning P) (o : Options) (old new : P) (s : Setting) (start : Scan) (hints : List (Placed Hint)) (all rest : List (Placed Operator)) (left : List (Placed Hint)) (first : Bool) (l : Scan) : Type 0 where
   pub lacks : Lacks m o old new (operators_pieces s hints true 0 [] all) (operators_pieces s left first l.count l.labels rest)
   pub named : l.named ≡ start.named
-  pub invents : l.invents ≡ start.invents
+  pub synthesizes : l.synthesizes ≡ start.synthesizes
   pub fits : Fits s l
   pub counted : l.count + length rest < 2 ^ 64
   pub nested : length l.labels + length rest < 2 ^ 64
@@ -80,7 +80,7 @@ pub starts : {P : Type 0} (m : Meaning P) (o : Options) (a : P) (s : Setting) (s
 starts m o a s start l hints all os b n e h = rw b (record {
   lacks = record { front = []; written = no_piece m o a; joined = ap (λ ps. operators_pieces s hints true 0 [] ps) e };
   named = refl;
-  invents = refl;
+  synthesizes = refl;
   fits = record { names = n; function = refl };
   counted = omega (arith, h, ap length e);
   nested = omega (arith, h, ap length e);
@@ -99,7 +99,7 @@ module _ {P : Type 0} (m : Meaning P) {o : Options} {a t : P} {s : Setting} {sta
       Lacks m o a t (operators_pieces s hints true 0 [] all)
       (hint_pieces (s.nesting + length l.labels) (next_hint (x.0 - s.body) left)
       ++ (operator_pieces (record s { names = names_of l }) first (own_label l) l.labels (placed_view x)
-      ++ operators_pieces s (hint_behind (x.0 - s.body) left) false (count_after (role_of x.1.opcode) l.count)
+      ++ operators_pieces s (hint_after (x.0 - s.body) left) false (count_after (role_of x.1.opcode) l.count)
       (labels_after (role_of x.1.opcode) (own_label l) l.labels) rest))
   lacks_hint rest x e =
       rw (operator-fits s l first (placed_view x) p.fits, own-fits s l p.fits)
@@ -110,20 +110,20 @@ module _ {P : Type 0} (m : Meaning P) {o : Options} {a t : P} {s : Setting} {sta
       Written m o t u Through (hint_pieces (s.nesting + length l.labels) (next_hint (x.0 - s.body) left)) →
       Lacks m o a u (operators_pieces s hints true 0 [] all)
       (operator_pieces (record s { names = names_of l }) first (own_label l) l.labels (placed_view x)
-      ++ operators_pieces s (hint_behind (x.0 - s.body) left) false (count_after (role_of x.1.opcode) l.count)
+      ++ operators_pieces s (hint_after (x.0 - s.body) left) false (count_after (role_of x.1.opcode) l.count)
       (labels_after (role_of x.1.opcode) (own_label l) l.labels) rest)
   lacks_next rest x e v = next_written m _ _ (lacks_hint rest x e) v
 
   -- After the hint and the next operator are written, the invariant holds for the others.
-  pub goes_on : {u w : P} (rest : List (Placed Operator)) (x : ℕ × Operator) (role : Role) (k : Scan) (behind : List (Placed Hint)) → pairs os ≡ x ∷ pairs rest →
-      role ≡ role_of x.1.opcode → k ≡ behind_operator role l → behind ≡ hint_behind (x.0 - s.body) left →
+  pub goes_on : {u w : P} (rest : List (Placed Operator)) (x : ℕ × Operator) (role : Role) (k : Scan) (after : List (Placed Hint)) → pairs os ≡ x ∷ pairs rest →
+      role ≡ role_of x.1.opcode → k ≡ after_operator role l → after ≡ hint_after (x.0 - s.body) left →
       Written m o t u Through (hint_pieces (s.nesting + length l.labels) (next_hint (x.0 - s.body) left)) →
       Written m o u w Through (operator_pieces (record s { names = names_of l }) first (own_label l) l.labels (placed_view x)) →
-      Progress m o a w s start hints all rest behind false k
-  goes_on rest x role k behind e r b h v w = rw (b, r, h) (record {
+      Progress m o a w s start hints all rest after false k
+  goes_on rest x role k after e r b h v w = rw (b, r, h) (record {
     lacks = next_written m _ _ (lacks_next rest x e v) w;
     named = p.named;
-    invents = p.invents;
+    synthesizes = p.synthesizes;
     fits = record { names = p.fits.names; function = p.fits.function };
     counted = omega (arith, p.counted, ap length (first-pair os rest x e), after-count (role_of x.1.opcode) l.count);
     nested = omega (arith, p.nested, ap length (first-pair os rest x e), after-length (role_of x.1.opcode) (own_label l) l.labels);

@@ -19,25 +19,25 @@ use crate::references::put_result;
 use wasmprinter_names::Identifier;
 use wasmprinter_ops::blocks::{BlockType, Catch, Catches};
 use wasmprinter_ops::opcode::Space;
-use wasmprinter_print::{Fault, Print};
+use wasmprinter_print::{FirstError, Print};
 use wasmprinter_text::signature::{Signatures, put_type_use};
-use wasmprinter_words::comments::{put_label_ending, put_label_remark};
-use wasmprinter_words::words::{put_gap, put_open, put_shut};
+use wasmprinter_words::comments::{put_label_block_comment, put_label_ending};
+use wasmprinter_words::words::{put_close_paren, put_open, put_space};
 
 /// Writes a space and the comment for the label of a block, by the block's number. Blocks are counted from 1.
 #[tactic(auto, unfolding(wasmprinter_spec::specs::Layout::Operators::ending_pieces))]
-fn put_label_comment<P: Print>(p: &mut P, fault: &mut Fault, form: Form, block: u64)
+fn put_label_comment<P: Print>(p: &mut P, fault: &mut FirstError, form: Form, block: u64)
     ensures { Marks P.meaning p.old fault.old p.new fault.new
         (ending_pieces (form_view form) None block) }
 {
     match form {
         Form::OverLines => {
-            put_gap(p, fault);
+            put_space(p, fault);
             put_label_ending(p, fault, block);
         }
         Form::InLine => {
-            put_gap(p, fault);
-            put_label_remark(p, fault, block);
+            put_space(p, fault);
+            put_label_block_comment(p, fault, block);
         }
     }
 }
@@ -46,7 +46,7 @@ fn put_label_comment<P: Print>(p: &mut P, fault: &mut Fault, form: Form, block: 
 #[tactic(auto, unfolding(wasmprinter_spec::specs::Layout::Operators::ending_pieces))]
 pub(crate) fn put_ending<P: Print>(
     p: &mut P,
-    fault: &mut Fault,
+    fault: &mut FirstError,
     form: Form,
     own: Option<Identifier<'_>>,
     block: u64,
@@ -64,7 +64,7 @@ pub(crate) fn put_ending<P: Print>(
 #[tactic(auto, unfolding(wasmprinter_spec::specs::Layout::Operators::block_pieces))]
 pub(crate) fn put_block_type<P: Print, S: Signatures>(
     p: &mut P,
-    fault: &mut Fault,
+    fault: &mut FirstError,
     context: &Context<'_, '_, '_, '_, S>,
     block_type: BlockType,
 )
@@ -84,7 +84,7 @@ pub(crate) fn put_block_type<P: Print, S: Signatures>(
 /// Writes a tag and a label, with a space before each.
 fn put_tag_and_label<P: Print, S: Signatures>(
     p: &mut P,
-    fault: &mut Fault,
+    fault: &mut FirstError,
     context: &Context<'_, '_, '_, '_, S>,
     tag: u32,
     label: u32,
@@ -101,7 +101,7 @@ fn put_tag_and_label<P: Print, S: Signatures>(
 #[tactic(auto, unfolding(wasmprinter_spec::specs::Layout::Groups::line_group))]
 fn put_tagged<P: Print, S: Signatures>(
     p: &mut P,
-    fault: &mut Fault,
+    fault: &mut FirstError,
     context: &Context<'_, '_, '_, '_, S>,
     keyword: &str,
     tag: u32,
@@ -113,14 +113,14 @@ fn put_tagged<P: Print, S: Signatures>(
 {
     put_open(p, fault, keyword);
     put_tag_and_label(p, fault, context, tag, label);
-    put_shut(p, fault);
+    put_close_paren(p, fault);
 }
 
 /// Writes a catch clause for all exceptions.
 #[tactic(auto, unfolding(wasmprinter_spec::specs::Layout::Groups::line_group))]
 fn put_untagged<P: Print, S: Signatures>(
     p: &mut P,
-    fault: &mut Fault,
+    fault: &mut FirstError,
     context: &Context<'_, '_, '_, '_, S>,
     keyword: &str,
     label: u32,
@@ -130,14 +130,14 @@ fn put_untagged<P: Print, S: Signatures>(
 {
     put_open(p, fault, keyword);
     put_label(p, fault, context, label);
-    put_shut(p, fault);
+    put_close_paren(p, fault);
 }
 
 /// Writes a catch clause. Its label cannot be that of the block that the `try_table` opens.
 #[tactic(auto, unfolding(wasmprinter_spec::specs::Layout::Operators::catch_pieces))]
 fn put_catch<P: Print, S: Signatures>(
     p: &mut P,
-    fault: &mut Fault,
+    fault: &mut FirstError,
     context: &Context<'_, '_, '_, '_, S>,
     clause: Catch,
 )
@@ -155,21 +155,21 @@ fn put_catch<P: Print, S: Signatures>(
 /// Writes a space and a catch clause.
 fn put_clause<P: Print, S: Signatures>(
     p: &mut P,
-    fault: &mut Fault,
+    fault: &mut FirstError,
     context: &Context<'_, '_, '_, '_, S>,
     clause: Catch,
 )
     ensures { Marks P.meaning p.old fault.old p.new fault.new
         (Gap ∷ catch_pieces_in S.signature_at context.now (catch_view clause)) }
 {
-    put_gap(p, fault);
+    put_space(p, fault);
     put_catch(p, fault, context, clause);
 }
 
 /// Writes the catch clauses of a `try_table`, with a space before each.
 pub(crate) fn put_catches<P: Print, S: Signatures>(
     p: &mut P,
-    fault: &mut Fault,
+    fault: &mut FirstError,
     context: &Context<'_, '_, '_, '_, S>,
     clauses: &Catches<'_>,
 )

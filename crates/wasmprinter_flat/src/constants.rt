@@ -5,23 +5,23 @@ ghost use Rattle.wasmprinter_spec.specs.Piece.{Gap, Float};
 ghost use Rattle.wasmprinter_print.specs.Puts.{Marks};
 
 use wasmprinter_floats::floats::{put_double, put_single};
-use wasmprinter_print::{Fault, Print};
-use wasmprinter_words::words::put_gap;
+use wasmprinter_print::{FirstError, Print};
+use wasmprinter_words::words::put_space;
 
 /// Writes a space and a 32-bit float.
-pub(crate) fn put_f32_immediate<P: Print>(p: &mut P, fault: &mut Fault, bits: u32)
+pub(crate) fn put_f32_immediate<P: Print>(p: &mut P, fault: &mut FirstError, bits: u32)
     ensures { Marks P.meaning p.old fault.old p.new fault.new
         (Gap ∷ (Float single bits ∷ [])) }
 {
-    put_gap(p, fault);
+    put_space(p, fault);
     put_single(p, fault, bits);
 }
 
 /// Writes a space and a 64-bit float.
-pub(crate) fn put_f64_immediate<P: Print>(p: &mut P, fault: &mut Fault, bits: u64)
+pub(crate) fn put_f64_immediate<P: Print>(p: &mut P, fault: &mut FirstError, bits: u64)
     ensures { Marks P.meaning p.old fault.old p.new fault.new
         (Gap ∷ (Float double bits ∷ [])) }
 {
-    put_gap(p, fault);
+    put_space(p, fault);
     put_double(p, fault, bits);
 }

@@ -2,7 +2,7 @@
 ghost use Rattle.std.specs.Prelude.{suc, ◌+◌, ◌<◌, ◌^◌, ◌++◌, List, length};
 ghost use Rattle.wasmprinter_spec.specs.Labels.{Label};
 ghost use Rattle.wasmprinter_spec.specs.Operator.{Index, Indices, Heap, Memory, MemoryLane, Bytes};
-ghost use Rattle.wasmprinter_spec.specs.Layout.Identifiers.{leading_mark_pieces};
+ghost use Rattle.wasmprinter_spec.specs.Layout.Identifiers.{leading_id_and_name_pieces};
 ghost use Rattle.wasmprinter_spec.specs.Layout.Operators as layout;
 ghost use Rattle.wasmprinter_spec.specs.Layout.Operators.{block_pieces, ending_pieces, immediate_pieces};
 ghost use Rattle.wasmprinter_print.specs.Puts.{Marks};
@@ -18,7 +18,7 @@ use crate::constants::{put_f32_immediate, put_f64_immediate};
 use crate::context::Context;
 use crate::indices::{
     put_call, put_copy, put_default_index, put_field, put_index_and_count, put_operand,
-    put_segment, put_two,
+    put_segment, write_index_pair,
 };
 use crate::labels::{put_label, put_labels};
 use crate::memory::put_mem_arg;
@@ -28,8 +28,8 @@ use wasmprinter_ops::blocks::{BlockType, Catches};
 use wasmprinter_ops::opcode::{Shape, Space};
 use wasmprinter_ops::operands::MemArg;
 use wasmprinter_ops::operator::Immediates;
-use wasmprinter_print::{Fault, Print};
-use wasmprinter_text::indices::put_leading_mark;
+use wasmprinter_print::{FirstError, Print};
+use wasmprinter_text::indices::put_leading_id_and_name;
 use wasmprinter_text::signature::Signatures;
 use wasmprinter_types::{HeapType, RefType};
 use wasmprinter_words::numbers::put_constant;
@@ -37,18 +37,18 @@ use wasmprinter_words::numbers::put_constant;
 /// Writes the immediates of an operator that opens a block: its label, its type, and the label's comment.
 fn put_block<P: Print, S: Signatures>(
     p: &mut P,
-    fault: &mut Fault,
+    fault: &mut FirstError,
     context: &Context<'_, '_, '_, '_, S>,
     block_type: BlockType,
 )
     requires { length context.now.labels.now.labels + 1 < 2 ^ 64 }
     ensures { Marks P.meaning p.old fault.old p.new fault.new
-        (leading_mark_pieces (own_in context.now)
+        (leading_id_and_name_pieces (own_in context.now)
         ++ (block_pieces (setting_in S.signature_at context.now) (block_type_view block_type)
         ++ ending_pieces (form_view context.now.setting.now.form) (own_in context.now) (suc (length (labels_around context.now))))) }
 {
     let own = context.labels.own();
-    put_leading_mark(p, fault, own);
+    put_leading_id_and_name(p, fault, own);
     put_block_type(p, fault, context, block_type);
     put_ending(p, fault, context.setting.form, own, context.block());
 }
@@ -56,20 +56,20 @@ fn put_block<P: Print, S: Signatures>(
 /// Writes the immediates of a `try_table`: its label, its type, its catch clauses, and the label's comment.
 fn put_try_table<P: Print, S: Signatures>(
     p: &mut P,
-    fault: &mut Fault,
+    fault: &mut FirstError,
     context: &Context<'_, '_, '_, '_, S>,
     block_type: BlockType,
     clauses: &Catches<'_>,
 )
     requires { length context.now.labels.now.labels + 1 < 2 ^ 64 }
     ensures { Marks P.meaning p.old fault.old p.new fault.new
-        (leading_mark_pieces (own_in context.now)
+        (leading_id_and_name_pieces (own_in context.now)
         ++ (block_pieces (setting_in S.signature_at context.now) (block_type_view block_type)
         ++ (catches_pieces_in S.signature_at context.now (catches_view clauses.now)
         ++ ending_pieces (form_view context.now.setting.now.form) (own_in context.now) (suc (length (labels_around context.now)))))) }
 {
     let own = context.labels.own();
-    put_leading_mark(p, fault, own);
+    put_leading_id_and_name(p, fault, own);
     put_block_type(p, fault, context, block_type);
     put_catches(p, fault, context, clauses);
     put_ending(p, fault, context.setting.form, own, context.block());
@@ -79,7 +79,7 @@ fn put_try_table<P: Print, S: Signatures>(
 #[tactic(auto, unfolding(wasmprinter_spec::specs::Layout::Operators::operand_pieces))]
 fn put_index_of<P: Print, S: Signatures>(
     p: &mut P,
-    fault: &mut Fault,
+    fault: &mut FirstError,
     context: &Context<'_, '_, '_, '_, S>,
     space: Space,
     index: u32,
@@ -96,7 +96,7 @@ fn put_index_of<P: Print, S: Signatures>(
 /// Writes an index by its shape.
 fn put_index_by_shape<P: Print, S: Signatures>(
     p: &mut P,
-    fault: &mut Fault,
+    fault: &mut FirstError,
     context: &Context<'_, '_, '_, '_, S>,
     shape: Shape,
     index: u32,
@@ -115,7 +115,7 @@ fn put_index_by_shape<P: Print, S: Signatures>(
 /// Writes two indices, or an index and a number, by their shape.
 fn put_indices<P: Print, S: Signatures>(
     p: &mut P,
-    fault: &mut Fault,
+    fault: &mut FirstError,
     context: &Context<'_, '_, '_, '_, S>,
     shape: Shape,
     first: u32,
@@ -126,7 +126,14 @@ fn put_indices<P: Print, S: Signatures>(
         (pieces_in S.signature_at context.now (shape_view shape) (Indices first second)) }
 {
     match shape {
-        Shape::Pair(left, right) => put_two(p, fault, context, (left, right), first, second),
+        Shape::Pair(left, right) => write_index_pair(
+            p,
+            fault,
+            context,
+            (left, right),
+            first,
+            second,
+        ),
         Shape::Field => put_field(p, fault, context, first, second),
         Shape::Count => put_index_and_count(p, fault, context, first, second),
         Shape::Call => put_call(p, fault, context, first, second),
@@ -141,7 +148,7 @@ fn put_indices<P: Print, S: Signatures>(
 /// Writes a heap type by its shape: as a heap type, or as the type of references to it.
 fn put_heap_by<P: Print, S: Signatures>(
     p: &mut P,
-    fault: &mut Fault,
+    fault: &mut FirstError,
     context: &Context<'_, '_, '_, '_, S>,
     shape: Shape,
     heap: HeapType,
@@ -159,7 +166,7 @@ fn put_heap_by<P: Print, S: Signatures>(
 }
 
 /// Writes sixteen bytes by their shape: as a vector, or as lanes.
-fn put_sixteen_bytes<P: Print>(p: &mut P, fault: &mut Fault, shape: Shape, bytes: &[u8])
+fn put_sixteen_bytes<P: Print>(p: &mut P, fault: &mut FirstError, shape: Shape, bytes: &[u8])
     requires { HasShape (shape_view shape) (Bytes bytes.now) }
     ensures { (s : layout.Setting) (inner xs : List Label) (own : Label) →
         Marks P.meaning p.old fault.old p.new fault.new
@@ -175,7 +182,7 @@ fn put_sixteen_bytes<P: Print>(p: &mut P, fault: &mut Fault, shape: Shape, bytes
 /// Writes a memory operand by its shape, which gives the natural alignment.
 fn put_memory<P: Print, S: Signatures>(
     p: &mut P,
-    fault: &mut Fault,
+    fault: &mut FirstError,
     context: &Context<'_, '_, '_, '_, S>,
     shape: Shape,
     operand: MemArg,
@@ -193,7 +200,7 @@ fn put_memory<P: Print, S: Signatures>(
 /// Writes a memory operand and a lane by their shape.
 fn put_memory_lane<P: Print, S: Signatures>(
     p: &mut P,
-    fault: &mut Fault,
+    fault: &mut FirstError,
     context: &Context<'_, '_, '_, '_, S>,
     shape: Shape,
     operand: MemArg,
@@ -213,7 +220,7 @@ fn put_memory_lane<P: Print, S: Signatures>(
 /// Writes immediates by their shape.
 pub(crate) fn put_immediates<P: Print, S: Signatures>(
     p: &mut P,
-    fault: &mut Fault,
+    fault: &mut FirstError,
     context: &Context<'_, '_, '_, '_, S>,
     shape: Shape,
     immediates: &Immediates<'_>,

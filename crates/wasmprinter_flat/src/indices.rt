@@ -13,16 +13,16 @@ ghost use Rattle.wasmprinter_flat.specs.Contexts.{names_in, setting_in};
 
 use crate::context::Context;
 use wasmprinter_ops::opcode::Space;
-use wasmprinter_print::{Fault, Print};
+use wasmprinter_print::{FirstError, Print};
 use wasmprinter_text::indices::put_index;
 use wasmprinter_text::signature::{Signatures, put_type_index};
 use wasmprinter_words::numbers::put_number_word;
-use wasmprinter_words::words::put_gap;
+use wasmprinter_words::words::put_space;
 
 /// Writes an index, by its identifier if it has one.
 pub(crate) fn put_operand<P: Print, S: Signatures>(
     p: &mut P,
-    fault: &mut Fault,
+    fault: &mut FirstError,
     context: &Context<'_, '_, '_, '_, S>,
     space: Space,
     index: u32,
@@ -30,7 +30,7 @@ pub(crate) fn put_operand<P: Print, S: Signatures>(
     ensures { Marks P.meaning p.old fault.old p.new fault.new
         (Gap ∷ named_index (setting_in S.signature_at context.now) (space_view space) index) }
 {
-    put_gap(p, fault);
+    put_space(p, fault);
     put_index(p, fault, context.identifier(space, index), u64::from(index));
 }
 
@@ -38,7 +38,7 @@ pub(crate) fn put_operand<P: Print, S: Signatures>(
 #[tactic(auto, unfolding(wasmprinter_spec::specs::Layout::Operators::default_index_pieces))]
 pub(crate) fn put_default_index<P: Print, S: Signatures>(
     p: &mut P,
-    fault: &mut Fault,
+    fault: &mut FirstError,
     context: &Context<'_, '_, '_, '_, S>,
     space: Space,
     index: u32,
@@ -52,9 +52,9 @@ pub(crate) fn put_default_index<P: Print, S: Signatures>(
 }
 
 /// Writes two indices, one into each of two spaces.
-pub(crate) fn put_two<P: Print, S: Signatures>(
+pub(crate) fn write_index_pair<P: Print, S: Signatures>(
     p: &mut P,
-    fault: &mut Fault,
+    fault: &mut FirstError,
     context: &Context<'_, '_, '_, '_, S>,
     spaces: (Space, Space),
     first: u32,
@@ -70,7 +70,7 @@ pub(crate) fn put_two<P: Print, S: Signatures>(
 /// Writes a field of a structure type, by its identifier if it has one.
 fn put_field_index<P: Print, S: Signatures>(
     p: &mut P,
-    fault: &mut Fault,
+    fault: &mut FirstError,
     context: &Context<'_, '_, '_, '_, S>,
     type_index: u32,
     field: u32,
@@ -78,14 +78,14 @@ fn put_field_index<P: Print, S: Signatures>(
     ensures { Marks P.meaning p.old fault.old p.new fault.new
         (Gap ∷ index_pieces ((names_in context.now).fields type_index field) field) }
 {
-    put_gap(p, fault);
+    put_space(p, fault);
     put_index(p, fault, context.field(type_index, field), u64::from(field));
 }
 
 /// Writes the index of a structure type and the index of one of its fields.
 pub(crate) fn put_field<P: Print, S: Signatures>(
     p: &mut P,
-    fault: &mut Fault,
+    fault: &mut FirstError,
     context: &Context<'_, '_, '_, '_, S>,
     type_index: u32,
     field: u32,
@@ -99,17 +99,17 @@ pub(crate) fn put_field<P: Print, S: Signatures>(
 
 /// Writes a number that is not an index: in decimal, without a style.
 #[tactic(auto, unfolding(wasmprinter_spec::specs::Layout::Operators::lane_pieces))]
-pub(crate) fn put_count<P: Print>(p: &mut P, fault: &mut Fault, count: u32)
+pub(crate) fn put_count<P: Print>(p: &mut P, fault: &mut FirstError, count: u32)
     ensures { Marks P.meaning p.old fault.old p.new fault.new (lane_pieces count) }
 {
-    put_gap(p, fault);
+    put_space(p, fault);
     put_number_word(p, fault, u64::from(count));
 }
 
 /// Writes the index of an array type and the number of elements of the array.
 pub(crate) fn put_index_and_count<P: Print, S: Signatures>(
     p: &mut P,
-    fault: &mut Fault,
+    fault: &mut FirstError,
     context: &Context<'_, '_, '_, '_, S>,
     index: u32,
     count: u32,
@@ -124,7 +124,7 @@ pub(crate) fn put_index_and_count<P: Print, S: Signatures>(
 /// Writes the immediates of an indirect call: its table, unless that is 0, and its type.
 pub(crate) fn put_call<P: Print, S: Signatures>(
     p: &mut P,
-    fault: &mut Fault,
+    fault: &mut FirstError,
     context: &Context<'_, '_, '_, '_, S>,
     type_index: u32,
     table: u32,
@@ -140,7 +140,7 @@ pub(crate) fn put_call<P: Print, S: Signatures>(
 /// Writes the table or memory that a segment is copied to, unless that is 0, and then the element or data segment.
 pub(crate) fn put_segment<P: Print, S: Signatures>(
     p: &mut P,
-    fault: &mut Fault,
+    fault: &mut FirstError,
     context: &Context<'_, '_, '_, '_, S>,
     spaces: (Space, Space),
     segment: u32,
@@ -157,7 +157,7 @@ pub(crate) fn put_segment<P: Print, S: Signatures>(
 /// Writes the tables or memories that are copied to and from, unless both are 0.
 pub(crate) fn put_copy<P: Print, S: Signatures>(
     p: &mut P,
-    fault: &mut Fault,
+    fault: &mut FirstError,
     context: &Context<'_, '_, '_, '_, S>,
     space: Space,
     target: u32,
@@ -168,6 +168,6 @@ pub(crate) fn put_copy<P: Print, S: Signatures>(
         (two_index_pieces (setting_in S.signature_at context.now) (space_view space) (space_view space) target source)) }
 {
     if target != 0 || source != 0 {
-        put_two(p, fault, context, (space, space), target, source);
+        write_index_pair(p, fault, context, (space, space), target, source);
     }
 }

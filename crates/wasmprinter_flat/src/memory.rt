@@ -10,23 +10,23 @@ use crate::context::Context;
 use crate::indices::put_default_index;
 use wasmprinter_ops::opcode::Space;
 use wasmprinter_ops::operands::MemArg;
-use wasmprinter_print::{Fault, Print};
+use wasmprinter_print::{FirstError, Print};
 use wasmprinter_text::signature::Signatures;
 use wasmprinter_words::numbers::{power, put_numbered_word};
-use wasmprinter_words::words::put_gap;
+use wasmprinter_words::words::put_space;
 
 /// Writes a space and a word that ends in a number.
-fn put_numbered<P: Print>(p: &mut P, fault: &mut Fault, word: &str, n: u64)
+fn put_numbered<P: Print>(p: &mut P, fault: &mut FirstError, word: &str, n: u64)
     ensures { Marks P.meaning p.old fault.old p.new fault.new
         (Gap ∷ (Word (word.now ++ decimal n) ∷ [])) }
 {
-    put_gap(p, fault);
+    put_space(p, fault);
     put_numbered_word(p, fault, word, n);
 }
 
 /// Writes an offset. Writes nothing for offset 0.
 #[tactic(auto, unfolding(wasmprinter_spec::specs::Layout::Operators::offset_pieces))]
-fn put_offset<P: Print>(p: &mut P, fault: &mut Fault, offset: u64)
+fn put_offset<P: Print>(p: &mut P, fault: &mut FirstError, offset: u64)
     ensures { Marks P.meaning p.old fault.old p.new fault.new (offset_pieces offset) }
 {
     if offset != 0 {
@@ -36,7 +36,7 @@ fn put_offset<P: Print>(p: &mut P, fault: &mut Fault, offset: u64)
 
 /// Writes an alignment, given its exponent. Writes nothing for the natural alignment.
 #[tactic(auto, unfolding(wasmprinter_spec::specs::Layout::Operators::align_pieces))]
-fn put_align<P: Print>(p: &mut P, fault: &mut Fault, natural: u32, exponent: u32)
+fn put_align<P: Print>(p: &mut P, fault: &mut FirstError, natural: u32, exponent: u32)
     requires { exponent < 64 }
     ensures { Marks P.meaning p.old fault.old p.new fault.new
         (align_pieces natural exponent) }
@@ -50,7 +50,7 @@ fn put_align<P: Print>(p: &mut P, fault: &mut Fault, natural: u32, exponent: u32
 #[tactic(auto, unfolding(wasmprinter_spec::specs::Layout::Operators::mem_arg_pieces))]
 pub(crate) fn put_mem_arg<P: Print, S: Signatures>(
     p: &mut P,
-    fault: &mut Fault,
+    fault: &mut FirstError,
     context: &Context<'_, '_, '_, '_, S>,
     natural: u32,
     operand: MemArg,

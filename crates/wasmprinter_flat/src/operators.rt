@@ -4,7 +4,7 @@ ghost use Rattle.wasmprinter_spec.specs.Grammar.{Placed};
 ghost use Rattle.wasmprinter_spec.specs.Table.{shape_of};
 ghost use Rattle.wasmprinter_spec.specs.Types.{FuncType};
 ghost use Rattle.wasmprinter_spec.specs.Names.{Names};
-ghost use Rattle.wasmprinter_spec.specs.Customs.Hints.{Hint as HintValue, next_hint, hint_behind};
+ghost use Rattle.wasmprinter_spec.specs.Customs.Hints.{Hint as HintValue, next_hint, hint_after};
 ghost use Rattle.wasmprinter_spec.specs.Layout.Groups.{has_break};
 ghost use Rattle.wasmprinter_spec.specs.Layout.Operators.{pieces_by, level as level_of, before_word};
 ghost use Rattle.wasmprinter_spec.specs.Layout.Operators.{operator_pieces, hint_pieces, operators_pieces};
@@ -25,10 +25,10 @@ use wasmprinter_lines::options::PrintOptions;
 use wasmprinter_ops::expression::Expression;
 use wasmprinter_ops::opcode::{Listed, Role};
 use wasmprinter_ops::operator::Operator;
-use wasmprinter_print::{Fault, Print};
+use wasmprinter_print::{FirstError, Print};
 use wasmprinter_text::signature::Signatures;
 use wasmprinter_words::hints::hint_note;
-use wasmprinter_words::words::{put_gap, put_word};
+use wasmprinter_words::words::{put_space, put_word};
 
 /// The arrangement of operators.
 #[derive(Clone, Copy, Debug, PartialEq, Eq)]
@@ -60,7 +60,7 @@ fn level(role: Role, depth: u64) -> u64
     ensures { result ≡ level_of (role_view role) depth }
 {
     match role {
-        Role::Turns | Role::Catches | Role::CatchesAll | Role::Delegates | Role::Ends => {
+        Role::Else | Role::Catches | Role::CatchesAll | Role::Delegates | Role::Ends => {
             depth.saturating_sub(1)
         }
         Role::Plain | Role::Opens | Role::OpensIf | Role::OpensTry => depth,
@@ -69,9 +69,9 @@ fn level(role: Role, depth: u64) -> u64
 
 /// Starts an operator. Over lines, begins a line at `place`, indented by `nesting + depth` levels. In one line,
 /// writes a space unless the operator is the first of its list.
-pub fn put_before<P: Print>(
+pub fn start_operator<P: Print>(
     p: &mut P,
-    fault: &mut Fault,
+    fault: &mut FirstError,
     options: &PrintOptions,
     form: Form,
     first: bool,
@@ -86,7 +86,7 @@ pub fn put_before<P: Print>(
         Form::OverLines => put_break_inside(p, fault, options, place, nesting, depth),
         Form::InLine => {
             if !first {
-                put_gap(p, fault);
+                put_space(p, fault);
             }
         }
     }
@@ -105,15 +105,15 @@ pub fn write_before<P: Print>(
 ) -> io::Result<()>
     ensures { Prints P.meaning options.now p.old p.new result (before_word (form_view form) first place (nesting + depth)) }
 {
-    let mut fault = Fault::none();
-    put_before(p, &mut fault, options, form, first, place, nesting, depth);
+    let mut fault = FirstError::none();
+    start_operator(p, &mut fault, options, form, first, place, nesting, depth);
     fault.into_result()
 }
 
 /// Writes the immediates of an operator.
-fn put_behind<P: Print, S: Signatures>(
+fn write_immediates<P: Print, S: Signatures>(
     p: &mut P,
-    fault: &mut Fault,
+    fault: &mut FirstError,
     context: &Context<'_, '_, '_, '_, S>,
     operator: &Operator<'_>,
 )
@@ -130,7 +130,7 @@ fn put_behind<P: Print, S: Signatures>(
 /// Writes the word of an operator and its immediates. `labels` are those that are open before it.
 pub fn put_operator_word<P: Print, S: Signatures>(
     p: &mut P,
-    fault: &mut Fault,
+    fault: &mut FirstError,
     setting: &Setting<'_, S>,
     labels: &OpenLabels<'_, '_>,
     operator: &Operator<'_>,
@@ -146,7 +146,7 @@ pub fn put_operator_word<P: Print, S: Signatures>(
         role,
     };
     put_word(p, fault, operator.opcode.word());
-    put_behind(p, fault, &context, operator);
+    write_immediates(p, fault, &context, operator);
 }
 
 /// Writes the word of an operator and its immediates. `labels` are those that are open before it.
@@ -161,7 +161,7 @@ pub fn write_word<P: Print, S: Signatures>(
     ensures { PrintsAlways P.meaning p.old p.new result
         (word_pieces_among S.signature_at setting.now labels.now operator.now) }
 {
-    let mut fault = Fault::none();
+    let mut fault = FirstError::none();
     put_operator_word(p, &mut fault, setting, labels, operator);
     fault.into_result()
 }
@@ -171,7 +171,7 @@ pub fn write_word<P: Print, S: Signatures>(
 #[inline(never)]
 fn put_operator<P: Print, S: Signatures>(
     p: &mut P,
-    fault: &mut Fault,
+    fault: &mut FirstError,
     options: &PrintOptions,
     setting: &Setting<'_, S>,
     labels: &OpenLabels<'_, '_>,
@@ -185,7 +185,7 @@ fn put_operator<P: Print, S: Signatures>(
         (record { place = place; value = operator.now })) }
 {
     let level = level(operator.opcode.role(), labels.depth());
-    put_before(
+    start_operator(
         p,
         fault,
         options,
@@ -216,7 +216,7 @@ fn write_hint<P: Print, S: Signatures>(
 /// Writes the next hint and removes it from `hints` if it is for the operator at `place`. Otherwise writes nothing.
 fn put_next_hint<P: Print, S: Signatures>(
     p: &mut P,
-    fault: &mut Fault,
+    fault: &mut FirstError,
     options: &PrintOptions,
     setting: &Setting<'_, S>,
     blocks: u64,
@@ -225,7 +225,7 @@ fn put_next_hint<P: Print, S: Signatures>(
 )
     ensures prints { MarksUnder P.meaning options.now p.old fault.old p.new fault.new
         (hint_pieces (setting.now.nesting + blocks) (next_hint (place - setting.now.body) hints.old)) }
-    ensures behind { hints.new ≡ hint_behind (place - setting.now.body) hints.old }
+    ensures after { hints.new ≡ hint_after (place - setting.now.body) hints.old }
 {
     if let Some(hint) = hints.next_at(place.saturating_sub(setting.body)) {
         if !fault.is_some() {
@@ -255,12 +255,12 @@ pub fn write_operators<P: Print, S: Signatures>(
     ensures prints { Prints P.meaning options.now p.old p.new result
         (operators_pieces (setting_among S.signature_at setting.now labels.old) hints.entry true 0 [] expression.now.items) }
     ensures named { labels.new.named ≡ labels.old.named }
-    ensures invents { labels.new.invents ≡ labels.old.invents }
+    ensures synthesizes { labels.new.synthesizes ≡ labels.old.synthesizes }
 {
     labels.begin(setting.function);
     let mut hints = hints;
     let mut first = true;
-    let mut fault = Fault::none();
+    let mut fault = FirstError::none();
     for (place, operator) in expression.operators() {
         let depth = labels.depth();
         put_next_hint(p, &mut fault, options, setting, depth, &mut hints, place);

@@ -15,27 +15,27 @@ use crate::context::Context;
 use crate::labels::put_label;
 use wasmprinter_names::Identifiers;
 use wasmprinter_ops::operands::{cast_source, cast_target};
-use wasmprinter_print::{Fault, Print};
+use wasmprinter_print::{FirstError, Print};
 use wasmprinter_text::signature::Signatures;
 use wasmprinter_text::types::{put_group, put_heap_type, put_ref_type, put_val_type};
 use wasmprinter_types::{HeapType, RefType, ValType, ValTypes};
-use wasmprinter_words::words::{put_gap, put_open_gap, put_shut};
+use wasmprinter_words::words::{put_close_paren, put_open_gap, put_space};
 
 /// Writes one type as a result group.
 #[tactic(auto, unfolding(wasmprinter_spec::specs::Layout::Groups::line_group_gap))]
 pub(crate) fn put_result<P: Print>(
     p: &mut P,
-    fault: &mut Fault,
+    fault: &mut FirstError,
     identifiers: &Identifiers<'_, '_>,
     value_type: ValType,
 )
     ensures { Marks P.meaning p.old fault.old p.new fault.new
         (Gap ∷ line_group_gap (codes "result") (val_pieces (names_of_identifiers identifiers.now) (type_view value_type))) }
 {
-    put_gap(p, fault);
+    put_space(p, fault);
     put_open_gap(p, fault, "result");
     put_val_type(p, fault, identifiers, value_type);
-    put_shut(p, fault);
+    put_close_paren(p, fault);
 }
 
 /// Returns the type if there is exactly one.
@@ -52,7 +52,7 @@ fn only_type(types: &ValTypes<'_>) -> Option<ValType>
 /// Writes the types of a `select`.
 pub(crate) fn put_select<P: Print>(
     p: &mut P,
-    fault: &mut Fault,
+    fault: &mut FirstError,
     identifiers: &Identifiers<'_, '_>,
     types: &ValTypes<'_>,
 )
@@ -68,35 +68,35 @@ pub(crate) fn put_select<P: Print>(
 /// Writes a heap type.
 pub(crate) fn put_heap<P: Print>(
     p: &mut P,
-    fault: &mut Fault,
+    fault: &mut FirstError,
     identifiers: &Identifiers<'_, '_>,
     heap: HeapType,
 )
     ensures { Marks P.meaning p.old fault.old p.new fault.new
         (Gap ∷ heap_pieces (names_of_identifiers identifiers.now) (heap_view heap)) }
 {
-    put_gap(p, fault);
+    put_space(p, fault);
     put_heap_type(p, fault, identifiers, heap);
 }
 
 /// Writes a reference type.
 pub(crate) fn put_ref<P: Print>(
     p: &mut P,
-    fault: &mut Fault,
+    fault: &mut FirstError,
     identifiers: &Identifiers<'_, '_>,
     ref_type: RefType,
 )
     ensures { Marks P.meaning p.old fault.old p.new fault.new
         (Gap ∷ ref_pieces (names_of_identifiers identifiers.now) (ref_view ref_type)) }
 {
-    put_gap(p, fault);
+    put_space(p, fault);
     put_ref_type(p, fault, identifiers, ref_type);
 }
 
 /// Writes two reference types.
 fn put_refs<P: Print>(
     p: &mut P,
-    fault: &mut Fault,
+    fault: &mut FirstError,
     identifiers: &Identifiers<'_, '_>,
     source: RefType,
     target: RefType,
@@ -113,7 +113,7 @@ fn put_refs<P: Print>(
 /// nullable.
 pub(crate) fn put_cast<P: Print, S: Signatures>(
     p: &mut P,
-    fault: &mut Fault,
+    fault: &mut FirstError,
     context: &Context<'_, '_, '_, '_, S>,
     flags: u8,
     label: u32,

@@ -3,7 +3,7 @@ ghost use Rattle.std.specs.Prelude.{◌≡◌, ◌<◌, ◌≤◌, ◌^◌, fals
 ghost use Rattle.std.specs.Fmt.{digits};
 ghost use Rattle.wasmprinter_spec.specs.Call.{Text};
 ghost use Rattle.wasmprinter_spec.specs.Float.{single, double};
-ghost use Rattle.wasmprinter_spec.specs.FloatText.{digits_behind, fraction_digits, behind_point, exponent_text, normal_text};
+ghost use Rattle.wasmprinter_spec.specs.FloatText.{digits_after, fraction_digits, after_point, exponent_text, normal_text};
 ghost use Rattle.wasmprinter_spec.specs.FloatText.{subnormal_text, finite_text, special_text, remark, unsigned_calls, float_calls};
 ghost use Rattle.wasmprinter_spec.specs.Piece.{Float};
 ghost use Rattle.wasmprinter_print.specs.Emits.{Emits, EmitsOrFails};
@@ -14,31 +14,31 @@ ghost use Rattle.wasmprinter_floats.specs.Formats.{width_of};
 use crate::format::Format;
 use std::io;
 use wasmprinter_error::Error;
-use wasmprinter_print::{Fault, Print, Style, put_reset, put_start, put_text};
+use wasmprinter_print::{FirstError, Print, Style, put_reset, put_start, put_text};
 use wasmprinter_words::numbers::{power, put_decimal, put_digit, write_hexadecimal};
 
 /// Writes the hexadecimal digits of the number `n / 16 ^ count` after the point, up to the last digit that is not
 /// 0.
-fn put_digits_behind<P: Print>(p: &mut P, fault: &mut Fault, count: u32, n: u64)
+fn put_digits_after<P: Print>(p: &mut P, fault: &mut FirstError, count: u32, n: u64)
     requires count { count ≤ 16 }
     requires below { n < 16 ^ count }
-    ensures { Puts P.meaning p.old fault.old p.new fault.new (Text (digits_behind count n) ∷ []) }
+    ensures { Puts P.meaning p.old fault.old p.new fault.new (Text (digits_after count n) ∷ []) }
 {
     if n == 0 {
         return;
     }
     let unit = power(4 * (count - 1));
     put_digit(p, fault, (n / unit) as u8);
-    put_digits_behind(p, fault, count - 1, n % unit);
+    put_digits_after(p, fault, count - 1, n % unit);
 }
 
 /// Writes the hexadecimal digits of a fraction.
-fn put_fraction<P: Print>(p: &mut P, fault: &mut Fault, format: Format, fraction: u64)
+fn put_fraction<P: Print>(p: &mut P, fault: &mut FirstError, format: Format, fraction: u64)
     requires { fraction < 2 ^ (width_of format).fraction }
     ensures { Puts P.meaning p.old fault.old p.new fault.new
         (Text (fraction_digits (width_of format) fraction) ∷ []) }
 {
-    put_digits_behind(
+    put_digits_after(
         p,
         fault,
         format.digit_count(),
@@ -47,10 +47,10 @@ fn put_fraction<P: Print>(p: &mut P, fault: &mut Fault, format: Format, fraction
 }
 
 /// Writes a point and the digits of a fraction, or nothing if the fraction is 0.
-fn put_behind_point<P: Print>(p: &mut P, fault: &mut Fault, format: Format, fraction: u64)
+fn put_after_point<P: Print>(p: &mut P, fault: &mut FirstError, format: Format, fraction: u64)
     requires { fraction < 2 ^ (width_of format).fraction }
     ensures { Puts P.meaning p.old fault.old p.new fault.new
-        (Text (behind_point (fraction_digits (width_of format) fraction)) ∷ []) }
+        (Text (after_point (fraction_digits (width_of format) fraction)) ∷ []) }
 {
     if fraction == 0 {
         return;
@@ -60,7 +60,7 @@ fn put_behind_point<P: Print>(p: &mut P, fault: &mut Fault, format: Format, frac
 }
 
 /// Writes the exponent `up - down`.
-fn put_exponent<P: Print>(p: &mut P, fault: &mut Fault, up: u64, down: u64)
+fn put_exponent<P: Print>(p: &mut P, fault: &mut FirstError, up: u64, down: u64)
     ensures { Puts P.meaning p.old fault.old p.new fault.new (Text (112 ∷ exponent_text up down) ∷ []) }
 {
     if up < down {
@@ -73,18 +73,24 @@ fn put_exponent<P: Print>(p: &mut P, fault: &mut Fault, up: u64, down: u64)
 }
 
 /// Writes a normal number, with a leading 1.
-fn put_normal<P: Print>(p: &mut P, fault: &mut Fault, format: Format, exponent: u64, fraction: u64)
+fn put_normal<P: Print>(
+    p: &mut P,
+    fault: &mut FirstError,
+    format: Format,
+    exponent: u64,
+    fraction: u64,
+)
     requires { fraction < 2 ^ (width_of format).fraction }
     ensures { Puts P.meaning p.old fault.old p.new fault.new
         (Text (normal_text (width_of format) exponent fraction) ∷ []) }
 {
     put_text(p, fault, "0x1");
-    put_behind_point(p, fault, format, fraction);
+    put_after_point(p, fault, format, fraction);
     put_exponent(p, fault, exponent, format.bias());
 }
 
 /// Writes a subnormal number, shifted so that its leading digit is 1.
-fn put_subnormal<P: Print>(p: &mut P, fault: &mut Fault, format: Format, fraction: u64)
+fn put_subnormal<P: Print>(p: &mut P, fault: &mut FirstError, format: Format, fraction: u64)
     requires some { 0 < fraction }
     requires below { fraction < 2 ^ (width_of format).fraction }
     ensures { Puts P.meaning p.old fault.old p.new fault.new
@@ -101,7 +107,13 @@ fn put_subnormal<P: Print>(p: &mut P, fault: &mut Fault, format: Format, fractio
 }
 
 /// Writes a finite number.
-fn put_finite<P: Print>(p: &mut P, fault: &mut Fault, format: Format, exponent: u64, fraction: u64)
+fn put_finite<P: Print>(
+    p: &mut P,
+    fault: &mut FirstError,
+    format: Format,
+    exponent: u64,
+    fraction: u64,
+)
     requires { fraction < 2 ^ (width_of format).fraction }
     ensures { Puts P.meaning p.old fault.old p.new fault.new
         (Text (finite_text (width_of format) exponent fraction) ∷ []) }
@@ -116,7 +128,7 @@ fn put_finite<P: Print>(p: &mut P, fault: &mut Fault, format: Format, exponent: 
 }
 
 /// Writes the payload of a NaN in hexadecimal.
-fn put_payload<P: Print>(p: &mut P, fault: &mut Fault, payload: u64)
+fn put_payload<P: Print>(p: &mut P, fault: &mut FirstError, payload: u64)
     ensures { Puts P.meaning p.old fault.old p.new fault.new (Text (digits 16 false payload) ∷ []) }
 {
     if !fault.is_some() {
@@ -125,7 +137,7 @@ fn put_payload<P: Print>(p: &mut P, fault: &mut Fault, payload: u64)
 }
 
 /// Writes infinity or a NaN. The payload of a NaN is written unless it is the canonical one.
-fn put_special<P: Print>(p: &mut P, fault: &mut Fault, format: Format, fraction: u64)
+fn put_special<P: Print>(p: &mut P, fault: &mut FirstError, format: Format, fraction: u64)
     ensures { Puts P.meaning p.old fault.old p.new fault.new
         (Text (special_text (width_of format) fraction) ∷ []) }
 {
@@ -156,7 +168,7 @@ fn remark_on(negative: bool, fraction: u64) -> &'static str
 #[tactic(auto, unfolding(wasmprinter_spec::specs::FloatText::unsigned_calls))]
 fn put_unsigned<P: Print>(
     p: &mut P,
-    fault: &mut Fault,
+    fault: &mut FirstError,
     format: Format,
     negative: bool,
     exponent: u64,
@@ -180,7 +192,7 @@ fn put_unsigned<P: Print>(
 
 /// Writes a float.
 #[tactic(auto, unfolding(wasmprinter_spec::specs::FloatText::float_calls))]
-fn put_float<P: Print>(p: &mut P, fault: &mut Fault, format: Format, bits: u64)
+fn put_float<P: Print>(p: &mut P, fault: &mut FirstError, format: Format, bits: u64)
     ensures { Puts P.meaning p.old fault.old p.new fault.new (float_calls (width_of format) bits) }
 {
     let one = power(format.fraction_bits());
@@ -195,7 +207,7 @@ fn put_float<P: Print>(p: &mut P, fault: &mut Fault, format: Format, bits: u64)
 }
 
 /// Writes a 32-bit float, given its bits, as a piece of a layout.
-pub fn put_single<P: Print>(p: &mut P, fault: &mut Fault, bits: u32)
+pub fn put_single<P: Print>(p: &mut P, fault: &mut FirstError, bits: u32)
     ensures calls { Puts P.meaning p.old fault.old p.new fault.new (float_calls single bits) }
     ensures pieces { Marks P.meaning p.old fault.old p.new fault.new (Float single bits ∷ []) }
 {
@@ -207,13 +219,13 @@ pub fn write_single<P: Print>(p: &mut P, bits: u32) -> io::Result<()>
     ensures calls { Emits P.meaning p.old p.new result (float_calls single bits) }
     ensures pieces { PrintsAlways P.meaning p.old p.new result (Float single bits ∷ []) }
 {
-    let mut fault = Fault::none();
+    let mut fault = FirstError::none();
     put_single(p, &mut fault, bits);
     fault.into_result()
 }
 
 /// Writes a 64-bit float, given its bits, as a piece of a layout.
-pub fn put_double<P: Print>(p: &mut P, fault: &mut Fault, bits: u64)
+pub fn put_double<P: Print>(p: &mut P, fault: &mut FirstError, bits: u64)
     ensures calls { Puts P.meaning p.old fault.old p.new fault.new (float_calls double bits) }
     ensures pieces { Marks P.meaning p.old fault.old p.new fault.new (Float double bits ∷ []) }
 {
@@ -225,7 +237,7 @@ pub fn write_double<P: Print>(p: &mut P, bits: u64) -> io::Result<()>
     ensures calls { Emits P.meaning p.old p.new result (float_calls double bits) }
     ensures pieces { PrintsAlways P.meaning p.old p.new result (Float double bits ∷ []) }
 {
-    let mut fault = Fault::none();
+    let mut fault = FirstError::none();
     put_double(p, &mut fault, bits);
     fault.into_result()
 }

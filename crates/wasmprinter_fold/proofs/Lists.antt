@@ -22,17 +22,17 @@ use Rattle.wasmprinter_fold.specs.Views.{FolderView, folding_view}
 use Rattle.wasmprinter_fold.proofs.Growing.{whole}
 use Rattle.wasmprinter_fold.proofs.Walks.{folded-pieces, no-pieces}
 
-module _ (paints : Bool) (m : PlacedModule) (v : FolderView) (is : record { paints = paints; operators_of = m } ≡ v) (own : Option ℕ) (s : Setting) (hints : List (Placed Hint)) (os : List (Placed Operator)) where
+module _ (color : Bool) (m : PlacedModule) (v : FolderView) (is : record { color = color; operators_of = m } ≡ v) (own : Option ℕ) (s : Setting) (hints : List (Placed Hint)) (os : List (Placed Operator)) where
   -- The layout of a list that is not folded is empty.
-  pub nothing_of : (t : GrowingTree) (r : Bool) → r ≡ false → IsGrown paints t r (nested_code_of (items s (signatures_within m own) hints 0 [] [] os)) →
+  pub nothing_of : (t : GrowingTree) (r : Bool) → r ≡ false → IsGrown color t r (nested_code_of (items s (signatures_within m own) hints 0 [] [] os)) →
       folded_list (folding_view v) own s hints os ≡ []
   nothing_of t true e h = absurd cc
   nothing_of t false e h =
-      ap (λ (f : FolderView). folded_list (folding_view f) own s hints os) (sym is) ∙ no-pieces paints s (signatures_within m own) hints os h
+      ap (λ (f : FolderView). folded_list (folding_view f) own s hints os) (sym is) ∙ no-pieces color s (signatures_within m own) hints os h
 
-  module _ (t : GrowingTree) (r : Bool) (e : r ≡ true) (grown : IsGrown paints t r (nested_code_of (items s (signatures_within m own) hints 0 [] [] os))) (text : List ℕ) (buffer : text ≡ t.texts.bytes) (nodes : List Node) (rows : (u : State) → Stands t.builder u → IsPostorder nodes) (closed : (u : State) → Stands t.builder u → u.outer ≡ Top → forest_of nodes ≡ u.groups) where
-    there : IsGrown paints t true (nested_code_of (items s (signatures_within m own) hints 0 [] [] os))
-    there = subst (λ (b : Bool). IsGrown paints t b (nested_code_of (items s (signatures_within m own) hints 0 [] [] os))) e grown
+  module _ (t : GrowingTree) (r : Bool) (e : r ≡ true) (grown : IsGrown color t r (nested_code_of (items s (signatures_within m own) hints 0 [] [] os))) (text : List ℕ) (buffer : text ≡ t.texts.bytes) (nodes : List Node) (rows : (u : State) → Stands t.builder u → IsPostorder nodes) (closed : (u : State) → Stands t.builder u → u.outer ≡ Top → forest_of nodes ≡ u.groups) where
+    there : IsGrown color t true (nested_code_of (items s (signatures_within m own) hints 0 [] [] os))
+    there = subst (λ (b : Bool). IsGrown color t b (nested_code_of (items s (signatures_within m own) hints 0 [] [] os))) e grown
 
     -- The texts of its nodes are in the buffer.
     pub texts_there : AreIn text (forest_of nodes)
@@ -43,5 +43,5 @@ module _ (paints : Bool) (m : PlacedModule) (v : FolderView) (is : record { pain
     layout_of =
         ap (λ (b : List ℕ). row_pieces s.form true s.nesting (map_nodes (shown_of_head b) (forest_of nodes))) buffer
         ∙ (ap (λ (f : NodesOf Shown). row_pieces s.form true s.nesting f) (whole t.texts.bytes t.builder nodes _ rows closed there.2).shows
-        ∙ (sym (folded-pieces paints s (signatures_within m own) hints os there.0 there.1)
+        ∙ (sym (folded-pieces color s (signatures_within m own) hints os there.0 there.1)
         ∙ ap (λ (f : FolderView). folded_list (folding_view f) own s hints os) is))

@@ -11,7 +11,7 @@ use Rattle.wasmprinter_spec.specs.Nesting.{Nests, Sequence}
 use Rattle.wasmprinter_spec.specs.Instructions.{role_at, roles}
 use Rattle.wasmprinter_spec.specs.Labels.{Label, labels_after, count_after}
 use Rattle.wasmprinter_spec.specs.Options.{defaults}
-use Rattle.wasmprinter_spec.specs.Customs.Hints.{Hint, next_hint, hint_behind}
+use Rattle.wasmprinter_spec.specs.Customs.Hints.{Hint, next_hint, hint_after}
 use Rattle.wasmprinter_spec.specs.Layout.Operators.{Setting}
 use Rattle.wasmprinter_spec.specs.Layout.Folded.{item, items, folded_pieces, if_folded}
 use Rattle.wasmprinter_spec.specs.Folding.Arities.{Signatures, OperandCounts, counts_of, label_of_block}
@@ -22,7 +22,7 @@ use Rattle.wasmprinter_spec.proofs.FoldingItems.{roles-items}
 use Rattle.wasmprinter_flat.proofs.Walking.{Fits, own-fits}
 use Rattle.wasmprinter_ops.specs.Operators.{placed_view, pairs}
 use Rattle.wasmprinter_ops.proofs.Pairs.{first-pair, no-pair}
-use Rattle.wasmprinter_labels.specs.Scan.{Scan, names_of, own_label, at_start_again, behind_operator}
+use Rattle.wasmprinter_labels.specs.Scan.{Scan, names_of, own_label, at_start_again, after_operator}
 use Rattle.wasmprinter_flat.proofs.Depths.{after-length, after-count}
 use Rattle.wasmprinter_nodes.specs.Building.{Top, StateOf, Step, start, state_at, step, step_of, steps, run_all}
 use Rattle.wasmprinter_nodes.specs.Mapping.{map_nodes}
@@ -37,32 +37,32 @@ use Rattle.wasmprinter_node_text.proofs.RowLaws.{rows_shown}
 -- ---- The step of an operator
 
 -- The step of an item is that of the printed text of its operator, by its role.
-step-shown : (paints : Bool) (s : Setting) (t : Signatures) (hint : Option (Placed Hint)) (l : Scan) (ls : List (Option ℕ)) (o : Placed Operator) (r : Role) →
+step-shown : (color : Bool) (s : Setting) (t : Signatures) (hint : Option (Placed Hint)) (l : Scan) (ls : List (Option ℕ)) (o : Placed Operator) (r : Role) →
     let counts : OperandCounts = counts_of t ls o.value in
-    step_of (shown_head paints) r (item s t hint (own_label l) l.labels ls o)
-    ≡ shown_step r (shown_operator paints s l o.place (option_map (λ h. h.value.taken) hint) o.value)
-    (shown_keyword paints o.place (codes "then")) (shown_keyword paints o.place (codes "else")) counts
-step-shown paints s t hint l ls o row.Plain = refl
-step-shown paints s t hint l ls o row.Opens = refl
-step-shown paints s t hint l ls o row.OpensIf = refl
-step-shown paints s t hint l ls o row.OpensTry = refl
-step-shown paints s t hint l ls o row.Turns = refl
-step-shown paints s t hint l ls o row.Catches = refl
-step-shown paints s t hint l ls o row.CatchesAll = refl
-step-shown paints s t hint l ls o row.Delegates = refl
-step-shown paints s t hint l ls o row.Ends = refl
+    step_of (shown_head color) r (item s t hint (own_label l) l.labels ls o)
+    ≡ shown_step r (shown_operator color s l o.place (option_map (λ h. h.value.taken) hint) o.value)
+    (shown_keyword color o.place (codes "then")) (shown_keyword color o.place (codes "else")) counts
+step-shown color s t hint l ls o row.Plain = refl
+step-shown color s t hint l ls o row.Opens = refl
+step-shown color s t hint l ls o row.OpensIf = refl
+step-shown color s t hint l ls o row.OpensTry = refl
+step-shown color s t hint l ls o row.Else = refl
+step-shown color s t hint l ls o row.Catches = refl
+step-shown color s t hint l ls o row.CatchesAll = refl
+step-shown color s t hint l ls o row.Delegates = refl
+step-shown color s t hint l ls o row.Ends = refl
 
 -- The step of an item is that of the program's operator, whose settings, identifiers and hint are equal.
-step-next : (paints other : Bool) (s : Setting) (t : Signatures) (next : Option (Placed Hint)) (hint : Option Bool) (names : Names) (l : Scan) (ls : List (Option ℕ)) (o : Placed Operator) (r : Role) →
-    other ≡ paints → names ≡ s.names → hint ≡ option_map (λ h. h.value.taken) next →
-    step_of (shown_head paints) r (item s t next (own_label l) l.labels ls o)
+step-next : (color other : Bool) (s : Setting) (t : Signatures) (next : Option (Placed Hint)) (hint : Option Bool) (names : Names) (l : Scan) (ls : List (Option ℕ)) (o : Placed Operator) (r : Role) →
+    other ≡ color → names ≡ s.names → hint ≡ option_map (λ h. h.value.taken) next →
+    step_of (shown_head color) r (item s t next (own_label l) l.labels ls o)
     ≡ shown_step r (shown_operator other (record s { names = names }) l o.place hint o.value)
     (shown_keyword other o.place (codes "then")) (shown_keyword other o.place (codes "else")) (counts_of t ls o.value)
-step-next paints other s t next hint names l ls o r e n q =
+step-next color other s t next hint names l ls o r e n q =
     let counts : OperandCounts = counts_of t ls o.value in
-    step-shown paints s t next l ls o r
-    ∙ (ap (λ (ns : Names). shown_step r (shown_operator paints (record s { names = ns }) l o.place (option_map (λ h. h.value.taken) next) o.value)
-    (shown_keyword paints o.place (codes "then")) (shown_keyword paints o.place (codes "else")) counts) (sym n)
+    step-shown color s t next l ls o r
+    ∙ (ap (λ (ns : Names). shown_step r (shown_operator color (record s { names = ns }) l o.place (option_map (λ h. h.value.taken) next) o.value)
+    (shown_keyword color o.place (codes "then")) (shown_keyword color o.place (codes "else")) counts) (sym n)
     ∙ rw (e, q) refl)
 
 -- ---- A list of operators
@@ -71,7 +71,7 @@ step-next paints other s t next hint names l ls o r e n q =
 items-of : (s : Setting) (t : Signatures) (hs : List (Placed Hint)) (n : ℕ) (xs : List Label) (ls : List (Option ℕ)) (os rest : List (Placed Operator)) (o : Placed Operator) → os ≡ o ∷ rest →
     items s t hs n xs ls os
     ≡ item s t (next_hint (o.place - s.body) hs) (s.names.labels s.function n (length xs)) xs ls o
-    ∷ items s t (hint_behind (o.place - s.body) hs) (count_after (role_at o) n) (labels_after (role_at o) (s.names.labels s.function n (length xs)) xs)
+    ∷ items s t (hint_after (o.place - s.body) hs) (count_after (role_at o) n) (labels_after (role_at o) (s.names.labels s.function n (length xs)) xs)
     (labels_after (role_at o) (label_of_block t o.value) ls) rest
 unfolding items
 items-of s t hs n xs ls os rest o e = ap (λ os. items s t hs n xs ls os) e
@@ -83,44 +83,44 @@ items-nil s t hs n xs ls os e = ap (λ os. items s t hs n xs ls os) e
 
 -- The state after the operators of a list, folded one after another.
 abbrev pub run_items : Bool → Setting → Signatures → List (Placed Hint) → Scan → List (Option ℕ) → StateOf Shown → List (Placed Operator) → StateOf Shown
-run_items paints s t hs l ls u os = run_all u (steps (shown_head paints) (items s t hs l.count l.labels ls os))
+run_items color s t hs l ls u os = run_all u (steps (shown_head color) (items s t hs l.count l.labels ls os))
 
 -- The loop invariant: all operators before `rest` were folded, and `left` are the hints still to be used. Folding
 -- `rest` from here gives the result of folding all operators from the start. None of the folded operators belongs
 -- to legacy exception handling. Even if each remaining operator opens a block, the number of blocks stays below
 -- 2^64.
-pub record Progress (paints : Bool) (s : Setting) (t : Signatures) (from : Scan) (hints : List (Placed Hint)) (all rest : List (Placed Operator)) (left : List (Placed Hint)) (l : Scan) (g : GrowingTree) : Type 0 where
+pub record Progress (color : Bool) (s : Setting) (t : Signatures) (from : Scan) (hints : List (Placed Hint)) (all rest : List (Placed Operator)) (left : List (Placed Hint)) (l : Scan) (g : GrowingTree) : Type 0 where
   pub state : StateOf Shown
   pub shows : Shows g state
-  pub leads : run_items paints s t left l g.labels state rest ≡ run_all start (steps (shown_head paints) (items s t hints 0 [] [] all))
+  pub leads : run_items color s t left l g.labels state rest ≡ run_all start (steps (shown_head color) (items s t hints 0 [] [] all))
   pub none_before : AreWithoutTry (roles rest) → AreWithoutTry (roles all)
-  pub none_behind : AreWithoutTry (roles all) → AreWithoutTry (roles rest)
-  pub paints_same : g.texts.paints ≡ paints
+  pub none_after : AreWithoutTry (roles all) → AreWithoutTry (roles rest)
+  pub colors_same : g.texts.color ≡ color
   pub named : l.named ≡ from.named
-  pub invents : l.invents ≡ from.invents
+  pub synthesizes : l.synthesizes ≡ from.synthesizes
   pub fits : Fits s l
   pub counted : l.count + length rest < 2 ^ 64
   pub nested : length l.labels + length rest < 2 ^ 64
 
 -- The invariant holds at the start, before anything is folded.
-pub starts : (paints : Bool) (s : Setting) (t : Signatures) (from l : Scan) (hints : List (Placed Hint)) (all os : List (Placed Operator)) (g : GrowingTree) →
-    l ≡ at_start_again s.function from → names_of from ≡ s.names → os ≡ all → length all < 2 ^ 64 → Shows g start → g.texts.paints ≡ paints → g.labels ≡ [] →
-    Progress paints s t from hints all os hints l g
-starts paints s t from l hints all os g b n e h w p c = rw (b) (record {
+pub starts : (color : Bool) (s : Setting) (t : Signatures) (from l : Scan) (hints : List (Placed Hint)) (all os : List (Placed Operator)) (g : GrowingTree) →
+    l ≡ at_start_again s.function from → names_of from ≡ s.names → os ≡ all → length all < 2 ^ 64 → Shows g start → g.texts.color ≡ color → g.labels ≡ [] →
+    Progress color s t from hints all os hints l g
+starts color s t from l hints all os g b n e h w p c = rw (b) (record {
   state = start;
   shows = w;
   leads = rw (c, e) refl;
   none_before = λ a. rw (← e) a;
-  none_behind = λ a. rw (e) a;
-  paints_same = p;
+  none_after = λ a. rw (e) a;
+  colors_same = p;
   named = refl;
-  invents = refl;
+  synthesizes = refl;
   fits = record { names = n; function = refl };
   counted = omega (arith, h, ap length e);
   nested = omega (arith, h, ap length e);
 })
 
-module _ {paints : Bool} {s : Setting} {t : Signatures} {from : Scan} {hints : List (Placed Hint)} {all os : List (Placed Operator)} {left : List (Placed Hint)} {l : Scan} {g : GrowingTree} (p : Progress paints s t from hints all os left l g) where
+module _ {color : Bool} {s : Setting} {t : Signatures} {from : Scan} {hints : List (Placed Hint)} {all os : List (Placed Operator)} {left : List (Placed Hint)} {l : Scan} {g : GrowingTree} (p : Progress color s t from hints all os left l g) where
   -- If an operator is left, the number of open blocks plus 1 is below 2^64.
   pub has_room : (rest : List (Placed Operator)) (x : ℕ × Operator) → pairs os ≡ x ∷ pairs rest → length l.labels + 1 < 2 ^ 64
   has_room rest x e = omega (arith, p.nested, ap length (first-pair os rest x e))
@@ -140,21 +140,21 @@ module _ {paints : Bool} {s : Setting} {t : Signatures} {from : Scan} {hints : L
           let w : AreWithoutTry (roles all) =
           subst AreWithoutTry (roles-items s t all hints 0 [] []) (nested_code_of-nests (items s t hints 0 [] [] all) code q).1 in
           let v : AreWithoutTry (roles (placed_view x ∷ rest)) =
-          subst (λ (y : List (Placed Operator)). AreWithoutTry (roles y)) (first-pair os rest x e) (p.none_behind w) in
+          subst (λ (y : List (Placed Operator)). AreWithoutTry (roles y)) (first-pair os rest x e) (p.none_after w) in
           absurd (cc (sym h ∙ v.0))
 
   -- After the next operator is folded, the invariant holds for the others.
-  pub goes_on : (rest : List (Placed Operator)) (x : ℕ × Operator) (role : Role) (k : Scan) (behind : List (Placed Hint)) (n : GrowingTree) (hint : Option Bool) →
-      pairs os ≡ x ∷ pairs rest → role ≡ role_of x.1.opcode → is_try role ≡ false → k ≡ behind_operator role l → behind ≡ hint_behind (x.0 - s.body) left →
-      hint ≡ option_map (λ h. h.value.taken) (next_hint (x.0 - s.body) left) → n.texts.paints ≡ g.texts.paints →
+  pub goes_on : (rest : List (Placed Operator)) (x : ℕ × Operator) (role : Role) (k : Scan) (remaining : List (Placed Hint)) (n : GrowingTree) (hint : Option Bool) →
+      pairs os ≡ x ∷ pairs rest → role ≡ role_of x.1.opcode → is_try role ≡ false → k ≡ after_operator role l → remaining ≡ hint_after (x.0 - s.body) left →
+      hint ≡ option_map (λ h. h.value.taken) (next_hint (x.0 - s.body) left) → n.texts.color ≡ g.texts.color →
       n.labels ≡ labels_after (role_of x.1.opcode) (label_of_block t x.1) g.labels →
-      GrowsByStep g n (operator_step g.texts.paints (record s { names = names_of l }) l x.0 hint x.1 (counts_of t g.labels x.1)) →
-      Progress paints s t from hints all rest behind k n
-  goes_on rest x role k behind n hint e r y b h q w c f =
+      GrowsByStep g n (operator_step g.texts.color (record s { names = names_of l }) l x.0 hint x.1 (counts_of t g.labels x.1)) →
+      Progress color s t from hints all rest remaining k n
+  goes_on rest x role k remaining n hint e r y b h q w c f =
       let o : Placed Operator = placed_view x in
-      let v = shown_head paints in
+      let v = shown_head color in
       let next : Option (Placed Hint) = next_hint (x.0 - s.body) left in
-      let after : List (Placed Hint) = hint_behind (x.0 - s.body) left in
+      let after : List (Placed Hint) = hint_after (x.0 - s.body) left in
       let r' : Role = role_of x.1.opcode in
       let counted : List (Option ℕ) = labels_after r' (label_of_block t x.1) g.labels in
       let u : StateOf Shown = step p.state (step_of v r' (item s t next (own_label l) l.labels g.labels o)) in
@@ -162,28 +162,28 @@ module _ {paints : Bool} {s : Setting} {t : Signatures} {from : Scan} {hints : L
         state = u;
         shows =
             subst (λ (y : Step Shown). Shows n (step p.state y))
-            (sym (step-next paints g.texts.paints s t next hint (names_of l) l g.labels o r' p.paints_same p.fits.names q)) (f p.state p.shows);
+            (sym (step-next color g.texts.color s t next hint (names_of l) l g.labels o r' p.colors_same p.fits.names q)) (f p.state p.shows);
         leads =
-            ap (λ (ls : List (Option ℕ)). run_items paints s t after (behind_operator r' l) ls u rest) c
+            ap (λ (ls : List (Option ℕ)). run_items color s t after (after_operator r' l) ls u rest) c
             ∙ (ap (λ (own : Label). run_all (step p.state (step_of v r' (item s t next own l.labels g.labels o)))
             (steps v (items s t after (count_after r' l.count) (labels_after r' own l.labels) counted rest))) (own-fits s l p.fits)
             ∙ (ap (λ (is : List Item). run_all p.state (steps v is)) (sym (items-of s t left l.count l.labels g.labels os rest o (first-pair os rest x e)))
             ∙ p.leads));
         none_before = λ a. p.none_before (subst (λ (y : List (Placed Operator)). AreWithoutTry (roles y)) (sym (first-pair os rest x e)) (ap is_try (sym r) ∙ y, a));
-        none_behind = λ a. (subst (λ (y : List (Placed Operator)). AreWithoutTry (roles y)) (first-pair os rest x e) (p.none_behind a)).1;
-        paints_same = w ∙ p.paints_same;
+        none_after = λ a. (subst (λ (y : List (Placed Operator)). AreWithoutTry (roles y)) (first-pair os rest x e) (p.none_after a)).1;
+        colors_same = w ∙ p.colors_same;
         named = p.named;
-        invents = p.invents;
+        synthesizes = p.synthesizes;
         fits = record { names = p.fits.names; function = p.fits.function };
         counted = omega (arith, p.counted, ap length (first-pair os rest x e), after-count (role_of x.1.opcode) l.count);
         nested = omega (arith, p.nested, ap length (first-pair os rest x e), after-length (role_of x.1.opcode) (own_label l) l.labels);
       })
 
   -- If no operator is left, the tree is that of the whole list.
-  pub all_folded : Nests Sequence (roles all) → pairs os ≡ [] → IsGrown paints g true (nested_code_of (items s t hints 0 [] [] all))
+  pub all_folded : Nests Sequence (roles all) → pairs os ≡ [] → IsGrown color g true (nested_code_of (items s t hints 0 [] [] all))
   all_folded n e =
       let xs : List Item = items s t hints 0 [] [] all in
-      let v = shown_head paints in
+      let v = shown_head color in
       let w : AreWithoutTry (roles all) = p.none_before (subst (λ (y : List (Placed Operator)). AreWithoutTry (roles y)) (sym (no-pair os e)) tt) in
       let same : map item_role xs ≡ roles all = roles-items s t all hints 0 [] [] in
       let c : (code : NestedCode) × (nested_code_of xs ≡ Some code) =
@@ -197,14 +197,14 @@ module _ {paints : Bool} {s : Setting} {t : Signatures} {from : Scan} {hints : L
 -- ---- The layout
 
 -- The layout of a list with a tree is that of its nodes.
-pub folded-pieces : (paints : Bool) (s : Setting) (t : Signatures) (hints : List (Placed Hint)) (os : List (Placed Operator)) (code : NestedCode) →
+pub folded-pieces : (color : Bool) (s : Setting) (t : Signatures) (hints : List (Placed Hint)) (os : List (Placed Operator)) (code : NestedCode) →
     nested_code_of (items s t hints 0 [] [] os) ≡ Some code →
-    if_folded (folded_pieces defaults paints s t hints os) ≡ row_pieces s.form true s.nesting (map_nodes (shown_head paints) (tree code))
+    if_folded (folded_pieces defaults color s t hints os) ≡ row_pieces s.form true s.nesting (map_nodes (shown_head color) (tree code))
 unfolding folded_pieces
-folded-pieces paints s t hints os code e = rw (e) (rows_shown paints s.form true s.nesting (tree code))
+folded-pieces color s t hints os code e = rw (e) (rows_shown color s.form true s.nesting (tree code))
 
 -- The layout of a list without a tree is empty.
-pub no-pieces : (paints : Bool) (s : Setting) (t : Signatures) (hints : List (Placed Hint)) (os : List (Placed Operator)) →
-    nested_code_of (items s t hints 0 [] [] os) ≡ None → if_folded (folded_pieces defaults paints s t hints os) ≡ []
+pub no-pieces : (color : Bool) (s : Setting) (t : Signatures) (hints : List (Placed Hint)) (os : List (Placed Operator)) →
+    nested_code_of (items s t hints 0 [] [] os) ≡ None → if_folded (folded_pieces defaults color s t hints os) ≡ []
 unfolding folded_pieces
-no-pieces paints s t hints os e = rw (e) refl
+no-pieces color s t hints os e = rw (e) refl

@@ -14,7 +14,7 @@ use Rattle.wasmprinter_spec.specs.Layout.Operators.{Setting}
 use Rattle.wasmprinter_labels.specs.Scan.{Scan, own_label}
 use Rattle.wasmprinter_flat.specs.Settings.{word_pieces}
 use Rattle.wasmprinter_nodes.specs.declared.builder.Builder.{Builder}
-use Rattle.wasmprinter_nodes.specs.Building.{Top, StateOf, Step, Plain, Opens, OpensIf, Turns, Ends, state_at, step}
+use Rattle.wasmprinter_nodes.specs.Building.{Top, StateOf, Step, Plain, Opens, OpensIf, Else, Ends, state_at, step}
 use Rattle.wasmprinter_nodes.specs.Mapping.{map_nodes, map_state}
 use Rattle.wasmprinter_nodes.specs.Frames.{State, Stands}
 use Rattle.wasmprinter_nodes.specs.Heads.{AllState}
@@ -38,28 +38,28 @@ GrowsByStep old new x = (s : StateOf Shown) → Shows old s → Shows new (step 
 
 -- The printed text of an operator, given the state of the labels before it.
 abbrev pub shown_operator : Bool → Setting → Scan → ℕ → Option Bool → Operator → Shown
-shown_operator paints s l place hint o = shown_of_calls place hint paints (all_calls defaults (word_pieces s (own_label l) l.labels o))
+shown_operator color s l place hint o = shown_of_calls place hint color (all_calls defaults (word_pieces s (own_label l) l.labels o))
 
 -- The printed text of a case of an `if`.
 abbrev pub shown_keyword : Bool → ℕ → List ℕ → Shown
-shown_keyword paints place keyword = shown_of_calls place None paints (Text keyword ∷ [])
+shown_keyword color place keyword = shown_of_calls place None color (Text keyword ∷ [])
 
 -- The step of an operator with the role, given the texts of the operator, of a `then` and of an `else`, and the
 -- numbers of its operands and results.
 abbrev pub shown_step : Role → Shown → Shown → Shown → OperandCounts → Step Shown
-shown_step row.Plain x then otherwise counts = Plain x counts.takes counts.gives
-shown_step row.Opens x then otherwise counts = Opens x counts.gives
-shown_step row.OpensIf x then otherwise counts = OpensIf x then counts.gives
-shown_step row.Turns x then otherwise counts = Turns otherwise
+shown_step row.Plain x then otherwise counts = Plain x counts.operands counts.results
+shown_step row.Opens x then otherwise counts = Opens x counts.results
+shown_step row.OpensIf x then otherwise counts = OpensIf x then counts.results
+shown_step row.Else x then otherwise counts = Else otherwise
 shown_step _ x then otherwise counts = Ends
 
 -- The step of an operator, given the state of the labels before it.
 abbrev pub operator_step : Bool → Setting → Scan → ℕ → Option Bool → Operator → OperandCounts → Step Shown
-operator_step paints s l place hint o counts =
-    shown_step (role_of o.opcode) (shown_operator paints s l place hint o) (shown_keyword paints place (codes "then"))
-    (shown_keyword paints place (codes "else")) counts
+operator_step color s l place hint o counts =
+    shown_step (role_of o.opcode) (shown_operator color s l place hint o) (shown_keyword color place (codes "then"))
+    (shown_keyword color place (codes "else")) counts
 
 -- The tree is that of the code; if folding was refused, there is no code.
 abbrev pub IsGrown : Bool → GrowingTree → Bool → Option NestedCode → Type 0
-IsGrown paints t true c = (code : NestedCode) × (c ≡ Some code) × Shows t (state_at Top (map_nodes (shown_head paints) (tree code)))
-IsGrown paints t false c = c ≡ None
+IsGrown color t true c = (code : NestedCode) × (c ≡ Some code) × Shows t (state_at Top (map_nodes (shown_head color) (tree code)))
+IsGrown color t false c = c ≡ None

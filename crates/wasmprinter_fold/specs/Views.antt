@@ -6,9 +6,9 @@ use Rattle.wasmprinter_spec.specs.Folding.Arities.{signatures_within}
 
 -- Whether the texts of nodes contain ANSI escape sequences, and the module whose operators are folded.
 pub record FolderView : Type 0 where
-  pub paints : Bool
+  pub color : Bool
   pub operators_of : PlacedModule
 
 -- The folding of the layout.
 abbrev pub folding_view : FolderView → Folding
-folding_view f = record { paints = f.paints; signatures = signatures_within f.operators_of }
+folding_view f = record { color = f.color; signatures = signatures_within f.operators_of }

@@ -1,7 +1,7 @@
 //! The folder, which folds and prints the operators of a module, list by list.
 ghost use Rattle.std.specs.Prelude.{◌≡◌, true, IfOk, OnErr};
 ghost use Rattle.wasmprinter_spec.specs.Layout.Folded.{folded_list};
-ghost use Rattle.wasmprinter_print.specs.Prints.{PrintsOrStops, TellsLines};
+ghost use Rattle.wasmprinter_print.specs.Prints.{PrintsOrStops, ReportsLines};
 ghost use Rattle.wasmprinter_flat.specs.Settings.{setting_among};
 ghost use Rattle.wasmprinter_arities.specs.Gathering.{ImportsSome};
 ghost use Rattle.wasmprinter_fold.specs.Views.{folding_view};
@@ -9,7 +9,7 @@ ghost use Rattle.wasmprinter_fold.specs.Views.{folding_view};
 use crate::tree::GrowingTree;
 use std::alloc::{AllocError, Global};
 use std::marker::Model;
-use wasmprinter_arities::callees::Callees;
+use wasmprinter_arities::callees::CalleeTypes;
 use wasmprinter_customs::FunctionHints;
 use wasmprinter_error::Error;
 use wasmprinter_flat::operators::Setting;
@@ -25,7 +25,7 @@ use wasmprinter_wasm::Module;
 #[derive(Drop)]
 pub struct Folder<'m, 'a> {
     alloc: Global,
-    callees: Callees<'m, 'a>,
+    callees: CalleeTypes<'m, 'a>,
     tree: GrowingTree,
 }
 
@@ -34,22 +34,22 @@ impl<'m, 'a> Model for Folder<'m, 'a> {
 
     ghost Value = { FolderView };
 
-    ghost view = { λ f. record { paints = f.tree.texts.paints; operators_of = f.callees } };
+    ghost view = { λ f. record { color = f.tree.texts.color; operators_of = f.callees } };
 }
 
 impl<'m, 'a> Folder<'m, 'a> {
-    /// Gathers the types of the items that the module's operators refer to. `paints` says whether texts of folded
+    /// Gathers the types of the items that the module's operators refer to. `color` says whether texts of folded
     /// operators contain ANSI escape sequences.
     ///
     /// # Errors
     ///
     /// Returns an error if an allocation fails. Memory is needed only if a function or a tag is imported.
-    pub fn new(alloc: Global, module: &'m Module<'a>, paints: bool) -> Result<Self, AllocError>
-        ensures ok { IfOk result (λ f. f ≡ record { paints = paints; operators_of = «module».now }) }
+    pub fn new(alloc: Global, module: &'m Module<'a>, color: bool) -> Result<Self, AllocError>
+        ensures ok { IfOk result (λ f. f ≡ record { color = color; operators_of = «module».now }) }
         ensures memory { OnErr result (ImportsSome «module».now) }
     {
-        let callees = Callees::new(alloc, module)?;
-        let tree = GrowingTree::new(alloc, paints);
+        let callees = CalleeTypes::new(alloc, module)?;
+        let tree = GrowingTree::new(alloc, color);
         Ok(Folder {
             alloc,
             callees,
@@ -80,12 +80,12 @@ impl<'m, 'a> Folder<'m, 'a> {
         ensures prints { PrintsOrStops P.meaning options.now p.old p.new true result
             (folded_list (folding_view self.old) own (setting_among S.signature_at setting.now labels.old) hints.entry
             expression.now.items) }
-        ensures lines { TellsLines result
+        ensures lines { ReportsLines result
             (folded_list (folding_view self.old) own (setting_among S.signature_at setting.now labels.old) hints.entry
             expression.now.items) }
         ensures folder { self.new ≡ self.old }
         ensures named { labels.new.named ≡ labels.old.named }
-        ensures invents { labels.new.invents ≡ labels.old.invents }
+        ensures synthesizes { labels.new.synthesizes ≡ labels.old.synthesizes }
     {
         // A module with an operator of legacy exception handling is refused before anything is printed,
         // so every list that arrives here is folded.

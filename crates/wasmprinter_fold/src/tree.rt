@@ -1,12 +1,12 @@
 //! The tree of a list of operators, which grows with each operator.
 ghost use Rattle.std.specs.Prelude.{◌≡◌, ◌+◌, ◌-◌, ◌<◌, ◌^◌, [], length, option_map, codes, IfOk, OnOk};
 ghost use Rattle.wasmprinter_spec.specs.Table.{role_of};
-ghost use Rattle.wasmprinter_spec.specs.Customs.Hints.{next_hint, hint_behind};
+ghost use Rattle.wasmprinter_spec.specs.Customs.Hints.{next_hint, hint_after};
 ghost use Rattle.wasmprinter_spec.specs.Labels.{labels_after};
 ghost use Rattle.wasmprinter_spec.specs.Folding.Arities.{signatures_within, counts_of, label_of_block};
 ghost use Rattle.wasmprinter_spec.specs.Folding.Code.{nested_code_of};
 ghost use Rattle.wasmprinter_spec.specs.Layout.Folded.{items};
-ghost use Rattle.wasmprinter_nodes.specs.Building.{StateOf, Plain, Opens, OpensIf, Turns, Ends, start};
+ghost use Rattle.wasmprinter_nodes.specs.Building.{StateOf, Plain, Opens, OpensIf, Else, Ends, start};
 ghost use Rattle.wasmprinter_flat.specs.Settings.{setting_among};
 ghost use Rattle.wasmprinter_arities.specs.Counted.{counts_view};
 ghost use Rattle.wasmprinter_node_text.specs.Shown.{Shown};
@@ -14,7 +14,7 @@ ghost use Rattle.wasmprinter_fold.specs.Growing.{Shows, GrowsByStep, operator_st
 
 use std::alloc::{AllocError, Global};
 use wasmprinter_arities::blocks::label_of_block;
-use wasmprinter_arities::callees::Callees;
+use wasmprinter_arities::callees::CalleeTypes;
 use wasmprinter_arities::counts::Counts;
 use wasmprinter_arities::labels::LabelCounts;
 use wasmprinter_arities::operators::counts;
@@ -43,8 +43,8 @@ pub struct GrowingTree {
 /// Removes the next hint if it is for the operator at `offset` bytes from the body's first byte. Returns whether
 /// that operator's branch is hinted as taken.
 fn take_hint(hints: &mut FunctionHints<'_>, offset: u64) -> Option<bool>
-    ensures gives { result ≡ option_map (λ h. h.value.taken) (next_hint offset hints.old) }
-    ensures behind { hints.new ≡ hint_behind offset hints.old }
+    ensures results { result ≡ option_map (λ h. h.value.taken) (next_hint offset hints.old) }
+    ensures after { hints.new ≡ hint_after offset hints.old }
 {
     match hints.next_at(offset) {
         Some(hint) => Some(hint.is_taken()),
@@ -54,11 +54,11 @@ fn take_hint(hints: &mut FunctionHints<'_>, offset: u64) -> Option<bool>
 
 impl GrowingTree {
     /// Creates a tree without nodes. This allocates no memory.
-    pub fn new(alloc: Global, paints: bool) -> GrowingTree
-        ensures { result.texts.paints ≡ paints }
+    pub fn new(alloc: Global, color: bool) -> GrowingTree
+        ensures { result.texts.color ≡ color }
     {
         GrowingTree {
-            texts: Texts::new(alloc, paints),
+            texts: Texts::new(alloc, color),
             builder: Builder::new(alloc),
             labels: LabelCounts::new(alloc),
         }
@@ -68,7 +68,7 @@ impl GrowingTree {
     fn clear(&mut self)
         ensures shows { Shows self.new start }
         ensures texts { self.new.texts.bytes ≡ [] }
-        ensures paints { self.new.texts.paints ≡ self.old.texts.paints }
+        ensures color { self.new.texts.color ≡ self.old.texts.color }
         ensures labels { self.new.labels ≡ [] }
     {
         self.texts.clear();
@@ -88,16 +88,16 @@ impl GrowingTree {
     ) -> Result<(), AllocError>
         requires room { length labels.now.labels + 1 < 2 ^ 64 }
         requires shows { (s : StateOf Shown) × Shows self.old s }
-        ensures paints { self.new.texts.paints ≡ self.old.texts.paints }
+        ensures color { self.new.texts.color ≡ self.old.texts.color }
         ensures labels { self.new.labels ≡ self.old.labels }
         ensures steps { OnOk result (GrowsByStep self.old self.new (Plain
-            (shown_operator self.old.texts.paints (setting_among S.signature_at setting.now labels.now) labels.now place hint operator.now)
-            counts.takes counts.gives)) }
+            (shown_operator self.old.texts.color (setting_among S.signature_at setting.now labels.now) labels.now place hint operator.now)
+            counts.operands counts.results)) }
     {
         let head = self
             .texts
             .write_operator(setting, labels, operator, place, hint)?;
-        self.builder.plain(head, counts.takes, counts.gives)
+        self.builder.plain(head, counts.operands, counts.results)
     }
 
     /// Opens a block.
@@ -112,16 +112,16 @@ impl GrowingTree {
     ) -> Result<(), AllocError>
         requires room { length labels.now.labels + 1 < 2 ^ 64 }
         requires shows { (s : StateOf Shown) × Shows self.old s }
-        ensures paints { self.new.texts.paints ≡ self.old.texts.paints }
+        ensures color { self.new.texts.color ≡ self.old.texts.color }
         ensures labels { self.new.labels ≡ self.old.labels }
         ensures steps { OnOk result (GrowsByStep self.old self.new (Opens
-            (shown_operator self.old.texts.paints (setting_among S.signature_at setting.now labels.now) labels.now place hint operator.now)
-            counts.gives)) }
+            (shown_operator self.old.texts.color (setting_among S.signature_at setting.now labels.now) labels.now place hint operator.now)
+            counts.results)) }
     {
         let head = self
             .texts
             .write_operator(setting, labels, operator, place, hint)?;
-        self.builder.open(head, counts.gives)
+        self.builder.open(head, counts.results)
     }
 
     /// Opens an `if` and its first case.
@@ -136,26 +136,26 @@ impl GrowingTree {
     ) -> Result<(), AllocError>
         requires room { length labels.now.labels + 1 < 2 ^ 64 }
         requires shows { (s : StateOf Shown) × Shows self.old s }
-        ensures paints { self.new.texts.paints ≡ self.old.texts.paints }
+        ensures color { self.new.texts.color ≡ self.old.texts.color }
         ensures labels { self.new.labels ≡ self.old.labels }
         ensures steps { OnOk result (GrowsByStep self.old self.new (OpensIf
-            (shown_operator self.old.texts.paints (setting_among S.signature_at setting.now labels.now) labels.now place hint operator.now)
-            (shown_keyword self.old.texts.paints place (codes "then")) counts.gives)) }
+            (shown_operator self.old.texts.color (setting_among S.signature_at setting.now labels.now) labels.now place hint operator.now)
+            (shown_keyword self.old.texts.color place (codes "then")) counts.results)) }
     {
         let head = self
             .texts
             .write_operator(setting, labels, operator, place, hint)?;
         let then = self.texts.write_keyword("then", place)?;
-        self.builder.open_if(head, then, counts.gives)
+        self.builder.open_if(head, then, counts.results)
     }
 
     /// Opens the second case of the innermost `if`, at an `else`.
     fn turn(&mut self, place: u64) -> Result<(), AllocError>
         requires { (s : StateOf Shown) × Shows self.old s }
-        ensures paints { self.new.texts.paints ≡ self.old.texts.paints }
+        ensures color { self.new.texts.color ≡ self.old.texts.color }
         ensures labels { self.new.labels ≡ self.old.labels }
-        ensures steps { OnOk result (GrowsByStep self.old self.new (Turns
-            (shown_keyword self.old.texts.paints place (codes "else")))) }
+        ensures steps { OnOk result (GrowsByStep self.old self.new (Else
+            (shown_keyword self.old.texts.color place (codes "else")))) }
     {
         let head = self.texts.write_keyword("else", place)?;
         self.builder.turn(head)
@@ -164,7 +164,7 @@ impl GrowingTree {
     /// Closes the innermost block, at an `end`.
     fn end(&mut self) -> Result<(), AllocError>
         requires { (s : StateOf Shown) × Shows self.old s }
-        ensures paints { self.new.texts.paints ≡ self.old.texts.paints }
+        ensures color { self.new.texts.color ≡ self.old.texts.color }
         ensures labels { self.new.labels ≡ self.old.labels }
         ensures steps { OnOk result (GrowsByStep self.old self.new Ends) }
     {
@@ -185,16 +185,16 @@ impl GrowingTree {
     ) -> Result<(), AllocError>
         requires room { length labels.now.labels + 1 < 2 ^ 64 }
         requires shows { (s : StateOf Shown) × Shows self.old s }
-        ensures paints { self.new.texts.paints ≡ self.old.texts.paints }
+        ensures color { self.new.texts.color ≡ self.old.texts.color }
         ensures labels { self.new.labels ≡ self.old.labels }
-        ensures steps { OnOk result (GrowsByStep self.old self.new (operator_step self.old.texts.paints
+        ensures steps { OnOk result (GrowsByStep self.old self.new (operator_step self.old.texts.color
             (setting_among S.signature_at setting.now labels.now) labels.now place hint operator.now (counts_view counts))) }
     {
         match operator.opcode.role() {
             Role::Plain => self.plain(setting, labels, operator, place, hint, counts),
             Role::Opens => self.open(setting, labels, operator, place, hint, counts),
             Role::OpensIf => self.open_if(setting, labels, operator, place, hint, counts),
-            Role::Turns => self.turn(place),
+            Role::Else => self.turn(place),
             Role::OpensTry | Role::Catches | Role::CatchesAll | Role::Delegates | Role::Ends => {
                 self.end()
             }
@@ -204,7 +204,7 @@ impl GrowingTree {
     /// Adds the next operator. `labels` are those that are open before it.
     fn fold_next<S: Signatures>(
         &mut self,
-        callees: &Callees<'_, '_>,
+        callees: &CalleeTypes<'_, '_>,
         setting: &Setting<'_, S>,
         labels: &OpenLabels<'_, '_>,
         own: Option<u32>,
@@ -214,10 +214,10 @@ impl GrowingTree {
     ) -> Result<(), AllocError>
         requires room { length labels.now.labels + 1 < 2 ^ 64 }
         requires shows { (s : StateOf Shown) × Shows self.old s }
-        ensures paints { self.new.texts.paints ≡ self.old.texts.paints }
+        ensures color { self.new.texts.color ≡ self.old.texts.color }
         ensures labels { OnOk result (self.new.labels ≡ labels_after (role_of operator.now.opcode)
             (label_of_block (signatures_within callees.now own) operator.now) self.old.labels) }
-        ensures steps { OnOk result (GrowsByStep self.old self.new (operator_step self.old.texts.paints
+        ensures steps { OnOk result (GrowsByStep self.old self.new (operator_step self.old.texts.color
             (setting_among S.signature_at setting.now labels.now) labels.now place hint operator.now
             (counts_of (signatures_within callees.now own) self.old.labels operator.now))) }
     {
@@ -236,17 +236,17 @@ impl GrowingTree {
     /// Returns an error if an allocation fails. The nodes are then unusable until the next list is folded.
     pub fn fold<S: Signatures>(
         &mut self,
-        callees: &Callees<'_, '_>,
+        callees: &CalleeTypes<'_, '_>,
         setting: &Setting<'_, S>,
         labels: &mut OpenLabels<'_, '_>,
         own: Option<u32>,
         hints: FunctionHints<'_>,
         expression: &Expression<'_>,
     ) -> Result<bool, AllocError>
-        ensures paints { self.new.texts.paints ≡ self.old.texts.paints }
+        ensures color { self.new.texts.color ≡ self.old.texts.color }
         ensures named { labels.new.named ≡ labels.old.named }
-        ensures invents { labels.new.invents ≡ labels.old.invents }
-        ensures grown { IfOk result (λ folded. IsGrown self.old.texts.paints self.new folded (nested_code_of
+        ensures synthesizes { labels.new.synthesizes ≡ labels.old.synthesizes }
+        ensures grown { IfOk result (λ folded. IsGrown self.old.texts.color self.new folded (nested_code_of
             (items (setting_among S.signature_at setting.now labels.old) (signatures_within callees.now own) hints.entry 0 [] []
             expression.now.items))) }
     {

@@ -11,8 +11,8 @@ use wasmprinter_samples::sections::{FUNCTION, IMPORT, TAG, TYPE};
 /// An operator: its operand and result counts, its bytes as hexadecimal digits, and its text.
 #[derive(Clone, Copy)]
 struct Row {
-    takes: u32,
-    gives: u32,
+    operands: u32,
+    results: u32,
     digits: &'static str,
     text: &'static str,
 }
@@ -21,10 +21,10 @@ struct Row {
 fn row_of(line: &'static str) -> Result<Row, Fail> {
     let (arity, operator) = line.split_once(": ").ok_or("a line without bytes")?;
     let (digits, text) = operator.split_once(": ").ok_or("a line without a text")?;
-    let (takes, gives) = arity.split_once('>').ok_or("a line without results")?;
+    let (operands, results) = arity.split_once('>').ok_or("a line without results")?;
     Ok(Row {
-        takes: u32::from_str_radix(takes, 10)?,
-        gives: u32::from_str_radix(gives, 10)?,
+        operands: u32::from_str_radix(operands, 10)?,
+        results: u32::from_str_radix(results, 10)?,
         digits,
         text,
     })
@@ -105,7 +105,7 @@ fn add_node(text: &mut String, indent: &str, row: &Row) -> Result<(), AllocError
     text.push_str(indent)?;
     text.push('(')?;
     text.push_str(row.text)?;
-    for _ in 0..row.takes {
+    for _ in 0..row.operands {
         text.push('\n')?;
         text.push_str(indent)?;
         text.push_str("  (i32.const 0)")?;
@@ -115,8 +115,8 @@ fn add_node(text: &mut String, indent: &str, row: &Row) -> Result<(), AllocError
 
 /// Adds the lines of the body with an operator.
 fn add_body(text: &mut String, row: &Row) -> Result<(), AllocError> {
-    let left = CONSTANTS.saturating_sub(row.takes);
-    match row.gives {
+    let left = CONSTANTS.saturating_sub(row.operands);
+    match row.results {
         // `i32.eqz` takes the last remaining constant, and with it the operator after that constant.
         0 => {
             add_constants(text, left.saturating_sub(1))?;

@@ -155,7 +155,7 @@ fn calls_before(calls: &str) -> Option<&str> {
 }
 
 /// Returns the number of times that these calls occur in `BEGINNINGS`.
-fn times_told(calls: &str) -> usize {
+fn times_reported(calls: &str) -> usize {
     let mut count: usize = 0;
     for beginning in &BEGINNINGS {
         if *beginning == calls {
@@ -167,20 +167,20 @@ fn times_told(calls: &str) -> usize {
 
 /// Returns the number of times that the calls up to the refused one, which has this number, occur in `BEGINNINGS`.
 /// Returns `None` if that call is not the last, or its error is not returned.
-fn times_told_before(alloc: Global, config: &Config, call: u32) -> Option<usize> {
+fn times_reported_before(alloc: Global, config: &Config, call: u32) -> Option<usize> {
     let mut recorder = Recorder::with_refusal(alloc, call, ErrorKind::BrokenPipe);
     if !answers_its_error(alloc, config, &mut recorder) {
         return None;
     }
     let calls = calls_before(recorder.calls())?;
-    Some(times_told(calls))
+    Some(times_reported(calls))
 }
 
 /// Returns the sum of these numbers, with each call that can fail refused in turn.
-fn times_told_in_all(alloc: Global, config: &Config) -> Result<usize, Fail> {
+fn times_reported_in_all(alloc: Global, config: &Config) -> Result<usize, Fail> {
     let mut count: usize = 0;
     for call in 1..=call_count(alloc, config)? {
-        let told = times_told_before(alloc, config, call).ok_or(call)?;
+        let told = times_reported_before(alloc, config, call).ok_or(call)?;
         count = count.saturating_add(told);
     }
     Ok(count)
@@ -188,7 +188,7 @@ fn times_told_in_all(alloc: Global, config: &Config) -> Result<usize, Fail> {
 
 #[test]
 fn stops_at_the_call_that_fails_and_answers_its_error(rt: HostRuntime) -> Result<(), Fail> {
-    assert!(rt; times_told_in_all(rt.alloc(), &folding())? == BEGINNINGS.len());
+    assert!(rt; times_reported_in_all(rt.alloc(), &folding())? == BEGINNINGS.len());
     Ok(())
 }
 

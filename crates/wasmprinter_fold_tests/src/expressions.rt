@@ -154,7 +154,7 @@ const USING_TYPES: [Section; 4] = [
 
 /// An initialiser is printed before the tags and bodies on whose types it depends.
 #[test]
-fn knows_types_of_what_stands_behind(rt: HostRuntime) -> Result<(), Fail> {
+fn knows_types_of_later_items(rt: HostRuntime) -> Result<(), Fail> {
     let wasm = with_code(rt.alloc(), &USING_TYPES, &[])?;
     expect_folded(
         rt.alloc(),
@@ -179,7 +179,7 @@ const BEFORE_A_BODY: [Section; 3] = [
 ];
 
 #[test]
-fn keeps_to_the_line_behind_an_expression(rt: HostRuntime) -> Result<(), Fail> {
+fn keeps_to_the_line_after_an_expression(rt: HostRuntime) -> Result<(), Fail> {
     let wasm = with_code(rt.alloc(), &BEFORE_A_BODY, &[0x23, 0x00, 0x24, 0x00])?;
     expect_folded(
         rt.alloc(),

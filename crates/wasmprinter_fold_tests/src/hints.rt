@@ -264,7 +264,7 @@ const BLOCK_HINTED_FLAT: &str = r#"(module
 
 /// The hint is not refused in a skeleton, which has no bodies.
 #[test]
-fn tells_where_the_hint_stands(rt: HostRuntime) -> Result<(), Fail> {
+fn returns_the_place_of_the_hint(rt: HostRuntime) -> Result<(), Fail> {
     expect_refusal(
         rt.alloc(),
         &BLOCK_HINTED,

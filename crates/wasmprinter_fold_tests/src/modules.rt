@@ -194,7 +194,7 @@ fn are_lines_refused(
 
 /// Reports whether appending the lines of a module is refused for this reason, and the earlier contents of the
 /// storage remain.
-fn are_lines_refused_behind_text(
+fn are_lines_refused_after_text(
     alloc: Global,
     config: &Config,
     wasm: &[u8],
@@ -218,7 +218,7 @@ fn is_refused_each_way(
     Ok(
         is_text_refused(alloc, config, wasm, refusal)
             && is_refused_in_colors(alloc, config, wasm, refusal)
-            && are_lines_refused_behind_text(alloc, config, wasm, refusal)?,
+            && are_lines_refused_after_text(alloc, config, wasm, refusal)?,
     )
 }
 

@@ -25,7 +25,7 @@ const GLOBALS_AND_SEGMENTS: [Section; 3] = [
 const OF_GLOBALS: [u8; 9] = [0x07, 0x07, 0x01, 0x00, 0x04, 0x61, 0x3b, 0x3b, 0x62];
 
 #[test]
-fn begins_a_line_behind_a_name_with_semicolons(rt: HostRuntime) -> Result<(), Fail> {
+fn begins_a_line_after_a_name_with_semicolons(rt: HostRuntime) -> Result<(), Fail> {
     let wasm = with_names(rt.alloc(), &GLOBALS_AND_SEGMENTS, &OF_GLOBALS)?;
     expect_folded(
         rt.alloc(),

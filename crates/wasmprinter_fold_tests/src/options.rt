@@ -145,7 +145,7 @@ fn folds_what_an_outline_prints(rt: HostRuntime) -> Result<(), Fail> {
 }
 
 #[test]
-fn folds_with_identifiers_that_are_made_up(rt: HostRuntime) -> Result<(), Fail> {
+fn folds_with_synthesized_identifiers(rt: HostRuntime) -> Result<(), Fail> {
     let mut config = Config::new();
     config.name_unnamed(true).fold_instructions(true);
     expect_printed(
@@ -229,7 +229,7 @@ fn folds_by_all_options_at_once(rt: HostRuntime) -> Result<(), Fail> {
 
 /// Locals are on a line of their own, before the nodes. A function without operators has no nodes.
 #[test]
-fn folds_behind_locals(rt: HostRuntime) -> Result<(), Fail> {
+fn folds_after_locals(rt: HostRuntime) -> Result<(), Fail> {
     let alloc = rt.alloc();
     expect_folded(
         alloc,

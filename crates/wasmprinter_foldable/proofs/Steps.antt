@@ -12,7 +12,7 @@ use Rattle.wasmprinter_spec.specs.Grammar.{Placed}
 use Rattle.wasmprinter_spec.specs.Operator.{Operator}
 use Rattle.wasmprinter_spec.specs.Instructions.{Closed}
 use Rattle.wasmprinter_spec.specs.Table.{role_of}
-use Rattle.wasmprinter_spec.specs.Customs.Hints.{Hint, FunctionHints, next_hint, hint_behind, next_hints, hints_behind, last_named, hints_by, hints_of}
+use Rattle.wasmprinter_spec.specs.Customs.Hints.{Hint, FunctionHints, next_hint, hint_after, next_hints, hints_after, last_named, hints_by, hints_of}
 use Rattle.wasmprinter_spec.specs.Placed.{Custom, CustomEntry, Global, PlacedFunction, PlacedModule}
 use Rattle.wasmprinter_spec.specs.Options.{Options}
 use Rattle.wasmprinter_spec.specs.Folding.Code.{is_try}
@@ -53,7 +53,7 @@ legacy_none os e = ap legacy_places_in (no-pair os e)
 -- The places of misplaced hints in a list are that of the first operator's hint, if it is misplaced, and those in
 -- the rest.
 pub misplaced_next : (body : ℕ) (hs : List (Placed Hint)) (os rest : Operators) (place : ℕ) (o : Operator) → pairs os ≡ (place, o) ∷ pairs rest →
-    misplaced_hints_in body hs os ≡ place_if_misplaced (role_of o.opcode) (next_hint (place - body) hs) ++ misplaced_hints_in body (hint_behind (place - body) hs) rest
+    misplaced_hints_in body hs os ≡ place_if_misplaced (role_of o.opcode) (next_hint (place - body) hs) ++ misplaced_hints_in body (hint_after (place - body) hs) rest
 misplaced_next body hs os rest place o e = ap (misplaced_hints_in body hs) (first-pair os rest (place, o) e)
 
 -- An empty list has no misplaced hints.
@@ -77,11 +77,11 @@ bodies_next i fs f e = ap (λ (gs : List PlacedFunction). flat_map legacy_places
 pub hints_next : (es : List FunctionHints) (k i : ℕ) (fs : List PlacedFunction) (f : PlacedFunction) → slice_get fs i ≡ Some f →
     misplaced_hints_from es (k + i) (drop i fs)
     ≡ misplaced_hints_in f.body.place (next_hints (k + i) es) f.body.value.operators
-    ++ misplaced_hints_from (hints_behind (k + i) es) (k + (i + 1)) (drop (i + 1) fs)
+    ++ misplaced_hints_from (hints_after (k + i) es) (k + (i + 1)) (drop (i + 1) fs)
 hints_next es k i fs f e =
     let number : (k + i) + 1 ≡ k + (i + 1) = omega (arith) in
     ap (misplaced_hints_from es (k + i)) (function_next i fs f e)
-    ∙ ap (λ n. misplaced_hints_in f.body.place (next_hints (k + i) es) f.body.value.operators ++ misplaced_hints_from (hints_behind (k + i) es) n (drop (i + 1) fs)) number
+    ∙ ap (λ n. misplaced_hints_in f.body.place (next_hints (k + i) es) f.body.value.operators ++ misplaced_hints_from (hints_after (k + i) es) n (drop (i + 1) fs)) number
 
 -- ---- Hint sections
 
@@ -135,13 +135,13 @@ pub constants_parts : (o : Options) (m : PlacedModule) →
     ≡ flat_map legacy_places_in (flat_map init_list m.tables)
     ++ (flat_map legacy_places_in (flat_map (λ (g : Placed (Global (Placed Operator))). g.value.init ∷ []) m.globals)
     ++ (flat_map legacy_places_in (flat_map (element_lists o.skeleton) m.elements)
-    ++ flat_map legacy_places_in (flat_map data_lists m.datas)))
+    ++ flat_map legacy_places_in (flat_map data_lists m.data_segments)))
 constants_parts o m =
     let globals = flat_map_single (λ (g : Placed (Global (Placed Operator))). g.value.init) m.globals in
     let front = flat_map init_list m.tables in
     let second = map (λ (g : Placed (Global (Placed Operator))). g.value.init) m.globals in
     let third = flat_map (element_lists o.skeleton) m.elements in
-    let fourth = flat_map data_lists m.datas in
+    let fourth = flat_map data_lists m.data_segments in
     let a = flat_map legacy_places_in front in
     let b = flat_map legacy_places_in second in
     let c = flat_map legacy_places_in third in

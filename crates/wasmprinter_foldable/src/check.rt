@@ -21,7 +21,7 @@ fn check_constants(options: &PrintOptions, module: &Module<'_>) -> Result<(), Er
     check_each(module.tables(), skeleton)?;
     check_each(module.globals(), skeleton)?;
     check_each(module.elements(), skeleton)?;
-    check_each(module.datas(), skeleton)
+    check_each(module.data_segments(), skeleton)
 }
 
 /// Returns an error for the first operator of legacy exception handling that is printed.

@@ -52,7 +52,7 @@ fn is_hintless(role: Role) -> bool
     ensures { result ≡ is_hintless (role_view role) }
 {
     match role {
-        Role::Opens | Role::Turns | Role::Ends => true,
+        Role::Opens | Role::Else | Role::Ends => true,
         Role::Plain | Role::OpensIf | Role::OpensTry => false,
         Role::Catches | Role::CatchesAll | Role::Delegates => false,
     }

@@ -14,7 +14,7 @@ use wasmprinter_wasm::{
 };
 
 /// An item that contains lists of operators.
-pub(crate) trait Holder {
+pub(crate) trait HasExpressions {
     ghost use Rattle.std.specs.Prelude.{List, Bool};
     ghost use Rattle.wasmprinter_spec.specs.Folding.Refusals.{Operators};
 
@@ -26,7 +26,7 @@ pub(crate) trait Holder {
         ensures { result ≡ error_of_first FoldLegacy (flat_map legacy_places_in (lists skeleton self.now)) };
 }
 
-impl<'a> Holder for Expression<'a> {
+impl<'a> HasExpressions for Expression<'a> {
     ghost lists = { λ skeleton e. e.items ∷ [] };
 
     fn check_legacy(&self, _skeleton: bool) -> Result<(), Error> {
@@ -34,7 +34,7 @@ impl<'a> Holder for Expression<'a> {
     }
 }
 
-impl<'a> Holder for Table<'a> {
+impl<'a> HasExpressions for Table<'a> {
     ghost lists = { λ skeleton t. init_list t };
 
     fn check_legacy(&self, _skeleton: bool) -> Result<(), Error> {
@@ -45,7 +45,7 @@ impl<'a> Holder for Table<'a> {
     }
 }
 
-impl<'a> Holder for Global<'a> {
+impl<'a> HasExpressions for Global<'a> {
     ghost lists = { λ skeleton g. g.value.init ∷ [] };
 
     fn check_legacy(&self, _skeleton: bool) -> Result<(), Error> {
@@ -53,7 +53,7 @@ impl<'a> Holder for Global<'a> {
     }
 }
 
-impl<'a> Holder for Data<'a> {
+impl<'a> HasExpressions for Data<'a> {
     ghost lists = { λ skeleton d. data_lists d };
 
     fn check_legacy(&self, _skeleton: bool) -> Result<(), Error> {
@@ -85,7 +85,7 @@ fn check_items(items: &ElementItems<'_>) -> Result<(), Error>
     }
 }
 
-impl<'a> Holder for Element<'a> {
+impl<'a> HasExpressions for Element<'a> {
     ghost lists = { λ skeleton e. element_lists skeleton e };
 
     fn check_legacy(&self, skeleton: bool) -> Result<(), Error> {
@@ -99,7 +99,7 @@ impl<'a> Holder for Element<'a> {
 
 /// Returns `FoldLegacy`, with its place, for the first operator of legacy exception handling in the printed lists
 /// of the items.
-pub(crate) fn check_each<T: Holder>(items: &[T], skeleton: bool) -> Result<(), Error>
+pub(crate) fn check_each<T: HasExpressions>(items: &[T], skeleton: bool) -> Result<(), Error>
     ensures { result ≡ error_of_first FoldLegacy (flat_map legacy_places_in (flat_map (T.lists skeleton) items.now)) }
 {
     for item in items {

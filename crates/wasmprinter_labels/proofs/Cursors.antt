@@ -51,11 +51,11 @@ other_at f n x e a b = absurd (true≢false (sym both ∙ e))
 -- ---- Look-ups
 
 -- If a label is that of block n of function f or of a later block, no label after it is that of block n.
-none_behind : (f n : ℕ) (x : NamedLabel) (xs : List NamedLabel) → f ≤ x.function → (f ≡ x.function → n ≤ x.number) → AllByRecursion (IsBefore x) xs → label_at xs f n ≡ None
-none_behind f n x [] le lt h = refl
-none_behind f n x (y ∷ xs) le lt ((rise, less), later) =
+none_after : (f n : ℕ) (x : NamedLabel) (xs : List NamedLabel) → f ≤ x.function → (f ≡ x.function → n ≤ x.number) → AllByRecursion (IsBefore x) xs → label_at xs f n ≡ None
+none_after f n x [] le lt h = refl
+none_after f n x (y ∷ xs) le lt ((rise, less), later) =
     let miss = not_at f n y (λ a b. absurd (omega (arith, a, b, le, lt, rise, less))) in
-    rw miss (none_behind f n x xs le lt later)
+    rw miss (none_after f n x xs le lt later)
 
 -- The name of the label, if it is that of block n of function f.
 abbrev picked : ℕ → ℕ → Option NamedLabel → Option Named
@@ -68,11 +68,11 @@ at_cursor f n zero (x ∷ xs) c a = by (is_at f n x) refl
   where
     by : (hit : Bool) → is_at f n x ≡ hit → (if hit then Some x.name else None) ≡ (if hit then Some x.name else label_at xs f n)
     by true e = refl
-    by false e = sym (none_behind f n x xs c.0 c.1 a.0)
+    by false e = sym (none_after f n x xs c.0 c.1 a.0)
 at_cursor f n (suc k) [] c a = absurd c
-at_cursor f n (suc k) (x ∷ xs) ((le, lt), behind) a =
+at_cursor f n (suc k) (x ∷ xs) ((le, lt), after) a =
     let miss = not_at f n x (λ p q. absurd (omega (arith, p, q, le, lt))) in
-    at_cursor f n k xs behind a.1 ∙ sym (ap (λ (b : Bool). if b then Some x.name else label_at xs f n) miss)
+    at_cursor f n k xs after a.1 ∙ sym (ap (λ (b : Bool). if b then Some x.name else label_at xs f n) miss)
 
 -- ---- The cursor after one more block
 
@@ -86,15 +86,15 @@ cursor_hit f n zero (y ∷ xs) x c a e h =
     let p = at_both f n y (subst (λ (z : NamedLabel). is_at f n z ≡ true) (sym (some_is y x e)) h) in
     ((omega (arith, p.0), λ q. omega (arith, p.1)), ahead_hit f n y xs p.0 p.1 a.0)
 cursor_hit f n (suc k) [] x c a e h = absurd c
-cursor_hit f n (suc k) (y ∷ xs) x ((le, less), behind) a e h =
-    ((le, λ q. let lt = less q in omega (arith, lt)), cursor_hit f n k xs x behind a.1 e h)
+cursor_hit f n (suc k) (y ∷ xs) x ((le, less), after) a e h =
+    ((le, λ q. let lt = less q in omega (arith, lt)), cursor_hit f n k xs x after a.1 e h)
 
 cursor_miss : (f n k : ℕ) (xs : List NamedLabel) → IsCursor f n k xs → ((x : NamedLabel) → slice_get xs k ≡ Some x → is_at f n x ≡ false) → IsCursor f (suc n) k xs
 cursor_miss f n zero [] c h = tt
 cursor_miss f n zero (x ∷ xs) c h = (c.0, λ e. let d = other_at f n x (h x refl) (sym e) in let le = c.1 e in omega (arith, d, le))
 cursor_miss f n (suc k) [] c h = absurd c
-cursor_miss f n (suc k) (x ∷ xs) ((le, less), behind) h =
-    ((le, λ e. let lt = less e in omega (arith, lt)), cursor_miss f n k xs behind h)
+cursor_miss f n (suc k) (x ∷ xs) ((le, less), after) h =
+    ((le, λ e. let lt = less e in omega (arith, lt)), cursor_miss f n k xs after h)
 
 -- ---- The labels as the program keeps them
 
@@ -126,36 +126,36 @@ name_in (x ∷ named) f n = by (nat_eq x.subsection label_subsection) (name_in n
 
 -- The identifier of the next block, given the name of its label, if there is one.
 abbrev pub own_by : Bool → ℕ → Option Named → Option Named
-own_by invents d None = unnamed_label invents d
-own_by invents d (Some y) = Some y
+own_by synthesizes d None = unnamed_label synthesizes d
+own_by synthesizes d (Some y) = Some y
 
-module _ (named : List NamedItem) (xs : List NumberedLabel) (invents : Bool) (f n k d : ℕ) (lists : map view xs ≡ labels_in named) (a : Ascend (labels_in named)) (of_labels : AreOfLabels named)
+module _ (named : List NamedItem) (xs : List NumberedLabel) (synthesizes : Bool) (f n k d : ℕ) (lists : map view xs ≡ labels_in named) (a : Ascend (labels_in named)) (of_labels : AreOfLabels named)
     (c : IsCursor f n k (labels_in named)) where
   next_is : name_at named label_subsection f n ≡ option_map name_of_label (label_of xs k f n)
   next_is = name_in named f n ∙ sym (at_cursor f n k (labels_in named) c a) ∙ ap (λ l. picked f n (slice_get l k)) (sym lists) ∙ picked_one f n k xs
 
-  own_is : (o : Option Named) → name_at named label_subsection f n ≡ o → label_named invents n d (o >>= λ y. y.given) ≡ own_by invents d o
-  own_is None e = by invents
+  own_is : (o : Option Named) → name_at named label_subsection f n ≡ o → label_named synthesizes n d (o >>= λ y. y.given) ≡ own_by synthesizes d o
+  own_is None e = by synthesizes
     where
       by : (b : Bool) → label_named b n d None ≡ unnamed_label b d
       by true = refl
       by false = refl
-  own_is (Some y) e = of_labels f n y e invents d
+  own_is (Some y) e = of_labels f n y e synthesizes d
 
-  pub own_next : label_named invents n d (name_at named label_subsection f n >>= λ y. y.given) ≡ own_by invents d (option_map name_of_label (label_of xs k f n))
-  own_next = own_is (name_at named label_subsection f n) refl ∙ ap (own_by invents d) next_is
+  pub own_next : label_named synthesizes n d (name_at named label_subsection f n >>= λ y. y.given) ≡ own_by synthesizes d (option_map name_of_label (label_of xs k f n))
+  own_next = own_is (name_at named label_subsection f n) refl ∙ ap (own_by synthesizes d) next_is
 
   own_of : (zs : List NumberedLabel) → zs ≡ xs → (o : Option NumberedLabel) → label_of zs k f n ≡ o
-      → label_named invents n d (name_at named label_subsection f n >>= λ y. y.given) ≡ own_by invents d (option_map name_of_label o)
+      → label_named synthesizes n d (name_at named label_subsection f n >>= λ y. y.given) ≡ own_by synthesizes d (option_map name_of_label o)
   own_of zs same o e =
-      own_next ∙ ap (λ l. own_by invents d (option_map name_of_label (label_of l k f n))) (sym same) ∙ ap (λ (r : Option NumberedLabel). own_by invents d (option_map name_of_label r)) e
+      own_next ∙ ap (λ l. own_by synthesizes d (option_map name_of_label (label_of l k f n))) (sym same) ∙ ap (λ (r : Option NumberedLabel). own_by synthesizes d (option_map name_of_label r)) e
 
   pub own_some : (zs : List NumberedLabel) → zs ≡ xs → (x : NumberedLabel) → label_of zs k f n ≡ Some x
-      → label_named invents n d (name_at named label_subsection f n >>= λ y. y.given) ≡ Some (name_view x.label.name)
+      → label_named synthesizes n d (name_at named label_subsection f n >>= λ y. y.given) ≡ Some (name_view x.label.name)
   own_some zs same x e = own_of zs same (Some x) e
 
   pub own_none : (zs : List NumberedLabel) → zs ≡ xs → label_of zs k f n ≡ None
-      → label_named invents n d (name_at named label_subsection f n >>= λ y. y.given) ≡ unnamed_label invents d
+      → label_named synthesizes n d (name_at named label_subsection f n >>= λ y. y.given) ≡ unnamed_label synthesizes d
   own_none zs same e = own_of zs same None e
 
 -- If `label_of` returns a label, it is the label with that index and that of the block.

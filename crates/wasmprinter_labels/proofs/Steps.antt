@@ -6,7 +6,7 @@ use Rattle.std.specs.List.{All, AllByRecursion, list_any}
 use Rattle.wasmprinter_spec.specs.Labels.{Label, same_name}
 use Rattle.wasmprinter_names.specs.Views.{NamedItem, name_view}
 use Rattle.wasmprinter_labels.specs.Found.{found_named, found_among}
-use Rattle.wasmprinter_labels.specs.Scan.{Scan, behind_opening, behind_closing}
+use Rattle.wasmprinter_labels.specs.Scan.{Scan, after_opening, after_closing}
 use Rattle.wasmprinter_labels.specs.Stack.{Block, Stack, depths, AreBelow, Descend, without_block_at, StandsAtDepth, unnamed_label, labels_from}
 use Rattle.wasmprinter_labels.specs.Numbers.{given_of, AreNumbered}
 use Rattle.wasmprinter_labels.specs.Inside.{label_of, IsOf, IsKept}
@@ -15,12 +15,12 @@ use Rattle.wasmprinter_labels.proofs.Cursors.{own_some, own_none, cursor_named, 
 use Rattle.wasmprinter_labels.proofs.Targets.{labels_length, labels_named, labels_unnamed, below_more, below_closed, length_closed, all_closed, unnamed_found, found_at_name, found_unnamed}
 
 abbrev pub scan : List NamedItem → Bool → ℕ → ℕ → List Label → Scan
-scan named invents f n ls = record { named = named; invents = invents; function = f; count = n; labels = ls }
+scan named synthesizes f n ls = record { named = named; synthesizes = synthesizes; function = f; count = n; labels = ls }
 
 abbrev pub block_of : ℕ → NumberedLabel → Block
 block_of d x = record { depth = d; alike = x.alike; name = name_view x.label.name }
 
-module _ (named : List NamedItem) (xs zs : List NumberedLabel) (invents : Bool) (next f n d : ℕ) (s : Stack) (k : IsKept named xs next f n d s) (same : zs ≡ xs) where
+module _ (named : List NamedItem) (xs zs : List NumberedLabel) (synthesizes : Bool) (next f n d : ℕ) (s : Stack) (k : IsKept named xs next f n d s) (same : zs ≡ xs) where
   -- ---- An operator that opens a block whose label has no name
 
   module _ (e : label_of zs next f n ≡ None) where
@@ -41,11 +41,11 @@ module _ (named : List NamedItem) (xs zs : List NumberedLabel) (invents : Bool) 
       shallow = omega (arith, k.shallow);
     }
 
-    pub scan_unnamed : scan named invents f (suc n) (labels_from invents s.blocks (suc d)) ≡ behind_opening (scan named invents f n (labels_from invents s.blocks d))
+    pub scan_unnamed : scan named synthesizes f (suc n) (labels_from synthesizes s.blocks (suc d)) ≡ after_opening (scan named synthesizes f n (labels_from synthesizes s.blocks d))
     scan_unnamed =
-        ap (scan named invents f (suc n)) (labels_unnamed invents s.blocks d k.below ∙ ap (λ (x : Label). x ∷ labels_from invents s.blocks d) (sym
-        (own_none named xs invents f n next (length (labels_from invents s.blocks d)) k.lists k.ascend k.of_labels k.cursor zs same e
-        ∙ ap (unnamed_label invents) (labels_length invents s.blocks d))))
+        ap (scan named synthesizes f (suc n)) (labels_unnamed synthesizes s.blocks d k.below ∙ ap (λ (x : Label). x ∷ labels_from synthesizes s.blocks d) (sym
+        (own_none named xs synthesizes f n next (length (labels_from synthesizes s.blocks d)) k.lists k.ascend k.of_labels k.cursor zs same e
+        ∙ ap (unnamed_label synthesizes) (labels_length synthesizes s.blocks d))))
 
   -- ---- An operator that opens a block whose label has a name
 
@@ -79,10 +79,10 @@ module _ (named : List NamedItem) (xs zs : List NumberedLabel) (invents : Bool) 
       shallow = omega (arith, k.shallow);
     }
 
-    pub scan_named : scan named invents f (suc n) (labels_from invents (block_of d x ∷ s.blocks) (suc d)) ≡ behind_opening (scan named invents f n (labels_from invents s.blocks d))
+    pub scan_named : scan named synthesizes f (suc n) (labels_from synthesizes (block_of d x ∷ s.blocks) (suc d)) ≡ after_opening (scan named synthesizes f n (labels_from synthesizes s.blocks d))
     scan_named =
-        ap (scan named invents f (suc n)) (labels_named invents (block_of d x) s.blocks d refl ∙ ap (λ (y : Label). y ∷ labels_from invents s.blocks d) (sym
-        (own_some named xs invents f n next (length (labels_from invents s.blocks d)) k.lists k.ascend k.of_labels k.cursor zs same x e)))
+        ap (scan named synthesizes f (suc n)) (labels_named synthesizes (block_of d x) s.blocks d refl ∙ ap (λ (y : Label). y ∷ labels_from synthesizes s.blocks d) (sym
+        (own_some named xs synthesizes f n next (length (labels_from synthesizes s.blocks d)) k.lists k.ascend k.of_labels k.cursor zs same x e)))
 
 -- ---- An operator that closes a block
 
@@ -101,9 +101,9 @@ kept_closed named xs next f n d e s k is descend = record {
   shallow = omega (arith, k.shallow, is);
 }
 
-pub scan_closed : (named : List NamedItem) (invents : Bool) (f n d e : ℕ) (bs : List Block) → e ≡ suc d
-    → scan named invents f n (labels_from invents (without_block_at d bs) d) ≡ behind_closing (scan named invents f n (labels_from invents bs e))
-scan_closed named invents f n d e bs is = ap (λ m. behind_closing (scan named invents f n (labels_from invents bs m))) (sym is)
+pub scan_closed : (named : List NamedItem) (synthesizes : Bool) (f n d e : ℕ) (bs : List Block) → e ≡ suc d
+    → scan named synthesizes f n (labels_from synthesizes (without_block_at d bs) d) ≡ after_closing (scan named synthesizes f n (labels_from synthesizes bs e))
+scan_closed named synthesizes f n d e bs is = ap (λ m. after_closing (scan named synthesizes f n (labels_from synthesizes bs m))) (sym is)
 
 -- ---- Given names
 
@@ -114,32 +114,32 @@ same_numbers xs a b m p q =
     (All-contains (λ (x : NumberedLabel). All (λ y. nat_eq x.alike y.alike ≡ bytes_eq (given_of x) (given_of y)) xs) xs p.label m.same p.is_one) q.is_one in
     rw (p.alike, q.alike, p.name, q.name) h
 
-all_behind : (P : Block → Type 0) (front rest : List Block) (b : Block) → AllByRecursion P (front ++ b ∷ rest) → P b
-all_behind P [] rest b h = h.0
-all_behind P (x ∷ front) rest b h = all_behind P front rest b h.1
+all_after : (P : Block → Type 0) (front rest : List Block) (b : Block) → AllByRecursion P (front ++ b ∷ rest) → P b
+all_after P [] rest b h = h.0
+all_after P (x ∷ front) rest b h = all_after P front rest b h.1
 
 pub hidden_alike : (xs : List NumberedLabel) (b : Block) (front rest : List Block) → AreNumbered xs → AllByRecursion (IsOf xs) (front ++ b ∷ rest)
     → list_any (λ x. same_name x.name.given b.name.given) front ≡ list_any (λ x. nat_eq x.alike b.alike) front
 hidden_alike xs b [] rest m h = refl
 hidden_alike xs b (x ∷ front) rest m h =
-    let e = same_numbers xs x b m h.0 (all_behind (IsOf xs) front rest b h.1) in
+    let e = same_numbers xs x b m h.0 (all_after (IsOf xs) front rest b h.1) in
     rw (e, hidden_alike xs b front rest m h.1) refl
 
 -- ---- The result of looking up a label
 
-named_at : (invents : Bool) (d l e : ℕ) (bs : List Block) (b : Block) (hidden : Bool) (s : StandsAtDepth bs e b hidden) → Descend (depths bs) → AreBelow d (depths bs) → l < d → e ≡ d - 1 - l
-    → list_any (λ x. same_name x.name.given b.name.given) s.front ≡ hidden → found_among [] (labels_from invents bs d) l ≡ found_named b.name hidden
-named_at invents zero l e bs b hidden s descend below lt is h = absurd (omega (arith, lt))
-named_at invents (suc d) l e bs b hidden s descend below lt is h =
-    found_at_name invents l d bs b hidden (record { front = s.front; rest = s.rest; is = s.is; depth = refl; hides = s.hides }) descend below (omega (arith, s.depth, is, lt)) h
+named_at : (synthesizes : Bool) (d l e : ℕ) (bs : List Block) (b : Block) (hidden : Bool) (s : StandsAtDepth bs e b hidden) → Descend (depths bs) → AreBelow d (depths bs) → l < d → e ≡ d - 1 - l
+    → list_any (λ x. same_name x.name.given b.name.given) s.front ≡ hidden → found_among [] (labels_from synthesizes bs d) l ≡ found_named b.name hidden
+named_at synthesizes zero l e bs b hidden s descend below lt is h = absurd (omega (arith, lt))
+named_at synthesizes (suc d) l e bs b hidden s descend below lt is h =
+    found_at_name synthesizes l d bs b hidden (record { front = s.front; rest = s.rest; is = s.is; depth = refl; hides = s.hides }) descend below (omega (arith, s.depth, is, lt)) h
 
-pub found_other : (invents : Bool) (d l e : ℕ) (bs : List Block) → AllByRecursion (λ b. b.depth ≢ e) bs → l < d → e ≡ d - 1 - l
-    → found_among [] (labels_from invents bs d) l ≡ unnamed_found (unnamed_label invents e) (d - l)
-found_other invents zero l e bs h lt is = absurd (omega (arith, lt))
-found_other invents (suc d) l e bs h lt is = found_unnamed invents l d e bs h (omega (arith, is, lt))
+pub found_other : (synthesizes : Bool) (d l e : ℕ) (bs : List Block) → AllByRecursion (λ b. b.depth ≢ e) bs → l < d → e ≡ d - 1 - l
+    → found_among [] (labels_from synthesizes bs d) l ≡ unnamed_found (unnamed_label synthesizes e) (d - l)
+found_other synthesizes zero l e bs h lt is = absurd (omega (arith, lt))
+found_other synthesizes (suc d) l e bs h lt is = found_unnamed synthesizes l d e bs h (omega (arith, is, lt))
 
-pub found_name : (named : List NamedItem) (xs : List NumberedLabel) (next f n d : ℕ) (s : Stack) → IsKept named xs next f n d s → (invents : Bool) (l e : ℕ) (b : Block) (hidden : Bool)
-    → StandsAtDepth s.blocks e b hidden → Descend (depths s.blocks) → l < d → e ≡ d - 1 - l → found_among [] (labels_from invents s.blocks d) l ≡ found_named b.name hidden
-found_name named xs next f n d s k invents l e b hidden at descend lt is =
-    named_at invents d l e s.blocks b hidden at descend k.below lt is
+pub found_name : (named : List NamedItem) (xs : List NumberedLabel) (next f n d : ℕ) (s : Stack) → IsKept named xs next f n d s → (synthesizes : Bool) (l e : ℕ) (b : Block) (hidden : Bool)
+    → StandsAtDepth s.blocks e b hidden → Descend (depths s.blocks) → l < d → e ≡ d - 1 - l → found_among [] (labels_from synthesizes s.blocks d) l ≡ found_named b.name hidden
+found_name named xs next f n d s k synthesizes l e b hidden at descend lt is =
+    named_at synthesizes d l e s.blocks b hidden at descend k.below lt is
     (hidden_alike xs b at.front at.rest k.numbered (subst (AllByRecursion (IsOf xs)) at.is k.blocks) ∙ at.hides)

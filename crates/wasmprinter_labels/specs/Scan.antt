@@ -11,14 +11,14 @@ use Rattle.wasmprinter_labels.specs.Found.{Found, found_among}
 -- the expression, and the labels of the open blocks, innermost first.
 pub record Scan : Type 0 where
   pub named : List NamedItem
-  pub invents : Bool
+  pub synthesizes : Bool
   pub function : ℕ
   pub count : ℕ
   pub labels : List Label
 
 -- The identifiers of the module.
 abbrev pub names_of : Scan → Names
-names_of s = names_by s.invents (name_at s.named)
+names_of s = names_by s.synthesizes (name_at s.named)
 
 -- The identifier of the block that would be opened next.
 abbrev pub own_label : Scan → Label
@@ -26,34 +26,34 @@ own_label s = (names_of s).labels s.function s.count (length s.labels)
 
 -- The state at the start of an expression of function f, with these names.
 abbrev pub scan_from : List NamedItem → Bool → ℕ → Scan
-scan_from named invents f = record { named = named; invents = invents; function = f; count = 0; labels = [] }
+scan_from named synthesizes f = record { named = named; synthesizes = synthesizes; function = f; count = 0; labels = [] }
 
 -- The state at the start of an expression of function f, with the names of these identifiers.
 abbrev pub at_start : Identifiers → ℕ → Scan
-at_start x f = scan_from x.names.now x.invents f
+at_start x f = scan_from x.names.now x.synthesizes f
 
 -- The state at the start of an expression of function f, with the names of a given state.
 abbrev pub at_start_again : ℕ → Scan → Scan
-at_start_again f s = scan_from s.named s.invents f
+at_start_again f s = scan_from s.named s.synthesizes f
 
 -- The state after an operator that opens a block.
-abbrev pub behind_opening : Scan → Scan
-behind_opening s =
-    record { named = s.named; invents = s.invents; function = s.function; count = suc s.count; labels = own_label s ∷ s.labels }
+abbrev pub after_opening : Scan → Scan
+after_opening s =
+    record { named = s.named; synthesizes = s.synthesizes; function = s.function; count = suc s.count; labels = own_label s ∷ s.labels }
 
 abbrev pub without_first : List Label → List Label
 without_first [] = []
 without_first (x ∷ xs) = xs
 
 -- The state after an operator that closes a block.
-abbrev pub behind_closing : Scan → Scan
-behind_closing s = record { named = s.named; invents = s.invents; function = s.function; count = s.count; labels = without_first s.labels }
+abbrev pub after_closing : Scan → Scan
+after_closing s = record { named = s.named; synthesizes = s.synthesizes; function = s.function; count = s.count; labels = without_first s.labels }
 
 -- The state after an operator with the role.
-abbrev pub behind_operator : Role → Scan → Scan
-behind_operator role s = record {
+abbrev pub after_operator : Role → Scan → Scan
+after_operator role s = record {
   named = s.named;
-  invents = s.invents;
+  synthesizes = s.synthesizes;
   function = s.function;
   count = count_after role s.count;
   labels = labels_after role (own_label s) s.labels;

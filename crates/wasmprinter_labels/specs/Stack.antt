@@ -49,13 +49,13 @@ pub record StandsAtDepth (bs : List Block) (d : ℕ) (b : Block) (hidden : Bool)
 
 -- The label without a name of a block at depth d.
 abbrev pub unnamed_label : Bool → ℕ → Label
-unnamed_label invents d = label_named invents 0 d None
+unnamed_label synthesizes d = label_named synthesizes 0 d None
 
 abbrev pub label_here : Bool → ℕ → List Block → Label
-label_here invents d [] = unnamed_label invents d
-label_here invents d (b ∷ bs) = if b.depth == d then Some b.name else unnamed_label invents d
+label_here synthesizes d [] = unnamed_label synthesizes d
+label_here synthesizes d (b ∷ bs) = if b.depth == d then Some b.name else unnamed_label synthesizes d
 
 -- The labels of d open blocks, given the blocks whose labels have names.
 abbrev pub labels_from : Bool → List Block → ℕ → List Label
-labels_from invents bs zero = []
-labels_from invents bs (suc d) = label_here invents d bs ∷ labels_from invents (without_block_at d bs) d
+labels_from synthesizes bs zero = []
+labels_from synthesizes bs (suc d) = label_here synthesizes d bs ∷ labels_from synthesizes (without_block_at d bs) d

@@ -1,10 +1,10 @@
 -- The program's meaning of a label as the value of the definitions.
 use Rattle.wasmprinter_names.specs.Shown.{identifier_view}
 use Rattle.wasmprinter_labels.specs.Found.{Found, ByName, ByNumber, ToBlock, ToNothing}
-use Rattle.wasmprinter_labels.specs.declared.open.Meant.{Meant}
-use Rattle.wasmprinter_labels.specs.declared.open.Meant.TheVariants as meant
+use Rattle.wasmprinter_labels.specs.declared.open.LabelRef.{LabelRef}
+use Rattle.wasmprinter_labels.specs.declared.open.LabelRef.TheVariants as meant
 
-abbrev pub found_view : Meant → Found
+abbrev pub found_view : LabelRef → Found
 found_view (meant.ByName identifier) = ByName (identifier_view identifier)
 found_view meant.ByNumber = ByNumber
 found_view (meant.ToBlock number) = ToBlock number

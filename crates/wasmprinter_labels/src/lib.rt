@@ -6,4 +6,4 @@ mod blocks;
 mod numbers;
 mod open;
 
-pub use open::{Meant, OpenLabels};
+pub use open::{LabelRef, OpenLabels};

@@ -6,7 +6,7 @@ ghost use Rattle.wasmprinter_names.specs.Views.{name_at};
 ghost use Rattle.wasmprinter_names.specs.Shown.{identifier_view};
 ghost use Rattle.wasmprinter_labels.specs.Found.{found_among};
 ghost use Rattle.wasmprinter_labels.specs.Scan.{own_label, at_start, at_start_again, found_at};
-ghost use Rattle.wasmprinter_labels.specs.Scan.{behind_opening, behind_closing, behind_operator};
+ghost use Rattle.wasmprinter_labels.specs.Scan.{after_opening, after_closing, after_operator};
 ghost use Rattle.wasmprinter_labels.specs.Stack.{unnamed_label};
 ghost use Rattle.wasmprinter_labels.specs.Inside.{label_of};
 ghost use Rattle.wasmprinter_labels.specs.Views.{found_view};
@@ -20,7 +20,7 @@ use wasmprinter_ops::opcode::Role;
 
 /// The meaning of a label index to a printer.
 #[derive(Clone, Copy, Debug, PartialEq, Eq)]
-pub enum Meant<'n> {
+pub enum LabelRef<'n> {
     /// An enclosing block that this identifier refers to.
     ByName(Identifier<'n>),
     /// An enclosing block whose identifier an inner block shadows, or the body.
@@ -57,10 +57,10 @@ impl<'n, 'a> Model for OpenLabels<'n, 'a> {
 
     ghost view = { λ x. record {
       named = x.identifiers.names.now;
-      invents = x.identifiers.invents;
+      synthesizes = x.identifiers.synthesizes;
       function = x.function;
       count = x.opened;
-      labels = labels_from x.identifiers.invents x.named.blocks x.depth;
+      labels = labels_from x.identifiers.synthesizes x.named.blocks x.depth;
     } };
 
     ghost invariant = { λ x. IsKept x.identifiers.names.now x.labels.items x.next x.function x.opened x.depth x.named };
@@ -81,10 +81,10 @@ fn label_of<'n>(
 
 /// Returns the synthesized identifier of a label without a name, from the number of blocks around its block, or
 /// `None` if identifiers are not synthesized.
-fn unnamed_identifier<'n>(invents: bool, depth: u64) -> Option<Identifier<'n>>
-    ensures { option_map identifier_view result ≡ unnamed_label invents depth }
+fn unnamed_identifier<'n>(synthesizes: bool, depth: u64) -> Option<Identifier<'n>>
+    ensures { option_map identifier_view result ≡ unnamed_label synthesizes depth }
 {
-    invents.then_some(Identifier::Invented {
+    synthesizes.then_some(Identifier::Synthesized {
         space: Space::Label,
         number: depth,
     })
@@ -116,7 +116,7 @@ impl<'n, 'a> OpenLabels<'n, 'a> {
     /// Returns the identifiers that were passed to [`OpenLabels::new`].
     pub fn identifiers(&self) -> Identifiers<'n, 'a>
         ensures named { result.names.now ≡ self.now.named }
-        ensures invents { result.invents ≡ self.now.invents }
+        ensures synthesizes { result.synthesizes ≡ self.now.synthesizes }
     {
         self.identifiers
     }
@@ -147,14 +147,14 @@ impl<'n, 'a> OpenLabels<'n, 'a> {
     {
         match label_of(&self.labels, self.next, self.function, self.opened) {
             Some(next) => Some(Identifier::Given(next.label.name)),
-            None => unnamed_identifier(self.identifiers.invents, self.depth),
+            None => unnamed_identifier(self.identifiers.synthesizes, self.depth),
         }
     }
 
     /// Moves past an operator that opens a block.
     fn open(&mut self)
         requires { self.old.count + 1 < 2 ^ 64 }
-        ensures { self.new ≡ behind_opening self.old }
+        ensures { self.new ≡ after_opening self.old }
     {
         let label = label_of(&self.labels, self.next, self.function, self.opened);
         let depth = self.depth;
@@ -169,7 +169,7 @@ impl<'n, 'a> OpenLabels<'n, 'a> {
 
     /// Moves past an operator that closes a block.
     fn close(&mut self)
-        ensures { self.new ≡ behind_closing self.old }
+        ensures { self.new ≡ after_closing self.old }
     {
         if self.depth > 0 {
             self.depth -= 1;
@@ -180,39 +180,39 @@ impl<'n, 'a> OpenLabels<'n, 'a> {
     /// Moves past an operator with the role.
     pub fn advance(&mut self, role: Role)
         requires { self.old.count + 1 < 2 ^ 64 }
-        ensures { self.new ≡ behind_operator (role_view role) self.old }
+        ensures { self.new ≡ after_operator (role_view role) self.old }
     {
         match role {
             Role::Opens | Role::OpensIf | Role::OpensTry => self.open(),
             Role::Delegates | Role::Ends => self.close(),
-            Role::Plain | Role::Turns | Role::Catches | Role::CatchesAll => {}
+            Role::Plain | Role::Else | Role::Catches | Role::CatchesAll => {}
         }
     }
 
     /// Returns the meaning of a label index among all open blocks.
-    fn meaning(&self, label: u64) -> Meant<'n>
+    fn meaning(&self, label: u64) -> LabelRef<'n>
         ensures { found_view result ≡ found_among [] self.now.labels label }
     {
         if label > self.depth {
-            return Meant::ToNothing;
+            return LabelRef::ToNothing;
         }
         if label == self.depth {
-            return Meant::ByNumber;
+            return LabelRef::ByNumber;
         }
         let depth = self.depth - 1 - label;
         match self.named.find(depth) {
-            NameAt::Shown(name) => Meant::ByName(Identifier::Given(name)),
-            NameAt::Hidden => Meant::ByNumber,
-            NameAt::Unnamed => match unnamed_identifier(self.identifiers.invents, depth) {
-                Some(identifier) => Meant::ByName(identifier),
-                None => Meant::ToBlock(self.depth - label),
+            NameAt::Shown(name) => LabelRef::ByName(Identifier::Given(name)),
+            NameAt::Hidden => LabelRef::ByNumber,
+            NameAt::Unnamed => match unnamed_identifier(self.identifiers.synthesizes, depth) {
+                Some(identifier) => LabelRef::ByName(identifier),
+                None => LabelRef::ToBlock(self.depth - label),
             },
         }
     }
 
     /// Returns the meaning of a label index in an operator with the role. For `delegate` the innermost block is not
     /// counted, but its label still shadows others.
-    pub fn find(&self, role: Role, label: u32) -> Meant<'n>
+    pub fn find(&self, role: Role, label: u32) -> LabelRef<'n>
         ensures { found_view result ≡ found_at (role_view role) self.now label }
     {
         let label = u64::from(label);

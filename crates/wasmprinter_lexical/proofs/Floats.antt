@@ -10,11 +10,11 @@ use Rattle.std.specs.Str.Parse.{digits_value_after, AllDigits}
 use Rattle.std.proofs.lemmas.Fmt.{decimal_is_IsNumeral, digits_is_IsNumeral}
 use Rattle.wasmprinter_spec.specs.Character.{class}
 use Rattle.wasmprinter_spec.specs.Numeral.{numeral}
-use Rattle.wasmprinter_spec.specs.Float.{Width, IsWidth, single, double, bias, greatest_exponent, sign_bit, magnitude, Scaled, split_at, is_power, with_digits_behind, exponent_of, hexfloat, least_exponent, units, bits_by_halving, bits_of, bits_with_units, unsigned_float, float}
-use Rattle.wasmprinter_spec.specs.FloatText.{digits_behind, digit_count, fraction_digits, exponent_text, behind_point, normal_text, doublings, shift, shifted_fraction, subnormal_text, special_text, finite_text, unsigned_text, float_text}
+use Rattle.wasmprinter_spec.specs.Float.{Width, IsWidth, single, double, bias, greatest_exponent, sign_bit, magnitude, Scaled, split_at, is_power, with_digits_after, exponent_of, hexfloat, least_exponent, units, bits_by_halving, bits_of, bits_with_units, unsigned_float, float}
+use Rattle.wasmprinter_spec.specs.FloatText.{digits_after, digit_count, fraction_digits, exponent_text, after_point, normal_text, doublings, shift, shifted_fraction, subnormal_text, special_text, finite_text, unsigned_text, float_text}
 use Rattle.wasmprinter_spec.proofs.Fractions.{power_16, digits_hold, filled_fraction-below, IsShift, shift-IsShift, shifted_fraction-below}
-use Rattle.wasmprinter_spec.specs.Quoted.{all_run}
-use Rattle.wasmprinter_spec.proofs.Runs.{all_run-append, all_run-digits}
+use Rattle.wasmprinter_spec.specs.Quoted.{all_id_chars}
+use Rattle.wasmprinter_spec.proofs.Runs.{all_id_chars-append, all_id_chars-digits}
 use Rattle.wasmprinter_lexical.proofs.Runs.{is_word}
 use Rattle.wasmprinter_lexical.proofs.Numbers.{run_hexadecimal, is_numeral_digits, without_underscores_digits, numeral-decimal, numeral-digits}
 
@@ -26,27 +26,27 @@ record HasDigits (count n before : ℕ) (ds : List ℕ) : Type 0 where
   length_is : length ds + rest ≡ count
   value : digits_value_after 16 before ds * 16 ^ rest ≡ before * 16 ^ count + n
 
-behind : (count n before : ℕ) → n < 16 ^ count → HasDigits count n before (digits_behind count n)
-unfolding digits_behind
-behind zero n before h = record { digits = tt; rest = 0; length_is = refl; value = omega (arith, pow-zero 16) }
-behind (suc count) n before h =
+after : (count n before : ℕ) → n < 16 ^ count → HasDigits count n before (digits_after count n)
+unfolding digits_after
+after zero n before h = record { digits = tt; rest = 0; length_is = refl; value = omega (arith, pow-zero 16) }
+after (suc count) n before h =
     let top : 16 ^ suc count ≡ 16 ^ count * 16 = pow-suc 16 count in
     let digit : n / 16 ^ count < 16 = div_below n (16 ^ count) 16 (power count) (omega (arith, top)) in
-    by (eqb n 0) refl digit (behind count (n % 16 ^ count) (before * 16 + digit_value (digit_glyph false (n / 16 ^ count))) (mod-lt n (power count)))
+    by (eqb n 0) refl digit (after count (n % 16 ^ count) (before * 16 + digit_value (digit_glyph false (n / 16 ^ count))) (mod-lt n (power count)))
   where
     power : (k : ℕ) → 0 < 16 ^ k
     power k = one-le-pow k 16 (lit< tt)
 
     by : (b : Bool) → eqb n 0 ≡ b → n / 16 ^ count < 16
-        → HasDigits count (n % 16 ^ count) (before * 16 + digit_value (digit_glyph false (n / 16 ^ count))) (digits_behind count (n % 16 ^ count))
-        → HasDigits (suc count) n before (cond b [] (digit_glyph false (n / 16 ^ count) ∷ digits_behind count (n % 16 ^ count)))
+        → HasDigits count (n % 16 ^ count) (before * 16 + digit_value (digit_glyph false (n / 16 ^ count))) (digits_after count (n % 16 ^ count))
+        → HasDigits (suc count) n before (cond b [] (digit_glyph false (n / 16 ^ count) ∷ digits_after count (n % 16 ^ count)))
     by true e digit rest = record { digits = tt; rest = suc count; length_is = omega arith; value = omega (arith, eqb-true n 0 e) }
     by false e digit rest =
         let is : digit_value (digit_glyph false (n / 16 ^ count)) ≡ n / 16 ^ count = digit_value-digit_char (n / 16 ^ count) (omega arith) in
         let split : n / 16 ^ count * 16 ^ count + n % 16 ^ count ≡ n = div-add-mod' n (16 ^ count) in
         let top : 16 ^ suc count ≡ 16 ^ count * 16 = pow-suc 16 count in
         let apart : (before * 16 + n / 16 ^ count) * 16 ^ count ≡ before * 16 * 16 ^ count + n / 16 ^ count * 16 ^ count = add-mul (before * 16) (n / 16 ^ count) (16 ^ count) in
-        let value : digits_value_after 16 (before * 16 + digit_value (digit_glyph false (n / 16 ^ count))) (digits_behind count (n % 16 ^ count)) * 16 ^ rest.rest ≡ (before * 16 + n / 16 ^ count) * 16 ^ count + n % 16 ^ count =
+        let value : digits_value_after 16 (before * 16 + digit_value (digit_glyph false (n / 16 ^ count))) (digits_after count (n % 16 ^ count)) * 16 ^ rest.rest ≡ (before * 16 + n / 16 ^ count) * 16 ^ count + n % 16 ^ count =
         rest.value ∙ ap (λ d. (before * 16 + d) * 16 ^ count + n % 16 ^ count) is in
         record {
           digits = (omega arith, rest.digits);
@@ -61,7 +61,7 @@ abbrev Lacks : (ℕ → Bool) → List ℕ → Type 0
 Lacks p [] = Unit {0}
 Lacks p (b ∷ bs) = (p b ≡ false) × Lacks p bs
 
-cut_found : (p : ℕ → Bool) (ds : List ℕ) (b : ℕ) (bs : List ℕ) → Lacks p ds → p b ≡ true → split_at p (ds ++ (b ∷ bs)) ≡ record { before = ds; behind = Some bs }
+cut_found : (p : ℕ → Bool) (ds : List ℕ) (b : ℕ) (bs : List ℕ) → Lacks p ds → p b ≡ true → split_at p (ds ++ (b ∷ bs)) ≡ record { before = ds; after = Some bs }
 cut_found p [] b bs h e = rw e
 cut_found p (d ∷ ds) b bs h e = rw (h.0, cut_found p ds b bs h.1 e)
 
@@ -75,45 +75,45 @@ digits_lack_power (d ∷ ds) h = (rw (not_digit d 112 h.0 (lit≤ tt), not_digit
 
 -- ---- bytes of words
 
-run_pointed : (ds : List ℕ) → all_run ds ≡ true → all_run (behind_point ds) ≡ true
+run_pointed : (ds : List ℕ) → all_id_chars ds ≡ true → all_id_chars (after_point ds) ≡ true
 unfolding class
 run_pointed [] h = refl
 run_pointed (d ∷ ds) h = h
 
 -- ---- a significand and an exponent
 
-with_digits_behind-digits : (n : ℕ) (ds : List ℕ) → AllDigits 16 ds → with_digits_behind n (Some ds) ≡ Some (digits_value_after 16 n ds, length ds)
-with_digits_behind-digits n [] h = refl
-with_digits_behind-digits n (d ∷ ds) h =
+with_digits_after-digits : (n : ℕ) (ds : List ℕ) → AllDigits 16 ds → with_digits_after n (Some ds) ≡ Some (digits_value_after 16 n ds, length ds)
+with_digits_after-digits n [] h = refl
+with_digits_after-digits n (d ∷ ds) h =
     rw (is_numeral_digits 16 (d ∷ ds) (omega arith, h), without_underscores_digits 16 (d ∷ ds) (lit≤ tt) h)
 
 -- The number that these digits write after `0x1`, with this exponent
 abbrev one_and : List ℕ → ℕ → ℕ → Scaled
 one_and ds rises falls = record { significand = digits_value_after 16 1 ds; up = rises; down = falls + 4 * length ds }
 
-hexfloat-behind_point : (ds ex : List ℕ) (rises falls : ℕ) → AllDigits 16 ds → exponent_of (Some ex) ≡ Some (rises, falls) →
+hexfloat-after_point : (ds ex : List ℕ) (rises falls : ℕ) → AllDigits 16 ds → exponent_of (Some ex) ≡ Some (rises, falls) →
     hexfloat (49 ∷ (46 ∷ (ds ++ (112 ∷ ex)))) ≡ Some (one_and ds rises falls)
 unfolding numeral
-hexfloat-behind_point ds ex rises falls h e =
-    rw (cut_found is_power ds 112 ex (digits_lack_power ds h) refl, with_digits_behind-digits 1 ds h, e)
+hexfloat-after_point ds ex rises falls h e =
+    rw (cut_found is_power ds 112 ex (digits_lack_power ds h) refl, with_digits_after-digits 1 ds h, e)
 
 hexfloat-normal : (ds ex : List ℕ) (rises falls : ℕ) → AllDigits 16 ds → exponent_of (Some ex) ≡ Some (rises, falls) →
-    hexfloat (49 ∷ (behind_point ds ++ (112 ∷ ex))) ≡ Some (one_and ds rises falls)
+    hexfloat (49 ∷ (after_point ds ++ (112 ∷ ex))) ≡ Some (one_and ds rises falls)
 unfolding numeral
 hexfloat-normal [] ex rises falls h e = rw e
-hexfloat-normal (d ∷ ds) ex rises falls h e = hexfloat-behind_point (d ∷ ds) ex rises falls h e
+hexfloat-normal (d ∷ ds) ex rises falls h e = hexfloat-after_point (d ∷ ds) ex rises falls h e
 
 record HasExponent (up down : ℕ) : Type 0 where
   rises : ℕ
   falls : ℕ
   reads : exponent_of (Some (exponent_text up down)) ≡ Some (rises, falls)
-  run : all_run (exponent_text up down) ≡ true
+  run : all_id_chars (exponent_text up down) ≡ true
   same : rises + down ≡ up + falls
 
-run_decimal : (n : ℕ) → n < 2 ^ 64 → all_run (decimal n) ≡ true
+run_decimal : (n : ℕ) → n < 2 ^ 64 → all_id_chars (decimal n) ≡ true
 run_decimal n h =
     let ((some, are_digits), value) = decimal_is_IsNumeral n h in
-    all_run-digits (decimal n) are_digits
+    all_id_chars-digits (decimal n) are_digits
 
 steps : (up down : ℕ) → up < 2 ^ 64 → down < 2 ^ 64 → HasExponent up down
 unfolding class
@@ -194,7 +194,7 @@ record HasFraction (w : Width) (fraction : ℕ) (ds : List ℕ) : Type 0 where
 fraction_of : (w : Width) (fraction : ℕ) → fraction < 2 ^ w.fraction → HasFraction w fraction (fraction_digits w fraction)
 fraction_of w fraction h =
     let s : ℕ = 4 * digit_count w - w.fraction in
-    let b : HasDigits (digit_count w) (fraction * 2 ^ s) 1 (fraction_digits w fraction) = behind (digit_count w) (fraction * 2 ^ s) 1 (filled_fraction-below w fraction h) in
+    let b : HasDigits (digit_count w) (fraction * 2 ^ s) 1 (fraction_digits w fraction) = after (digit_count w) (fraction * 2 ^ s) 1 (filled_fraction-below w fraction h) in
     let value : digits_value_after 16 1 (fraction_digits w fraction) * 16 ^ b.rest ≡ 1 * 16 ^ digit_count w + fraction * 2 ^ s = b.value in
     record {
       digits = b.digits;
@@ -222,10 +222,10 @@ record Reads (w : Width) (t : List ℕ) (n : ℕ) : Type 0 where
   unsigned : unsigned_float w t ≡ Some n
   plain : float w t ≡ Some n
   word : is_word t ≡ true
-  run : all_run t ≡ true
+  run : all_id_chars t ≡ true
 
 -- If the digits after `0x` read as a number with these bits, so does the whole text.
-after_x : (w : Width) (rest : List ℕ) (s : Scaled) (n : ℕ) → hexfloat rest ≡ Some s → bits_with_units w (units (least_exponent w) s) ≡ Some n → all_run rest ≡ true → Reads w (48 ∷ (120 ∷ rest)) n
+after_x : (w : Width) (rest : List ℕ) (s : Scaled) (n : ℕ) → hexfloat rest ≡ Some s → bits_with_units w (units (least_exponent w) s) ≡ Some n → all_id_chars rest ≡ true → Reads w (48 ∷ (120 ∷ rest)) n
 unfolding unsigned_float float class
 after_x w rest s n e f run = record { unsigned = rw (e, f); plain = rw (e, f); word = run; run = run }
 
@@ -248,10 +248,10 @@ normal-reads w is x fraction some high h =
     (balanced (digits_value_after 16 1 (fraction_digits w fraction)) n (n * 2 ^ (x - 1)) (4 * digit_count w - w.fraction) w.fraction f.rest (length (fraction_digits w fraction)) (s.rises + least_exponent w) s.falls f.value f.length_is even) in
     let bits : bits_of w (n * 2 ^ (x - 1)) ≡ Some (x * 2 ^ w.fraction + (n - 2 ^ w.fraction)) = bits_of-normal w x n some high (omega arith) below in
     let same : n - 2 ^ w.fraction ≡ fraction = omega arith in
-    after_x w (49 ∷ (behind_point (fraction_digits w fraction) ++ (112 ∷ exponent_text x (bias w)))) (one_and (fraction_digits w fraction) s.rises s.falls) (magnitude w x fraction)
+    after_x w (49 ∷ (after_point (fraction_digits w fraction) ++ (112 ∷ exponent_text x (bias w)))) (one_and (fraction_digits w fraction) s.rises s.falls) (magnitude w x fraction)
     (hexfloat-normal (fraction_digits w fraction) (exponent_text x (bias w)) s.rises s.falls f.digits s.reads)
     (ap (bits_with_units w) exact ∙ bits ∙ ap (λ t. Some (x * 2 ^ w.fraction + t)) same)
-    (all_run-append (behind_point (fraction_digits w fraction)) (112 ∷ exponent_text x (bias w)) (run_pointed (fraction_digits w fraction) (run_hexadecimal (fraction_digits w fraction) f.digits)) s.run)
+    (all_id_chars-append (after_point (fraction_digits w fraction)) (112 ∷ exponent_text x (bias w)) (run_pointed (fraction_digits w fraction) (run_hexadecimal (fraction_digits w fraction) f.digits)) s.run)
 
 subnormal-reads : (w : Width) → IsWidth w → (fraction : ℕ) → 0 < fraction → fraction < 2 ^ w.fraction → Reads w (subnormal_text w fraction) (magnitude w 0 fraction)
 unfolding class
@@ -273,9 +273,9 @@ subnormal-reads w is fraction some h =
     units-exact (least_exponent w) (one_and (fraction_digits w m) s.rises s.falls) fraction
     (balanced (digits_value_after 16 1 (fraction_digits w m)) n fraction (4 * digit_count w - w.fraction) w.fraction f.rest (length (fraction_digits w m)) (s.rises + least_exponent w) s.falls value f.length_is even) in
     after_x w (49 ∷ (46 ∷ (fraction_digits w m ++ (112 ∷ exponent_text 1 (bias w + k))))) (one_and (fraction_digits w m) s.rises s.falls) (magnitude w 0 fraction)
-    (hexfloat-behind_point (fraction_digits w m) (exponent_text 1 (bias w + k)) s.rises s.falls f.digits s.reads)
+    (hexfloat-after_point (fraction_digits w m) (exponent_text 1 (bias w + k)) s.rises s.falls f.digits s.reads)
     (ap (bits_with_units w) exact ∙ bits_of-small w fraction h ∙ ap Some (omega arith))
-    (all_run-append (fraction_digits w m) (112 ∷ exponent_text 1 (bias w + k)) (run_hexadecimal (fraction_digits w m) f.digits) s.run)
+    (all_id_chars-append (fraction_digits w m) (112 ∷ exponent_text 1 (bias w + k)) (run_hexadecimal (fraction_digits w m) f.digits) s.run)
 
 zero-reads : (w : Width) → Reads w (codes "0x0p+0") (magnitude w 0 0)
 unfolding numeral class
@@ -312,7 +312,7 @@ payload-reads w is fraction some h =
     let wide : 2 ^ w.fraction ≤ 2 ^ 64 = pow-le-pow_right (lit< tt) is.fraction.1 in
     let read : numeral 16 (digits 16 false fraction) ≡ Some fraction = numeral-digits fraction (omega arith) in
     let ((nonempty, are_digits), value) = digits_is_IsNumeral 16 false (lit≤ tt) (lit≤ tt) fraction (omega arith) in
-    let run : all_run (digits 16 false fraction) ≡ true = run_hexadecimal (digits 16 false fraction) are_digits in
+    let run : all_id_chars (digits 16 false fraction) ≡ true = run_hexadecimal (digits 16 false fraction) are_digits in
     record {
       unsigned = rw (read, lt-ltb 0 fraction some, lt-ltb fraction (2 ^ w.fraction) h);
       plain = rw (read, lt-ltb 0 fraction some, lt-ltb fraction (2 ^ w.fraction) h);

@@ -5,7 +5,7 @@ use Rattle.std.proofs.lemmas.Str.{encode_ascii}
 use Rattle.std.proofs.Math.Utf8.{scalars}
 use Rattle.wasmprinter_spec.specs.Character.{Class, Backslash, Dollar, At, Plain, class}
 use Rattle.wasmprinter_spec.specs.Token.{left_note, right, name, string, reserved, AsName, AsString, Clear, Tight, InRun, InQuoted, AfterDollar, Next, after_dollar, is_name, lex}
-use Rattle.wasmprinter_spec.specs.Quoted.{char_text, quoted_text, runs, all_run, is_run, identifier_text}
+use Rattle.wasmprinter_spec.specs.Quoted.{char_text, quoted_text, is_id_char, all_id_chars, is_id, identifier_text}
 use Rattle.wasmprinter_lexical.proofs.Runs.{delimited, run_goes_on, run_ends, tight_clears}
 use Rattle.wasmprinter_lexical.proofs.Printed.{is_printed, all_printed, all_printed-run}
 use Rattle.wasmprinter_lexical.proofs.Plain.{plain_byte, is_low}
@@ -21,18 +21,18 @@ encode-printed (c ∷ cs) h =
 
 -- ---- identifiers
 
-after_dollar_begins : (c : Class) (b : ℕ) (k : Next) → runs c ≡ true → after_dollar c b k ≡ k (InRun AsName (b ∷ []))
+after_dollar_begins : (c : Class) (b : ℕ) (k : Next) → is_id_char c ≡ true → after_dollar c b k ≡ k (InRun AsName (b ∷ []))
 after_dollar_begins Backslash b k h = refl
 after_dollar_begins Dollar b k h = refl
 after_dollar_begins At b k h = refl
 after_dollar_begins Plain b k h = refl
 after_dollar_begins _ b k h = absurd (true≢false (sym h))
 
-pub run_name : (cs rest : List ℕ) → is_run cs ≡ true → delimited rest ≡ true → lex AfterDollar (cs ++ rest) ≡ name cs ∷ lex Clear rest
+pub run_name : (cs rest : List ℕ) → is_id cs ≡ true → delimited rest ≡ true → lex AfterDollar (cs ++ rest) ≡ name cs ∷ lex Clear rest
 unfolding lex
 run_name [] rest h d = absurd (true≢false (sym h))
 run_name (b ∷ bs) rest h d =
-    let parts : (runs (class b) ≡ true) × (all_run bs ≡ true) = and_parts (runs (class b)) (all_run bs) h in
+    let parts : (is_id_char (class b) ≡ true) × (all_id_chars bs ≡ true) = and_parts (is_id_char (class b)) (all_id_chars bs) h in
     after_dollar_begins (class b) b (λ next. lex next (bs ++ rest)) parts.0
     ∙ run_goes_on AsName (b ∷ []) bs rest parts.1
     ∙ run_ends AsName (b ∷ bs) rest d
@@ -46,16 +46,16 @@ quoted_name cs rest h n d =
     ∙ ap (λ t. cond t (name (encode_utf8_all cs)) reserved ∷ lex Tight rest) n
     ∙ ap (λ t. name (encode_utf8_all cs) ∷ t) (tight_clears rest d)
 
-pub run_is_printed : (cs : List ℕ) → is_run cs ≡ true → all_printed cs ≡ true
+pub run_is_printed : (cs : List ℕ) → is_id cs ≡ true → all_printed cs ≡ true
 run_is_printed [] h = absurd (true≢false (sym h))
 run_is_printed (c ∷ cs) h = all_printed-run (c ∷ cs) h
 
 pub identifier_lexes : (cs rest : List ℕ) → scalars cs ≡ true → is_name (encode_utf8_all cs) ≡ true → delimited rest ≡ true →
     lex Clear (identifier_text cs ++ rest) ≡ name (encode_utf8_all cs) ∷ lex Clear rest
 unfolding lex class identifier_text
-identifier_lexes cs rest h n d = by (is_run cs) refl
+identifier_lexes cs rest h n d = by (is_id cs) refl
   where
-    by : (t : Bool) → is_run cs ≡ t → lex AfterDollar (cond t cs (quoted_text cs) ++ rest) ≡ name (encode_utf8_all cs) ∷ lex Clear rest
+    by : (t : Bool) → is_id cs ≡ t → lex AfterDollar (cond t cs (quoted_text cs) ++ rest) ≡ name (encode_utf8_all cs) ∷ lex Clear rest
     by true e = run_name cs rest e d ∙ ap (λ t. name t ∷ lex Clear rest) (sym (encode-printed cs (run_is_printed cs e)))
     by false e = quoted_name cs rest h n d
 

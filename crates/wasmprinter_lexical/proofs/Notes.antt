@@ -2,7 +2,7 @@
 use Rattle.std.proofs.Common.{◌≡◌, ℕ, Bool, true, false, List, [], ◌∷◌, ◌++◌, refl, sym, ap, ◌∙◌, append-nil, true≢false, codes, lit<}
 use Rattle.std.proofs.lemmas.Bool.{and_parts}
 use Rattle.wasmprinter_spec.specs.Character.{Class, Space, Tab, Feed, Left, Right, Semicolon, Backslash, Dollar, At, Plain, class}
-use Rattle.wasmprinter_spec.specs.Quoted.{runs, all_run, is_run, quoted_bytes}
+use Rattle.wasmprinter_spec.specs.Quoted.{is_id_char, all_id_chars, is_id, quoted_bytes}
 use Rattle.wasmprinter_spec.specs.Token as token
 use Rattle.wasmprinter_spec.specs.Token.{Token, left, left_note, right, string, reserved, AsWord, AsNote, Clear, InRun, AfterDollar, AfterLeft, AfterLeftAt, Next, clear, delimits, after_dollar, after_left, after_left_at, lex}
 use Rattle.wasmprinter_spec.specs.Forest.{Forest, End, Word, Name, Reserved, flat}
@@ -13,23 +13,23 @@ use Rattle.wasmprinter_lexical.proofs.Quotes.{quoted_bytes_lex}
 
 -- ---- the name of an annotation
 
-after_at_begins : (c : Class) (b : ℕ) (k : Next) → runs c ≡ true → after_left_at c b k ≡ k (InRun AsNote (b ∷ []))
+after_at_begins : (c : Class) (b : ℕ) (k : Next) → is_id_char c ≡ true → after_left_at c b k ≡ k (InRun AsNote (b ∷ []))
 after_at_begins Backslash b k h = refl
 after_at_begins Dollar b k h = refl
 after_at_begins At b k h = refl
 after_at_begins Plain b k h = refl
 after_at_begins _ b k h = absurd (true≢false (sym h))
 
-run_note : (w rest : List ℕ) → is_run w ≡ true → delimited rest ≡ true → lex AfterLeftAt (w ++ rest) ≡ left_note w ∷ lex Clear rest
+run_note : (w rest : List ℕ) → is_id w ≡ true → delimited rest ≡ true → lex AfterLeftAt (w ++ rest) ≡ left_note w ∷ lex Clear rest
 unfolding lex
 run_note [] rest h d = absurd (true≢false (sym h))
 run_note (b ∷ bs) rest h d =
-    let parts : (runs (class b) ≡ true) × (all_run bs ≡ true) = and_parts (runs (class b)) (all_run bs) h in
+    let parts : (is_id_char (class b) ≡ true) × (all_id_chars bs ≡ true) = and_parts (is_id_char (class b)) (all_id_chars bs) h in
     after_at_begins (class b) b (λ next. lex next (bs ++ rest)) parts.0
     ∙ run_goes_on AsNote (b ∷ []) bs rest parts.1
     ∙ run_ends AsNote (b ∷ bs) rest d
 
-pub note_lexes : (w rest : List ℕ) → is_run w ≡ true → delimited rest ≡ true → lex Clear (40 ∷ (64 ∷ (w ++ rest))) ≡ left_note w ∷ lex Clear rest
+pub note_lexes : (w rest : List ℕ) → is_id w ≡ true → delimited rest ≡ true → lex Clear (40 ∷ (64 ∷ (w ++ rest))) ≡ left_note w ∷ lex Clear rest
 unfolding lex class
 note_lexes w rest h d = run_note w rest h d
 
@@ -91,14 +91,14 @@ unfolding lex
 at_stands [] d = refl
 at_stands (b ∷ bs) d = after_at_ends (class b) b (λ next. lex next bs) d
 
-pub run_opens : (w rest : List ℕ) → is_run w ≡ true → delimited rest ≡ true → lex AfterLeft (w ++ rest) ≡ beginning_tokens (beginning w) ++ lex Clear rest
+pub run_opens : (w rest : List ℕ) → is_id w ≡ true → delimited rest ≡ true → lex AfterLeft (w ++ rest) ≡ beginning_tokens (beginning w) ++ lex Clear rest
 unfolding lex
 run_opens [] rest h d = absurd (true≢false (sym h))
 run_opens (b ∷ bs) rest h d =
-    let parts : (runs (class b) ≡ true) × (all_run bs ≡ true) = and_parts (runs (class b)) (all_run bs) h in
+    let parts : (is_id_char (class b) ≡ true) × (all_id_chars bs ≡ true) = and_parts (is_id_char (class b)) (all_id_chars bs) h in
     by (class b) parts.0 bs parts.1
   where
-    by : (c : Class) → runs c ≡ true → (w : List ℕ) → all_run w ≡ true →
+    by : (c : Class) → is_id_char c ≡ true → (w : List ℕ) → all_id_chars w ≡ true →
         after_left c b (λ next. lex next (w ++ rest)) ≡ beginning_tokens (begins_as c b w) ++ lex Clear rest
     by Plain r w a = ap (λ t. left ∷ t) (run_goes_on AsWord (b ∷ []) w rest a ∙ run_ends AsWord (b ∷ w) rest d)
     by Backslash r w a = ap (λ t. left ∷ t) (run_goes_on AsWord (b ∷ []) w rest a ∙ run_ends AsWord (b ∷ w) rest d)
@@ -109,11 +109,11 @@ run_opens (b ∷ bs) rest h d =
     by _ r w a = absurd (true≢false (sym r))
 
 -- A parenthesis and identifier characters by themselves lex to the tokens of the start.
-pub run_tokens : (w : List ℕ) → is_run w ≡ true → token.tokens (40 ∷ w) ≡ beginning_tokens (beginning w)
+pub run_tokens : (w : List ℕ) → is_id w ≡ true → token.tokens (40 ∷ w) ≡ beginning_tokens (beginning w)
 unfolding lex class
 run_tokens w h =
     ap (lex AfterLeft) (sym (append-nil w)) ∙ run_opens w [] h refl ∙ append-nil (beginning_tokens (beginning w))
 
-pub run_lexes : (w rest : List ℕ) → is_run w ≡ true → delimited rest ≡ true → lex Clear (40 ∷ (w ++ rest)) ≡ token.tokens (40 ∷ w) ++ lex Clear rest
+pub run_lexes : (w rest : List ℕ) → is_id w ≡ true → delimited rest ≡ true → lex Clear (40 ∷ (w ++ rest)) ≡ token.tokens (40 ∷ w) ++ lex Clear rest
 unfolding lex class
 run_lexes w rest h d = run_opens w rest h d ∙ ap (λ t. t ++ lex Clear rest) (sym (run_tokens w h))

@@ -9,9 +9,9 @@ use Rattle.std.specs.Fmt.{digits, signed_decimal}
 use Rattle.std.specs.Int.Signed.{mag}
 use Rattle.wasmprinter_spec.specs.Character.{Class, class, Plain}
 use Rattle.wasmprinter_spec.specs.Numeral.{is_underscore, is_digit, follows_digit, is_numeral, without_underscores, numeral, natural, integer, unsigned_integer}
-use Rattle.wasmprinter_spec.specs.Quoted.{runs, all_run}
+use Rattle.wasmprinter_spec.specs.Quoted.{is_id_char, all_id_chars}
 use Rattle.wasmprinter_spec.proofs.Classes.{digit_class}
-use Rattle.wasmprinter_spec.proofs.Runs.{all_run-digits}
+use Rattle.wasmprinter_spec.proofs.Runs.{all_id_chars-digits}
 use Rattle.wasmprinter_lexical.proofs.Runs.{is_quiet, is_plain_class, all_quiet, is_word}
 
 -- ---- single digits
@@ -19,7 +19,7 @@ use Rattle.wasmprinter_lexical.proofs.Runs.{is_quiet, is_plain_class, all_quiet,
 digit_is_plain : (c : ℕ) → digit_value c < 10 → is_plain_class (class c) ≡ true
 digit_is_plain c h = ap is_plain_class (digit_class c h)
 
-pub plain_runs : (c : Class) → is_plain_class c ≡ true → runs c ≡ true
+pub plain_runs : (c : Class) → is_plain_class c ≡ true → is_id_char c ≡ true
 plain_runs Plain h = refl
 plain_runs _ h = absurd (true≢false (sym h))
 
@@ -36,7 +36,7 @@ all_quiet_digits (c ∷ cs) h = and_from (is_quiet (class c)) (all_quiet cs) (pl
 is_word_digits : (ds : List ℕ) → IsNumeral 10 ds → is_word ds ≡ true
 is_word_digits [] h = absurd (omega (arith, h.0))
 is_word_digits (c ∷ cs) (some, (first, others)) =
-    and_from (is_plain_class (class c)) (all_run cs) (digit_is_plain c first) (all_run-digits cs others)
+    and_from (is_plain_class (class c)) (all_id_chars cs) (digit_is_plain c first) (all_id_chars-digits cs others)
 
 -- A digit is not an underscore.
 not_underscore : (base c : ℕ) → base ≤ 36 → digit_value c < base → is_underscore c ≡ false
@@ -103,7 +103,7 @@ all_quiet-decimal n h =
 
 is_word_minus : (ds : List ℕ) → AllDigits 10 ds → is_word (45 ∷ ds) ≡ true
 unfolding class
-is_word_minus ds h = all_run-digits ds h
+is_word_minus ds h = all_id_chars-digits ds h
 
 pub is_word-signed_decimal : (z : ℤ) → mag z < 2 ^ 63 → is_word (signed_decimal z) ≡ true
 is_word-signed_decimal (pos n) h = is_word-decimal n (omega arith)
@@ -160,22 +160,22 @@ beyond_letters c h =
     rw (le-ltb c 48 (omega arith), le-ltb c 58 (omega arith), le-ltb c 65 (omega arith), le-ltb c 91 (omega arith), le-ltb c 97 (omega arith), le-ltb c 123 h)
 
 letter_runs : ℕ → Bool
-letter_runs c = not (ltb (digit_value c) 16) || runs (class c)
+letter_runs c = not (ltb (digit_value c) 16) || is_id_char (class c)
 
 letters_run : agree_below letter_runs (λ c. true) 123 ≡ true
 unfolding letter_runs class
 letters_run = refl
 
-digit_runs : (c : ℕ) → digit_value c < 16 → runs (class c) ≡ true
+digit_runs : (c : ℕ) → digit_value c < 16 → is_id_char (class c) ≡ true
 unfolding letter_runs
 digit_runs c h =
     let below : c < 123 = ⊎_elim (λ (l : c < 123). l) (λ (l : 123 ≤ c). absurd (omega (arith, beyond_letters c l))) (cases_lt c 123) in
-    let e : (not (ltb (digit_value c) 16) || runs (class c)) ≡ true = agree_below_at letter_runs (λ x. true) 123 c letters_run below in
+    let e : (not (ltb (digit_value c) 16) || is_id_char (class c)) ≡ true = agree_below_at letter_runs (λ x. true) 123 c letters_run below in
     rw (lt-ltb (digit_value c) 16 h) at e
 
-pub run_hexadecimal : (ds : List ℕ) → AllDigits 16 ds → all_run ds ≡ true
+pub run_hexadecimal : (ds : List ℕ) → AllDigits 16 ds → all_id_chars ds ≡ true
 run_hexadecimal [] h = refl
-run_hexadecimal (c ∷ cs) h = and_from (runs (class c)) (all_run cs) (digit_runs c h.0) (run_hexadecimal cs h.1)
+run_hexadecimal (c ∷ cs) h = and_from (is_id_char (class c)) (all_id_chars cs) (digit_runs c h.0) (run_hexadecimal cs h.1)
 
 -- The hexadecimal text of a number reads as that number.
 pub natural-hexadecimal : (n : ℕ) → n < 16 ^ 64 → natural (codes "0x" ++ digits 16 false n) ≡ Some n

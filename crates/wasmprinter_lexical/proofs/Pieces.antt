@@ -9,9 +9,9 @@ use Rattle.wasmprinter_spec.specs.Character.{class}
 use Rattle.wasmprinter_spec.specs.Call.{Text, text_of}
 use Rattle.wasmprinter_spec.specs.Options.{Options, IsBlank}
 use Rattle.wasmprinter_spec.specs.Float.{IsWidth, sign_bit}
-use Rattle.wasmprinter_spec.specs.Quoted.{is_run, char_text, quoted_text, quoted_bytes, identifier_text}
+use Rattle.wasmprinter_spec.specs.Quoted.{is_id, char_text, quoted_text, quoted_bytes, identifier_text}
 use Rattle.wasmprinter_spec.specs.Token.{Clear, word, is_name, lex}
-use Rattle.wasmprinter_spec.specs.Piece.{Piece, Begin, Feed, Break, Gap, Open, OpenGap, OpenPlain, OpenBare, OpenTypeGap, OpenNote, OpenNoteGap, OpenRun, Shut, Word, TypeWord, TypeWordGap, GapTypeWord, Number, Constant, Literals, GapLiterals, Float, NumberRemark, BeginName, EndStyle, Quoted, QuotedBytes, Identifier, NameNote, Remark, Ending, PlainEnding, HintNote, Claimed, flag_byte, repetition_of, left_in, place_text, place_calls, most_indents, behind_blanks, word_tokens, calls, text, piece_tokens, all_calls, all_tokens}
+use Rattle.wasmprinter_spec.specs.Piece.{Piece, Begin, EndLine, Break, Gap, Open, OpenGap, OpenPlain, OpenUnnamed, OpenTypeGap, OpenAnnotation, OpenAnnotationGap, OpenAnnotationWord, Shut, Word, TypeWord, TypeWordGap, GapTypeWord, Number, Constant, Literals, GapLiterals, Float, IndexComment, BeginName, EndStyle, Quoted, QuotedBytes, Identifier, NameAnnotation, BlockComment, LineComment, PlainLineComment, HintAnnotation, Claimed, flag_byte, repetition_of, left_in, place_text, place_calls, most_indents, after_blanks, word_tokens, calls, text, piece_tokens, all_calls, all_tokens}
 use Rattle.wasmprinter_spec.proofs.Texts.{text_of-append}
 use Rattle.wasmprinter_lexical.proofs.Runs.{is_quiet, ends_line, ending_lexes, is_word, are_words, all_quiet, all_blank, is_blank_class, delimited, begins_item, begins_item-word, left_lexes, word_lexes, open_lexes, blanks_lex, comment_lexes}
 use Rattle.wasmprinter_lexical.proofs.Numbers.{is_word-decimal, is_word-signed_decimal, all_quiet-decimal}
@@ -53,23 +53,23 @@ starts (GapLiterals ws) = false
 starts (Float w bits) = false
 starts BeginName = false
 starts EndStyle = false
-starts (Ending s) = false
-starts (PlainEnding s) = false
+starts (LineComment s) = false
+starts (PlainLineComment s) = false
 starts (Claimed name place bytes answer) = false
 starts _ = true
 
 -- Whether the piece begins with the end of a line
 abbrev pub feeds : Piece → Bool
-feeds Feed = true
+feeds EndLine = true
 feeds (Break place nesting) = true
 feeds _ = false
 
 abbrev pub leaves : Piece → Edge
 leaves (Open w) = Bound
 leaves (OpenPlain w) = Bound
-leaves (OpenNote w) = Bound
-leaves (OpenRun w) = Bound
-leaves OpenBare = Opened
+leaves (OpenAnnotation w) = Bound
+leaves (OpenAnnotationWord w) = Bound
+leaves OpenUnnamed = Opened
 leaves (Word w) = Bound
 leaves (TypeWord w) = Bound
 leaves (GapTypeWord w) = Bound
@@ -82,8 +82,8 @@ leaves EndStyle = Bound
 leaves (Quoted cs) = Bound
 leaves (QuotedBytes bs) = Bound
 leaves (Identifier cs) = Bound
-leaves (Ending s) = Ended
-leaves (PlainEnding s) = Ended
+leaves (LineComment s) = Ended
+leaves (PlainLineComment s) = Ended
 leaves (Claimed name place bytes answer) = Bound
 leaves _ = Free
 
@@ -103,9 +103,9 @@ IsPiece (Open w) = is_word w ≡ true
 IsPiece (OpenGap w) = is_word w ≡ true
 IsPiece (OpenPlain w) = is_word w ≡ true
 IsPiece (OpenTypeGap w) = is_word w ≡ true
-IsPiece (OpenNote w) = is_run w ≡ true
-IsPiece (OpenNoteGap w) = is_run w ≡ true
-IsPiece (OpenRun w) = is_run w ≡ true
+IsPiece (OpenAnnotation w) = is_id w ≡ true
+IsPiece (OpenAnnotationGap w) = is_id w ≡ true
+IsPiece (OpenAnnotationWord w) = is_id w ≡ true
 IsPiece (Word w) = is_word w ≡ true
 IsPiece (TypeWord w) = is_word w ≡ true
 IsPiece (TypeWordGap w) = is_word w ≡ true
@@ -115,14 +115,14 @@ IsPiece (Constant z) = mag z < 2 ^ 63
 IsPiece (Literals w ws) = are_words (w ∷ ws) ≡ true
 IsPiece (GapLiterals ws) = are_words ws ≡ true
 IsPiece (Float w bits) = IsWidth w × (bits < 2 * sign_bit w)
-IsPiece (NumberRemark n) = n < 2 ^ 64
+IsPiece (IndexComment n) = n < 2 ^ 64
 IsPiece (Quoted cs) = scalars cs ≡ true
 IsPiece (QuotedBytes bs) = AllByRecursion (λ b. b < 256) bs
 IsPiece (Identifier cs) = (scalars cs ≡ true) × (is_name (encode_utf8_all cs) ≡ true)
-IsPiece (NameNote cs) = scalars cs ≡ true
-IsPiece (Remark t s) = is_remark s ≡ true
-IsPiece (Ending s) = is_remark s ≡ true
-IsPiece (PlainEnding s) = is_remark s ≡ true
+IsPiece (NameAnnotation cs) = scalars cs ≡ true
+IsPiece (BlockComment t s) = is_remark s ≡ true
+IsPiece (LineComment s) = is_remark s ≡ true
+IsPiece (PlainLineComment s) = is_remark s ≡ true
 IsPiece _ = Unit {0}
 
 abbrev pub ArePieces : List Piece → Type 0
@@ -203,28 +203,28 @@ indent_lexes offsets place indent rest h =
 
 -- ---- words with spaces before them
 
-behind_blanks_delimited : (ws : List (List ℕ)) (rest : List ℕ) → delimited rest ≡ true → delimited (behind_blanks ws ++ rest) ≡ true
+after_blanks_delimited : (ws : List (List ℕ)) (rest : List ℕ) → delimited rest ≡ true → delimited (after_blanks ws ++ rest) ≡ true
 unfolding class
-behind_blanks_delimited [] rest d = d
-behind_blanks_delimited (w ∷ ws) rest d = refl
+after_blanks_delimited [] rest d = d
+after_blanks_delimited (w ∷ ws) rest d = refl
 
-behind_blanks_lex : (ws : List (List ℕ)) (rest : List ℕ) → are_words ws ≡ true → delimited rest ≡ true →
-    lex Clear (behind_blanks ws ++ rest) ≡ word_tokens ws ++ lex Clear rest
+after_blanks_lex : (ws : List (List ℕ)) (rest : List ℕ) → are_words ws ≡ true → delimited rest ≡ true →
+    lex Clear (after_blanks ws ++ rest) ≡ word_tokens ws ++ lex Clear rest
 unfolding lex class
-behind_blanks_lex [] rest h d = refl
-behind_blanks_lex (w ∷ ws) rest h d =
+after_blanks_lex [] rest h d = refl
+after_blanks_lex (w ∷ ws) rest h d =
     let parts : (is_word w ≡ true) × (are_words ws ≡ true) = and_parts (is_word w) (are_words ws) h in
-    ap (lex Clear) (append_assoc w (behind_blanks ws) rest)
-    ∙ word_lexes w (behind_blanks ws ++ rest) parts.0 (behind_blanks_delimited ws rest d)
-    ∙ ap (λ t. word w ∷ t) (behind_blanks_lex ws rest parts.1 d)
+    ap (lex Clear) (append_assoc w (after_blanks ws) rest)
+    ∙ word_lexes w (after_blanks ws ++ rest) parts.0 (after_blanks_delimited ws rest d)
+    ∙ ap (λ t. word w ∷ t) (after_blanks_lex ws rest parts.1 d)
 
 words_lex : (w : List ℕ) (ws : List (List ℕ)) (rest : List ℕ) → are_words (w ∷ ws) ≡ true → delimited rest ≡ true →
-    lex Clear ((w ++ behind_blanks ws) ++ rest) ≡ word_tokens (w ∷ ws) ++ lex Clear rest
+    lex Clear ((w ++ after_blanks ws) ++ rest) ≡ word_tokens (w ∷ ws) ++ lex Clear rest
 words_lex w ws rest h d =
     let parts : (is_word w ≡ true) × (are_words ws ≡ true) = and_parts (is_word w) (are_words ws) h in
-    ap (lex Clear) (append_assoc w (behind_blanks ws) rest)
-    ∙ word_lexes w (behind_blanks ws ++ rest) parts.0 (behind_blanks_delimited ws rest d)
-    ∙ ap (λ t. word w ∷ t) (behind_blanks_lex ws rest parts.1 d)
+    ap (lex Clear) (append_assoc w (after_blanks ws) rest)
+    ∙ word_lexes w (after_blanks ws ++ rest) parts.0 (after_blanks_delimited ws rest d)
+    ∙ ap (λ t. word w ∷ t) (after_blanks_lex ws rest parts.1 d)
 
 -- ---- single pieces
 
@@ -232,7 +232,7 @@ module _ (o : Options) (blank : all_blank o.indent ≡ true) where
   piece_lexes : (p : Piece) (rest : List ℕ) → IsPiece p → follows (leaves p) rest ≡ true → lex Clear (text o p ++ rest) ≡ piece_tokens p ++ lex Clear rest
   unfolding lex class
   piece_lexes (Begin place) rest h d = refl
-  piece_lexes Feed rest h d = refl
+  piece_lexes EndLine rest h d = refl
   piece_lexes (Break place nesting) rest h d =
       indent_lexes o.offsets place (repetition_of (min nesting most_indents) o.indent) rest (all_blank-repetition_of (min nesting most_indents) o.indent blank)
   piece_lexes Gap rest h d = refl
@@ -244,17 +244,17 @@ module _ (o : Options) (blank : all_blank o.indent ≡ true) where
       ∙ open_lexes w (32 ∷ rest) h refl
   piece_lexes (OpenPlain w) rest h d =
       ap (λ t. lex Clear (40 ∷ (t ++ rest))) (append-nil w) ∙ open_lexes w rest h d
-  piece_lexes OpenBare rest h d = left_lexes rest d
+  piece_lexes OpenUnnamed rest h d = left_lexes rest d
   piece_lexes (OpenTypeGap w) rest h d =
       ap (λ t. lex Clear (40 ∷ (t ++ rest))) (append-nil (w ++ (32 ∷ [])))
       ∙ ap (λ t. lex Clear (40 ∷ t)) (append_assoc w (32 ∷ []) rest)
       ∙ open_lexes w (32 ∷ rest) h refl
-  piece_lexes (OpenNote w) rest h d = ap (λ t. lex Clear (40 ∷ (64 ∷ (t ++ rest)))) (append-nil w) ∙ note_lexes w rest h d
-  piece_lexes (OpenNoteGap w) rest h d =
+  piece_lexes (OpenAnnotation w) rest h d = ap (λ t. lex Clear (40 ∷ (64 ∷ (t ++ rest)))) (append-nil w) ∙ note_lexes w rest h d
+  piece_lexes (OpenAnnotationGap w) rest h d =
       ap (λ t. lex Clear (40 ∷ (64 ∷ (t ++ rest)))) (append-nil (w ++ (32 ∷ [])))
       ∙ ap (λ t. lex Clear (40 ∷ (64 ∷ t))) (append_assoc w (32 ∷ []) rest)
       ∙ note_lexes w (32 ∷ rest) h refl
-  piece_lexes (OpenRun w) rest h d = ap (λ t. lex Clear (40 ∷ (t ++ rest))) (append-nil w) ∙ run_lexes w rest h d
+  piece_lexes (OpenAnnotationWord w) rest h d = ap (λ t. lex Clear (40 ∷ (t ++ rest))) (append-nil w) ∙ run_lexes w rest h d
   piece_lexes Shut rest h d = refl
   piece_lexes (Word w) rest h d = ap (λ t. lex Clear (t ++ rest)) (append-nil w) ∙ word_lexes w rest h d
   piece_lexes (TypeWord w) rest h d = ap (λ t. lex Clear (t ++ rest)) (append-nil w) ∙ word_lexes w rest h d
@@ -265,12 +265,12 @@ module _ (o : Options) (blank : all_blank o.indent ≡ true) where
   piece_lexes (GapTypeWord w) rest h d = ap (λ t. lex Clear (t ++ rest)) (append-nil w) ∙ word_lexes w rest h d
   piece_lexes (Number n) rest h d = ap (λ t. lex Clear (t ++ rest)) (append-nil (decimal n)) ∙ word_lexes (decimal n) rest (is_word-decimal n h) d
   piece_lexes (Constant z) rest h d = ap (λ t. lex Clear (t ++ rest)) (append-nil (signed_decimal z)) ∙ word_lexes (signed_decimal z) rest (is_word-signed_decimal z h) d
-  piece_lexes (Literals w ws) rest h d = ap (λ t. lex Clear (t ++ rest)) (append-nil (w ++ behind_blanks ws)) ∙ words_lex w ws rest h d
-  piece_lexes (GapLiterals ws) rest h d = ap (λ t. lex Clear (t ++ rest)) (append-nil (behind_blanks ws)) ∙ behind_blanks_lex ws rest h d
+  piece_lexes (Literals w ws) rest h d = ap (λ t. lex Clear (t ++ rest)) (append-nil (w ++ after_blanks ws)) ∙ words_lex w ws rest h d
+  piece_lexes (GapLiterals ws) rest h d = ap (λ t. lex Clear (t ++ rest)) (append-nil (after_blanks ws)) ∙ after_blanks_lex ws rest h d
   piece_lexes (Float w bits) rest h d = float_lexes w h.0 bits rest h.1 d
   piece_lexes BeginName rest h d = refl
   piece_lexes EndStyle rest h d = refl
-  piece_lexes (NumberRemark n) rest h d =
+  piece_lexes (IndexComment n) rest h d =
       ap (λ t. lex Clear (40 ∷ (59 ∷ (t ++ rest)))) (append-nil (decimal n ++ codes ";)"))
       ∙ ap (λ t. lex Clear (40 ∷ (59 ∷ t))) (append_assoc (decimal n) (codes ";)") rest)
       ∙ comment_lexes (decimal n) rest (all_quiet-decimal n h)
@@ -280,24 +280,24 @@ module _ (o : Options) (blank : all_blank o.indent ≡ true) where
       ap (λ t. lex Clear (t ++ rest)) (append-nil (quoted_bytes bs)) ∙ quoted_bytes_lex bs rest h d
   piece_lexes (Identifier cs) rest h d =
       ap (λ t. lex Clear (t ++ rest)) (append-nil (identifier_text cs)) ∙ identifier_lexes cs rest h.0 h.1 d
-  piece_lexes (NameNote cs) rest h d =
+  piece_lexes (NameAnnotation cs) rest h d =
       ap (λ t. lex Clear (codes "(@name \"" ++ t)) (append_assoc (flat_map char_text cs) (codes "\")") rest)
       ∙ name_note_lexes cs rest h
-  piece_lexes (Remark true s) rest h d =
+  piece_lexes (BlockComment true s) rest h d =
       ap (λ t. lex Clear (40 ∷ (59 ∷ (t ++ rest)))) (append-nil (s ++ codes ";)"))
       ∙ ap (λ t. lex Clear (40 ∷ (59 ∷ t))) (append_assoc s (codes ";)") rest)
       ∙ comment_lexes s rest (remark s h).quiet
-  piece_lexes (Remark false s) rest h d =
+  piece_lexes (BlockComment false s) rest h d =
       ap (λ t. lex Clear (40 ∷ (59 ∷ (t ++ rest)))) (append-nil (s ++ codes ";)"))
       ∙ ap (λ t. lex Clear (40 ∷ (59 ∷ t))) (append_assoc s (codes ";)") rest)
       ∙ comment_lexes s rest (remark s h).quiet
-  piece_lexes (Ending s) rest h d =
+  piece_lexes (LineComment s) rest h d =
       ap (λ t. lex Clear (codes ";; " ++ (t ++ rest))) (append-nil s)
       ∙ ending_lexes s rest (remark s h).inline d
-  piece_lexes (PlainEnding s) rest h d =
+  piece_lexes (PlainLineComment s) rest h d =
       ap (λ t. lex Clear (codes ";; " ++ (t ++ rest))) (append-nil s)
       ∙ ending_lexes s rest (remark s h).inline d
-  piece_lexes (HintNote taken) rest h d =
+  piece_lexes (HintAnnotation taken) rest h d =
       ap (λ t. lex Clear (codes "(@metadata.code.branch_hint " ++ (t ++ rest))) (append-nil (quoted_bytes (flag_byte taken ∷ []) ++ codes ")"))
       ∙ ap (λ t. lex Clear (codes "(@metadata.code.branch_hint " ++ t)) (append_assoc (quoted_bytes (flag_byte taken ∷ [])) (codes ")") rest)
       ∙ hint_lexes taken rest
@@ -306,17 +306,17 @@ module _ (o : Options) (blank : all_blank o.indent ≡ true) where
 begins_delimited : (o : Options) (p : Piece) (rest : List ℕ) → begins p ≡ true → follows (leaves p) rest ≡ true → delimited (text o p ++ rest) ≡ true
 unfolding class
 begins_delimited o (Begin place) rest h d = absurd (true≢false (sym h))
-begins_delimited o Feed rest h d = refl
+begins_delimited o EndLine rest h d = refl
 begins_delimited o (Break place nesting) rest h d = refl
 begins_delimited o Gap rest h d = refl
 begins_delimited o (Open w) rest h d = refl
 begins_delimited o (OpenGap w) rest h d = refl
 begins_delimited o (OpenPlain w) rest h d = refl
-begins_delimited o OpenBare rest h d = refl
+begins_delimited o OpenUnnamed rest h d = refl
 begins_delimited o (OpenTypeGap w) rest h d = refl
-begins_delimited o (OpenNote w) rest h d = refl
-begins_delimited o (OpenNoteGap w) rest h d = refl
-begins_delimited o (OpenRun w) rest h d = refl
+begins_delimited o (OpenAnnotation w) rest h d = refl
+begins_delimited o (OpenAnnotationGap w) rest h d = refl
+begins_delimited o (OpenAnnotationWord w) rest h d = refl
 begins_delimited o Shut rest h d = refl
 begins_delimited o (Word w) rest h d = absurd (true≢false (sym h))
 begins_delimited o (TypeWord w) rest h d = absurd (true≢false (sym h))
@@ -326,36 +326,36 @@ begins_delimited o (Number n) rest h d = absurd (true≢false (sym h))
 begins_delimited o (Constant z) rest h d = refl
 begins_delimited o (Literals w ws) rest h d = absurd (true≢false (sym h))
 begins_delimited o (GapLiterals ws) rest h d =
-    ap (λ t. delimited (t ++ rest)) (append-nil (behind_blanks ws)) ∙ behind_blanks_delimited ws rest d
+    ap (λ t. delimited (t ++ rest)) (append-nil (after_blanks ws)) ∙ after_blanks_delimited ws rest d
 begins_delimited o (Float w bits) rest h d = absurd (true≢false (sym h))
-begins_delimited o (NumberRemark n) rest h d = refl
+begins_delimited o (IndexComment n) rest h d = refl
 begins_delimited o BeginName rest h d = absurd (true≢false (sym h))
 begins_delimited o EndStyle rest h d = d
 begins_delimited o (Quoted cs) rest h d = absurd (true≢false (sym h))
 begins_delimited o (QuotedBytes bs) rest h d = absurd (true≢false (sym h))
 begins_delimited o (Identifier cs) rest h d = absurd (true≢false (sym h))
-begins_delimited o (NameNote cs) rest h d = refl
-begins_delimited o (Remark true s) rest h d = refl
-begins_delimited o (Remark false s) rest h d = refl
-begins_delimited o (Ending s) rest h d = refl
-begins_delimited o (PlainEnding s) rest h d = refl
-begins_delimited o (HintNote taken) rest h d = refl
+begins_delimited o (NameAnnotation cs) rest h d = refl
+begins_delimited o (BlockComment true s) rest h d = refl
+begins_delimited o (BlockComment false s) rest h d = refl
+begins_delimited o (LineComment s) rest h d = refl
+begins_delimited o (PlainLineComment s) rest h d = refl
+begins_delimited o (HintAnnotation taken) rest h d = refl
 begins_delimited o (Claimed name place bytes answer) rest h d = d
 
 starts_item : (o : Options) (p : Piece) (rest : List ℕ) → starts p ≡ true → IsPiece p → begins_item (text o p ++ rest) ≡ true
 unfolding class quoted_text quoted_bytes identifier_text
 starts_item o (Begin place) rest h i = absurd (true≢false (sym h))
-starts_item o Feed rest h i = refl
+starts_item o EndLine rest h i = refl
 starts_item o (Break place nesting) rest h i = refl
 starts_item o Gap rest h i = refl
 starts_item o (Open w) rest h i = refl
 starts_item o (OpenGap w) rest h i = refl
 starts_item o (OpenPlain w) rest h i = refl
-starts_item o OpenBare rest h i = refl
+starts_item o OpenUnnamed rest h i = refl
 starts_item o (OpenTypeGap w) rest h i = refl
-starts_item o (OpenNote w) rest h i = refl
-starts_item o (OpenNoteGap w) rest h i = refl
-starts_item o (OpenRun w) rest h i = refl
+starts_item o (OpenAnnotation w) rest h i = refl
+starts_item o (OpenAnnotationGap w) rest h i = refl
+starts_item o (OpenAnnotationWord w) rest h i = refl
 starts_item o Shut rest h i = refl
 starts_item o (Word w) rest h i = begins_item-word w [] rest i
 starts_item o (TypeWord w) rest h i = begins_item-word w [] rest i
@@ -365,27 +365,27 @@ starts_item o (GapTypeWord w) rest h i = refl
 starts_item o (Number n) rest h i = begins_item-word (decimal n) [] rest (is_word-decimal n i)
 starts_item o (Constant z) rest h i = refl
 starts_item o (Literals w ws) rest h i =
-    ap (λ t. begins_item (t ++ rest)) (append-nil (w ++ behind_blanks ws))
-    ∙ begins_item-word w (behind_blanks ws) rest (and_parts (is_word w) (are_words ws) i).0
+    ap (λ t. begins_item (t ++ rest)) (append-nil (w ++ after_blanks ws))
+    ∙ begins_item-word w (after_blanks ws) rest (and_parts (is_word w) (are_words ws) i).0
 starts_item o (GapLiterals ws) rest h i = absurd (true≢false (sym h))
 starts_item o (Float w bits) rest h i = absurd (true≢false (sym h))
-starts_item o (NumberRemark n) rest h i = refl
+starts_item o (IndexComment n) rest h i = refl
 starts_item o BeginName rest h i = absurd (true≢false (sym h))
 starts_item o EndStyle rest h i = absurd (true≢false (sym h))
 starts_item o (Quoted cs) rest h i = refl
 starts_item o (QuotedBytes bs) rest h i = refl
 starts_item o (Identifier cs) rest h i = refl
-starts_item o (NameNote cs) rest h i = refl
-starts_item o (Remark true s) rest h i = refl
-starts_item o (Remark false s) rest h i = refl
-starts_item o (Ending s) rest h i = absurd (true≢false (sym h))
-starts_item o (PlainEnding s) rest h i = absurd (true≢false (sym h))
-starts_item o (HintNote taken) rest h i = refl
+starts_item o (NameAnnotation cs) rest h i = refl
+starts_item o (BlockComment true s) rest h i = refl
+starts_item o (BlockComment false s) rest h i = refl
+starts_item o (LineComment s) rest h i = absurd (true≢false (sym h))
+starts_item o (PlainLineComment s) rest h i = absurd (true≢false (sym h))
+starts_item o (HintAnnotation taken) rest h i = refl
 starts_item o (Claimed name place bytes answer) rest h i = absurd (true≢false (sym h))
 
 feeds_ends_line : (o : Options) (p : Piece) (rest : List ℕ) → feeds p ≡ true → ends_line (text o p ++ rest) ≡ true
 unfolding class
-feeds_ends_line o Feed rest h = refl
+feeds_ends_line o EndLine rest h = refl
 feeds_ends_line o (Break place nesting) rest h = refl
 feeds_ends_line o _ rest h = absurd (true≢false (sym h))
 

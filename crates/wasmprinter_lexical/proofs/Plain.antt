@@ -5,7 +5,7 @@ use Rattle.std.specs.Fmt.{digits}
 use Rattle.std.specs.List.{starts_with}
 use Rattle.std.proofs.lemmas.Bool.{and_parts, false_from_ne_true, eqb-true, eq-eqb, ne_eqb, leb-true}
 use Rattle.std.proofs.lemmas.Str.{IsUtf8-from_ascii}
-use Rattle.wasmprinter_spec.specs.Colour.{sequences, sequence_length_in, uncolour_step, uncolour_after, uncolour}
+use Rattle.wasmprinter_spec.specs.Color.{sequences, sequence_length_in, uncolor_step, uncolor_after, uncolor}
 use Rattle.wasmprinter_spec.specs.Plain.{IsPlainByte, IsPlainText}
 use Rattle.wasmprinter_lexical.proofs.Printed.{is_printed, all_printed}
 
@@ -81,10 +81,10 @@ not_escape b (inr (inl e)) = ne_eqb b 27 (λ f. omega arith)
 not_escape b (inr (inr h)) = ne_eqb b 27 (λ f. omega arith)
 
 -- Deleting ANSI escape sequences keeps every byte of plain text.
-pub uncolour-byte : (b : ℕ) (bs : List ℕ) → IsPlainByte b → uncolour (b ∷ bs) ≡ b ∷ uncolour bs
-uncolour-byte b bs h =
-    ap (λ n. uncolour_step n b (λ k. uncolour_after k bs)) (no_sequence sequences b bs sequences_escape (not_escape b h))
+pub uncolor-byte : (b : ℕ) (bs : List ℕ) → IsPlainByte b → uncolor (b ∷ bs) ≡ b ∷ uncolor bs
+uncolor-byte b bs h =
+    ap (λ n. uncolor_step n b (λ k. uncolor_after k bs)) (no_sequence sequences b bs sequences_escape (not_escape b h))
 
-pub uncolour-plain : (text : List ℕ) → IsPlainText text → uncolour text ≡ text
-uncolour-plain [] h = refl
-uncolour-plain (b ∷ bs) h = uncolour-byte b bs h.0 ∙ ap (λ t. b ∷ t) (uncolour-plain bs h.1)
+pub uncolor-plain : (text : List ℕ) → IsPlainText text → uncolor text ≡ text
+uncolor-plain [] h = refl
+uncolor-plain (b ∷ bs) h = uncolor-byte b bs h.0 ∙ ap (λ t. b ∷ t) (uncolor-plain bs h.1)

@@ -4,7 +4,7 @@ use Rattle.std.proofs.Common.{◌≡◌, ℕ, zero, suc, ◌<◌, ◌/◌, ◌%�
 use Rattle.std.proofs.lemmas.Bool.{and_parts, and_from, agree_below, agree_below_at, ltb-true, ltb-false}
 use Rattle.std.specs.Fmt.{digits, digits_onto, digit_glyph}
 use Rattle.wasmprinter_spec.specs.Character.{Class, Foreign, class}
-use Rattle.wasmprinter_spec.specs.Quoted.{runs, all_run}
+use Rattle.wasmprinter_spec.specs.Quoted.{is_id_char, all_id_chars}
 use Rattle.wasmprinter_spec.proofs.Classes.{foreign}
 use Rattle.wasmprinter_lexical.proofs.Runs.{is_word, is_plain_class, is_quiet, is_inline, is_blank_class, all_quiet, all_inline, all_blank}
 use Rattle.wasmprinter_lexical.proofs.Numbers.{plain_runs}
@@ -36,21 +36,21 @@ module _ (good : Class → Bool) (none : good Foreign ≡ false) (low : agree_be
           rw h at k
       by false e = absurd (true≢false (sym h ∙ ap good (foreign b (ltb-false b 128 e)) ∙ none))
 
-runs_low : agree_below (λ b. not (runs (class b)) || is_printed b) (λ b. true) 128 ≡ true
+runs_low : agree_below (λ b. not (is_id_char (class b)) || is_printed b) (λ b. true) 128 ≡ true
 unfolding class
 runs_low = refl
 
-pub all_printed-run : (w : List ℕ) → all_run w ≡ true → all_printed w ≡ true
+pub all_printed-run : (w : List ℕ) → all_id_chars w ≡ true → all_printed w ≡ true
 all_printed-run [] h = refl
 all_printed-run (b ∷ bs) h =
-    let parts : (runs (class b) ≡ true) × (all_run bs ≡ true) = and_parts (runs (class b)) (all_run bs) h in
-    and_from (is_printed b) (all_printed bs) (printed_by_class runs refl runs_low b parts.0) (all_printed-run bs parts.1)
+    let parts : (is_id_char (class b) ≡ true) × (all_id_chars bs ≡ true) = and_parts (is_id_char (class b)) (all_id_chars bs) h in
+    and_from (is_printed b) (all_printed bs) (printed_by_class is_id_char refl runs_low b parts.0) (all_printed-run bs parts.1)
 
 pub printed_word : (w : List ℕ) → is_word w ≡ true → all_printed w ≡ true
 printed_word [] h = absurd (true≢false (sym h))
 printed_word (b ∷ bs) h =
-    let parts : (is_plain_class (class b) ≡ true) × (all_run bs ≡ true) = and_parts (is_plain_class (class b)) (all_run bs) h in
-    all_printed-run (b ∷ bs) (and_from (runs (class b)) (all_run bs) (plain_runs (class b) parts.0) parts.1)
+    let parts : (is_plain_class (class b) ≡ true) × (all_id_chars bs ≡ true) = and_parts (is_plain_class (class b)) (all_id_chars bs) h in
+    all_printed-run (b ∷ bs) (and_from (is_id_char (class b)) (all_id_chars bs) (plain_runs (class b) parts.0) parts.1)
 
 blank_low : agree_below (λ b. not (is_blank_class (class b)) || is_printed b) (λ b. true) 128 ≡ true
 unfolding class
@@ -99,20 +99,20 @@ unfolding digits
 hex_digits_are_good n = good_digits 64 n [] (refl, refl)
 
 -- Hexadecimal digits are identifier characters.
-run_glyphs_low : agree_below (λ d. runs (class (digit_glyph false d))) (λ d. true) 16 ≡ true
+run_glyphs_low : agree_below (λ d. is_id_char (class (digit_glyph false d))) (λ d. true) 16 ≡ true
 unfolding class
 run_glyphs_low = refl
 
-run_digit : (d : ℕ) (bs : List ℕ) → d < 16 → all_run bs ≡ true → all_run (digit_glyph false d ∷ bs) ≡ true
+run_digit : (d : ℕ) (bs : List ℕ) → d < 16 → all_id_chars bs ≡ true → all_id_chars (digit_glyph false d ∷ bs) ≡ true
 run_digit d bs h g =
-    and_from (runs (class (digit_glyph false d))) (all_run bs) (agree_below_at (λ x. runs (class (digit_glyph false x))) (λ x. true) 16 d run_glyphs_low h) g
+    and_from (is_id_char (class (digit_glyph false d))) (all_id_chars bs) (agree_below_at (λ x. is_id_char (class (digit_glyph false x))) (λ x. true) 16 d run_glyphs_low h) g
 
-run_digits : (k n : ℕ) (bs : List ℕ) → all_run bs ≡ true → all_run (digits_onto k 16 false n bs) ≡ true
+run_digits : (k n : ℕ) (bs : List ℕ) → all_id_chars bs ≡ true → all_id_chars (digits_onto k 16 false n bs) ≡ true
 run_digits zero n bs g = g
 run_digits (suc k) n bs g =
     by _ _ (eqb (n / 16) 0) (run_digit (n % 16) bs (omega arith) g) (run_digits k (n / 16) (digit_glyph false (n % 16) ∷ bs) (run_digit (n % 16) bs (omega arith) g))
   where
-    by : (a b : List ℕ) (t : Bool) → all_run a ≡ true → all_run b ≡ true → all_run (cond t a b) ≡ true
+    by : (a b : List ℕ) (t : Bool) → all_id_chars a ≡ true → all_id_chars b ≡ true → all_id_chars (cond t a b) ≡ true
     by a b true x y = x
     by a b false x y = y
 

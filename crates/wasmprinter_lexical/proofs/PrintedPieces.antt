@@ -6,8 +6,8 @@ use Rattle.std.specs.List.{AllByRecursion}
 use Rattle.wasmprinter_spec.specs.Call.{Text, text_of}
 use Rattle.wasmprinter_spec.specs.Options.{Options, IsBlank}
 use Rattle.wasmprinter_spec.specs.Plain.{IsPlainText}
-use Rattle.wasmprinter_spec.specs.Quoted.{char_text, byte_text, is_plain, quoted_text, quoted_bytes, is_run, identifier_text}
-use Rattle.wasmprinter_spec.specs.Piece.{Piece, Begin, Feed, Break, Gap, Open, OpenGap, OpenPlain, OpenBare, OpenTypeGap, OpenNote, OpenNoteGap, OpenRun, Shut, Word, TypeWord, TypeWordGap, GapTypeWord, Number, Constant, Literals, GapLiterals, Float, NumberRemark, BeginName, EndStyle, Quoted, QuotedBytes, Identifier, NameNote, Remark, Ending, PlainEnding, HintNote, Claimed, flag_byte, behind_blanks, repetition_of, left_in, place_text, place_calls, most_indents, text, all_calls}
+use Rattle.wasmprinter_spec.specs.Quoted.{char_text, byte_text, is_plain, quoted_text, quoted_bytes, is_id, identifier_text}
+use Rattle.wasmprinter_spec.specs.Piece.{Piece, Begin, EndLine, Break, Gap, Open, OpenGap, OpenPlain, OpenUnnamed, OpenTypeGap, OpenAnnotation, OpenAnnotationGap, OpenAnnotationWord, Shut, Word, TypeWord, TypeWordGap, GapTypeWord, Number, Constant, Literals, GapLiterals, Float, IndexComment, BeginName, EndStyle, Quoted, QuotedBytes, Identifier, NameAnnotation, BlockComment, LineComment, PlainLineComment, HintAnnotation, Claimed, flag_byte, after_blanks, repetition_of, left_in, place_text, place_calls, most_indents, text, all_calls}
 use Rattle.wasmprinter_spec.proofs.Texts.{text_of-append}
 use Rattle.wasmprinter_lexical.proofs.Runs.{is_word, are_words}
 use Rattle.wasmprinter_lexical.proofs.Numbers.{is_word-decimal, is_word-signed_decimal}
@@ -63,17 +63,17 @@ printed_quoted_bytes : (bs : List ℕ) → AllByRecursion (λ b. b < 256) bs →
 unfolding quoted_bytes
 printed_quoted_bytes bs h = printed_bytes bs (34 ∷ []) h refl
 
-printed_words : (ws : List (List ℕ)) → are_words ws ≡ true → all_printed (behind_blanks ws) ≡ true
+printed_words : (ws : List (List ℕ)) → are_words ws ≡ true → all_printed (after_blanks ws) ≡ true
 printed_words [] h = refl
 printed_words (w ∷ ws) h =
     let parts : (is_word w ≡ true) × (are_words ws ≡ true) = and_parts (is_word w) (are_words ws) h in
-    all_printed-append w (behind_blanks ws) (printed_word w parts.0) (printed_words ws parts.1)
+    all_printed-append w (after_blanks ws) (printed_word w parts.0) (printed_words ws parts.1)
 
 printed_identifier : (cs : List ℕ) → all_printed (identifier_text cs) ≡ true
 unfolding identifier_text
-printed_identifier cs = by (is_run cs) refl
+printed_identifier cs = by (is_id cs) refl
   where
-    by : (t : Bool) → is_run cs ≡ t → all_printed (cond t cs (quoted_text cs)) ≡ true
+    by : (t : Bool) → is_id cs ≡ t → all_printed (cond t cs (quoted_text cs)) ≡ true
     by true e = run_is_printed cs e
     by false e = printed_quoted cs
 
@@ -105,7 +105,7 @@ printed_styled w h = all_printed-append w [] h refl
 module _ (o : Options) (blank : IsBlank o.indent) where
   printed_piece : (p : Piece) → IsPiece p → all_printed (text o p) ≡ true
   printed_piece (Begin place) h = refl
-  printed_piece Feed h = refl
+  printed_piece EndLine h = refl
   printed_piece (Break place nesting) h =
       ap all_printed (text_of-append (place_calls o.offsets place) (Text (repetition_of (min nesting most_indents) o.indent) ∷ []))
       ∙ all_printed-append (text_of (place_calls o.offsets place)) (repetition_of (min nesting most_indents) o.indent ++ [])
@@ -116,11 +116,11 @@ module _ (o : Options) (blank : IsBlank o.indent) where
   printed_piece (Open w) h = printed_styled w (printed_word w h)
   printed_piece (OpenGap w) h = printed_styled (w ++ (32 ∷ [])) (all_printed-append w (32 ∷ []) (printed_word w h) refl)
   printed_piece (OpenPlain w) h = printed_styled w (printed_word w h)
-  printed_piece OpenBare h = refl
+  printed_piece OpenUnnamed h = refl
   printed_piece (OpenTypeGap w) h = printed_styled (w ++ (32 ∷ [])) (all_printed-append w (32 ∷ []) (printed_word w h) refl)
-  printed_piece (OpenNote w) h = printed_styled w (run_is_printed w h)
-  printed_piece (OpenNoteGap w) h = printed_styled (w ++ (32 ∷ [])) (all_printed-append w (32 ∷ []) (run_is_printed w h) refl)
-  printed_piece (OpenRun w) h = printed_styled w (run_is_printed w h)
+  printed_piece (OpenAnnotation w) h = printed_styled w (run_is_printed w h)
+  printed_piece (OpenAnnotationGap w) h = printed_styled (w ++ (32 ∷ [])) (all_printed-append w (32 ∷ []) (run_is_printed w h) refl)
+  printed_piece (OpenAnnotationWord w) h = printed_styled w (run_is_printed w h)
   printed_piece Shut h = refl
   printed_piece (Word w) h = printed_styled w (printed_word w h)
   printed_piece (TypeWord w) h = printed_styled w (printed_word w h)
@@ -130,22 +130,22 @@ module _ (o : Options) (blank : IsBlank o.indent) where
   printed_piece (Constant z) h = printed_styled (signed_decimal z) (printed_word (signed_decimal z) (is_word-signed_decimal z h))
   printed_piece (Literals w ws) h =
       let parts : (is_word w ≡ true) × (are_words ws ≡ true) = and_parts (is_word w) (are_words ws) h in
-      printed_styled (w ++ behind_blanks ws) (all_printed-append w (behind_blanks ws) (printed_word w parts.0) (printed_words ws parts.1))
-  printed_piece (GapLiterals ws) h = printed_styled (behind_blanks ws) (printed_words ws h)
+      printed_styled (w ++ after_blanks ws) (all_printed-append w (after_blanks ws) (printed_word w parts.0) (printed_words ws parts.1))
+  printed_piece (GapLiterals ws) h = printed_styled (after_blanks ws) (printed_words ws h)
   printed_piece (Float w bits) h = printed_float w h.0 bits h.1
   printed_piece BeginName h = refl
   printed_piece EndStyle h = refl
-  printed_piece (NumberRemark n) h =
+  printed_piece (IndexComment n) h =
       printed_styled (decimal n ++ codes ";)") (all_printed-append (decimal n) (codes ";)") (printed_word (decimal n) (is_word-decimal n h)) refl)
   printed_piece (Quoted cs) h = printed_styled (quoted_text cs) (printed_quoted cs)
   printed_piece (QuotedBytes bs) h = printed_styled (quoted_bytes bs) (printed_quoted_bytes bs h)
   printed_piece (Identifier cs) h = printed_styled (identifier_text cs) (printed_identifier cs)
-  printed_piece (NameNote cs) h = printed_chars cs (codes "\")") refl
-  printed_piece (Remark true s) h = printed_styled (s ++ codes ";)") (all_printed-append s (codes ";)") (remark s h).printed refl)
-  printed_piece (Remark false s) h = printed_styled (s ++ codes ";)") (all_printed-append s (codes ";)") (remark s h).printed refl)
-  printed_piece (Ending s) h = printed_styled s (remark s h).printed
-  printed_piece (PlainEnding s) h = printed_styled s (remark s h).printed
-  printed_piece (HintNote taken) h =
+  printed_piece (NameAnnotation cs) h = printed_chars cs (codes "\")") refl
+  printed_piece (BlockComment true s) h = printed_styled (s ++ codes ";)") (all_printed-append s (codes ";)") (remark s h).printed refl)
+  printed_piece (BlockComment false s) h = printed_styled (s ++ codes ";)") (all_printed-append s (codes ";)") (remark s h).printed refl)
+  printed_piece (LineComment s) h = printed_styled s (remark s h).printed
+  printed_piece (PlainLineComment s) h = printed_styled s (remark s h).printed
+  printed_piece (HintAnnotation taken) h =
       printed_styled (quoted_bytes (flag_byte taken ∷ []) ++ codes ")")
       (all_printed-append (quoted_bytes (flag_byte taken ∷ [])) (codes ")") (printed_quoted_bytes (flag_byte taken ∷ []) (flag_is_byte taken, tt)) refl)
   printed_piece (Claimed name place bytes answer) h = refl

@@ -12,11 +12,11 @@ use Rattle.wasmprinter_spec.specs.Call.{text_of}
 use Rattle.wasmprinter_spec.specs.Float.{Width, IsWidth, sign_bit}
 use Rattle.wasmprinter_spec.specs.FloatText.{float_text}
 use Rattle.wasmprinter_spec.specs.Options.{Options, IsBlank}
-use Rattle.wasmprinter_spec.specs.Quoted.{is_run}
+use Rattle.wasmprinter_spec.specs.Quoted.{is_id}
 use Rattle.wasmprinter_spec.specs.Token.{left, left_note, right, word, name, string, is_name, tokens}
 use Rattle.wasmprinter_spec.specs.Forest.{Forest, End, Word, Name, String, Group, Note, flat, onto, without_annotations, forest, the_one, grow}
 use Rattle.wasmprinter_spec.specs.Piece as piece
-use Rattle.wasmprinter_spec.specs.Piece.{Piece, Begin, Feed, Break, Gap, Open, OpenGap, OpenPlain, OpenBare, OpenTypeGap, OpenNote, OpenNoteGap, OpenRun, Shut, TypeWord, TypeWordGap, GapTypeWord, Number, Constant, Literals, GapLiterals, Float, NumberRemark, BeginName, EndStyle, Quoted, QuotedBytes, Identifier, NameNote, Remark, Ending, PlainEnding, HintNote, Claimed, flag_byte, word_tokens, all_calls, all_tokens, piece_tokens}
+use Rattle.wasmprinter_spec.specs.Piece.{Piece, Begin, EndLine, Break, Gap, Open, OpenGap, OpenPlain, OpenUnnamed, OpenTypeGap, OpenAnnotation, OpenAnnotationGap, OpenAnnotationWord, Shut, TypeWord, TypeWordGap, GapTypeWord, Number, Constant, Literals, GapLiterals, Float, IndexComment, BeginName, EndStyle, Quoted, QuotedBytes, Identifier, NameAnnotation, BlockComment, LineComment, PlainLineComment, HintAnnotation, Claimed, flag_byte, word_tokens, all_calls, all_tokens, piece_tokens}
 use Rattle.wasmprinter_spec.specs.Layout.Groups.{group, group_gap, line_group_gap, group_at, group_gap_at, line_group, close, has_break}
 use Rattle.wasmprinter_lexical.proofs.Runs.{is_word, are_words}
 use Rattle.wasmprinter_lexical.proofs.Grown.{flat-onto, one-flat, without_annotations-onto}
@@ -121,10 +121,10 @@ begins_all Ended p o b = absurd cc
 
 feeds_all : (a : Edge) (p : Piece) → feeds p ≡ true → may_follow a p ≡ true
 feeds_all Free p f = refl
-feeds_all Bound Feed f = refl
+feeds_all Bound EndLine f = refl
 feeds_all Bound (Break place nesting) f = refl
 feeds_all Bound _ f = absurd cc
-feeds_all Opened Feed f = refl
+feeds_all Opened EndLine f = refl
 feeds_all Opened (Break place nesting) f = refl
 feeds_all Opened _ f = absurd cc
 feeds_all Ended p f = f
@@ -207,8 +207,8 @@ one_string_writes p s is stands one w = piece_writes p (String s) (String s) is 
 pub begin_writes : {b : Edge} {place : ℕ} {ps : List Piece} {f k : Forest} → WritesNoted Free ps b f k → WritesNoted Free (Begin place ∷ ps) b f k
 begin_writes {place = place} w = silent_writes (Begin place) tt (λ qs j. j) refl w
 
-pub feed_writes : {a b : Edge} {ps : List Piece} {f k : Forest} → WritesNoted Free ps b f k → WritesNoted a (Feed ∷ ps) b f k
-feed_writes {a = a} w = silent_writes Feed tt (joins_line a Feed refl) refl w
+pub feed_writes : {a b : Edge} {ps : List Piece} {f k : Forest} → WritesNoted Free ps b f k → WritesNoted a (EndLine ∷ ps) b f k
+feed_writes {a = a} w = silent_writes EndLine tt (joins_line a EndLine refl) refl w
 
 pub break_writes : {a b : Edge} {place : Option ℕ} {nesting : ℕ} {ps : List Piece} {f k : Forest} → WritesNoted Free ps b f k → WritesNoted a (Break place nesting ∷ ps) b f k
 break_writes {a = a} {place = place} {nesting = nesting} w = silent_writes (Break place nesting) tt (joins_line a (Break place nesting) refl) refl w
@@ -216,8 +216,8 @@ break_writes {a = a} {place = place} {nesting = nesting} w = silent_writes (Brea
 pub gap_writes : {a b : Edge} {ps : List Piece} {f k : Forest} → is_open a ≡ true → WritesNoted Free ps b f k → WritesNoted a (Gap ∷ ps) b f k
 gap_writes {a = a} e w = silent_writes Gap tt (joins_anywhere a Gap e refl) refl w
 
-pub number_remark_writes : {a b : Edge} {n : ℕ} {ps : List Piece} {f k : Forest} → is_open a ≡ true → n < 2 ^ 64 → WritesNoted Free ps b f k → WritesNoted a (NumberRemark n ∷ ps) b f k
-number_remark_writes {a = a} {n = n} e h w = silent_writes (NumberRemark n) h (joins_anywhere a (NumberRemark n) e refl) refl w
+pub number_remark_writes : {a b : Edge} {n : ℕ} {ps : List Piece} {f k : Forest} → is_open a ≡ true → n < 2 ^ 64 → WritesNoted Free ps b f k → WritesNoted a (IndexComment n ∷ ps) b f k
+number_remark_writes {a = a} {n = n} e h w = silent_writes (IndexComment n) h (joins_anywhere a (IndexComment n) e refl) refl w
 
 -- The start of the style of names has no text and is no item.
 pub begin_name_writes : {b : Edge} {ps : List Piece} {f k : Forest} → WritesNoted Free ps b f k → WritesNoted Free (BeginName ∷ ps) b f k
@@ -297,10 +297,10 @@ identifier_writes {cs = cs} h n w =
 -- The rule for an identifier with the annotation of the given name
 pub noted_identifier_writes : {b : Edge} {cs ds : List ℕ} {ps : List Piece} {f k : Forest} → scalars cs ≡ true → is_name (encode_utf8_all cs) ≡ true → scalars ds ≡ true →
     WritesNoted Free ps b f k →
-    WritesNoted Free (Identifier cs ∷ (Gap ∷ (NameNote ds ∷ ps))) b (Name (encode_utf8_all cs) f) (Name (encode_utf8_all cs) k)
+    WritesNoted Free (Identifier cs ∷ (Gap ∷ (NameAnnotation ds ∷ ps))) b (Name (encode_utf8_all cs) f) (Name (encode_utf8_all cs) k)
 noted_identifier_writes {cs = cs} {ds = ds} h n d w = record {
-  printed = Identifier cs ∷ (Gap ∷ (NameNote ds ∷ w.printed));
-  spelled = first_spelled (Identifier cs) (first_spelled Gap (first_spelled (NameNote ds) w.spelled));
+  printed = Identifier cs ∷ (Gap ∷ (NameAnnotation ds ∷ w.printed));
+  spelled = first_spelled (Identifier cs) (first_spelled Gap (first_spelled (NameAnnotation ds) w.spelled));
   joins = w.joins;
   are = ((h, n), (tt, (d, w.are)));
   whole = Name (encode_utf8_all cs) (Note (codes "name") (String (encode_utf8_all ds) End) w.whole);
@@ -309,21 +309,21 @@ noted_identifier_writes {cs = cs} {ds = ds} h n d w = record {
   noted = a_noted_name w.noted;
 }
 
-pub remark_writes : {a b : Edge} {t : Bool} {s : List ℕ} {ps : List Piece} {f k : Forest} → is_open a ≡ true → is_remark s ≡ true → WritesNoted Free ps b f k → WritesNoted a (Remark t s ∷ ps) b f k
-remark_writes {a = a} {t = t} {s = s} e h w = silent_writes (Remark t s) h (joins_anywhere a (Remark t s) e refl) refl w
+pub remark_writes : {a b : Edge} {t : Bool} {s : List ℕ} {ps : List Piece} {f k : Forest} → is_open a ≡ true → is_remark s ≡ true → WritesNoted Free ps b f k → WritesNoted a (BlockComment t s ∷ ps) b f k
+remark_writes {a = a} {t = t} {s = s} e h w = silent_writes (BlockComment t s) h (joins_anywhere a (BlockComment t s) e refl) refl w
 
-pub ending_writes : {a b : Edge} {s : List ℕ} {ps : List Piece} {f k : Forest} → is_open a ≡ true → is_remark s ≡ true → WritesNoted Ended ps b f k → WritesNoted a (Ending s ∷ ps) b f k
-ending_writes {a = a} {s = s} e h w = silent_writes (Ending s) h (joins_anywhere a (Ending s) e refl) refl w
+pub ending_writes : {a b : Edge} {s : List ℕ} {ps : List Piece} {f k : Forest} → is_open a ≡ true → is_remark s ≡ true → WritesNoted Ended ps b f k → WritesNoted a (LineComment s ∷ ps) b f k
+ending_writes {a = a} {s = s} e h w = silent_writes (LineComment s) h (joins_anywhere a (LineComment s) e refl) refl w
 
 pub plain_ending_writes : {a b : Edge} {s : List ℕ} {ps : List Piece} {f k : Forest} → is_open a ≡ true → is_remark s ≡ true → WritesNoted Ended ps b f k →
-    WritesNoted a (PlainEnding s ∷ ps) b f k
-plain_ending_writes {a = a} {s = s} e h w = silent_writes (PlainEnding s) h (joins_anywhere a (PlainEnding s) e refl) refl w
+    WritesNoted a (PlainLineComment s ∷ ps) b f k
+plain_ending_writes {a = a} {s = s} e h w = silent_writes (PlainLineComment s) h (joins_anywhere a (PlainLineComment s) e refl) refl w
 
 -- ---- where a line must end (in no set of rules, or a search would not terminate)
 
 -- Pieces that may follow an edge at which the line must end may follow every edge.
-pub behind_anything : {b : Edge} {ps : List Piece} {f k : Forest} (a : Edge) → WritesNoted Ended ps b f k → WritesNoted a ps b f k
-behind_anything a w = rejoined w (λ qs h. ended_joins a (w.printed ++ qs) (w.joins qs h))
+pub after_anything : {b : Edge} {ps : List Piece} {f k : Forest} (a : Edge) → WritesNoted Ended ps b f k → WritesNoted a ps b f k
+after_anything a w = rejoined w (λ qs h. ended_joins a (w.printed ++ qs) (w.joins qs h))
 
 -- The line may end after any pieces.
 pub before_line : {a : Edge} {ps : List Piece} {f k : Forest} (b : Edge) → WritesNoted a ps b f k → WritesNoted a ps Ended f k
@@ -385,13 +385,13 @@ opening_plain v h = record { delimits = refl; leaves_it = refl; is = (h, tt); op
 opening_type : (v : List ℕ) → is_word v ≡ true → IsOpening (OpenTypeGap v) Free (group_of v) (group_of v)
 opening_type v h = record { delimits = refl; leaves_it = refl; is = (h, tt); opens = λ f. refl; notes = λ n. a_group (a_word n) no_items; cuts = λ k. refl }
 
-opening_bare : IsOpening OpenBare Opened (λ f. Group f End) (λ f. Group f End)
+opening_bare : IsOpening OpenUnnamed Opened (λ f. Group f End) (λ f. Group f End)
 opening_bare = record { delimits = refl; leaves_it = refl; is = (tt, tt); opens = λ f. refl; notes = λ n. a_group n no_items; cuts = λ k. refl }
 
-opening_note : (v : List ℕ) → is_run v ≡ true → IsOpening (OpenNote v) Bound (λ f. Note v f End) (λ f. End)
+opening_note : (v : List ℕ) → is_id v ≡ true → IsOpening (OpenAnnotation v) Bound (λ f. Note v f End) (λ f. End)
 opening_note v h = record { delimits = refl; leaves_it = refl; is = (h, tt); opens = λ f. refl; notes = λ n. a_note n no_items; cuts = λ k. refl }
 
-opening_note_gap : (v : List ℕ) → is_run v ≡ true → IsOpening (OpenNoteGap v) Free (λ f. Note v f End) (λ f. End)
+opening_note_gap : (v : List ℕ) → is_id v ≡ true → IsOpening (OpenAnnotationGap v) Free (λ f. Note v f End) (λ f. End)
 opening_note_gap v h = record { delimits = refl; leaves_it = refl; is = (h, tt); opens = λ f. refl; notes = λ n. a_note n no_items; cuts = λ k. refl }
 
 -- The items that result if a parenthesis and identifier characters come before these items
@@ -416,7 +416,7 @@ opened_cut : (x : Beginning) (k : Forest) → without_annotations (opened_items 
 opened_cut (InGroup g) k = ap (λ f. Group f End) (without_annotations-onto g k)
 opened_cut (InNote id) k = refl
 
-opening_run : (v : List ℕ) → is_run v ≡ true → IsOpening (OpenRun v) Bound (opened_items (beginning v)) (opened_kept (beginning v))
+opening_run : (v : List ℕ) → is_id v ≡ true → IsOpening (OpenAnnotationWord v) Bound (opened_items (beginning v)) (opened_kept (beginning v))
 opening_run v h = record {
   delimits = refl;
   leaves_it = refl;
@@ -458,8 +458,8 @@ unfolding group_gap
 group_gap_writes {a = a} nesting v ps o h w = closed_writes (OpenGap v) None nesting (has_break ps) ps a o refl (opening_gap v h) w
 
 -- The rule for a group without a keyword
-pub bare_group_writes : {a b : Edge} (nesting : ℕ) (t : Bool) (ps : List Piece) {f k : Forest} → is_open a ≡ true → WritesNoted Opened ps Bound f k → WritesNoted a (OpenBare ∷ (ps ++ close None nesting t)) b (Group f End) (Group k End)
-bare_group_writes {a = a} nesting t ps o w = closed_writes OpenBare None nesting t ps a o refl opening_bare w
+pub bare_group_writes : {a b : Edge} (nesting : ℕ) (t : Bool) (ps : List Piece) {f k : Forest} → is_open a ≡ true → WritesNoted Opened ps Bound f k → WritesNoted a (OpenUnnamed ∷ (ps ++ close None nesting t)) b (Group f End) (Group k End)
+bare_group_writes {a = a} nesting t ps o w = closed_writes OpenUnnamed None nesting t ps a o refl opening_bare w
 
 pub group_at_writes : {a b : Edge} (offsets : Bool) (place nesting : ℕ) (v : List ℕ) (ps : List Piece) {f k : Forest} → is_open a ≡ true → is_word v ≡ true → WritesNoted Bound ps Bound f k → WritesNoted a (group_at offsets place nesting v ps) b (Group (Word v f) End) (Group (Word v k) End)
 unfolding group_at
@@ -513,10 +513,10 @@ type_group_then {a = a} {c = c} {v = v} {ps = ps} {qs = qs} {f = f} {g = g} {k =
     (both_write (closed_writes (OpenTypeGap v) None 0 false ps a o refl (opening_type v h) v') w)
 
 pub bare_group_then : {a c : Edge} {ps qs : List Piece} {f g k h : Forest} → is_open a ≡ true → WritesNoted Opened ps Bound f k → WritesNoted Bound qs c g h →
-    WritesNoted a (OpenBare ∷ (ps ++ (Shut ∷ qs))) c (Group f g) (Group k h)
+    WritesNoted a (OpenUnnamed ∷ (ps ++ (Shut ∷ qs))) c (Group f g) (Group k h)
 bare_group_then {a = a} {c = c} {ps = ps} {qs = qs} {f = f} {g = g} {k = k} {h = l} o v' w =
-    subst (λ t. WritesNoted a (OpenBare ∷ t) c (Group f g) (Group k l)) (append_assoc ps (Shut ∷ []) qs)
-    (both_write (closed_writes OpenBare None 0 false ps a o refl opening_bare v') w)
+    subst (λ t. WritesNoted a (OpenUnnamed ∷ t) c (Group f g) (Group k l)) (append_assoc ps (Shut ∷ []) qs)
+    (both_write (closed_writes OpenUnnamed None 0 false ps a o refl opening_bare v') w)
 
 -- ---- annotations
 
@@ -530,25 +530,25 @@ pub written : {a b : Edge} {ps : List Piece} {f k : Forest} → WritesNoted a ps
 written w = record { items = _; noted = _; writes = w }
 
 -- The rule for an annotation whose lines are nested like those of a group
-pub note_writes : {a b : Edge} {f k : Forest} (nesting : ℕ) (v : List ℕ) (ps : List Piece) → is_open a ≡ true → is_run v ≡ true → WritesNoted Bound ps Bound f k →
-    WritesNoted a (OpenNote v ∷ (ps ++ close None nesting (has_break ps))) b End (Note v k End)
-note_writes {a = a} nesting v ps o h w = closed_writes (OpenNote v) None nesting (has_break ps) ps a o refl (opening_note v h) w
+pub note_writes : {a b : Edge} {f k : Forest} (nesting : ℕ) (v : List ℕ) (ps : List Piece) → is_open a ≡ true → is_id v ≡ true → WritesNoted Bound ps Bound f k →
+    WritesNoted a (OpenAnnotation v ∷ (ps ++ close None nesting (has_break ps))) b End (Note v k End)
+note_writes {a = a} nesting v ps o h w = closed_writes (OpenAnnotation v) None nesting (has_break ps) ps a o refl (opening_note v h) w
 
 -- The rule for an annotation in one line
-pub note_gap_writes : {a b : Edge} {f k : Forest} (v : List ℕ) (ps : List Piece) → is_open a ≡ true → is_run v ≡ true → WritesNoted Free ps Bound f k →
-    WritesNoted a (OpenNoteGap v ∷ (ps ++ (Shut ∷ []))) b End (Note v k End)
-note_gap_writes {a = a} v ps o h w = closed_writes (OpenNoteGap v) None 0 false ps a o refl (opening_note_gap v h) w
+pub note_gap_writes : {a b : Edge} {f k : Forest} (v : List ℕ) (ps : List Piece) → is_open a ≡ true → is_id v ≡ true → WritesNoted Free ps Bound f k →
+    WritesNoted a (OpenAnnotationGap v ∷ (ps ++ (Shut ∷ []))) b End (Note v k End)
+note_gap_writes {a = a} v ps o h w = closed_writes (OpenAnnotationGap v) None 0 false ps a o refl (opening_note_gap v h) w
 
 -- The rule for a group within an annotation, which starts with any identifier characters
-pub run_group_writes : {a b : Edge} (v : List ℕ) (ps : List Piece) → is_open a ≡ true → is_run v ≡ true → IsWritten Bound ps Bound →
-    IsWritten a (OpenRun v ∷ (ps ++ (Shut ∷ []))) b
-run_group_writes {a = a} v ps o h w = written (closed_writes (OpenRun v) None 0 false ps a o refl (opening_run v h) w.writes)
+pub run_group_writes : {a b : Edge} (v : List ℕ) (ps : List Piece) → is_open a ≡ true → is_id v ≡ true → IsWritten Bound ps Bound →
+    IsWritten a (OpenAnnotationWord v ∷ (ps ++ (Shut ∷ []))) b
+run_group_writes {a = a} v ps o h w = written (closed_writes (OpenAnnotationWord v) None 0 false ps a o refl (opening_run v h) w.writes)
 
 -- The rule for the annotation of a hint
 pub hint_note_writes : {a b : Edge} {taken : Bool} {ps : List Piece} {f k : Forest} → is_open a ≡ true → WritesNoted Free ps b f k →
-    WritesNoted a (HintNote taken ∷ ps) b f (Note (codes "metadata.code.branch_hint") (String (flag_byte taken ∷ []) End) k)
+    WritesNoted a (HintAnnotation taken ∷ ps) b f (Note (codes "metadata.code.branch_hint") (String (flag_byte taken ∷ []) End) k)
 hint_note_writes {a = a} {taken = taken} e w =
-    piece_writes (HintNote taken) (Note (codes "metadata.code.branch_hint") (String (flag_byte taken ∷ []) End)) (λ g. g) tt (joins_anywhere a (HintNote taken) e refl)
+    piece_writes (HintAnnotation taken) (Note (codes "metadata.code.branch_hint") (String (flag_byte taken ∷ []) End)) (λ g. g) tt (joins_anywhere a (HintAnnotation taken) e refl)
     (λ g. refl) (λ g h n. a_note (a_string no_items) n) (λ g. refl) w
 
 -- The rule for a claim, which has no text

@@ -2,7 +2,7 @@
 ghost use Rattle.std.specs.Prelude.{◌≤◌, ◌+◌, [], ◌∷◌, ◌++◌, ◌||◌, true, false, None, Some};
 ghost use Rattle.std.specs.Fmt.{digits};
 ghost use Rattle.wasmprinter_spec.specs.Call.{Text};
-ghost use Rattle.wasmprinter_spec.specs.Piece.{Begin, Feed, Break, most_indents, repetition_of, left_in, place_calls};
+ghost use Rattle.wasmprinter_spec.specs.Piece.{Begin, EndLine, Break, most_indents, repetition_of, left_in, place_calls};
 ghost use Rattle.wasmprinter_spec.specs.Layout.Groups.{close};
 ghost use Rattle.wasmprinter_print.specs.Emits.{Emits};
 ghost use Rattle.wasmprinter_print.specs.Prints.{Prints, PrintsAlways};
@@ -11,10 +11,10 @@ ghost use Rattle.wasmprinter_print.specs.Puts.{Puts, MarksUnder};
 use crate::options::PrintOptions;
 use std::io;
 use wasmprinter_print::{
-    Fault, Print, Style, feed, put_feed, put_line, put_text, reset, start, text,
+    FirstError, Print, Style, feed, put_feed, put_line, put_text, reset, start, text,
 };
 use wasmprinter_words::numbers::{hexadecimal_len, write_hexadecimal};
-use wasmprinter_words::words::put_shut;
+use wasmprinter_words::words::put_close_paren;
 
 /// The number of characters to which a place is padded with spaces.
 const PLACE_WIDTH: usize = 6;
@@ -83,7 +83,7 @@ fn write_offset<P: Print>(p: &mut P, place: Option<u64>) -> io::Result<()>
 /// Writes the place of a line as a comment if the options ask for places.
 fn put_wanted_offset<P: Print>(
     p: &mut P,
-    fault: &mut Fault,
+    fault: &mut FirstError,
     options: &PrintOptions,
     place: Option<u64>,
 )
@@ -95,7 +95,7 @@ fn put_wanted_offset<P: Print>(
 }
 
 /// Writes the indentation of this number of levels.
-fn put_indent<P: Print>(p: &mut P, fault: &mut Fault, options: &PrintOptions, levels: usize)
+fn put_indent<P: Print>(p: &mut P, fault: &mut FirstError, options: &PrintOptions, levels: usize)
     requires { levels ≤ most_indents }
     ensures { Puts P.meaning p.old fault.old p.new fault.new (Text (repetition_of levels options.now.indent) ∷ []) }
 {
@@ -119,7 +119,7 @@ pub fn begin<P: Print>(p: &mut P, place: u64) -> io::Result<()>
 
 /// Ends the last line.
 pub fn end<P: Print>(p: &mut P) -> io::Result<()>
-    ensures { PrintsAlways P.meaning p.old p.new result (Feed ∷ []) }
+    ensures { PrintsAlways P.meaning p.old p.new result (EndLine ∷ []) }
 {
     feed(p)
 }
@@ -128,7 +128,7 @@ pub fn end<P: Print>(p: &mut P) -> io::Result<()>
 /// of the module.
 pub(crate) fn put_break_line<P: Print>(
     p: &mut P,
-    fault: &mut Fault,
+    fault: &mut FirstError,
     options: &PrintOptions,
     place: Option<u64>,
     nesting: u64,
@@ -151,7 +151,7 @@ pub fn break_line<P: Print>(
 ) -> io::Result<()>
     ensures { Prints P.meaning options.now p.old p.new result (Break place nesting ∷ []) }
 {
-    let mut fault = Fault::none();
+    let mut fault = FirstError::none();
     put_break_line(p, &mut fault, options, place, nesting);
     fault.into_result()
 }
@@ -159,7 +159,7 @@ pub fn break_line<P: Print>(
 /// Starts a new line at nesting depth `nesting + depth`.
 pub fn put_break_inside<P: Print>(
     p: &mut P,
-    fault: &mut Fault,
+    fault: &mut FirstError,
     options: &PrintOptions,
     place: u64,
     nesting: u64,
@@ -186,7 +186,7 @@ pub fn break_inside<P: Print>(
 ) -> io::Result<()>
     ensures { Prints P.meaning options.now p.old p.new result (Break (Some place) (nesting + depth) ∷ []) }
 {
-    let mut fault = Fault::none();
+    let mut fault = FirstError::none();
     put_break_inside(p, &mut fault, options, place, nesting, depth);
     fault.into_result()
 }
@@ -194,7 +194,7 @@ pub fn break_inside<P: Print>(
 /// Starts a new line, and closes a group on it.
 fn put_shut_below<P: Print>(
     p: &mut P,
-    fault: &mut Fault,
+    fault: &mut FirstError,
     options: &PrintOptions,
     place: Option<u64>,
     nesting: u64,
@@ -202,7 +202,7 @@ fn put_shut_below<P: Print>(
     ensures { MarksUnder P.meaning options.now p.old fault.old p.new fault.new (close place nesting true) }
 {
     put_break_line(p, fault, options, place, nesting);
-    put_shut(p, fault);
+    put_close_paren(p, fault);
 }
 
 /// Closes a group, on a line of its own or on the current line.
@@ -215,11 +215,11 @@ fn shut_if<P: Print>(
 ) -> io::Result<()>
     ensures { Prints P.meaning options.now p.old p.new result (close place nesting on_new_line) }
 {
-    let mut fault = Fault::none();
+    let mut fault = FirstError::none();
     if on_new_line {
         put_shut_below(p, &mut fault, options, place, nesting);
     } else {
-        put_shut(p, &mut fault);
+        put_close_paren(p, &mut fault);
     }
     fault.into_result()
 }

@@ -17,13 +17,13 @@ const BLANKS: &str =
 /// The options that each part of the layout uses.
 #[derive(Debug, Drop)]
 pub struct PrintOptions {
-    /// Whether each line begins with its place as a comment.
+    /// Whether each line after the first begins with its place, in a comment.
     pub offsets: bool,
     /// Whether bodies, the items of element segments, and the bytes of data segments and custom sections are left
     /// out.
     pub skeleton: bool,
     /// Whether identifiers are synthesized for items without a name.
-    pub invents: bool,
+    pub synthesizes: bool,
     /// Whether each operator is written in parentheses with its operands.
     pub folds: bool,
     /// The text of one level of indentation.
@@ -40,9 +40,9 @@ impl Model for PrintOptions {
     ghost view = { λ o. record {
       offsets = o.offsets;
       skeleton = o.skeleton;
-      invents = o.invents;
+      synthesizes = o.synthesizes;
       folds = o.folds;
-      paints = false;
+      color = false;
       indent = indent_text o.indent;
     } };
 }
@@ -60,7 +60,7 @@ impl PrintOptions {
         PrintOptions {
             offsets: false,
             skeleton: false,
-            invents: false,
+            synthesizes: false,
             folds: false,
             indent: Indent::TwoBlanks,
         }

@@ -99,19 +99,19 @@ name_after a b p q x names =
 stays_of_labels : (a b : List (Place × StoredName)) (p : Place) (x : StoredName) → Gains a b p x
     → (p.subsection ≡ label_subsection → content_or x.marked x.given.now ≡ label_content p.index x.given.now)
     → AreOfLabels (items_view a) → AreOfLabels (items_view b)
-stays_of_labels a b p x names content old f n y e invents d = by (is_at (place_cmp p) q) refl (sym (name_after a b p q x names) ∙ e)
+stays_of_labels a b p x names content old f n y e synthesizes d = by (is_at (place_cmp p) q) refl (sym (name_after a b p q x names) ∙ e)
   where
     q : Place
     q = record { subsection = label_subsection; outer = f; index = n }
 
-    by : (hit : Bool) → is_at (place_cmp p) q ≡ hit → (if hit then Some (stored_view x) else name_at (items_view a) label_subsection f n) ≡ Some y → label_named invents n d y.given ≡ Some y
+    by : (hit : Bool) → is_at (place_cmp p) q ≡ hit → (if hit then Some (stored_view x) else name_at (items_view a) label_subsection f n) ≡ Some y → label_named synthesizes n d y.given ≡ Some y
     by true t h =
         let same = sym (same_place p q) ∙ t in
         let s : p.subsection ≡ label_subsection = eqb-true p.subsection label_subsection (and_left (nat_eq p.subsection label_subsection) (nat_eq p.outer f) (and_left _ (nat_eq p.index n) same)) in
         let i : p.index ≡ n = eqb-true p.index n (and_right (nat_eq p.subsection label_subsection && nat_eq p.outer f) (nat_eq p.index n) same) in
-        subst (λ (z : Named). label_named invents n d z.given ≡ Some z) (some_is (stored_view x) y h)
+        subst (λ (z : Named). label_named synthesizes n d z.given ≡ Some z) (some_is (stored_view x) y h)
         (ap (λ (t : List ℕ). Some (record { given = Some x.given.now; content = t })) (ap (λ (k : ℕ). label_content k x.given.now) (sym i) ∙ sym (content s)))
-    by false t h = old f n y h invents d
+    by false t h = old f n y h synthesizes d
 
 -- The same if the insertion may fail.
 pub keeps_of_labels : {X E : Type 0} (r : Result X E) (a b : List (Place × StoredName)) (p : Place) (x : StoredName) → OnOk r (Gains a b p x) → OnErr r (b ≡ a)

@@ -19,7 +19,7 @@ use Rattle.std.specs.Result.{result_ok}
 use Rattle.std.specs.List.{HoldsAt}
 use Rattle.std.specs.List.Sorted.{IsNonDecreasingBy, IsBinarySearchResult}
 use Rattle.wasmprinter_names.specs.Views.{place_cmp, stored_view, item_view, name_at}
-use Rattle.wasmprinter_names.specs.Lookups.{Ascends, AllAreBefore, AllAreBehind, stored_at}
+use Rattle.wasmprinter_names.specs.Lookups.{Ascends, AllAreBefore, AllAreAfter, stored_at}
 use Rattle.wasmprinter_names.specs.declared.store.Place.{Place}
 use Rattle.wasmprinter_names.specs.declared.store.StoredName.{StoredName}
 use Rattle.wasmprinter_names.proofs.Adding.{same_place, name_at-lookup}
@@ -77,8 +77,8 @@ module _ (es : List (Place × StoredName)) (s : Ascends es) where
       ]
 
   -- If an entry has a higher place, so have all entries after it.
-  pub all_behind : (q : Place) (i : ℕ) (e : Place × StoredName) → i < length es → e ≡ get_or es i e → place_cmp q e.0 ≡ Less → AllAreBehind es i q
-  all_behind q i e within at less k d low high =
+  pub all_after : (q : Place) (i : ℕ) (e : Place × StoredName) → i < length es → e ≡ get_or es i e → place_cmp q e.0 ≡ Less → AllAreAfter es i q
+  all_after q i e within at less k d low high =
       let here : place_cmp q (get_or es i d).0 ≡ Less = ap (λ (x : Place × StoredName). place_cmp q x.0) (get_or_default es i d e within ∙ sym at) ∙ less in
       elim (cases_lt i k) [
         | inl lt ↦ turned q (get_or es k d).0 (place_total.trans q (get_or es i d).0 (get_or es k d).0 here (rises i k d lt high))
@@ -107,10 +107,10 @@ none_by [] q h = tt
 none_by (e ∷ es) q h = (h 0 e (omega arith), none_by es q (λ k d low. h (suc k) d (omega arith)))
 
 -- If the entries before a position have lower places and the others have higher places, the place has no name.
-pub none_there : (es : List (Place × StoredName)) (q : Place) (i : ℕ) → AllAreBefore es i q → AllAreBehind es i q → None ≡ stored_at es q
-none_there es q i before behind = sym (lookup-none (is_at (place_cmp q)) es (none_by es q (λ k d low. elim (cases_lt k i) [
+pub none_there : (es : List (Place × StoredName)) (q : Place) (i : ℕ) → AllAreBefore es i q → AllAreAfter es i q → None ≡ stored_at es q
+none_there es q i before after = sym (lookup-none (is_at (place_cmp q)) es (none_by es q (λ k d low. elim (cases_lt k i) [
   | inl lt ↦ ap is_eq (turned (get_or es k d).0 q (before k d (omega arith) lt))
-  | inr ge ↦ ap is_eq (place_total.antisymm q (get_or es k d).0 ∙ ap ordering_reverse (behind k d ge low))
+  | inr ge ↦ ap is_eq (place_total.antisymm q (get_or es k d).0 ∙ ap ordering_reverse (after k d ge low))
 ])))
 
 -- ---- The result of a binary search

@@ -36,5 +36,5 @@ Ascend (x ∷ xs) = AllByRecursion (IsBefore x) xs × Ascend xs
 -- The identifier of a label with a name consists of that name and the label's number.
 abbrev pub AreOfLabels : List NamedItem → Type 0
 AreOfLabels items =
-    (f n : ℕ) (x : Named) → name_at items label_subsection f n ≡ Some x → (invents : Bool) (d : ℕ) →
-    label_named invents n d x.given ≡ Some x
+    (f n : ℕ) (x : Named) → name_at items label_subsection f n ≡ Some x → (synthesizes : Bool) (d : ℕ) →
+    label_named synthesizes n d x.given ≡ Some x

@@ -26,8 +26,8 @@ abbrev pub AllAreBefore : List (Place × StoredName) → ℕ → Place → Type 
 AllAreBefore entries i place = AllWithin (λ e. place_cmp e.0 place ≡ Less) entries 0 i
 
 -- The entries from position i on have higher places than this one.
-abbrev pub AllAreBehind : List (Place × StoredName) → ℕ → Place → Type 0
-AllAreBehind entries i place = AllWithin (λ e. place_cmp e.0 place ≡ Greater) entries i (length entries)
+abbrev pub AllAreAfter : List (Place × StoredName) → ℕ → Place → Type 0
+AllAreAfter entries i place = AllWithin (λ e. place_cmp e.0 place ≡ Greater) entries i (length entries)
 
 -- No place has a name in both lists.
 abbrev pub AreDisjoint : List (Place × StoredName) → List (Place × StoredName) → Type 0

@@ -45,8 +45,8 @@ impl Beginnings {
         let begin = self.begin(ahead as usize);
         let end = self.begin((ahead as usize).saturating_add(1));
         let lowest = entries.get(begin).map_or(0, |entry| entry.0.index);
-        let behind = place.index.saturating_sub(lowest) as usize;
-        begin.saturating_add(behind).min(end)
+        let after = place.index.saturating_sub(lowest) as usize;
+        begin.saturating_add(after).min(end)
     }
 }
 

@@ -5,7 +5,7 @@ ghost use Rattle.wasmprinter_spec.specs.Names.{name_in};
 ghost use Rattle.wasmprinter_spec.specs.Names.Section.{module_subsection};
 ghost use Rattle.wasmprinter_names.specs.Spaces.{id_of, outer_of};
 ghost use Rattle.wasmprinter_names.specs.Views.{name_at};
-ghost use Rattle.wasmprinter_names.specs.Shown.{identifier_view, invented_view};
+ghost use Rattle.wasmprinter_names.specs.Shown.{identifier_view, synthesized_view};
 
 use crate::space::Space;
 use crate::store::{Name, NameEntries, Names};
@@ -16,7 +16,7 @@ pub enum Identifier<'a> {
     /// The identifier for a name that a name section gives.
     Given(Name<'a>),
     /// A synthesized identifier: the sign `#`, the word for the items of the space, and the number.
-    Invented { space: Space, number: u64 },
+    Synthesized { space: Space, number: u64 },
 }
 
 /// The names of a module, and whether identifiers are synthesized for items without a name.
@@ -25,14 +25,18 @@ pub struct Identifiers<'n, 'a> {
     /// The names that the module's name sections give.
     pub names: &'n Names<'a>,
     /// Whether identifiers are synthesized.
-    pub invents: bool,
+    pub synthesizes: bool,
 }
 
 /// Returns a synthesized identifier, or `None` if identifiers are not synthesized.
-fn invented_identifier<'n>(invents: bool, space: Space, number: u64) -> Option<Identifier<'n>>
-    ensures { option_map identifier_view result ≡ invented_view invents (id_of space) number }
+fn synthesized_identifier<'n>(
+    synthesizes: bool,
+    space: Space,
+    number: u64,
+) -> Option<Identifier<'n>>
+    ensures { option_map identifier_view result ≡ synthesized_view synthesizes (id_of space) number }
 {
-    invents.then_some(Identifier::Invented { space, number })
+    synthesizes.then_some(Identifier::Synthesized { space, number })
 }
 
 impl<'n> Identifiers<'n, '_> {
@@ -40,11 +44,11 @@ impl<'n> Identifiers<'n, '_> {
     /// other items it is ignored.
     pub fn item(&self, space: Space, outer: u64, number: u64) -> Option<Identifier<'n>>
         ensures { option_map identifier_view result
-            ≡ name_in self.now.invents (name_at self.now.names.now) (id_of space) (outer_of space outer) number }
+            ≡ name_in self.now.synthesizes (name_at self.now.names.now) (id_of space) (outer_of space outer) number }
     {
         match self.names.name(space, outer, number) {
             Some(name) => Some(Identifier::Given(name)),
-            None => invented_identifier(self.invents, space, number),
+            None => synthesized_identifier(self.synthesizes, space, number),
         }
     }
 

@@ -2,7 +2,7 @@
 ghost use Rattle.std.specs.Prelude.{◌≡◌, ◌<◌, ◌≤◌, length, None, IsTrue, IfSome, IfNone, option_copied};
 ghost use Rattle.std.specs.List.{HoldsAt};
 ghost use Rattle.std.specs.declared.cmp.Ordering.TheVariants.{Equal};
-ghost use Rattle.wasmprinter_names.specs.Lookups.{Ascends, AllAreBefore, AllAreBehind, stored_at};
+ghost use Rattle.wasmprinter_names.specs.Lookups.{Ascends, AllAreBefore, AllAreAfter, stored_at};
 ghost use Rattle.wasmprinter_names.specs.Views.{place_cmp};
 
 use crate::store::{Place, StoredName};
@@ -23,9 +23,9 @@ pub(crate) fn all_before(entries: &[(Place, StoredName<'_>)], position: usize, p
 }
 
 /// Reports whether the first entry from a position on shows that all of these have higher places than this one.
-fn all_behind(entries: &[(Place, StoredName<'_>)], position: usize, place: Place) -> bool
+fn all_after(entries: &[(Place, StoredName<'_>)], position: usize, place: Place) -> bool
     requires { Ascends entries.now }
-    ensures { IsTrue result → AllAreBehind entries.now position place }
+    ensures { IsTrue result → AllAreAfter entries.now position place }
 {
     match entries.get(position) {
         Some((at, _)) => place < *at,
@@ -67,7 +67,7 @@ pub(crate) fn find<'e, 'a>(
 {
     match entries.get(likely) {
         Some((at, stored)) if *at == place => Some(stored),
-        _ if all_before(entries, likely, place) && all_behind(entries, likely, place) => None,
+        _ if all_before(entries, likely, place) && all_after(entries, likely, place) => None,
         _ => search(entries, place),
     }
 }

@@ -7,7 +7,7 @@ use Rattle.std.proofs.lemmas.Bool.{eqb-true}
 use Rattle.std.specs.Prelude.{IsUtf8, Option}
 use Rattle.std.specs.Str.{IsCharBoundary}
 use Rattle.wasmprinter_spec.specs.Call.{Call, text_of}
-use Rattle.wasmprinter_spec.specs.Layout.Folded.{painted_text, has_line_comment}
+use Rattle.wasmprinter_spec.specs.Layout.Folded.{text_in_color, has_line_comment}
 use Rattle.wasmprinter_spec.specs.Folding.Tree.{NodesOf, Nil, Snoc}
 use Rattle.wasmprinter_nodes.specs.declared.NodeText.{NodeText}
 use Rattle.wasmprinter_nodes.specs.Mapping.{map_nodes}
@@ -92,39 +92,39 @@ all_shown_grown old new (Snoc before l results held) g h =
 
 -- ---- Semicolons
 
-abbrev comment_behind : Bool → List ℕ → Bool
-comment_behind true bs = has_line_comment (59 ∷ bs)
-comment_behind false bs = has_line_comment bs
+abbrev comment_after : Bool → List ℕ → Bool
+comment_after true bs = has_line_comment (59 ∷ bs)
+comment_after false bs = has_line_comment bs
 
 or_none : (d : Bool) → d ≡ (d || false)
 or_none true = refl
 or_none false = refl
 
-behind_none : (l : Bool) → comment_behind l [] ≡ false
-behind_none true = refl
-behind_none false = refl
+after_none : (l : Bool) → comment_after l [] ≡ false
+after_none true = refl
+after_none false = refl
 
 no_semicolon : (b : ℕ) (bs : List ℕ) → (b == 59) ≡ false → has_line_comment (b ∷ bs) ≡ has_line_comment bs
 no_semicolon b [] e = refl
 no_semicolon b (c ∷ bs) e = rw e refl
 
-by_first : (b : ℕ) (bs : List ℕ) (l : Bool) → (b == 59) ≡ l → has_line_comment (b ∷ bs) ≡ comment_behind l bs
+by_first : (b : ℕ) (bs : List ℕ) (l : Bool) → (b == 59) ≡ l → has_line_comment (b ∷ bs) ≡ comment_after l bs
 by_first b bs true e = ap (λ c. has_line_comment (c ∷ bs)) (eqb-true b 59 e)
 by_first b bs false e = no_semicolon b bs e
 
 -- Reading the first byte into the state does not change whether two consecutive semicolons are found.
-behind_first : (d l s : Bool) (b : ℕ) (bs : List ℕ) → (b == 59) ≡ s → ((d || (l && s)) || comment_behind s bs) ≡ (d || comment_behind l (b ∷ bs))
-behind_first true l s b bs e = refl
-behind_first false false s b bs e = sym (by_first b bs s e)
-behind_first false true s b bs e = rw e (ap (λ x. s || x) (sym (by_first b bs s e)))
+after_first : (d l s : Bool) (b : ℕ) (bs : List ℕ) → (b == 59) ≡ s → ((d || (l && s)) || comment_after s bs) ≡ (d || comment_after l (b ∷ bs))
+after_first true l s b bs e = refl
+after_first false false s b bs e = sym (by_first b bs s e)
+after_first false true s b bs e = rw e (ap (λ x. s || x) (sym (by_first b bs s e)))
 
-seen_behind : (s : Semicolons) (bs : List ℕ) → (see_all s bs).double ≡ (s.double || comment_behind s.last bs)
-seen_behind s [] = or_none s.double ∙ ap (λ x. s.double || x) (sym (behind_none s.last))
-seen_behind s (b ∷ bs) = seen_behind (see s b) bs ∙ behind_first s.double s.last (b == 59) b bs refl
+seen_after : (s : Semicolons) (bs : List ℕ) → (see_all s bs).double ≡ (s.double || comment_after s.last bs)
+seen_after s [] = or_none s.double ∙ ap (λ x. s.double || x) (sym (after_none s.last))
+seen_after s (b ∷ bs) = seen_after (see s b) bs ∙ after_first s.double s.last (b == 59) b bs refl
 
 -- The state after all bytes of a text says whether the text contains two consecutive semicolons.
 pub seen_comment : (bs : List ℕ) → (see_all no_semicolons bs).double ≡ has_line_comment bs
-seen_comment bs = seen_behind no_semicolons bs
+seen_comment bs = seen_after no_semicolons bs
 
 -- ---- A new text
 
@@ -140,11 +140,11 @@ module _ (old middle new : View) (place start : ℕ) (hint : Option Bool) (layou
   last_in =
       record {
         before = old.bytes;
-        text = painted_text old.paints layout;
+        text = text_in_color old.color layout;
         after = [];
-        parts = a.bytes ∙ ap (λ (l : List ℕ). old.bytes ++ l) (sym (append-nil (painted_text old.paints layout)));
+        parts = a.bytes ∙ ap (λ (l : List ℕ). old.bytes ++ l) (sym (append-nil (text_in_color old.color layout)));
         starts = sym s;
-        stops = omega (arith, s, ap length a.bytes, length-append old.bytes (painted_text old.paints layout));
+        stops = omega (arith, s, ap length a.bytes, length-append old.bytes (text_in_color old.color layout));
         is_text = a.is_text;
         is_rest = IsUtf8-nil;
       }
@@ -153,16 +153,16 @@ module _ (old middle new : View) (place start : ℕ) (hint : Option Bool) (layou
   pub entered_in : (l : NodeText) → l ≡ head_of new place start hint → IsIn new.bytes l
   entered_in l e = subst (IsIn new.bytes) (sym e) last_in
 
-  last_there : take (length new.bytes - start) (drop start new.bytes) ≡ painted_text old.paints layout
+  last_there : take (length new.bytes - start) (drop start new.bytes) ≡ text_in_color old.color layout
   last_there =
-      let size : length (painted_text old.paints layout) ≡ length new.bytes - start = omega (arith, s, ap length a.bytes, length-append old.bytes (painted_text old.paints layout)) in
+      let size : length (text_in_color old.color layout) ≡ length new.bytes - start = omega (arith, s, ap length a.bytes, length-append old.bytes (text_in_color old.color layout)) in
       ap (λ (b : List ℕ). take (length new.bytes - start) (drop start b)) a.bytes
-      ∙ (ap (take (length new.bytes - start)) (drop_at old.bytes (painted_text old.paints layout) start (sym s))
-      ∙ (ap (take (length new.bytes - start)) (sym (append-nil (painted_text old.paints layout)))
-      ∙ take_at (painted_text old.paints layout) [] (length new.bytes - start) size))
+      ∙ (ap (take (length new.bytes - start)) (drop_at old.bytes (text_in_color old.color layout) start (sym s))
+      ∙ (ap (take (length new.bytes - start)) (sym (append-nil (text_in_color old.color layout)))
+      ∙ take_at (text_in_color old.color layout) [] (length new.bytes - start) size))
 
   -- The text of the new head is the one that was written.
-  pub entered_shown : (l : NodeText) → l ≡ head_of new place start hint → shown_of_head new.bytes l ≡ shown_of_calls place hint old.paints layout
+  pub entered_shown : (l : NodeText) → l ≡ head_of new place start hint → shown_of_head new.bytes l ≡ shown_of_calls place hint old.color layout
   entered_shown l e =
       ap (shown_of_head new.bytes) e
       ∙ ap₂ (λ (text : List ℕ) (comment : Bool). record { place = place; hint = hint; text = text; comment = comment })

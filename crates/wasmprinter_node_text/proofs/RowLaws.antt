@@ -8,7 +8,7 @@ use Rattle.wasmprinter_spec.specs.Options.{defaults}
 use Rattle.wasmprinter_spec.specs.Piece.{Piece, Break, OpenPlain, Shut}
 use Rattle.wasmprinter_spec.specs.Layout.Operators.{Form, OverLines, InLine, before_word}
 use Rattle.wasmprinter_spec.specs.Layout.Groups.{has_break}
-use Rattle.wasmprinter_spec.specs.Layout.Folded.{head_place, head_hint, head_calls, head_text, painted_text, has_line_comment, comment_end, node_hint, node_pieces}
+use Rattle.wasmprinter_spec.specs.Layout.Folded.{head_place, head_hint, head_calls, head_text, text_in_color, has_line_comment, comment_end, node_hint, node_pieces}
 use Rattle.wasmprinter_spec.specs.Folding.Tree.{NodesOf, Nodes, Nil, Snoc, is_nil}
 use Rattle.wasmprinter_nodes.specs.Mapping.{map_nodes}
 use Rattle.wasmprinter_node_text.specs.Shown.{Shown, shown_head, shown_hint, comment_break, node_front, begins_line, row_pieces}
@@ -39,29 +39,29 @@ same_parts : (a a2 h h2 b b2 c c2 k k2 : List Piece) (x : Piece) → a ≡ a2 �
 same_parts a a2 h h2 b b2 c c2 k k2 x p q r s t = rw (p, q, r, s, t) (simp append_assoc)
 
 -- The layout of nodes is that of their texts.
-pub rows_shown : (paints : Bool) (form : Form) (first : Bool) (nesting : ℕ) (f : Nodes) →
-    node_pieces defaults paints form first nesting f ≡ row_pieces form first nesting (map_nodes (shown_head paints) f)
+pub rows_shown : (color : Bool) (form : Form) (first : Bool) (nesting : ℕ) (f : Nodes) →
+    node_pieces defaults color form first nesting f ≡ row_pieces form first nesting (map_nodes (shown_head color) f)
 unfolding node_pieces row_pieces
-rows_shown paints form first nesting Nil = refl
-rows_shown paints form first nesting (Snoc before head results held) =
-    let nil = nil_mapped (shown_head paints) before in
+rows_shown color form first nesting Nil = refl
+rows_shown color form first nesting (Snoc before head results held) =
+    let nil = nil_mapped (shown_head color) before in
     same_parts
-    (node_pieces defaults paints form first nesting before)
-    (row_pieces form first nesting (map_nodes (shown_head paints) before))
+    (node_pieces defaults color form first nesting before)
+    (row_pieces form first nesting (map_nodes (shown_head color) before))
     (node_hint defaults form (first && is_nil before) (head_place head) nesting (head_hint head))
-    (shown_hint form (first && is_nil (map_nodes (shown_head paints) before)) (head_place head) nesting (option_map (λ x. x.value.taken) (head_hint head)))
+    (shown_hint form (first && is_nil (map_nodes (shown_head color) before)) (head_place head) nesting (option_map (λ x. x.value.taken) (head_hint head)))
     (before_word form ((first && is_nil before) && is_none (head_hint head)) (head_place head) nesting)
-    (before_word form ((first && is_nil (map_nodes (shown_head paints) before)) && is_none (option_map (λ x. x.value.taken) (head_hint head))) (head_place head) nesting)
+    (before_word form ((first && is_nil (map_nodes (shown_head color) before)) && is_none (option_map (λ x. x.value.taken) (head_hint head))) (head_place head) nesting)
     (comment_end (is_nil held) (head_text defaults head) (head_place head) nesting)
-    (comment_break (is_nil (map_nodes (shown_head paints) held)) (has_line_comment (head_text defaults head)) (head_place head) nesting)
-    (node_pieces defaults paints form false (nesting + 1) held)
-    (row_pieces form false (nesting + 1) (map_nodes (shown_head paints) held))
-    (OpenPlain (painted_text paints (head_calls defaults head)))
-    (rows_shown paints form first nesting before)
+    (comment_break (is_nil (map_nodes (shown_head color) held)) (has_line_comment (head_text defaults head)) (head_place head) nesting)
+    (node_pieces defaults color form false (nesting + 1) held)
+    (row_pieces form false (nesting + 1) (map_nodes (shown_head color) held))
+    (OpenPlain (text_in_color color (head_calls defaults head)))
+    (rows_shown color form first nesting before)
     (rw nil (hint_same form (first && is_nil before) (head_place head) nesting (head_hint head)))
     (rw (nil, ← none_same (head_hint head)) refl)
-    (rw (nil_mapped (shown_head paints) held) (break_same (is_nil held) (head_text defaults head) (head_place head) nesting))
-    (rows_shown paints form false (nesting + 1) held)
+    (rw (nil_mapped (shown_head color) held) (break_same (is_nil held) (head_text defaults head) (head_place head) nesting))
+    (rows_shown color form false (nesting + 1) held)
 
 -- The pieces of a row are those of the nodes before the last and those of the last node.
 pub row_last : (form : Form) (first : Bool) (nesting : ℕ) (before : NodesOf Shown) (s : Shown) (results : ℕ) (held : NodesOf Shown) →

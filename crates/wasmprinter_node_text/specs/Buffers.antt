@@ -3,7 +3,7 @@ use Rattle.std.specs.Prelude.{◌≡◌, ℕ, ◌==◌, ◌&&◌, ◌||◌, List
 use Rattle.std.specs.IoError.{error_kind}
 use Rattle.std.specs.declared.io.ErrorKind.TheVariants.{OutOfMemory}
 use Rattle.wasmprinter_spec.specs.Call.{Call, Text, Newline, Line, Start, Claim, IsTextOrStyle}
-use Rattle.wasmprinter_spec.specs.Coloured.{coloured_bytes}
+use Rattle.wasmprinter_spec.specs.Colored.{colored_bytes}
 use Rattle.wasmprinter_spec.specs.Meaning.{Meaning}
 use Rattle.wasmprinter_node_text.specs.declared.semicolons.Semicolons.{Semicolons}
 
@@ -11,7 +11,7 @@ use Rattle.wasmprinter_node_text.specs.declared.semicolons.Semicolons.{Semicolon
 -- escape sequences.
 pub record View : Type 0 where
   pub bytes : List ℕ
-  pub paints : Bool
+  pub color : Bool
   pub seen : Semicolons
 
 -- The state before any text.
@@ -29,15 +29,15 @@ see_all s (b ∷ bs) = see_all (see s b) bs
 
 -- The buffer at the start of the next text.
 abbrev pub with_text_begun : View → View
-with_text_begun v = record { bytes = v.bytes; paints = v.paints; seen = no_semicolons }
+with_text_begun v = record { bytes = v.bytes; color = v.color; seen = no_semicolons }
 
 -- The buffer with one more piece of text.
 abbrev pub with_text : View → List ℕ → View
-with_text v s = record { bytes = v.bytes ++ s; paints = v.paints; seen = see_all v.seen s }
+with_text v s = record { bytes = v.bytes ++ s; color = v.color; seen = see_all v.seen s }
 
 -- The buffer with escape sequences added, if texts contain them.
 abbrev pub with_sequences : Bool → View → List ℕ → View
-with_sequences true v s = record { bytes = v.bytes ++ s; paints = v.paints; seen = v.seen }
+with_sequences true v s = record { bytes = v.bytes ++ s; color = v.color; seen = v.seen }
 with_sequences false v s = v
 
 -- The buffer after a call.
@@ -45,7 +45,7 @@ abbrev pub view_after : View → Call → View
 view_after v (Text s) = with_text v s
 view_after v Newline = with_text v (10 ∷ [])
 view_after v (Line place) = v
-view_after v (Start style) = with_sequences v.paints v (coloured_bytes (Start style))
+view_after v (Start style) = with_sequences v.color v (colored_bytes (Start style))
 view_after v (Claim name place bytes answer) = v
 
 -- Bytes that a call passes are UTF-8, and a custom section is not claimed.

@@ -3,9 +3,9 @@ use Rattle.std.specs.Prelude.{◌≡◌, ℕ, ◌+◌, ◌-◌, ◌&&◌, List, 
 use Rattle.std.specs.Option.{is_none}
 use Rattle.wasmprinter_spec.specs.Call.{Call, text_of}
 use Rattle.wasmprinter_spec.specs.Options.{defaults}
-use Rattle.wasmprinter_spec.specs.Piece.{Piece, Break, Word, OpenPlain, Shut, HintNote, text}
+use Rattle.wasmprinter_spec.specs.Piece.{Piece, Break, Word, OpenPlain, Shut, HintAnnotation, text}
 use Rattle.wasmprinter_spec.specs.Layout.Operators.{Form, OverLines, InLine, before_word}
-use Rattle.wasmprinter_spec.specs.Layout.Folded.{head_place, head_hint, head_calls, painted_text, has_line_comment}
+use Rattle.wasmprinter_spec.specs.Layout.Folded.{head_place, head_hint, head_calls, text_in_color, has_line_comment}
 use Rattle.wasmprinter_spec.specs.Folding.Tree.{Head, NodesOf, Nil, Snoc, is_nil}
 use Rattle.wasmprinter_nodes.specs.declared.NodeText.{NodeText}
 use Rattle.wasmprinter_nodes.specs.Heads.{AllNodes}
@@ -21,12 +21,12 @@ pub record Shown : Type 0 where
 -- The text of a node, given its place, its hint, whether texts contain escape sequences, and the calls of its
 -- text.
 abbrev pub shown_of_calls : ℕ → Option Bool → Bool → List Call → Shown
-shown_of_calls place hint paints cs =
-    record { place = place; hint = hint; text = painted_text paints cs; comment = has_line_comment (text_of cs) }
+shown_of_calls place hint color cs =
+    record { place = place; hint = hint; text = text_in_color color cs; comment = has_line_comment (text_of cs) }
 
 -- The text of a node with this head of the definitions.
 abbrev pub shown_head : Bool → Head → Shown
-shown_head paints h = shown_of_calls (head_place h) (option_map (λ x. x.value.taken) (head_hint h)) paints (head_calls defaults h)
+shown_head color h = shown_of_calls (head_place h) (option_map (λ x. x.value.taken) (head_hint h)) color (head_calls defaults h)
 
 -- The text of a node with this head of the program, taken from the buffer of texts.
 abbrev pub shown_of_head : List ℕ → NodeText → Shown
@@ -56,7 +56,7 @@ AreIn buffer f = AllNodes (IsIn buffer) f
 -- same place.
 abbrev pub shown_hint : Form → Bool → ℕ → ℕ → Option Bool → List Piece
 shown_hint form first place nesting None = []
-shown_hint form first place nesting (Some taken) = before_word form first place nesting ++ Word (text defaults (HintNote taken)) ∷ []
+shown_hint form first place nesting (Some taken) = before_word form first place nesting ++ Word (text defaults (HintAnnotation taken)) ∷ []
 
 -- The closing parenthesis of a node must not be part of a line comment.
 abbrev pub comment_break : Bool → Bool → ℕ → ℕ → List Piece

@@ -2,10 +2,10 @@
 ghost use Rattle.std.specs.Prelude.{◌≡◌, ◌+◌, ◌&&◌, ◌||◌, [], ◌∷◌, ℕ, true, Some};
 ghost use Rattle.std.specs.Option.{is_none};
 ghost use Rattle.wasmprinter_spec.specs.Options.{defaults};
-ghost use Rattle.wasmprinter_spec.specs.Piece.{Word, HintNote, OpenPlain, text as text_by};
+ghost use Rattle.wasmprinter_spec.specs.Piece.{Word, HintAnnotation, OpenPlain, text as text_by};
 ghost use Rattle.wasmprinter_spec.specs.Layout.Groups.{has_break};
 ghost use Rattle.wasmprinter_spec.specs.Layout.Operators.{before_word};
-ghost use Rattle.wasmprinter_print.specs.Prints.{PrintsOrStops, TellsLines};
+ghost use Rattle.wasmprinter_print.specs.Prints.{PrintsOrStops, ReportsLines};
 ghost use Rattle.wasmprinter_print.specs.Puts.{Marks, MarksUnder};
 ghost use Rattle.wasmprinter_flat.specs.Settings.{form_view};
 ghost use Rattle.wasmprinter_nodes.specs.Mapping.{map_nodes};
@@ -17,13 +17,13 @@ ghost use Rattle.wasmprinter_node_text.specs.Tasks.{task_front, IsSound};
 use crate::tasks::{Task, put_rest};
 use std::alloc::Global;
 use wasmprinter_error::Error;
-use wasmprinter_flat::operators::{Form, put_before};
+use wasmprinter_flat::operators::{Form, start_operator};
 use wasmprinter_lines::lines::put_break_inside;
 use wasmprinter_lines::options::PrintOptions;
 use wasmprinter_nodes::{Node, NodeText};
-use wasmprinter_print::{Fault, Print};
+use wasmprinter_print::{FirstError, Print};
 use wasmprinter_words::hints::hint_text;
-use wasmprinter_words::words::{put_open_plain, put_shut, put_word};
+use wasmprinter_words::words::{put_close_paren, put_open_plain, put_word};
 
 /// Returns the text of a head.
 fn text_of_head<'t>(text: &'t str, head: &NodeText) -> &'t str
@@ -49,7 +49,7 @@ struct Spot {
 /// Writes the line break or space before a node or its hint.
 fn put_before_node<P: Print>(
     p: &mut P,
-    fault: &mut Fault,
+    fault: &mut FirstError,
     options: &PrintOptions,
     spot: Spot,
     first: bool,
@@ -57,7 +57,7 @@ fn put_before_node<P: Print>(
     ensures { MarksUnder P.meaning options.now p.old fault.old p.new fault.new
         (before_word (form_view spot.form) first spot.place (spot.nesting + spot.depth)) }
 {
-    put_before(
+    start_operator(
         p,
         fault,
         options,
@@ -70,8 +70,8 @@ fn put_before_node<P: Print>(
 }
 
 /// Writes the annotation of a hint, without a style.
-fn put_note<P: Print>(p: &mut P, fault: &mut Fault, taken: bool)
-    ensures { Marks P.meaning p.old fault.old p.new fault.new (Word (text_by defaults (HintNote taken)) ∷ []) }
+fn put_note<P: Print>(p: &mut P, fault: &mut FirstError, taken: bool)
+    ensures { Marks P.meaning p.old fault.old p.new fault.new (Word (text_by defaults (HintAnnotation taken)) ∷ []) }
 {
     put_word(p, fault, hint_text(taken));
 }
@@ -79,7 +79,7 @@ fn put_note<P: Print>(p: &mut P, fault: &mut Fault, taken: bool)
 /// Writes the hint of a node, if there is one.
 fn put_hint<P: Print>(
     p: &mut P,
-    fault: &mut Fault,
+    fault: &mut FirstError,
     options: &PrintOptions,
     spot: Spot,
     leads: bool,
@@ -95,7 +95,7 @@ fn put_hint<P: Print>(
 }
 
 /// Writes the opening parenthesis and the text of a node.
-fn put_node_text<P: Print>(p: &mut P, fault: &mut Fault, text: &str, head: &NodeText)
+fn put_node_text<P: Print>(p: &mut P, fault: &mut FirstError, text: &str, head: &NodeText)
     requires { IsIn text.now head.now }
     ensures { Marks P.meaning p.old fault.old p.new fault.new (OpenPlain (shown_of_head text.now head.now).text ∷ []) }
 {
@@ -105,7 +105,7 @@ fn put_node_text<P: Print>(p: &mut P, fault: &mut Fault, text: &str, head: &Node
 /// Ends the line after a text that may contain a line comment if the closing parenthesis would follow directly.
 fn put_comment_end<P: Print>(
     p: &mut P,
-    fault: &mut Fault,
+    fault: &mut FirstError,
     options: &PrintOptions,
     spot: Spot,
     leaf: bool,
@@ -129,7 +129,7 @@ fn leads_unhinted(leads: bool, hint: Option<bool>) -> bool
 /// Writes a node up to the nodes that it holds.
 fn put_node<P: Print>(
     p: &mut P,
-    fault: &mut Fault,
+    fault: &mut FirstError,
     options: &PrintOptions,
     spot: Spot,
     leads: bool,
@@ -162,7 +162,7 @@ fn begins_line(form: Form, leaf: bool, comment: bool) -> bool
 /// Writes the front of a task and returns whether a line began.
 fn put_front<P: Print>(
     p: &mut P,
-    fault: &mut Fault,
+    fault: &mut FirstError,
     options: &PrintOptions,
     form: Form,
     nesting: u64,
@@ -188,7 +188,7 @@ fn put_front<P: Print>(
             begins_line(form, leaf, head.comment)
         }
         Task::Close => {
-            put_shut(p, fault);
+            put_close_paren(p, fault);
             false
         }
     }
@@ -219,7 +219,7 @@ pub fn write_nodes<P: Print>(
     requires texts { AreIn text.now (forest_of nodes.now) }
     ensures prints { PrintsOrStops P.meaning options.now p.old p.new true result
         (row_pieces (form_view form) true nesting (map_nodes (shown_of_head text.now) (forest_of nodes.now))) }
-    ensures lines { TellsLines result
+    ensures lines { ReportsLines result
         (row_pieces (form_view form) true nesting (map_nodes (shown_of_head text.now) (forest_of nodes.now))) }
 {
     let mut lines = false;
@@ -227,7 +227,7 @@ pub fn write_nodes<P: Print>(
     tasks.push(Task::Row(nodes, true, 0))?;
     while let Some(task) = tasks.pop() {
         put_rest(&mut tasks, &task)?;
-        let mut fault = Fault::none();
+        let mut fault = FirstError::none();
         let began = put_front(p, &mut fault, options, form, nesting, text, &task);
         fault.into_result()?;
         lines = either(lines, began);

@@ -2,12 +2,12 @@
 ghost use Rattle.std.specs.Prelude.{◌≡◌};
 ghost use Rattle.wasmprinter_spec.specs.Call.{Start, Literal as LiteralStyle, Name as NameStyle, Keyword as KeywordStyle};
 ghost use Rattle.wasmprinter_spec.specs.Call.{TypeName as TypeStyle, Comment as CommentStyle, Reset as NoStyle};
-ghost use Rattle.wasmprinter_spec.specs.Coloured.{coloured_bytes};
+ghost use Rattle.wasmprinter_spec.specs.Colored.{colored_bytes};
 
 /// Returns the sequences of literals, that is, numbers and strings: red.
 #[tactic(auto, using(wasmprinter_spec::proofs::Sequences::literal))]
 pub fn literal_sequences() -> &'static str
-    ensures { result.now ≡ coloured_bytes (Start LiteralStyle) }
+    ensures { result.now ≡ colored_bytes (Start LiteralStyle) }
 {
     "\x1b[0m\x1b[31m"
 }
@@ -15,7 +15,7 @@ pub fn literal_sequences() -> &'static str
 /// Returns the sequences of names and of the numbers of items: magenta.
 #[tactic(auto, using(wasmprinter_spec::proofs::Sequences::name))]
 pub fn name_sequences() -> &'static str
-    ensures { result.now ≡ coloured_bytes (Start NameStyle) }
+    ensures { result.now ≡ colored_bytes (Start NameStyle) }
 {
     "\x1b[0m\x1b[35m"
 }
@@ -23,7 +23,7 @@ pub fn name_sequences() -> &'static str
 /// Returns the sequences of keywords: bold and intense yellow.
 #[tactic(auto, using(wasmprinter_spec::proofs::Sequences::keyword))]
 pub fn keyword_sequences() -> &'static str
-    ensures { result.now ≡ coloured_bytes (Start KeywordStyle) }
+    ensures { result.now ≡ colored_bytes (Start KeywordStyle) }
 {
     "\x1b[0m\x1b[1m\x1b[38;5;11m"
 }
@@ -31,7 +31,7 @@ pub fn keyword_sequences() -> &'static str
 /// Returns the sequences of the words of types: bold and intense green.
 #[tactic(auto, using(wasmprinter_spec::proofs::Sequences::type_name))]
 pub fn type_sequences() -> &'static str
-    ensures { result.now ≡ coloured_bytes (Start TypeStyle) }
+    ensures { result.now ≡ colored_bytes (Start TypeStyle) }
 {
     "\x1b[0m\x1b[1m\x1b[38;5;10m"
 }
@@ -39,7 +39,7 @@ pub fn type_sequences() -> &'static str
 /// Returns the sequences of comments: cyan.
 #[tactic(auto, using(wasmprinter_spec::proofs::Sequences::comment))]
 pub fn comment_sequences() -> &'static str
-    ensures { result.now ≡ coloured_bytes (Start CommentStyle) }
+    ensures { result.now ≡ colored_bytes (Start CommentStyle) }
 {
     "\x1b[0m\x1b[36m"
 }
@@ -47,7 +47,7 @@ pub fn comment_sequences() -> &'static str
 /// Returns the sequences of text without a style: no color.
 #[tactic(auto, using(wasmprinter_spec::proofs::Sequences::reset))]
 pub fn reset_sequences() -> &'static str
-    ensures { result.now ≡ coloured_bytes (Start NoStyle) }
+    ensures { result.now ≡ colored_bytes (Start NoStyle) }
 {
     "\x1b[0m"
 }

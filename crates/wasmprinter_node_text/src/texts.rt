@@ -14,7 +14,7 @@ use wasmprinter_flat::operators::{Setting, put_operator_word};
 use wasmprinter_labels::OpenLabels;
 use wasmprinter_nodes::NodeText;
 use wasmprinter_ops::operator::Operator;
-use wasmprinter_print::{Fault, Print};
+use wasmprinter_print::{FirstError, Print};
 use wasmprinter_text::signature::Signatures;
 
 /// The texts of nodes, one after another in one buffer, with or without the ANSI escape sequences of their styles.
@@ -24,7 +24,7 @@ use wasmprinter_text::signature::Signatures;
 #[derive(Drop)]
 pub struct Texts {
     text: String,
-    paints: bool,
+    color: bool,
     seen: Semicolons,
 }
 
@@ -34,7 +34,7 @@ impl Model for Texts {
 
     ghost Value = { View };
 
-    ghost view = { λ t. record { bytes = string_bytes t.text; paints = t.paints; seen = t.seen } };
+    ghost view = { λ t. record { bytes = string_bytes t.text; color = t.color; seen = t.seen } };
 }
 
 impl Texts {
@@ -48,20 +48,20 @@ impl Texts {
     ghost use Rattle.wasmprinter_node_text.specs.Buffers.{GrowsText, with_text_begun, with_text, with_sequences};
     ghost use Rattle.wasmprinter_node_text.specs.Buffers.{no_semicolons, texts_meaning};
 
-    /// Creates an empty buffer. `paints` says whether texts contain escape sequences. This allocates no memory.
-    pub fn new(alloc: Global, paints: bool) -> Texts
-        ensures { result ≡ record { bytes = []; paints = paints; seen = no_semicolons } }
+    /// Creates an empty buffer. `color` says whether texts contain escape sequences. This allocates no memory.
+    pub fn new(alloc: Global, color: bool) -> Texts
+        ensures { result ≡ record { bytes = []; color = color; seen = no_semicolons } }
     {
         Texts {
             text: String::new(alloc),
-            paints,
+            color,
             seen: UNSEEN,
         }
     }
 
     /// Removes all texts and keeps the capacity.
     pub fn clear(&mut self)
-        ensures { self.new ≡ record { bytes = []; paints = self.old.paints; seen = no_semicolons } }
+        ensures { self.new ≡ record { bytes = []; color = self.old.color; seen = no_semicolons } }
     {
         self.text.clear();
         self.seen = UNSEEN;
@@ -115,12 +115,12 @@ impl Texts {
         operator: &Operator<'_>,
     ) -> Result<(), AllocError>
         requires { length labels.now.labels + 1 < 2 ^ 64 }
-        ensures paints { self.new.paints ≡ self.old.paints }
+        ensures color { self.new.color ≡ self.old.color }
         ensures grows { GrowsText self.old.bytes self.new.bytes }
         ensures made { OnOk result (Made texts_meaning self.old self.new Through
             (all_calls defaults (word_pieces_among S.signature_at setting.now labels.now operator.now))) }
     {
-        let mut fault = Fault::none();
+        let mut fault = FirstError::none();
         put_operator_word(self, &mut fault, setting, labels, operator);
         if fault.is_some() {
             return Err(AllocError);
@@ -143,10 +143,10 @@ impl Texts {
         hint: Option<bool>,
     ) -> Result<NodeText, AllocError>
         requires { length labels.now.labels + 1 < 2 ^ 64 }
-        ensures paints { self.new.paints ≡ self.old.paints }
+        ensures color { self.new.color ≡ self.old.color }
         ensures grows { GrowsText self.old.bytes self.new.bytes }
         ensures inside { IfOk result (λ head. IsIn self.new.bytes head) }
-        ensures shows { IfOk result (λ head. shown_of_head self.new.bytes head ≡ shown_of_calls place hint self.old.paints
+        ensures shows { IfOk result (λ head. shown_of_head self.new.bytes head ≡ shown_of_calls place hint self.old.color
             (all_calls defaults (word_pieces_among S.signature_at setting.now labels.now operator.now))) }
     {
         let start = self.begin();
@@ -160,11 +160,11 @@ impl Texts {
     ///
     /// Returns an error if an allocation fails. The texts are then as they were.
     pub fn write_keyword(&mut self, keyword: &str, place: u64) -> Result<NodeText, AllocError>
-        ensures paints { self.new.paints ≡ self.old.paints }
+        ensures color { self.new.color ≡ self.old.color }
         ensures grows { GrowsText self.old.bytes self.new.bytes }
         ensures inside { IfOk result (λ head. IsIn self.new.bytes head) }
         ensures shows { IfOk result (λ head. shown_of_head self.new.bytes head
-            ≡ shown_of_calls place None self.old.paints (Text keyword.now ∷ [])) }
+            ≡ shown_of_calls place None self.old.color (Text keyword.now ∷ [])) }
     {
         let start = self.begin();
         self.push_text(keyword)?;
@@ -173,10 +173,10 @@ impl Texts {
 
     /// Appends the sequences of a style if texts contain them.
     fn push_sequences(&mut self, sequences: &str) -> Result<(), AllocError>
-        ensures ok { OnOk result (self.new ≡ with_sequences self.old.paints self.old sequences.now) }
+        ensures ok { OnOk result (self.new ≡ with_sequences self.old.color self.old sequences.now) }
         ensures err { OnErr result (self.new ≡ self.old) }
     {
-        if self.paints {
+        if self.color {
             self.text.push_str(sequences)?;
         }
         Ok(())

@@ -1,8 +1,8 @@
 -- A property of all heads is kept by each step, and two maps that agree on all heads give the same nodes.
 use Rattle.std.proofs.Common.{◌≡◌, ℕ, refl, subst}
-use Rattle.wasmprinter_spec.specs.Folding.Tree.{NodesOf, Nil, Snoc, row_of_both, front, last, OperandsOf, Fit, Passed, Short, operand_search, with_operands}
+use Rattle.wasmprinter_spec.specs.Folding.Tree.{NodesOf, Nil, Snoc, row_of_both, front, last, OperandsOf, Fit, Overshot, TooFew, operand_search, with_operands}
 use Rattle.wasmprinter_spec.proofs.Folding.{AreLast, AreLast-operand_search}
-use Rattle.wasmprinter_nodes.specs.Building.{OpenNodes, Top, InBlock, InThen, InElse, StateOf, Step, Plain, Opens, OpensIf, Turns, Ends, state_after_else, state_after_end, step}
+use Rattle.wasmprinter_nodes.specs.Building.{OpenNodes, Top, InBlock, InThen, InElse, StateOf, Step, Plain, Opens, OpensIf, Else, Ends, state_after_else, state_after_end, step}
 use Rattle.wasmprinter_nodes.specs.Mapping.{map_nodes, map_open, map_state}
 use Rattle.wasmprinter_nodes.specs.Heads.{AllNodes, AllOpen, AllState, AllStep}
 
@@ -21,13 +21,13 @@ module _ {H : Type 0} (P : H → Type 0) where
   all_last Nil h = tt
   all_last (Snoc b x r held) h = (tt, h.1, h.2)
 
-  all_with_operands : (f : NodesOf H) (x : H) (gives : ℕ) (o : OperandsOf H)
-      → AreLast f o → AllNodes P f → P x → AllNodes P (with_operands f x gives o)
-  all_with_operands f x gives (Fit before run) e h p =
+  all_with_operands : (f : NodesOf H) (x : H) (results : ℕ) (o : OperandsOf H)
+      → AreLast f o → AllNodes P f → P x → AllNodes P (with_operands f x results o)
+  all_with_operands f x results (Fit before run) e h p =
       let both = all_joined before run (subst (AllNodes P) e h) in
       (both.0, p, both.1)
-  all_with_operands f x gives Passed e h p = (h, p, tt)
-  all_with_operands f x gives Short e h p = (h, p, tt)
+  all_with_operands f x results Overshot e h p = (h, p, tt)
+  all_with_operands f x results TooFew e h p = (h, p, tt)
 
   all_turned : (otherwise : H) (o : OpenNodes H) (f : NodesOf H) → AllOpen P o → AllNodes P f → P otherwise → AllState P (state_after_else otherwise o f)
   all_turned otherwise Top f h g p = (h, g)
@@ -42,11 +42,11 @@ module _ {H : Type 0} (P : H → Type 0) where
   all_closed (InElse o b d x y q) f h g = (h.0, (h.1, h.3, (h.2, h.4, g)))
 
   pub all_step : (s : StateOf H) (t : Step H) → AllState P s → AllStep P t → AllState P (step s t)
-  all_step s (Plain x takes gives) h p =
-      (h.0, all_with_operands s.groups x gives (operand_search takes s.groups) (AreLast-operand_search takes s.groups) h.1 p)
-  all_step s (Opens x gives) h p = ((h.0, h.1, p), tt)
-  all_step s (OpensIf x y gives) h p = ((h.0, all_front s.groups h.1, all_last s.groups h.1, p.0, p.1), tt)
-  all_step s (Turns otherwise) h p = all_turned otherwise s.outer s.groups h.0 h.1 p
+  all_step s (Plain x operands results) h p =
+      (h.0, all_with_operands s.groups x results (operand_search operands s.groups) (AreLast-operand_search operands s.groups) h.1 p)
+  all_step s (Opens x results) h p = ((h.0, h.1, p), tt)
+  all_step s (OpensIf x y results) h p = ((h.0, all_front s.groups h.1, all_last s.groups h.1, p.0, p.1), tt)
+  all_step s (Else otherwise) h p = all_turned otherwise s.outer s.groups h.0 h.1 p
   all_step s Ends h p = all_closed s.outer s.groups h.0 h.1
 
 module _ {H : Type 0} (P Q : H → Type 0) (weaker : (x : H) → P x → Q x) where

@@ -2,7 +2,7 @@
 use Rattle.std.proofs.Common.{◌≡◌, ℕ, suc, ◌+◌, ◌-◌, ◌≤◌, List, [], ◌∷◌, ◌++◌, length, drop, refl, sym, ◌∙◌, ap, subst, ◌⊎◌, inl, inr, arith, append_assoc, length-append}
 use Rattle.std.proofs.lemmas.List.{same_from_push, drop_at, append-nil}
 use Rattle.wasmprinter_spec.specs.Folding.Arities.{greatest}
-use Rattle.wasmprinter_spec.specs.Folding.Tree.{NodesOf, Nil, Snoc, front, last, count, OperandsOf, Fit, Passed, Short, operand_search, with_operands}
+use Rattle.wasmprinter_spec.specs.Folding.Tree.{NodesOf, Nil, Snoc, front, last, count, OperandsOf, Fit, Overshot, TooFew, operand_search, with_operands}
 use Rattle.wasmprinter_spec.proofs.Folding.{row_of_both-front-last, AreLast, AreLast-operand_search}
 use Rattle.wasmprinter_nodes.specs.declared.NodeText.{NodeText}
 use Rattle.wasmprinter_nodes.specs.declared.Node.{Node}
@@ -12,7 +12,7 @@ use Rattle.wasmprinter_nodes.specs.declared.builder.Arm.TheVariants as arm
 use Rattle.wasmprinter_nodes.specs.Postorder.{postorder, forest_of, IsPostorder}
 use Rattle.wasmprinter_nodes.specs.Rows.{outcome, IsPlace}
 use Rattle.wasmprinter_nodes.specs.Building.{OpenNodes, Top, InBlock, InThen, InElse, state_at, state_after_end, state_after_else}
-use Rattle.wasmprinter_nodes.specs.Frames.{State, base, frame_behind, frames, StandsAt, with_node, with_if}
+use Rattle.wasmprinter_nodes.specs.Frames.{State, base, frame_after, frames, StandsAt, with_node, with_if}
 use Rattle.wasmprinter_nodes.proofs.Postorders.{forest_of-postorder, length-postorder, postorder-row_of_both, count-row_of_both, IsPostorder-postorder}
 
 -- ---- The innermost block
@@ -20,9 +20,9 @@ use Rattle.wasmprinter_nodes.proofs.Postorders.{forest_of-postorder, length-post
 -- The frame t of the innermost block comes after the frames `rest` of the others.
 abbrev pub IsTop : OpenNodes NodeText → List Frame → Frame → Type 0
 IsTop Top rest t = ⊥
-IsTop (InBlock o b x q) rest t = (rest ≡ frames o) × (t ≡ frame_behind (base o ++ postorder b) [] arm.Block x q)
-IsTop (InThen o b d x y q) rest t = (rest ≡ frames o) × (t ≡ frame_behind (base o ++ postorder b) (postorder d) (arm.Then y) x q)
-IsTop (InElse o b d x y q) rest t = (rest ≡ frames o) × (t ≡ frame_behind (base o ++ postorder b) (postorder d) (arm.Else y) x q)
+IsTop (InBlock o b x q) rest t = (rest ≡ frames o) × (t ≡ frame_after (base o ++ postorder b) [] arm.Block x q)
+IsTop (InThen o b d x y q) rest t = (rest ≡ frames o) × (t ≡ frame_after (base o ++ postorder b) (postorder d) (arm.Then y) x q)
+IsTop (InElse o b d x y q) rest t = (rest ≡ frames o) × (t ≡ frame_after (base o ++ postorder b) (postorder d) (arm.Else y) x q)
 
 is_top : (o : OpenNodes NodeText) (rest : List Frame) (t : Frame) → frames o ≡ rest ++ t ∷ [] → IsTop o rest t
 is_top Top rest t e = absurd (omega (arith, ap length e, length-append rest (t ∷ [])))
@@ -77,11 +77,11 @@ module _ (nodes before : List Node) (f : NodesOf NodeText) (e : nodes ≡ before
 -- ---- A plain operator
 
 -- Wherever its operands begin, adding a plain operator gives the row with that operator and its operands.
-placed : (nodes before : List Node) (f : NodesOf NodeText) (x : NodeText) (gives from results : ℕ) (o : OperandsOf NodeText)
+placed : (nodes before : List Node) (f : NodesOf NodeText) (x : NodeText) (own from results : ℕ) (o : OperandsOf NodeText)
     → AreLast f o → nodes ≡ before ++ postorder f
-    → IsPlace (length before) (length nodes) gives (outcome o) from results
-    → with_node nodes x results from ≡ before ++ postorder (with_operands f x gives o)
-placed nodes before f x gives from results (Fit b run) h e p =
+    → IsPlace (length before) (length nodes) own (outcome o) from results
+    → with_node nodes x results from ≡ before ++ postorder (with_operands f x own o)
+placed nodes before f x own from results (Fit b run) h e p =
     let split : nodes ≡ (before ++ postorder b) ++ postorder run =
     e
     ∙ (ap (λ (g : NodesOf NodeText). before ++ postorder g) h
@@ -89,52 +89,52 @@ placed nodes before f x gives from results (Fit b run) h e p =
     ∙ sym (append_assoc before (postorder b) (postorder run)))) in
     let at : from ≡ length (before ++ postorder b) =
     omega (arith, p.0, length-append before (postorder b), length-postorder b) in
-    rw p.1 (wrapped before b run x gives from nodes split at)
-placed nodes before f x gives from results Passed h e p =
+    rw p.1 (wrapped before b run x own from nodes split at)
+placed nodes before f x own from results Overshot h e p =
     rw p.1 (wrapped before f Nil x greatest from nodes (e ∙ sym (append-nil (before ++ postorder f))) (p.0 ∙ ap length e))
-placed nodes before f x gives from results Short h e p =
-    rw p.1 (wrapped before f Nil x gives from nodes (e ∙ sym (append-nil (before ++ postorder f))) (p.0 ∙ ap length e))
+placed nodes before f x own from results TooFew h e p =
+    rw p.1 (wrapped before f Nil x own from nodes (e ∙ sym (append-nil (before ++ postorder f))) (p.0 ∙ ap length e))
 
-place_fits : (start len gives from results : ℕ) (f : NodesOf NodeText) (o : OperandsOf NodeText) → AreLast f o
-    → start + count f ≡ len → IsPlace start len gives (outcome o) from results → from ≤ len
-place_fits start len gives from results f (Fit b run) h e p = omega (arith, p.0, e, ap count h, count-row_of_both b run)
-place_fits start len gives from results f Passed h e p = omega (arith, p.0)
-place_fits start len gives from results f Short h e p = omega (arith, p.0)
+place_fits : (start len own from results : ℕ) (f : NodesOf NodeText) (o : OperandsOf NodeText) → AreLast f o
+    → start + count f ≡ len → IsPlace start len own (outcome o) from results → from ≤ len
+place_fits start len own from results f (Fit b run) h e p = omega (arith, p.0, e, ap count h, count-row_of_both b run)
+place_fits start len own from results f Overshot h e p = omega (arith, p.0)
+place_fits start len own from results f TooFew h e p = omega (arith, p.0)
 
 module _ (nodes : List Node) (blocks : List Frame) (s : State) (h : StandsAt nodes blocks s)
-    (start takes gives from results : ℕ) (begins : start ≡ length (base s.outer))
-    (p : IsPlace start (length nodes) gives (outcome (operand_search takes (forest_of (drop start nodes)))) from results) where
-  here : IsPlace (length (base s.outer)) (length nodes) gives (outcome (operand_search takes s.groups)) from results
+    (start operands own from results : ℕ) (begins : start ≡ length (base s.outer))
+    (p : IsPlace start (length nodes) own (outcome (operand_search operands (forest_of (drop start nodes)))) from results) where
+  here : IsPlace (length (base s.outer)) (length nodes) own (outcome (operand_search operands s.groups)) from results
   here =
-      let P : ℕ → NodesOf NodeText → Type 0 = λ n g. IsPlace n (length nodes) gives (outcome (operand_search takes g)) from results in
+      let P : ℕ → NodesOf NodeText → Type 0 = λ n g. IsPlace n (length nodes) own (outcome (operand_search operands g)) from results in
       let Q : ℕ → Type 0 = λ n. P n (forest_of (drop n nodes)) in
       subst (P (length (base s.outer))) (row_forest nodes (base s.outer) s.groups h.rows) (subst Q begins p)
 
   pub plain_fits : from ≤ length nodes
   plain_fits =
-      place_fits (length (base s.outer)) (length nodes) gives from results s.groups (operand_search takes s.groups) (AreLast-operand_search takes s.groups)
+      place_fits (length (base s.outer)) (length nodes) own from results s.groups (operand_search operands s.groups) (AreLast-operand_search operands s.groups)
       (sym (ap length h.rows ∙ (length-append (base s.outer) (postorder s.groups) ∙ ap (λ (n : ℕ). length (base s.outer) + n) (length-postorder s.groups))))
       here
 
   pub plain_stands : (x : NodeText) (new : List Node) → new ≡ with_node nodes x results from
-      → StandsAt new blocks (state_at s.outer (with_operands s.groups x gives (operand_search takes s.groups)))
+      → StandsAt new blocks (state_at s.outer (with_operands s.groups x own (operand_search operands s.groups)))
   plain_stands x new e =
       record {
         rows =
             e
-            ∙ placed nodes (base s.outer) s.groups x gives from results (operand_search takes s.groups) (AreLast-operand_search takes s.groups) h.rows here;
+            ∙ placed nodes (base s.outer) s.groups x own from results (operand_search operands s.groups) (AreLast-operand_search operands s.groups) h.rows here;
         open_blocks = h.open_blocks;
       }
 
 -- ---- Opening a block
 
 pub opens_block : (nodes : List Node) (blocks : List Frame) (s : State) → StandsAt nodes blocks s
-    → (start gives : ℕ) (x : NodeText) → start ≡ length nodes → (new : List Frame)
-    → new ≡ blocks ++ record { arm = arm.Block; head = x; gives = gives; from = start; start = start } ∷ []
-    → StandsAt nodes new (state_at (InBlock s.outer s.groups x gives) Nil)
-opens_block nodes blocks s h start gives x here new e =
+    → (start own : ℕ) (x : NodeText) → start ≡ length nodes → (new : List Frame)
+    → new ≡ blocks ++ record { arm = arm.Block; head = x; results = own; operands_start = start; start = start } ∷ []
+    → StandsAt nodes new (state_at (InBlock s.outer s.groups x own) Nil)
+opens_block nodes blocks s h start own x here new e =
     let all : List Node = base s.outer ++ postorder s.groups in
-    let frame : ℕ → ℕ → Frame = λ a b. record { arm = arm.Block; head = x; gives = gives; from = a; start = b } in
+    let frame : ℕ → ℕ → Frame = λ a b. record { arm = arm.Block; head = x; results = own; operands_start = a; start = b } in
     record {
       rows = h.rows ∙ sym (append-nil all);
       open_blocks =
@@ -145,11 +145,11 @@ opens_block nodes blocks s h start gives x here new e =
     }
 
 pub opens_if : (nodes : List Node) (blocks : List Frame) (s : State) → StandsAt nodes blocks s
-    → (outer from start gives : ℕ) (x y : NodeText) → outer ≡ length (base s.outer)
+    → (outer from start own : ℕ) (x y : NodeText) → outer ≡ length (base s.outer)
     → from ≡ outer + count (front (forest_of (drop outer nodes))) → start ≡ length nodes → (new : List Frame)
-    → new ≡ blocks ++ record { arm = arm.Then y; head = x; gives = gives; from = from; start = start } ∷ []
-    → StandsAt nodes new (state_at (InThen s.outer (front s.groups) (last s.groups) x y gives) Nil)
-opens_if nodes blocks s h outer from start gives x y begins at here new e =
+    → new ≡ blocks ++ record { arm = arm.Then y; head = x; results = own; operands_start = from; start = start } ∷ []
+    → StandsAt nodes new (state_at (InThen s.outer (front s.groups) (last s.groups) x y own) Nil)
+opens_if nodes blocks s h outer from start own x y begins at here new e =
     let g = s.groups in
     let split : nodes ≡ (base s.outer ++ postorder (front g)) ++ postorder (last g) =
     h.rows
@@ -162,7 +162,7 @@ opens_if nodes blocks s h outer from start gives x y begins at here new e =
     ∙ ap (λ (f : NodesOf NodeText). length (base s.outer) + count (front f)) (row_forest nodes (base s.outer) g h.rows) in
     let at_front : from ≡ length (base s.outer ++ postorder (front g)) =
     omega (arith, at_base, length-append (base s.outer) (postorder (front g)), length-postorder (front g)) in
-    let frame : ℕ → ℕ → Frame = λ a b. record { arm = arm.Then y; head = x; gives = gives; from = a; start = b } in
+    let frame : ℕ → ℕ → Frame = λ a b. record { arm = arm.Then y; head = x; results = own; operands_start = a; start = b } in
     record {
       rows = split ∙ sym (append-nil ((base s.outer ++ postorder (front g)) ++ postorder (last g)));
       open_blocks =
@@ -175,12 +175,12 @@ opens_if nodes blocks s h outer from start gives x y begins at here new e =
 -- ---- The end of a block, and an `else`
 
 pub record ClosesBlock (nodes : List Node) (rest : List Frame) (t : Frame) (s : State) : Type 0 where
-  pub fits : t.from ≤ length nodes
-  pub stands : (new : List Node) → new ≡ with_node nodes t.head t.gives t.from → StandsAt new rest s
+  pub fits : t.operands_start ≤ length nodes
+  pub stands : (new : List Node) → new ≡ with_node nodes t.head t.results t.operands_start → StandsAt new rest s
 
 pub record ClosesIf (nodes : List Node) (rest : List Frame) (t : Frame) (case : NodeText) (s : State) : Type 0 where
   pub fits : t.start ≤ length nodes
-  pub in_order : t.from ≤ t.start
+  pub in_order : t.operands_start ≤ t.start
   pub stands : (new : List Node) → new ≡ with_if nodes case t → StandsAt new rest s
 
 pub record Turned (nodes : List Node) (rest : List Frame) (t : Frame) (case otherwise : NodeText) (s : State) : Type 0 where
@@ -190,7 +190,7 @@ pub record Turned (nodes : List Node) (rest : List Frame) (t : Frame) (case othe
 
 ClosesBlock-at : (o : OpenNodes NodeText) (b f : NodesOf NodeText) (x : NodeText) (q : ℕ) (nodes : List Node)
     → nodes ≡ (base o ++ postorder b) ++ postorder f
-    → ClosesBlock nodes (frames o) (frame_behind (base o ++ postorder b) [] arm.Block x q) (state_after_end (InBlock o b x q) f)
+    → ClosesBlock nodes (frames o) (frame_after (base o ++ postorder b) [] arm.Block x q) (state_after_end (InBlock o b x q) f)
 ClosesBlock-at o b f x q nodes e =
     record {
       fits = omega (arith, ap length e, length-append (base o ++ postorder b) (postorder f));
@@ -199,7 +199,7 @@ ClosesBlock-at o b f x q nodes e =
 
 ClosesIf-at : (o : OpenNodes NodeText) (b d f : NodesOf NodeText) (a : Arm) (x y : NodeText) (q : ℕ) (nodes : List Node)
     → nodes ≡ ((base o ++ postorder b) ++ postorder d) ++ postorder f
-    → ClosesIf nodes (frames o) (frame_behind (base o ++ postorder b) (postorder d) a x q) y (state_at o (Snoc b x q (Snoc d y 0 f)))
+    → ClosesIf nodes (frames o) (frame_after (base o ++ postorder b) (postorder d) a x q) y (state_at o (Snoc b x q (Snoc d y 0 f)))
 ClosesIf-at o b d f a x y q nodes e =
     let case : with_node nodes y 0 (length ((base o ++ postorder b) ++ postorder d)) ≡ (base o ++ postorder b) ++ postorder (Snoc d y 0 f) =
     wrapped (base o ++ postorder b) d f y 0 _ nodes e refl in
@@ -212,7 +212,7 @@ ClosesIf-at o b d f a x y q nodes e =
 
 Turned-at : (o : OpenNodes NodeText) (b d f : NodesOf NodeText) (x y z : NodeText) (q : ℕ) (nodes : List Node)
     → nodes ≡ ((base o ++ postorder b) ++ postorder d) ++ postorder f
-    → Turned nodes (frames o) (frame_behind (base o ++ postorder b) (postorder d) (arm.Then y) x q) y z (state_after_else z (InThen o b d x y q) f)
+    → Turned nodes (frames o) (frame_after (base o ++ postorder b) (postorder d) (arm.Then y) x q) y z (state_after_else z (InThen o b d x y q) f)
 Turned-at o b d f x y z q nodes e =
     let case : with_node nodes y 0 (length ((base o ++ postorder b) ++ postorder d)) ≡ (base o ++ postorder b) ++ postorder (Snoc d y 0 f) =
     wrapped (base o ++ postorder b) d f y 0 _ nodes e refl in
@@ -222,7 +222,7 @@ Turned-at o b d f x y z q nodes e =
           λ mid m. record {
             rows = (m ∙ case) ∙ sym (append-nil ((base o ++ postorder b) ++ postorder (Snoc d y 0 f)));
             open_blocks =
-                ap (λ (n : ℕ). frames o ++ record { arm = arm.Else z; head = x; gives = q; from = length (base o ++ postorder b); start = n } ∷ [])
+                ap (λ (n : ℕ). frames o ++ record { arm = arm.Else z; head = x; results = q; operands_start = length (base o ++ postorder b); start = n } ∷ [])
                 (ap length (m ∙ case));
           };
     }

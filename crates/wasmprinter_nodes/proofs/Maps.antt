@@ -1,8 +1,8 @@
 -- The steps of the builder do not depend on the heads of nodes.
 use Rattle.std.proofs.Common.{◌≡◌, ℕ, zero, suc, List, [], ◌∷◌, map, refl, sym, ◌∙◌, ap, Bool, true, false, cond, ltb, eqb}
 use Rattle.wasmprinter_spec.specs.Folding.Arities.{saturating_sum}
-use Rattle.wasmprinter_spec.specs.Folding.Tree.{NodesOf, Nil, Snoc, front, last, OperandsOf, Fit, Passed, Short, with_last, operands_from, operand_search, with_operands}
-use Rattle.wasmprinter_nodes.specs.Building.{OpenNodes, Top, InBlock, InThen, InElse, StateOf, Step, Plain, Opens, OpensIf, Turns, Ends, state_at, state_after_else, state_after_end, step, run_all}
+use Rattle.wasmprinter_spec.specs.Folding.Tree.{NodesOf, Nil, Snoc, front, last, OperandsOf, Fit, Overshot, TooFew, with_last, operands_from, operand_search, with_operands}
+use Rattle.wasmprinter_nodes.specs.Building.{OpenNodes, Top, InBlock, InThen, InElse, StateOf, Step, Plain, Opens, OpensIf, Else, Ends, state_at, state_after_else, state_after_end, step, run_all}
 use Rattle.wasmprinter_nodes.specs.Mapping.{map_nodes, map_operands, map_open, map_state, map_step}
 
 module _ {H K : Type 0} (v : H → K) where
@@ -17,8 +17,8 @@ module _ {H K : Type 0} (v : H → K) where
   with_last-map : (h : H) (r : ℕ) (held : NodesOf H) (o : OperandsOf H)
       → with_last (v h) r (map_nodes v held) (map_operands v o) ≡ map_operands v (with_last h r held o)
   with_last-map h r held (Fit before run) = refl
-  with_last-map h r held Passed = refl
-  with_last-map h r held Short = refl
+  with_last-map h r held Overshot = refl
+  with_last-map h r held TooFew = refl
 
   cond-map : (t : Bool) (o p : OperandsOf H) → cond t (map_operands v o) (map_operands v p) ≡ map_operands v (cond t o p)
   cond-map true o p = refl
@@ -31,26 +31,26 @@ module _ {H K : Type 0} (v : H → K) where
       let next : ℕ = saturating_sum sum r in
       let found : OperandsOf H = Fit b (Snoc Nil h r held) in
       let deeper : OperandsOf H = with_last h r held (operands_from wanted next b) in
-      ap (λ (o : OperandsOf K). cond (eqb next wanted) (map_operands v found) (cond (ltb wanted next) Passed o))
+      ap (λ (o : OperandsOf K). cond (eqb next wanted) (map_operands v found) (cond (ltb wanted next) Overshot o))
       (ap (with_last (v h) r (map_nodes v held)) (operands_from-map wanted next b) ∙ with_last-map h r held (operands_from wanted next b))
-      ∙ (ap (λ (o : OperandsOf K). cond (eqb next wanted) (map_operands v found) o) (cond-map (ltb wanted next) Passed deeper)
-      ∙ cond-map (eqb next wanted) found (cond (ltb wanted next) Passed deeper))
+      ∙ (ap (λ (o : OperandsOf K). cond (eqb next wanted) (map_operands v found) o) (cond-map (ltb wanted next) Overshot deeper)
+      ∙ cond-map (eqb next wanted) found (cond (ltb wanted next) Overshot deeper))
 
   pub operand_search-map : (wanted : ℕ) (f : NodesOf H) → operand_search wanted (map_nodes v f) ≡ map_operands v (operand_search wanted f)
   operand_search-map zero f = refl
   operand_search-map (suc n) f = operands_from-map (suc n) 0 f
 
-  with_operands-map : (f : NodesOf H) (h : H) (gives : ℕ) (o : OperandsOf H)
-      → with_operands (map_nodes v f) (v h) gives (map_operands v o) ≡ map_nodes v (with_operands f h gives o)
-  with_operands-map f h gives (Fit before run) = refl
-  with_operands-map f h gives Passed = refl
-  with_operands-map f h gives Short = refl
+  with_operands-map : (f : NodesOf H) (h : H) (results : ℕ) (o : OperandsOf H)
+      → with_operands (map_nodes v f) (v h) results (map_operands v o) ≡ map_nodes v (with_operands f h results o)
+  with_operands-map f h results (Fit before run) = refl
+  with_operands-map f h results Overshot = refl
+  with_operands-map f h results TooFew = refl
 
   -- Adding an operator with its operands commutes with a map of heads.
-  pub folded-map : (f : NodesOf H) (h : H) (takes gives : ℕ)
-      → with_operands (map_nodes v f) (v h) gives (operand_search takes (map_nodes v f)) ≡ map_nodes v (with_operands f h gives (operand_search takes f))
-  folded-map f h takes gives =
-      ap (with_operands (map_nodes v f) (v h) gives) (operand_search-map takes f) ∙ with_operands-map f h gives (operand_search takes f)
+  pub folded-map : (f : NodesOf H) (h : H) (operands results : ℕ)
+      → with_operands (map_nodes v f) (v h) results (operand_search operands (map_nodes v f)) ≡ map_nodes v (with_operands f h results (operand_search operands f))
+  folded-map f h operands results =
+      ap (with_operands (map_nodes v f) (v h) results) (operand_search-map operands f) ∙ with_operands-map f h results (operand_search operands f)
 
   state_after_else-map : (otherwise : H) (o : OpenNodes H) (f : NodesOf H)
       → map_state v (state_after_else otherwise o f) ≡ state_after_else (v otherwise) (map_open v o) (map_nodes v f)
@@ -66,12 +66,12 @@ module _ {H K : Type 0} (v : H → K) where
   state_after_end-map (InElse o b d x y q) f = refl
 
   pub step-map : (s : StateOf H) (t : Step H) → map_state v (step s t) ≡ step (map_state v s) (map_step v t)
-  step-map s (Plain h takes gives) = ap (state_at (map_open v s.outer)) (sym (folded-map s.groups h takes gives))
-  step-map s (Opens h gives) = refl
-  step-map s (OpensIf h case gives) =
-      ap (λ (f : NodesOf K). state_at (InThen (map_open v s.outer) f (map_nodes v (last s.groups)) (v h) (v case) gives) Nil) (sym (front-map s.groups))
-      ∙ ap (λ (f : NodesOf K). state_at (InThen (map_open v s.outer) (front (map_nodes v s.groups)) f (v h) (v case) gives) Nil) (sym (last-map s.groups))
-  step-map s (Turns otherwise) = state_after_else-map otherwise s.outer s.groups
+  step-map s (Plain h operands results) = ap (state_at (map_open v s.outer)) (sym (folded-map s.groups h operands results))
+  step-map s (Opens h results) = refl
+  step-map s (OpensIf h case results) =
+      ap (λ (f : NodesOf K). state_at (InThen (map_open v s.outer) f (map_nodes v (last s.groups)) (v h) (v case) results) Nil) (sym (front-map s.groups))
+      ∙ ap (λ (f : NodesOf K). state_at (InThen (map_open v s.outer) (front (map_nodes v s.groups)) f (v h) (v case) results) Nil) (sym (last-map s.groups))
+  step-map s (Else otherwise) = state_after_else-map otherwise s.outer s.groups
   step-map s Ends = state_after_end-map s.outer s.groups
 
   pub run_all-map : (s : StateOf H) (ts : List (Step H)) → map_state v (run_all s ts) ≡ run_all (map_state v s) (map (map_step v) ts)

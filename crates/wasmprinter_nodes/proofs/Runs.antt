@@ -2,7 +2,7 @@
 use Rattle.std.proofs.Common.{◌≡◌, List, [], ◌∷◌, ◌++◌, map, refl, sym, ◌∙◌, ap, subst}
 use Rattle.wasmprinter_spec.specs.Row as row
 use Rattle.wasmprinter_spec.specs.Folding.Code.{Item, NestedCode, Done, Plain, Block, If, IfElse, flat, role, IsFit}
-use Rattle.wasmprinter_spec.specs.Folding.Tree.{Head, Of, ThenCase, ElseCase, NodesOf, Nodes, Nil, Snoc, row_of_both, front, last, with_operator, tree_behind, tree}
+use Rattle.wasmprinter_spec.specs.Folding.Tree.{Head, Of, ThenCase, ElseCase, NodesOf, Nodes, Nil, Snoc, row_of_both, front, last, with_operator, tree_after, tree}
 use Rattle.wasmprinter_nodes.specs.declared.NodeText.{NodeText}
 use Rattle.wasmprinter_nodes.specs.declared.Node.{Node}
 use Rattle.wasmprinter_nodes.specs.declared.builder.Frame.{Frame}
@@ -72,49 +72,49 @@ module _ {H : Type 0} (v : Head → H) where
   run-item s x xs r e = ap (λ (q : row.Role). run_all (step s (step_of v q x)) (steps v xs)) e
 
   -- The steps of code and other items are those of the code and then those of the items.
-  run-behind : (s t : StateOf H) (code : NestedCode) (xs : List Item) → run_all s (steps v (flat code)) ≡ t
+  run-after : (s t : StateOf H) (code : NestedCode) (xs : List Item) → run_all s (steps v (flat code)) ≡ t
       → run_all s (steps v (flat code ++ xs)) ≡ run_all t (steps v xs)
-  run-behind s t code xs e =
+  run-after s t code xs e =
       ap (run_all s) (steps-append (flat code) xs)
       ∙ (run_all-append s (steps v (flat code)) (steps v xs) ∙ ap (λ (u : StateOf H). run_all u (steps v xs)) e)
 
   -- Well-nested operators leave the open blocks unchanged and add their nodes after those that were there.
   pub run-flat : (o : OpenNodes H) (f : Nodes) (code : NestedCode) → IsFit code
-      → run_all (state_at o (map_nodes v f)) (steps v (flat code)) ≡ state_at o (map_nodes v (tree_behind f code))
+      → run_all (state_at o (map_nodes v f)) (steps v (flat code)) ≡ state_at o (map_nodes v (tree_after f code))
   run-flat o f Done h = refl
   run-flat o f (Plain x rest) h =
       run-item (state_at o (map_nodes v f)) x (flat rest) row.Plain h.0
-      ∙ (ap (λ (g : NodesOf H). run_all (state_at o g) (steps v (flat rest))) (folded-map v f (Of x) x.takes x.gives)
+      ∙ (ap (λ (g : NodesOf H). run_all (state_at o g) (steps v (flat rest))) (folded-map v f (Of x) x.operands x.results)
       ∙ run-flat o (with_operator f x) rest h.1)
   run-flat o f (Block x body end rest) h =
-      let inner : OpenNodes H = InBlock o (map_nodes v f) (v (Of x)) x.gives in
+      let inner : OpenNodes H = InBlock o (map_nodes v f) (v (Of x)) x.results in
       run-item (state_at o (map_nodes v f)) x (flat body ++ end ∷ flat rest) row.Opens h.0
-      ∙ (run-behind (state_at inner Nil) (state_at inner (map_nodes v (tree_behind Nil body))) body (end ∷ flat rest) (run-flat inner Nil body h.1)
-      ∙ (run-item (state_at inner (map_nodes v (tree_behind Nil body))) end (flat rest) row.Ends h.2
-      ∙ run-flat o (Snoc f (Of x) x.gives (tree_behind Nil body)) rest h.3))
+      ∙ (run-after (state_at inner Nil) (state_at inner (map_nodes v (tree_after Nil body))) body (end ∷ flat rest) (run-flat inner Nil body h.1)
+      ∙ (run-item (state_at inner (map_nodes v (tree_after Nil body))) end (flat rest) row.Ends h.2
+      ∙ run-flat o (Snoc f (Of x) x.results (tree_after Nil body)) rest h.3))
   run-flat o f (If x body end rest) h =
-      let inner : NodesOf H → NodesOf H → OpenNodes H = λ a b. InThen o a b (v (Of x)) (v (ThenCase x)) x.gives in
+      let inner : NodesOf H → NodesOf H → OpenNodes H = λ a b. InThen o a b (v (Of x)) (v (ThenCase x)) x.results in
       let mine : OpenNodes H = inner (map_nodes v (front f)) (map_nodes v (last f)) in
       run-item (state_at o (map_nodes v f)) x (flat body ++ end ∷ flat rest) row.OpensIf h.0
       ∙ (ap (λ (a : NodesOf H). run_all (state_at (inner a (last (map_nodes v f))) Nil) (steps v (flat body ++ end ∷ flat rest))) (front-map v f)
       ∙ (ap (λ (b : NodesOf H). run_all (state_at (inner (map_nodes v (front f)) b) Nil) (steps v (flat body ++ end ∷ flat rest))) (last-map v f)
-      ∙ (run-behind (state_at mine Nil) (state_at mine (map_nodes v (tree_behind Nil body))) body (end ∷ flat rest) (run-flat mine Nil body h.1)
-      ∙ (run-item (state_at mine (map_nodes v (tree_behind Nil body))) end (flat rest) row.Ends h.2
-      ∙ run-flat o (Snoc (front f) (Of x) x.gives (Snoc (last f) (ThenCase x) 0 (tree_behind Nil body))) rest h.3))))
+      ∙ (run-after (state_at mine Nil) (state_at mine (map_nodes v (tree_after Nil body))) body (end ∷ flat rest) (run-flat mine Nil body h.1)
+      ∙ (run-item (state_at mine (map_nodes v (tree_after Nil body))) end (flat rest) row.Ends h.2
+      ∙ run-flat o (Snoc (front f) (Of x) x.results (Snoc (last f) (ThenCase x) 0 (tree_after Nil body))) rest h.3))))
   run-flat o f (IfElse x body turn other end rest) h =
-      let inner : NodesOf H → NodesOf H → OpenNodes H = λ a b. InThen o a b (v (Of x)) (v (ThenCase x)) x.gives in
+      let inner : NodesOf H → NodesOf H → OpenNodes H = λ a b. InThen o a b (v (Of x)) (v (ThenCase x)) x.results in
       let mine : OpenNodes H = inner (map_nodes v (front f)) (map_nodes v (last f)) in
-      let cases : Nodes = Snoc (last f) (ThenCase x) 0 (tree_behind Nil body) in
-      let second : OpenNodes H = InElse o (map_nodes v (front f)) (map_nodes v cases) (v (Of x)) (v (ElseCase turn)) x.gives in
-      let behind : List Item = turn ∷ (flat other ++ end ∷ flat rest) in
-      run-item (state_at o (map_nodes v f)) x (flat body ++ behind) row.OpensIf h.0
-      ∙ (ap (λ (a : NodesOf H). run_all (state_at (inner a (last (map_nodes v f))) Nil) (steps v (flat body ++ behind))) (front-map v f)
-      ∙ (ap (λ (b : NodesOf H). run_all (state_at (inner (map_nodes v (front f)) b) Nil) (steps v (flat body ++ behind))) (last-map v f)
-      ∙ (run-behind (state_at mine Nil) (state_at mine (map_nodes v (tree_behind Nil body))) body behind (run-flat mine Nil body h.1)
-      ∙ (run-item (state_at mine (map_nodes v (tree_behind Nil body))) turn (flat other ++ end ∷ flat rest) row.Turns h.2
-      ∙ (run-behind (state_at second Nil) (state_at second (map_nodes v (tree_behind Nil other))) other (end ∷ flat rest) (run-flat second Nil other h.3)
-      ∙ (run-item (state_at second (map_nodes v (tree_behind Nil other))) end (flat rest) row.Ends h.4
-      ∙ run-flat o (Snoc (front f) (Of x) x.gives (Snoc cases (ElseCase turn) 0 (tree_behind Nil other))) rest h.5))))))
+      let cases : Nodes = Snoc (last f) (ThenCase x) 0 (tree_after Nil body) in
+      let second : OpenNodes H = InElse o (map_nodes v (front f)) (map_nodes v cases) (v (Of x)) (v (ElseCase turn)) x.results in
+      let after : List Item = turn ∷ (flat other ++ end ∷ flat rest) in
+      run-item (state_at o (map_nodes v f)) x (flat body ++ after) row.OpensIf h.0
+      ∙ (ap (λ (a : NodesOf H). run_all (state_at (inner a (last (map_nodes v f))) Nil) (steps v (flat body ++ after))) (front-map v f)
+      ∙ (ap (λ (b : NodesOf H). run_all (state_at (inner (map_nodes v (front f)) b) Nil) (steps v (flat body ++ after))) (last-map v f)
+      ∙ (run-after (state_at mine Nil) (state_at mine (map_nodes v (tree_after Nil body))) body after (run-flat mine Nil body h.1)
+      ∙ (run-item (state_at mine (map_nodes v (tree_after Nil body))) turn (flat other ++ end ∷ flat rest) row.Else h.2
+      ∙ (run-after (state_at second Nil) (state_at second (map_nodes v (tree_after Nil other))) other (end ∷ flat rest) (run-flat second Nil other h.3)
+      ∙ (run-item (state_at second (map_nodes v (tree_after Nil other))) end (flat rest) row.Ends h.4
+      ∙ run-flat o (Snoc (front f) (Of x) x.results (Snoc cases (ElseCase turn) 0 (tree_after Nil other))) rest h.5))))))
 
   -- From the start, the steps of code build its nodes and leave no block open.
   pub run-tree : (code : NestedCode) → IsFit code → run_all start (steps v (flat code)) ≡ state_at Top (map_nodes v (tree code))
@@ -127,7 +127,7 @@ module _ {H K : Type 0} (v : Head → H) (w : H → K) where
   step_of-map row.Opens x = refl
   step_of-map row.OpensIf x = refl
   step_of-map row.OpensTry x = refl
-  step_of-map row.Turns x = refl
+  step_of-map row.Else x = refl
   step_of-map row.Catches x = refl
   step_of-map row.CatchesAll x = refl
   step_of-map row.Delegates x = refl

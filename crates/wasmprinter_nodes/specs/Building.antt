@@ -25,7 +25,7 @@ pub data Step (H : Type 0) : Type 0 where
   Plain : H → ℕ → ℕ → Step H
   Opens : H → ℕ → Step H
   OpensIf : H → H → ℕ → Step H
-  Turns : H → Step H
+  Else : H → Step H
   Ends : Step H
 
 abbrev pub state_at : {H : Type 0} → OpenNodes H → NodesOf H → StateOf H
@@ -37,24 +37,24 @@ start = state_at Top Nil
 -- The state after an `else`, which closes the first case of an `if`. Without such a case nothing changes.
 abbrev pub state_after_else : {H : Type 0} → H → OpenNodes H → NodesOf H → StateOf H
 state_after_else otherwise Top f = state_at Top f
-state_after_else otherwise (InBlock o before head gives) f = state_at (InBlock o before head gives) f
-state_after_else otherwise (InThen o before cases head case gives) f =
-    state_at (InElse o before (Snoc cases case 0 f) head otherwise gives) Nil
-state_after_else otherwise (InElse o before cases head case gives) f = state_at (InElse o before cases head case gives) f
+state_after_else otherwise (InBlock o before head results) f = state_at (InBlock o before head results) f
+state_after_else otherwise (InThen o before cases head case results) f =
+    state_at (InElse o before (Snoc cases case 0 f) head otherwise results) Nil
+state_after_else otherwise (InElse o before cases head case results) f = state_at (InElse o before cases head case results) f
 
 -- The state after an `end`, which closes the innermost block. Without an open block nothing changes.
 abbrev pub state_after_end : {H : Type 0} → OpenNodes H → NodesOf H → StateOf H
 state_after_end Top f = state_at Top f
-state_after_end (InBlock o before head gives) f = state_at o (Snoc before head gives f)
-state_after_end (InThen o before cases head case gives) f = state_at o (Snoc before head gives (Snoc cases case 0 f))
-state_after_end (InElse o before cases head case gives) f = state_at o (Snoc before head gives (Snoc cases case 0 f))
+state_after_end (InBlock o before head results) f = state_at o (Snoc before head results f)
+state_after_end (InThen o before cases head case results) f = state_at o (Snoc before head results (Snoc cases case 0 f))
+state_after_end (InElse o before cases head case results) f = state_at o (Snoc before head results (Snoc cases case 0 f))
 
 -- The state after one more operator.
 abbrev pub step : {H : Type 0} → StateOf H → Step H → StateOf H
-step s (Plain head takes gives) = state_at s.outer (with_operands s.groups head gives (operand_search takes s.groups))
-step s (Opens head gives) = state_at (InBlock s.outer s.groups head gives) Nil
-step s (OpensIf head case gives) = state_at (InThen s.outer (front s.groups) (last s.groups) head case gives) Nil
-step s (Turns otherwise) = state_after_else otherwise s.outer s.groups
+step s (Plain head operands results) = state_at s.outer (with_operands s.groups head results (operand_search operands s.groups))
+step s (Opens head results) = state_at (InBlock s.outer s.groups head results) Nil
+step s (OpensIf head case results) = state_at (InThen s.outer (front s.groups) (last s.groups) head case results) Nil
+step s (Else otherwise) = state_after_else otherwise s.outer s.groups
 step s Ends = state_after_end s.outer s.groups
 
 abbrev pub run_all : {H : Type 0} → StateOf H → List (Step H) → StateOf H
@@ -64,10 +64,10 @@ run_all s (t ∷ ts) = run_all (step s t) ts
 -- The step of an operator, by its role. Operators of legacy exception handling, which are not folded, count as
 -- `end`.
 abbrev pub step_of : {H : Type 0} → (Head → H) → Role → Item → Step H
-step_of f row.Plain x = Plain (f (Of x)) x.takes x.gives
-step_of f row.Opens x = Opens (f (Of x)) x.gives
-step_of f row.OpensIf x = OpensIf (f (Of x)) (f (ThenCase x)) x.gives
-step_of f row.Turns x = Turns (f (ElseCase x))
+step_of f row.Plain x = Plain (f (Of x)) x.operands x.results
+step_of f row.Opens x = Opens (f (Of x)) x.results
+step_of f row.OpensIf x = OpensIf (f (Of x)) (f (ThenCase x)) x.results
+step_of f row.Else x = Else (f (ElseCase x))
 step_of f _ x = Ends
 
 abbrev pub steps : {H : Type 0} → (Head → H) → List Item → List (Step H)

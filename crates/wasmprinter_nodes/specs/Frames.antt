@@ -15,23 +15,23 @@ State = StateOf NodeText
 -- The nodes before those of the open part.
 abbrev pub base : OpenNodes NodeText → List Node
 base Top = []
-base (InBlock o before head gives) = base o ++ postorder before
-base (InThen o before cases head case gives) = (base o ++ postorder before) ++ postorder cases
-base (InElse o before cases head case gives) = (base o ++ postorder before) ++ postorder cases
+base (InBlock o before head results) = base o ++ postorder before
+base (InThen o before cases head case results) = (base o ++ postorder before) ++ postorder cases
+base (InElse o before cases head case results) = (base o ++ postorder before) ++ postorder cases
 
 -- The frame of an open block after the nodes `before`. `cases` are the nodes that it holds before its open part.
-abbrev pub frame_behind : List Node → List Node → Arm → NodeText → ℕ → Frame
-frame_behind before cases arm head gives =
-    record { arm = arm; head = head; gives = gives; from = length before; start = length (before ++ cases) }
+abbrev pub frame_after : List Node → List Node → Arm → NodeText → ℕ → Frame
+frame_after before cases arm head results =
+    record { arm = arm; head = head; results = results; operands_start = length before; start = length (before ++ cases) }
 
 -- The frames of the open blocks, innermost last.
 abbrev pub frames : OpenNodes NodeText → List Frame
 frames Top = []
-frames (InBlock o before head gives) = frames o ++ frame_behind (base o ++ postorder before) [] arm.Block head gives ∷ []
-frames (InThen o before cases head case gives) =
-    frames o ++ frame_behind (base o ++ postorder before) (postorder cases) (arm.Then case) head gives ∷ []
-frames (InElse o before cases head case gives) =
-    frames o ++ frame_behind (base o ++ postorder before) (postorder cases) (arm.Else case) head gives ∷ []
+frames (InBlock o before head results) = frames o ++ frame_after (base o ++ postorder before) [] arm.Block head results ∷ []
+frames (InThen o before cases head case results) =
+    frames o ++ frame_after (base o ++ postorder before) (postorder cases) (arm.Then case) head results ∷ []
+frames (InElse o before cases head case results) =
+    frames o ++ frame_after (base o ++ postorder before) (postorder cases) (arm.Else case) head results ∷ []
 
 -- The lists represent this state.
 pub record StandsAt (nodes : List Node) (blocks : List Frame) (s : State) : Type 0 where
@@ -47,4 +47,4 @@ with_node nodes head results from = nodes ++ record { head = head; results = res
 
 -- The list with the node of the open case of an `if`, and then the node of the `if`.
 abbrev pub with_if : List Node → NodeText → Frame → List Node
-with_if nodes case frame = with_node (with_node nodes case 0 frame.start) frame.head frame.gives frame.from
+with_if nodes case frame = with_node (with_node nodes case 0 frame.start) frame.head frame.results frame.operands_start

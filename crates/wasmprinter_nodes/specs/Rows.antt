@@ -1,7 +1,7 @@
 -- Rows of nodes as slices, and the properties that contracts state of them.
 use Rattle.std.specs.Prelude.{◌≡◌, ℕ, suc, ◌+◌, List, length}
 use Rattle.wasmprinter_spec.specs.Folding.Arities.{greatest}
-use Rattle.wasmprinter_spec.specs.Folding.Tree.{Snoc, count, OperandsOf, Fit, Passed, Short}
+use Rattle.wasmprinter_spec.specs.Folding.Tree.{Snoc, count, OperandsOf, Fit, Overshot, TooFew}
 use Rattle.wasmprinter_nodes.specs.declared.NodeText.{NodeText}
 use Rattle.wasmprinter_nodes.specs.declared.Node.{Node}
 use Rattle.wasmprinter_nodes.specs.declared.rows.Taken.{Taken}
@@ -18,11 +18,11 @@ pub record IsLast (row before : List Node) (node : Node) (parts : List Node) : T
 -- The outcome of a search for operands: the number of nodes before them, if they were found.
 abbrev pub outcome : OperandsOf NodeText → Taken
 outcome (Fit before run) = taken.From (count before)
-outcome Passed = taken.Passed
-outcome Short = taken.Short
+outcome Overshot = taken.Overshot
+outcome TooFew = taken.TooFew
 
 -- The index at which the operands of a plain operator begin in a list, and the number of results of its node.
 abbrev pub IsPlace : ℕ → ℕ → ℕ → Taken → ℕ → ℕ → Type 0
-IsPlace start len gives (taken.From n) from results = (from ≡ start + n) × (results ≡ gives)
-IsPlace start len gives taken.Passed from results = (from ≡ len) × (results ≡ greatest)
-IsPlace start len gives taken.Short from results = (from ≡ len) × (results ≡ gives)
+IsPlace start len own (taken.From n) from results = (from ≡ start + n) × (results ≡ own)
+IsPlace start len own taken.Overshot from results = (from ≡ len) × (results ≡ greatest)
+IsPlace start len own taken.TooFew from results = (from ≡ len) × (results ≡ own)

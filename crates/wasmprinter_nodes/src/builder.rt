@@ -28,9 +28,9 @@ pub struct Frame {
     /// The text of its node.
     pub head: NodeText,
     /// The number of its results.
-    pub gives: u32,
+    pub results: u32,
     /// The index of the first node that the block will hold.
-    pub from: usize,
+    pub operands_start: usize,
     /// The index of the first node of its open part.
     pub start: usize,
 }
@@ -62,23 +62,23 @@ fn wrap(nodes: &mut Vec<Node>, head: NodeText, results: u32, from: usize) -> Res
 /// Adds the node of the open case of an `if`, and then the node of the `if`.
 fn wrap_if(nodes: &mut Vec<Node>, case: NodeText, frame: Frame) -> Result<(), AllocError>
     requires case { frame.start ≤ length nodes.old.items }
-    requires whole { frame.from ≤ frame.start }
+    requires whole { frame.operands_start ≤ frame.start }
     ensures { OnOk result (nodes.new.items ≡ with_if nodes.old.items case frame) }
 {
     wrap(nodes, case, 0, frame.start)?;
-    wrap(nodes, frame.head, frame.gives, frame.from)
+    wrap(nodes, frame.head, frame.results, frame.operands_start)
 }
 
 /// Returns the index at which the operands of a plain operator begin, and the number of results of its node.
-fn place_of(nodes: &[Node], start: usize, takes: u32, gives: u32) -> (usize, u32)
+fn place_of(nodes: &[Node], start: usize, operands: u32, results: u32) -> (usize, u32)
     requires in_range { start ≤ length nodes.now }
     requires whole { IsPostorder (drop start nodes.now) }
-    ensures { IsPlace start (length nodes.now) gives (outcome (operand_search takes (forest_of (drop start nodes.now)))) result.0 result.1 }
+    ensures { IsPlace start (length nodes.now) results (outcome (operand_search operands (forest_of (drop start nodes.now)))) result.0 result.1 }
 {
-    match find_operands(&nodes[start..], takes) {
-        Taken::From(before) => (start + before, gives),
-        Taken::Passed => (nodes.len(), u32::MAX),
-        Taken::Short => (nodes.len(), gives),
+    match find_operands(&nodes[start..], operands) {
+        Taken::From(before) => (start + before, results),
+        Taken::Overshot => (nodes.len(), u32::MAX),
+        Taken::TooFew => (nodes.len(), results),
     }
 }
 
@@ -95,7 +95,7 @@ fn predicate_from(nodes: &[Node], start: usize) -> usize
 }
 
 impl Builder {
-    ghost use Rattle.wasmprinter_nodes.specs.Building.{start, step, Top, Plain, Opens, OpensIf, Turns, Ends};
+    ghost use Rattle.wasmprinter_nodes.specs.Building.{start, step, Top, Plain, Opens, OpensIf, Else, Ends};
     ghost use Rattle.wasmprinter_nodes.specs.Frames.{State, Stands, base};
 
     /// Creates a builder without nodes. This allocates no memory.
@@ -136,19 +136,19 @@ impl Builder {
         }
     }
 
-    /// Adds a plain operator. Its operands are the last nodes whose results sum up to exactly `takes`, if there are
+    /// Adds a plain operator. Its operands are the last nodes whose results sum up to exactly `operands`, if there are
     /// such nodes.
     ///
     /// # Errors
     ///
     /// Returns an error if an allocation fails. The nodes are then unusable until the list is cleared.
-    pub fn plain(&mut self, head: NodeText, takes: u32, gives: u32) -> Result<(), AllocError>
+    pub fn plain(&mut self, head: NodeText, operands: u32, results: u32) -> Result<(), AllocError>
         requires { (s : State) × Stands self.old s }
-        ensures { OnOk result ((s : State) → Stands self.old s → Stands self.new (step s (Plain head takes gives))) }
+        ensures { OnOk result ((s : State) → Stands self.old s → Stands self.new (step s (Plain head operands results))) }
     {
         let start = self.start();
-        let (from, results) = place_of(&self.nodes, start, takes, gives);
-        wrap(&mut self.nodes, head, results, from)
+        let (from, counted) = place_of(&self.nodes, start, operands, results);
+        wrap(&mut self.nodes, head, counted, from)
     }
 
     /// Opens a block.
@@ -156,16 +156,16 @@ impl Builder {
     /// # Errors
     ///
     /// Returns an error if an allocation fails. The nodes are then unusable until the list is cleared.
-    pub fn open(&mut self, head: NodeText, gives: u32) -> Result<(), AllocError>
+    pub fn open(&mut self, head: NodeText, results: u32) -> Result<(), AllocError>
         requires { (s : State) × Stands self.old s }
-        ensures { OnOk result ((s : State) → Stands self.old s → Stands self.new (step s (Opens head gives))) }
+        ensures { OnOk result ((s : State) → Stands self.old s → Stands self.new (step s (Opens head results))) }
     {
         let start = self.nodes.len();
         self.frames.push(Frame {
             arm: Arm::Block,
             head,
-            gives,
-            from: start,
+            results,
+            operands_start: start,
             start,
         })?;
         Ok(())
@@ -177,9 +177,14 @@ impl Builder {
     /// # Errors
     ///
     /// Returns an error if an allocation fails. The nodes are then unusable until the list is cleared.
-    pub fn open_if(&mut self, head: NodeText, then: NodeText, gives: u32) -> Result<(), AllocError>
+    pub fn open_if(
+        &mut self,
+        head: NodeText,
+        then: NodeText,
+        results: u32,
+    ) -> Result<(), AllocError>
         requires { (s : State) × Stands self.old s }
-        ensures { OnOk result ((s : State) → Stands self.old s → Stands self.new (step s (OpensIf head then gives))) }
+        ensures { OnOk result ((s : State) → Stands self.old s → Stands self.new (step s (OpensIf head then results))) }
     {
         let outer = self.start();
         let start = self.nodes.len();
@@ -187,8 +192,8 @@ impl Builder {
         self.frames.push(Frame {
             arm: Arm::Then(then),
             head,
-            gives,
-            from,
+            results,
+            operands_start: from,
             start,
         })?;
         Ok(())
@@ -203,7 +208,7 @@ impl Builder {
     /// Returns an error if an allocation fails. The nodes are then unusable until the list is cleared.
     pub fn turn(&mut self, otherwise: NodeText) -> Result<(), AllocError>
         requires { (s : State) × Stands self.old s }
-        ensures { OnOk result ((s : State) → Stands self.old s → Stands self.new (step s (Turns otherwise))) }
+        ensures { OnOk result ((s : State) → Stands self.old s → Stands self.new (step s (Else otherwise))) }
     {
         if let Some(frame) = self.frames.pop() {
             match frame.arm {
@@ -233,7 +238,12 @@ impl Builder {
     {
         match self.frames.pop() {
             Some(frame) => match frame.arm {
-                Arm::Block => wrap(&mut self.nodes, frame.head, frame.gives, frame.from),
+                Arm::Block => wrap(
+                    &mut self.nodes,
+                    frame.head,
+                    frame.results,
+                    frame.operands_start,
+                ),
                 Arm::Then(case) | Arm::Else(case) => wrap_if(&mut self.nodes, case, frame),
             },
             None => Ok(()),

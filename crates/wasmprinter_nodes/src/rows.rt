@@ -23,9 +23,9 @@ pub enum Taken {
     /// The operands were found. This is the number of nodes before them, at every depth.
     From(usize),
     /// The sum of results exceeded the number of operands without ever being equal to it.
-    Passed,
+    Overshot,
     /// There are too few results, or the operator takes no operands.
-    Short,
+    TooFew,
 }
 
 /// Returns the last node of a row, if there is one.
@@ -42,25 +42,25 @@ pub fn last_group(row: &[Node]) -> Option<Last<'_>>
     })
 }
 
-/// Searches a row of nodes for the operands of an operator that takes `takes` values.
-pub fn find_operands(row: &[Node], takes: u32) -> Taken
+/// Searches a row of nodes for the operands of an operator that takes `operands` values.
+pub fn find_operands(row: &[Node], operands: u32) -> Taken
     requires { IsPostorder row.now }
-    ensures { result ≡ outcome (operand_search takes (forest_of row.now)) }
+    ensures { result ≡ outcome (operand_search operands (forest_of row.now)) }
 {
-    if takes == 0 {
-        return Taken::Short;
+    if operands == 0 {
+        return Taken::TooFew;
     }
     let mut before = row;
     let mut sum: u32 = 0;
     while let Some(last) = last_group(before) {
         before = last.before;
         sum = sum.saturating_add(last.node.results);
-        if sum == takes {
+        if sum == operands {
             return Taken::From(before.len());
         }
-        if takes < sum {
-            return Taken::Passed;
+        if operands < sum {
+            return Taken::Overshot;
         }
     }
-    Taken::Short
+    Taken::TooFew
 }

@@ -4,7 +4,7 @@ use Rattle.std.specs.Prelude.{slice_get}
 use Rattle.std.proofs.lemmas.Bool.{ne_eqb}
 use Rattle.wasmprinter_spec.specs.Grammar.{Input}
 use Rattle.wasmprinter_spec.specs.Types.{ValType}
-use Rattle.wasmprinter_spec.specs.Binary.ValTypes.{signed_index, val_type_behind, val_type, begins_val_type}
+use Rattle.wasmprinter_spec.specs.Binary.ValTypes.{signed_index, val_type_after, val_type, begins_val_type}
 use Rattle.wasmprinter_spec.specs.Operator.{Value, OfType}
 use Rattle.wasmprinter_spec.specs.Instructions.{block_type, block_type_by}
 use Rattle.wasmprinter_types.proofs.FirstBytes.{peeked_is, index_takes_byte, announced_takes_byte}
@@ -23,4 +23,4 @@ pub value_read : (at : Input) (first : ℕ) (x : ValType × Input) → Some firs
 value_read at first x f empty value e =
     let not_empty : eqb first 0x40 ≡ false = ne_eqb first 0x40 empty in
     let chosen : (block_type_by first).parse at ≡ Some (Value x.0, x.1) = rw (not_empty, value, e) refl in
-    peeked_is block_type_by at first (Value x.0, x.1) (sym f) chosen (announced_takes_byte val_type_behind at x e)
+    peeked_is block_type_by at first (Value x.0, x.1) (sym f) chosen (announced_takes_byte val_type_after at x e)

@@ -3,7 +3,7 @@ use Rattle.std.proofs.Common.{◌≡◌, ℕ, zero, suc, ◌+◌, ◌<◌, ◌�
 use Rattle.std.proofs.lemmas.Bool.{and_parts, ltb-true, eqb-true, ne_eqb}
 use Rattle.std.proofs.lemmas.List.{length-map}
 use Rattle.wasmprinter_spec.specs.Operator.{Opcode, opcode}
-use Rattle.wasmprinter_spec.specs.Row.{Row, Shape, Arity, Role, Plain, Opens, OpensIf, OpensTry, Turns, Catches, CatchesAll, Delegates, Ends}
+use Rattle.wasmprinter_spec.specs.Row.{Row, Shape, Arity, Role, Plain, Opens, OpensIf, OpensTry, Else, Catches, CatchesAll, Delegates, Ends}
 use Rattle.wasmprinter_spec.specs.Table.{table, first, has_opcode, by_opcode, role_of_row, role_of}
 use Rattle.wasmprinter_ops.specs.ByNumber.{each_from, size_of, entry_of, each_entry, roles_size_of, each_role}
 
@@ -85,7 +85,7 @@ plain_is Plain e = refl
 plain_is Opens e = absurd cc
 plain_is OpensIf e = absurd cc
 plain_is OpensTry e = absurd cc
-plain_is Turns e = absurd cc
+plain_is Else e = absurd cc
 plain_is Catches e = absurd cc
 plain_is CatchesAll e = absurd cc
 plain_is Delegates e = absurd cc

@@ -16,8 +16,8 @@ module _ {A : Type 0} (g : Grammar A) where
   first_of : (at : Input) (xs : List A) → (at.bytes ≡ [] → ⊥) → Entries g at.place at.bytes xs → FirstEntry at xs
   first_of at [] some s = absurd (some s)
   first_of at (x ∷ xs) some s =
-      let (text, behind, joined, takes, spelled, all_spelled) = s in
-      let after : Input = input (at.place + length text) behind in
+      let (text, remains, joined, takes, spelled, all_spelled) = s in
+      let after : Input = input (at.place + length text) remains in
       record {
         item = x;
         others = xs;
@@ -34,8 +34,8 @@ module _ {A : Type 0} (g : Grammar A) where
   pub entries-few : (p : ℕ) (text : List ℕ) (xs : List A) → Entries g p text xs → length xs ≤ length text
   entries-few p text [] s = omega arith
   entries-few p text (x ∷ xs) s =
-      let (first, behind, joined, takes, spelled, all_spelled) = s in
-      omega (arith, ap length joined, length-append first behind, takes, entries-few (p + length first) behind xs all_spelled)
+      let (first, remains, joined, takes, spelled, all_spelled) = s in
+      omega (arith, ap length joined, length-append first remains, takes, entries-few (p + length first) remains xs all_spelled)
 
   -- If the bytes encode items, and the bytes after them one more item, together they encode the longer list.
   entries-push : (xs : List A) (p : ℕ) (t u : List ℕ) (x : A) → Entries g p t xs → 0 < length u → g.spells (p + length t) u x → Entries g p (t ++ u) (xs ++ x ∷ [])
@@ -45,11 +45,11 @@ module _ {A : Type 0} (g : Grammar A) where
       let at_p : g.spells p u x = subst (λ (q : ℕ). g.spells q u x) z here in
       subst (λ (r : List ℕ). Entries g p (r ++ u) (x ∷ [])) (sym s) (u, [], sym (append-nil u), some, at_p, refl)
   entries-push (y ∷ ys) p t u x s some last =
-      let (first, behind, joined, takes, spelled, all_spelled) = s in
-      let l : p + length t ≡ p + length first + length behind = omega (arith, ap length joined, length-append first behind) in
-      let more : Entries g (p + length first) (behind ++ u) (ys ++ x ∷ []) =
-      entries-push ys (p + length first) behind u x all_spelled some (subst (λ (q : ℕ). g.spells q u x) l last) in
-      (first, behind ++ u, ap (λ (r : List ℕ). r ++ u) joined ∙ append_assoc first behind u, takes, spelled, more)
+      let (first, remains, joined, takes, spelled, all_spelled) = s in
+      let l : p + length t ≡ p + length first + length remains = omega (arith, ap length joined, length-append first remains) in
+      let more : Entries g (p + length first) (remains ++ u) (ys ++ x ∷ []) =
+      entries-push ys (p + length first) remains u x all_spelled some (subst (λ (q : ℕ). g.spells q u x) l last) in
+      (first, remains ++ u, ap (λ (r : List ℕ). r ++ u) joined ∙ append_assoc first remains u, takes, spelled, more)
 
   -- The same for items between two positions.
   pub spans-push : (start mid after : Input) (xs : List A) (x : A) → Spans (Entries g) start (xs, mid) → (s : Spans g.spells mid (x, after)) → 0 < length s.text → Spans (Entries g) start (xs ++ x ∷ [], after)

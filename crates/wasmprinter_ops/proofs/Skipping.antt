@@ -11,7 +11,7 @@ use Rattle.wasmprinter_spec.specs.Nesting.{Nests, Sequence, Open, at_start, adva
 use Rattle.wasmprinter_spec.specs.Instructions.{operator, expression, Closed, closed_of_ended, advance_by, operator_takes, roles, role_at}
 use Rattle.wasmprinter_bytes.specs.Reads.{end_of}
 use Rattle.wasmprinter_ops.specs.Operators.{OperatorsAndEnd, operators, operators_in, HasExpression}
-use Rattle.wasmprinter_ops.specs.Nesting.{Steps, open_behind}
+use Rattle.wasmprinter_ops.specs.Nesting.{Steps, open_after}
 use Rattle.wasmprinter_ops.specs.declared.nesting.Step.TheVariants as steps
 use Rattle.wasmprinter_ops.proofs.Stepping.{stepped-item, takes_byte as item_takes_byte}
 use Rattle.wasmprinter_ops.proofs.Walking.{has_operators, operators_are}
@@ -39,7 +39,7 @@ with_front ops r = r >>= λ x. Some (record { items = ops ++ x.0.items; end = x.
 pub record Skipped (start : Input) (s : Open) (at : Input) : Type 0 where
   pub items : List (Placed Operator)
   pub skipped : Spans (Entries (value_with_place operator)) start (items, at)
-  pub goes_on : open_behind at_start (roles items) ≡ Some s
+  pub goes_on : open_after at_start (roles items) ≡ Some s
   pub is : expression.parse start ≡ with_front items (as_closed (reading s at))
 
 -- Prepending no operators changes nothing.
@@ -58,17 +58,17 @@ skipped_none at = record {
 
 -- If the blocks s are open after some operators, then one more operator leads to the blocks
 -- that its role leads to from s.
-one_behind : (m : Move Open) (rs : List Role) (s t : Open) (r : Role) → ((u : Open) → open_behind u rs ≡ Some s → open_behind u (rs ++ r ∷ []) ≡ Some t)
-    → by_move m (λ u. open_behind u rs) None None ≡ Some s → by_move m (λ u. open_behind u (rs ++ r ∷ [])) None None ≡ Some t
-one_behind (On u) rs s t r more e = more u e
-one_behind Stop rs s t r more e = absurd cc
-one_behind Never rs s t r more e = absurd cc
+one_after : (m : Move Open) (rs : List Role) (s t : Open) (r : Role) → ((u : Open) → open_after u rs ≡ Some s → open_after u (rs ++ r ∷ []) ≡ Some t)
+    → by_move m (λ u. open_after u rs) None None ≡ Some s → by_move m (λ u. open_after u (rs ++ r ∷ [])) None None ≡ Some t
+one_after (On u) rs s t r more e = more u e
+one_after Stop rs s t r more e = absurd cc
+one_after Never rs s t r more e = absurd cc
 
-opens_on : (rs : List Role) (first s t : Open) (r : Role) → advance s r ≡ On t → open_behind first rs ≡ Some s → open_behind first (rs ++ r ∷ []) ≡ Some t
+opens_on : (rs : List Role) (first s t : Open) (r : Role) → advance s r ≡ On t → open_after first rs ≡ Some s → open_after first (rs ++ r ∷ []) ≡ Some t
 opens_on [] first s t r on e =
     let same : first ≡ s = some_is first s e in
-    ap (λ (u : Open). by_move (advance u r) (λ v. open_behind v []) None None) same ∙ ap (λ (m : Move Open). by_move m (λ v. open_behind v []) None None) on
-opens_on (x ∷ rs) first s t r on e = one_behind (advance first x) rs s t r (λ u. opens_on rs u s t r on) e
+    ap (λ (u : Open). by_move (advance u r) (λ v. open_after v []) None None) same ∙ ap (λ (m : Move Open). by_move m (λ v. open_after v []) None None) on
+opens_on (x ∷ rs) first s t r on e = one_after (advance first x) rs s t r (λ u. opens_on rs u s t r on) e
 
 -- An operator that is read after some operators is the last of the operators before the rest.
 front_push : (ops : List (Placed Operator)) (o : Placed Operator) (r : Option (Ended (Placed Operator) × Input)) → with_front ops (as_closed (in_front o r)) ≡ with_front (ops ++ o ∷ []) (as_closed r)
@@ -104,7 +104,7 @@ module _ (start : Input) (s : Open) (at after : Input) (o : Operator) (e : opera
       record {
         items = k.items ++ x ∷ [];
         skipped = spans-push (value_with_place operator) start at after k.items x k.skipped sp (operator_takes at.place sp.text x sp.spelled);
-        goes_on = ap (open_behind at_start) (map-append role_at k.items (x ∷ [])) ∙ opens_on (roles k.items) at_start s t (role_at x) is k.goes_on;
+        goes_on = ap (open_after at_start) (map-append role_at k.items (x ∷ [])) ∙ opens_on (roles k.items) at_start s t (role_at x) is k.goes_on;
         is = turns (On t) is ∙ front_push k.items x (reading t after);
       }
 

@@ -28,9 +28,9 @@ Steps _ _ _ = ⊥
 
 -- The blocks that are open after operators of these roles, given those open before. `None` if one of the operators
 -- closes the last block or is not allowed.
-abbrev pub open_behind : Open → List Role → Option Open
-open_behind s [] = Some s
-open_behind s (r ∷ rs) = by_move (advance s r) (λ t. open_behind t rs) None None
+abbrev pub open_after : Open → List Role → Option Open
+open_after s [] = Some s
+open_after s (r ∷ rs) = by_move (advance s r) (λ t. open_after t rs) None None
 
 -- An operator of the role opens a block.
 abbrev pub OpensBlock : Role → Type 0

@@ -10,7 +10,7 @@ use Rattle.wasmprinter_bytes.specs.Lists.{reader_reasons}
 use Rattle.wasmprinter_error.specs.declared.error.Error.{Error}
 use Rattle.wasmprinter_error.specs.Reasons.{HasReason}
 use Rattle.wasmprinter_error.specs.declared.error.Malformed.{Malformed}
-use Rattle.wasmprinter_ops.specs.Nesting.{OpensBlock, open_behind}
+use Rattle.wasmprinter_ops.specs.Nesting.{OpensBlock, open_after}
 use Rattle.wasmprinter_ops.specs.Shapes.{role_view}
 use Rattle.wasmprinter_ops.specs.declared.opcode.Role.{Role}
 
@@ -33,8 +33,8 @@ PassesOperator old (Ok role) new = (o : Operator) × (operator.parse old ≡ Som
 PassesOperator old (Err e) new = operator.parse old ≡ None
 
 -- The statement holds at each position from which reading the opcode ends here.
-abbrev pub BehindOpcode : Opcode → Input → (Input → Type 0) → Type 0
-BehindOpcode o here IsSo = (at : Input) → opcode_grammar.parse at ≡ Some (o, here) → IsSo at
+abbrev pub AfterOpcode : Opcode → Input → (Input → Type 0) → Type 0
+AfterOpcode o here IsSo = (at : Input) → opcode_grammar.parse at ≡ Some (o, here) → IsSo at
 
 -- Operators up to the end of the bytes, each with its place.
 abbrev pub operators : Remainder (List (Placed Operator))
@@ -67,7 +67,7 @@ pub record HasBlock (at : Input) : Type 0 where
   pub before : Input
   pub skipped : Spans (Entries (value_with_place operator)) at (items, before)
   pub blocks : Open
-  pub goes_on : open_behind at_start (roles items) ≡ Some blocks
+  pub goes_on : open_after at_start (roles items) ≡ Some blocks
   pub opener : Operator
   pub after : Input
   pub read : operator.parse before ≡ Some (opener, after)

@@ -6,7 +6,7 @@ ghost use Rattle.wasmprinter_bytes.specs.Reads.{Reads, IsWithin, end_of};
 ghost use Rattle.wasmprinter_ops.specs.Blocks.{block_type_view, catch_at, catches_view};
 
 use wasmprinter_bytes::bytes::Cursor;
-use wasmprinter_bytes::lists::{Items, Spelled, read_items};
+use wasmprinter_bytes::lists::{Decode, Items, read_items};
 use wasmprinter_error::Malformed;
 use wasmprinter_types::{ValType, begins_type, read_type, read_type_index};
 
@@ -46,7 +46,7 @@ pub type Targets<'a> = Items<'a, u32>;
 /// the bytes when it is requested.
 pub type Catches<'a> = Items<'a, Catch>;
 
-impl Spelled for Catch {
+impl Decode for Catch {
     ghost parse = { catch_at };
 
     fn read(cursor: &mut Cursor) -> Result<Catch, Malformed> {

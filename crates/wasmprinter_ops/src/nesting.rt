@@ -101,7 +101,7 @@ impl Blocks {
             Role::OpensIf => self.enter(Frame::If),
             Role::OpensTry => self.enter(Frame::Try),
             Role::Ends => Ok(self.leave()),
-            Role::Turns => match self.innermost {
+            Role::Else => match self.innermost {
                 Frame::If => Ok(self.go_on(Frame::Block)),
                 Frame::Block | Frame::Try | Frame::Catch => Ok(Step::Refused),
             },

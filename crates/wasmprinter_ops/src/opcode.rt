@@ -159,7 +159,7 @@ pub enum Role {
     /// The operator opens a block that may have handlers: `try`.
     OpensTry,
     /// The operator ends the first arm of an `if` and starts the second: `else`.
-    Turns,
+    Else,
     /// The operator starts a handler of a `try`: `catch`.
     Catches,
     /// The operator starts the last handler of a `try`: `catch_all`.
@@ -178,7 +178,7 @@ impl Role {
     {
         match self {
             Role::OpensTry | Role::Catches | Role::CatchesAll | Role::Delegates => true,
-            Role::Plain | Role::Opens | Role::OpensIf | Role::Turns | Role::Ends => false,
+            Role::Plain | Role::Opens | Role::OpensIf | Role::Else | Role::Ends => false,
         }
     }
 }
@@ -287,7 +287,7 @@ impl Opcode {
     }
 
     /// Returns the opcode of a prefix and a number.
-    pub(crate) fn behind(prefix: u8, number: u32) -> Opcode
+    pub(crate) fn after(prefix: u8, number: u32) -> Opcode
         ensures { result ≡ opcode prefix number }
     {
         Opcode { prefix, number }

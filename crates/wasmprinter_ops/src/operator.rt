@@ -5,7 +5,7 @@ ghost use Rattle.wasmprinter_spec.specs.Row.{FenceShape, TryTableShape, FieldSha
 ghost use Rattle.wasmprinter_spec.specs.Instructions.{operator, immediates as immediates_grammar, indices, cast};
 ghost use Rattle.wasmprinter_bytes.specs.Reads.{Reads, IsWithin, end_of};
 ghost use Rattle.wasmprinter_ops.specs.Immediates.{immediates_view, HasShape, HasCastFlags};
-ghost use Rattle.wasmprinter_ops.specs.Operators.{placed_view, BehindOpcode, Passes, PassesOperator};
+ghost use Rattle.wasmprinter_ops.specs.Operators.{placed_view, AfterOpcode, Passes, PassesOperator};
 ghost use Rattle.wasmprinter_ops.specs.Shapes.{shape_view};
 
 use crate::blocks::{BlockType, Catches, Targets, read_block_type, read_catches};
@@ -200,9 +200,9 @@ fn pass_immediates(cursor: &mut Cursor, shape: Shape) -> Result<(), Malformed>
 
 /// Skips the immediates of the opcode at `place`, and returns the operator's role.
 #[inline(always)]
-fn pass_behind(cursor: &mut Cursor, place: u64, opcode: Opcode) -> Result<Role, Malformed>
+fn pass_after(cursor: &mut Cursor, place: u64, opcode: Opcode) -> Result<Role, Malformed>
     requires { place ≤ end_of cursor.now }
-    ensures reads { BehindOpcode opcode cursor.old (λ at. PassesOperator at result cursor.new) }
+    ensures reads { AfterOpcode opcode cursor.old (λ at. PassesOperator at result cursor.new) }
     ensures within { IsWithin cursor.old result }
     ensures end { end_of cursor.new ≡ end_of cursor.old }
 {
@@ -225,9 +225,9 @@ pub(crate) fn pass_operator(cursor: &mut Cursor) -> Result<Role, Malformed>
     let byte = cursor.u8()?;
     if is_prefix(byte) {
         let number = cursor.u32()?;
-        pass_behind(cursor, place, Opcode::behind(byte, number))
+        pass_after(cursor, place, Opcode::after(byte, number))
     } else {
-        pass_behind(cursor, place, Opcode::of_byte(byte))
+        pass_after(cursor, place, Opcode::of_byte(byte))
     }
 }
 
@@ -316,9 +316,9 @@ fn read_memory_lane<'a>(cursor: &mut Cursor<'a>) -> Result<Immediates<'a>, Malfo
 impl<'a> Operator<'a> {
     /// Reads the immediates of the opcode at `place`.
     #[inline(always)]
-    fn read_behind(cursor: &mut Cursor<'a>, place: u64, opcode: Opcode) -> Result<Self, Malformed>
+    fn read_after(cursor: &mut Cursor<'a>, place: u64, opcode: Opcode) -> Result<Self, Malformed>
         requires { place ≤ end_of cursor.now }
-        ensures reads { BehindOpcode opcode cursor.old (λ at. Reads (λ o. o) operator.parse at result cursor.new) }
+        ensures reads { AfterOpcode opcode cursor.old (λ at. Reads (λ o. o) operator.parse at result cursor.new) }
         ensures within { IsWithin cursor.old result }
         ensures end { end_of cursor.new ≡ end_of cursor.old }
     {
@@ -345,9 +345,9 @@ pub fn read_operator<'a>(cursor: &mut Cursor<'a>) -> Result<Operator<'a>, Malfor
     let byte = cursor.u8()?;
     if is_prefix(byte) {
         let number = cursor.u32()?;
-        Operator::read_behind(cursor, place, Opcode::behind(byte, number))
+        Operator::read_after(cursor, place, Opcode::after(byte, number))
     } else {
-        Operator::read_behind(cursor, place, Opcode::of_byte(byte))
+        Operator::read_after(cursor, place, Opcode::of_byte(byte))
     }
 }
 

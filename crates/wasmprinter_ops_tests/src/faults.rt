@@ -22,7 +22,7 @@ type Spelled = (Shape, Role, &'static [u8]);
 const CONTROL: [Spelled; 24] = [
     (Shape::None, Role::Plain, &[0x01]),
     (Shape::None, Role::Ends, &[0x0b]),
-    (Shape::None, Role::Turns, &[0x05]),
+    (Shape::None, Role::Else, &[0x05]),
     (Shape::None, Role::CatchesAll, &[0x19]),
     (Shape::None, Role::Plain, &[0xfb, 0x1e]),
     (Shape::None, Role::Plain, &[0xfd, 0x93, 0x82, 0x00]),
@@ -441,7 +441,7 @@ fn wanted_by(role: Role, start: usize, end: usize) -> Outcome {
             Outcome::Ended(place_after(end).saturating_add(1))
         }
         Role::Ends => Outcome::Ended(place_after(start)),
-        Role::Turns | Role::Catches | Role::CatchesAll | Role::Delegates => {
+        Role::Else | Role::Catches | Role::CatchesAll | Role::Delegates => {
             Outcome::Refused(place_after(start))
         }
     }

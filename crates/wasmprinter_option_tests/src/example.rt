@@ -9,7 +9,7 @@ use wasmprinter::{Config, Error, PrintTermcolor, PrintText, place_of, print_byte
 use wasmprinter_samples::{IDENTITY, IDENTITY_TEXT, expect_text};
 
 /// Returns the text of a module, or a message if the bytes are malformed.
-fn text_or_fault(alloc: Global, wasm: &[u8]) -> Result<String, Error> {
+fn text_or_message(alloc: Global, wasm: &[u8]) -> Result<String, Error> {
     match print_bytes(alloc, wasm) {
         Err(Error::Malformed { place }) => Ok(format!(in alloc; "no module: see byte {place}\n")?),
         printed => printed,
@@ -61,9 +61,9 @@ fn text_length(alloc: Global, wasm: &[u8]) -> Result<usize, Error> {
 #[test]
 fn shows_a_module_and_what_is_none(rt: HostRuntime) -> Result<(), Fail> {
     let module = [0x00, 0x61, 0x73, 0x6d, 0x01, 0x00, 0x00, 0x00];
-    let text = text_or_fault(rt.alloc(), &module)?;
+    let text = text_or_message(rt.alloc(), &module)?;
     expect_text(text.as_str(), "(module)\n")?;
-    let text = text_or_fault(rt.alloc(), b"(module)")?;
+    let text = text_or_message(rt.alloc(), b"(module)")?;
     expect_text(text.as_str(), "no module: see byte 0\n")?;
     Ok(())
 }

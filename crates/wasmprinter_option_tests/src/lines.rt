@@ -128,7 +128,7 @@ fn gives_lines_by_options(rt: HostRuntime) -> Result<(), Fail> {
 }
 
 #[test]
-fn appends_to_the_text_that_stands_there(rt: HostRuntime) -> Result<(), Fail> {
+fn appends_to_existing_text(rt: HostRuntime) -> Result<(), Fail> {
     let mut storage = String::from_str(rt.alloc(), "λ\n")?;
     let config = Config::new();
     let lines = config.offsets_and_lines(rt.alloc(), &PREAMBLE, &mut storage)?;
@@ -149,7 +149,7 @@ fn refusal(alloc: Global, wasm: &[u8], storage: &mut String) -> Option<Error> {
 }
 
 #[test]
-fn keeps_the_text_behind_a_refusal(rt: HostRuntime) -> Result<(), Fail> {
+fn keeps_the_text_after_a_refusal(rt: HostRuntime) -> Result<(), Fail> {
     let mut storage = String::from_str(rt.alloc(), "old")?;
     let cut = refusal(rt.alloc(), &IDENTITY[..34], &mut storage);
     assert!(rt; matches!(cut, Some(Error::Malformed { .. })));

@@ -27,7 +27,7 @@ const IDENTITY_OUTLINE: &str = r#"(module
 "#;
 
 /// The text of `IDENTITY` with places, without its body, and with synthesized identifiers.
-const IDENTITY_OUTLINE_INVENTED: &str = r#"(module
+const IDENTITY_OUTLINE_SYNTHESIZED: &str = r#"(module
 (;@b     ;)  (type $#type0 (;0;) (func (param i32) (result i32)))
 (;@17    ;)  (export "f" (func $#func0))
 (;@1f    ;)  (func $#func0 (;0;) (type $#type0) (param $#local0 i32) (result i32) ...)
@@ -273,7 +273,7 @@ fn indents_by_another_text(rt: HostRuntime) -> Result<(), Fail> {
 }
 
 #[test]
-fn indents_behind_places(rt: HostRuntime) -> Result<(), Fail> {
+fn indents_after_places(rt: HostRuntime) -> Result<(), Fail> {
     let mut config = Config::new();
     config.indent_text(String::from_str(rt.alloc(), " ")?);
     config
@@ -304,7 +304,7 @@ fn chains_setters(rt: HostRuntime) -> Result<(), Fail> {
         .print_skeleton(true)
         .print_offsets(true)
         .print_to_string(rt.alloc(), &IDENTITY)?;
-    expect_text(text.as_str(), IDENTITY_OUTLINE_INVENTED)?;
+    expect_text(text.as_str(), IDENTITY_OUTLINE_SYNTHESIZED)?;
     Ok(())
 }
 
@@ -358,7 +358,7 @@ fn shows_debug(rt: HostRuntime) -> Result<(), Fail> {
     let shown = format!(in rt.alloc(); "{config:?}")?;
     expect_text(
         shown.as_str(),
-        "Config { options: PrintOptions { offsets: false, skeleton: false, invents: false, folds: false, indent: TwoBlanks } }",
+        "Config { options: PrintOptions { offsets: false, skeleton: false, synthesizes: false, folds: false, indent: TwoBlanks } }",
     )?;
     Ok(())
 }

@@ -77,16 +77,16 @@ impl<'a> Taker<'a> {
     fn prints(
         &mut self,
         customs: &[CustomEntry],
-        behind: Option<SectionKind>,
+        after: Option<SectionKind>,
         (any, asked, text): (bool, &str, &str),
     ) -> bool {
-        let result = write_customs(self, &PrintOptions::new(), customs, behind);
+        let result = write_customs(self, &PrintOptions::new(), customs, after);
         matches!(result, Ok(found) if found == any) && self.has(asked, text)
     }
 
     /// Reports whether printing the sections at one place is refused for a subsection 9.
-    fn refuses_one_of(&mut self, customs: &[CustomEntry], behind: Option<SectionKind>) -> bool {
-        let result = write_customs(self, &PrintOptions::new(), customs, behind);
+    fn refuses_one_of(&mut self, customs: &[CustomEntry], after: Option<SectionKind>) -> bool {
+        let result = write_customs(self, &PrintOptions::new(), customs, after);
         matches!(result, Err(Error::DylinkSubsection { id: 9 }))
     }
 
@@ -164,20 +164,20 @@ impl<'a> Print for Taker<'a> {
 }
 
 /// Reads a section from these bytes, which begin with its name.
-fn entry<'a>(behind: Option<SectionKind>, bytes: &'a [u8]) -> Result<CustomEntry<'a>, Fail> {
+fn entry<'a>(after: Option<SectionKind>, bytes: &'a [u8]) -> Result<CustomEntry<'a>, Fail> {
     let section = Custom::read(&mut Cursor::new(PLACE, bytes))?;
-    Ok(CustomEntry { behind, section })
+    Ok(CustomEntry { after, section })
 }
 
 /// Checks that a section with these bytes is printed as the typed text.
 fn expect_section(
     alloc: Global,
     options: &PrintOptions,
-    behind: Option<SectionKind>,
+    after: Option<SectionKind>,
     bytes: &[u8],
     typed: &str,
 ) -> Result<(), Fail> {
-    let section = entry(behind, bytes)?;
+    let section = entry(after, bytes)?;
     Taker::new(alloc, &[]).expect(options, &section, typed)
 }
 
@@ -187,7 +187,7 @@ fn expect_first(alloc: Global, bytes: &[u8], typed: &str) -> Result<(), Fail> {
 }
 
 #[test]
-fn raw_sections_stand_as_they_are(rt: HostRuntime) -> Result<(), Fail> {
+fn prints_raw_sections_unchanged(rt: HostRuntime) -> Result<(), Fail> {
     expect_first(
         rt.alloc(),
         b"\x03a\"b\x00h\\\xff",
@@ -287,7 +287,7 @@ fn producers_without_values_have_none(rt: HostRuntime) -> Result<(), Fail> {
 }
 
 #[test]
-fn producers_may_stand_raw(rt: HostRuntime) -> Result<(), Fail> {
+fn prints_unreadable_producers_raw(rt: HostRuntime) -> Result<(), Fail> {
     expect_first(
         rt.alloc(),
         b"\x09producers\x01\x03a b\x00",
@@ -363,21 +363,21 @@ const FIVE: Sections = &[
 /// Reads the sections from these bytes.
 fn entries_of(alloc: Global, sections: Sections) -> Result<Vec<CustomEntry<'static>>, Fail> {
     let mut entries = Vec::new(alloc);
-    for (behind, bytes) in sections {
-        entries.push(entry(*behind, bytes)?)?;
+    for (after, bytes) in sections {
+        entries.push(entry(*after, bytes)?)?;
     }
     Ok(entries)
 }
 
 #[test]
-fn sections_stand_at_their_places(rt: HostRuntime) -> Result<(), Fail> {
+fn sections_have_their_places(rt: HostRuntime) -> Result<(), Fail> {
     let both = "\n  (@custom \"a\" (after type) \"\")\n  (@custom \"b\" (after type) \"\")";
     let second = "\n  (@custom \"b\" (after type) \"\")";
-    let behind = Some(SectionKind::Type);
+    let after = Some(SectionKind::Type);
     let asked = "[a 0x12 0][b 0x12 0]";
     let customs = entries_of(rt.alloc(), FIVE)?;
-    assert!(rt; Taker::new(rt.alloc(), &[]).prints(&customs, behind, (true, asked, both)));
-    assert!(rt; Taker::new(rt.alloc(), &[true]).prints(&customs, behind, (true, asked, second)));
+    assert!(rt; Taker::new(rt.alloc(), &[]).prints(&customs, after, (true, asked, both)));
+    assert!(rt; Taker::new(rt.alloc(), &[true]).prints(&customs, after, (true, asked, second)));
     assert!(rt; Taker::new(rt.alloc(), &[]).prints(&customs, None, (false, "", "")));
     Ok(())
 }

@@ -58,7 +58,7 @@ fn role_word(name: &str, bytes: &[u8]) -> &'static str {
         CustomRole::Dylink(_) => "dylink",
         CustomRole::Refused(_) => "refused",
         CustomRole::Raw => "raw",
-        CustomRole::Faulted => "faulted",
+        CustomRole::Malformed => "faulted",
     }
 }
 
@@ -98,7 +98,7 @@ fn refused_for(bytes: &[u8]) -> Option<u8> {
 }
 
 #[test]
-fn unknown_subsections_are_told(rt: HostRuntime) {
+fn reports_unknown_subsections(rt: HostRuntime) {
     assert!(rt; refused_for(b"\x07\x00") == Some(7));
 }
 

@@ -5,7 +5,7 @@ use crate::names::names_of;
 use std::alloc::Global;
 use std::process::Abort;
 use std::test::Fail;
-use wasmprinter_labels::{Meant, OpenLabels};
+use wasmprinter_labels::{LabelRef, OpenLabels};
 use wasmprinter_names::{Identifier, Identifiers, Name, Space};
 use wasmprinter_ops::opcode::Role;
 
@@ -22,13 +22,13 @@ const B: Identifier<'static> = Identifier::Given(Name {
 });
 
 /// The identifier that is synthesized for a block outside all other blocks.
-const OUTERMOST: Identifier<'static> = Identifier::Invented {
+const OUTERMOST: Identifier<'static> = Identifier::Synthesized {
     space: Space::Label,
     number: 0,
 };
 
 /// The identifier that is synthesized for a block within one other block.
-const INNER: Identifier<'static> = Identifier::Invented {
+const INNER: Identifier<'static> = Identifier::Synthesized {
     space: Space::Label,
     number: 1,
 };
@@ -45,7 +45,7 @@ enum Step {
     /// Expect this number of open blocks.
     Depth(u64),
     /// Expect the label to mean this in an operator with this role.
-    Find(Role, u32, Meant<'static>),
+    Find(Role, u32, LabelRef<'static>),
 }
 
 /// Open labels, with an upper bound on the number of operators that they advanced past.
@@ -103,16 +103,16 @@ fn assert_labels(
     rt: &impl Abort,
     alloc: Global,
     section: &[u8],
-    invents: bool,
+    synthesizes: bool,
     steps: &[Step],
 ) -> Result<(), Fail> {
     let names = names_of(alloc, &[section])?;
     let identifiers = Identifiers {
         names: &names,
-        invents,
+        synthesizes,
     };
     let labels = OpenLabels::new(alloc, identifiers)?;
-    assert!(rt; labels.identifiers().invents == invents);
+    assert!(rt; labels.identifiers().synthesizes == synthesizes);
     let mut walk = Walk {
         labels,
         operators: 0,
@@ -129,23 +129,23 @@ const HIDDEN: [Step; 20] = [
     Step::Advance(Role::Opens),
     Step::Own(Some(B)),
     Step::Advance(Role::OpensIf),
-    Step::Advance(Role::Turns),
-    Step::Find(Role::Plain, 1, Meant::ByName(A)),
+    Step::Advance(Role::Else),
+    Step::Find(Role::Plain, 1, LabelRef::ByName(A)),
     Step::Own(Some(A)),
     Step::Advance(Role::OpensTry),
     Step::Depth(3),
     Step::Own(None),
-    Step::Find(Role::Plain, 0, Meant::ByName(A)),
-    Step::Find(Role::Plain, 1, Meant::ByName(B)),
+    Step::Find(Role::Plain, 0, LabelRef::ByName(A)),
+    Step::Find(Role::Plain, 1, LabelRef::ByName(B)),
     // The outer `a`, which the inner one shadows
-    Step::Find(Role::Plain, 2, Meant::ByNumber),
+    Step::Find(Role::Plain, 2, LabelRef::ByNumber),
     // The body
-    Step::Find(Role::Plain, 3, Meant::ByNumber),
-    Step::Find(Role::Plain, 4, Meant::ToNothing),
+    Step::Find(Role::Plain, 3, LabelRef::ByNumber),
+    Step::Find(Role::Plain, 4, LabelRef::ToNothing),
     Step::Advance(Role::Ends),
     Step::Depth(2),
-    Step::Find(Role::Plain, 0, Meant::ByName(B)),
-    Step::Find(Role::Plain, 1, Meant::ByName(A)),
+    Step::Find(Role::Plain, 0, LabelRef::ByName(B)),
+    Step::Find(Role::Plain, 1, LabelRef::ByName(A)),
 ];
 
 #[test]
@@ -158,20 +158,20 @@ fn a_label_is_hidden_for_a_while(rt: HostRuntime) -> Result<(), Fail> {
 /// Blocks that end in `delegate`, with the labels of all blocks around them.
 const DELEGATED: [Step; 16] = [
     Step::Begin(0),
-    Step::Find(Role::Delegates, 0, Meant::ByNumber),
-    Step::Find(Role::Delegates, 1, Meant::ToNothing),
+    Step::Find(Role::Delegates, 0, LabelRef::ByNumber),
+    Step::Find(Role::Delegates, 1, LabelRef::ToNothing),
     Step::Advance(Role::Opens),
     Step::Advance(Role::OpensTry),
     // The `try` is `b`
-    Step::Find(Role::Delegates, 0, Meant::ByName(A)),
+    Step::Find(Role::Delegates, 0, LabelRef::ByName(A)),
     Step::Advance(Role::Delegates),
     Step::Depth(1),
-    Step::Find(Role::Plain, 0, Meant::ByName(A)),
+    Step::Find(Role::Plain, 0, LabelRef::ByName(A)),
     Step::Advance(Role::OpensTry),
     // The `try` is `a`, and so shadows the label of the block around it
-    Step::Find(Role::Delegates, 0, Meant::ByNumber),
-    Step::Find(Role::Delegates, 1, Meant::ByNumber),
-    Step::Find(Role::Delegates, 2, Meant::ToNothing),
+    Step::Find(Role::Delegates, 0, LabelRef::ByNumber),
+    Step::Find(Role::Delegates, 1, LabelRef::ByNumber),
+    Step::Find(Role::Delegates, 2, LabelRef::ToNothing),
     Step::Advance(Role::Catches),
     Step::Advance(Role::CatchesAll),
     Step::Depth(2),
@@ -190,11 +190,11 @@ const NAMELESS: [Step; 9] = [
     Step::Own(None),
     Step::Advance(Role::Opens),
     Step::Advance(Role::Opens),
-    Step::Find(Role::Plain, 0, Meant::ByName(A)),
-    Step::Find(Role::Plain, 1, Meant::ToBlock(1)),
+    Step::Find(Role::Plain, 0, LabelRef::ByName(A)),
+    Step::Find(Role::Plain, 1, LabelRef::ToBlock(1)),
     Step::Advance(Role::Ends),
     Step::Advance(Role::Opens),
-    Step::Find(Role::Plain, 0, Meant::ToBlock(2)),
+    Step::Find(Role::Plain, 0, LabelRef::ToBlock(2)),
 ];
 
 #[test]
@@ -217,7 +217,7 @@ const THIRD: Identifier<'static> = Identifier::Given(Name {
 });
 
 /// Blocks whose names are not used as identifiers, and blocks without names, with identifiers synthesized.
-const MADE_UP: [Step; 13] = [
+const SYNTHESIZED: [Step; 13] = [
     Step::Begin(0),
     Step::Own(Some(OUTERMOST)),
     Step::Advance(Role::Opens),
@@ -230,15 +230,15 @@ const MADE_UP: [Step; 13] = [
     // The third block in the outermost one
     Step::Own(Some(INNER)),
     Step::Advance(Role::Opens),
-    Step::Find(Role::Plain, 0, Meant::ByName(INNER)),
-    Step::Find(Role::Plain, 1, Meant::ByName(OUTERMOST)),
+    Step::Find(Role::Plain, 0, LabelRef::ByName(INNER)),
+    Step::Find(Role::Plain, 1, LabelRef::ByName(OUTERMOST)),
 ];
 
 #[test]
-fn identifiers_are_made_up_by_depth(rt: HostRuntime) -> Result<(), Fail> {
+fn identifiers_are_synthesized_by_depth(rt: HostRuntime) -> Result<(), Fail> {
     // Labels of function 0: 1 `#q`, 2 the empty name
     let section = b"\x03\x09\x01\x00\x02\x01\x02#q\x02\x00";
-    assert_labels(&rt, rt.alloc(), section, true, &MADE_UP)
+    assert_labels(&rt, rt.alloc(), section, true, &SYNTHESIZED)
 }
 
 /// Blocks of several functions, two of which have a label `a`.
@@ -250,10 +250,10 @@ const FUNCTIONS: [Step; 21] = [
     // A new expression starts without open blocks
     Step::Begin(3),
     Step::Depth(0),
-    Step::Find(Role::Plain, 1, Meant::ToNothing),
+    Step::Find(Role::Plain, 1, LabelRef::ToNothing),
     Step::Own(Some(A)),
     Step::Advance(Role::Opens),
-    Step::Find(Role::Plain, 0, Meant::ByName(A)),
+    Step::Find(Role::Plain, 0, LabelRef::ByName(A)),
     // A function may follow one with a greater index
     Step::Begin(2),
     Step::Own(None),

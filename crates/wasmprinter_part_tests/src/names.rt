@@ -227,7 +227,7 @@ const NAMED: Identifier<'static> = Identifier::Given(Name {
 });
 
 /// The identifier that is synthesized for a local whose index exceeds 32 bits.
-const FAR: Identifier<'static> = Identifier::Invented {
+const FAR: Identifier<'static> = Identifier::Synthesized {
     space: Space::Local,
     number: 5_000_000_000,
 };
@@ -246,14 +246,14 @@ const IDENTIFIED: [Identified; 4] = [
 
 /// Asserts that these items have these identifiers.
 fn assert_identified(rt: &impl Abort, names: &Names, items: &[Identified]) {
-    for (invents, space, outer, index, identifier) in items {
+    for (synthesizes, space, outer, index, identifier) in items {
         let identifiers = Identifiers {
             names,
-            invents: *invents,
+            synthesizes: *synthesizes,
         };
         assert!(rt;
             identifiers.item(*space, *outer, *index) == *identifier,
-            "{invents} {index}"
+            "{synthesizes} {index}"
         );
     }
 }
@@ -265,12 +265,12 @@ const MODULE: Identifier<'static> = Identifier::Given(Name {
 });
 
 /// Reports whether this is the identifier of the module.
-fn is_module_identified(names: &Names, invents: bool, wanted: Option<Identifier>) -> bool {
-    Identifiers { names, invents }.module() == wanted
+fn is_module_identified(names: &Names, synthesizes: bool, wanted: Option<Identifier>) -> bool {
+    Identifiers { names, synthesizes }.module() == wanted
 }
 
 #[test]
-fn identifiers_are_given_or_made_up(rt: HostRuntime) -> Result<(), Fail> {
+fn identifiers_are_given_or_synthesized(rt: HostRuntime) -> Result<(), Fail> {
     // The module is `m`; function 0 is `f`
     let names = names_of(rt.alloc(), &[b"\x00\x02\x01m\x01\x04\x01\x00\x01f"])?;
     assert_identified(&rt, &names, &IDENTIFIED);
@@ -286,7 +286,7 @@ fn spaces_have_words(rt: HostRuntime) -> Result<(), Fail> {
 }
 
 #[test]
-fn no_identifier_is_made_up_for_a_module(rt: HostRuntime) -> Result<(), Fail> {
+fn no_identifier_is_synthesized_for_a_module(rt: HostRuntime) -> Result<(), Fail> {
     let names = names_of(rt.alloc(), &[])?;
     assert!(rt; is_module_identified(&names, true, None));
     Ok(())
@@ -413,7 +413,7 @@ const FIRST_AND_FAR_BEHIND: [Item; 6] = [
 ];
 
 #[test]
-fn names_of_a_function_far_behind_are_found(rt: HostRuntime) -> Result<(), Fail> {
+fn names_of_a_function_far_after_are_found(rt: HostRuntime) -> Result<(), Fail> {
     let alone = b"\x02\x0a\x01\xff\xff\xff\xff\x0f\x01\x00\x01x";
     assert_names(&rt, rt.alloc(), &[alone], None, &FAR_BEHIND)?;
     let two = b"\x02\x0f\x02\x00\x01\x00\x01x\xff\xff\xff\xff\x0f\x01\x00\x01y";

@@ -71,7 +71,7 @@ fn text_of_expression(
 fn text_of_operators(
     alloc: Global,
     section: &[u8],
-    invents: bool,
+    synthesizes: bool,
     setting: &Setting<'_, NoTypes>,
     hints: FunctionHints<'_>,
     bytes: &[u8],
@@ -80,7 +80,7 @@ fn text_of_operators(
     let names = names_of(alloc, &[section])?;
     let identifiers = Identifiers {
         names: &names,
-        invents,
+        synthesizes,
     };
     text_of_expression(alloc, identifiers, setting, hints, &expression)
 }
@@ -89,13 +89,13 @@ fn text_of_operators(
 fn expect_line(
     alloc: Global,
     section: &[u8],
-    invents: bool,
+    synthesizes: bool,
     bytes: &[u8],
     typed: &str,
 ) -> Result<(), Fail> {
     let setting = setting(Form::InLine, 0);
     let hints = FunctionHints::none();
-    let text = text_of_operators(alloc, section, invents, &setting, hints, bytes)?;
+    let text = text_of_operators(alloc, section, synthesizes, &setting, hints, bytes)?;
     expect_text(text.as_str(), typed)?;
     Ok(())
 }
@@ -119,7 +119,7 @@ fn with_hints(alloc: Global, section: &[u8], bytes: &[u8]) -> Result<String, Fai
 }
 
 #[test]
-fn operators_stand_one_blank_apart(rt: HostRuntime) -> Result<(), Fail> {
+fn separates_operators_by_one_space(rt: HostRuntime) -> Result<(), Fail> {
     expect_nameless(rt.alloc(), &[0x0b], "")?;
     expect_nameless(rt.alloc(), &[0x23, 0x02, 0x0b], "global.get 2")?;
     let sum = &[0x41, 0x01, 0x41, 0x7b, 0x6a, 0x0b];
@@ -127,7 +127,7 @@ fn operators_stand_one_blank_apart(rt: HostRuntime) -> Result<(), Fail> {
 }
 
 #[test]
-fn blocks_stand_in_the_line(rt: HostRuntime) -> Result<(), Fail> {
+fn prints_blocks_within_the_line(rt: HostRuntime) -> Result<(), Fail> {
     expect_nameless(
         rt.alloc(),
         &[0x02, 0x7f, 0x41, 0x07, 0x0c, 0x00, 0x0b, 0x1a, 0x0b],
@@ -170,7 +170,7 @@ fn names_stand_for_indices(rt: HostRuntime) -> Result<(), Fail> {
 }
 
 #[test]
-fn identifiers_are_made_up(rt: HostRuntime) -> Result<(), Fail> {
+fn identifiers_are_synthesized(rt: HostRuntime) -> Result<(), Fail> {
     expect_line(
         rt.alloc(),
         &[],
@@ -190,7 +190,7 @@ fn identifiers_are_made_up(rt: HostRuntime) -> Result<(), Fail> {
 }
 
 #[test]
-fn hints_stand_before_their_operators(rt: HostRuntime) -> Result<(), Fail> {
+fn hints_come_before_their_operators(rt: HostRuntime) -> Result<(), Fail> {
     // `br_if` is 5 bytes after the first byte of the body, `if` is 10 bytes after it
     let text = with_hints(
         rt.alloc(),

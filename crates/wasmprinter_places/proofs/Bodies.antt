@@ -11,7 +11,7 @@ use Rattle.wasmprinter_spec.specs.Layout.Functions.{locals_place}
 use Rattle.wasmprinter_spec.specs.Lines.{places}
 use Rattle.wasmprinter_spec.specs.Apart.{Rises, place_if_any, locals_places, body_places}
 use Rattle.wasmprinter_places.proofs.Order.{Order, rising, rises_from, rises_ends}
-use Rattle.wasmprinter_places.proofs.Lies.{Lies, Lies-any, Lies-u32, Lies-seq, Lies-behind, Lies-less, Lies-map_value, Lies-value_with_place, LiesIn-alone, Lies-exactly, Lies-vec, Lies-expression}
+use Rattle.wasmprinter_places.proofs.Lies.{Lies, Lies-any, Lies-u32, Lies-seq, Lies-after, Lies-less, Lies-map_value, Lies-value_with_place, LiesIn-alone, Lies-exactly, Lies-vec, Lies-expression}
 
 -- The encoding of an operator has at least one byte.
 Lies-operator : {o : Order} → Lies o 1 operator (λ x. [])
@@ -53,4 +53,4 @@ Lies-body = Lies-map_value inner_places (Lies-seq Lies-locals (λ es. Lies-expre
 
 pub Lies-code_entry : Lies rising 0 code_entry body_places
 Lies-code_entry =
-    Lies-map_value body_places (Lies-less 1 0 (omega arith) (Lies-less (1 + 0) 1 (omega arith) (Lies-behind Lies-u32 (λ size. Lies-exactly (LiesIn-alone (Lies-value_with_place Lies-body)) size))))
+    Lies-map_value body_places (Lies-less 1 0 (omega arith) (Lies-less (1 + 0) 1 (omega arith) (Lies-after Lies-u32 (λ size. Lies-exactly (LiesIn-alone (Lies-value_with_place Lies-body)) size))))

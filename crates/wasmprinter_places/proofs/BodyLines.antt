@@ -12,7 +12,7 @@ use Rattle.wasmprinter_spec.specs.Labels.{Named}
 use Rattle.wasmprinter_spec.specs.Names.{Names}
 use Rattle.wasmprinter_spec.specs.Indexed.{parameter_count}
 use Rattle.wasmprinter_spec.specs.Operator.{Operator}
-use Rattle.wasmprinter_spec.specs.Customs.Hints.{Hint, next_hint, hint_behind}
+use Rattle.wasmprinter_spec.specs.Customs.Hints.{Hint, next_hint, hint_after}
 use Rattle.wasmprinter_spec.specs.Placed.{LocalEntry, PlacedFunction}
 use Rattle.wasmprinter_spec.specs.Module.{locals_of}
 use Rattle.wasmprinter_spec.specs.Options.{Options}
@@ -31,7 +31,7 @@ use Rattle.wasmprinter_spec.proofs.Each.{all_parts}
 use Rattle.wasmprinter_spec.proofs.OneLine.{starts, IsOneLine, both_stay, variables_stay, groups_stay}
 use Rattle.wasmprinter_places.proofs.OperatorLines.{hint_lines, operator_lines, operators_begin}
 use Rattle.wasmprinter_places.proofs.FieldLines.{placed_lines, header_stays}
-use Rattle.wasmprinter_places.proofs.HintLines.{OfHints, of_next_hint, of_hint_behind}
+use Rattle.wasmprinter_places.proofs.HintLines.{OfHints, of_next_hint, of_hint_after}
 
 abbrev pub some_all : List ℕ → List (Option ℕ)
 some_all ps = map (λ p. Some p) ps
@@ -149,11 +149,11 @@ module _ (low high : ℕ) where
   operators_follow body hs (o ∷ os) all =
       let offset : ℕ = o.place - body in
       let hint : List (Option ℕ) = hint_lines (next_hint offset hs) in
-      let rest : List (Option ℕ) = operator_lines body (hint_behind offset hs) os in
+      let rest : List (Option ℕ) = operator_lines body (hint_after offset hs) os in
       follows_both low high [] (o.place ∷ places os) hint (Some o.place ∷ rest)
       (follows_elsewhere low high hint (of_next_hint (IsElsewhere low high) offset hs all))
       (follows_both low high (o.place ∷ []) (places os) (Some o.place ∷ []) rest (follows_one low high o.place)
-      (operators_follow body (hint_behind offset hs) os (of_hint_behind (IsElsewhere low high) offset hs all)))
+      (operators_follow body (hint_after offset hs) os (of_hint_after (IsElsewhere low high) offset hs all)))
 
   closing_follows : (place : ℕ) (b : Bool) → Follows low high (place ∷ []) (closing_lines place b)
   closing_follows place true = follows_one low high place
@@ -200,11 +200,11 @@ module _ (ps : List ℕ) where
   operators_kept body hs (o ∷ os) all own =
       let offset : ℕ = o.place - body in
       let hint : List (Option ℕ) = hint_lines (next_hint offset hs) in
-      let rest : List (Option ℕ) = operator_lines body (hint_behind offset hs) os in
+      let rest : List (Option ℕ) = operator_lines body (hint_after offset hs) os in
       lines_without-append ps hint (Some o.place ∷ rest)
       ∙ ap₂ (λ (ls ms : List (Option ℕ)). ls ++ ms) (all_out hint (of_next_hint IsHint offset hs all))
       (kept_in ps (Some o.place) rest own.0
-      ∙ ap (λ (ls : List (Option ℕ)). Some o.place ∷ ls) (operators_kept body (hint_behind offset hs) os (of_hint_behind IsHint offset hs all) own.1))
+      ∙ ap (λ (ls : List (Option ℕ)). Some o.place ∷ ls) (operators_kept body (hint_after offset hs) os (of_hint_after IsHint offset hs all) own.1))
 
   closing_kept : (place : ℕ) (b : Bool) → IsKept place → lines_without ps (closing_lines place b) ≡ closing_lines place b
   closing_kept place true h = kept_in ps (Some place) [] h
@@ -216,8 +216,8 @@ module _ (ps : List ℕ) where
       let operators : List (Placed Operator) = f.body.value.operators in
       let lines : List (Option ℕ) = operator_lines f.body.place hs operators in
       let closing : List (Option ℕ) = closing_lines f.body.value.end b in
-      let (own_locals, behind_locals) = all_parts IsKept locals (places operators ++ (f.body.value.end ∷ [])) own.1 in
-      let (own_operators, (own_end, _)) = all_parts IsKept (places operators) (f.body.value.end ∷ []) behind_locals in
+      let (own_locals, after_locals) = all_parts IsKept locals (places operators ++ (f.body.value.end ∷ [])) own.1 in
+      let (own_operators, (own_end, _)) = all_parts IsKept (places operators) (f.body.value.end ∷ []) after_locals in
       kept_in ps (Some f.body.place) (some_all locals ++ (lines ++ closing)) own.0
       ∙ ap (λ (ls : List (Option ℕ)). Some f.body.place ∷ ls)
       (lines_without-append ps (some_all locals) (lines ++ closing)

@@ -8,7 +8,7 @@ use Rattle.wasmprinter_spec.specs.Grammar.{Placed, ◌>>=◌, bind_some, some_is
 use Rattle.wasmprinter_spec.specs.Repeated.{some_or, Entries}
 use Rattle.wasmprinter_spec.specs.Placed.{Body, Custom, CustomEntry, PlacedFunction, PlacedModule}
 use Rattle.wasmprinter_spec.specs.Kinds.{Kind}
-use Rattle.wasmprinter_spec.specs.Sections.{CustomSection, TypeSection, ImportSection, TableSection, MemorySection, TagSection, GlobalSection, ExportSection, StartSection, ElementSection, CodeSection, DataSection, Section, holds, section, are_above, content_of, content_in, place_behind, customs_behind}
+use Rattle.wasmprinter_spec.specs.Sections.{CustomSection, TypeSection, ImportSection, TableSection, MemorySection, TagSection, GlobalSection, ExportSection, StartSection, ElementSection, CodeSection, DataSection, Section, holds, section, are_above, content_of, content_in, place_after, customs_after}
 use Rattle.wasmprinter_spec.specs.Customs.{custom_role_of}
 use Rattle.wasmprinter_spec.specs.Customs.Hints.{hints_given, hints_by, last_named}
 use Rattle.wasmprinter_spec.specs.Binary.{type_indices_in, bodies_in, data_count_in, datas_in, customs_in, counts_data, function_pairs, module_from, module_of_sections}
@@ -97,12 +97,12 @@ module _ (P : ℕ → Type 0) where
   abbrev HaveGiven : List CustomEntry → Type 0
   HaveGiven cs = AllByRecursion (λ c. AllByRecursion P (given_places c.section)) cs
 
-  customs_each : (last : Option Kind) (ss : List Section) → AllByRecursion (λ s. AllByRecursion P (other_places s)) ss → HaveGiven (customs_behind last ss)
+  customs_each : (last : Option Kind) (ss : List Section) → AllByRecursion (λ s. AllByRecursion P (other_places s)) ss → HaveGiven (customs_after last ss)
   customs_each last [] all = tt
   customs_each last (s ∷ ss) all =
       elim (picks CustomSection s) [
-        | inl other ↦ rw other (customs_each (place_behind last s) ss all.1)
-        | inr own ↦ rw (ap (content_of CustomSection) own.1) (subst (λ (x : Section). AllByRecursion P (other_places x)) own.1 all.0, customs_each (place_behind last s) ss all.1)
+        | inl other ↦ rw other (customs_each (place_after last s) ss all.1)
+        | inr own ↦ rw (ap (content_of CustomSection) own.1) (subst (λ (x : Section). AllByRecursion P (other_places x)) own.1 all.0, customs_each (place_after last s) ss all.1)
       ]
 
   -- The places of a custom section have the property.
@@ -177,7 +177,7 @@ module_apart size p text ss m some ends e spelled =
       exports = held_each ExportSection Q [] ss code.others tt;
       start = held_each StartSection Q None ss code.others tt;
       elements = held_each ElementSection Q [] ss code.others tt;
-      datas = held_each DataSection Q [] ss code.others tt;
+      data_segments = held_each DataSection Q [] ss code.others tt;
       customs = customs_have P (customs_in ss) given;
       hints = hints_have P (codes "metadata.code.branch_hint") None (customs_in ss) given tt;
     })
@@ -185,7 +185,7 @@ module_apart size p text ss m some ends e spelled =
 pub apart : BodiesLieApart
 apart bytes m s =
     let (read, made, spelled) = s.spelled in
-    let (front, behind, parts, preamble, entries) = spelled in
+    let (front, after, parts, preamble, entries) = spelled in
     let (marked, known, eight) = preamble in
     let long : length front ≡ 8 = eight.0 in
-    module_apart (0 + length bytes) (0 + length front) behind read.1 m (omega (arith, long)) (omega (arith, ap length parts, length-append front behind)) made entries
+    module_apart (0 + length bytes) (0 + length front) after read.1 m (omega (arith, long)) (omega (arith, ap length parts, length-append front after)) made entries

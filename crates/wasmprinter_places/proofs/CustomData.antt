@@ -18,7 +18,7 @@ use Rattle.wasmprinter_spec.specs.Customs.Hints.{FunctionHints, hint, most_hinte
 use Rattle.wasmprinter_spec.specs.Lines.{places, places_of_hints}
 use Rattle.wasmprinter_spec.specs.Apart.{role_places}
 use Rattle.wasmprinter_places.proofs.Order.{inside, Inside, inside_both, inside_wider}
-use Rattle.wasmprinter_places.proofs.Lies.{Lies, Lies-any, Lies-behind, Lies-less, Lies-mapped, Lies-map_value, Lies-vec}
+use Rattle.wasmprinter_places.proofs.Lies.{Lies, Lies-any, Lies-after, Lies-less, Lies-mapped, Lies-map_value, Lies-vec}
 
 -- The place of any value is within its encoding, because the order `inside` also allows the place of the end.
 pub Lies-here : {A : Type 0} (g : Grammar A) → Lies inside 0 (value_with_place g) (λ x. x.place ∷ [])
@@ -30,7 +30,7 @@ Lies-list g = Lies-less 1 0 (omega arith) (Lies-vec (Lies-here g))
 -- ---- `producers`
 
 Lies-field : Lies inside 0 p.field (λ f. places f.values)
-Lies-field = Lies-map_value (λ f. places f.values) (Lies-behind (Lies-any name) (λ n. Lies-list p.value))
+Lies-field = Lies-map_value (λ f. places f.values) (Lies-after (Lies-any name) (λ n. Lies-list p.value))
 
 Lies-fields : Lies inside 0 (vec p.field) (λ fs. flat_map (λ f. places f.values) fs)
 Lies-fields = Lies-less 1 0 (omega arith) (Lies-vec Lies-field)
@@ -94,7 +94,7 @@ at_most_is n xs ys e = some_is xs ys (tested (nat_le (length xs) n) (Some xs) ys
 Lies-function_hints : Lies inside 0 function_hints (λ e. places e.hints)
 Lies-function_hints =
     Lies-map_value (λ e. places e.hints)
-    (Lies-behind (Lies-any u32) (λ n. Lies-mapped (λ a b e. ap (λ xs. places xs) (at_most_is most_hints a b e)) (Lies-list hint)))
+    (Lies-after (Lies-any u32) (λ n. Lies-mapped (λ a b e. ap (λ xs. places xs) (at_most_is most_hints a b e)) (Lies-list hint)))
 
 hints_inside_of : (p : ℕ) (text : List ℕ) (r : Option (List FunctionHints)) → h.hint_section.parse (input p text) ≡ r → Inside p (places_of_hints (or_none r)) (p + length text)
 hints_inside_of p text None e = omega arith
@@ -125,7 +125,7 @@ module _ (a e : ℕ) (le : a ≤ e) where
 
   dylink_lie : (ss : List Subsection) (o : Option ℕ) (end : Option Input) → Inside a (places ss) e → LiesAs (dylink_role (judgement_by ss o end))
   dylink_lie ss (Some id) end h = le
-  dylink_lie ss None (Some behind) h = h
+  dylink_lie ss None (Some after) h = h
   dylink_lie ss None None h = le
 
 -- The places that are read for the lines of a custom section are within its data.

@@ -5,7 +5,7 @@ use Rattle.std.specs.List.{AllByRecursion, flat_map}
 use Rattle.wasmprinter_spec.specs.Grammar.{Placed}
 use Rattle.wasmprinter_spec.specs.Kinds.{Kind}
 use Rattle.wasmprinter_spec.specs.Placed.{Custom, CustomEntry}
-use Rattle.wasmprinter_spec.specs.Customs.{CustomRole, Silent, Listed, Linked, Refused, Raw, Faulted, custom_role_of}
+use Rattle.wasmprinter_spec.specs.Customs.{CustomRole, Silent, Listed, Linked, Refused, Raw, Malformed, custom_role_of}
 use Rattle.wasmprinter_spec.specs.Customs.Producers.{Value, Field}
 use Rattle.wasmprinter_spec.specs.Customs.Dylink.{MemInfo, ExportInfo, ImportInfo, SubsectionContent, Sizes, Needed, Exports, Imports, Paths, Other, Subsection}
 use Rattle.wasmprinter_spec.specs.Options.{Answers}
@@ -62,7 +62,7 @@ module _ (low high : ℕ) where
   raw_elsewhere : (skeleton : Bool) (c : CustomEntry) → IsOutside low high c.section.place → Elsewhere (raw_pieces skeleton c)
   unfolding raw_pieces
   raw_elsewhere skeleton c h =
-      (h, stay_elsewhere low high (both_stay (place_stays c.behind) (then_stay refl (both_stay (bytes_stay skeleton c.section.value.bytes.value) (alone_stays refl)))))
+      (h, stay_elsewhere low high (both_stay (place_stays c.after) (then_stay refl (both_stay (bytes_stay skeleton c.section.value.bytes.value) (alone_stays refl)))))
 
   faulted_elsewhere : (skeleton : Bool) (c : CustomEntry) → IsOutside low high c.section.value.bytes.place → IsOutside low high c.section.place → Elsewhere (faulted_pieces skeleton c)
   unfolding faulted_pieces
@@ -129,7 +129,7 @@ module _ (low high : ℕ) where
   role_elsewhere skeleton name place bytes answer c (Linked ss) h k l = (h, note_elsewhere (codes "dylink.0") (subsections_pieces ss) (subsections_elsewhere ss l))
   role_elsewhere skeleton name place bytes answer c (Refused id) h k l = tt
   role_elsewhere skeleton name place bytes answer c Raw h k l = raw_elsewhere skeleton c h
-  role_elsewhere skeleton name place bytes answer c Faulted h k l = faulted_elsewhere skeleton c k h
+  role_elsewhere skeleton name place bytes answer c Malformed h k l = faulted_elsewhere skeleton c k h
 
   custom_elsewhere : (skeleton answer : Bool) (c : CustomEntry) → AllByRecursion (IsOutside low high) (custom_places c) → AreElsewhere low high (part_starts (custom_part skeleton answer c))
   custom_elsewhere skeleton true c h = tt
@@ -147,5 +147,5 @@ module _ (low high : ℕ) where
   customs_elsewhere skeleton answers place n [] h = tt
   customs_elsewhere skeleton answers place n (c ∷ cs) h =
       let own = all_parts (IsOutside low high) (custom_places c) (flat_map custom_places cs) h in
-      if_elsewhere (same_place c.behind place) (custom_part skeleton (answers n) c) (parts_at skeleton answers place (n + 1) cs)
+      if_elsewhere (same_place c.after place) (custom_part skeleton (answers n) c) (parts_at skeleton answers place (n + 1) cs)
       (custom_elsewhere skeleton (answers n) c own.0) (customs_elsewhere skeleton answers place (n + 1) cs own.1)

@@ -8,9 +8,9 @@ use Rattle.wasmprinter_spec.specs.ModuleNames.{module_names}
 use Rattle.wasmprinter_spec.specs.Placed.{PlacedModule}
 use Rattle.wasmprinter_spec.specs.Call.{Call, Text, Newline, Line, Start, Claim}
 use Rattle.wasmprinter_spec.specs.Options.{Options, Answers}
-use Rattle.wasmprinter_spec.specs.Piece.{Piece, Begin, Feed, Break, Open, place_calls, calls, all_calls}
+use Rattle.wasmprinter_spec.specs.Piece.{Piece, Begin, EndLine, Break, Open, place_calls, calls, all_calls}
 use Rattle.wasmprinter_spec.specs.Layout.Groups.{group_at}
-use Rattle.wasmprinter_spec.specs.Layout.Identifiers.{leading_mark_pieces}
+use Rattle.wasmprinter_spec.specs.Layout.Identifiers.{leading_id_and_name_pieces}
 use Rattle.wasmprinter_spec.specs.Layout.Declarations.{Scope}
 use Rattle.wasmprinter_spec.specs.Layout.Imports.{no_numbers}
 use Rattle.wasmprinter_spec.specs.Layout.Tables.{table_pieces}
@@ -21,9 +21,9 @@ use Rattle.wasmprinter_spec.specs.Layout.Exports.{export_pieces}
 use Rattle.wasmprinter_spec.specs.Layout.Elements.{element_pieces}
 use Rattle.wasmprinter_spec.specs.Layout.DataSegments.{data_pieces}
 use Rattle.wasmprinter_spec.specs.Layout.Customs.{parts_at, laid_parts, Laid}
-use Rattle.wasmprinter_spec.specs.Layout.{early_scope, scope_behind, section_pieces, section_order, section_parts, module_parts, module_pieces_of, module_pieces_with, module_pieces, layout}
-use Rattle.wasmprinter_spec.proofs.OneLine.{leading_mark_stays}
-use Rattle.wasmprinter_places.specs.Feeds.{LinesBeginBehindFeeds}
+use Rattle.wasmprinter_spec.specs.Layout.{early_scope, scope_after, section_pieces, section_order, section_parts, module_parts, module_pieces_of, module_pieces_with, module_pieces, layout}
+use Rattle.wasmprinter_spec.proofs.OneLine.{leading_id_and_name_stays}
+use Rattle.wasmprinter_places.specs.Feeds.{LinesBeginAfterFeeds}
 use Rattle.wasmprinter_places.proofs.Starts.{begun, place_begins_none, piece_begins}
 use Rattle.wasmprinter_places.proofs.NoBegin.{IsNoBegin, HasNoBegin, nothing_none, both_none, then_none, alone_none, line_none, group_at_none, numbered_none}
 use Rattle.wasmprinter_places.proofs.NoBeginCode.{functions_none}
@@ -48,22 +48,22 @@ unlined_fed (Newline ∷ cs) e fed = unlined_fed cs e true
 unlined_fed (c ∷ cs) e fed = unlined_fed cs e false
 
 -- If calls satisfy `Fed`, and other calls satisfy it after any call, both joined satisfy it.
-both_fed : (fed : Bool) (k l : List Call) → Fed fed k → ((behind : Bool) → Fed behind l) → Fed fed (k ++ l)
+both_fed : (fed : Bool) (k l : List Call) → Fed fed k → ((after : Bool) → Fed after l) → Fed fed (k ++ l)
 both_fed fed [] l h others = others fed
 both_fed fed (Newline ∷ k) l h others = both_fed true k l h others
 both_fed fed (Line place ∷ k) l h others = (h.0, both_fed false k l h.1 others)
 both_fed fed (c ∷ k) l h others = both_fed false k l h others
 
 -- In calls that satisfy `Fed`, the call before a line is a line feed.
-pub behind_feed : (fed : Bool) (before after : List Call) (c : Call) (place : Option ℕ) → Fed fed (before ++ (c ∷ (Line place ∷ after))) → c ≡ Newline
-behind_feed fed [] after Newline place h = refl
-behind_feed fed [] after (Text s) place h = absurd (true≢false (sym h.0))
-behind_feed fed [] after (Line p) place h = absurd (true≢false (sym h.1.0))
-behind_feed fed [] after (Start style) place h = absurd (true≢false (sym h.0))
-behind_feed fed [] after (Claim name p bytes answer) place h = absurd (true≢false (sym h.0))
-behind_feed fed (Newline ∷ before) after c place h = behind_feed true before after c place h
-behind_feed fed (Line p ∷ before) after c place h = behind_feed false before after c place h.1
-behind_feed fed (d ∷ before) after c place h = behind_feed false before after c place h
+pub after_feed : (fed : Bool) (before after : List Call) (c : Call) (place : Option ℕ) → Fed fed (before ++ (c ∷ (Line place ∷ after))) → c ≡ Newline
+after_feed fed [] after Newline place h = refl
+after_feed fed [] after (Text s) place h = absurd (true≢false (sym h.0))
+after_feed fed [] after (Line p) place h = absurd (true≢false (sym h.1.0))
+after_feed fed [] after (Start style) place h = absurd (true≢false (sym h.0))
+after_feed fed [] after (Claim name p bytes answer) place h = absurd (true≢false (sym h.0))
+after_feed fed (Newline ∷ before) after c place h = after_feed true before after c place h
+after_feed fed (Line p ∷ before) after c place h = after_feed false before after c place h.1
+after_feed fed (d ∷ before) after c place h = after_feed false before after c place h
 
 -- ---- pieces
 
@@ -71,7 +71,7 @@ behind_feed fed (d ∷ before) after c place h = behind_feed false before after 
 piece_fed : (o : Options) (p : Piece) → IsNoBegin p → (fed : Bool) → Fed fed (calls o p)
 piece_fed o (Begin place) h fed = absurd h
 piece_fed o (Break place nesting) h fed =
-    (refl, both_fed false (place_calls o.offsets place) _ (unlined_fed (place_calls o.offsets place) (place_begins_none o.offsets place) false) (λ behind. tt))
+    (refl, both_fed false (place_calls o.offsets place) _ (unlined_fed (place_calls o.offsets place) (place_begins_none o.offsets place) false) (λ after. tt))
 piece_fed o p h fed = unlined_fed (calls o p) (piece_begins o p) fed
 
 pieces_fed : (o : Options) (ps : List Piece) → HasNoBegin ps → (fed : Bool) → Fed fed (all_calls o ps)
@@ -95,7 +95,7 @@ module _ (o : Options) (answers : Answers) (m : PlacedModule) where
   section_none s DataCountSection = nothing_none
   section_none s CodeSection = functions_none o s (hints_of m.customs) _ m.functions
   section_none s DataSection =
-      let behind : Scope = scope_behind m s in numbered_none (data_pieces o.skeleton behind) (data_none behind o.skeleton) 0 m.datas
+      let after : Scope = scope_after m s in numbered_none (data_pieces o.skeleton after) (data_none after o.skeleton) 0 m.data_segments
   section_none s CustomSection = nothing_none
 
   sections_none : (s : Scope) (kinds : List Kind) → HaveNoBegin (flat_map (section_parts o s m answers) kinds)
@@ -113,11 +113,11 @@ module _ (o : Options) (answers : Answers) (m : PlacedModule) where
 
   -- After the first piece of a module, no piece begins the first line, whether the module is complete or refused.
   whole_none : (names : Names) {ps : List Piece} → HasNoBegin ps →
-      HasNoBegin (group_at o.offsets m.size 0 (codes "module") (leading_mark_pieces names.module_name ++ ps) ++ (Feed ∷ []))
-  whole_none names h = both_none (group_at_none o.offsets m.size 0 (codes "module") (both_none (line_none (leading_mark_stays names.module_name)) h)) (alone_none tt)
+      HasNoBegin (group_at o.offsets m.size 0 (codes "module") (leading_id_and_name_pieces names.module_name ++ ps) ++ (EndLine ∷ []))
+  whole_none names h = both_none (group_at_none o.offsets m.size 0 (codes "module") (both_none (line_none (leading_id_and_name_stays names.module_name)) h)) (alone_none tt)
 
-  refused_none : (names : Names) {ps : List Piece} → HasNoBegin ps → HasNoBegin (Open (codes "module") ∷ (leading_mark_pieces names.module_name ++ ps))
-  refused_none names h = then_none tt (both_none (line_none (leading_mark_stays names.module_name)) h)
+  refused_none : (names : Names) {ps : List Piece} → HasNoBegin ps → HasNoBegin (Open (codes "module") ∷ (leading_id_and_name_pieces names.module_name ++ ps))
+  refused_none names h = then_none tt (both_none (line_none (leading_id_and_name_stays names.module_name)) h)
 
   -- Only the first call of a module begins a line that does not follow a line feed.
   module_fed : (names : Names) (ps : List Piece) (r : Option ℕ) → HasNoBegin ps → Fed true (all_calls o (module_pieces_of o names m.size ps r))
@@ -127,9 +127,9 @@ module _ (o : Options) (answers : Answers) (m : PlacedModule) where
   pub layout_fed : Fed true (layout o answers m)
   unfolding layout module_pieces module_pieces_with
   layout_fed =
-      let names : Names = module_names o.invents m in
+      let names : Names = module_names o.synthesizes m in
       let laid : Laid = laid_parts (module_parts o answers names m) in
       module_fed names laid.pieces laid.refused (laid_none (module_parts o answers names m) (module_none names))
 
-pub lines_behind_feeds : LinesBeginBehindFeeds
-lines_behind_feeds o answers m before after c place e = behind_feed true before after c place (subst (Fed true) e (layout_fed o answers m))
+pub lines_after_feeds : LinesBeginAfterFeeds
+lines_after_feeds o answers m before after c place e = after_feed true before after c place (subst (Fed true) e (layout_fed o answers m))

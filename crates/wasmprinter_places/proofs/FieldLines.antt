@@ -21,7 +21,7 @@ use Rattle.wasmprinter_spec.specs.Layout.Limits.{wide_pieces, limits_pieces}
 use Rattle.wasmprinter_spec.specs.Layout.Tables.{table_type_pieces, init_pieces, table_pieces}
 use Rattle.wasmprinter_spec.specs.Layout.Memories.{shared_pieces, page_pieces, memory_type_pieces, memory_pieces}
 use Rattle.wasmprinter_spec.specs.Layout.Globals.{mutable_pieces, global_type_pieces, global_pieces}
-use Rattle.wasmprinter_spec.specs.Layout.Imports.{Numbers, number_of, numbers_behind, extern_pieces, import_pieces, imports_pieces}
+use Rattle.wasmprinter_spec.specs.Layout.Imports.{Numbers, number_of, numbers_after, extern_pieces, import_pieces, imports_pieces}
 use Rattle.wasmprinter_spec.specs.Layout.Exports.{kind_word, extern_index_pieces, export_pieces}
 use Rattle.wasmprinter_spec.specs.Layout.Elements.{named_table, mode_pieces, function_items, expression_items, items_pieces, shown_items, element_pieces}
 use Rattle.wasmprinter_spec.specs.Layout.DataSegments.{named_memory, data_mode_pieces, shown_bytes, data_pieces}
@@ -227,8 +227,8 @@ pub imports_begin : (s : Scope) (n : Numbers) (is : List (Placed Import)) → fl
 unfolding imports_pieces
 imports_begin s n [] = refl
 imports_begin s n (i ∷ is) =
-    flat_map-append starts (import_pieces s (number_of i.value.type n) i) (imports_pieces s (numbers_behind i.value.type n) is)
-    ∙ ap₂ (λ (ls ms : List (Option ℕ)). ls ++ ms) (import_begins s (number_of i.value.type n) i) (imports_begin s (numbers_behind i.value.type n) is)
+    flat_map-append starts (import_pieces s (number_of i.value.type n) i) (imports_pieces s (numbers_after i.value.type n) is)
+    ∙ ap₂ (λ (ls ms : List (Option ℕ)). ls ++ ms) (import_begins s (number_of i.value.type n) i) (imports_begin s (numbers_after i.value.type n) is)
 
 pub extern_index_stays : (s : Scope) (k : ExternKind) (n : ℕ) → IsOneLine (extern_index_pieces s k n)
 unfolding extern_index_pieces

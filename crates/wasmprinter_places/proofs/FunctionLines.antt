@@ -49,10 +49,10 @@ module _ (low high : ℕ) (ps : List ℕ) (ls : List (Option ℕ)) (rise : Rises
         its_line f.body.place s.at r.0 (omega (arith, rises_ends (f.body.place + 1) high _ r.1))
         (subst (λ (k : ℕ). slice_get (lines_without ps ls) k ≡ Some (Some f.body.place)) same (s.stands 0 (Some f.body.place) refl))
 
-    behind_header : (n x : ℕ) →
+    after_header : (n x : ℕ) →
         slice_get (some_all (locals_places f.body.value.locals) ++ (placed_lines f.body.value.operators ++ closing_lines f.body.value.end s.closes)) n ≡ Some (Some x) →
         slice_get (lines_without ps ls) (s.at + 1 + n) ≡ Some (Some x)
-    behind_header n x e =
+    after_header n x e =
         let same : s.at + suc n ≡ s.at + 1 + n = omega arith in
         subst (λ (k : ℕ). slice_get (lines_without ps ls) k ≡ Some (Some x)) same (s.stands (suc n) (Some x) e)
 
@@ -67,7 +67,7 @@ module _ (low high : ℕ) (ps : List ℕ) (ls : List (Option ℕ)) (rise : Rises
         let bounds : Rises low (place ∷ []) high = subst (λ (x : Option ℕ). Rises low (place_if_any x) high) e inner in
         let same : s.at + 1 + 0 ≡ s.at + 1 = omega arith in
         its_line place (s.at + 1) bounds.0 (omega (arith, bounds.1))
-        (subst (λ (k : ℕ). slice_get (lines_without ps ls) k ≡ Some (Some place)) same (behind_header 0 place (locals_first (locals_place f.body.value.locals) place others e)))
+        (subst (λ (k : ℕ). slice_get (lines_without ps ls) k ≡ Some (Some place)) same (after_header 0 place (locals_first (locals_place f.body.value.locals) place others e)))
 
     operator_line : (j : ℕ) (o : Placed Operator) → slice_get f.body.value.operators j ≡ Some o → IsItsLine ps ls o.place (s.at + 1 + lines_for (locals_place f.body.value.locals) + j)
     operator_line j o e =
@@ -78,7 +78,7 @@ module _ (low high : ℕ) (ps : List ℕ) (ls : List (Option ℕ)) (rise : Rises
         rises_left low high (places operators) (f.body.value.end ∷ []) (rises_right low high (locals_places f.body.value.locals) (places operators ++ (f.body.value.end ∷ [])) inner_rise) in
         let bounds : Rises low (o.place ∷ []) high = rises_each (λ x. x.place ∷ []) operators low high j o rising e in
         let own : slice_get (placed_lines operators) j ≡ Some (Some o.place) = slice_get-map (λ x. Some x.place) operators j ∙ ap (option_map (λ x. Some x.place)) e in
-        let there = behind_header (length locals + j) o.place (get_right locals (placed_lines operators ++ closing) j (Some o.place) (get_left (placed_lines operators) closing j (Some o.place) own)) in
+        let there = after_header (length locals + j) o.place (get_right locals (placed_lines operators ++ closing) j (Some o.place) (get_left (placed_lines operators) closing j (Some o.place) own)) in
         let counted : length locals ≡ lines_for (locals_place f.body.value.locals) = lines_counted (locals_place f.body.value.locals) in
         let same : s.at + 1 + (length locals + j) ≡ s.at + 1 + lines_for (locals_place f.body.value.locals) + j = omega (arith, counted) in
         its_line o.place (s.at + 1 + lines_for (locals_place f.body.value.locals) + j) bounds.0 (omega (arith, bounds.1))

@@ -3,7 +3,7 @@ use Rattle.std.proofs.Common.{ℕ, ◌==◌, List, [], ◌∷◌, Bool, true, fa
 use Rattle.std.specs.Prelude.{if◌then◌else◌}
 use Rattle.std.specs.List.{AllByRecursion}
 use Rattle.wasmprinter_spec.specs.Grammar.{Placed}
-use Rattle.wasmprinter_spec.specs.Customs.Hints.{Hint, FunctionHints, next_hints, hints_behind, next_hint, hint_behind}
+use Rattle.wasmprinter_spec.specs.Customs.Hints.{Hint, FunctionHints, next_hints, hints_after, next_hint, hint_after}
 use Rattle.wasmprinter_spec.specs.Lines.{places, places_of_hints}
 use Rattle.wasmprinter_spec.proofs.Each.{all_parts}
 use Rattle.wasmprinter_places.proofs.OperatorLines.{hint_lines}
@@ -20,17 +20,17 @@ module _ (Q : Option ℕ → Type 0) where
   if_next true h q = (q, tt)
   if_next false h q = tt
 
-  if_behind : (b : Bool) (h : Placed Hint) (hs : List (Placed Hint)) → OfHints (h ∷ hs) → OfHints (if b then hs else h ∷ hs)
-  if_behind true h hs all = all.1
-  if_behind false h hs all = all
+  if_after : (b : Bool) (h : Placed Hint) (hs : List (Placed Hint)) → OfHints (h ∷ hs) → OfHints (if b then hs else h ∷ hs)
+  if_after true h hs all = all.1
+  if_after false h hs all = all
 
   pub of_next_hint : (offset : ℕ) (hs : List (Placed Hint)) → OfHints hs → AllByRecursion Q (hint_lines (next_hint offset hs))
   of_next_hint offset [] all = tt
   of_next_hint offset (h ∷ hs) all = if_next (h.value.offset == offset) h all.0
 
-  pub of_hint_behind : (offset : ℕ) (hs : List (Placed Hint)) → OfHints hs → OfHints (hint_behind offset hs)
-  of_hint_behind offset [] all = tt
-  of_hint_behind offset (h ∷ hs) all = if_behind (h.value.offset == offset) h hs all
+  pub of_hint_after : (offset : ℕ) (hs : List (Placed Hint)) → OfHints hs → OfHints (hint_after offset hs)
+  of_hint_after offset [] all = tt
+  of_hint_after offset (h ∷ hs) all = if_after (h.value.offset == offset) h hs all
 
   if_hints : (b : Bool) (hs : List (Placed Hint)) → OfHints hs → OfHints (if b then hs else [])
   if_hints true hs all = all
@@ -44,6 +44,6 @@ module _ (Q : Option ℕ → Type 0) where
   of_next_hints i [] all = tt
   of_next_hints i (e ∷ es) all = if_hints (e.function == i) e.hints (all_parts (λ p. Q (Some p)) (places e.hints) (places_of_hints es) all).0
 
-  pub of_hints_behind : (i : ℕ) (es : List FunctionHints) → OfEntries es → OfEntries (hints_behind i es)
-  of_hints_behind i [] all = tt
-  of_hints_behind i (e ∷ es) all = if_entries (e.function == i) e es all (all_parts (λ p. Q (Some p)) (places e.hints) (places_of_hints es) all).1
+  pub of_hints_after : (i : ℕ) (es : List FunctionHints) → OfEntries es → OfEntries (hints_after i es)
+  of_hints_after i [] all = tt
+  of_hints_after i (e ∷ es) all = if_entries (e.function == i) e es all (all_parts (λ p. Q (Some p)) (places e.hints) (places_of_hints es) all).1

@@ -43,9 +43,9 @@ Lies-seq {o} {n} {m} {f} {k} first second = record {
 }
 
 -- If the first of two values has no places, the places of the second are after the first bytes of both.
-pub Lies-behind : {o : Order} {A B : Type 0} {n m : ℕ} {g : Grammar A} {h : A → Grammar B} {k : A → B → List ℕ} →
+pub Lies-after : {o : Order} {A B : Type 0} {n m : ℕ} {g : Grammar A} {h : A → Grammar B} {k : A → B → List ℕ} →
     Lies o n g (λ a. []) → ((a : A) → Lies o m (h a) (k a)) → Lies o (n + m) (seq g h) (λ x. k x.0 x.1)
-Lies-behind {o} {n} {m} {k} first second = record {
+Lies-after {o} {n} {m} {k} first second = record {
   lie = λ p text x (t, u, joined, first_spelled, second_spelled).
       let long : p + n ≤ p + length t = o.ends (p + n) (p + length t) [] (first.lie p t x.0 first_spelled) in
       wider o (p + (n + m)) (p + length t + m) (p + length t + length u) (p + length text) (k x.0 x.1)
@@ -109,7 +109,7 @@ Lies-times {o} {shown} all n = record {
 
 -- If each item satisfies `Lies`, so does a vector: a count, followed by the items.
 pub Lies-vec : {o : Order} {A : Type 0} {g : Grammar A} {shown : A → List ℕ} → Lies o 0 g shown → Lies o 1 (vec g) (λ xs. flat_map shown xs)
-Lies-vec {shown} all = Lies-map_value (λ xs. flat_map shown xs) (Lies-less (1 + 0) 1 (omega arith) (Lies-behind Lies-u32 (λ n. Lies-times all n)))
+Lies-vec {shown} all = Lies-map_value (λ xs. flat_map shown xs) (Lies-less (1 + 0) 1 (omega arith) (Lies-after Lies-u32 (λ n. Lies-times all n)))
 
 -- The places of operators and of the `end` after them satisfy `Lies`. The place of the `end` is after those of the
 -- operators.

@@ -5,15 +5,15 @@ use Rattle.std.specs.List.{AllByRecursion, flat_map}
 use Rattle.std.proofs.lemmas.List.Concat.{flat_map-append}
 use Rattle.wasmprinter_spec.specs.Grammar.{Placed, some_is}
 use Rattle.wasmprinter_spec.specs.Kinds.{Kind, CustomSection, TypeSection, ImportSection, FunctionSection, TableSection, MemorySection, TagSection, GlobalSection, ExportSection, StartSection, ElementSection, DataCountSection, CodeSection, DataSection}
-use Rattle.wasmprinter_spec.specs.Customs.Hints.{FunctionHints, hints_of, next_hints, hints_behind}
+use Rattle.wasmprinter_spec.specs.Customs.Hints.{FunctionHints, hints_of, next_hints, hints_after}
 use Rattle.wasmprinter_spec.specs.Names.{Names}
 use Rattle.wasmprinter_spec.specs.ModuleNames.{module_names}
 use Rattle.wasmprinter_spec.specs.Placed.{PlacedFunction, PlacedModule}
 use Rattle.wasmprinter_spec.specs.Module.{imported_types, func_import, without_places}
 use Rattle.wasmprinter_spec.specs.Options.{Options, Answers}
-use Rattle.wasmprinter_spec.specs.Piece.{Piece, Feed}
+use Rattle.wasmprinter_spec.specs.Piece.{Piece, EndLine}
 use Rattle.wasmprinter_spec.specs.Layout.Groups.{has_break, close, group_at, numbered_pieces}
-use Rattle.wasmprinter_spec.specs.Layout.Identifiers.{leading_mark_pieces}
+use Rattle.wasmprinter_spec.specs.Layout.Identifiers.{leading_id_and_name_pieces}
 use Rattle.wasmprinter_spec.specs.Layout.Declarations.{Scope, Folding}
 use Rattle.wasmprinter_spec.specs.Layout.Functions.{function_pieces, functions_pieces}
 use Rattle.wasmprinter_spec.specs.Layout.Imports.{no_numbers}
@@ -25,15 +25,15 @@ use Rattle.wasmprinter_spec.specs.Layout.Exports.{export_pieces}
 use Rattle.wasmprinter_spec.specs.Layout.Elements.{element_pieces}
 use Rattle.wasmprinter_spec.specs.Layout.DataSegments.{data_pieces}
 use Rattle.wasmprinter_spec.specs.Layout.Customs.{Part, Shown, Stops, parts_at, Laid, laid_parts}
-use Rattle.wasmprinter_spec.specs.Layout.{early_scope, scope_behind, section_pieces, section_order, section_parts, module_parts, module_pieces_of, module_pieces_with, module_pieces, refusal}
+use Rattle.wasmprinter_spec.specs.Layout.{early_scope, scope_after, section_pieces, section_order, section_parts, module_parts, module_pieces_of, module_pieces_with, module_pieces, refusal}
 use Rattle.wasmprinter_spec.specs.Lines.{places, hint_places, lines_without}
 use Rattle.wasmprinter_spec.specs.Apart.{Rises, IsOutside, body_places, IsApart}
 use Rattle.wasmprinter_places.proofs.Indexes.{StandsAt, stands_left, stands_right, IsElsewhere, AreElsewhere, RisesAmong, Follows, follows_none, follows_elsewhere, follows_then, follows_both}
 use Rattle.wasmprinter_places.proofs.Kept.{lines_without-append, each_among}
-use Rattle.wasmprinter_spec.proofs.OneLine.{starts, leading_mark_stays}
+use Rattle.wasmprinter_spec.proofs.OneLine.{starts, leading_id_and_name_stays}
 use Rattle.wasmprinter_places.proofs.FieldLines.{numbered_begin, placed_lines, placed_elsewhere, types_elsewhere, table_begins, memory_begins, tag_begins, global_begins, imports_begin, export_begins, start_elsewhere, element_begins, data_begins}
 use Rattle.wasmprinter_places.proofs.CustomLines.{part_starts, part_lines, customs_elsewhere}
-use Rattle.wasmprinter_places.proofs.HintLines.{OfEntries, of_next_hints, of_hints_behind}
+use Rattle.wasmprinter_places.proofs.HintLines.{OfEntries, of_next_hints, of_hints_after}
 use Rattle.wasmprinter_places.proofs.BodyLines.{own_lines, kept_lines, closing_lines, close_begins, function_begins, own_follow, IsHint, IsKept, own_kept}
 
 -- ---- the lines of all functions
@@ -46,14 +46,14 @@ functions_follow low high o s flat whole es all i [] = follows_none low high
 functions_follow low high o s flat whole es all i (f ∷ fs) =
     let own = function_begins o s flat i (next_hints i es) f whole in
     let lines : List (Option ℕ) = own_lines own.closes (next_hints i es) f in
-    let rest : List (Option ℕ) = flat_map starts (functions_pieces o s (hints_behind i es) (i + 1) fs) in
+    let rest : List (Option ℕ) = flat_map starts (functions_pieces o s (hints_after i es) (i + 1) fs) in
     let joined : flat_map starts (functions_pieces o s es i (f ∷ fs)) ≡ lines ++ rest =
-    flat_map-append starts (function_pieces o s i (next_hints i es) f) (functions_pieces o s (hints_behind i es) (i + 1) fs)
+    flat_map-append starts (function_pieces o s i (next_hints i es) f) (functions_pieces o s (hints_after i es) (i + 1) fs)
     ∙ ap (λ (ls : List (Option ℕ)). ls ++ rest) own.are in
     subst (Follows low high (body_places f.body ++ flat_map (λ g. body_places g.body) fs)) (sym joined)
     (follows_both low high (body_places f.body) (flat_map (λ g. body_places g.body) fs) lines rest
     (own_follow low high own.closes (next_hints i es) f (of_next_hints (IsElsewhere low high) i es all))
-    (functions_follow low high o s flat whole (hints_behind i es) (of_hints_behind (IsElsewhere low high) i es all) (i + 1) fs))
+    (functions_follow low high o s flat whole (hints_after i es) (of_hints_after (IsElsewhere low high) i es all) (i + 1) fs))
 
 -- ---- where the lines of a function occur, without those of hints
 
@@ -91,7 +91,7 @@ module _ (ps : List ℕ) (f : PlacedFunction) where
       let hs = next_hints n es in
       let same : g ≡ f = some_is g f e in
       let own = function_begins o s flat n hs g whole in
-      let rest : List Piece = functions_pieces o s (hints_behind n es) (n + 1) fs in
+      let rest : List Piece = functions_pieces o s (hints_after n es) (n + 1) fs in
       let its : lines_without ps (own_lines own.closes hs g) ≡ kept_lines own.closes g =
       own_kept ps own.closes hs g (of_next_hints (IsHint ps) n es all)
       (subst (λ (h : PlacedFunction). AllByRecursion (IsKept ps) (body_places h.body)) (sym same) body) in
@@ -106,10 +106,10 @@ module _ (ps : List ℕ) (f : PlacedFunction) where
       (left_stands (flat_map starts (function_pieces o s n hs g)) (flat_map starts rest) (subst (Stands f) (sym lines) here))
   function_stands o s flat whole body es all n (suc i) (g ∷ fs) e =
       let own : List Piece = function_pieces o s n (next_hints n es) g in
-      let rest : List Piece = functions_pieces o s (hints_behind n es) (n + 1) fs in
+      let rest : List Piece = functions_pieces o s (hints_after n es) (n + 1) fs in
       subst StandsKept (sym (flat_map-append starts own rest))
       (right_stands (flat_map starts own) (flat_map starts rest)
-      (function_stands o s flat whole body (hints_behind n es) (of_hints_behind (IsHint ps) n es all) (n + 1) i fs e))
+      (function_stands o s flat whole body (hints_after n es) (of_hints_after (IsHint ps) n es all) (n + 1) i fs e))
 
 -- ---- joined parts
 
@@ -143,7 +143,7 @@ module_lines b size parts = Some 0 ∷ ((part_lines parts ++ closing_lines size 
 
 module _ (o : Options) (answers : Answers) (m : PlacedModule) where
   abbrev pub own_names : Names
-  own_names = module_names o.invents m
+  own_names = module_names o.synthesizes m
 
   abbrev pub own_parts : List Part
   own_parts = module_parts o answers own_names m
@@ -152,15 +152,15 @@ module _ (o : Options) (answers : Answers) (m : PlacedModule) where
       (b : Bool) × (flat_map starts (module_pieces_of o own_names m.size ps None) ≡ Some 0 ∷ ((ls ++ closing_lines m.size b) ++ []))
   unfolding group_at
   whole_begins ps ls e =
-      let name : List Piece = leading_mark_pieces own_names.module_name in
+      let name : List Piece = leading_id_and_name_pieces own_names.module_name in
       let inner : List Piece = name ++ ps in
       let closes : Bool = o.offsets || has_break inner in
       let last : List Piece = close (Some m.size) 0 closes in
       let are : flat_map starts inner ≡ ls =
-      flat_map-append starts name ps ∙ ap₂ (λ (xs ys : List (Option ℕ)). xs ++ ys) (leading_mark_stays own_names.module_name).begins e in (
+      flat_map-append starts name ps ∙ ap₂ (λ (xs ys : List (Option ℕ)). xs ++ ys) (leading_id_and_name_stays own_names.module_name).begins e in (
         closes,
         ap (λ (xs : List (Option ℕ)). Some 0 ∷ xs)
-            (flat_map-append starts (inner ++ last) (Feed ∷ [])
+            (flat_map-append starts (inner ++ last) (EndLine ∷ [])
             ∙ ap (λ (xs : List (Option ℕ)). xs ++ [])
             (flat_map-append starts inner last ∙ ap₂ (λ (xs ys : List (Option ℕ)). xs ++ ys) are (close_begins m.size 0 closes))),
       )
@@ -245,8 +245,8 @@ module _ (o : Options) (answers : Answers) (m : PlacedModule) where
     fields_follow whole CodeSection =
         functions_follow a.low a.high o own_scope flat whole (hints_of m.customs) a.hints functions_before m.functions
     fields_follow whole DataSection =
-        let s : Scope = scope_behind m own_scope in
-        items_out (data_pieces o.skeleton s) (data_begins o.skeleton s flat) 0 m.datas a.datas
+        let s : Scope = scope_after m own_scope in
+        items_out (data_pieces o.skeleton s) (data_begins o.skeleton s flat) 0 m.data_segments a.data_segments
     fields_follow whole CustomSection = follows_none a.low a.high
 
     sections_follow : o.skeleton ≡ false → (kinds : List Kind) → Follow (flat_map inner_places kinds) (part_lines (sections_of kinds))

@@ -11,7 +11,7 @@ use Rattle.wasmprinter_spec.specs.Labels as labels
 use Rattle.wasmprinter_spec.specs.Labels.{labels_after, count_after, labels_outside, labels_inside}
 use Rattle.wasmprinter_spec.specs.Names.{Names}
 use Rattle.wasmprinter_spec.specs.Indexed.{parameter_count}
-use Rattle.wasmprinter_spec.specs.Customs.Hints.{Hint, FunctionHints, next_hint, hint_behind, next_hints, hints_behind}
+use Rattle.wasmprinter_spec.specs.Customs.Hints.{Hint, FunctionHints, next_hint, hint_after, next_hints, hints_after}
 use Rattle.wasmprinter_spec.specs.Placed.{LocalEntry, PlacedFunction}
 use Rattle.wasmprinter_spec.specs.Module.{locals_of}
 use Rattle.wasmprinter_spec.specs.Options.{Options, defaults}
@@ -56,7 +56,7 @@ module _ (s : Setting) where
       let own : labels.Label = s.names.labels s.function n (length xs) in
       let offset : ℕ = o.place - s.body in
       both_none (hint_none (s.nesting + length xs) (next_hint offset hs))
-      (both_none (operator_none first own xs o) (operators_none (hint_behind offset hs) false (count_after role n) (labels_after role own xs) os))
+      (both_none (operator_none first own xs o) (operators_none (hint_after offset hs) false (count_after role n) (labels_after role own xs) os))
 
 -- ---- folded operators
 
@@ -64,12 +64,12 @@ comment_none : (held_none : Bool) (s : List ℕ) (place nesting : ℕ) → HasNo
 comment_none true s place nesting = cond_none (has_line_comment s) (alone_none tt) nothing_none
 comment_none false s place nesting = nothing_none
 
-module _ (o : Options) (paints : Bool) (form : Form) where
+module _ (o : Options) (color : Bool) (form : Form) where
   node_hint_none : (first : Bool) (place nesting : ℕ) (h : Option (Placed Hint)) → HasNoBegin (node_hint o form first place nesting h)
   node_hint_none first place nesting None = nothing_none
   node_hint_none first place nesting (Some h) = both_none (before_none form first place nesting) (alone_none tt)
 
-  node_none : (first : Bool) (nesting : ℕ) (nodes : Nodes) → HasNoBegin (node_pieces o paints form first nesting nodes)
+  node_none : (first : Bool) (nesting : ℕ) (nodes : Nodes) → HasNoBegin (node_pieces o color form first nesting nodes)
   unfolding node_pieces
   node_none first nesting Nil = nothing_none
   node_none first nesting (Snoc before head results held) =
@@ -79,14 +79,14 @@ module _ (o : Options) (paints : Bool) (form : Form) where
       (before_none form (leads && is_none (head_hint head)) place nesting))
       (then_none tt (both_none (both_none (comment_none (is_nil held) (head_text o head) place nesting) (node_none false (nesting + 1) held)) (alone_none tt)))
 
-if_folded_none : (o : Options) (paints : Bool) (s : Setting) (code : Option NestedCode) →
-    HasNoBegin (if_folded (option_map (λ c. node_pieces o paints s.form true s.nesting (tree c)) code))
-if_folded_none o paints s None = nothing_none
-if_folded_none o paints s (Some code) = node_none o paints s.form true s.nesting (tree code)
+if_folded_none : (o : Options) (color : Bool) (s : Setting) (code : Option NestedCode) →
+    HasNoBegin (if_folded (option_map (λ c. node_pieces o color s.form true s.nesting (tree c)) code))
+if_folded_none o color s None = nothing_none
+if_folded_none o color s (Some code) = node_none o color s.form true s.nesting (tree code)
 
 pub folded_none : (f : Folding) (own : Option ℕ) (s : Setting) (hs : List (Placed Hint)) (os : List (Placed Operator)) → HasNoBegin (folded_list f own s hs os)
 unfolding folded_pieces
-folded_none f own s hs os = if_folded_none defaults f.paints s (nested_code_of (items s (f.signatures own) hs 0 [] [] os))
+folded_none f own s hs os = if_folded_none defaults f.color s (nested_code_of (items s (f.signatures own) hs 0 [] [] os))
 
 -- ---- functions
 
@@ -121,4 +121,4 @@ unfolding functions_pieces function_pieces
 functions_none o s es i [] = nothing_none
 functions_none o s es i (f ∷ fs) =
     both_none (field_none (Some f.body.place) 1 (function_group_none o.skeleton o.offsets (scope_of_function s i) (next_hints i es) f))
-    (functions_none o s (hints_behind i es) (i + 1) fs)
+    (functions_none o s (hints_after i es) (i + 1) fs)

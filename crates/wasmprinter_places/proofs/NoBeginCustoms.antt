@@ -5,7 +5,7 @@ use Rattle.std.specs.List.{AllByRecursion}
 use Rattle.wasmprinter_spec.specs.Grammar.{Placed}
 use Rattle.wasmprinter_spec.specs.Kinds.{Kind}
 use Rattle.wasmprinter_spec.specs.Placed.{Custom, CustomEntry}
-use Rattle.wasmprinter_spec.specs.Customs.{CustomRole, Silent, Listed, Linked, Refused, Raw, Faulted, custom_role_of}
+use Rattle.wasmprinter_spec.specs.Customs.{CustomRole, Silent, Listed, Linked, Refused, Raw, Malformed, custom_role_of}
 use Rattle.wasmprinter_spec.specs.Customs.Producers.{Value, Field}
 use Rattle.wasmprinter_spec.specs.Customs.Dylink.{MemInfo, ExportInfo, ImportInfo, SubsectionContent, Sizes, Needed, Exports, Imports, Paths, Other, Subsection}
 use Rattle.wasmprinter_spec.specs.Options.{Answers}
@@ -22,7 +22,7 @@ raw_none : (skeleton : Bool) (c : CustomEntry) → HasNoBegin (raw_pieces skelet
 unfolding raw_pieces
 raw_none skeleton c =
     field_none (Some c.section.place) 1 (line_none (then_stay refl (then_stay refl (then_stay refl
-    (both_stay (place_stays c.behind) (then_stay refl (both_stay (bytes_stay skeleton c.section.value.bytes.value) (alone_stays refl))))))))
+    (both_stay (place_stays c.after) (then_stay refl (both_stay (bytes_stay skeleton c.section.value.bytes.value) (alone_stays refl))))))))
 
 faulted_none : (skeleton : Bool) (c : CustomEntry) → HasNoBegin (faulted_pieces skeleton c)
 unfolding faulted_pieces
@@ -101,7 +101,7 @@ role_none skeleton name place bytes answer c (Listed fields) = then_none tt (the
 role_none skeleton name place bytes answer c (Linked ss) = then_none tt (then_none tt (note_none (codes "dylink.0") (subsections_none ss)))
 role_none skeleton name place bytes answer c (Refused id) = alone_none tt
 role_none skeleton name place bytes answer c Raw = then_none tt (raw_none skeleton c)
-role_none skeleton name place bytes answer c Faulted = then_none tt (faulted_none skeleton c)
+role_none skeleton name place bytes answer c Malformed = then_none tt (faulted_none skeleton c)
 
 custom_none : (skeleton answer : Bool) (c : CustomEntry) → HasNoBegin (part_pieces (custom_part skeleton answer c))
 custom_none skeleton true c = alone_none tt
@@ -115,7 +115,7 @@ if_none false part parts h k = k
 pub customs_none : (skeleton : Bool) (answers : Answers) (place : Option Kind) (n : ℕ) (cs : List CustomEntry) → HaveNoBegin (parts_at skeleton answers place n cs)
 customs_none skeleton answers place n [] = tt
 customs_none skeleton answers place n (c ∷ cs) =
-    if_none (same_place c.behind place) (custom_part skeleton (answers n) c) (parts_at skeleton answers place (n + 1) cs)
+    if_none (same_place c.after place) (custom_part skeleton (answers n) c) (parts_at skeleton answers place (n + 1) cs)
     (custom_none skeleton (answers n) c) (customs_none skeleton answers place (n + 1) cs)
 
 -- If no part begins the first line, neither do the pieces of all parts up to a refusal.

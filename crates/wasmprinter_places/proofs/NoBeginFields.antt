@@ -16,7 +16,7 @@ use Rattle.wasmprinter_spec.specs.Layout.Tables.{init_pieces, table_pieces}
 use Rattle.wasmprinter_spec.specs.Layout.Memories.{memory_pieces}
 use Rattle.wasmprinter_spec.specs.Layout.Tags.{tag_pieces}
 use Rattle.wasmprinter_spec.specs.Layout.Globals.{global_pieces}
-use Rattle.wasmprinter_spec.specs.Layout.Imports.{Numbers, number_of, numbers_behind, import_pieces, imports_pieces}
+use Rattle.wasmprinter_spec.specs.Layout.Imports.{Numbers, number_of, numbers_after, import_pieces, imports_pieces}
 use Rattle.wasmprinter_spec.specs.Layout.Exports.{kind_word, export_pieces}
 use Rattle.wasmprinter_spec.specs.Layout.Start.{start_pieces}
 use Rattle.wasmprinter_spec.specs.Layout.Elements.{mode_pieces, expression_items, items_pieces, shown_items, element_pieces}
@@ -108,7 +108,7 @@ module _ (s : Scope) where
   pub imports_none : (n : Numbers) (is : List (Placed Import)) → HasNoBegin (imports_pieces s n is)
   unfolding imports_pieces
   imports_none n [] = nothing_none
-  imports_none n (i ∷ is) = both_none (import_none (number_of i.value.type n) i) (imports_none (numbers_behind i.value.type n) is)
+  imports_none n (i ∷ is) = both_none (import_none (number_of i.value.type n) i) (imports_none (numbers_after i.value.type n) is)
 
   pub export_none : (e : Placed Export) → HasNoBegin (export_pieces s e)
   unfolding export_pieces

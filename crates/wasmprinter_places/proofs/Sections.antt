@@ -8,7 +8,7 @@ use Rattle.wasmprinter_spec.specs.Types.{SubType}
 use Rattle.wasmprinter_spec.specs.Placed.{TypeGroup, type_group, Custom, custom_of}
 use Rattle.wasmprinter_spec.specs.Customs.{custom_role_of}
 use Rattle.wasmprinter_spec.specs.Customs.Hints.{hints_given}
-use Rattle.wasmprinter_spec.specs.Binary.Types.{subtype, sub_type_behind, group}
+use Rattle.wasmprinter_spec.specs.Binary.Types.{subtype, sub_type_after, group}
 use Rattle.wasmprinter_spec.specs.Binary.Imports.{import}
 use Rattle.wasmprinter_spec.specs.Binary.Tables.{table}
 use Rattle.wasmprinter_spec.specs.Binary.Memories.{memory_type}
@@ -22,7 +22,7 @@ use Rattle.wasmprinter_spec.specs.Sections.{Kind, CustomSection, TypeSection, Im
 use Rattle.wasmprinter_spec.specs.Lines.{places, places_of_hints}
 use Rattle.wasmprinter_spec.specs.Apart.{member_places, group_places, start_places, role_places, body_places}
 use Rattle.wasmprinter_places.proofs.Order.{Order, rising, inside, Inside, inside_ends, inside_wider, inside_both}
-use Rattle.wasmprinter_places.proofs.Lies.{Lies, Lies-any, Lies-byte, Lies-u32, Lies-behind, Lies-less, Lies-mapped, Lies-map_value, LiesIn, LiesIn-alone, Lies-exactly, Lies-vec}
+use Rattle.wasmprinter_places.proofs.Lies.{Lies, Lies-any, Lies-byte, Lies-u32, Lies-after, Lies-less, Lies-mapped, Lies-map_value, LiesIn, LiesIn-alone, Lies-exactly, Lies-vec}
 use Rattle.wasmprinter_places.proofs.Bodies.{Lies-code_entry}
 use Rattle.wasmprinter_places.proofs.CustomData.{Lies-here, Lies-list, role_inside, hints_inside}
 
@@ -33,7 +33,7 @@ all_same low q high [] above below = omega (arith, above, below)
 all_same low q high (t ∷ ts) above below = (above, below, all_same low q high ts above below)
 
 members_lie : (b : Bool) (first p place : ℕ) (text : List ℕ) (g : TypeGroup) → place + 1 ≡ p →
-    (choose b (map_value (type_group true) (vec subtype)) (map_value (λ t. type_group false (t ∷ [])) (sub_type_behind first))).spells p text g →
+    (choose b (map_value (type_group true) (vec subtype)) (map_value (λ t. type_group false (t ∷ [])) (sub_type_after first))).spells p text g →
     Inside place (member_places g.written place g.types) (p + length text)
 members_lie true first p place text g next (types, made, spelled) =
     let count : Lies inside 1 (vec subtype) (λ ts. flat_map (λ t. []) ts) = Lies-vec (Lies-any subtype) in
@@ -160,7 +160,7 @@ Lies-section_id = Lies-mapped (λ a b e. refl) Lies-byte
 in_section : {o : Order} (shown : Section → List ℕ) → ((kind : Kind) → LiesIn o 0 (content kind) (λ x. shown (holds kind x))) → Lies o 1 section shown
 in_section {o} shown all =
     Lies-map_value shown (Lies-less (1 + 1) 1 (omega arith)
-    (Lies-behind Lies-section_id (λ kind. Lies-map_value shown (Lies-less (1 + 0) 1 (omega arith) (Lies-behind Lies-u32 (λ size. Lies-exactly (all kind) size))))))
+    (Lies-after Lies-section_id (λ kind. Lies-map_value shown (Lies-less (1 + 0) 1 (omega arith) (Lies-after Lies-u32 (λ size. Lies-exactly (all kind) size))))))
 
 pub Lies-other_section : Lies inside 0 section other_places
 Lies-other_section = Lies-less 1 0 (omega arith) (in_section other_places LiesIn-content)

@@ -7,7 +7,7 @@ use Rattle.wasmprinter_spec.specs.Call.{Call, Text, Newline, Line, call_text, te
 use Rattle.wasmprinter_spec.specs.Options.{Options}
 use Rattle.wasmprinter_spec.specs.Float.{Width, sign_bit, greatest_exponent}
 use Rattle.wasmprinter_spec.specs.FloatText.{special_calls, finite_calls, unsigned_calls, float_calls}
-use Rattle.wasmprinter_spec.specs.Piece.{Piece, Begin, Break, Float, Remark, place_calls, calls, all_calls}
+use Rattle.wasmprinter_spec.specs.Piece.{Piece, Begin, Break, Float, BlockComment, place_calls, calls, all_calls}
 use Rattle.wasmprinter_spec.specs.Lines.{text_before_line, lines_of, line_places}
 use Rattle.wasmprinter_spec.specs.Names.{Names}
 use Rattle.wasmprinter_spec.specs.ModuleNames.{module_names}
@@ -59,8 +59,8 @@ pub piece_begins : (o : Options) (p : Piece) → flat_map begun (calls o p) ≡ 
 piece_begins o (Break place nesting) = break_begins o.offsets place _
 piece_begins o (Begin place) = refl
 piece_begins o (Float w bits) = float_begins w bits
-piece_begins o (Remark true s) = refl
-piece_begins o (Remark false s) = refl
+piece_begins o (BlockComment true s) = refl
+piece_begins o (BlockComment false s) = refl
 piece_begins o _ = refl
 
 pieces_begin : (o : Options) (ps : List Piece) → flat_map begun (all_calls o ps) ≡ flat_map starts ps
@@ -90,7 +90,7 @@ first_line o names size ps (Some id) = refl
 pub lines_join : LinesJoin
 unfolding layout module_pieces module_pieces_with
 lines_join o answers m =
-    let names : Names = module_names o.invents m in
+    let names : Names = module_names o.synthesizes m in
     let laid : Laid = laid_parts (module_parts o answers names m) in
     let cs : List Call = all_calls o (module_pieces_of o names m.size laid.pieces laid.refused) in
     ap (λ (t : List ℕ). t ++ flat_map (λ line. line.1) (lines_of cs)) (sym (first_line o names m.size laid.pieces laid.refused)) ∙ text_joined cs

@@ -5,7 +5,7 @@
 
 ghost use Rattle.wasmprinter_spec.specs.PlaceLaws.{AlikeHaveSameLines, LinesJoin, BodiesLieApart, FunctionsHaveLines};
 ghost use Rattle.wasmprinter_spec.specs.PlaceLaws.{FindsPlace, FindsLine};
-ghost use Rattle.wasmprinter_places.specs.Feeds.{LinesBeginBehindFeeds};
+ghost use Rattle.wasmprinter_places.specs.Feeds.{LinesBeginAfterFeeds};
 
 /// Two lists of calls that differ only in how text is split into pieces have the same lines.
 pub fn alike_calls_have_the_same_lines()
@@ -19,8 +19,8 @@ pub fn lines_join_to_the_text()
 
 /// Each `Line` call of a layout, except the first call, directly follows a `Newline` call. This holds for any
 /// options, answers and module. So no `Line` call directly follows another.
-pub fn lines_begin_behind_feeds()
-    ensures { LinesBeginBehindFeeds }
+pub fn lines_begin_after_feeds()
+    ensures { LinesBeginAfterFeeds }
 {}
 
 /// If bytes encode a module, its bodies are in an interval that holds no other line's place, and the places in it

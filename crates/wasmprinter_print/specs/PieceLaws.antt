@@ -49,7 +49,8 @@ module _ {P : Type 0} (m : Meaning P) where
   PiecesFailAtLast =
       (o : Options) (a t : P) (r : Result (Unit {0}) IoError) (e : IoError) (xs : List Piece) → Written m o a t (AtCall e) xs →
       AnswersError r e → Prints m o a t r xs
--- Making no call writes the empty list of pieces.
+
+  -- Making no call writes the empty list of pieces.
 
   abbrev pub NoPieces : Type 0
   NoPieces = (o : Options) (a : P) → Written m o a a Through []

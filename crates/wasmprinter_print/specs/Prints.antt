@@ -30,8 +30,8 @@ abbrev pub PrintsAlways : {P T : Type 0} → Meaning P → P → P → Result T 
 PrintsAlways m old new r pieces = (o : Options) → Prints m o old new r pieces
 
 -- On success the function returns whether the pieces contain a line break.
-abbrev pub TellsLines : {E : Type 0} → Result Bool E → List Piece → Type 0
-TellsLines r pieces = IfOk r (λ lines. lines ≡ has_break pieces)
+abbrev pub ReportsLines : {E : Type 0} → Result Bool E → List Piece → Type 0
+ReportsLines r pieces = IfOk r (λ lines. lines ≡ has_break pieces)
 
 -- The pieces that were written so far, followed by `rest`, are `whole`.
 pub record Lacks {P : Type 0} (m : Meaning P) (o : Options) (old new : P) (whole rest : List Piece) : Type 0 where

@@ -22,8 +22,8 @@ module _ {P : Type 0} (m : Meaning P) where
       (a t : P) (d : Option IoError) (x : IoError) (c : Call) → Failed m a c x t → is_some d ≡ false → Puts m a d t (Some x) (c ∷ [])
 
   -- After an error no call is made, and the printer is unchanged.
-  abbrev pub PutBehind : Type 0
-  PutBehind = (a : P) (d : Option IoError) (l : List Call) → is_some d ≡ true → Puts m a d a d l
+  abbrev pub PutAfter : Type 0
+  PutAfter = (a : P) (d : Option IoError) (l : List Call) → is_some d ≡ true → Puts m a d a d l
 
   -- ---- calls
 
@@ -74,8 +74,8 @@ module _ {P : Type 0} (m : Meaning P) where
   MarkNone = (a : P) (d : Option IoError) → Marks m a d a d []
 
   -- After an error no piece is written, and the printer is unchanged.
-  abbrev pub MarkBehind : Type 0
-  MarkBehind = (a : P) (d : Option IoError) (xs : List Piece) → is_some d ≡ true → Marks m a d a d xs
+  abbrev pub MarkAfter : Type 0
+  MarkAfter = (a : P) (d : Option IoError) (xs : List Piece) → is_some d ≡ true → Marks m a d a d xs
 
   -- ---- pieces under given options
 
@@ -111,8 +111,8 @@ module _ {P : Type 0} (m : Meaning P) where
   MarkNoneUnder = (o : Options) (a : P) (d : Option IoError) → MarksUnder m o a d a d []
 
   -- After an error no piece is written, and the printer is unchanged.
-  abbrev pub MarkBehindUnder : Type 0
-  MarkBehindUnder = (o : Options) (a : P) (d : Option IoError) (xs : List Piece) → is_some d ≡ true → MarksUnder m o a d a d xs
+  abbrev pub MarkAfterUnder : Type 0
+  MarkAfterUnder = (o : Options) (a : P) (d : Option IoError) (xs : List Piece) → is_some d ≡ true → MarksUnder m o a d a d xs
 
   -- Pieces that are written under any options are written under given options.
   abbrev pub MarkUnder : Type 0

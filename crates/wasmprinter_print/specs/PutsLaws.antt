@@ -11,7 +11,7 @@ use Rattle.wasmprinter_print.specs.Emits.{Emits, Made}
 use Rattle.wasmprinter_print.specs.EmitsLaws.{then, ends, called, call_fails, nothing, alike, atoms-text}
 use Rattle.wasmprinter_print.specs.Prints.{Written, Prints, PrintsAlways}
 use Rattle.wasmprinter_print.specs.PrintsLaws.{no_piece, one_piece, both_pieces, pieces_end}
-use Rattle.wasmprinter_print.specs.Puts.{Puts, PutsBut, Puttings, MarksUnder, Marks, MarksBut, Markings, end_behind, answer_of, kept}
+use Rattle.wasmprinter_print.specs.Puts.{Puts, PutsBut, Puttings, MarksUnder, Marks, MarksBut, Markings, end_after, answer_of, kept}
 
 -- The result with this error.
 abbrev the_error : IoError → Result (Unit {0}) IoError
@@ -23,8 +23,8 @@ puttings_then : {P : Type 0} (m : Meaning P) (a s t : P) (d e f : Option IoError
     Puttings m a d s e l → Puttings m s e t f k → Puttings m a d t f (l ++ k)
 puttings_then m a s t None None f l k v w = then m v w
 puttings_then m a s t None (Some x) f l k v w =
-    subst (λ (z : _). Made m a z (end_behind f) (l ++ k)) (sym w.0)
-    (subst (λ (y : Option IoError). Made m a s (end_behind y) (l ++ k)) (sym w.1) (ends m (the_error x) k refl v))
+    subst (λ (z : _). Made m a z (end_after f) (l ++ k)) (sym w.0)
+    (subst (λ (y : Option IoError). Made m a s (end_after y) (l ++ k)) (sym w.1) (ends m (the_error x) k refl v))
 puttings_then m a s t (Some x) e f l k v w =
     let h = subst (λ (y : Option IoError). Puttings m s y t f k) v.1 w in
     (h.0 ∙ v.0, h.1)
@@ -76,13 +76,13 @@ pub put_fails : {P : Type 0} (m : Meaning P) {a t : P} {d : Option IoError} (x :
     Failed m a c x t → Puts m a d t (Some x) (c ∷ [])
 put_fails m {a} {t} {d} x {c} e v = record { put = puttings_failed m a t d x c e v }
 
-puttings_behind : {P : Type 0} (m : Meaning P) (a : P) (d : Option IoError) (l : List Call) → is_some d ≡ true → Puttings m a d a d l
-puttings_behind m a None l e = cc
-puttings_behind m a (Some y) l e = (refl, refl)
+puttings_after : {P : Type 0} (m : Meaning P) (a : P) (d : Option IoError) (l : List Call) → is_some d ≡ true → Puttings m a d a d l
+puttings_after m a None l e = cc
+puttings_after m a (Some y) l e = (refl, refl)
 
 -- After an error no call is made, and the printer is unchanged.
 pub put_skipped : {P : Type 0} (m : Meaning P) (a : P) (d : Option IoError) (l : List Call) → is_some d ≡ true → Puts m a d a d l
-put_skipped m a d l e = record { put = puttings_behind m a d l e }
+put_skipped m a d l e = record { put = puttings_after m a d l e }
 
 -- ---- a text in parts
 
@@ -125,8 +125,8 @@ markings_then : {P : Type 0} (m : Meaning P) (o : Options) (a s t : P) (d e f : 
     Markings m o a d s e xs → Markings m o s e t f ys → Markings m o a d t f (xs ++ ys)
 markings_then m o a s t None None f xs ys v w = both_pieces m v w
 markings_then m o a s t None (Some x) f xs ys v w =
-    subst (λ (z : _). Written m o a z (end_behind f) (xs ++ ys)) (sym w.0)
-    (subst (λ (y : Option IoError). Written m o a s (end_behind y) (xs ++ ys)) (sym w.1) (pieces_end m (the_error x) ys refl v))
+    subst (λ (z : _). Written m o a z (end_after f) (xs ++ ys)) (sym w.0)
+    (subst (λ (y : Option IoError). Written m o a s (end_after y) (xs ++ ys)) (sym w.1) (pieces_end m (the_error x) ys refl v))
 markings_then m o a s t (Some x) e f xs ys v w =
     let h = subst (λ (y : Option IoError). Markings m o s y t f ys) v.1 w in
     (h.0 ∙ v.0, h.1)
@@ -144,15 +144,15 @@ markings_none m o a (Some x) = (refl, refl)
 pub no_mark_under : {P : Type 0} (m : Meaning P) (o : Options) (a : P) (d : Option IoError) → MarksUnder m o a d a d []
 no_mark_under m o a d = record { marked = markings_none m o a d }
 
-markings_behind : {P : Type 0} (m : Meaning P) (o : Options) (a : P) (d : Option IoError) (xs : List Piece) → is_some d ≡ true →
+markings_after : {P : Type 0} (m : Meaning P) (o : Options) (a : P) (d : Option IoError) (xs : List Piece) → is_some d ≡ true →
     Markings m o a d a d xs
-markings_behind m o a None xs e = cc
-markings_behind m o a (Some y) xs e = (refl, refl)
+markings_after m o a None xs e = cc
+markings_after m o a (Some y) xs e = (refl, refl)
 
 -- After an error no piece is written, and the printer is unchanged.
 pub mark_skipped_under : {P : Type 0} (m : Meaning P) (o : Options) (a : P) (d : Option IoError) (xs : List Piece) →
     is_some d ≡ true → MarksUnder m o a d a d xs
-mark_skipped_under m o a d xs e = record { marked = markings_behind m o a d xs e }
+mark_skipped_under m o a d xs e = record { marked = markings_after m o a d xs e }
 
 -- ---- pieces under any options
 

@@ -1,4 +1,4 @@
-//! Calls on a printer that record the first error in a `Fault`. After an error no call is made.
+//! Calls on a printer that record the first error in a `FirstError`. After an error no call is made.
 ghost use Rattle.std.specs.Prelude.{◌≡◌, [], ◌∷◌, None, is_some};
 ghost use Rattle.wasmprinter_spec.specs.Call.{Text, Newline, Line, Start, Reset};
 ghost use Rattle.wasmprinter_spec.specs.Piece.{calls_in_style};
@@ -12,11 +12,11 @@ use std::marker::Model;
 
 /// The error of the first call on the printer that failed, if one did. After an error no call is made.
 #[derive(Drop)]
-pub struct Fault {
+pub struct FirstError {
     error: Option<io::Error>,
 }
 
-impl Model for Fault {
+impl Model for FirstError {
     ghost use Rattle.std.specs.Prelude.{Option};
     ghost use Rattle.std.specs.declared.io.Error.{Error as IoError};
 
@@ -25,13 +25,13 @@ impl Model for Fault {
     ghost view = { λ f. f.error };
 }
 
-impl Fault {
-    /// Returns a `Fault` without an error.
+impl FirstError {
+    /// Returns a `FirstError` without an error.
     #[inline(always)]
-    pub fn none() -> Fault
+    pub fn none() -> FirstError
         ensures { result ≡ None }
     {
-        Fault { error: None }
+        FirstError { error: None }
     }
 
     /// Reports whether a call has failed.
@@ -68,7 +68,7 @@ impl Fault {
 
 /// Writes a piece of text.
 #[inline(always)]
-pub fn put_text<P: Print>(p: &mut P, fault: &mut Fault, s: &str)
+pub fn put_text<P: Print>(p: &mut P, fault: &mut FirstError, s: &str)
     ensures { Puts P.meaning p.old fault.old p.new fault.new (Text s.now ∷ []) }
 {
     if fault.error.is_none() {
@@ -80,7 +80,7 @@ pub fn put_text<P: Print>(p: &mut P, fault: &mut Fault, s: &str)
 
 /// Writes a piece of text with [`Print::write_each_char`].
 #[inline(always)]
-pub fn put_each_char<P: Print>(p: &mut P, fault: &mut Fault, s: &str)
+pub fn put_each_char<P: Print>(p: &mut P, fault: &mut FirstError, s: &str)
     ensures { Puts P.meaning p.old fault.old p.new fault.new (Text s.now ∷ []) }
 {
     if !fault.is_some() {
@@ -90,7 +90,7 @@ pub fn put_each_char<P: Print>(p: &mut P, fault: &mut Fault, s: &str)
 
 /// Ends a line.
 #[inline(always)]
-pub fn put_feed<P: Print>(p: &mut P, fault: &mut Fault)
+pub fn put_feed<P: Print>(p: &mut P, fault: &mut FirstError)
     ensures { Puts P.meaning p.old fault.old p.new fault.new (Newline ∷ []) }
 {
     if fault.error.is_none() {
@@ -102,7 +102,7 @@ pub fn put_feed<P: Print>(p: &mut P, fault: &mut Fault)
 
 /// Starts a line.
 #[inline(always)]
-pub fn put_line<P: Print>(p: &mut P, fault: &mut Fault, place: Option<u64>)
+pub fn put_line<P: Print>(p: &mut P, fault: &mut FirstError, place: Option<u64>)
     ensures { Puts P.meaning p.old fault.old p.new fault.new (Line place ∷ []) }
 {
     if fault.error.is_none() {
@@ -112,7 +112,7 @@ pub fn put_line<P: Print>(p: &mut P, fault: &mut Fault, place: Option<u64>)
 
 /// Chooses a style.
 #[inline(always)]
-pub fn put_start<P: Print>(p: &mut P, fault: &mut Fault, style: Style)
+pub fn put_start<P: Print>(p: &mut P, fault: &mut FirstError, style: Style)
     ensures { Puts P.meaning p.old fault.old p.new fault.new (Start (style_of style) ∷ []) }
 {
     if fault.error.is_some() {
@@ -132,7 +132,7 @@ pub fn put_start<P: Print>(p: &mut P, fault: &mut Fault, style: Style)
 
 /// Ends the current style: the text after it has none.
 #[inline(always)]
-pub fn put_reset<P: Print>(p: &mut P, fault: &mut Fault)
+pub fn put_reset<P: Print>(p: &mut P, fault: &mut FirstError)
     ensures { Puts P.meaning p.old fault.old p.new fault.new (Start Reset ∷ []) }
 {
     if fault.error.is_none() {
@@ -143,7 +143,7 @@ pub fn put_reset<P: Print>(p: &mut P, fault: &mut Fault)
 }
 
 /// Writes a piece of text in a style.
-pub fn put_text_in_style<P: Print>(p: &mut P, fault: &mut Fault, style: Style, s: &str)
+pub fn put_text_in_style<P: Print>(p: &mut P, fault: &mut FirstError, style: Style, s: &str)
     ensures { Puts P.meaning p.old fault.old p.new fault.new (calls_in_style (style_of style) s.now) }
 {
     put_start(p, fault, style);

@@ -16,10 +16,10 @@ ghost use Rattle.wasmprinter_print.specs.PutsLaws.{one_mark, both_marks, no_mark
 ghost use Rattle.wasmprinter_print.specs.PutsLaws.{one_mark_under, both_marks_under, no_mark_under, mark_skipped_under};
 ghost use Rattle.wasmprinter_print.specs.PutsLaws.{puts_answered, marks_answered, puts_keep, marks_keep};
 ghost use Rattle.wasmprinter_print.specs.PutsLaws.{marks_answered_under, marks_keep_under};
-ghost use Rattle.wasmprinter_print.specs.PutLaws.{PutDone, PutFailed, PutBehind, PutsThen, PutThen, PutTextThen, PutByteThen, PutNone};
-ghost use Rattle.wasmprinter_print.specs.PutLaws.{MarkDone, MarkThen, MarksThen, MarkNone, MarkBehind, MarkUnder};
+ghost use Rattle.wasmprinter_print.specs.PutLaws.{PutDone, PutFailed, PutAfter, PutsThen, PutThen, PutTextThen, PutByteThen, PutNone};
+ghost use Rattle.wasmprinter_print.specs.PutLaws.{MarkDone, MarkThen, MarksThen, MarkNone, MarkAfter, MarkUnder};
 ghost use Rattle.wasmprinter_print.specs.PutLaws.{MarkDoneUnder, MarkThenUnder, MarksThenUnder, MarkThenMixed, MarksThenMixed};
-ghost use Rattle.wasmprinter_print.specs.PutLaws.{MarkNoneUnder, MarkBehindUnder};
+ghost use Rattle.wasmprinter_print.specs.PutLaws.{MarkNoneUnder, MarkAfterUnder};
 ghost use Rattle.wasmprinter_print.specs.PutLaws.{PutsAnswer, MarksAnswer, PutsKept, MarksKept, MarksAnswerUnder, MarksKeptUnder};
 ghost use Rattle.wasmprinter_print.specs.PieceLaws.{PieceHandsOn, PiecesHandOn, PiecesHandOnAtLast, PiecesHalt, PiecesHaltAtLast};
 
@@ -30,7 +30,8 @@ mod print_text;
 
 pub use calls::{Style, feed, reset, start, text, text_in_style};
 pub use faults::{
-    Fault, put_each_char, put_feed, put_line, put_reset, put_start, put_text, put_text_in_style,
+    FirstError, put_each_char, put_feed, put_line, put_reset, put_start, put_text,
+    put_text_in_style,
 };
 pub use fmt_write::{PrintFmtWrite, WriteText};
 pub use print_text::{PrintText, text_is_gained};
@@ -232,7 +233,7 @@ pub trait Print {
     ghost put_failed: { PutFailed meaning } = { λ a t d x c v e. put_fails meaning x e v };
 
     // After an error no call is made.
-    ghost put_behind: { PutBehind meaning } = { λ a d l e. put_skipped meaning a d l e };
+    ghost put_after: { PutAfter meaning } = { λ a d l e. put_skipped meaning a d l e };
 
     // Calls, then more calls
     ghost puts_then: { PutsThen meaning } = { λ a s t d e f l k v w. both_puts meaning v w };
@@ -262,7 +263,7 @@ pub trait Print {
     ghost mark_none: { MarkNone meaning } = { λ a d. no_mark meaning a d };
 
     // After an error no piece is written.
-    ghost mark_behind: { MarkBehind meaning } = { λ a d xs e. mark_skipped meaning a d xs e };
+    ghost mark_after: { MarkAfter meaning } = { λ a d xs e. mark_skipped meaning a d xs e };
 
     // The calls of one piece, under given options
     ghost mark_done_under: { MarkDoneUnder meaning } = { λ o a t d f x v. one_mark_under meaning o x v };
@@ -277,7 +278,7 @@ pub trait Print {
     ghost mark_none_under: { MarkNoneUnder meaning } = { λ o a d. no_mark_under meaning o a d };
 
     // After an error no piece is written, under given options.
-    ghost mark_behind_under: { MarkBehindUnder meaning } = { λ o a d xs e. mark_skipped_under meaning o a d xs e };
+    ghost mark_after_under: { MarkAfterUnder meaning } = { λ o a d xs e. mark_skipped_under meaning o a d xs e };
 
     // The first piece under any options, more pieces under given options
     ghost mark_then_mixed: { MarkThenMixed meaning } = { λ o a s t d e f x xs v w. both_marks_under meaning (v.under o) w };

@@ -4,7 +4,7 @@ use Rattle.std.specs.Prelude.{MatchOption}
 use Rattle.std.specs.List.{AllByRecursion}
 use Rattle.wasmprinter_spec.specs.Grammar.{Input, input, Grammar}
 use Rattle.wasmprinter_spec.specs.Binary.{AreBytes}
-use Rattle.wasmprinter_spec.specs.Lenient.{Lenient, give, follow, repeat, Repeats, within, unless_ended, behind_part, by_test}
+use Rattle.wasmprinter_spec.specs.Lenient.{Lenient, give, follow, repeat, Repeats, within, unless_ended, after_part, by_test}
 use Rattle.wasmprinter_spec.proofs.Each.{all_both}
 use Rattle.wasmprinter_reading.proofs.AllSpelled.{AllSpelled, Spelled-any, split_bytes}
 
@@ -49,15 +49,15 @@ module _ {E : Type 0} (P : E → Type 0) where
     pub AllGiven-repeat : (n : ℕ) → AllGiven P (repeat l n)
     AllGiven-repeat n = record { has = repeat_has n }
 
-    behind_stays : (inner : Option Input) (after : Input) → AreBytes after.bytes → Stays (behind_part inner after)
-    behind_stays None after b = tt
-    behind_stays (Some x) after b = b
+    after_stays : (inner : Option Input) (after : Input) → AreBytes after.bytes → Stays (after_part inner after)
+    after_stays None after b = tt
+    after_stays (Some x) after b = b
 
     within_has : (n : ℕ) (at : Input) (xs : List E) (end : Option Input) → AreBytes at.bytes → (within l n).gives at xs end → AllByRecursion P xs × Stays end
     within_has n at xs end b (inl ((front, after), spans, inner, given, ended)) =
         let parts = split_bytes spans.text after.bytes (subst AreBytes spans.parts b) in (
           (f.has (input at.place front) xs inner (subst AreBytes (sym spans.spelled.1) parts.0) given).0,
-          subst Stays (sym ended) (behind_stays inner after parts.1),
+          subst Stays (sym ended) (after_stays inner after parts.1),
         )
     within_has n at xs end b (inr (lacking, no_entry, ended)) = at_fault xs end no_entry ended
 

@@ -3,7 +3,7 @@
 use Rattle.std.proofs.Common.{◌≡◌, ℕ, ◌+◌, ◌<◌, ◌≤◌, List, [], ◌∷◌, ◌++◌, length, Bool, true, false, Option, Some, None, refl, subst, sym}
 use Rattle.std.specs.List.{AllByRecursion}
 use Rattle.wasmprinter_spec.specs.Grammar.{Grammar, some_is, byte, seq, try_map, map_value, succeed, fail, choose, value_with_place}
-use Rattle.wasmprinter_spec.specs.FirstByte.{behind_first_byte, Peeked, by_first_byte}
+use Rattle.wasmprinter_spec.specs.FirstByte.{after_first_byte, Peeked, by_first_byte}
 use Rattle.wasmprinter_spec.specs.Binary.ValTypes.{value_if_any}
 use Rattle.wasmprinter_spec.specs.Repeated.{AreItems, times, Entries}
 use Rattle.wasmprinter_spec.specs.Sized.{take_bytes, alone, exactly}
@@ -92,8 +92,8 @@ Spelled-value_if_any None holds = Spelled-fail
 Spelled-value_if_any (Some a) holds = Spelled-succeed (holds a refl)
 
 -- The value after a first byte has P if each value of the grammar for that byte has P.
-pub Spelled-behind_first_byte : {kind : ByteStrings} {A : Type 0} {h : ℕ → Grammar A} {P : A → Type 0} → ((b : ℕ) → Spelled kind (h b) P) → Spelled kind (behind_first_byte h) P
-Spelled-behind_first_byte each = Spelled-map_value (Spelled-seq (Spelled-any byte) each) (λ x h. h.1)
+pub Spelled-after_first_byte : {kind : ByteStrings} {A : Type 0} {h : ℕ → Grammar A} {P : A → Type 0} → ((b : ℕ) → Spelled kind (h b) P) → Spelled kind (after_first_byte h) P
+Spelled-after_first_byte each = Spelled-map_value (Spelled-seq (Spelled-any byte) each) (λ x h. h.1)
 
 peeked_has : {kind : ByteStrings} {A : Type 0} {h : ℕ → Grammar A} {P : A → Type 0} → ((b : ℕ) → Spelled kind (h b) P) →
     (p : ℕ) (text : List ℕ) (a : A) → kind.Are text → Peeked h p text a → P a

@@ -10,7 +10,7 @@ use Rattle.wasmprinter_spec.specs.Folding.Refusals.{IsFoldable}
 use Rattle.wasmprinter_spec.specs.Layout.Declarations.{folding_of}
 use Rattle.wasmprinter_spec.specs.Layout.Customs.{laid_parts}
 use Rattle.wasmprinter_spec.specs.Layout.{module_parts, module_pieces_with, module_pieces, layout, refusal, parts_by, pieces_by}
-use Rattle.wasmprinter_reading.proofs.Folded.Lists.{IsUnpainted, is_folding}
+use Rattle.wasmprinter_reading.proofs.Folded.Lists.{IsUncolored, is_folding}
 use Rattle.wasmprinter_reading.proofs.Foldable.{CanFold, can_fold}
 
 -- ---- the layout
@@ -19,11 +19,11 @@ pub pieces_as_asked : (o : Options) (answers : Answers) (names : Names) (m : Pla
 unfolding module_pieces_with module_parts pieces_by
 pieces_as_asked o answers names m = refl
 
-pub layout_as_asked : (o : Options) (answers : Answers) (m : PlacedModule) → layout o answers m ≡ all_calls o (pieces_by (folding_of o m) o answers (module_names o.invents m) m)
+pub layout_as_asked : (o : Options) (answers : Answers) (m : PlacedModule) → layout o answers m ≡ all_calls o (pieces_by (folding_of o m) o answers (module_names o.synthesizes m) m)
 unfolding layout module_pieces
-layout_as_asked o answers m = ap (all_calls o) (pieces_as_asked o answers (module_names o.invents m) m)
+layout_as_asked o answers m = ap (all_calls o) (pieces_as_asked o answers (module_names o.synthesizes m) m)
 
-pub refused_as_asked : (o : Options) (answers : Answers) (m : PlacedModule) → refusal o answers m ≡ (laid_parts (parts_by (folding_of o m) o answers (module_names o.invents m) m)).refused
+pub refused_as_asked : (o : Options) (answers : Answers) (m : PlacedModule) → refusal o answers m ≡ (laid_parts (parts_by (folding_of o m) o answers (module_names o.synthesizes m) m)).refused
 unfolding module_parts
 refused_as_asked o answers m = refl
 
@@ -33,16 +33,16 @@ refused_as_asked o answers m = refl
 pub folds_where_asked : (o : Options) (m : PlacedModule) → is_folding (folding_of o m) ≡ true → o.folds ≡ true
 folds_where_asked o m = by o.folds
   where
-    by : (t : Bool) → is_folding (cond t (Some (record { paints = o.paints; signatures = signatures_within m })) None) ≡ true → t ≡ true
+    by : (t : Bool) → is_folding (cond t (Some (record { color = o.color; signatures = signatures_within m })) None) ≡ true → t ≡ true
     by true e = refl
     by false e = absurd cc
 
 pub can_fold_as_asked : (o : Options) (m : PlacedModule) → o.skeleton ≡ false → IsFoldable o m → CanFold (folding_of o m) m
 can_fold_as_asked o m whole h = can_fold (folding_of o m) m o whole (λ e. h.legacy (folds_where_asked o m e))
 
-pub unpainted_as_asked : (o : Options) (m : PlacedModule) → o.paints ≡ false → IsUnpainted (folding_of o m)
-unpainted_as_asked o m plain = by o.folds
+pub uncolored_as_asked : (o : Options) (m : PlacedModule) → o.color ≡ false → IsUncolored (folding_of o m)
+uncolored_as_asked o m plain = by o.folds
   where
-    by : (t : Bool) → IsUnpainted (cond t (Some (record { paints = o.paints; signatures = signatures_within m })) None)
+    by : (t : Bool) → IsUncolored (cond t (Some (record { color = o.color; signatures = signatures_within m })) None)
     by true = plain
     by false = tt

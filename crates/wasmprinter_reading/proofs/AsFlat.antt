@@ -16,37 +16,37 @@ use Rattle.wasmprinter_reading.proofs.Main.{reads_back}
 
 -- The first refusal in the parts or, if they have none, the given one
 abbrev refused_before : Option ℕ → List Part → Option ℕ
-refused_before behind [] = behind
-refused_before behind (Shown ps ∷ xs) = refused_before behind xs
-refused_before behind (Stops ps id ∷ xs) = Some id
+refused_before after [] = after
+refused_before after (Shown ps ∷ xs) = refused_before after xs
+refused_before after (Stops ps id ∷ xs) = Some id
 
 refused-laid : (xs : List Part) → (laid_parts xs).refused ≡ refused_before None xs
 refused-laid [] = refl
 refused-laid (Shown ps ∷ xs) = refused-laid xs
 refused-laid (Stops ps id ∷ xs) = refl
 
-refused-append : (behind : Option ℕ) (xs ys : List Part) → refused_before behind (xs ++ ys) ≡ refused_before (refused_before behind ys) xs
-refused-append behind [] ys = refl
-refused-append behind (Shown ps ∷ xs) ys = refused-append behind xs ys
-refused-append behind (Stops ps id ∷ xs) ys = refl
+refused-append : (after : Option ℕ) (xs ys : List Part) → refused_before after (xs ++ ys) ≡ refused_before (refused_before after ys) xs
+refused-append after [] ys = refl
+refused-append after (Shown ps ∷ xs) ys = refused-append after xs ys
+refused-append after (Stops ps id ∷ xs) ys = refl
 
-refused-parts : (x y : Option Folding) (o : Options) (folds paints : Bool) (answers : Answers) (names : Names) (m : PlacedModule) →
-    refused_before None (parts_by x o answers names m) ≡ refused_before None (parts_by y (record o { folds = folds; paints = paints }) answers names m)
+refused-parts : (x y : Option Folding) (o : Options) (folds color : Bool) (answers : Answers) (names : Names) (m : PlacedModule) →
+    refused_before None (parts_by x o answers names m) ≡ refused_before None (parts_by y (record o { folds = folds; color = color }) answers names m)
 unfolding parts_by
-refused-parts x y o folds paints answers names m = simp refused-append refl
+refused-parts x y o folds color answers names m = simp refused-append refl
 
-pub refused-by : (x y : Option Folding) (o : Options) (folds paints : Bool) (answers : Answers) (names : Names) (m : PlacedModule) →
-    (laid_parts (parts_by x o answers names m)).refused ≡ (laid_parts (parts_by y (record o { folds = folds; paints = paints }) answers names m)).refused
-refused-by x y o folds paints answers names m =
+pub refused-by : (x y : Option Folding) (o : Options) (folds color : Bool) (answers : Answers) (names : Names) (m : PlacedModule) →
+    (laid_parts (parts_by x o answers names m)).refused ≡ (laid_parts (parts_by y (record o { folds = folds; color = color }) answers names m)).refused
+refused-by x y o folds color answers names m =
     refused-laid (parts_by x o answers names m)
-    ∙ refused-parts x y o folds paints answers names m
-    ∙ sym (refused-laid (parts_by y (record o { folds = folds; paints = paints }) answers names m))
+    ∙ refused-parts x y o folds color answers names m
+    ∙ sym (refused-laid (parts_by y (record o { folds = folds; color = color }) answers names m))
 
 refusal-folds : (o : Options) (folds : Bool) (answers : Answers) (m : PlacedModule) → refusal o answers m ≡ refusal (record o { folds = folds }) answers m
 refusal-folds o folds answers m =
     let p : Options = record o { folds = folds } in
     refused_as_asked o answers m
-    ∙ refused-by (folding_of o m) (folding_of p m) o folds o.paints answers (module_names o.invents m) m
+    ∙ refused-by (folding_of o m) (folding_of p m) o folds o.color answers (module_names o.synthesizes m) m
     ∙ sym (refused_as_asked p answers m)
 
 -- ---- the law

@@ -16,12 +16,12 @@ use Rattle.wasmprinter_spec.specs.Limits.{HasNoEmptyInit}
 use Rattle.wasmprinter_spec.specs.Indexed as indexed
 use Rattle.wasmprinter_spec.specs.Indexed.{IsDeclaredSub, Counts, IsIndexed, IsIndexedFunction, IsIndexedImport, IsIndexedTable, IsIndexedGlobal, IsIndexedExport, IsIndexedElement, IsIndexedData, NamesFunction, space_of, counts_of}
 use Rattle.wasmprinter_spec.specs.IndexSpaces.{Identifiers, index_space, space_in, Spaces, Context}
-use Rattle.wasmprinter_spec.specs.Customs.Hints.{Hint, FunctionHints, hints_of, next_hints, hints_behind}
+use Rattle.wasmprinter_spec.specs.Customs.Hints.{Hint, FunctionHints, hints_of, next_hints, hints_after}
 use Rattle.wasmprinter_spec.specs.Folding.Refusals.{Operators, init_list, offset_list, item_lists, element_lists, data_lists}
 use Rattle.wasmprinter_spec.specs.Layout.Declarations.{Folding, Scope, scope_of}
 use Rattle.wasmprinter_spec.specs.Layout.Expressions.{in_line}
-use Rattle.wasmprinter_spec.specs.Layout.Imports.{Numbers, no_numbers, number_of, numbers_behind}
-use Rattle.wasmprinter_spec.specs.Layout.{scope_before, scope_behind, section_order}
+use Rattle.wasmprinter_spec.specs.Layout.Imports.{Numbers, no_numbers, number_of, numbers_after}
+use Rattle.wasmprinter_spec.specs.Layout.{scope_before, scope_after, section_order}
 use Rattle.wasmprinter_spec.specs.Text.Items.{each, identifier_in_front}
 use Rattle.wasmprinter_spec.specs.Text.Types as text
 use Rattle.wasmprinter_spec.specs.Text.Types.{read_group}
@@ -34,7 +34,7 @@ use Rattle.wasmprinter_spec.specs.Text.Tables.{read_table}
 use Rattle.wasmprinter_spec.specs.Text.Globals.{read_global}
 use Rattle.wasmprinter_spec.specs.Text.Elements.{read_element}
 use Rattle.wasmprinter_spec.specs.Text.DataSegments.{read_data}
-use Rattle.wasmprinter_spec.specs.Read.{Fields, no_fields, fields, identifiers_of, imported_ids, space_behind, spaces_of, context, module_of_fields, read_forest}
+use Rattle.wasmprinter_spec.specs.Read.{Fields, no_fields, fields, identifiers_of, imported_ids, space_after, spaces_of, context, module_of_fields, read_forest}
 use Rattle.wasmprinter_reading.specs.Listed.{AreSignaturesInRange}
 use Rattle.wasmprinter_reading.specs.OperatorLaws.{count_in, HaveSameTypes, HaveSameNames}
 use Rattle.wasmprinter_reading.proofs.Ranged.{IsRanged, IsRangedImport, IsRangedTable, IsRangedGlobal, IsRangedExport, IsRangedElement, IsRangedData, IsRangedFunction}
@@ -56,7 +56,7 @@ use Rattle.wasmprinter_reading.proofs.Fields.Tables.{table_items, identifier_in_
 use Rattle.wasmprinter_reading.proofs.Fields.Globals.{global_items, identifier_in_front-global, read_global-items}
 use Rattle.wasmprinter_reading.proofs.Fields.Elements as elements
 use Rattle.wasmprinter_reading.proofs.Fields.Elements.{element_items, identifier_in_front-element, read_element-items}
-use Rattle.wasmprinter_reading.proofs.Fields.DataSegments as datas
+use Rattle.wasmprinter_reading.proofs.Fields.DataSegments as data_segments
 use Rattle.wasmprinter_reading.proofs.Fields.DataSegments.{data_items, identifier_in_front-data, read_data-items}
 use Rattle.wasmprinter_spec.proofs.Each.{all_parts}
 use Rattle.wasmprinter_reading.proofs.Foldable.{Foldable, AllFoldable, CanFold}
@@ -123,7 +123,7 @@ module _ (folding : Option Folding) (names : Names) (m : PlacedModule) where
   early = scope_before folding names m
 
   abbrev pub late : Scope
-  late = scope_behind m early
+  late = scope_after m early
 
   -- The number of imports of a kind
   abbrev pub before : ExternKind → ℕ
@@ -150,7 +150,7 @@ module _ (folding : Option Folding) (names : Names) (m : PlacedModule) where
   -- The hints that are left after this number of functions
   abbrev pub waiting : ℕ → List FunctionHints
   waiting zero = hints_of m.customs
-  waiting (suc k) = hints_behind (before FuncKind + k) (waiting k)
+  waiting (suc k) = hints_after (before FuncKind + k) (waiting k)
 
   -- The hints of function `i`
   abbrev pub own_hints : ℕ → List (Placed Hint)
@@ -176,7 +176,7 @@ module _ (folding : Option Folding) (names : Names) (m : PlacedModule) where
   fields_items skeleton ElementSection = field_rows (codes "elem") (own_element skeleton) 0 m.elements
   fields_items skeleton DataCountSection = End
   fields_items skeleton CodeSection = field_rows (codes "func") (own_function skeleton) (before FuncKind) m.functions
-  fields_items skeleton DataSection = field_rows (codes "data") (own_data skeleton) 0 m.datas
+  fields_items skeleton DataSection = field_rows (codes "data") (own_data skeleton) 0 m.data_segments
   fields_items skeleton CustomSection = End
 
   -- The items of the fields of sections in order
@@ -204,7 +204,7 @@ module _ (folding : Option Folding) (names : Names) (m : PlacedModule) where
     exports = map_numbered own_export 0 m.exports;
     start = start_held early m.start;
     elements = map_numbered (own_element false) 0 m.elements;
-    datas = map_numbered (own_data false) 0 m.datas;
+    data_segments = map_numbered (own_data false) 0 m.data_segments;
   }
 
   pub fields-module_items : IsRanged m → fields (module_items false) ≡ Some all_fields
@@ -220,7 +220,7 @@ module _ (folding : Option Folding) (names : Names) (m : PlacedModule) where
       (fields-start early m.start _ _ refl
       (fields-gathered gathered_elements (own_element false) _ m.elements _ _ refl
       (fields-gathered gathered_functions (own_function false) _ m.functions _ _ refl
-      (fields-gathered gathered_datas (own_data false) 0 m.datas End no_fields refl refl))))))))))
+      (fields-gathered gathered_datas (own_data false) 0 m.data_segments End no_fields refl refl))))))))))
       ∙ ap (λ v. Some v) (simp append-nil)
 
   -- ---- the index spaces
@@ -240,7 +240,7 @@ module _ (folding : Option Folding) (names : Names) (m : PlacedModule) where
     tags = own_space row.Tag;
     globals = own_space row.Global;
     elems = own_space row.Elem;
-    datas = own_space row.Data;
+    data_segments = own_space row.Data;
     locals = [];
   }
 
@@ -248,7 +248,7 @@ module _ (folding : Option Folding) (names : Names) (m : PlacedModule) where
   kind_space : {A : Type 0} → AreApart names → (kind : ExternKind) (items : ℕ → A → Forest) →
       ((i : ℕ) (x : A) → (identifier_in_front (items i x)).0 ≡ id (names.items (space_of kind) i)) → (xs : List A) → before kind + length xs ≤ 2 ^ 64 →
       (n : ℕ) → n ≡ before kind + length xs →
-      space_behind kind own_imports (map_numbered items (before kind) xs) ≡ Some (identifiers (names.items (space_of kind)) n)
+      space_after kind own_imports (map_numbered items (before kind) xs) ≡ Some (identifiers (names.items (space_of kind)) n)
   kind_space apart kind items its xs few n e =
       let named = names.items (space_of kind) in
       let b : ℕ = before kind in
@@ -300,8 +300,8 @@ module _ (folding : Option Folding) (names : Names) (m : PlacedModule) where
             (numbers_fit h GlobalKind _ h.globals) own_counts.globals (counted GlobalKind (λ g. global_without_places g.value) m.globals),
         alone_space apart row.Elem (own_element false) (λ i e. ap (λ x. x.0) (identifier_in_front-element early i e.value)) m.elements own_counts.elems
             (omega (arith, h.elements, length-map m.elements (λ e. element_without_places e.value))) (length-map m.elements (λ e. element_without_places e.value)),
-        alone_space apart row.Data (own_data false) (λ i d. ap (λ x. x.0) (identifier_in_front-data late i d.value)) m.datas own_counts.datas
-            (omega (arith, h.datas, length-map m.datas (λ d. data_without_places d.value))) (length-map m.datas (λ d. data_without_places d.value)),
+        alone_space apart row.Data (own_data false) (λ i d. ap (λ x. x.0) (identifier_in_front-data late i d.value)) m.data_segments own_counts.data_segments
+            (omega (arith, h.data_segments, length-map m.data_segments (λ d. data_without_places d.value))) (length-map m.data_segments (λ d. data_without_places d.value)),
       )
 
   -- ---- the context in which fields are read
@@ -337,7 +337,7 @@ module _ (folding : Option Folding) (names : Names) (m : PlacedModule) where
     spaces_few row.Tag = omega (arith, numbers_fit h TagKind _ h.tags, length-map m.tags (λ x. x.value))
     spaces_few row.Global = omega (arith, numbers_fit h GlobalKind _ h.globals, length-map m.globals (λ g. global_without_places g.value))
     spaces_few row.Elem = omega (arith, h.elements, length-map m.elements (λ e. element_without_places e.value))
-    spaces_few row.Data = omega (arith, h.datas, length-map m.datas (λ d. data_without_places d.value))
+    spaces_few row.Data = omega (arith, h.data_segments, length-map m.data_segments (λ d. data_without_places d.value))
     spaces_few row.Local = omega arith
     spaces_few row.Label = omega arith
 
@@ -386,7 +386,7 @@ module _ (folding : Option Folding) (names : Names) (m : PlacedModule) where
     read_imports-held n (i ∷ is) r d =
         rw (
           read_import-items early whole_context own_counts (scoped early.function) (number_of i.value.type n) i.value r.0 (scoped_extern i.value.type d.0),
-          read_imports-held (numbers_behind i.value.type n) is r.1 d.1,
+          read_imports-held (numbers_after i.value.type n) is r.1 d.1,
         )
 
     indexed_init : (i : Option (List (Placed Operator))) → indexed.IsIndexedInit (module_of m) (option_map without_places i) →
@@ -436,7 +436,7 @@ module _ (folding : Option Folding) (names : Names) (m : PlacedModule) where
         (indexed_mode e.value.element.mode indexes.mode parts.0) (indexed_items e.value.element.items indexes.items parts.1)
 
     indexed_data_mode : (x : DataMode (Placed Operator)) → indexed.IsIndexedDataMode (module_of m) (data_mode_without_places x) →
-        AllFoldable folding m (elim x as (λ y. List Operators) [ PassiveData ↦ [] | ActiveData memory os ↦ os ∷ [] ]) → datas.IsIndexedDataMode late whole_context own_counts (scoped late.function) x
+        AllFoldable folding m (elim x as (λ y. List Operators) [ PassiveData ↦ [] | ActiveData memory os ↦ os ∷ [] ]) → data_segments.IsIndexedDataMode late whole_context own_counts (scoped late.function) x
     indexed_data_mode PassiveData d l = tt
     indexed_data_mode (ActiveData memory offset) d l = (d.0, (d.1, l.0))
 
@@ -487,11 +487,11 @@ module _ (folding : Option Folding) (names : Names) (m : PlacedModule) where
         (both_of_each (λ e. IsRangedElement e.value × AllFoldable folding m (element_lists false e)) (IsIndexedElement (module_of m)) (λ e. element_without_places e.value) m.elements
         (and_each (λ e. IsRangedElement e.value) (λ e. AllFoldable folding m (element_lists false e)) m.elements h.each_element foldable.elements) k.elements)
 
-    read_datas : each (read_data whole_context) (map_numbered (own_data false) 0 m.datas) ≡ Some (each_value data_without_places m.datas)
+    read_datas : each (read_data whole_context) (map_numbered (own_data false) 0 m.data_segments) ≡ Some (each_value data_without_places m.data_segments)
     read_datas =
-        each-numbered (read_data whole_context) (own_data false) (λ d. data_without_places d.value) read_data-own 0 m.datas
-        (both_of_each (λ d. IsRangedData d.value × AllFoldable folding m (data_lists d)) (IsIndexedData (module_of m)) (λ d. data_without_places d.value) m.datas
-        (and_each (λ d. IsRangedData d.value) (λ d. AllFoldable folding m (data_lists d)) m.datas h.each_data foldable.datas) k.datas)
+        each-numbered (read_data whole_context) (own_data false) (λ d. data_without_places d.value) read_data-own 0 m.data_segments
+        (both_of_each (λ d. IsRangedData d.value × AllFoldable folding m (data_lists d)) (IsIndexedData (module_of m)) (λ d. data_without_places d.value) m.data_segments
+        (and_each (λ d. IsRangedData d.value) (λ d. AllFoldable folding m (data_lists d)) m.data_segments h.each_data foldable.data_segments) k.data_segments)
 
     read_types : each (read_group all_spaces.types) (group_bodies names 0 m.types) ≡ Some own_groups
     unfolding all_spaces

@@ -46,7 +46,7 @@ module _ (folding : Option Folding) (m : PlacedModule) where
     pub globals : AllByRecursion (λ g. Foldable g.value.init) m.globals
     pub elements : AllByRecursion (λ e. AllFoldable (element_lists false e)) m.elements
     pub functions : AllByRecursion (λ f. Foldable f.body.value.operators) m.functions
-    pub datas : AllByRecursion (λ d. AllFoldable (data_lists d)) m.datas
+    pub data_segments : AllByRecursion (λ d. AllFoldable (data_lists d)) m.data_segments
 
   pub can_fold : (o : Options) → o.skeleton ≡ false → (is_folding folding ≡ true → legacy_places o m ≡ []) → CanFold
   can_fold o whole h =
@@ -56,8 +56,8 @@ module _ (folding : Option Folding) (m : PlacedModule) where
       let tables : List Operators = flat_map init_list m.tables in
       let globals : List Operators = map (λ g. g.value.init) m.globals in
       let elements : List Operators = flat_map (element_lists o.skeleton) m.elements in
-      let datas : List Operators = flat_map data_lists m.datas in
-      let last = all_parts Foldable ((tables ++ globals) ++ elements) datas constants in
+      let data_segments : List Operators = flat_map data_lists m.data_segments in
+      let last = all_parts Foldable ((tables ++ globals) ++ elements) data_segments constants in
       let third = all_parts Foldable (tables ++ globals) elements last.0 in
       let first = all_parts Foldable tables globals third.0 in
       record {
@@ -65,7 +65,7 @@ module _ (folding : Option Folding) (m : PlacedModule) where
         globals = all_mapped Foldable (λ g. g.value.init) m.globals first.1;
         elements = all_flat Foldable (element_lists false) m.elements (subst (λ s. AllFoldable (flat_map (element_lists s) m.elements)) whole third.1);
         functions = all_mapped Foldable (λ f. f.body.value.operators) m.functions (subst (λ s. AllFoldable (cond s [] (map (λ f. f.body.value.operators) m.functions))) whole bodies);
-        datas = all_flat Foldable data_lists m.datas last.1;
+        data_segments = all_flat Foldable data_lists m.data_segments last.1;
       }
     where
       nothing_places : (a b : List Operators) → flat_map legacy_places_in a ++ flat_map legacy_places_in b ≡ [] → (flat_map legacy_places_in a ≡ []) × (flat_map legacy_places_in b ≡ [])

@@ -31,17 +31,17 @@ name_entries-are : (cs : List CustomEntry) → AllByRecursion (λ c. IsRangedCus
 name_entries-are [] h = tt
 name_entries-are (c ∷ cs) h = both_entries (custom_entries c.section.value) (name_entries cs) (custom_entries-are c.section.value h.0) (name_entries-are cs h.1)
 
-pub module_names_apart : (invents : Bool) (m : PlacedModule) → IsRanged m → AreApart (module_names invents m)
-module_names_apart invents m h = identifiers_are_apart invents (name_entries m.customs) (name_entries-are m.customs h.each_custom)
+pub module_names_apart : (synthesizes : Bool) (m : PlacedModule) → IsRanged m → AreApart (module_names synthesizes m)
+module_names_apart synthesizes m h = identifiers_are_apart synthesizes (name_entries m.customs) (name_entries-are m.customs h.each_custom)
 
-pub module_names_named : (invents : Bool) (m : PlacedModule) → IsRanged m → AreNamed (module_names invents m)
-module_names_named invents m h = identifiers_are_named invents (name_entries m.customs) (name_entries-are m.customs h.each_custom)
+pub module_names_named : (synthesizes : Bool) (m : PlacedModule) → IsRanged m → AreNamed (module_names synthesizes m)
+module_names_named synthesizes m h = identifiers_are_named synthesizes (name_entries m.customs) (name_entries-are m.customs h.each_custom)
 
 -- The entries from which items have their names are those that the data gives.
 pub entries_are_given : EntriesAreGiven
 entries_are_given d = gives_some (input d.place d.value)
 
 pub modules_have_identifiers : ModulesHaveIdentifiers
-modules_have_identifiers bytes m invents spelled =
+modules_have_identifiers bytes m synthesizes spelled =
     let held = ranged bytes m spelled in
-    (module_names_apart invents m held, module_names_named invents m held)
+    (module_names_apart synthesizes m held, module_names_named synthesizes m held)

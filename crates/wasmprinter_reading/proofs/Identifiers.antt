@@ -12,8 +12,8 @@ use Rattle.wasmprinter_spec.specs.Labels.{Named}
 use Rattle.wasmprinter_spec.specs.IndexSpaces.{Identifiers, index, leading_index}
 use Rattle.wasmprinter_spec.specs.Names.{IsGiven, IsNamed, IsNamedIfAny, AreDistinct, identifiers}
 use Rattle.wasmprinter_spec.specs.Text.Items.{identifier_in_front}
-use Rattle.wasmprinter_spec.specs.Piece.{Piece, Gap, NumberRemark, EndStyle, Identifier, NameNote}
-use Rattle.wasmprinter_spec.specs.Layout.Identifiers.{given_pieces, mark_pieces, leading_mark_pieces, mark_gap_pieces, identifier_gap_pieces, declaration_pieces, index_pieces}
+use Rattle.wasmprinter_spec.specs.Piece.{Piece, Gap, IndexComment, EndStyle, Identifier, NameAnnotation}
+use Rattle.wasmprinter_spec.specs.Layout.Identifiers.{given_pieces, id_and_name_pieces, leading_id_and_name_pieces, id_and_name_gap_pieces, identifier_gap_pieces, declaration_pieces, index_pieces}
 use Rattle.wasmprinter_lexical.proofs.Grown.{onto-End}
 use Rattle.wasmprinter_lexical.proofs.Pieces.{Edge, Free, Bound}
 use Rattle.wasmprinter_lexical.proofs.Writes.{Writes, writing, both_write, identifier_writes, noted_identifier_writes, gap_writes, begin_name_writes, nothing_writes, free_writes}
@@ -100,30 +100,30 @@ name_writes {b = b} {ps = ps} {f = f} n h w =
     let i : IsIdentifier n = named_is n h in
     subst (λ s. Writes Free (Identifier (chars n.content) ∷ ps) b (Name s f)) i.same (identifier_writes i.scalar i.is w)
 
-pub mark_writes : (n : Named) → IsNamed n → Writes Free (mark_pieces n) Bound (Name n.content End)
-unfolding mark_pieces
-mark_writes n h = by n.given h.given
+pub id_and_name_writes : (n : Named) → IsNamed n → Writes Free (id_and_name_pieces n) Bound (Name n.content End)
+unfolding id_and_name_pieces
+id_and_name_writes n h = by n.given h.given
   where
-    with_note : (s : List ℕ) → IsUtf8 s → (t : Bool) → Writes Free (Identifier (chars n.content) ∷ cond t [] (Gap ∷ (NameNote (chars s) ∷ []))) Bound (Name n.content End)
+    with_note : (s : List ℕ) → IsUtf8 s → (t : Bool) → Writes Free (Identifier (chars n.content) ∷ cond t [] (Gap ∷ (NameAnnotation (chars s) ∷ []))) Bound (Name n.content End)
     with_note s g true = name_writes n h nothing_writes
     with_note s g false =
         let i : IsIdentifier n = named_is n h in
-        subst (λ t. Writes Free (Identifier (chars n.content) ∷ (Gap ∷ (NameNote (chars s) ∷ []))) Bound (Name t End)) i.same
+        subst (λ t. Writes Free (Identifier (chars n.content) ∷ (Gap ∷ (NameAnnotation (chars s) ∷ []))) Bound (Name t End)) i.same
         (noted_identifier_writes i.scalar i.is (scalars-chars s g) free_writes)
 
     by : (g : Option (List ℕ)) → IsGiven g → Writes Free (Identifier (chars n.content) ∷ given_pieces g n.content) Bound (Name n.content End)
     by None g = name_writes n h nothing_writes
     by (Some s) g = with_note s g (bytes_eq s n.content)
 
-pub leading_mark_writes : (o : Option Named) → IsNamedIfAny o → Writes Bound (leading_mark_pieces o) Bound (id_items o)
-unfolding leading_mark_pieces
-leading_mark_writes None h = nothing_writes
-leading_mark_writes (Some n) h = gap_writes refl (mark_writes n h)
+pub leading_id_and_name_writes : (o : Option Named) → IsNamedIfAny o → Writes Bound (leading_id_and_name_pieces o) Bound (id_items o)
+unfolding leading_id_and_name_pieces
+leading_id_and_name_writes None h = nothing_writes
+leading_id_and_name_writes (Some n) h = gap_writes refl (id_and_name_writes n h)
 
-pub mark_gap_writes : (o : Option Named) → IsNamedIfAny o → Writes Free (mark_gap_pieces o) Free (id_items o)
-unfolding mark_gap_pieces
-mark_gap_writes None h = nothing_writes
-mark_gap_writes (Some n) h = both_write (mark_writes n h) (gap_writes refl nothing_writes)
+pub id_and_name_gap_writes : (o : Option Named) → IsNamedIfAny o → Writes Free (id_and_name_gap_pieces o) Free (id_items o)
+unfolding id_and_name_gap_pieces
+id_and_name_gap_writes None h = nothing_writes
+id_and_name_gap_writes (Some n) h = both_write (id_and_name_writes n h) (gap_writes refl nothing_writes)
 
 pub identifier_gap_writes : (o : Option Named) → IsNamedIfAny o → Writes Free (identifier_gap_pieces o) Free (id_items o)
 unfolding identifier_gap_pieces
@@ -133,8 +133,8 @@ identifier_gap_writes (Some n) h = name_writes n h (gap_writes refl nothing_writ
 pub declaration_writes : (o : Option Named) (i : ℕ) → IsNamedIfAny o → i < 2 ^ 64 → Writes Free (declaration_pieces o i) Bound (id_items o)
 unfolding declaration_pieces
 declaration_writes o i h small =
-    let number : Writes Free (NumberRemark i ∷ (EndStyle ∷ [])) Bound End = search writing in
-    begin_name_writes (rw onto-End at (both_write (mark_gap_writes o h) number))
+    let number : Writes Free (IndexComment i ∷ (EndStyle ∷ [])) Bound End = search writing in
+    begin_name_writes (rw onto-End at (both_write (id_and_name_gap_writes o h) number))
 
 pub index_writes : (o : Option Named) (n : ℕ) → IsNamedIfAny o → n < 2 ^ 64 → Writes Free (index_pieces o n) Bound (index_items o n)
 unfolding index_pieces

@@ -12,7 +12,7 @@ use Rattle.wasmprinter_spec.specs.Piece.{Piece, all_calls}
 use Rattle.wasmprinter_spec.specs.Kinds.{Kind, CodeSection}
 use Rattle.wasmprinter_spec.specs.Types.{FuncKind}
 use Rattle.wasmprinter_spec.specs.Customs.{RawCustom, raw_customs}
-use Rattle.wasmprinter_spec.specs.Customs.Hints.{FunctionHints, hints_of, hints_behind}
+use Rattle.wasmprinter_spec.specs.Customs.Hints.{FunctionHints, hints_of, hints_after}
 use Rattle.wasmprinter_spec.specs.Placed.{PlacedModule, PlacedFunction}
 use Rattle.wasmprinter_spec.specs.Names.{Names, AreNamed}
 use Rattle.wasmprinter_spec.specs.Labels.{Named}
@@ -38,13 +38,13 @@ use Rattle.wasmprinter_lexical.proofs.Respelled.{all_lexed, pieces_lexed}
 use Rattle.wasmprinter_lexical.proofs.Noted.{Noted, noted-without_annotations, noted-raw_groups}
 use Rattle.wasmprinter_lexical.proofs.Writes.{Writes, pieces_tokens, writes_text, writes_forest}
 use Rattle.wasmprinter_reading.proofs.Identifiers.{id_items}
-use Rattle.wasmprinter_reading.proofs.Folded.Lists.{IsUnpainted}
+use Rattle.wasmprinter_reading.proofs.Folded.Lists.{IsUncolored}
 use Rattle.wasmprinter_reading.proofs.Fields.Functions.{functions_hinted}
 use Rattle.wasmprinter_reading.proofs.Customs.Notes.{at_place, RowReads, both_rows}
 use Rattle.wasmprinter_reading.proofs.Customs.Places.{raws_over, raws_over_all}
 use Rattle.wasmprinter_reading.proofs.Written.{fields_noted, fields_write, noting, noted, kinds_noted, module_noted, laid, module_writes, Stands, module_stands}
 use Rattle.wasmprinter_reading.proofs.Foldable.{CanFold}
-use Rattle.wasmprinter_reading.proofs.AsAsked.{pieces_as_asked, layout_as_asked, refused_as_asked, can_fold_as_asked, unpainted_as_asked}
+use Rattle.wasmprinter_reading.proofs.AsAsked.{pieces_as_asked, layout_as_asked, refused_as_asked, can_fold_as_asked, uncolored_as_asked}
 use Rattle.wasmprinter_reading.proofs.Back.{early, before, module_items, module_reads}
 
 -- ---- raw custom sections read back
@@ -73,7 +73,7 @@ plain_row {f = f} w =
 
 functions_row : (skeleton : Bool) (s : Scope) (es : List FunctionHints) (i : ℕ) (fs : List PlacedFunction) → RowReads (functions_hinted skeleton s es i fs) []
 functions_row skeleton s es i [] = refl
-functions_row skeleton s es i (f ∷ fs) = functions_row skeleton s (hints_behind i es) (i + 1) fs
+functions_row skeleton s es i (f ∷ fs) = functions_row skeleton s (hints_after i es) (i + 1) fs
 
 id_row : (o : Option Named) → RawRow (id_items o) []
 id_row None = record { reads = refl }
@@ -83,7 +83,7 @@ each-map : {A B C : Type 0} (f : B → Option C) (g : A → B) (xs : List A) →
 each-map f g [] = refl
 each-map f g (x ∷ xs) = ap (λ t. f (g x) >>= λ y. t >>= λ ys. Some (y ∷ ys)) (each-map f g xs)
 
-module _ (folding : Option Folding) (bare : IsUnpainted folding) (o : Options) (names : Names) (named : AreNamed names) (m : PlacedModule) (h : IsRanged m) (answers : Answers)
+module _ (folding : Option Folding) (bare : IsUncolored folding) (o : Options) (names : Names) (named : AreNamed names) (m : PlacedModule) (h : IsRanged m) (answers : Answers)
     (unclaimed : AreUnclaimed answers) (whole : o.skeleton ≡ false) where
   raws : Option Kind → List RawCustom
   raws place = raw_customs (at_place place m.customs)
@@ -142,15 +142,15 @@ module _ (folding : Option Folding) (bare : IsUnpainted folding) (o : Options) (
 
 -- ---- a module with its own identifiers
 
-module _ (folding : Option Folding) (bare : IsUnpainted folding) (o : Options) (answers : Answers) (m : PlacedModule) (h : IsRanged m) (blank : IsBlank o.indent) where
+module _ (folding : Option Folding) (bare : IsUncolored folding) (o : Options) (answers : Answers) (m : PlacedModule) (h : IsRanged m) (blank : IsBlank o.indent) where
   abbrev own_names : Names
-  own_names = module_names o.invents m
+  own_names = module_names o.synthesizes m
 
   abbrev own_pieces : List Piece
   own_pieces = pieces_by folding o answers own_names m
 
   named : AreNamed own_names
-  named = module_names_named o.invents m h
+  named = module_names_named o.synthesizes m h
 
   pieces_stand : Stands own_pieces
   pieces_stand = module_stands folding bare o own_names named m h answers
@@ -173,30 +173,30 @@ module _ (folding : Option Folding) (bare : IsUnpainted folding) (o : Options) (
   pieces_read_back unclaimed whole indexed some foldable none =
       read_pieces folding bare o own_names named m h answers unclaimed whole blank none (record (module_of m) { customs = [] })
       (ap (λ s. read_forest (Group (Word (codes "module") (onto (id_items own_names.module_name) (module_items folding own_names m s))) End)) whole
-      ∙ module_reads folding own_names m (module_names_apart o.invents m h) named foldable indexed h some)
+      ∙ module_reads folding own_names m (module_names_apart o.synthesizes m h) named foldable indexed h some)
 
 -- ---- the laws, if operators are folded as the options say
 
 pub reads_back : ReadsBack
 reads_back bytes m o answers spelled indexed some whole plain blank unclaimed foldable none =
     ap (λ cs. read (text_of cs)) (layout_as_asked o answers m)
-    ∙ pieces_read_back (folding_of o m) (unpainted_as_asked o m plain) o answers m (ranged bytes m spelled) blank unclaimed whole indexed some
+    ∙ pieces_read_back (folding_of o m) (uncolored_as_asked o m plain) o answers m (ranged bytes m spelled) blank unclaimed whole indexed some
     (can_fold_as_asked o m whole foldable) (sym (refused_as_asked o answers m) ∙ none)
 
 pub prints_plain_text : PrintsPlainText
 prints_plain_text bytes m o answers spelled plain blank =
     subst (λ cs. IsPlainText (text_of cs)) (sym (layout_as_asked o answers m))
-    (pieces_are_plain (folding_of o m) (unpainted_as_asked o m plain) o answers m (ranged bytes m spelled) blank)
+    (pieces_are_plain (folding_of o m) (uncolored_as_asked o m plain) o answers m (ranged bytes m spelled) blank)
 
-layout_tokens : (o : Options) (answers : Answers) (m : PlacedModule) → IsRanged m → o.paints ≡ false → IsBlank o.indent →
+layout_tokens : (o : Options) (answers : Answers) (m : PlacedModule) → IsRanged m → o.color ≡ false → IsBlank o.indent →
     tokens (text_of (layout o answers m)) ≡ all_lexed (module_pieces o answers m)
 unfolding module_pieces
 layout_tokens o answers m h plain blank =
     ap (λ cs. tokens (text_of cs)) (layout_as_asked o answers m)
-    ∙ tokens_of_pieces (folding_of o m) (unpainted_as_asked o m plain) o answers m h blank
-    ∙ ap all_lexed (sym (pieces_as_asked o answers (module_names o.invents m) m))
+    ∙ tokens_of_pieces (folding_of o m) (uncolored_as_asked o m plain) o answers m h blank
+    ∙ ap all_lexed (sym (pieces_as_asked o answers (module_names o.synthesizes m) m))
 
 pub tokens_stay : TokensStay
-tokens_stay bytes m o p answers spelled same invents folds plain_o plain_p blank_o blank_p =
+tokens_stay bytes m o p answers spelled same synthesizes folds plain_o plain_p blank_o blank_p =
     let h : IsRanged m = ranged bytes m spelled in
-    layout_tokens o answers m h plain_o blank_o ∙ module_pieces_stay o p same folds (plain_o ∙ sym plain_p) invents answers m ∙ sym (layout_tokens p answers m h plain_p blank_p)
+    layout_tokens o answers m h plain_o blank_o ∙ module_pieces_stay o p same folds (plain_o ∙ sym plain_p) synthesizes answers m ∙ sym (layout_tokens p answers m h plain_p blank_p)

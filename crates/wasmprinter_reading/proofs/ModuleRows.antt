@@ -26,7 +26,7 @@ named_bytes =
     ++ (0x02 ∷ 0x0c ∷ 0x01 ∷ 0x00 ∷ 0x03 ∷ 0x00 ∷ 0x01 ∷ codes "a" ++ (0x01 ∷ 0x01 ∷ codes "a") ++ (0x03 ∷ 0x01 ∷ codes "x"))
 
 abbrev printed : Bool → Option (List ℕ)
-printed invents = option_map (λ m. text_of (layout (record defaults { invents = invents }) (λ n. false) m)) (binary.parse (input 0 named_bytes))
+printed synthesizes = option_map (λ m. text_of (layout (record defaults { synthesizes = synthesizes }) (λ n. false) m)) (binary.parse (input 0 named_bytes))
 
 abbrev named_text : List ℕ
 named_text = lines (
@@ -43,8 +43,8 @@ named_printed : printed false ≡ Some named_text
 unfolding composing reading
 named_printed = refl
 
-invented_text : List ℕ
-invented_text = lines (
+synthesized_text : List ℕ
+synthesized_text = lines (
     codes "(module $m"
     ∷ codes "  (type $#type0 (;0;) (func (param i32 i64) (result i32)))"
     ∷ codes "  (func $f (;0;) (type $#type0) (param $a i32) (param $\"#local1 a\" (@name \"a\") i64) (result i32)"
@@ -54,9 +54,9 @@ invented_text = lines (
     ∷ codes ")"
     ∷ [])
 
-invented_printed : printed true ≡ Some invented_text
-unfolding composing reading invented_text
-invented_printed = refl
+synthesized_printed : printed true ≡ Some synthesized_text
+unfolding composing reading synthesized_text
+synthesized_printed = refl
 
 abbrev named_module : Module
 named_module = record empty {
@@ -72,6 +72,6 @@ named_read : read named_text ≡ Some named_module
 unfolding reading
 named_read = refl
 
-invented_read : read invented_text ≡ Some named_module
-unfolding reading invented_text
-invented_read = refl
+synthesized_read : read synthesized_text ≡ Some named_module
+unfolding reading synthesized_text
+synthesized_read = refl

@@ -42,9 +42,9 @@ flat_operator : nodes_in (codes "(i32.const 0) drop") ≡ None
 unfolding reading
 flat_operator = refl
 
-item_behind : nodes_in (codes "(drop (i32.const 0) 1)") ≡ None
+item_after : nodes_in (codes "(drop (i32.const 0) 1)") ≡ None
 unfolding reading
-item_behind = refl
+item_after = refl
 
 -- ---- trees
 
@@ -113,7 +113,7 @@ unfolding reading
 initialisers = refl
 
 -- An offset and items, each after the word of its group or alone in it
-segments : option_map (λ fs. map segment_nodes (fs.elements ++ fs.datas)) sorted
+segments : option_map (λ fs. map segment_nodes (fs.elements ++ fs.data_segments)) sorted
     ≡ Some (
     (Some (Snoc Nil (Word (codes "i32.add") End) 0 (constant (codes "1") (constant (codes "0") Nil))) ∷ [])
     ∷ ((Some (constant (codes "0") Nil) ∷ (Some (Snoc Nil (Word (codes "ref.func") (Word (codes "0") End)) 0 Nil) ∷ (Some (Snoc Nil (Word (codes "ref.null") (Word (codes "0") End)) 0 Nil) ∷ [])))

@@ -18,12 +18,12 @@ use Rattle.wasmprinter_spec.specs.Names.Section.{Entry, function_subsection, loc
 use Rattle.wasmprinter_spec.specs.Names.{Names, names_of, identifiers, in_function}
 use Rattle.wasmprinter_spec.specs.Quoted.{identifier_text}
 use Rattle.wasmprinter_spec.specs.Character.{class}
-use Rattle.wasmprinter_spec.specs.FloatText.{digits_behind, unsigned_text, float_text, unsigned_calls, float_calls}
+use Rattle.wasmprinter_spec.specs.FloatText.{digits_after, unsigned_text, float_text, unsigned_calls, float_calls}
 use Rattle.wasmprinter_spec.specs.Call.{text_of}
 use Rattle.wasmprinter_spec.specs.Options.{defaults, IsBlank}
 use Rattle.wasmprinter_spec.specs.Piece.{all_calls, repetition_of}
 use Rattle.wasmprinter_spec.specs.Layout.Groups.{line_group, line_group_gap}
-use Rattle.wasmprinter_spec.specs.Layout.Identifiers.{mark_pieces, leading_mark_pieces, index_pieces}
+use Rattle.wasmprinter_spec.specs.Layout.Identifiers.{id_and_name_pieces, leading_id_and_name_pieces, index_pieces}
 use Rattle.wasmprinter_spec.specs.Layout.ValTypes.{type_index_pieces, heap_pieces, null_ref_pieces, ref_pieces, val_pieces, type_list}
 use Rattle.wasmprinter_spec.specs.Layout.Variables.{variables_pieces, groups_pieces}
 use Rattle.wasmprinter_spec.specs.Layout.Types.{list_group, signature_pieces, type_use_pieces}
@@ -66,7 +66,7 @@ counts = record {
   tags = 2;
   globals = 2;
   elems = 2;
-  datas = 2;
+  data_segments = 2;
   locals = 2;
   signature = signature;
   fields = fields;
@@ -84,7 +84,7 @@ spaces names = record {
   tags = identifiers (names.items row.Tag) 2;
   globals = identifiers (names.items row.Global) 2;
   elems = identifiers (names.items row.Elem) 2;
-  datas = identifiers (names.items row.Data) 2;
+  data_segments = identifiers (names.items row.Data) 2;
   locals = identifiers (names.locals 0) 2;
 }
 
@@ -144,19 +144,19 @@ two_blanks : IsBlank defaults.indent
 two_blanks = (inl refl, (inl refl, tt))
 
 -- The text of operators that meet the premises of the law reads as these operators.
-reads_by : (invents : Bool) (entries : List Entry) → AreEntries entries → (form : Form) (os : List (Placed Operator)) → AreOperators counts os →
-    read_alone (context (names_of invents entries)) (text_of (all_calls defaults (expression_pieces (setting (names_of invents entries) form) os))) ≡ Some (without_places os)
+reads_by : (synthesizes : Bool) (entries : List Entry) → AreEntries entries → (form : Form) (os : List (Placed Operator)) → AreOperators counts os →
+    read_alone (context (names_of synthesizes entries)) (text_of (all_calls defaults (expression_pieces (setting (names_of synthesizes entries) form) os))) ≡ Some (without_places os)
 unfolding expression_pieces
-reads_by invents entries h form os is =
-    named_operators_read_back invents entries h (setting (names_of invents entries) form) refl (context (names_of invents entries)) counts
-    (same_types (names_of invents entries) form) (same_names (names_of invents entries) form) [] os is defaults two_blanks
+reads_by synthesizes entries h form os is =
+    named_operators_read_back synthesizes entries h (setting (names_of synthesizes entries) form) refl (context (names_of synthesizes entries)) counts
+    (same_types (names_of synthesizes entries) form) (same_names (names_of synthesizes entries) form) [] os is defaults two_blanks
 
 -- Names without name sections, with synthesized identifiers or without
 abbrev unnamed : Names
 unnamed = names_of false []
 
-abbrev invented : Names
-invented = names_of true []
+abbrev synthesized : Names
+synthesized = names_of true []
 
 -- ---- in one line
 
@@ -173,7 +173,7 @@ one_result_is = record {
 }
 
 one_result_text : text_of (all_calls defaults (expression_pieces (setting unnamed InLine) one_result)) ≡ codes "block (result i32)  (; label = @1 ;) i32.const 1 end"
-unfolding table expression_pieces operators_pieces operator_pieces immediate_pieces leading_mark_pieces block_pieces val_pieces ending_pieces line_group_gap digits
+unfolding table expression_pieces operators_pieces operator_pieces immediate_pieces leading_id_and_name_pieces block_pieces val_pieces ending_pieces line_group_gap digits
 one_result_text = refl
 
 one_result_reads : read_alone (context unnamed) (codes "block (result i32)  (; label = @1 ;) i32.const 1 end") ≡ Some (without_places one_result)
@@ -194,7 +194,7 @@ reference_result_is = record {
 }
 
 reference_result_text : text_of (all_calls defaults (expression_pieces (setting unnamed InLine) reference_result)) ≡ codes "block (result (ref 0))  (; label = @1 ;) end"
-unfolding table expression_pieces operators_pieces operator_pieces immediate_pieces leading_mark_pieces block_pieces val_pieces ref_pieces heap_pieces type_index_pieces index_pieces ending_pieces line_group_gap digits
+unfolding table expression_pieces operators_pieces operator_pieces immediate_pieces leading_id_and_name_pieces block_pieces val_pieces ref_pieces heap_pieces type_index_pieces index_pieces ending_pieces line_group_gap digits
 reference_result_text = refl
 
 reference_result_reads : read_alone (context unnamed) (codes "block (result (ref 0))  (; label = @1 ;) end") ≡ Some (without_places reference_result)
@@ -278,7 +278,7 @@ operands_are = record {
 }
 
 operands_print : text_of (all_calls defaults (expression_pieces (setting unnamed InLine) operands)) ≡ operands_text
-unfolding table expression_pieces operators_pieces operator_pieces immediate_pieces default_index_pieces index_pieces type_index_pieces mem_arg_pieces offset_pieces align_pieces vector_pieces hex_words line_group_gap digits float_calls float_text unsigned_calls unsigned_text digits_behind
+unfolding table expression_pieces operators_pieces operator_pieces immediate_pieces default_index_pieces index_pieces type_index_pieces mem_arg_pieces offset_pieces align_pieces vector_pieces hex_words line_group_gap digits float_calls float_text unsigned_calls unsigned_text digits_after
 operands_print = refl
 
 operands_read : read_alone (context unnamed) operands_text ≡ Some (without_places operands)
@@ -312,13 +312,13 @@ branches_are = record {
   indexed = (tt, (tt, (tt, (tt, (tt, (tt, tt))))));
 }
 
-branches_print : text_of (all_calls defaults (expression_pieces (setting invented OverLines) branches)) ≡ branches_text
-unfolding table expression_pieces operators_pieces operator_pieces immediate_pieces operand_pieces index_pieces label_pieces mark_pieces leading_mark_pieces block_pieces type_use_pieces type_index_pieces signature_pieces groups_pieces variables_pieces list_group type_list val_pieces ending_pieces line_group line_group_gap digits repetition_of identifier_text chars class
+branches_print : text_of (all_calls defaults (expression_pieces (setting synthesized OverLines) branches)) ≡ branches_text
+unfolding table expression_pieces operators_pieces operator_pieces immediate_pieces operand_pieces index_pieces label_pieces id_and_name_pieces leading_id_and_name_pieces block_pieces type_use_pieces type_index_pieces signature_pieces groups_pieces variables_pieces list_group type_list val_pieces ending_pieces line_group line_group_gap digits repetition_of identifier_text chars class
 branches_print = refl
 
-branches_read : read_alone (context invented) branches_text ≡ Some (without_places branches)
+branches_read : read_alone (context synthesized) branches_text ≡ Some (without_places branches)
 branches_read =
-    ap (read_alone (context invented)) (sym branches_print) ∙ reads_by true [] tt OverLines branches branches_are
+    ap (read_alone (context synthesized)) (sym branches_print) ∙ reads_by true [] tt OverLines branches branches_are
 
 -- ---- with names
 
@@ -379,19 +379,19 @@ abbrev named_text : List ℕ
 named_text = codes "block $done local.get $p struct.get $point $x call $run local.get 1 br $done end"
 
 named_print : text_of (all_calls defaults (expression_pieces (setting some_names InLine) accesses)) ≡ named_text
-unfolding table expression_pieces operators_pieces operator_pieces immediate_pieces operand_pieces index_pieces label_pieces type_and_field_pieces mark_pieces leading_mark_pieces block_pieces ending_pieces digits identifier_text chars class
+unfolding table expression_pieces operators_pieces operator_pieces immediate_pieces operand_pieces index_pieces label_pieces type_and_field_pieces id_and_name_pieces leading_id_and_name_pieces block_pieces ending_pieces digits identifier_text chars class
 named_print = refl
 
 named_read : read_alone (context some_names) named_text ≡ Some (without_places accesses)
 named_read = ap (read_alone (context some_names)) (sym named_print) ∙ reads_by false some_entries some_are_entries InLine accesses accesses_are
 
 -- The same operators with synthesized identifiers for all items
-abbrev invented_text : List ℕ
-invented_text = codes "block $#label0 local.get $#local0 struct.get $#type1 $#field0 call $#func1 local.get $#local1 br $#label0 end"
+abbrev synthesized_text : List ℕ
+synthesized_text = codes "block $#label0 local.get $#local0 struct.get $#type1 $#field0 call $#func1 local.get $#local1 br $#label0 end"
 
-invented_print : text_of (all_calls defaults (expression_pieces (setting invented InLine) accesses)) ≡ invented_text
-unfolding table expression_pieces operators_pieces operator_pieces immediate_pieces operand_pieces index_pieces label_pieces type_and_field_pieces mark_pieces leading_mark_pieces block_pieces ending_pieces digits identifier_text chars class
-invented_print = refl
+synthesized_print : text_of (all_calls defaults (expression_pieces (setting synthesized InLine) accesses)) ≡ synthesized_text
+unfolding table expression_pieces operators_pieces operator_pieces immediate_pieces operand_pieces index_pieces label_pieces type_and_field_pieces id_and_name_pieces leading_id_and_name_pieces block_pieces ending_pieces digits identifier_text chars class
+synthesized_print = refl
 
-invented_read : read_alone (context invented) invented_text ≡ Some (without_places accesses)
-invented_read = ap (read_alone (context invented)) (sym invented_print) ∙ reads_by true [] tt InLine accesses accesses_are
+synthesized_read : read_alone (context synthesized) synthesized_text ≡ Some (without_places accesses)
+synthesized_read = ap (read_alone (context synthesized)) (sym synthesized_print) ∙ reads_by true [] tt InLine accesses accesses_are

@@ -18,15 +18,15 @@ use Rattle.wasmprinter_spec.specs.Binary.Types.{mutability}
 use Rattle.wasmprinter_spec.specs.Binary.Limits.{has_bit, limits}
 use Rattle.wasmprinter_spec.specs.Binary.Memories.{page_exponent, page, memory_type}
 use Rattle.wasmprinter_spec.specs.Binary.Tags.{tag}
-use Rattle.wasmprinter_spec.specs.Binary.Tables.{table_limits_behind, table_type, table_by, table}
+use Rattle.wasmprinter_spec.specs.Binary.Tables.{table_limits_after, table_type, table_by, table}
 use Rattle.wasmprinter_spec.specs.Binary.Globals.{global_type, global}
-use Rattle.wasmprinter_spec.specs.Binary.Imports.{extern_type_behind, import}
+use Rattle.wasmprinter_spec.specs.Binary.Imports.{extern_type_after, import}
 use Rattle.wasmprinter_spec.specs.Binary.Elements as binary
-use Rattle.wasmprinter_spec.specs.Binary.Elements.{element_behind, element}
+use Rattle.wasmprinter_spec.specs.Binary.Elements.{element_after, element}
 use Rattle.wasmprinter_spec.specs.Binary.DataSegments as segments
 use Rattle.wasmprinter_spec.specs.Binary.{AreBytes}
 use Rattle.wasmprinter_reading.proofs.Ranged.{IsRangedMax, IsRangedPage, IsRangedMemory, IsRangedExpression, IsRangedTableType, IsRangedTable, IsRangedGlobal, IsRangedExtern, IsRangedImport, IsRangedMode, AreRangedItems, IsRangedElement, IsRangedDataMode, IsRangedData}
-use Rattle.wasmprinter_reading.proofs.AllSpelled.{AllSpelled, Spelled-of_all, Spelled-any, Spelled-seq, Spelled-try_map, Spelled-map_value, Spelled-succeed, Spelled-fail, Spelled-choose, Spelled-behind_first_byte, Spelled-by_first_byte, AllSpelled-take_bytes}
+use Rattle.wasmprinter_reading.proofs.AllSpelled.{AllSpelled, Spelled-of_all, Spelled-any, Spelled-seq, Spelled-try_map, Spelled-map_value, Spelled-succeed, Spelled-fail, Spelled-choose, Spelled-after_first_byte, Spelled-by_first_byte, AllSpelled-take_bytes}
 use Rattle.wasmprinter_reading.proofs.Few.{FewSpelled}
 use Rattle.wasmprinter_reading.proofs.LebRange.{AllSpelled-unsigned}
 use Rattle.wasmprinter_reading.proofs.Vectors.{AllSpelled-u32, Spelled-vec}
@@ -58,7 +58,7 @@ AllSpelled-page false = Spelled-succeed tt
 
 -- A memory type is in range: its limits and the size of its pages.
 pub AllSpelled-memory_type : AllSpelled memory_type IsRangedMemory
-AllSpelled-memory_type = Spelled-behind_first_byte (λ flags.
+AllSpelled-memory_type = Spelled-after_first_byte (λ flags.
     Spelled-choose (ltb flags 16)
     (Spelled-map_value (Spelled-seq (AllSpelled-limits (has_bit 0 flags)) (λ _. AllSpelled-page (has_bit 3 flags)))
     (λ x ((min, max), page). record { min = min; max = max; page = page })) Spelled-fail)
@@ -87,7 +87,7 @@ FewSpelled-constant = Spelled-map_value nested (λ x h. h)
 -- ---- tables and globals
 
 -- The limits of a table are below 2 ^ 64.
-AllSpelled-table_limits : (flags : ℕ) → AllSpelled (table_limits_behind flags) (λ x. (x.1.min < 2 ^ 64) × IsRangedMax x.1.max)
+AllSpelled-table_limits : (flags : ℕ) → AllSpelled (table_limits_after flags) (λ x. (x.1.min < 2 ^ 64) × IsRangedMax x.1.max)
 AllSpelled-table_limits flags =
     Spelled-choose (flags == 0 || flags == 1 || flags == 4 || flags == 5)
     (Spelled-map_value (AllSpelled-limits (has_bit 0 flags)) (λ l h. h)) Spelled-fail
@@ -95,7 +95,7 @@ AllSpelled-table_limits flags =
 -- The type of a table is in range.
 AllSpelled-table_type : AllSpelled table_type IsRangedTableType
 AllSpelled-table_type =
-    Spelled-map_value (Spelled-seq AllSpelled-reference_type (λ _. Spelled-behind_first_byte AllSpelled-table_limits))
+    Spelled-map_value (Spelled-seq AllSpelled-reference_type (λ _. Spelled-after_first_byte AllSpelled-table_limits))
     (λ x (element, (min, max)). record { min = min; max = max; element = element })
 
 -- A table is in range, with an initialiser or without.
@@ -120,8 +120,8 @@ FewSpelled-global =
 
 -- ---- imports
 
-AllSpelled-extern_type_behind : (k : ℕ) → AllSpelled (extern_type_behind k) IsRangedExtern
-AllSpelled-extern_type_behind k =
+AllSpelled-extern_type_after : (k : ℕ) → AllSpelled (extern_type_after k) IsRangedExtern
+AllSpelled-extern_type_after k =
     Spelled-choose (k == 0) (Spelled-map_value AllSpelled-u32 (λ i h. h))
     (Spelled-choose (k == 1) (Spelled-map_value AllSpelled-table_type (λ t h. h))
     (Spelled-choose (k == 2) (Spelled-map_value AllSpelled-memory_type (λ t h. h))
@@ -131,7 +131,7 @@ AllSpelled-extern_type_behind k =
 -- An import is in range: two names and a type.
 pub AllSpelled-import : AllSpelled import IsRangedImport
 AllSpelled-import =
-    Spelled-map_value (Spelled-seq AllSpelled-name (λ _. Spelled-seq AllSpelled-name (λ _. Spelled-behind_first_byte AllSpelled-extern_type_behind)))
+    Spelled-map_value (Spelled-seq AllSpelled-name (λ _. Spelled-seq AllSpelled-name (λ _. Spelled-after_first_byte AllSpelled-extern_type_after)))
     (λ x (source, (name, type)). record { source = source; name = name; type = type })
 
 -- ---- element segments
@@ -160,17 +160,17 @@ FewSpelled-expressions t r = Spelled-map_value (Spelled-vec FewSpelled-constant)
 FewSpelled-of_type : FewSpelled binary.items_of_type AreRangedItems
 FewSpelled-of_type =
     Spelled-map_value
-    (Spelled-seq (Spelled-of_all AllSpelled-reference_type) (λ t. items_behind t)) (λ x h. h.1 h.0)
+    (Spelled-seq (Spelled-of_all AllSpelled-reference_type) (λ t. items_after t)) (λ x h. h.1 h.0)
   where
-    items_behind : (t : RefType) → FewSpelled (binary.expression_items t) (λ is. IsRangedHeap t.heap → AreRangedItems is)
-    items_behind t = Spelled-map_value (Spelled-vec FewSpelled-constant) (λ es h r. (r, h.each))
+    items_after : (t : RefType) → FewSpelled (binary.expression_items t) (λ is. IsRangedHeap t.heap → AreRangedItems is)
+    items_after t = Spelled-map_value (Spelled-vec FewSpelled-constant) (λ es h r. (r, h.each))
 
 FewSpelled-segment : (names : Bool) {mode : Grammar (ElementMode (Placed Operator))} {items : Grammar (Items (Placed Operator))} →
     FewSpelled mode (IsRangedMode names) → FewSpelled items AreRangedItems → FewSpelled (binary.segment names mode items) IsRangedElement
 FewSpelled-segment names m i = Spelled-map_value (Spelled-seq m (λ _. i)) (λ x h. record { mode = h.0; items = h.1 })
 
-FewSpelled-element_behind : (flags : ℕ) → FewSpelled (element_behind flags) IsRangedElement
-FewSpelled-element_behind flags =
+FewSpelled-element_after : (flags : ℕ) → FewSpelled (element_after flags) IsRangedElement
+FewSpelled-element_after flags =
     Spelled-choose (flags == 0) (FewSpelled-segment false FewSpelled-active FewSpelled-functions)
     (Spelled-choose (flags == 1) (FewSpelled-segment false FewSpelled-passive FewSpelled-of_kind)
     (Spelled-choose (flags == 2) (FewSpelled-segment true FewSpelled-active_in FewSpelled-of_kind)
@@ -181,7 +181,7 @@ FewSpelled-element_behind flags =
     (Spelled-choose (flags == 7) (FewSpelled-segment false FewSpelled-declared FewSpelled-of_type) Spelled-fail)))))))
 
 pub FewSpelled-element : FewSpelled element IsRangedElement
-FewSpelled-element = Spelled-map_value (Spelled-seq (Spelled-of_all AllSpelled-u32) (λ flags. FewSpelled-element_behind flags)) (λ x h. h.1)
+FewSpelled-element = Spelled-map_value (Spelled-seq (Spelled-of_all AllSpelled-u32) (λ flags. FewSpelled-element_after flags)) (λ x h. h.1)
 
 -- ---- data segments
 

@@ -137,7 +137,7 @@ pub record IsRanged (m : PlacedModule) : Type 0 where
   pub exports : length m.exports < 2 ^ 32
   pub elements : length m.elements < 2 ^ 32
   pub functions : length m.functions < 2 ^ 32
-  pub datas : length m.datas < 2 ^ 32
+  pub data_segments : length m.data_segments < 2 ^ 32
   pub each_group : AllByRecursion (λ g. IsRangedGroup g.value) m.types
   pub each_import : AllByRecursion (λ i. IsRangedImport i.value) m.imports
   pub each_table : AllByRecursion (λ t. IsRangedTable t.value) m.tables
@@ -148,6 +148,6 @@ pub record IsRanged (m : PlacedModule) : Type 0 where
   pub start : IsRangedStart m.start
   pub each_element : AllByRecursion (λ e. IsRangedElement e.value) m.elements
   pub each_function : AllByRecursion IsRangedFunction m.functions
-  pub each_data : AllByRecursion (λ d. IsRangedData d.value) m.datas
+  pub each_data : AllByRecursion (λ d. IsRangedData d.value) m.data_segments
   pub each_custom : AllByRecursion (λ c. IsRangedCustom c.section.value) m.customs
   pub customs_in_order : AreInOrder 0 m.customs

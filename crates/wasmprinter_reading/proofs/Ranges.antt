@@ -16,7 +16,7 @@ use Rattle.wasmprinter_spec.specs.Sized.{exactly, alone}
 use Rattle.wasmprinter_spec.specs.Binary.Exports.{extern_kind, export}
 use Rattle.wasmprinter_spec.specs.Binary.Customs.{custom_section}
 use Rattle.wasmprinter_spec.specs.Binary.Code.{local_entry, body_from, body, code_entry}
-use Rattle.wasmprinter_spec.specs.Sections.{Kind, CustomSection, TypeSection, ImportSection, FunctionSection, TableSection, MemorySection, TagSection, GlobalSection, ExportSection, StartSection, ElementSection, DataCountSection, CodeSection, DataSection, Section, holds, content, content_of, section_id, section, are_above, place_behind, customs_behind}
+use Rattle.wasmprinter_spec.specs.Sections.{Kind, CustomSection, TypeSection, ImportSection, FunctionSection, TableSection, MemorySection, TagSection, GlobalSection, ExportSection, StartSection, ElementSection, DataCountSection, CodeSection, DataSection, Section, holds, content, content_of, section_id, section, are_above, place_after, customs_after}
 use Rattle.wasmprinter_spec.proofs.Ordered.{picks, held_each}
 use Rattle.wasmprinter_spec.specs.Binary.{type_indices_in, bodies_in, data_count_in, datas_in, counts_data, function_pairs, module_from, module_of_sections, AreBytes, Spells}
 use Rattle.wasmprinter_reading.specs.Listed.{IsListed}
@@ -156,12 +156,12 @@ no_items : {A : Type 0} (P : A → Type 0) → IsVector P []
 no_items P = record { count = omega arith; each = tt }
 
 -- If each section is in range, then so is each custom section.
-customs_each : (last : Option Kind) (ss : List Section) → AllByRecursion IsRangedSection ss → AllByRecursion (λ c. IsRangedCustom c.section.value) (customs_behind last ss)
+customs_each : (last : Option Kind) (ss : List Section) → AllByRecursion IsRangedSection ss → AllByRecursion (λ c. IsRangedCustom c.section.value) (customs_after last ss)
 customs_each last [] all = tt
 customs_each last (s ∷ ss) all =
     elim (picks CustomSection s) [
-      | inl other ↦ rw other (customs_each (place_behind last s) ss all.1)
-      | inr own ↦ rw (ap (content_of CustomSection) own.1) (subst IsRangedSection own.1 all.0, customs_each (place_behind last s) ss all.1)
+      | inl other ↦ rw other (customs_each (place_after last s) ss all.1)
+      | inr own ↦ rw (ap (content_of CustomSection) own.1) (subst IsRangedSection own.1 all.0, customs_each (place_after last s) ss all.1)
     ]
 
 -- ---- functions
@@ -203,7 +203,7 @@ module_ranged size ss m e ranged =
     let elements = held_each ElementSection IsRangedSection [] ss ranged (no_items (λ e. IsRangedElement e.value)) in
     let bodies = held_each CodeSection IsRangedSection [] ss ranged (no_items IsRangedBody) in
     let customs = customs_each None ss ranged in
-    let datas = held_each DataSection IsRangedSection [] ss ranged (no_items (λ d. IsRangedData d.value)) in
+    let data_segments = held_each DataSection IsRangedSection [] ss ranged (no_items (λ d. IsRangedData d.value)) in
     let pairs = pairs_ranged (type_indices_in ss) (bodies_in ss) functions paired type_indices.each bodies.each in
     subst IsRanged (some_is (module_from size ss functions) m result)
     (record {
@@ -216,7 +216,7 @@ module_ranged size ss m e ranged =
       exports = exports.count;
       elements = elements.count;
       functions = omega (arith, pairs.0, type_indices.count);
-      datas = datas.count;
+      data_segments = data_segments.count;
       each_group = types.each;
       each_import = imports.each;
       each_table = tables.each;
@@ -227,7 +227,7 @@ module_ranged size ss m e ranged =
       start = start;
       each_element = elements.each;
       each_function = pairs.1;
-      each_data = datas.each;
+      each_data = data_segments.each;
       each_custom = customs;
       customs_in_order = in_order 0 None ss refl (omega arith) (and_parts (are_above 0 ss) (counts_data (data_count_in ss) (length (datas_in ss))) ordered.0).0;
     })

@@ -9,7 +9,7 @@ use Rattle.wasmprinter_spec.specs.Names.{Names}
 use Rattle.wasmprinter_spec.specs.Indexed.{space_of}
 use Rattle.wasmprinter_spec.specs.Placed.{TypeGroup, Import}
 use Rattle.wasmprinter_spec.specs.Layout.Declarations.{Scope}
-use Rattle.wasmprinter_spec.specs.Layout.Imports.{Numbers, number_of, numbers_behind}
+use Rattle.wasmprinter_spec.specs.Layout.Imports.{Numbers, number_of, numbers_after}
 use Rattle.wasmprinter_spec.specs.Text.Items.{identifier_in_front}
 use Rattle.wasmprinter_spec.specs.Text.Imports.{ImportField}
 use Rattle.wasmprinter_spec.specs.Read.{Fields, with_start, with_field, fields}
@@ -61,7 +61,7 @@ gathered_exports = record { takes = λ f m e. refl; alone = λ m. refl; first = 
 pub gathered_elements : IsGathered (codes "elem") (λ m. m.elements) (λ fs m. record m { elements = fs })
 gathered_elements = record { takes = λ f m e. refl; alone = λ m. refl; first = λ fs m. refl; last = λ fs gs m. refl; leaves = λ fs m. refl }
 
-pub gathered_datas : IsGathered (codes "data") (λ m. m.datas) (λ fs m. record m { datas = fs })
+pub gathered_datas : IsGathered (codes "data") (λ m. m.data_segments) (λ fs m. record m { data_segments = fs })
 gathered_datas = record { takes = λ f m e. refl; alone = λ m. refl; first = λ fs m. refl; last = λ fs gs m. refl; leaves = λ fs m. refl }
 
 pub fields-gathered : {A : Type 0} {w : List ℕ} {held : Fields → List Forest} {holding : List Forest → Fields → Fields} → IsGathered w held holding →
@@ -96,10 +96,10 @@ pub fields-imports : (s : Scope) (n : Numbers) (is : List (Placed Import)) (f : 
     fields f ≡ Some m → fields (onto (imports_items s n is) f) ≡ Some (record m { imports = imports_held s n is ++ m.imports })
 fields-imports s n [] f m h e = e
 fields-imports s n (i ∷ is) f m h e =
-    let behind : Numbers = numbers_behind i.value.type n in
-    let held : List ImportField = imports_held s behind is ++ m.imports in
+    let after : Numbers = numbers_after i.value.type n in
+    let held : List ImportField = imports_held s after is ++ m.imports in
     let k : ℕ = number_of i.value.type n in
-    ap (λ o. o >>= with_field (codes "import") (import_items s k i.value)) (fields-imports s behind is f m h.1 e)
+    ap (λ o. o >>= with_field (codes "import") (import_items s k i.value)) (fields-imports s after is f m h.1 e)
     ∙ ap (option_map (λ j. record m { imports = j ∷ held })) (import_field-items s k i.value h.0)
 
 -- ---- types
@@ -152,5 +152,5 @@ unidentified_types names i [] f h = h
 unidentified_types names i (g ∷ gs) f h =
     let group : Forest = type_group_items_by names g.value.written (members_items names i g.value.types) in
     let rest : Forest = type_section_items names (i + length g.value.types) gs in
-    let behind : IsUnidentified (onto rest f) = unidentified_types names (i + length g.value.types) gs f h in
-    subst IsUnidentified (sym (onto_assoc group rest f)) (unidentified_group names g.value.written i g.value.types (onto rest f) behind)
+    let after : IsUnidentified (onto rest f) = unidentified_types names (i + length g.value.types) gs f h in
+    subst IsUnidentified (sym (onto_assoc group rest f)) (unidentified_group names g.value.written i g.value.types (onto rest f) after)

@@ -9,7 +9,7 @@ use Rattle.wasmprinter_spec.specs.Module.{without_places, with_first_if_any, imp
 use Rattle.wasmprinter_spec.specs.Labels.{Named}
 use Rattle.wasmprinter_spec.specs.Names.{Names, identifiers_at, identifiers, AreDistinct}
 use Rattle.wasmprinter_spec.specs.IndexSpaces.{index_space}
-use Rattle.wasmprinter_spec.specs.Layout.Imports.{Numbers, number_of, numbers_behind}
+use Rattle.wasmprinter_spec.specs.Layout.Imports.{Numbers, number_of, numbers_after}
 use Rattle.wasmprinter_spec.specs.Text.Items.{identifier_in_front}
 use Rattle.wasmprinter_spec.specs.Text.Imports.{ImportField, field_of}
 use Rattle.wasmprinter_spec.specs.Indexed.{space_of}
@@ -78,13 +78,13 @@ record TakesNumber (kind : ExternKind) (t : ExternType) (n : Numbers) (is : List
   same : same_kind kind (kind_of_extern t) ≡ true
   its_kind : kind_of_extern t ≡ kind
   number : number_of t n ≡ number_in kind n
-  next : number_in kind (numbers_behind t n) ≡ number_in kind n + 1
+  next : number_in kind (numbers_after t n) ≡ number_in kind n + 1
   count : imports_with kind t is ≡ suc (imports_of kind is)
 
 -- An import of another kind leaves the next number of this kind.
 record LeavesNumber (kind : ExternKind) (t : ExternType) (n : Numbers) (is : List Import) : Type 0 where
   other : same_kind kind (kind_of_extern t) ≡ false
-  next : number_in kind (numbers_behind t n) ≡ number_in kind n
+  next : number_in kind (numbers_after t n) ≡ number_in kind n
   count : imports_with kind t is ≡ imports_of kind is
 
 takes_or_leaves : (kind : ExternKind) (t : ExternType) (n : Numbers) (is : List Import) → TakesNumber kind t n is ⊎ LeavesNumber kind t n is
@@ -106,7 +106,7 @@ module _ (names : Names) (items : ℕ → ExternType → Forest)
   held_imports n [] = []
   held_imports n (i ∷ is) =
       field_of i.value.source i.value.name (items (number_of i.value.type n) i.value.type) (kind_of_extern i.value.type)
-      ∷ held_imports (numbers_behind i.value.type n) is
+      ∷ held_imports (numbers_after i.value.type n) is
 
   pub imported_ids-held : (kind : ExternKind) (n : Numbers) (is : List (Placed Import)) →
       imported_ids kind (held_imports n is) ≡ identifiers_at (names.items (space_of kind)) (number_in kind n) (imports_of kind (without_places is))
@@ -116,17 +116,17 @@ module _ (names : Names) (items : ℕ → ExternType → Forest)
   imported_ids-held GlobalKind n [] = refl
   imported_ids-held TagKind n [] = refl
   imported_ids-held kind n (i ∷ is) =
-      by (takes_or_leaves kind i.value.type n (without_places is)) (imported_ids-held kind (numbers_behind i.value.type n) is)
+      by (takes_or_leaves kind i.value.type n (without_places is)) (imported_ids-held kind (numbers_after i.value.type n) is)
       ∙ ap (identifiers_at named (number_in kind n)) (sym (imports_of-first kind i.value (without_places is)))
     where
       named : ℕ → Option Named
       named = names.items (space_of kind)
 
-      behind : Numbers
-      behind = numbers_behind i.value.type n
+      after : Numbers
+      after = numbers_after i.value.type n
 
       by : TakesNumber kind i.value.type n (without_places is) ⊎ LeavesNumber kind i.value.type n (without_places is) →
-          imported_ids kind (held_imports behind is) ≡ identifiers_at named (number_in kind behind) (imports_of kind (without_places is)) →
+          imported_ids kind (held_imports after is) ≡ identifiers_at named (number_in kind after) (imports_of kind (without_places is)) →
           imported_ids kind (held_imports n (i ∷ is)) ≡ identifiers_at named (number_in kind n) (imports_with kind i.value.type (without_places is))
       by (inl t) rest =
           let first : (identifier_in_front (items (number_of i.value.type n) i.value.type)).0 ≡ option_map (λ n. n.content) (named (number_in kind n)) =

@@ -8,12 +8,12 @@ use Rattle.wasmprinter_spec.specs.Names.{Names}
 use Rattle.wasmprinter_spec.specs.ModuleNames.{module_names}
 use Rattle.wasmprinter_spec.specs.Token.{Token, left, right, word}
 use Rattle.wasmprinter_spec.specs.Options.{Options, Answers}
-use Rattle.wasmprinter_spec.specs.Customs.Hints.{Hint, FunctionHints, hints_of, next_hints, hints_behind}
-use Rattle.wasmprinter_spec.specs.Piece.{Piece, Feed}
+use Rattle.wasmprinter_spec.specs.Customs.Hints.{Hint, FunctionHints, hints_of, next_hints, hints_after}
+use Rattle.wasmprinter_spec.specs.Piece.{Piece, EndLine}
 use Rattle.wasmprinter_spec.specs.Placed.{PlacedFunction, PlacedModule}
 use Rattle.wasmprinter_spec.specs.Module.{without_places, imported_types, func_import}
 use Rattle.wasmprinter_spec.specs.Layout.Groups.{group_at, group_gap_at, close, has_break}
-use Rattle.wasmprinter_spec.specs.Layout.Identifiers.{leading_mark_pieces}
+use Rattle.wasmprinter_spec.specs.Layout.Identifiers.{leading_id_and_name_pieces}
 use Rattle.wasmprinter_spec.specs.Layout.Declarations.{Scope, scope_of_function}
 use Rattle.wasmprinter_spec.specs.Layout.Functions.{header_pieces, inner_pieces, function_pieces, functions_pieces, function_group}
 use Rattle.wasmprinter_spec.specs.Layout.Customs.{Part, Shown, Stops, parts_at, Laid, laid_parts}
@@ -50,8 +50,8 @@ function_stays false a b s hs f =
     group_gap_at_tokens a f.body.value.end 1 (codes "func") ps ∙ sym (group_gap_at_tokens b f.body.value.end 1 (codes "func") ps)
 
 -- Pieces with the same tokens, after the same pieces, have the same tokens.
-behind_stays : (ps qs rs : List Piece) → all_lexed qs ≡ all_lexed rs → all_lexed (ps ++ qs) ≡ all_lexed (ps ++ rs)
-behind_stays ps qs rs e = all_lexed-append ps qs ∙ ap (λ ts. all_lexed ps ++ ts) e ∙ sym (all_lexed-append ps rs)
+after_stays : (ps qs rs : List Piece) → all_lexed qs ≡ all_lexed rs → all_lexed (ps ++ qs) ≡ all_lexed (ps ++ rs)
+after_stays ps qs rs e = all_lexed-append ps qs ∙ ap (λ ts. all_lexed ps ++ ts) e ∙ sym (all_lexed-append ps rs)
 
 -- Two lists of pieces with the same tokens, joined, have the same tokens.
 both_stay : (ps ps2 qs qs2 : List Piece) → all_lexed ps ≡ all_lexed ps2 → all_lexed qs ≡ all_lexed qs2 → all_lexed (ps ++ qs) ≡ all_lexed (ps2 ++ qs2)
@@ -90,7 +90,7 @@ joined_alike (both_stop v) = record { tokens = refl; refused = refl }
 module _ (o r : Options) (same : o.skeleton ≡ r.skeleton) where
   -- The options r, except that operators are folded and colored as by o
   abbrev p : Options
-  p = record r { folds = o.folds; paints = o.paints }
+  p = record r { folds = o.folds; color = o.color }
 
   function_pieces_stay : (s : Scope) (i : ℕ) (hs : List (Placed Hint)) (f : PlacedFunction) → all_lexed (function_pieces o s i hs f) ≡ all_lexed (function_pieces p s i hs f)
   unfolding function_pieces
@@ -103,7 +103,7 @@ module _ (o r : Options) (same : o.skeleton ≡ r.skeleton) where
   functions_stay s es i [] = refl
   functions_stay s es i (f ∷ fs) =
       both_stay (function_pieces o s i (next_hints i es) f) (function_pieces p s i (next_hints i es) f) _ _ (function_pieces_stay s i (next_hints i es) f)
-      (functions_stay s (hints_behind i es) (i + 1) fs)
+      (functions_stay s (hints_after i es) (i + 1) fs)
 
   module _ (answers : Answers) (names : Names) (m : PlacedModule) where
     customs_stay : (place : Option Kind) → PartsStay (parts_at o.skeleton answers place 0 m.customs) (parts_at p.skeleton answers place 0 m.customs)
@@ -136,14 +136,14 @@ module _ (o r : Options) (same : o.skeleton ≡ r.skeleton) where
     pieces_stay : (r : Option ℕ) (ps qs : List Piece) → all_lexed ps ≡ all_lexed qs →
         all_lexed (module_pieces_of o names m.size ps r) ≡ all_lexed (module_pieces_of p names m.size qs r)
     pieces_stay None ps qs e =
-        let name : List Piece = leading_mark_pieces names.module_name in
-        all_lexed-append (group_at o.offsets m.size 0 (codes "module") (name ++ ps)) (Feed ∷ [])
+        let name : List Piece = leading_id_and_name_pieces names.module_name in
+        all_lexed-append (group_at o.offsets m.size 0 (codes "module") (name ++ ps)) (EndLine ∷ [])
         ∙ ap (λ ts. ts ++ [])
         (group_at_tokens o.offsets m.size 0 (codes "module") (name ++ ps)
-        ∙ ap (group_tokens (codes "module")) (behind_stays name ps qs e)
+        ∙ ap (group_tokens (codes "module")) (after_stays name ps qs e)
         ∙ sym (group_at_tokens p.offsets m.size 0 (codes "module") (name ++ qs)))
-        ∙ sym (all_lexed-append (group_at p.offsets m.size 0 (codes "module") (name ++ qs)) (Feed ∷ []))
-    pieces_stay (Some id) ps qs e = ap (λ ts. left ∷ (word (codes "module") ∷ ts)) (behind_stays (leading_mark_pieces names.module_name) ps qs e)
+        ∙ sym (all_lexed-append (group_at p.offsets m.size 0 (codes "module") (name ++ qs)) (EndLine ∷ []))
+    pieces_stay (Some id) ps qs e = ap (λ ts. left ∷ (word (codes "module") ∷ ts)) (after_stays (leading_id_and_name_pieces names.module_name) ps qs e)
 
     pub module_pieces_with_stay : all_lexed (module_pieces_with o answers names m) ≡ all_lexed (module_pieces_with p answers names m)
     unfolding module_pieces_with
@@ -153,12 +153,12 @@ module _ (o r : Options) (same : o.skeleton ≡ r.skeleton) where
         let alike : LaidAlike a b = joined_alike parts_stay in
         ap (λ r. all_lexed (module_pieces_of o names m.size a.pieces r)) alike.refused ∙ pieces_stay b.refused a.pieces b.pieces alike.tokens
 
-  pieces_alike : o.invents ≡ r.invents → (answers : Answers) (m : PlacedModule) → all_lexed (module_pieces o answers m) ≡ all_lexed (module_pieces p answers m)
+  pieces_alike : o.synthesizes ≡ r.synthesizes → (answers : Answers) (m : PlacedModule) → all_lexed (module_pieces o answers m) ≡ all_lexed (module_pieces p answers m)
   unfolding module_pieces
-  pieces_alike invents answers m =
-      ap (λ t. all_lexed (module_pieces_with o answers (module_names t m) m)) invents ∙ module_pieces_with_stay answers (module_names p.invents m) m
+  pieces_alike synthesizes answers m =
+      ap (λ t. all_lexed (module_pieces_with o answers (module_names t m) m)) synthesizes ∙ module_pieces_with_stay answers (module_names p.synthesizes m) m
 
-  pub module_pieces_stay : o.folds ≡ r.folds → o.paints ≡ r.paints → o.invents ≡ r.invents → (answers : Answers) (m : PlacedModule) →
+  pub module_pieces_stay : o.folds ≡ r.folds → o.color ≡ r.color → o.synthesizes ≡ r.synthesizes → (answers : Answers) (m : PlacedModule) →
       all_lexed (module_pieces o answers m) ≡ all_lexed (module_pieces r answers m)
-  module_pieces_stay folds paints invents answers m =
-      pieces_alike invents answers m ∙ ap₂ (λ f t. all_lexed (module_pieces (record r { folds = f; paints = t }) answers m)) folds paints
+  module_pieces_stay folds color synthesizes answers m =
+      pieces_alike synthesizes answers m ∙ ap₂ (λ f t. all_lexed (module_pieces (record r { folds = f; color = t }) answers m)) folds color

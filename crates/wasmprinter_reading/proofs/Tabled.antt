@@ -13,7 +13,7 @@ use Rattle.wasmprinter_spec.specs.Row.{Row, Role, Plain, Opens, OpensIf, OpensTr
 use Rattle.wasmprinter_spec.specs.Table.{table, first, has_word, has_opcode, rows_of, by_opcode}
 use Rattle.wasmprinter_spec.specs.Code.{part_words}
 use Rattle.wasmprinter_spec.specs.Text.TypeUses.{same_flag}
-use Rattle.wasmprinter_spec.specs.Text.Operators.{behind_prefix, is_option}
+use Rattle.wasmprinter_spec.specs.Text.Operators.{after_prefix, is_option}
 use Rattle.wasmprinter_lexical.proofs.Runs.{is_word}
 use Rattle.wasmprinter_spec.specs.Shapes.{has_shape, has_row_shape}
 use Rattle.wasmprinter_reading.specs.Listed.{IsListed}
@@ -31,7 +31,7 @@ is_number [] = false
 is_number (b ∷ bs) = eqb b 45 || (leb 48 b && leb b 57)
 
 abbrev begins_with : List ℕ → List ℕ → Bool
-begins_with p w = is_some (behind_prefix p w)
+begins_with p w = is_some (after_prefix p w)
 
 -- The words of heap types, of references to them, and of the lanes of a vector
 abbrev argument_words : List (List ℕ)

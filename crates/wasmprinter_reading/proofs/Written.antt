@@ -6,13 +6,13 @@ use Rattle.wasmprinter_spec.specs.Character.{class}
 use Rattle.wasmprinter_spec.specs.Grammar.{Placed}
 use Rattle.wasmprinter_spec.specs.Forest.{Forest, End, Word, Group, onto}
 use Rattle.wasmprinter_spec.specs.Options.{Options, Answers}
-use Rattle.wasmprinter_spec.specs.Piece.{Piece, Begin, Feed, Open}
+use Rattle.wasmprinter_spec.specs.Piece.{Piece, Begin, EndLine, Open}
 use Rattle.wasmprinter_spec.specs.Kinds.{Kind, CustomSection, TypeSection, ImportSection, FunctionSection, TableSection, MemorySection, TagSection, GlobalSection, ExportSection, StartSection, ElementSection, DataCountSection, CodeSection, DataSection}
 use Rattle.wasmprinter_spec.specs.Types.{FuncKind, TableKind, MemoryKind, TagKind, GlobalKind, signature_at}
-use Rattle.wasmprinter_spec.specs.Customs.Hints.{Hint, FunctionHints, hints_of, hints_behind}
+use Rattle.wasmprinter_spec.specs.Customs.Hints.{Hint, FunctionHints, hints_of, hints_after}
 use Rattle.wasmprinter_spec.specs.Placed.{PlacedModule, PlacedFunction}
 use Rattle.wasmprinter_spec.specs.Names.{Names, AreNamed}
-use Rattle.wasmprinter_spec.specs.Layout.Identifiers.{leading_mark_pieces}
+use Rattle.wasmprinter_spec.specs.Layout.Identifiers.{leading_id_and_name_pieces}
 use Rattle.wasmprinter_spec.specs.Layout.Customs.{Laid, laid_parts}
 use Rattle.wasmprinter_spec.specs.Layout.Declarations.{Folding}
 use Rattle.wasmprinter_spec.specs.Layout.Functions.{function_pieces, functions_pieces}
@@ -23,7 +23,7 @@ use Rattle.wasmprinter_lexical.proofs.Respelled.{Respelled, first_spelled}
 use Rattle.wasmprinter_lexical.proofs.Writes.{Writes, WritesNoted, IsWritten, written, writes_joined, both_write, nothing_writes, break_writes, begin_writes, group_at_then, feed_writes}
 use Rattle.wasmprinter_reading.specs.Listed.{AreSignaturesInRange}
 use Rattle.wasmprinter_reading.proofs.Ranged.{IsRanged, IsRangedFunction}
-use Rattle.wasmprinter_reading.proofs.Identifiers.{id_items, leading_mark_writes}
+use Rattle.wasmprinter_reading.proofs.Identifiers.{id_items, leading_id_and_name_writes}
 use Rattle.wasmprinter_reading.proofs.Numbered.{rows, numbered_writes}
 use Rattle.wasmprinter_reading.proofs.Fields.Imports.{imports_write}
 use Rattle.wasmprinter_reading.proofs.Fields.Tables.{table_writes}
@@ -35,7 +35,7 @@ use Rattle.wasmprinter_reading.proofs.Fields.Tags.{tag_writes}
 use Rattle.wasmprinter_reading.proofs.Fields.Start.{start_writes}
 use Rattle.wasmprinter_reading.proofs.Fields.Exports.{export_writes}
 use Rattle.wasmprinter_reading.proofs.Fields.Functions.{functions_hinted, function_writes}
-use Rattle.wasmprinter_reading.proofs.Folded.Lists.{IsUnpainted}
+use Rattle.wasmprinter_reading.proofs.Folded.Lists.{IsUncolored}
 use Rattle.wasmprinter_reading.proofs.Types.Trees.{type_section_writes}
 use Rattle.wasmprinter_reading.proofs.Sorted.{field_rows}
 use Rattle.wasmprinter_reading.proofs.Back.{early, late, before, waiting, own_hints, own_types, own_function, signatures_ranged, numbers_fit, fields_items, kinds_items, module_items}
@@ -50,7 +50,7 @@ pub record Stands (ps : List Piece) : Type 0 where
   pub joins : pieces_follow Free printed ≡ true
   pub are : ArePieces printed
 
-module _ (folding : Option Folding) (bare : IsUnpainted folding) (o : Options) (names : Names) (named : AreNamed names) (m : PlacedModule) (h : IsRanged m) where
+module _ (folding : Option Folding) (bare : IsUncolored folding) (o : Options) (names : Names) (named : AreNamed names) (m : PlacedModule) (h : IsRanged m) where
   signatures : AreSignaturesInRange (signature_at (own_types folding names m))
   signatures = signatures_ranged folding names m h
 
@@ -58,12 +58,12 @@ module _ (folding : Option Folding) (bare : IsUnpainted folding) (o : Options) (
 
   -- The hints left after a function are those left before the next function.
   pub next_waiting : (i : ℕ) → before folding names m FuncKind ≤ i →
-      hints_behind i (waiting folding names m (i - before folding names m FuncKind)) ≡ waiting folding names m (i + 1 - before folding names m FuncKind)
+      hints_after i (waiting folding names m (i - before folding names m FuncKind)) ≡ waiting folding names m (i + 1 - before folding names m FuncKind)
   next_waiting i low =
       let b : ℕ = before folding names m FuncKind in
       let same : i ≡ b + (i - b) = omega (arith, low) in
       let more : suc (i - b) ≡ i + 1 - b = omega (arith, low) in
-      ap (λ k. hints_behind k (waiting folding names m (i - b))) same ∙ ap (waiting folding names m) more
+      ap (λ k. hints_after k (waiting folding names m (i - b))) same ∙ ap (waiting folding names m) more
 
   -- The pieces of functions from index i on, with the hints es left before them, write their items with the hints
   -- that they take.
@@ -128,7 +128,7 @@ module _ (folding : Option Folding) (bare : IsUnpainted folding) (o : Options) (
   fields_write CodeSection = functions_write
   fields_write DataSection =
       numbered_writes _ _ _ (data_writes (late folding names m) named signatures bare o.skeleton)
-      0 m.datas (omega (arith, h.datas)) h.each_data
+      0 m.data_segments (omega (arith, h.data_segments)) h.each_data
   fields_write CustomSection = nothing_writes
 
   -- ---- the fields, and the custom sections among them
@@ -168,10 +168,10 @@ module _ (folding : Option Folding) (bare : IsUnpainted folding) (o : Options) (
         (Group (Word (codes "module") (onto (id_items names.module_name) module_noted)) End)
     unfolding pieces_by class
     module_writes none =
-        let last : Writes Bound (Feed ∷ []) Free End = feed_writes nothing_writes in
-        let held = both_write (leading_mark_writes names.module_name named.module_name) (parts_whole parts_write none) in
-        let inner : List Piece = leading_mark_pieces names.module_name ++ laid.pieces in
-        let written = begin_writes {place = 0} (group_at_then o.offsets m.size 0 (codes "module") inner (Feed ∷ []) refl refl held last) in
+        let last : Writes Bound (EndLine ∷ []) Free End = feed_writes nothing_writes in
+        let held = both_write (leading_id_and_name_writes names.module_name named.module_name) (parts_whole parts_write none) in
+        let inner : List Piece = leading_id_and_name_pieces names.module_name ++ laid.pieces in
+        let written = begin_writes {place = 0} (group_at_then o.offsets m.size 0 (codes "module") inner (EndLine ∷ []) refl refl held last) in
         subst (λ r. WritesNoted Free (module_pieces_of o names m.size laid.pieces r) Free
         (Group (Word (codes "module") (onto (id_items names.module_name) (module_items folding names m o.skeleton))) End)
         (Group (Word (codes "module") (onto (id_items names.module_name) module_noted)) End)) (sym none) written
@@ -182,15 +182,15 @@ module _ (folding : Option Folding) (bare : IsUnpainted folding) (o : Options) (
     module_stands = by laid.refused
       where
         inner : List Piece
-        inner = leading_mark_pieces names.module_name ++ laid.pieces
+        inner = leading_id_and_name_pieces names.module_name ++ laid.pieces
 
         held : IsWritten Bound inner Bound
-        held = written (both_write (leading_mark_writes names.module_name named.module_name) (parts_partly parts_write).writes)
+        held = written (both_write (leading_id_and_name_writes names.module_name named.module_name) (parts_partly parts_write).writes)
 
         by : (r : Option ℕ) → Stands (module_pieces_of o names m.size laid.pieces r)
         by None =
-            let last : Writes Bound (Feed ∷ []) Free End = feed_writes nothing_writes in
-            let group = group_at_then o.offsets m.size 0 (codes "module") inner (Feed ∷ []) refl refl held.writes last in
+            let last : Writes Bound (EndLine ∷ []) Free End = feed_writes nothing_writes in
+            let group = group_at_then o.offsets m.size 0 (codes "module") inner (EndLine ∷ []) refl refl held.writes last in
             let w = begin_writes {place = 0} group in
             record { printed = w.printed; spelled = w.spelled; joins = writes_joined w; are = w.are }
         by (Some id) = record {

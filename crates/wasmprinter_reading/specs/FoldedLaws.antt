@@ -27,7 +27,7 @@ use Rattle.wasmprinter_reading.specs.OperatorLaws.{HaveSameTypes, HaveSameNames,
 
 -- An item without its numbers of operands and results
 abbrev pub without_counts : Item → Item
-without_counts x = record x { takes = 0; gives = 0 }
+without_counts x = record x { operands = 0; results = 0 }
 
 -- The text that is laid out for operators folded by any numbers of operands and results, over several lines or in
 -- one, with or without hints before them, reads as exactly these operators.
@@ -47,6 +47,6 @@ abbrev pub FoldedModulesReadAsFlat : Type 0
 FoldedModulesReadAsFlat =
     (bytes : List ℕ) (m : PlacedModule) (o : Options) (answers : Answers) →
     Spells bytes m → IsIndexed (module_of m) → AllByRecursion (λ t. HasNoEmptyInit t.value.init) m.tables → o.skeleton ≡ false →
-    o.paints ≡ false → IsBlank o.indent → AreUnclaimed answers →
+    o.color ≡ false → IsBlank o.indent → AreUnclaimed answers →
     IsFoldable (record o { folds = true }) m → refusal o answers m ≡ None →
     read (text_of (layout (record o { folds = true }) answers m)) ≡ read (text_of (layout (record o { folds = false }) answers m))

@@ -26,8 +26,8 @@ EntriesAreGiven = (d : Placed (List ℕ)) → GivesNames (input d.place d.value)
 -- The items of a counted list that is read up to the first error: they are encoded one after the other. Either the
 -- count is reached, or the bytes after them encode no further item.
 abbrev pub Listed : {A : Type 0} → Grammar A → ℕ → Input → List A → Option Input → Type 0
-Listed g n at xs end = (behind : Input) × Spans (AreItems g) at (xs, behind)
-    × (((length xs ≡ n) × (end ≡ Some behind)) ⊎ ((length xs < n) × Lacks g behind × (end ≡ None)))
+Listed g n at xs end = (after : Input) × Spans (AreItems g) at (xs, after)
+    × (((length xs ≡ n) × (end ≡ Some after)) ⊎ ((length xs < n) × Lacks g after × (end ≡ None)))
 
 -- The entries of a name map are those of a counted list that is read up to the first error.
 abbrev pub NameMapsAreListed : Type 0
@@ -50,17 +50,17 @@ BytesGiveEntries = (at : Input) (entries : List Entry) → AreBytes at.bytes →
 
 -- No identifier means two items of one space, whether identifiers are synthesized for items without names or not.
 abbrev pub IdentifiersAreApart : Type 0
-IdentifiersAreApart = (invents : Bool) (entries : List Entry) → AreEntries entries → AreApart (names_of invents entries)
+IdentifiersAreApart = (synthesizes : Bool) (entries : List Entry) → AreEntries entries → AreApart (names_of synthesizes entries)
 
 -- Each identifier is UTF-8 and not empty, and each name is UTF-8.
 abbrev pub IdentifiersAreNamed : Type 0
-IdentifiersAreNamed = (invents : Bool) (entries : List Entry) → AreEntries entries → AreNamed (names_of invents entries)
+IdentifiersAreNamed = (synthesizes : Bool) (entries : List Entry) → AreEntries entries → AreNamed (names_of synthesizes entries)
 
 -- The identifiers of each module that bytes encode are UTF-8 and not empty, and none means two items of one space, of
 -- one function or of one type.
 abbrev pub ModulesHaveIdentifiers : Type 0
-ModulesHaveIdentifiers = (bytes : List ℕ) (m : PlacedModule) (invents : Bool) → Spells bytes m →
-    AreApart (module_names invents m) × AreNamed (module_names invents m)
+ModulesHaveIdentifiers = (bytes : List ℕ) (m : PlacedModule) (synthesizes : Bool) → Spells bytes m →
+    AreApart (module_names synthesizes m) × AreNamed (module_names synthesizes m)
 
 -- If no two items of a space have the same identifier, the identifiers are distinct as declarations, and each is
 -- resolved to its item.

@@ -51,8 +51,8 @@ only_nodes r = elim r.front as (λ f. Option (NodesOf Forest)) [ End ↦ Some r.
 abbrev pub with_node : Option NodeRow → Option NodeRow → Option NodeRow
 with_node inner rest = do
   r ← inner
-  behind ← rest >>= only_nodes
-  Some (node_row End (row_of_both (Snoc Nil r.front 0 r.nodes) behind))
+  after ← rest >>= only_nodes
+  Some (node_row End (row_of_both (Snoc Nil r.front 0 r.nodes) after))
 
 -- The row of a forest. An annotation is not an item.
 abbrev pub node_row_of : Forest → Option NodeRow

@@ -32,7 +32,7 @@ count_in c Memory = c.memories
 count_in c Tag = c.tags
 count_in c Global = c.globals
 count_in c Elem = c.elems
-count_in c Data = c.datas
+count_in c Data = c.data_segments
 count_in c Local = c.locals
 count_in c Label = 0
 
@@ -80,8 +80,8 @@ OperatorsReadBack =
 -- or none.
 abbrev pub NamedOperatorsReadBack : Type 0
 NamedOperatorsReadBack =
-    (invents : Bool) (entries : List Entry) → AreEntries entries →
-    (s : Setting) → s.names ≡ names_of invents entries →
+    (synthesizes : Bool) (entries : List Entry) → AreEntries entries →
+    (s : Setting) → s.names ≡ names_of synthesizes entries →
     (c : Context) (n : Counts) → HaveSameTypes s c n → HaveSameNames s c n →
     (hs : List (Placed Hint)) (os : List (Placed Operator)) → AreOperators n os →
     (o : Options) → IsBlank o.indent →

@@ -11,9 +11,9 @@ use Rattle.wasmprinter_spec.specs.Module.{without_places, imported_types, func_i
 use Rattle.wasmprinter_spec.specs.Call.{text_of}
 use Rattle.wasmprinter_spec.specs.Options.{Options, defaults, Answers, IsBlank}
 use Rattle.wasmprinter_spec.specs.Code.{head}
-use Rattle.wasmprinter_spec.specs.Customs.Hints.{Hint, FunctionHints, hints_of, next_hints, hints_behind}
+use Rattle.wasmprinter_spec.specs.Customs.Hints.{Hint, FunctionHints, hints_of, next_hints, hints_after}
 use Rattle.wasmprinter_spec.specs.ModuleNames.{module_names}
-use Rattle.wasmprinter_spec.specs.Layout.{scope_behind, layout, refusal}
+use Rattle.wasmprinter_spec.specs.Layout.{scope_after, layout, refusal}
 use Rattle.wasmprinter_spec.specs.Layout.Declarations.{Scope, scope_of, scope_of_function}
 use Rattle.wasmprinter_spec.specs.Layout.Expressions.{in_line}
 use Rattle.wasmprinter_spec.specs.Layout.Folded.{items, head_text}
@@ -75,7 +75,7 @@ module _ (m : PlacedModule) where
   -- The trees of the bodies of functions from index `i` on, each with its hints
   abbrev pub body_trees : Scope → List FunctionHints → ℕ → List PlacedFunction → List (Option Nodes)
   body_trees s es i [] = []
-  body_trees s es i (f ∷ fs) = body_tree (scope_of_function s i) (next_hints i es) f ∷ body_trees s (hints_behind i es) (i + 1) fs
+  body_trees s es i (f ∷ fs) = body_tree (scope_of_function s i) (next_hints i es) f ∷ body_trees s (hints_after i es) (i + 1) fs
 
 -- ---- the law
 
@@ -93,26 +93,26 @@ AreNodesOf found expected =
 
 -- The scope of the trees of a module: its types and identifiers, and the index of the first function that it defines
 abbrev pub tree_scope : Bool → PlacedModule → Scope
-tree_scope invents m =
-    scope_of (all_types (groups_of m.types)) (module_names invents m) (length (imported_types func_import (without_places m.imports))) None
+tree_scope synthesizes m =
+    scope_of (all_types (groups_of m.types)) (module_names synthesizes m) (length (imported_types func_import (without_places m.imports))) None
 
 -- The nodes in the fields of a text are those of the module's trees: a function has those of its body, a global and
 -- a table those of their initialisers, and a segment those of its offset and of its items.
-pub record HaveTrees (invents : Bool) (m : PlacedModule) (fs : Fields) : Type 0 where
-  pub tables : AreAlike AreNodesOf (map field_nodes fs.tables) (map (λ t. init_tree m (tree_scope invents m) t.value.init) m.tables)
-  pub globals : AreAlike AreNodesOf (map field_nodes fs.globals) (map (λ g. constant_tree m (tree_scope invents m) 2 g.value.init) m.globals)
+pub record HaveTrees (synthesizes : Bool) (m : PlacedModule) (fs : Fields) : Type 0 where
+  pub tables : AreAlike AreNodesOf (map field_nodes fs.tables) (map (λ t. init_tree m (tree_scope synthesizes m) t.value.init) m.tables)
+  pub globals : AreAlike AreNodesOf (map field_nodes fs.globals) (map (λ g. constant_tree m (tree_scope synthesizes m) 2 g.value.init) m.globals)
   pub elements : AreAlike (AreAlike AreNodesOf) (map segment_nodes fs.elements)
-      (map (λ e. segment_trees m (tree_scope invents m) (element_lists false e)) m.elements)
+      (map (λ e. segment_trees m (tree_scope synthesizes m) (element_lists false e)) m.elements)
   pub functions : AreAlike AreNodesOf (map field_nodes fs.functions)
-      (body_trees m (tree_scope invents m) (hints_of m.customs) (tree_scope invents m).function m.functions)
-  pub datas : AreAlike (AreAlike AreNodesOf) (map segment_nodes fs.datas)
-      (map (λ d. segment_trees m (scope_behind m (tree_scope invents m)) (data_lists d)) m.datas)
+      (body_trees m (tree_scope synthesizes m) (hints_of m.customs) (tree_scope synthesizes m).function m.functions)
+  pub data_segments : AreAlike (AreAlike AreNodesOf) (map segment_nodes fs.data_segments)
+      (map (λ d. segment_trees m (scope_after m (tree_scope synthesizes m)) (data_lists d)) m.data_segments)
 
 -- The groups of the text of a module whose operators are folded are the nodes of its trees, field by field. (All
 -- operators can be folded, the text has no colors, and no `dylink.0` section is refused.)
 abbrev pub FoldedModulesHaveTrees : Type 0
 FoldedModulesHaveTrees =
     (bytes : List ℕ) (m : PlacedModule) (o : Options) (answers : Answers) →
-    Spells bytes m → o.folds ≡ true → o.skeleton ≡ false → o.paints ≡ false → IsBlank o.indent →
+    Spells bytes m → o.folds ≡ true → o.skeleton ≡ false → o.color ≡ false → IsBlank o.indent →
     IsFoldable o m → refusal o answers m ≡ None →
-    (fs : Fields) × ((items_in (text_of (layout o answers m)) >>= module_fields >>= fields) ≡ Some fs) × HaveTrees o.invents m fs
+    (fs : Fields) × ((items_in (text_of (layout o answers m)) >>= module_fields >>= fields) ≡ Some fs) × HaveTrees o.synthesizes m fs

@@ -4,7 +4,7 @@
 #![tactic(auto)]
 
 ghost use Rattle.wasmprinter_spec.specs.Laws.{SpellsOne, TakesNested, ReadsBack, TokensStay, HintsStay};
-ghost use Rattle.wasmprinter_spec.specs.Laws.{PrintsPlainText, PlainTextIsUtf8, PlainTextHasNoColour, PlainTextsJoin};
+ghost use Rattle.wasmprinter_spec.specs.Laws.{PrintsPlainText, PlainTextIsUtf8, PlainTextHasNoColor, PlainTextsJoin};
 ghost use Rattle.wasmprinter_reading.specs.OperatorLaws.{OperatorsReadBack, NamedOperatorsReadBack};
 ghost use Rattle.wasmprinter_reading.specs.FoldedLaws.{FoldedOperatorsReadBack, FoldedModulesReadAsFlat};
 ghost use Rattle.wasmprinter_reading.specs.NodeLaws.{FoldedGroupsAreNodes};
@@ -59,8 +59,8 @@ pub fn plain_text_is_utf8()
 {}
 
 /// Deleting ANSI escape sequences leaves a text of only these characters as it is.
-pub fn plain_text_has_no_colour()
-    ensures { PlainTextHasNoColour }
+pub fn plain_text_has_no_color()
+    ensures { PlainTextHasNoColor }
 {}
 
 /// Two texts of only these characters, joined, contain only these characters.

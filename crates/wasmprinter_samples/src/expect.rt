@@ -34,7 +34,7 @@ where
 }
 
 #[test]
-fn tells_the_first_line_that_differs(rt: HostRuntime) -> Result<(), Fail> {
+fn prints_the_first_line_that_differs(rt: HostRuntime) -> Result<(), Fail> {
     expect_text("", "")?;
     expect_text("(module)\n", "(module)\n")?;
     assert!(rt; expect_text("(module)\n", "(module)") == Err(Different::Line(2)));

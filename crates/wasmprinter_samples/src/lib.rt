@@ -71,7 +71,7 @@ pub const NAMED_CALLS: &str = r##"[0x0]({K}module{R} $m
 
 /// The calls for the first 40 bytes of `NAMED`, which are `NAMED` without its name section, with synthesized
 /// identifiers.
-pub const INVENTED_CALLS: &str = r##"[0x0]({K}module{R}
+pub const SYNTHESIZED_CALLS: &str = r##"[0x0]({K}module{R}
 [0xb]  ({K}type {R}{N}$#type0 (;0;){R} ({K}func{R} ({K}param{R} {T}i32{R}) ({K}result{R} {T}i32{R})))
 [0x17]  ({K}export {R}{L}"f"{R} ({K}func {R}{N}$#func0{R}))
 [0x1f]  ({K}func {R}{N}$#func0 (;0;){R} ({K}type {R}{N}$#type0{R}) ({K}param{R} $#local0 {T}i32{R}) ({K}result{R} {T}i32{R})

@@ -20,8 +20,8 @@ closed-breaks place nesting ps =
     ∙ or-same (has_break ps)
 
 -- If no line begins in the first pieces, a line begins in the whole exactly if one begins in the second.
-pub behind-line : (ps qs : List Piece) → has_break ps ≡ false → has_break (ps ++ qs) ≡ has_break qs
-behind-line ps qs e = has_break-append ps qs ∙ ap (λ b. b || has_break qs) e
+pub after-line : (ps qs : List Piece) → has_break ps ≡ false → has_break (ps ++ qs) ≡ has_break qs
+after-line ps qs e = has_break-append ps qs ∙ ap (λ b. b || has_break qs) e
 
 pub or-false : (b : Bool) → (b || false) ≡ b
 or-false true = refl

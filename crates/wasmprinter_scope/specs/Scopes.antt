@@ -25,7 +25,7 @@ function_scope_view s f = scope_of_function (scope_view s) f
 
 -- The identifier of an item of the module. It computes to a lookup in the scope's names.
 abbrev pub item_in : Scan → Space → ℕ → Option Named
-item_in s space number = name_in s.invents (name_at s.named) (id_of space) (outer_of space 0) number
+item_in s space number = name_in s.synthesizes (name_at s.named) (id_of space) (outer_of space 0) number
 
 -- Whether a list has exactly one item.
 abbrev pub is_one : {A : Type 0} → List A → Bool

@@ -4,7 +4,7 @@ ghost use Rattle.std.specs.Prelude.{◌≡◌, false};
 ghost use Rattle.wasmprinter_spec.specs.Layout.Operators.{expression_pieces};
 ghost use Rattle.wasmprinter_spec.specs.Layout.Expressions.{in_line, word_unless_one};
 ghost use Rattle.wasmprinter_spec.specs.Layout.Expressions.{constant_pieces, held_pieces, group_parts, constant_group};
-ghost use Rattle.wasmprinter_print.specs.Prints.{Prints, PrintsOrStops, TellsLines};
+ghost use Rattle.wasmprinter_print.specs.Prints.{Prints, PrintsOrStops, ReportsLines};
 ghost use Rattle.wasmprinter_scope.specs.Scopes.{scope_view, is_one, folds_in};
 
 use crate::scope::Scope;
@@ -16,7 +16,7 @@ use wasmprinter_lines::lines::close;
 use wasmprinter_lines::options::PrintOptions;
 use wasmprinter_ops::expression::Expression;
 use wasmprinter_print::Print;
-use wasmprinter_words::words::{gap, open_bare, word};
+use wasmprinter_words::words::{open_unnamed, word, write_space};
 
 /// The nesting depth of an expression in a field, and of a group that contains an expression.
 const EXPRESSION_NESTING: u64 = 2;
@@ -69,7 +69,7 @@ fn write_nested<P: Print>(
 ) -> Result<bool, Error>
     ensures pieces { PrintsOrStops P.meaning options.now p.old p.new (folds_in (scope_view scope.old)) result
         (constant_pieces (scope_view scope.old) nesting expression.now.items) }
-    ensures lines { TellsLines result (constant_pieces (scope_view scope.old) nesting expression.now.items) }
+    ensures lines { ReportsLines result (constant_pieces (scope_view scope.old) nesting expression.now.items) }
     ensures scope { scope_view scope.new ≡ scope_view scope.old }
 {
     match &mut scope.folder {
@@ -113,7 +113,7 @@ pub fn write_constant<P: Print>(
 ) -> Result<bool, Error>
     ensures pieces { PrintsOrStops P.meaning options.now p.old p.new (folds_in (scope_view scope.old)) result
         (constant_pieces (scope_view scope.old) 2 expression.now.items) }
-    ensures lines { TellsLines result (constant_pieces (scope_view scope.old) 2 expression.now.items) }
+    ensures lines { ReportsLines result (constant_pieces (scope_view scope.old) 2 expression.now.items) }
     ensures scope { scope_view scope.new ≡ scope_view scope.old }
 {
     write_nested(p, options, scope, EXPRESSION_NESTING, expression)
@@ -140,12 +140,12 @@ fn write_word_unless_one<P: Print>(
         return Ok(());
     }
     word(p, keyword)?;
-    gap(p)
+    write_space(p)
 }
 
 /// Writes an expression in a group of its own, where a single operator is never folded. Returns whether a line
 /// began.
-fn write_held<P: Print>(
+fn write_grouped_expr<P: Print>(
     p: &mut P,
     options: &PrintOptions,
     scope: &mut Scope<'_, '_>,
@@ -153,7 +153,7 @@ fn write_held<P: Print>(
 ) -> Result<bool, Error>
     ensures pieces { PrintsOrStops P.meaning options.now p.old p.new (folds_in (scope_view scope.old)) result
         (held_pieces (scope_view scope.old) 3 expression.now.items) }
-    ensures lines { TellsLines result (held_pieces (scope_view scope.old) 3 expression.now.items) }
+    ensures lines { ReportsLines result (held_pieces (scope_view scope.old) 3 expression.now.items) }
     ensures scope { scope_view scope.new ≡ scope_view scope.old }
 {
     if is_one(expression) {
@@ -174,11 +174,11 @@ fn write_group_parts<P: Print>(
 ) -> Result<bool, Error>
     ensures pieces { PrintsOrStops P.meaning options.now p.old p.new (folds_in (scope_view scope.old)) result
         (group_parts (scope_view scope.old) 3 keyword.now expression.now.items) }
-    ensures lines { TellsLines result (group_parts (scope_view scope.old) 3 keyword.now expression.now.items) }
+    ensures lines { ReportsLines result (group_parts (scope_view scope.old) 3 keyword.now expression.now.items) }
     ensures scope { scope_view scope.new ≡ scope_view scope.old }
 {
     write_word_unless_one(p, options, keyword, expression)?;
-    write_held(p, options, scope, expression)
+    write_grouped_expr(p, options, scope, expression)
 }
 
 /// Writes an expression as a group and returns whether a line began. If so, the group closes on a line of its own.
@@ -196,10 +196,10 @@ pub fn write_constant_group<P: Print>(
 ) -> Result<bool, Error>
     ensures pieces { PrintsOrStops P.meaning options.now p.old p.new (folds_in (scope_view scope.old)) result
         (constant_group (scope_view scope.old) 2 keyword.now expression.now.items) }
-    ensures lines { TellsLines result (constant_group (scope_view scope.old) 2 keyword.now expression.now.items) }
+    ensures lines { ReportsLines result (constant_group (scope_view scope.old) 2 keyword.now expression.now.items) }
     ensures scope { scope_view scope.new ≡ scope_view scope.old }
 {
-    open_bare(p)?;
+    open_unnamed(p)?;
     let lines = write_group_parts(p, options, scope, keyword, expression)?;
     close(p, options, EXPRESSION_NESTING, lines)?;
     Ok(lines)

@@ -11,7 +11,7 @@ use Rattle.wasmprinter_spec.specs.Placed.{TypeGroup, Import, Table, Global, Expo
 use Rattle.wasmprinter_spec.specs.Layout.Tags.{tag_pieces}
 use Rattle.wasmprinter_spec.specs.Layout.Start.{start_pieces}
 use Rattle.wasmprinter_spec.specs.Layout.Groups.{has_break}
-use Rattle.wasmprinter_spec.specs.Layout.Identifiers.{leading_mark_pieces}
+use Rattle.wasmprinter_spec.specs.Layout.Identifiers.{leading_id_and_name_pieces}
 use Rattle.wasmprinter_spec.specs.Layout.Declarations.{Scope}
 use Rattle.wasmprinter_spec.specs.Layout.Types.{type_group_pieces, type_section_pieces}
 use Rattle.wasmprinter_spec.specs.Layout.Imports.{Numbers, import_pieces, imports_pieces}
@@ -21,7 +21,7 @@ use Rattle.wasmprinter_spec.specs.Layout.Globals.{global_pieces}
 use Rattle.wasmprinter_spec.specs.Layout.Exports.{export_pieces}
 use Rattle.wasmprinter_spec.specs.Layout.Elements.{element_pieces}
 use Rattle.wasmprinter_spec.specs.Layout.DataSegments.{data_pieces}
-use Rattle.wasmprinter_text.proofs.Signatures.{mark-line}
+use Rattle.wasmprinter_text.proofs.Signatures.{id_and_name-line}
 
 -- The pieces of groups of types begin a line exactly if there are groups.
 pub types-break : (names : Names) (i : ℕ) (gs : List (Placed TypeGroup)) → has_break (type_section_pieces names i gs) ≡ not (length gs == 0)
@@ -70,7 +70,7 @@ unfolding data_pieces
 data-break skeleton s i d = refl
 
 -- A leading identifier begins no line.
-pub leading-line : (n : Option Named) → has_break (leading_mark_pieces n) ≡ false
-unfolding leading_mark_pieces
+pub leading-line : (n : Option Named) → has_break (leading_id_and_name_pieces n) ≡ false
+unfolding leading_id_and_name_pieces
 leading-line None = refl
-leading-line (Some n) = mark-line n
+leading-line (Some n) = id_and_name-line n

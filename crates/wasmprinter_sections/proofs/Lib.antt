@@ -1,7 +1,7 @@
 pub mod Walking
 pub mod Breaking
 pub mod SectionParts
-pub mod Painting
+pub mod Coloring
 pub mod SectionWalk
 pub mod ModuleParts
 pub mod WholeModule

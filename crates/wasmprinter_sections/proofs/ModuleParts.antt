@@ -18,13 +18,13 @@ use Rattle.wasmprinter_sections.specs.Sections.{sections_parts}
 -- ---- Answers by kinds
 
 -- The answers for the custom sections after the section of a kind.
-abbrev answers_behind : List Kind → List Answers → Kind → Answers
-answers_behind (k ∷ ks) (a ∷ bs) j = if same_kind j k then a else answers_behind ks bs j
-answers_behind _ _ j = λ n. false
+abbrev answers_after : List Kind → List Answers → Kind → Answers
+answers_after (k ∷ ks) (a ∷ bs) j = if same_kind j k then a else answers_after ks bs j
+answers_after _ _ j = λ n. false
 
 abbrev table_of : Answers → List Answers → Option Kind → Answers
 table_of first answers None = first
-table_of first answers (Some k) = answers_behind section_order answers k
+table_of first answers (Some k) = answers_after section_order answers k
 
 module _ (o : Options) (s : Scope) (m : PlacedModule) where
   -- Sections, each with the custom sections after it.

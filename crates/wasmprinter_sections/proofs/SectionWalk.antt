@@ -92,17 +92,17 @@ module _ {P : Type 0} (n : Meaning P) {keeps : Bool} (o : Options) (s : Scope) (
       let front : List Part = parts_at o.skeleton w.first None 0 m.customs in
       let done : List Part = sections_parts o s m w.answers (take i section_order) in
       let rest : List Answers = replicate (length section_order - (i + 1)) (λ x. false) in
-      let behind : List Part = sections_parts o s m rest (drop (suc i) section_order) in
-      let split : sections_parts o s m (w.answers ++ (answers ∷ rest)) section_order ≡ done ++ (section_parts o s m answers k ++ behind) =
+      let after : List Part = sections_parts o s m rest (drop (suc i) section_order) in
+      let split : sections_parts o s m (w.answers ++ (answers ∷ rest)) section_order ≡ done ++ (section_parts o s m answers k ++ after) =
       rw w.many at (sections-split o s m w.answers answers rest section_order k (ap (slice_get section_order) w.many ∙ e)) in
-      let all : (front ++ done) ++ (section_parts o s m answers k ++ behind) ≡ front ++ sections_parts o s m (w.answers ++ (answers ∷ rest)) section_order =
-      append_assoc front done (section_parts o s m answers k ++ behind) ∙ ap (λ (ps : List Part). front ++ ps) (sym split) in
+      let all : (front ++ done) ++ (section_parts o s m answers k ++ after) ≡ front ++ sections_parts o s m (w.answers ++ (answers ∷ rest)) section_order =
+      append_assoc front done (section_parts o s m answers k ++ after) ∙ ap (λ (ps : List Part). front ++ ps) (sym split) in
       let rests : length rest ≡ length section_order - (i + 1) = length-replicate (length section_order - (i + 1)) (λ x. false) in
       let long : length (w.answers ++ (answers ∷ rest)) ≡ length section_order = length-append w.answers (answers ∷ rest) ∙ omega (arith, w.many, rests, h) in (
         w.first,
         w.answers ++ (answers ∷ rest),
         long,
-        subst (λ (ps : List Part). PrintsPartLines n o a t keeps r ps) all (part_lines_end n r behind f w.written v),
+        subst (λ (ps : List Part). PrintsPartLines n o a t keeps r ps) all (part_lines_end n r after f w.written v),
       )
 
   -- If as many sections were written as there are kinds, all were written.

@@ -4,7 +4,7 @@ use Rattle.std.proofs.Common.{sym, ap, ◌∙◌, add-one, drop-cons}
 use Rattle.std.proofs.Math.Dec.{eqb-suc-zero}
 use Rattle.std.proofs.lemmas.Option.{slice_get_within, get_or_from_slice_get}
 use Rattle.std.proofs.lemmas.List.{drop_all}
-use Rattle.wasmprinter_spec.specs.Customs.Hints.{FunctionHints, next_hints, hints_behind}
+use Rattle.wasmprinter_spec.specs.Customs.Hints.{FunctionHints, next_hints, hints_after}
 use Rattle.wasmprinter_spec.specs.Placed.{PlacedFunction}
 use Rattle.wasmprinter_spec.specs.Options.{Options}
 use Rattle.wasmprinter_spec.specs.Layout.Declarations.{Scope}
@@ -14,7 +14,7 @@ use Rattle.wasmprinter_lines.proofs.Groups.{has_break-append}
 
 module _ (o : Options) (s : Scope) where
   first_of : (es : List FunctionHints) (n : ℕ) (fs rest : List PlacedFunction) (f : PlacedFunction) → fs ≡ f ∷ rest →
-      functions_pieces o s es n fs ≡ function_pieces o s n (next_hints n es) f ++ functions_pieces o s (hints_behind n es) (n + 1) rest
+      functions_pieces o s es n fs ≡ function_pieces o s n (next_hints n es) f ++ functions_pieces o s (hints_after n es) (n + 1) rest
   unfolding functions_pieces
   first_of es n fs rest f e = ap (functions_pieces o s es n) e
 
@@ -25,7 +25,7 @@ module _ (o : Options) (s : Scope) where
   -- The pieces of the functions from i on are those of function i with its hints, and those of the functions after
   -- it.
   pub functions-found : (es : List FunctionHints) (n i : ℕ) (fs : List PlacedFunction) (f : PlacedFunction) → slice_get fs i ≡ Some f →
-      functions_pieces o s es n (drop i fs) ≡ function_pieces o s n (next_hints n es) f ++ functions_pieces o s (hints_behind n es) (n + 1) (drop (i + 1) fs)
+      functions_pieces o s es n (drop i fs) ≡ function_pieces o s n (next_hints n es) f ++ functions_pieces o s (hints_after n es) (n + 1) (drop (i + 1) fs)
   functions-found es n i fs f e =
       let step : drop i fs ≡ f ∷ drop (i + 1) fs =
       rw (add-one, drop-cons fs i f (slice_get_within fs i f e)) (ap (λ y. y ∷ drop (suc i) fs) (get_or_from_slice_get fs i f f e)) in
@@ -44,6 +44,6 @@ module _ (o : Options) (s : Scope) where
   unfolding functions_pieces
   functions-break es n [] = refl
   functions-break es n (f ∷ fs) =
-      has_break-append (function_pieces o s n (next_hints n es) f) (functions_pieces o s (hints_behind n es) (n + 1) fs)
-      ∙ ap (λ y. y || has_break (functions_pieces o s (hints_behind n es) (n + 1) fs)) (function-break n es f)
+      has_break-append (function_pieces o s n (next_hints n es) f) (functions_pieces o s (hints_after n es) (n + 1) fs)
+      ∙ ap (λ y. y || has_break (functions_pieces o s (hints_after n es) (n + 1) fs)) (function-break n es f)
       ∙ sym (ap not (eqb-suc-zero (length fs)))

@@ -7,20 +7,20 @@ use Rattle.wasmprinter_error.specs.declared.error.Error.TheVariants.{Printer}
 use Rattle.wasmprinter_spec.specs.Meaning.{Meaning}
 use Rattle.wasmprinter_spec.specs.Names.{Names}
 use Rattle.wasmprinter_spec.specs.Placed.{PlacedModule}
-use Rattle.wasmprinter_spec.specs.Options.{Options, Answers, in_colours}
-use Rattle.wasmprinter_spec.specs.Piece.{Piece, Begin, Feed, Open}
+use Rattle.wasmprinter_spec.specs.Options.{Options, Answers, in_colors}
+use Rattle.wasmprinter_spec.specs.Piece.{Piece, Begin, EndLine, Open}
 use Rattle.wasmprinter_spec.specs.Layout.{module_parts, module_pieces_of, module_pieces_with}
 use Rattle.wasmprinter_spec.specs.Layout.Groups.{close, has_break, group_at}
-use Rattle.wasmprinter_spec.specs.Layout.Identifiers.{leading_mark_pieces}
+use Rattle.wasmprinter_spec.specs.Layout.Identifiers.{leading_id_and_name_pieces}
 use Rattle.wasmprinter_spec.specs.Layout.Customs.{Part, Shown, Laid, before_laid, laid_parts}
 use Rattle.wasmprinter_print.specs.Emits.{Through, AtCall}
 use Rattle.wasmprinter_print.specs.Prints.{Written}
 use Rattle.wasmprinter_annotations.specs.Parts.{PrintsLaid, PrintsParts}
 use Rattle.wasmprinter_annotations.specs.Lines.{PrintsPartLines}
-use Rattle.wasmprinter_annotations.proofs.Parts.{laid_behind, joined-append, no_parts, shown_then, shown_fails, parts_then, parts_end}
+use Rattle.wasmprinter_annotations.proofs.Parts.{laid_after, joined-append, no_parts, shown_then, shown_fails, parts_then, parts_end}
 use Rattle.wasmprinter_fold.specs.Views.{FolderView}
 use Rattle.wasmprinter_sections.specs.Sections.{module_laid, Folds}
-use Rattle.wasmprinter_sections.proofs.Painting.{keeps-folds}
+use Rattle.wasmprinter_sections.proofs.Coloring.{keeps-folds}
 
 -- The pieces before the parts.
 abbrev pub opening : List Piece
@@ -28,11 +28,11 @@ opening = Begin 0 ∷ (Open (codes "module") ∷ [])
 
 -- The pieces after the parts, for parts with this layout.
 abbrev pub closing : Options → ℕ → Bool → List Piece
-closing o size lines = close (Some size) 0 (o.offsets || lines) ++ (Feed ∷ [])
+closing o size lines = close (Some size) 0 (o.offsets || lines) ++ (EndLine ∷ [])
 
 -- The parts inside the group.
 abbrev pub inner_parts : Options → Answers → Names → PlacedModule → List Part
-inner_parts o answers names m = Shown (leading_mark_pieces names.module_name) ∷ module_parts o answers names m
+inner_parts o answers names m = Shown (leading_id_and_name_pieces names.module_name) ∷ module_parts o answers names m
 
 -- The part after them.
 abbrev pub last_parts : Options → ℕ → Bool → List Part
@@ -47,15 +47,15 @@ whole_parts o answers names m =
 module _ (o : Options) (names : Names) (size : ℕ) where
   -- The layout of a module equals that of all its parts, whether a part ends it or not.
   either_laid : (ps : List Piece) (refused : Option ℕ) →
-      let inner : List Piece = leading_mark_pieces names.module_name ++ ps in
+      let inner : List Piece = leading_id_and_name_pieces names.module_name ++ ps in
       record { pieces = module_pieces_of o names size ps refused; refused = refused }
-      ≡ before_laid opening (laid_behind inner refused (before_laid (closing o size (has_break inner)) (record { pieces = []; refused = None })))
+      ≡ before_laid opening (laid_after inner refused (before_laid (closing o size (has_break inner)) (record { pieces = []; refused = None })))
   unfolding group_at
   either_laid ps None =
-      let inner : List Piece = leading_mark_pieces names.module_name ++ ps in
-      let shut : List Piece = close (Some size) 0 (o.offsets || has_break inner) in
+      let inner : List Piece = leading_id_and_name_pieces names.module_name ++ ps in
+      let write_close_paren : List Piece = close (Some size) 0 (o.offsets || has_break inner) in
       ap (λ (xs : List Piece). record { pieces = Begin 0 ∷ (Open (codes "module") ∷ xs); refused = None })
-      (append_assoc inner shut (Feed ∷ []) ∙ ap (λ (xs : List Piece). inner ++ xs) (sym (append-nil (shut ++ (Feed ∷ [])))))
+      (append_assoc inner write_close_paren (EndLine ∷ []) ∙ ap (λ (xs : List Piece). inner ++ xs) (sym (append-nil (write_close_paren ++ (EndLine ∷ [])))))
   either_laid ps (Some id) = refl
 
 pub module-whole : (o : Options) (answers : Answers) (names : Names) (m : PlacedModule) → laid_parts (whole_parts o answers names m) ≡ module_laid o answers names m
@@ -109,10 +109,10 @@ module _ {P : Type 0} (n : Meaning P) {keeps : Bool} (p o : Options) (answers : 
       as_module (shown_then n (inner ++ last) v (parts_then n inner last w.prints (shown_then n [] (rw w.lines at y) (no_parts n))))
 
 -- If the module was printed with its folder, if there is one, it was printed as the options say.
-pub by_folder : {P : Type 0} (n : Meaning P) (o : Options) (paints : Bool) (names : Names) (m : PlacedModule) (folder : Option FolderView) {a t : P} (r : Result (Unit {0}) Error) →
-    Folds o paints folder m → (answers : Answers) × PrintsLaid n o a t (is_some folder) r (module_laid (in_colours o paints) answers names m) →
-    (answers : Answers) × PrintsLaid n o a t o.folds r (module_laid (in_colours o paints) answers names m)
-by_folder n o paints names m folder {a} {t} r folds whole = (
+pub by_folder : {P : Type 0} (n : Meaning P) (o : Options) (color : Bool) (names : Names) (m : PlacedModule) (folder : Option FolderView) {a t : P} (r : Result (Unit {0}) Error) →
+    Folds o color folder m → (answers : Answers) × PrintsLaid n o a t (is_some folder) r (module_laid (in_colors o color) answers names m) →
+    (answers : Answers) × PrintsLaid n o a t o.folds r (module_laid (in_colors o color) answers names m)
+by_folder n o color names m folder {a} {t} r folds whole = (
   whole.0,
-  subst (λ (b : Bool). PrintsLaid n o a t b r (module_laid (in_colours o paints) whole.0 names m)) (keeps-folds o paints folder m folds) whole.1,
+  subst (λ (b : Bool). PrintsLaid n o a t b r (module_laid (in_colors o color) whole.0 names m)) (keeps-folds o color folder m folds) whole.1,
 )

@@ -12,8 +12,8 @@ use Rattle.wasmprinter_fold.specs.Views.{FolderView}
 -- There is a folder exactly if the options ask for folding. It folds the operators of this module, with escape
 -- sequences in the texts or without.
 abbrev pub Folds : Options → Bool → Option FolderView → PlacedModule → Type 0
-Folds o paints None m = o.folds ≡ false
-Folds o paints (Some f) m = (o.folds ≡ true) × (f.operators_of ≡ m) × (f.paints ≡ paints)
+Folds o color None m = o.folds ≡ false
+Folds o color (Some f) m = (o.folds ≡ true) × (f.operators_of ≡ m) × (f.color ≡ color)
 
 -- The parts of the sections of these kinds. The custom sections after each have their own answers.
 abbrev pub sections_parts : Options → Scope → PlacedModule → List Answers → List Kind → List Part

@@ -2,10 +2,10 @@
 //! the custom sections at that place.
 ghost use Rattle.std.specs.Prelude.{◌≡◌, ◌∷◌, ◌++◌, List, Bool, true, None, length, IfOk, IfErr, is_some};
 ghost use Rattle.wasmprinter_error.specs.declared.error.Error.TheVariants.{Memory};
-ghost use Rattle.wasmprinter_spec.specs.Options.{Answers, in_colours};
+ghost use Rattle.wasmprinter_spec.specs.Options.{Answers, in_colors};
 ghost use Rattle.wasmprinter_spec.specs.Layout.{module_parts, section_order, section_parts};
 ghost use Rattle.wasmprinter_spec.specs.Layout.Customs.{Shown, parts_at};
-ghost use Rattle.wasmprinter_spec.specs.Layout.Identifiers.{leading_mark_pieces};
+ghost use Rattle.wasmprinter_spec.specs.Layout.Identifiers.{leading_id_and_name_pieces};
 ghost use Rattle.wasmprinter_entries.specs.Places.{section_kind_view};
 ghost use Rattle.wasmprinter_labels.specs.Scan.{names_of};
 ghost use Rattle.wasmprinter_annotations.specs.Parts.{PrintsLaid};
@@ -23,7 +23,7 @@ use wasmprinter_lines::lines::{begin, close_at, end};
 use wasmprinter_lines::options::PrintOptions;
 use wasmprinter_print::Print;
 use wasmprinter_scope::scope::{ModuleTypes, Scope};
-use wasmprinter_text::indices::write_leading_mark;
+use wasmprinter_text::indices::write_leading_id_and_name;
 use wasmprinter_wasm::{ExternKind, Fields, Module, SectionKind};
 use wasmprinter_words::words::open;
 
@@ -90,12 +90,12 @@ fn write_parts<'s, 'a, P: Print>(
     labels: OpenLabels<'s, 'a>,
     folder: Option<Folder<'s, 'a>>,
 ) -> Result<bool, Error>
-    ensures { (paints : Bool) → Folds options.now paints folder.entry module.now → (answers : Answers)
+    ensures { (color : Bool) → Folds options.now color folder.entry module.now → (answers : Answers)
         × PrintsPartLines P.meaning options.now p.old p.new (is_some folder.entry) result
-        (Shown (leading_mark_pieces (names_of labels.entry).module_name)
-        ∷ module_parts (in_colours options.now paints) answers (names_of labels.entry) module.now) }
+        (Shown (leading_id_and_name_pieces (names_of labels.entry).module_name)
+        ∷ module_parts (in_colors options.now color) answers (names_of labels.entry) module.now) }
 {
-    write_leading_mark(p, labels.identifiers().module())?;
+    write_leading_id_and_name(p, labels.identifiers().module())?;
     let mut scope = Scope {
         types: ModuleTypes { module },
         labels,
@@ -119,8 +119,8 @@ fn folder_of<'s, 'a, P: Print>(
     if !options.folds {
         return Ok(None);
     }
-    let paints = p.supports_async_color();
-    Ok(Some(Folder::new(alloc, module, paints)?))
+    let color = p.supports_async_color();
+    Ok(Some(Folder::new(alloc, module, color)?))
 }
 
 /// Writes a whole module, whose operators `folder` folds, if there is one.
@@ -131,9 +131,9 @@ fn write_whole<'s, 'a, P: Print>(
     labels: OpenLabels<'s, 'a>,
     folder: Option<Folder<'s, 'a>>,
 ) -> Result<(), Error>
-    ensures { (paints : Bool) → Folds options.now paints folder.entry module.now → (answers : Answers)
+    ensures { (color : Bool) → Folds options.now color folder.entry module.now → (answers : Answers)
         × PrintsLaid P.meaning options.now p.old p.new (is_some folder.entry) result
-        (module_laid (in_colours options.now paints) answers (names_of labels.entry) module.now) }
+        (module_laid (in_colors options.now color) answers (names_of labels.entry) module.now) }
 {
     begin(p, 0)?;
     open(p, "module")?;
@@ -160,7 +160,7 @@ pub fn write_module<'s, 'a, P: Print>(
     labels: OpenLabels<'s, 'a>,
 ) -> Result<(), Error>
     ensures { (answers : Answers) × PrintsLaid P.meaning options.now p.old p.new options.now.folds result
-        (module_laid (in_colours options.now (P.colors p.old)) answers (names_of labels.entry) module.now) }
+        (module_laid (in_colors options.now (P.colors p.old)) answers (names_of labels.entry) module.now) }
 {
     let folder = folder_of(alloc, p, options, module)?;
     write_whole(p, options, module, labels, folder)

@@ -66,12 +66,12 @@ fn write_datas<P: Print>(
 ) -> Result<(), Error>
     ensures pieces { PrintsOrStops P.meaning options.now p.old p.new (folds_in (scope_view scope.old)) result
         (numbered_pieces (data_pieces options.now.skeleton
-        (function_scope_view scope.old (imported_count FuncKind module.now.imports + length module.now.functions))) 0 module.now.datas) }
+        (function_scope_view scope.old (imported_count FuncKind module.now.imports + length module.now.functions))) 0 module.now.data_segments) }
     ensures scope { scope_view scope.new ≡ scope_view scope.old }
 {
     let function = scope.function;
     scope.function = module.imported_count(ExternKind::Func) + u64::from(module.function_count());
-    let written = write_each(p, options, scope, 0, module.datas());
+    let written = write_each(p, options, scope, 0, module.data_segments());
     scope.function = function;
     written
 }
@@ -144,6 +144,6 @@ pub(crate) fn has_fields(module: &Module<'_>, kind: SectionKind) -> bool
         SectionKind::Start => module.start().is_some(),
         SectionKind::Element => !module.elements().is_empty(),
         SectionKind::Code => module.function_count() != 0,
-        SectionKind::Data => !module.datas().is_empty(),
+        SectionKind::Data => !module.data_segments().is_empty(),
     }
 }

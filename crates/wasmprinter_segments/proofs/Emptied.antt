@@ -33,34 +33,34 @@ has_none (Some []) ne = absurd (ne tt)
 has_none (Some (o ∷ os)) ne = tt
 
 -- If a table is encoded at p and its initialiser is empty, its place is p, and the bytes encode an empty initialiser.
-here_of : (p : ℕ) (text behind : List ℕ) (x : PlacedTable) (place : ℕ) → (value_with_place table).spells p text x → IsEmpty place x → (place ≡ p) × table.spells place text (table_of x.value.type (Some []))
-here_of p text behind x place s e =
+here_of : (p : ℕ) (text after : List ℕ) (x : PlacedTable) (place : ℕ) → (value_with_place table).spells p text x → IsEmpty place x → (place ≡ p) × table.spells place text (table_of x.value.type (Some []))
+here_of p text after x place s e =
     let there : place ≡ p = sym e.0 ∙ s.0 in
     let same : x.value ≡ table_of x.value.type (Some []) = ap (table_of x.value.type) (init_is x.value.init e.1) in
     (there, subst (λ (q : ℕ). table.spells q text (table_of x.value.type (Some []))) (sym there) (subst (λ (v : Table (Placed Operator)). table.spells p text v) same s.1))
 
 -- If one of the tables that the bytes encode has an empty initialiser, the bytes contain such a table.
 among : (p : ℕ) (text : List ℕ) (ts : List PlacedTable) (place : ℕ) → AreItems (value_with_place table) p text ts → FirstIsEmpty place ts
-    → (at : Input) → (before behind : List ℕ) → at.bytes ≡ before ++ (text ++ behind) → p ≡ at.place + length before → HasEmptyInit at place
-among p text [] place s any at before behind parts starts = absurd any
-among p text (x ∷ xs) place s (inl here) at before behind parts starts =
+    → (at : Input) → (before after : List ℕ) → at.bytes ≡ before ++ (text ++ after) → p ≡ at.place + length before → HasEmptyInit at place
+among p text [] place s any at before after parts starts = absurd any
+among p text (x ∷ xs) place s (inl here) at before after parts starts =
     let (first, others, joined, first_spelled, others_spelled) = s in
-    let h = here_of p first behind x place first_spelled here in
-    let split : text ++ behind ≡ first ++ (others ++ behind) = ap (λ (t : List ℕ). t ++ behind) joined ∙ append_assoc first others behind in
+    let h = here_of p first after x place first_spelled here in
+    let split : text ++ after ≡ first ++ (others ++ after) = ap (λ (t : List ℕ). t ++ after) joined ∙ append_assoc first others after in
     record {
       before = before;
       text = first;
-      behind = others ++ behind;
+      after = others ++ after;
       parts = parts ∙ ap (λ (t : List ℕ). before ++ t) split;
       starts = h.0 ∙ starts;
       type = x.value.type;
       spelled = h.1;
     }
-among p text (x ∷ xs) place s (inr there) at before behind parts starts =
+among p text (x ∷ xs) place s (inr there) at before after parts starts =
     let (first, others, joined, first_spelled, others_spelled) = s in
-    let split : text ++ behind ≡ first ++ (others ++ behind) = ap (λ (t : List ℕ). t ++ behind) joined ∙ append_assoc first others behind in
-    among (p + length first) others xs place others_spelled there.1 at (before ++ first) behind
-    (parts ∙ ap (λ (t : List ℕ). before ++ t) split ∙ sym (append_assoc before first (others ++ behind)))
+    let split : text ++ after ≡ first ++ (others ++ after) = ap (λ (t : List ℕ). t ++ after) joined ∙ append_assoc first others after in
+    among (p + length first) others xs place others_spelled there.1 at (before ++ first) after
+    (parts ∙ ap (λ (t : List ℕ). before ++ t) split ∙ sym (append_assoc before first (others ++ after)))
     (omega (arith, starts, length-append before first))
 
 -- The result of a search among the tables from i on is the result for all tables.
@@ -96,12 +96,12 @@ section_empty at after ts place read any =
     let s = (vec (value_with_place table)).sound at (ts, after) read in
     let ((count, tables), kept, (front, rest, joined, count_spelled, (many, spelled))) = s.spelled in
     let same : tables ≡ ts = some_is tables ts kept in
-    let behind : ℕ = at.place + length front in
-    let items : AreItems (value_with_place table) behind rest ts =
-    subst (λ (xs : List PlacedTable). AreItems (value_with_place table) behind rest xs) same spelled in
+    let starts : ℕ = at.place + length front in
+    let items : AreItems (value_with_place table) starts rest ts =
+    subst (λ (xs : List PlacedTable). AreItems (value_with_place table) starts rest xs) same spelled in
     let split : at.bytes ≡ front ++ (rest ++ after.bytes) =
     s.parts ∙ ap (λ (t : List ℕ). t ++ after.bytes) joined ∙ append_assoc front rest after.bytes in (
-      among behind rest ts place items any at front after.bytes split refl,
+      among starts rest ts place items any at front after.bytes split refl,
       λ x e.
           let b = alone_some (vec (value_with_place table)) at x e in
           let are : ts ≡ x = ap (λ (y : List PlacedTable × Input). y.0) (some_is (ts, after) (x, b.0) (sym read ∙ b.1)) in

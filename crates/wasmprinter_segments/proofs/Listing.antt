@@ -25,9 +25,9 @@ few-push [] b all few = (few, tt)
 few-push (x ∷ xs) b all few = (all.0, few-push xs b all.1 few)
 
 -- If a body after others has too many locals, one of all bodies has too many.
-any_behind : (place : ℕ) (front rest : List (Placed Body)) (b : Placed Body) → IsOver place b → AnyIsOver place (front ++ b ∷ rest)
-any_behind place [] rest b over = inl over
-any_behind place (x ∷ xs) rest b over = inr (any_behind place xs rest b over)
+any_after : (place : ℕ) (front rest : List (Placed Body)) (b : Placed Body) → IsOver place b → AnyIsOver place (front ++ b ∷ rest)
+any_after place [] rest b over = inl over
+any_after place (x ∷ xs) rest b over = inr (any_after place xs rest b over)
 
 module _ {A : Type 0} (g : Grammar A) where
   -- The items with their count.
@@ -74,15 +74,15 @@ module _ (old start at : Input) (count i : ℕ) (front : List (Placed Body)) (co
   any_over : (place : ℕ) → ((x : Placed Body × Input) → P at ≡ Some x → IsOver place x.0) → (x : List (Placed Body) × Input) → (vec code_entry).parse old ≡ Some x → AnyIsOver place x.0
   any_over place over x r =
       let m : ℕ = count - (i + 1) in
-      let (behind_front, rest_parsed, whole) = bind_some (items_at P (suc m) at) (λ z. Some (front ++ z.0, z.1)) x (sym one_more ∙ r) in
-      let (rest, end) = behind_front in
-      let ((entry, mid), parsed, behind) =
-      bind_some (P at) (λ a. items_at P m a.1 >>= λ b. Some (a.0 ∷ b.0, b.1)) behind_front rest_parsed in
-      let ((others, after), others_parsed, result) = bind_some (items_at P m mid) (λ b. Some (entry ∷ b.0, b.1)) behind_front behind in
+      let (after_front, rest_parsed, whole) = bind_some (items_at P (suc m) at) (λ z. Some (front ++ z.0, z.1)) x (sym one_more ∙ r) in
+      let (rest, end) = after_front in
+      let ((entry, mid), parsed, remains) =
+      bind_some (P at) (λ a. items_at P m a.1 >>= λ b. Some (a.0 ∷ b.0, b.1)) after_front rest_parsed in
+      let ((others, after), others_parsed, result) = bind_some (items_at P m mid) (λ b. Some (entry ∷ b.0, b.1)) after_front remains in
       let first : entry ∷ others ≡ rest =
-      ap (λ (z : List (Placed Body) × Input). z.0) (some_is (entry ∷ others, after) behind_front result) in
+      ap (λ (z : List (Placed Body) × Input). z.0) (some_is (entry ∷ others, after) after_front result) in
       let all : front ++ rest ≡ x.0 = ap (λ (z : List (Placed Body) × Input). z.0) (some_is (front ++ rest, end) x whole) in
-      let here : AnyIsOver place (front ++ entry ∷ others) = any_behind place front others entry (over (entry, mid) parsed) in
+      let here : AnyIsOver place (front ++ entry ∷ others) = any_after place front others entry (over (entry, mid) parsed) in
       let there : AnyIsOver place (front ++ rest) = subst (λ (bs : List (Placed Body)). AnyIsOver place (front ++ bs)) first here in
       subst (λ (bs : List (Placed Body)). AnyIsOver place bs) all there
 

@@ -46,14 +46,14 @@ initialised = map_value (λ (_, (_, (type, init))). table_of type (Some init)) (
 plain_takes : (at : Input) (x : Table (Placed Operator) × Input) → plain.parse at ≡ Some x → length x.1.bytes < length at.bytes
 plain_takes at x e =
     let s = plain.sound at x e in
-    let (type, kept, (read, made, (front, behind, joined, type_spelled, limits))) = s.spelled in
+    let (type, kept, (read, made, (front, after, joined, type_spelled, limits))) = s.spelled in
     let (value, is, (first, rest, together, byte_spelled, heap)) = type_spelled in
     omega (
       arith,
       ap length s.parts,
       length-append s.text x.1.bytes,
       ap length joined,
-      length-append front behind,
+      length-append front after,
       ap length together,
       length-append first rest,
       ap length byte_spelled,
@@ -62,8 +62,8 @@ plain_takes at x e =
 initialised_takes : (at : Input) (x : Table (Placed Operator) × Input) → initialised.parse at ≡ Some x → length x.1.bytes < length at.bytes
 initialised_takes at x e =
     let s = initialised.sound at x e in
-    let (entry, kept, (front, behind, joined, (byte, is, byte_spelled), spelled)) = s.spelled in
-    omega (arith, ap length s.parts, length-append s.text x.1.bytes, ap length joined, length-append front behind, ap length byte_spelled)
+    let (entry, kept, (front, after, joined, (byte, is, byte_spelled), spelled)) = s.spelled in
+    omega (arith, ap length s.parts, length-append s.text x.1.bytes, ap length joined, length-append front after, ap length byte_spelled)
 
 chosen_takes : (c : Bool) (at : Input) (x : Table (Placed Operator) × Input) → (choose c initialised plain).parse at ≡ Some x → length x.1.bytes < length at.bytes
 chosen_takes true = initialised_takes

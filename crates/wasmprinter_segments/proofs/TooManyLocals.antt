@@ -33,10 +33,10 @@ module _ (at mid : Input) (locals : Entries) (read : (vec (value_with_place loca
       bind_some ((seq (vec (value_with_place local_entry)) (λ _. expression)).parse at)
       (λ ((ls, code), end). Some (body_from ls code, end)) x e in
       let ((kept, closed), after) = read_parts in
-      let (own, has_own, behind) =
+      let (own, has_own, remains) =
       bind_some ((vec (value_with_place local_entry)).parse at) (λ l. expression.parse l.1 >>= λ c. Some ((l.0, c.0), c.1))
       read_parts parsed in
-      let (code, has_code, together) = bind_some (expression.parse own.1) (λ c. Some ((own.0, c.0), c.1)) read_parts behind in
+      let (code, has_code, together) = bind_some (expression.parse own.1) (λ c. Some ((own.0, c.0), c.1)) read_parts remains in
       let same : own.0 ≡ locals = ap (λ (y : Entries × Input). y.0) (some_is own (locals, mid) (sym has_own ∙ read)) in
       let first : own.0 ≡ kept =
       ap (λ (((ls, _), _) : (Entries × Closed (Placed Operator)) × Input). ls)
@@ -60,7 +60,7 @@ module _ (at mid : Input) (locals : Entries) (read : (vec (value_with_place loca
         record {
           before = [];
           text = s.text;
-          behind = mid.bytes;
+          after = mid.bytes;
           parts = s.parts;
           starts = omega arith;
           locals = locals;
@@ -98,8 +98,8 @@ module _ (old mid part new : Input) (size : ℕ) (size_read : u32.parse old ≡ 
   -- A reason for `TooManyLocals` of the body is one of the entry.
   entry_over : (place : ℕ) → (body_reasons (value_with_place body).parse (HasBlocks part) part).locals place → (body_reasons code_entry.parse (HasEntryBlocks old) old).locals place
   entry_over place h =
-      let (size_text, split, behind, spelled) = old_parts old mid part new size size_read cut begins in
-      (many_in_part old part size_text new.bytes place split behind h.0, λ x f. let b = entry_body x f in h.1 (x.0, b.0) b.1)
+      let (size_text, split, after, spelled) = old_parts old mid part new size size_read cut begins in
+      (many_in_part old part size_text new.bytes place split after h.0, λ x f. let b = entry_body x f in h.1 (x.0, b.0) b.1)
 
   -- A reason for `Malformed` of the body is one of the entry.
   entry_malformed : (place : ℕ) → (body_reasons (value_with_place body).parse (HasBlocks part) part).malformed place → (body_reasons code_entry.parse (HasEntryBlocks old) old).malformed place
@@ -118,7 +118,7 @@ module _ (old mid part new : Input) (size : ℕ) (size_read : u32.parse old ≡ 
     tables = λ place h. absurd h;
     memory = λ h. record {
       size = size;
-      behind = mid;
+      after = mid;
       sized = size_read;
       part = part.bytes;
       rest = new;

@@ -18,12 +18,12 @@ use Rattle.wasmprinter_bytes.specs.Lists.{CountsItems}
 -- The bytes begin with a size, and the next `size` bytes are a body for which `HasBlocks` holds.
 pub record HasEntryBlocks (at : Input) : Type 0 where
   pub size : ℕ
-  pub behind : Input
-  pub sized : u32.parse at ≡ Some (size, behind)
+  pub after : Input
+  pub sized : u32.parse at ≡ Some (size, after)
   pub part : List ℕ
   pub rest : Input
-  pub cut : front_at size behind ≡ Some (part, rest)
-  pub blocks : HasBlocks (input behind.place part)
+  pub cut : front_at size after ≡ Some (part, rest)
+  pub blocks : HasBlocks (input after.place part)
 
 -- The reasons for errors when a body is read. The bytes do not encode a body; or there are too many locals, and the
 -- body that the bytes encode, if they encode one, has them; or an allocation failed, and `grows` holds.

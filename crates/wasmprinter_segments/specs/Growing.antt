@@ -12,7 +12,7 @@ use Rattle.wasmprinter_ops.specs.Operators.{HasBlock}
 use Rattle.wasmprinter_segments.specs.Segments.{is_inactive, is_explicit, holds_expressions, omits_kind, mode_by}
 
 -- The bytes begin with a value, and `Holds` holds of it and of the position after it.
-pub record Behind {A : Type 0} (parse : Input → Option (A × Input)) (Holds : A → Input → Type 0) (at : Input) : Type 0 where
+pub record After {A : Type 0} (parse : Input → Option (A × Input)) (Holds : A → Input → Type 0) (at : Input) : Type 0 where
   pub value : A
   pub after : Input
   pub read : parse at ≡ Some (value, after)
@@ -20,20 +20,20 @@ pub record Behind {A : Type 0} (parse : Input → Option (A × Input)) (Holds : 
 
 -- Reading a body may allocate in the expression after its locals.
 abbrev pub HasBlocks : Input → Type 0
-HasBlocks at = Behind (vec (value_with_place local_entry)).parse (λ _. HasBlock) at
+HasBlocks at = After (vec (value_with_place local_entry)).parse (λ _. HasBlock) at
 
 -- Reading a global may allocate in its initialiser.
 abbrev pub GlobalGrows : Input → Type 0
-GlobalGrows at = Behind global_type.parse (λ _. HasBlock) at
+GlobalGrows at = After global_type.parse (λ _. HasBlock) at
 
 -- Reading a table may allocate in its initialiser, after 40 00 and a type.
 abbrev pub TableGrows : Input → Type 0
-TableGrows at = Behind (only 0x40).parse (λ _. Behind (only 0x00).parse (λ _. Behind table_type.parse (λ _. HasBlock))) at
+TableGrows at = After (only 0x40).parse (λ _. After (only 0x00).parse (λ _. After table_type.parse (λ _. HasBlock))) at
 
 -- Reading the mode of an element segment may allocate in the offset of an active segment.
 abbrev pub OffsetGrows : (inactive explicit : Bool) → Input → Type 0
 OffsetGrows true explicit at = ⊥
-OffsetGrows false true at = Behind u32.parse (λ _. HasBlock) at
+OffsetGrows false true at = After u32.parse (λ _. HasBlock) at
 OffsetGrows false false at = HasBlock at
 
 -- The same, by the flags.
@@ -44,7 +44,7 @@ ModeGrows flags at = OffsetGrows (is_inactive flags) (is_explicit flags) at
 abbrev pub ExpressionsGrow : (expressions omitted : Bool) → Input → Type 0
 ExpressionsGrow false omitted at = ⊥
 ExpressionsGrow true true at = CountsItems at
-ExpressionsGrow true false at = Behind reference_type.parse (λ _. CountsItems) at
+ExpressionsGrow true false at = After reference_type.parse (λ _. CountsItems) at
 
 -- The same, by the flags.
 abbrev pub ItemsGrow : ℕ → Input → Type 0
@@ -52,17 +52,17 @@ ItemsGrow flags at = ExpressionsGrow (holds_expressions flags) (omits_kind flags
 
 -- Reading an element segment after its flags may allocate for its mode or its items.
 abbrev pub SegmentGrows : ℕ → Input → Type 0
-SegmentGrows flags at = ModeGrows flags at ⊎ Behind (mode_by flags).parse (λ _. ItemsGrow flags) at
+SegmentGrows flags at = ModeGrows flags at ⊎ After (mode_by flags).parse (λ _. ItemsGrow flags) at
 
 abbrev pub ElementGrows : Input → Type 0
-ElementGrows at = Behind u32.parse SegmentGrows at
+ElementGrows at = After u32.parse SegmentGrows at
 
 -- Reading the mode of a data segment, after its flags, may allocate in the offset of an active segment.
 abbrev pub DataModeGrows : ℕ → Input → Type 0
 DataModeGrows zero at = HasBlock at
 DataModeGrows (suc zero) at = ⊥
-DataModeGrows (suc (suc n)) at = Behind u32.parse (λ _. HasBlock) at
+DataModeGrows (suc (suc n)) at = After u32.parse (λ _. HasBlock) at
 
 -- Reading a data segment may allocate for its mode.
 abbrev pub DataGrows : Input → Type 0
-DataGrows at = Behind u32.parse DataModeGrows at
+DataGrows at = After u32.parse DataModeGrows at

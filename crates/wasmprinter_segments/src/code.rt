@@ -14,7 +14,7 @@ ghost use Rattle.wasmprinter_entries.specs.Contents.{TakesHeld};
 use std::alloc::Global;
 use std::marker::Model;
 use wasmprinter_bytes::bytes::Cursor;
-use wasmprinter_bytes::lists::{Items, Spelled, read_items};
+use wasmprinter_bytes::lists::{Decode, Items, read_items};
 use wasmprinter_entries::expected::expect_end;
 use wasmprinter_error::{Error, Malformed};
 use wasmprinter_ops::expression::{Expression, OperatorsReader};
@@ -41,7 +41,7 @@ impl Model for LocalEntry {
     ghost view = { λ e. record { place = e.place; value = record { count = e.count; type = type_view e.val_type } } };
 }
 
-impl Spelled for LocalEntry {
+impl Decode for LocalEntry {
     ghost parse = { (value_with_place local_entry).parse };
 
     fn read(cursor: &mut Cursor) -> Result<LocalEntry, Malformed> {

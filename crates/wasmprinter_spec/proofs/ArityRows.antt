@@ -7,7 +7,7 @@ use Rattle.wasmprinter_spec.specs.Operator.{Empty, Value, OfType, NoImmediates, 
 use Rattle.wasmprinter_spec.specs.Row.{OfBranchIf, OfBranchOnNull}
 use Rattle.wasmprinter_spec.specs.Table.{table, arity_of}
 use Rattle.wasmprinter_spec.specs.Placed.{import_of, PlacedModule}
-use Rattle.wasmprinter_spec.specs.Folding.Arities.{Signatures, OperandCounts, takes_and_gives, greatest, saturating_sum, label_of_block, counts, counts_of, signatures_within}
+use Rattle.wasmprinter_spec.specs.Folding.Arities.{Signatures, OperandCounts, operands_and_results, greatest, saturating_sum, label_of_block, counts, counts_of, signatures_within}
 use Rattle.wasmprinter_spec.proofs.Samples.{func, bare, empty_placed, made}
 use Rattle.wasmprinter_spec.proofs.BlockSamples.{block, loop, if_op, try_table, nop}
 use Rattle.wasmprinter_spec.proofs.FromBytes.{spelled}
@@ -45,7 +45,7 @@ abbrev all_counted : List (List ℕ) → List (Option OperandCounts)
 all_counted rows = map counted rows
 
 abbrev all_taking : List (ℕ × ℕ) → List (Option OperandCounts)
-all_taking rows = map (λ c. Some (takes_and_gives c.0 c.1)) rows
+all_taking rows = map (λ c. Some (operands_and_results c.0 c.1)) rows
 
 fixed_counts : all_counted ((0x6a ∷ []) ∷ (0x01 ∷ []) ∷ (0x1c ∷ 0x00 ∷ []) ∷ (0xfc ∷ 0x0a ∷ 0x00 ∷ 0x00 ∷ []) ∷ []) ≡ all_taking ((2, 1) ∷ (0, 0) ∷ (3, 1) ∷ (3, 0) ∷ [])
 unfolding table
@@ -101,7 +101,7 @@ block_counts : all_counted ((0x02 ∷ 0x7f ∷ 0x0b ∷ []) ∷ (0x03 ∷ 0x00 �
 unfolding table
 block_counts = refl
 
-end_counts : counts_of known open_labels (made 0x0b NoImmediates) ≡ takes_and_gives 0 0
+end_counts : counts_of known open_labels (made 0x0b NoImmediates) ≡ operands_and_results 0 0
 unfolding table
 end_counts = refl
 
@@ -112,7 +112,7 @@ aggregate_counts : all_counted ((0xfb ∷ 0x00 ∷ 0x01 ∷ []) ∷ (0xfb ∷ 0x
 unfolding table
 aggregate_counts = refl
 
-unlisted_counts : counts_of known open_labels (made 0xff NoImmediates) ≡ takes_and_gives 0 0
+unlisted_counts : counts_of known open_labels (made 0xff NoImmediates) ≡ operands_and_results 0 0
 unfolding table
 unlisted_counts = refl
 
@@ -120,7 +120,7 @@ unlisted_counts = refl
 greatest_sum : saturating_sum 4294967295 1 ≡ 4294967295
 greatest_sum = refl
 
-greatest_counts : map (λ a. counts known (Some greatest ∷ []) a (Index 0)) (OfBranchIf ∷ OfBranchOnNull ∷ []) ≡ takes_and_gives 4294967295 4294967295 ∷ takes_and_gives 4294967295 4294967295 ∷ []
+greatest_counts : map (λ a. counts known (Some greatest ∷ []) a (Index 0)) (OfBranchIf ∷ OfBranchOnNull ∷ []) ≡ operands_and_results 4294967295 4294967295 ∷ operands_and_results 4294967295 4294967295 ∷ []
 greatest_counts = refl
 
 -- A branch to a loop takes the loop's parameters. A branch to any other block takes the block's results.

@@ -159,7 +159,7 @@ group_indexed = record {
   exports = tt;
   start = tt;
   elements = tt;
-  datas = tt;
+  data_segments = tt;
 }
 
 -- ---- a signature with references after a type index
@@ -210,7 +210,7 @@ last_reference = record {
   exports = tt;
   start = tt;
   elements = tt;
-  datas = tt;
+  data_segments = tt;
 }
 
 undeclared_reference : IsIndexed (with_block (Value (to (Index 1)))) → ⊥

@@ -8,7 +8,7 @@ use Rattle.wasmprinter_spec.specs.Table.{table}
 use Rattle.wasmprinter_spec.specs.Character.{class}
 use Rattle.wasmprinter_spec.specs.Numeral.{numeral, natural, integer}
 use Rattle.wasmprinter_spec.specs.Float.{units_of, units, bits_by_halving, bits_of, unsigned_float, float}
-use Rattle.wasmprinter_spec.specs.FloatText.{digits_behind, doublings, unsigned_text, float_text, unsigned_calls, float_calls}
+use Rattle.wasmprinter_spec.specs.FloatText.{digits_after, doublings, unsigned_text, float_text, unsigned_calls, float_calls}
 use Rattle.wasmprinter_spec.specs.Token.{escape, lex}
 use Rattle.wasmprinter_spec.specs.Code.{head}
 use Rattle.wasmprinter_spec.specs.Text.Items.{groups}
@@ -29,7 +29,7 @@ use Rattle.wasmprinter_spec.specs.Layout.Expressions.{constant_by, constant_grou
 use Rattle.wasmprinter_spec.specs.Layout.Functions.{body_by, body_pieces, function_group, function_pieces, functions_pieces, header_pieces, inner_pieces, local_line, local_pieces}
 use Rattle.wasmprinter_spec.specs.Layout.Globals.{global_pieces, global_type_pieces}
 use Rattle.wasmprinter_spec.specs.Layout.Groups.{group, group_at, group_gap, group_gap_at, line_group, line_group_gap, numbered_pieces}
-use Rattle.wasmprinter_spec.specs.Layout.Identifiers.{declaration_pieces, identifier_gap_pieces, index_pieces, leading_mark_pieces, mark_gap_pieces, mark_pieces}
+use Rattle.wasmprinter_spec.specs.Layout.Identifiers.{declaration_pieces, identifier_gap_pieces, index_pieces, leading_id_and_name_pieces, id_and_name_gap_pieces, id_and_name_pieces}
 use Rattle.wasmprinter_spec.specs.Layout.Imports.{extern_pieces, import_pieces, imports_pieces}
 use Rattle.wasmprinter_spec.specs.Layout.Limits.{limits_pieces}
 use Rattle.wasmprinter_spec.specs.Layout.Memories.{memory_pieces, memory_type_pieces}
@@ -41,7 +41,7 @@ use Rattle.wasmprinter_spec.specs.Layout.Variables.{groups_pieces, variables_pie
 
 -- Unfolds how operators are printed.
 unfoldable pub printing : ⊤
-unfolding table digits repetition_of digits_behind doublings unsigned_text float_text unsigned_calls float_calls chars identifier_text char_text byte_text quoted_text quoted_bytes align_pieces block_pieces catch_pieces catches_pieces declaration_pieces default_index_pieces ending_pieces expression_pieces groups_pieces heap_pieces hex_words identifier_gap_pieces immediate_pieces index_pieces label_pieces labels_pieces lane_pieces lanes_pieces leading_mark_pieces line_group line_group_gap list_group mark_gap_pieces mark_pieces mem_arg_pieces null_ref_pieces offset_pieces operand_pieces operator_pieces operators_pieces ref_pieces select_pieces signature_pieces two_index_pieces type_and_field_pieces type_index_pieces type_list type_use_pieces val_pieces variables_pieces vector_pieces
+unfolding table digits repetition_of digits_after doublings unsigned_text float_text unsigned_calls float_calls chars identifier_text char_text byte_text quoted_text quoted_bytes align_pieces block_pieces catch_pieces catches_pieces declaration_pieces default_index_pieces ending_pieces expression_pieces groups_pieces heap_pieces hex_words identifier_gap_pieces immediate_pieces index_pieces label_pieces labels_pieces lane_pieces lanes_pieces leading_id_and_name_pieces line_group line_group_gap list_group id_and_name_gap_pieces id_and_name_pieces mem_arg_pieces null_ref_pieces offset_pieces operand_pieces operator_pieces operators_pieces ref_pieces select_pieces signature_pieces two_index_pieces type_and_field_pieces type_index_pieces type_list type_use_pieces val_pieces variables_pieces vector_pieces
 printing = tt
 
 -- Unfolds how a module is printed.

@@ -5,7 +5,7 @@ use Rattle.std.specs.Fmt.{digits}
 use Rattle.wasmprinter_spec.specs.Numeral.{numeral}
 use Rattle.wasmprinter_spec.specs.Call.{Text, Start, Literal, Comment, Reset, text_of}
 use Rattle.wasmprinter_spec.specs.Float.{single, double, bias, least_exponent, units_of, units, bits_by_halving, bits_of, unsigned_float, float}
-use Rattle.wasmprinter_spec.specs.FloatText.{float_text, unsigned_text, digits_behind, doublings, unsigned_calls, float_calls}
+use Rattle.wasmprinter_spec.specs.FloatText.{float_text, unsigned_text, digits_after, doublings, unsigned_calls, float_calls}
 
 -- ---- printed texts
 
@@ -50,19 +50,19 @@ doubles =
     ∷ []
 
 words_of_singles : map (λ r. float_text single r.bits) singles ≡ map (λ r. r.word) singles
-unfolding float_text unsigned_text digits_behind doublings digits
+unfolding float_text unsigned_text digits_after doublings digits
 words_of_singles = refl
 
 words_of_doubles : map (λ r. float_text double r.bits) doubles ≡ map (λ r. r.word) doubles
-unfolding float_text unsigned_text digits_behind doublings digits
+unfolding float_text unsigned_text digits_after doublings digits
 words_of_doubles = refl
 
 texts_of_singles : map (λ r. text_of (float_calls single r.bits)) singles ≡ map (λ r. r.text) singles
-unfolding float_calls unsigned_calls digits_behind doublings digits
+unfolding float_calls unsigned_calls digits_after doublings digits
 texts_of_singles = refl
 
 texts_of_doubles : map (λ r. text_of (float_calls double r.bits)) doubles ≡ map (λ r. r.text) doubles
-unfolding float_calls unsigned_calls digits_behind doublings digits
+unfolding float_calls unsigned_calls digits_after doublings digits
 texts_of_doubles = refl
 
 -- ---- reading back

@@ -163,7 +163,7 @@ sum_with_places = refl
 
 -- Folding with the types that operators name in the module, and with one operand and one result for each opcode
 abbrev chained : PlacedModule → Folding
-chained m = record { paints = false; signatures = λ own. record (signatures_within m own) { arities = λ o. Some (Fixed 1 1) } }
+chained m = record { color = false; signatures = λ own. record (signatures_within m own) { arities = λ o. Some (Fixed 1 1) } }
 
 abbrev chained_text : PlacedModule → List ℕ
 chained_text m = text_of (layout_folded (chained m) defaults unclaimed m)
@@ -183,10 +183,10 @@ chained_read = refl
 -- ---- colors
 
 -- A literal is red. There are no ANSI escape sequences outside the parentheses of operators.
-painted_global : printed_by (record folded { paints = true }) (with_item 0x06 (0x7f ∷ 0x00 ∷ 0x41 ∷ 0x01 ∷ 0x0b ∷ []))
+colored_global : printed_by (record folded { color = true }) (with_item 0x06 (0x7f ∷ 0x00 ∷ 0x41 ∷ 0x01 ∷ 0x0b ∷ []))
     ≡ Some (one_field (codes "(global (;0;) i32 (i32.const" ++ (escape (codes "0m") ++ (escape (codes "31m") ++ (codes " 1" ++ (escape (codes "0m") ++ codes "))"))))))
 unfolding composing reading items node_pieces folded_pieces
-painted_global = refl
+colored_global = refl
 
 -- ---- hints
 

@@ -5,7 +5,7 @@ use Rattle.std.proofs.lemmas.Bool.{eqb-true, eqb-false, ltb-true, ltb-false, con
 use Rattle.wasmprinter_spec.specs.Row as row
 use Rattle.wasmprinter_spec.specs.Folding.Arities.{greatest, saturating_sum}
 use Rattle.wasmprinter_spec.specs.Folding.Code.{Item, NestedCode, Done, Plain, Block, If, IfElse, flat, role, IsFit}
-use Rattle.wasmprinter_spec.specs.Folding.Tree.{Of, ThenCase, ElseCase, NodesOf, Nodes, Nil, Snoc, row_of_both, front, last, OperandsOf, Operands, Fit, Passed, Short, with_last, operands_from, operand_search, with_operands, with_operator, results_of, IsFirst, IsAnswer, tree_behind}
+use Rattle.wasmprinter_spec.specs.Folding.Tree.{Of, ThenCase, ElseCase, NodesOf, Nodes, Nil, Snoc, row_of_both, front, last, OperandsOf, Operands, Fit, Overshot, TooFew, with_last, operands_from, operand_search, with_operands, with_operator, results_of, IsFirst, IsAnswer, tree_after}
 use Rattle.wasmprinter_spec.specs.Folding.Unfolding.{Told, told_by_role, told_of, unfolding_of, UnfoldingRule}
 
 saturating_sum-zero : (s : ℕ) → s ≤ greatest → saturating_sum s 0 ≡ s
@@ -57,7 +57,7 @@ module _ {H : Type 0} where
         sym (saturated_assoc s q (results_of run)) ∙ sum,
         more_first wanted s run h q held lt le first,
       )
-  more wanted s b h q held Passed lt le a =
+  more wanted s b h q held Overshot lt le a =
       let (before, run, joined, passed, first) = a in (
         before,
         Snoc run h q held,
@@ -65,7 +65,7 @@ module _ {H : Type 0} where
         omega (arith, passed, saturated_assoc s q (results_of run)),
         more_first wanted s run h q held lt le first,
       )
-  more wanted s b h q held Short lt le a =
+  more wanted s b h q held TooFew lt le a =
       λ before run e. short before run e
     where
       short : (before run : NodesOf H) → Snoc b h q held ≡ row_of_both before run → saturating_sum s (results_of run) < wanted
@@ -84,10 +84,10 @@ module _ {H : Type 0} where
   IsAnswer-operands_from wanted s (Snoc b h q held) lt le =
       let next : ℕ = saturating_sum s q in
       let deeper : OperandsOf H = with_last h q held (operands_from wanted next b) in
-      cond_both (eqb next wanted) (Fit b (Snoc Nil h q held)) (cond (ltb wanted next) Passed deeper)
+      cond_both (eqb next wanted) (Fit b (Snoc Nil h q held)) (cond (ltb wanted next) Overshot deeper)
       (IsAnswer wanted s (Snoc b h q held))
       (λ e. (refl, omega (arith, eqb-true next wanted e), one_first wanted s h q held lt le))
-      (λ ne. cond_both (ltb wanted next) Passed deeper
+      (λ ne. cond_both (ltb wanted next) Overshot deeper
       (IsAnswer wanted s (Snoc b h q held))
       (λ e. (b, Snoc Nil h q held, refl, omega (arith, ltb-true wanted next e), one_first wanted s h q held lt le))
       (λ e. more wanted s b h q held (operands_from wanted next b) lt le
@@ -110,13 +110,13 @@ module _ {H : Type 0} where
   -- If operands were found, they are the last nodes.
   abbrev pub AreLast : NodesOf H → OperandsOf H → Type 0
   AreLast f (Fit before run) = f ≡ row_of_both before run
-  AreLast f Passed = Unit {0}
-  AreLast f Short = Unit {0}
+  AreLast f Overshot = Unit {0}
+  AreLast f TooFew = Unit {0}
 
   AreLast-with_last : (b held : NodesOf H) (h : H) (r : ℕ) (o : OperandsOf H) → AreLast b o → AreLast (Snoc b h r held) (with_last h r held o)
   AreLast-with_last b held h r (Fit before run) e = ap (λ (x : NodesOf H). Snoc x h r held) e
-  AreLast-with_last b held h r Passed e = tt
-  AreLast-with_last b held h r Short e = tt
+  AreLast-with_last b held h r Overshot e = tt
+  AreLast-with_last b held h r TooFew e = tt
 
   AreLast-cond : (f : NodesOf H) (t : Bool) (o p : OperandsOf H) → AreLast f o → AreLast f p → AreLast f (cond t o p)
   AreLast-cond f true o p x y = x
@@ -128,27 +128,27 @@ module _ {H : Type 0} where
       let next : ℕ = saturating_sum sum r in
       let deeper : OperandsOf H = with_last h r held (operands_from wanted next b) in
       let found : AreLast (Snoc b h r held) (Fit b (Snoc Nil h r held)) = refl in
-      let over : AreLast (Snoc b h r held) (cond (ltb wanted next) Passed deeper) =
-      AreLast-cond (Snoc b h r held) (ltb wanted next) Passed deeper tt
+      let over : AreLast (Snoc b h r held) (cond (ltb wanted next) Overshot deeper) =
+      AreLast-cond (Snoc b h r held) (ltb wanted next) Overshot deeper tt
       (AreLast-with_last b held h r (operands_from wanted next b) (AreLast-operands_from wanted next b)) in
-      AreLast-cond (Snoc b h r held) (eqb next wanted) (Fit b (Snoc Nil h r held)) (cond (ltb wanted next) Passed deeper) found over
+      AreLast-cond (Snoc b h r held) (eqb next wanted) (Fit b (Snoc Nil h r held)) (cond (ltb wanted next) Overshot deeper) found over
 
   pub AreLast-operand_search : (wanted : ℕ) (f : NodesOf H) → AreLast f (operand_search wanted f)
   AreLast-operand_search zero f = tt
   AreLast-operand_search (suc n) f = AreLast-operands_from (suc n) 0 f
 
-unfolding_of-with_operands : (f : Nodes) (x : Item) (o : Operands) → role x ≡ row.Plain → AreLast f o → unfolding_of (with_operands f (Of x) x.gives o) ≡ unfolding_of f ++ Some x ∷ []
+unfolding_of-with_operands : (f : Nodes) (x : Item) (o : Operands) → role x ≡ row.Plain → AreLast f o → unfolding_of (with_operands f (Of x) x.results o) ≡ unfolding_of f ++ Some x ∷ []
 unfolding_of-with_operands f x (Fit before run) p e =
     rw p
     (sym (append_assoc (unfolding_of before) (unfolding_of run) (Some x ∷ []))
     ∙ ap (λ (l : List Told). l ++ Some x ∷ []) (sym (unfolding_of-row_of_both before run) ∙ ap unfolding_of (sym e)))
-unfolding_of-with_operands f x Passed p e = rw p refl
-unfolding_of-with_operands f x Short p e = rw p refl
+unfolding_of-with_operands f x Overshot p e = rw p refl
+unfolding_of-with_operands f x TooFew p e = rw p refl
 
 -- An operator after a sequence of nodes unfolds to that sequence and the operator, whatever its operand and result
 -- counts are.
 pub unfolding_of-with_operator : (f : Nodes) (x : Item) → role x ≡ row.Plain → unfolding_of (with_operator f x) ≡ unfolding_of f ++ Some x ∷ []
-unfolding_of-with_operator f x p = unfolding_of-with_operands f x (operand_search x.takes f) p (AreLast-operand_search x.takes f)
+unfolding_of-with_operator f x p = unfolding_of-with_operands f x (operand_search x.operands f) p (AreLast-operand_search x.operands f)
 
 unfolding_of-front-last : (f : Nodes) → unfolding_of (front f) ++ unfolding_of (last f) ≡ unfolding_of f
 unfolding_of-front-last f = sym (unfolding_of-row_of_both (front f) (last f)) ∙ ap unfolding_of (row_of_both-front-last f)
@@ -158,26 +158,26 @@ told_of-append [] b = refl
 told_of-append (x ∷ a) b = ap (λ (l : List Told). told_by_role (role x) x ∷ l) (told_of-append a b)
 
 -- Code after a sequence of nodes unfolds to that sequence and the code.
-pub unfolding_of-tree_behind : (f : Nodes) (code : NestedCode) → IsFit code → unfolding_of (tree_behind f code) ≡ unfolding_of f ++ told_of (flat code)
-unfolding_of-tree_behind f Done h = sym (append-nil (unfolding_of f))
-unfolding_of-tree_behind f (Plain x rest) h =
-    unfolding_of-tree_behind (with_operator f x) rest h.1
+pub unfolding_of-tree_after : (f : Nodes) (code : NestedCode) → IsFit code → unfolding_of (tree_after f code) ≡ unfolding_of f ++ told_of (flat code)
+unfolding_of-tree_after f Done h = sym (append-nil (unfolding_of f))
+unfolding_of-tree_after f (Plain x rest) h =
+    unfolding_of-tree_after (with_operator f x) rest h.1
     ∙ rw (unfolding_of-with_operator f x h.0, h.0) (append_assoc (unfolding_of f) (Some x ∷ []) (told_of (flat rest)))
-unfolding_of-tree_behind f (Block x body end rest) h =
+unfolding_of-tree_after f (Block x body end rest) h =
     let (opens, fit_body, ends, fit_rest) = h in
-    unfolding_of-tree_behind (Snoc f (Of x) x.gives (tree_behind Nil body)) rest fit_rest
-    ∙ simp (unfolding_of-tree_behind Nil body fit_body, told_of-append, append_assoc, opens, ends)
-unfolding_of-tree_behind f (If x body end rest) h =
+    unfolding_of-tree_after (Snoc f (Of x) x.results (tree_after Nil body)) rest fit_rest
+    ∙ simp (unfolding_of-tree_after Nil body fit_body, told_of-append, append_assoc, opens, ends)
+unfolding_of-tree_after f (If x body end rest) h =
     let (opens, fit_body, ends, fit_rest) = h in
-    unfolding_of-tree_behind (Snoc (front f) (Of x) x.gives (Snoc (last f) (ThenCase x) 0 (tree_behind Nil body))) rest fit_rest
-    ∙ simp (unfolding_of-tree_behind Nil body fit_body, told_of-append, append_assoc, opens, ends, ← unfolding_of-front-last f)
-unfolding_of-tree_behind f (IfElse x body turn other end rest) h =
+    unfolding_of-tree_after (Snoc (front f) (Of x) x.results (Snoc (last f) (ThenCase x) 0 (tree_after Nil body))) rest fit_rest
+    ∙ simp (unfolding_of-tree_after Nil body fit_body, told_of-append, append_assoc, opens, ends, ← unfolding_of-front-last f)
+unfolding_of-tree_after f (IfElse x body turn other end rest) h =
     let (opens, fit_body, turns, fit_other, ends, fit_rest) = h in
-    let cases : Nodes = Snoc (Snoc (last f) (ThenCase x) 0 (tree_behind Nil body)) (ElseCase turn) 0 (tree_behind Nil other) in
-    unfolding_of-tree_behind (Snoc (front f) (Of x) x.gives cases) rest fit_rest
+    let cases : Nodes = Snoc (Snoc (last f) (ThenCase x) 0 (tree_after Nil body)) (ElseCase turn) 0 (tree_after Nil other) in
+    unfolding_of-tree_after (Snoc (front f) (Of x) x.results cases) rest fit_rest
     ∙ simp (
-      unfolding_of-tree_behind Nil body fit_body,
-      unfolding_of-tree_behind Nil other fit_other,
+      unfolding_of-tree_after Nil body fit_body,
+      unfolding_of-tree_after Nil other fit_other,
       told_of-append,
       append_assoc,
       opens,
@@ -188,4 +188,4 @@ unfolding_of-tree_behind f (IfElse x body turn other end rest) h =
 
 -- The tree of code unfolds to the operators of the code.
 pub unfolding_of-tree : UnfoldingRule
-unfolding_of-tree code h = unfolding_of-tree_behind Nil code h
+unfolding_of-tree code h = unfolding_of-tree_after Nil code h

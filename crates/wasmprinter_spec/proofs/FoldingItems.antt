@@ -37,19 +37,19 @@ module _ (s : Setting) (t : Signatures) where
   -- Every list that is well nested and without legacy exception handling can be folded.
   pub folded_pieces-nested : FoldedRule s t
   unfolding folded_pieces
-  folded_pieces-nested o paints hs os n h =
+  folded_pieces-nested o color hs os n h =
       let e : map role (items s t hs 0 [] [] os) ≡ roles os = roles-items os hs 0 [] [] in
       let c : (code : NestedCode) × (nested_code_of (items s t hs 0 [] [] os) ≡ Some code) =
       nested_code_of-nested (items s t hs 0 [] [] os) (subst (λ (rs : List Role). Nests Sequence rs) (sym e) n) (subst AreWithoutTry (sym e) h) in
-      (node_pieces o paints s.form true s.nesting (tree c.0), rw (c.1) refl)
+      (node_pieces o color s.form true s.nesting (tree c.0), rw (c.1) refl)
 
   -- No other list can be folded.
   pub folded_pieces-nests : FoldingRule s t
   unfolding folded_pieces
-  folded_pieces-nests o paints hs os ps e =
+  folded_pieces-nests o color hs os ps e =
       let c : (code : NestedCode) × (nested_code_of (items s t hs 0 [] [] os) ≡ Some code) = some_tree (nested_code_of (items s t hs 0 [] [] os)) e in
       subst (λ (rs : List Role). Nests Sequence rs × AreWithoutTry rs) (roles-items os hs 0 [] []) (nested_code_of-nests (items s t hs 0 [] [] os) c.0 c.1)
     where
-      some_tree : (c : Option NestedCode) → option_map (λ (code : NestedCode). node_pieces o paints s.form true s.nesting (tree code)) c ≡ Some ps → (code : NestedCode) × (c ≡ Some code)
+      some_tree : (c : Option NestedCode) → option_map (λ (code : NestedCode). node_pieces o color s.form true s.nesting (tree code)) c ≡ Some ps → (code : NestedCode) × (c ≡ Some code)
       some_tree None e = absurd cc
       some_tree (Some code) e = (code, refl)

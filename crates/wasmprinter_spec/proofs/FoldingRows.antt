@@ -219,10 +219,10 @@ unfolding printing items node_pieces folded_pieces
 labels_of_predicate = refl
 
 -- Synthesized identifiers
-labels_invented : body (record no_names { labels = λ f. label_naming true (λ n. None) }) pair_giving (0x02 ∷ 0x40 ∷ 0x02 ∷ 0x40 ∷ 0x0c ∷ 0x01 ∷ 0x0c ∷ 0x00 ∷ 0x0b ∷ 0x0b ∷ [])
+labels_synthesized : body (record no_names { labels = λ f. label_naming true (λ n. None) }) pair_giving (0x02 ∷ 0x40 ∷ 0x02 ∷ 0x40 ∷ 0x0c ∷ 0x01 ∷ 0x0c ∷ 0x00 ∷ 0x0b ∷ 0x0b ∷ [])
     ≡ Some (Some (body_lines (codes "(block $#label0" ∷ codes "  (block $#label1" ∷ codes "    (br $#label0)" ∷ codes "    (br $#label1)))" ∷ [])))
 unfolding printing reading items node_pieces folded_pieces
-labels_invented = refl
+labels_synthesized = refl
 
 -- After a name with two adjacent semicolons the line ends, as after a comment.
 semicolons : body (naming (codes "a;;b")) pair_giving (0x20 ∷ 0x00 ∷ 0x20 ∷ 0x00 ∷ 0x1a ∷ [])

@@ -134,9 +134,9 @@ wrong_escape : forest (codes "\"\\x\"") ≡ None
 unfolding lex class escape
 wrong_escape = refl
 
-letter_behind_hexadecimal : forest (codes "\"\\g0\"") ≡ None
+letter_after_hexadecimal : forest (codes "\"\\g0\"") ≡ None
 unfolding lex class escape
-letter_behind_hexadecimal = refl
+letter_after_hexadecimal = refl
 
 half_byte : forest (codes "\"\\6\"") ≡ None
 unfolding lex class escape

@@ -8,12 +8,12 @@ use Rattle.wasmprinter_spec.specs.Labels as labels
 use Rattle.wasmprinter_spec.specs.Labels.{Named, is_hidden, Target, Around, Own, Nothing, target}
 use Rattle.wasmprinter_spec.specs.Names.{Names, in_function}
 use Rattle.wasmprinter_spec.specs.Layout.Operators.{Form, OverLines, InLine, Setting, named_index, label_name_pieces, named_pieces, target_pieces, label_pieces, labels_pieces, ending_pieces, block_pieces, catch_pieces, catches_pieces, operand_pieces, default_index_pieces, two_index_pieces, type_and_field_pieces, select_pieces, offset_pieces, align_pieces, mem_arg_pieces, lane_pieces, lanes_pieces, vector_pieces, immediate_pieces, pieces_by}
-use Rattle.wasmprinter_spec.proofs.OneLine.{IsOneLine, nothing_stays, both_stay, then_stay, alone_stays, cond_stays, line_group_stays, line_group_gap_stays, mark_stays, leading_mark_stays, index_stays, type_index_stays, heap_stays, ref_stays, val_stays, type_list_stays, type_use_stays}
+use Rattle.wasmprinter_spec.proofs.OneLine.{IsOneLine, nothing_stays, both_stay, then_stay, alone_stays, cond_stays, line_group_stays, line_group_gap_stays, id_and_name_stays, leading_id_and_name_stays, index_stays, type_index_stays, heap_stays, ref_stays, val_stays, type_list_stays, type_use_stays}
 
 -- ---- labels
 
 label_name_stays : (given : Option (List ℕ)) (l : ℕ) (n : Named) → IsOneLine (label_name_pieces given l n)
-label_name_stays (Some s) l n = mark_stays n
+label_name_stays (Some s) l n = id_and_name_stays n
 label_name_stays None l n = index_stays (Some n) l
 
 named_stays : (l : ℕ) (n : Named) (hidden : Bool) → IsOneLine (named_pieces l n hidden)
@@ -116,9 +116,9 @@ module _ (s : Setting) where
 
     immediates_stay : (own : labels.Label) (shape : Shape) (i : Immediates) → IsOneLine (immediate_pieces s inner xs own shape i)
     unfolding immediate_pieces
-    immediates_stay own BlockShape (Block t) = both_stay (leading_mark_stays own) (both_stay (block_stays t) (ending_stays s.form own (suc (length xs))))
+    immediates_stay own BlockShape (Block t) = both_stay (leading_id_and_name_stays own) (both_stay (block_stays t) (ending_stays s.form own (suc (length xs))))
     immediates_stay own TryTableShape (TryTable t cs) =
-        both_stay (leading_mark_stays own) (both_stay (block_stays t) (both_stay (catches_stay cs) (ending_stays s.form own (suc (length xs)))))
+        both_stay (leading_id_and_name_stays own) (both_stay (block_stays t) (both_stay (catches_stay cs) (ending_stays s.form own (suc (length xs)))))
     immediates_stay own (IndexShape space) (Index n) = operand_stays space n
     immediates_stay own (DefaultIndexShape space) (Index n) = default_index_stays space n
     immediates_stay own (PairShape first second) (Indices m n) = two_index_stay first second m n

@@ -14,7 +14,7 @@ use Rattle.wasmprinter_spec.specs.Options.{defaults, IsBlank}
 use Rattle.wasmprinter_spec.proofs.Samples.{func, local_get, local_set, call, drop, return, i32_const, i64_const, empty, identity, stored, mixed, made}
 
 empty_indexed : IsIndexed empty
-empty_indexed = record { types = tt; functions = tt; imports = tt; tables = tt; tags = tt; globals = tt; exports = tt; start = tt; elements = tt; datas = tt }
+empty_indexed = record { types = tt; functions = tt; imports = tt; tables = tt; tags = tt; globals = tt; exports = tt; start = tt; elements = tt; data_segments = tt }
 
 -- A function type has declared indices if all its parameters and results do.
 plain_func : {n : ℕ} {ps rs : List ValType} → AllByRecursion (IsDeclaredVal n) ps → AllByRecursion (IsDeclaredVal n) rs → IsDeclaredSub n (func ps rs)
@@ -32,7 +32,7 @@ identity_indexed = record {
   exports = (omega arith, tt);
   start = tt;
   elements = tt;
-  datas = tt;
+  data_segments = tt;
 }
 
 stored_indexed : IsIndexed stored
@@ -47,7 +47,7 @@ stored_indexed = record {
   exports = tt;
   start = tt;
   elements = tt;
-  datas = tt;
+  data_segments = tt;
 }
 
 -- A module with two types, and a function with one local that is exported
@@ -71,7 +71,7 @@ last_indices = record {
   exports = (omega arith, tt);
   start = tt;
   elements = tt;
-  datas = tt;
+  data_segments = tt;
 }
 
 last_type : IsIndexed (calling 1 (local_get 0 ∷ []) 0)
@@ -86,7 +86,7 @@ last_type = record {
   exports = (omega arith, tt);
   start = tt;
   elements = tt;
-  datas = tt;
+  data_segments = tt;
 }
 
 no_such_type : IsIndexed (calling 2 [] 0) → ⊥
@@ -129,7 +129,7 @@ every_shape = record {
   exports = (omega arith, tt);
   start = tt;
   elements = tt;
-  datas = tt;
+  data_segments = tt;
 }
 
 index_of_drop : IsIndexed (one_operator (opcode 0 0x1a) (Index 0)) → ⊥
@@ -183,7 +183,7 @@ blocks_indexed = record {
   exports = (omega arith, tt);
   start = tt;
   elements = tt;
-  datas = tt;
+  data_segments = tt;
 }
 
 catches_indexed : IsIndexed (one_operator (opcode 0 0x1f) (TryTable Empty (All 3 ∷ AllRef 0 ∷ [])))
@@ -198,7 +198,7 @@ catches_indexed = record {
   exports = (omega arith, tt);
   start = tt;
   elements = tt;
-  datas = tt;
+  data_segments = tt;
 }
 
 no_such_block_type : IsIndexed (one_operator (opcode 0 0x02) (Block (OfType 2))) → ⊥
@@ -291,7 +291,7 @@ one_each = record {
   tags = 1;
   globals = 1;
   elems = 1;
-  datas = 1;
+  data_segments = 1;
   locals = 1;
   signature = λ n. Some (record { params = []; results = [] });
   fields = λ n. Some (field_type false types.I8 ∷ []);

@@ -36,8 +36,8 @@ named ns = label_naming false (slice_get ns)
 abbrev one_named : ℕ → List ℕ → LabelNaming
 one_named n s = label_naming false (λ i. cond (i == n) (Some s) None)
 
-abbrev invented : LabelNaming
-invented = label_naming true (λ n. None)
+abbrev synthesized : LabelNaming
+synthesized = label_naming true (λ n. None)
 
 -- ---- one name for two labels
 
@@ -189,33 +189,33 @@ second_named_reads = refl
 -- ---- synthesized identifiers
 
 -- An identifier contains the number of enclosing blocks. The body itself has no identifier.
-abbrev invented_lines : List ℕ
-invented_lines = body_lines (codes "try $#label0" ∷ codes "delegate 0" ∷ codes "block $#label0" ∷ codes "  br $#label0" ∷ codes "  br 1" ∷ codes "end" ∷ [])
+abbrev synthesized_lines : List ℕ
+synthesized_lines = body_lines (codes "try $#label0" ∷ codes "delegate 0" ∷ codes "block $#label0" ∷ codes "  br $#label0" ∷ codes "  br 1" ∷ codes "end" ∷ [])
 
-invented_identifiers : printed invented delegated ≡ invented_lines
+synthesized_identifiers : printed synthesized delegated ≡ synthesized_lines
 unfolding composing repetition_of digits table is_utf8 encode_utf8 chars class identifier_text quoted_text char_text
-invented_identifiers = refl
+synthesized_identifiers = refl
 
-invented_identifiers_read : read_back invented_lines ≡ Some delegated
+synthesized_identifiers_read : read_back synthesized_lines ≡ Some delegated
 unfolding lex class escape numeral natural table head is_utf8 chars encode_utf8
-invented_identifiers_read = refl
+synthesized_identifiers_read = refl
 
 abbrev deep_lines : List ℕ
 deep_lines = body_lines (codes "block $#label0" ∷ codes "  block $#label1" ∷ codes "    br $#label0" ∷ codes "    br $#label1" ∷ codes "  end" ∷ codes "end" ∷ [])
 
-invented_deeper : printed invented both ≡ deep_lines
+synthesized_deeper : printed synthesized both ≡ deep_lines
 unfolding composing repetition_of digits table is_utf8 encode_utf8 chars class identifier_text quoted_text char_text
-invented_deeper = refl
+synthesized_deeper = refl
 
 -- A given name among synthesized identifiers
 abbrev partly_lines : List ℕ
 partly_lines =
     body_lines (codes "block $#label0" ∷ codes "  block $\"#label1 #label0\" (@name \"#label0\")" ∷ codes "    br $#label0" ∷ codes "    br $\"#label1 #label0\" (@name \"#label0\")" ∷ codes "  end" ∷ codes "end" ∷ [])
 
-partly_invented : printed (label_naming true (λ n. cond (n == 1) (Some (codes "#label0")) None)) both ≡ partly_lines
+partly_synthesized : printed (label_naming true (λ n. cond (n == 1) (Some (codes "#label0")) None)) both ≡ partly_lines
 unfolding composing repetition_of digits table is_utf8 encode_utf8 chars class identifier_text quoted_text char_text
-partly_invented = refl
+partly_synthesized = refl
 
-partly_invented_reads : read_back partly_lines ≡ Some both
+partly_synthesized_reads : read_back partly_lines ≡ Some both
 unfolding lex class escape numeral natural table head is_utf8 chars encode_utf8
-partly_invented_reads = refl
+partly_synthesized_reads = refl

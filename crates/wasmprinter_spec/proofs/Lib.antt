@@ -20,7 +20,7 @@ pub mod TypeRows
 pub mod TypeTextRows
 pub mod LayoutRows
 pub mod LineRows
-pub mod ColourRows
+pub mod ColorRows
 pub mod PlainRows
 pub mod MeaningRows
 pub mod NumeralRows

@@ -11,12 +11,12 @@ use Rattle.wasmprinter_spec.specs.Names.{names_of}
 
 -- The name of a label. A label without a name gets one by the number of enclosing blocks, or none.
 abbrev pub or_label : Bool → ℕ → ℕ → Option Named → Label
-or_label invents i d None = label_named invents i d None
-or_label invents i d (Some n) = Some n
+or_label synthesizes i d None = label_named synthesizes i d None
+or_label synthesizes i d (Some n) = Some n
 
 -- The label has this name.
 abbrev IsOfLabel : ℕ → Option Named → Type 0
-IsOfLabel i o = (invents : Bool) (d : ℕ) → label_named invents i d (o >>= λ n. n.given) ≡ or_label invents i d o
+IsOfLabel i o = (synthesizes : Bool) (d : ℕ) → label_named synthesizes i d (o >>= λ n. n.given) ≡ or_label synthesizes i d o
 
 content-label : (given : List (List ℕ)) (e : Entry) → content label_subsection given e ≡ label_content e.index e.name
 content-label given e = by (is_clean e.name)
@@ -27,7 +27,7 @@ content-label given e = by (is_clean e.name)
     by false = refl
 
 entry-label : (given : List (List ℕ)) (e : Entry) → IsOfLabel e.index (Some (entry_name label_subsection given e))
-entry-label given e invents d = ap (λ (t : List ℕ). Some (record { given = Some e.name; content = t })) (sym (content-label given e))
+entry-label given e synthesizes d = ap (λ (t : List ℕ). Some (record { given = Some e.name; content = t })) (sym (content-label given e))
 
 last-label : (given : List (List ℕ)) (before : Option Named) (entries : List Entry) (i : ℕ) → IsOfLabel i before → IsOfLabel i (last_name label_subsection given before entries i)
 last-label given before [] i h = h
@@ -37,5 +37,5 @@ last-label given before (e ∷ entries) i h = last-label (e.name ∷ given) _ en
     by true t = rw (← eqb-true e.index i t) (entry-label given e)
     by false t = h
 
-pub label-name_of : (invents : Bool) (entries : List Entry) (f i d : ℕ) → (names_of invents entries).labels f i d ≡ or_label invents i d (name_of entries label_subsection f i)
-label-name_of invents entries f i d = last-label [] None (entries_in label_subsection f entries) i (λ t e. refl) invents d
+pub label-name_of : (synthesizes : Bool) (entries : List Entry) (f i d : ℕ) → (names_of synthesizes entries).labels f i d ≡ or_label synthesizes i d (name_of entries label_subsection f i)
+label-name_of synthesizes entries f i d = last-label [] None (entries_in label_subsection f entries) i (λ t e. refl) synthesizes d

@@ -72,9 +72,9 @@ unfolding is_utf8 chars encode_utf8 digits
 replaced = refl
 
 -- A name that looks like a synthesized identifier
-like_made_up : (names_for_all (codes "\u{1}\t\u{1}\u{1}\u{6}#func0")).items Func 1 ≡ named (codes "#func0") (codes "#func1 #func0")
+like_synthesized : (names_for_all (codes "\u{1}\t\u{1}\u{1}\u{6}#func0")).items Func 1 ≡ named (codes "#func0") (codes "#func1 #func0")
 unfolding is_utf8 chars encode_utf8 digits
-like_made_up = refl
+like_synthesized = refl
 
 two_subsections : identifiers ((names (codes "\u{1}\u{4}\u{1}\0\u{1}a\u{1}\u{4}\u{1}\u{1}\u{1}a")).items Func) 2 ≡ Some (codes "a") ∷ Some (codes "#func1 a") ∷ []
 unfolding is_utf8 chars encode_utf8 digits
@@ -129,9 +129,9 @@ unfolding is_utf8 chars encode_utf8 digits
 label_of_no_bytes = refl
 
 -- A synthesized label contains the number of enclosing blocks.
-label_made_up : (names_for_all labels).labels 0 3 5 ≡ Some (record { given = None; content = codes "#label5" })
+label_synthesized : (names_for_all labels).labels 0 3 5 ≡ Some (record { given = None; content = codes "#label5" })
 unfolding is_utf8 chars encode_utf8 digits
-label_made_up = refl
+label_synthesized = refl
 
 -- The name that the entries give a label is the name that the text uses for it.
 label_by_entries : name_of (read labels).0 label_subsection 0 2 ≡ (names labels).labels 0 2 5
@@ -159,21 +159,21 @@ unfolding is_utf8 chars encode_utf8
 spaces_named = refl
 
 -- Identifiers are synthesized for all items without a name, except the module.
-all_made_up : (names_for_all []).module_name ≡ None
-all_made_up = refl
+all_synthesized : (names_for_all []).module_name ≡ None
+all_synthesized = refl
 
-items_made_up : identifiers ((names_for_all []).items Types) 2 ++ identifiers ((names_for_all []).items Func) 1 ++ identifiers ((names_for_all []).items Table) 1
+items_synthesized : identifiers ((names_for_all []).items Types) 2 ++ identifiers ((names_for_all []).items Func) 1 ++ identifiers ((names_for_all []).items Table) 1
     ++ identifiers ((names_for_all []).items Memory) 1 ++ identifiers ((names_for_all []).items Global) 1 ++ identifiers ((names_for_all []).items Elem) 1
     ++ identifiers ((names_for_all []).items Data) 1 ++ identifiers ((names_for_all []).items Tag) 1 ++ identifiers ((names_for_all []).items Label) 1
     ≡ Some (codes "#type0") ∷ Some (codes "#type1") ∷ Some (codes "#func0") ∷ Some (codes "#table0") ∷ Some (codes "#memory0") ∷ Some (codes "#global0")
     ∷ Some (codes "#elem0") ∷ Some (codes "#data0") ∷ Some (codes "#tag0") ∷ None ∷ []
 unfolding digits encode_utf8
-items_made_up = refl
+items_synthesized = refl
 
-parts_made_up : identifiers ((names_for_all []).fields 7) 1 ++ identifiers ((names_for_all []).locals 7) 2
+parts_synthesized : identifiers ((names_for_all []).fields 7) 1 ++ identifiers ((names_for_all []).locals 7) 2
     ≡ Some (codes "#field0") ∷ Some (codes "#local0") ∷ Some (codes "#local1") ∷ []
 unfolding digits encode_utf8
-parts_made_up = refl
+parts_synthesized = refl
 
 -- ---- malformed data
 

@@ -6,7 +6,7 @@ use Rattle.std.proofs.lemmas.List.{append-nil, length-append, nil_from_length}
 use Rattle.wasmprinter_spec.specs.Grammar.{Input, Spans, Grammar, some_is, byte}
 use Rattle.wasmprinter_spec.specs.Name.{u32}
 use Rattle.wasmprinter_spec.specs.Sized.{take_bytes}
-use Rattle.wasmprinter_spec.specs.Lenient.{Lenient, Groups, Follows, StandsWithin, behind_part, within, unless_ended, ends_complete, repeat_at}
+use Rattle.wasmprinter_spec.specs.Lenient.{Lenient, Groups, Follows, StandsWithin, after_part, within, unless_ended, ends_complete, repeat_at}
 use Rattle.wasmprinter_spec.specs.Names.Section.{Entry, content, subsection, subsections, all_of, GivesNames}
 
 module _ (l : Lenient Entry) where
@@ -28,8 +28,8 @@ module _ (l : Lenient Entry) where
     groups_read [] n at le g = ap (λ (r : List Entry × Option Input). r.0) (repeat_at_end n at g)
     groups_read (xs ∷ groups) zero at le g = absurd (omega (arith, g.0, le))
     groups_read (xs ∷ groups) (suc n) at le g =
-        let (takes, end, given, behind) = g in
-        groups_by xs groups n at takes end given behind (λ mid s h. groups_read groups n mid (omega (arith, shrinks at mid xs s, le)) h)
+        let (takes, end, given, after) = g in
+        groups_by xs groups n at takes end given after (λ mid s h. groups_read groups n mid (omega (arith, shrinks at mid xs s, le)) h)
 
 -- ---- a subsection consists of at least one byte
 
@@ -37,13 +37,13 @@ module _ {A : Type 0} (g : Grammar A) where
   fewer : (at : Input) (x : A × Input) → Spans g.spells at x → length x.1.bytes ≤ length at.bytes
   fewer at x s = omega (arith, ap length s.parts, length-append s.text x.1.bytes)
 
-behind_part_is : (inner : Option Input) (after mid : Input) → Some mid ≡ behind_part inner after → mid ≡ after
-behind_part_is None after mid e = absurd cc
-behind_part_is (Some x) after mid e = some_is mid after e
+after_part_is : (inner : Option Input) (after mid : Input) → Some mid ≡ after_part inner after → mid ≡ after
+after_part_is None after mid e = absurd cc
+after_part_is (Some x) after mid e = some_is mid after e
 
 within_fewer : (l : Lenient Entry) (n : ℕ) (at mid : Input) (xs : List Entry) → StandsWithin l n at xs (Some mid) → length mid.bytes ≤ length at.bytes
 within_fewer l n at mid xs (inl ((front, after), taken, inner, given, ended)) =
-    let same : mid ≡ after = behind_part_is inner after mid ended in
+    let same : mid ≡ after = after_part_is inner after mid ended in
     subst (λ (m : Input). length m.bytes ≤ length at.bytes) (sym same) (fewer (take_bytes n) at (front, after) taken)
 within_fewer l n at mid xs (inr (lacking, no_entry, ended)) = absurd cc
 
@@ -56,8 +56,8 @@ byte_fewer : (at : Input) (x : ℕ × Input) → Spans byte.spells at x → leng
 byte_fewer at x s = omega (arith, ap length s.parts, length-append s.text x.1.bytes, ap length s.spelled)
 
 pub subsection_shrinks : (at mid : Input) (xs : List Entry) → subsection.gives at xs (Some mid) → length mid.bytes < length at.bytes
-subsection_shrinks at mid xs (inl ((id, behind), spelled, given)) =
-    omega (arith, sized_fewer (content id) behind mid xs given, byte_fewer at (id, behind) spelled)
+subsection_shrinks at mid xs (inl ((id, after), spelled, given)) =
+    omega (arith, sized_fewer (content id) after mid xs given, byte_fewer at (id, after) spelled)
 subsection_shrinks at mid xs (inr (lacking, no_entry, ended)) = absurd cc
 
 -- The entries that the data gives are those that are read.
@@ -69,17 +69,17 @@ given_read at xs g =
 -- ---- every data gives a list of entries
 
 module _ (l : Lenient Entry) (shrinks : (at mid : Input) (xs : List Entry) → l.gives at xs (Some mid) → length mid.bytes < length at.bytes) where
-  exist_behind : (at : Input) → 0 < length at.bytes → (xs : List Entry) (end : Option Input) → l.gives at xs end
+  exist_after : (at : Input) → 0 < length at.bytes → (xs : List Entry) (end : Option Input) → l.gives at xs end
       → ((mid : Input) → length mid.bytes < length at.bytes → (groups : List (List Entry)) × Groups l mid groups) → (groups : List (List Entry)) × Groups l at groups
-  exist_behind at lt xs None s h = (xs ∷ [], (lt, None, s, refl))
-  exist_behind at lt xs (Some mid) s h = let g = h mid (shrinks at mid xs s) in (xs ∷ g.0, (lt, Some mid, s, g.1))
+  exist_after at lt xs None s h = (xs ∷ [], (lt, None, s, refl))
+  exist_after at lt xs (Some mid) s h = let g = h mid (shrinks at mid xs s) in (xs ∷ g.0, (lt, Some mid, s, g.1))
 
   exist_by : (at : Input) (b : Bool) → eqb (length at.bytes) 0 ≡ b
       → ((mid : Input) → length mid.bytes < length at.bytes → (groups : List (List Entry)) × Groups l mid groups) → (groups : List (List Entry)) × Groups l at groups
   exist_by at true e h = ([], nil_from_length at.bytes (eqb-true (length at.bytes) 0 e))
   exist_by at false e h =
       let ne = eqb-false (length at.bytes) 0 e in
-      exist_behind at (omega (arith, ne)) (l.read at).0 (l.read at).1 (l.sound at) h
+      exist_after at (omega (arith, ne)) (l.read at).0 (l.read at).1 (l.sound at) h
 
   pub groups_exist : (n : ℕ) (at : Input) → length at.bytes ≤ n → (groups : List (List Entry)) × Groups l at groups
   groups_exist zero at le = ([], nil_from_length at.bytes (omega (arith, le)))

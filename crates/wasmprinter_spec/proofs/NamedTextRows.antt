@@ -7,8 +7,8 @@ use Rattle.wasmprinter_spec.proofs.Samples.{head_bytes, lines, section, custom}
 use Rattle.wasmprinter_spec.proofs.Computing.{composing, reading}
 use Rattle.wasmprinter_spec.proofs.FromBytes.{decoded, printed_by}
 
-abbrev inventing : Options
-inventing = record defaults { invents = true }
+abbrev synthesizing : Options
+synthesizing = record defaults { synthesizes = true }
 
 -- A name section with these subsections
 abbrev name_section : List ℕ → List ℕ
@@ -78,8 +78,8 @@ unfolding reading
 apart_reads = refl
 
 -- Synthesized identifiers for all items
-abbrev made_up_text : List ℕ
-made_up_text = lines (
+abbrev synthesized_text_of : List ℕ
+synthesized_text_of = lines (
     codes "(module"
     ∷ codes "  (type $#type0 (;0;) (func (param i32) (result i32)))"
     ∷ codes "  (export \"f\" (func $#func0))"
@@ -89,13 +89,13 @@ made_up_text = lines (
     ∷ codes ")"
     ∷ [])
 
-made_up_prints : printed_by inventing (head_bytes ++ identity) ≡ Some made_up_text
+synthesized_prints : printed_by synthesizing (head_bytes ++ identity) ≡ Some synthesized_text_of
 unfolding composing reading
-made_up_prints = refl
+synthesized_prints = refl
 
-made_up_reads : read made_up_text ≡ decoded (head_bytes ++ identity)
+synthesized_reads : read synthesized_text_of ≡ decoded (head_bytes ++ identity)
 unfolding reading
-made_up_reads = refl
+synthesized_reads = refl
 
 -- ---- functions whose names cannot be their identifiers
 
@@ -164,8 +164,8 @@ variables_read : read variables_text ≡ decoded variables
 unfolding reading
 variables_read = refl
 
-abbrev invented_variables_text : List ℕ
-invented_variables_text = lines (
+abbrev synthesized_variables_text : List ℕ
+synthesized_variables_text = lines (
     codes "(module"
     ∷ codes "  (type $#type0 (;0;) (func (param i32 i64 i32)))"
     ∷ codes "  (func $#func0 (;0;) (type $#type0) (param $#local0 i32) (param $p i64) (param $#local2 i32)"
@@ -175,13 +175,13 @@ invented_variables_text = lines (
     ∷ codes ")"
     ∷ [])
 
-invented_variables_print : printed_by inventing variables ≡ Some invented_variables_text
+synthesized_variables_print : printed_by synthesizing variables ≡ Some synthesized_variables_text
 unfolding composing reading
-invented_variables_print = refl
+synthesized_variables_print = refl
 
-invented_variables_read : read invented_variables_text ≡ decoded variables
+synthesized_variables_read : read synthesized_variables_text ≡ decoded variables
 unfolding reading
-invented_variables_read = refl
+synthesized_variables_read = refl
 
 -- ---- types and their fields
 

@@ -6,7 +6,7 @@ use Rattle.wasmprinter_spec.specs.Grammar.{Input, input, Placed, some_is, Spans,
 use Rattle.wasmprinter_spec.specs.Types as types
 use Rattle.wasmprinter_spec.specs.Types.{ref_type}
 use Rattle.wasmprinter_spec.specs.Operator.{Operator, Immediates, NoImmediates, Block, Empty, Value, OfType}
-use Rattle.wasmprinter_spec.specs.Row.{Role, Plain, Opens, OpensIf, Turns, OpensTry, Catches, CatchesAll, Delegates, Ends}
+use Rattle.wasmprinter_spec.specs.Row.{Role, Plain, Opens, OpensIf, Else, OpensTry, Catches, CatchesAll, Delegates, Ends}
 use Rattle.wasmprinter_spec.specs.Table.{table}
 use Rattle.wasmprinter_spec.specs.Nesting.{Nests, Sequence, none, plain, block, one_armed, two_armed, tried, delegated, caught, caught_all, advance, at_start}
 use Rattle.wasmprinter_spec.specs.NestingSteps.{stops_at_end}
@@ -25,11 +25,11 @@ unfolding table
 block_read = refl
 
 -- The number of bytes after an expression, if there is an expression
-abbrev left_behind : List ℕ → Option ℕ
-left_behind bytes = option_map (λ x. length x.1.bytes) (expression.parse (input 0 bytes))
+abbrev left_after : List ℕ → Option ℕ
+left_after bytes = option_map (λ x. length x.1.bytes) (expression.parse (input 0 bytes))
 
 -- if else end; try catch 0 catch 0 catch_all end; try delegate 0; try end; a loop in a block; an empty expression
-read_whole : map left_behind (
+read_whole : map left_after (
     (0x04 ∷ 0x7f ∷ 0x05 ∷ 0x0b ∷ 0x0b ∷ [])
     ∷ (0x06 ∷ 0x40 ∷ 0x07 ∷ 0x00 ∷ 0x07 ∷ 0x00 ∷ 0x19 ∷ 0x0b ∷ 0x0b ∷ 1 ∷ [])
     ∷ (0x06 ∷ 0x40 ∷ 0x18 ∷ 0x00 ∷ 0x0b ∷ [])
@@ -42,7 +42,7 @@ read_whole = refl
 
 -- The numbers, from 0, of the lists of bytes that begin with an expression
 abbrev numbers_read : List (List ℕ) → List ℕ
-numbers_read bs = numbers_from left_behind 0 bs
+numbers_read bs = numbers_from left_after 0 bs
 
 read_among : numbers_read ((0x05 ∷ 0x0b ∷ 0x0b ∷ []) ∷ (0x0b ∷ []) ∷ [] ∷ (0x01 ∷ 0x0b ∷ []) ∷ []) ≡ 1 ∷ 3 ∷ []
 unfolding table
@@ -183,10 +183,10 @@ unfolding table
 block_types = refl
 
 -- The rules, applied by hand: try nop catch catch_all if else end end
-nests : Nests Sequence (OpensTry ∷ Plain ∷ Catches ∷ CatchesAll ∷ OpensIf ∷ Turns ∷ Ends ∷ Ends ∷ [])
+nests : Nests Sequence (OpensTry ∷ Plain ∷ Catches ∷ CatchesAll ∷ OpensIf ∷ Else ∷ Ends ∷ Ends ∷ [])
 nests =
-    tried {body = Plain ∷ []} {handlers = Catches ∷ CatchesAll ∷ OpensIf ∷ Turns ∷ Ends ∷ []} {rest = []} (plain none)
-    (caught {body = []} {handlers = CatchesAll ∷ OpensIf ∷ Turns ∷ Ends ∷ []} none (caught_all (two_armed {yes = []} {no = []} {rest = []} none none none))) none
+    tried {body = Plain ∷ []} {handlers = Catches ∷ CatchesAll ∷ OpensIf ∷ Else ∷ Ends ∷ []} {rest = []} (plain none)
+    (caught {body = []} {handlers = CatchesAll ∷ OpensIf ∷ Else ∷ Ends ∷ []} none (caught_all (two_armed {yes = []} {no = []} {rest = []} none none none))) none
 
 -- block loop end end if end try nop delegate
 nests_flat : Nests Sequence (Opens ∷ Opens ∷ Ends ∷ Ends ∷ OpensIf ∷ Ends ∷ OpensTry ∷ Plain ∷ Delegates ∷ [])
@@ -203,8 +203,8 @@ end_not_nested = not_nested (Ends ∷ []) refl
 open_not_nested : Nests Sequence (Opens ∷ []) → ⊥
 open_not_nested = not_nested (Opens ∷ []) refl
 
-turn_not_nested : Nests Sequence (Opens ∷ Turns ∷ Ends ∷ []) → ⊥
-turn_not_nested = not_nested (Opens ∷ Turns ∷ Ends ∷ []) refl
+turn_not_nested : Nests Sequence (Opens ∷ Else ∷ Ends ∷ []) → ⊥
+turn_not_nested = not_nested (Opens ∷ Else ∷ Ends ∷ []) refl
 
 catch_not_nested : Nests Sequence (OpensTry ∷ CatchesAll ∷ Catches ∷ Ends ∷ []) → ⊥
 catch_not_nested = not_nested (OpensTry ∷ CatchesAll ∷ Catches ∷ Ends ∷ []) refl

@@ -40,9 +40,9 @@ two_underscores : natural (codes "1__0") ≡ None
 unfolding natural numeral
 two_underscores = refl
 
-underscore_behind_x : natural (codes "0x_1") ≡ None
+underscore_after_x : natural (codes "0x_1") ≡ None
 unfolding natural numeral
-underscore_behind_x = refl
+underscore_after_x = refl
 
 letter_in_decimal : natural (codes "1a") ≡ None
 unfolding natural numeral

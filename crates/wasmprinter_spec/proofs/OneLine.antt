@@ -11,7 +11,7 @@ use Rattle.wasmprinter_spec.specs.Names.{Names}
 use Rattle.wasmprinter_spec.specs.Customs.Hints.{Hint}
 use Rattle.wasmprinter_spec.specs.Piece.{Piece, Begin, Break}
 use Rattle.wasmprinter_spec.specs.Layout.Groups.{has_break, close, line_group, line_group_gap, group_gap, numbered_pieces}
-use Rattle.wasmprinter_spec.specs.Layout.Identifiers.{given_pieces, mark_pieces, leading_mark_pieces, mark_gap_pieces, identifier_gap_pieces, declaration_pieces, index_pieces}
+use Rattle.wasmprinter_spec.specs.Layout.Identifiers.{given_pieces, id_and_name_pieces, leading_id_and_name_pieces, id_and_name_gap_pieces, identifier_gap_pieces, declaration_pieces, index_pieces}
 use Rattle.wasmprinter_spec.specs.Layout.ValTypes.{type_index_pieces, heap_pieces, null_ref_pieces, ref_pieces_by, ref_pieces, val_pieces, type_list}
 use Rattle.wasmprinter_spec.specs.Layout.Variables.{Variables, Alone, Together, variable_groups, variables_pieces, groups_pieces}
 use Rattle.wasmprinter_spec.specs.Layout.Operators.{hint_pieces}
@@ -84,19 +84,19 @@ given_stays : (given : Option (List ℕ)) (content : List ℕ) → IsOneLine (gi
 given_stays None content = nothing_stays
 given_stays (Some s) content = cond_stays (bytes_eq s content) nothing_stays (then_stay refl (alone_stays refl))
 
-pub mark_stays : (n : Named) → IsOneLine (mark_pieces n)
-unfolding mark_pieces
-mark_stays n = then_stay refl (given_stays n.given n.content)
+pub id_and_name_stays : (n : Named) → IsOneLine (id_and_name_pieces n)
+unfolding id_and_name_pieces
+id_and_name_stays n = then_stay refl (given_stays n.given n.content)
 
-pub leading_mark_stays : (n : Option Named) → IsOneLine (leading_mark_pieces n)
-unfolding leading_mark_pieces
-leading_mark_stays None = nothing_stays
-leading_mark_stays (Some n) = then_stay refl (mark_stays n)
+pub leading_id_and_name_stays : (n : Option Named) → IsOneLine (leading_id_and_name_pieces n)
+unfolding leading_id_and_name_pieces
+leading_id_and_name_stays None = nothing_stays
+leading_id_and_name_stays (Some n) = then_stay refl (id_and_name_stays n)
 
-pub mark_gap_stays : (n : Option Named) → IsOneLine (mark_gap_pieces n)
-unfolding mark_gap_pieces
-mark_gap_stays None = nothing_stays
-mark_gap_stays (Some n) = both_stay (mark_stays n) (alone_stays refl)
+pub id_and_name_gap_stays : (n : Option Named) → IsOneLine (id_and_name_gap_pieces n)
+unfolding id_and_name_gap_pieces
+id_and_name_gap_stays None = nothing_stays
+id_and_name_gap_stays (Some n) = both_stay (id_and_name_stays n) (alone_stays refl)
 
 identifier_gap_stays : (n : Option Named) → IsOneLine (identifier_gap_pieces n)
 unfolding identifier_gap_pieces
@@ -105,7 +105,7 @@ identifier_gap_stays (Some n) = then_stay refl (alone_stays refl)
 
 pub declaration_stays : (n : Option Named) (i : ℕ) → IsOneLine (declaration_pieces n i)
 unfolding declaration_pieces
-declaration_stays n i = then_stay refl (both_stay (mark_gap_stays n) (then_stay refl (alone_stays refl)))
+declaration_stays n i = then_stay refl (both_stay (id_and_name_gap_stays n) (then_stay refl (alone_stays refl)))
 
 pub index_stays : (n : Option Named) (i : ℕ) → IsOneLine (index_pieces n i)
 unfolding index_pieces
@@ -151,7 +151,7 @@ module _ (names : Names) where
 
   pub variables_stay : (w : List ℕ) (v : Variables) → IsOneLine (variables_pieces names w v)
   unfolding variables_pieces
-  variables_stay w (Alone n t) = line_group_stays w (then_stay refl (both_stay (mark_gap_stays (Some n)) (val_stays t)))
+  variables_stay w (Alone n t) = line_group_stays w (then_stay refl (both_stay (id_and_name_gap_stays (Some n)) (val_stays t)))
   variables_stay w (Together ts) = line_group_stays w (type_list_stays ts)
 
   pub groups_stay : (w : List ℕ) (gs : List Variables) → IsOneLine (groups_pieces names w gs)

@@ -4,7 +4,7 @@ use Rattle.std.specs.List.{AllByRecursion}
 use Rattle.std.proofs.lemmas.Bool.{and_parts, ltb-true}
 use Rattle.wasmprinter_spec.specs.Grammar.{some_is}
 use Rattle.wasmprinter_spec.specs.Repeated.{some_or}
-use Rattle.wasmprinter_spec.specs.Sections.{Kind, CustomSection, TypeSection, ImportSection, FunctionSection, TableSection, MemorySection, TagSection, GlobalSection, ExportSection, StartSection, ElementSection, DataCountSection, CodeSection, DataSection, Content, Section, holds, section_kind, content_of, rank, follows, rank_behind, are_above, content_in}
+use Rattle.wasmprinter_spec.specs.Sections.{Kind, CustomSection, TypeSection, ImportSection, FunctionSection, TableSection, MemorySection, TagSection, GlobalSection, ExportSection, StartSection, ElementSection, DataCountSection, CodeSection, DataSection, Content, Section, holds, section_kind, content_of, rank, follows, rank_after, are_above, content_in}
 
 -- ---- the content of a section
 
@@ -58,15 +58,15 @@ picked_is kind s x e =
 -- The rank of the last section that has a rank, or `low` if none has
 abbrev pub last_rank : ℕ → List Section → ℕ
 last_rank low [] = low
-last_rank low (s ∷ ss) = last_rank (rank_behind low (rank (section_kind s))) ss
+last_rank low (s ∷ ss) = last_rank (rank_after low (rank (section_kind s))) ss
 
 -- If sections are in order, the first may follow `low`, and the others are in order after it.
 above_parts : (low : ℕ) (s : Section) (ss : List Section) → are_above low (s ∷ ss) ≡ true
-    → (follows low (rank (section_kind s)) ≡ true) × (are_above (rank_behind low (rank (section_kind s))) ss ≡ true)
-above_parts low s ss up = and_parts (follows low (rank (section_kind s))) (are_above (rank_behind low (rank (section_kind s))) ss) up
+    → (follows low (rank (section_kind s)) ≡ true) × (are_above (rank_after low (rank (section_kind s))) ss ≡ true)
+above_parts low s ss up = and_parts (follows low (rank (section_kind s))) (are_above (rank_after low (rank (section_kind s))) ss) up
 
 -- Ranks do not decrease.
-rank_grows : (low : ℕ) (r : Option ℕ) → follows low r ≡ true → low ≤ rank_behind low r
+rank_grows : (low : ℕ) (r : Option ℕ) → follows low r ≡ true → low ≤ rank_after low r
 rank_grows low None up = omega arith
 rank_grows low (Some n) up = let lt = ltb-true low n up in omega arith
 
@@ -75,17 +75,17 @@ pub above_push : (low : ℕ) (ss : List Section) (s : Section) → are_above low
 above_push low [] s up on = rw on refl
 above_push low (x ∷ xs) s up on =
     let parts = above_parts low x xs up in
-    rw (parts.0, above_push (rank_behind low (rank (section_kind x))) xs s parts.1 on) refl
+    rw (parts.0, above_push (rank_after low (rank (section_kind x))) xs s parts.1 on) refl
 
 -- The rank of the added section is then the last rank.
-pub last_rank_push : (low : ℕ) (ss : List Section) (s : Section) → last_rank low (ss ++ s ∷ []) ≡ rank_behind (last_rank low ss) (rank (section_kind s))
+pub last_rank_push : (low : ℕ) (ss : List Section) (s : Section) → last_rank low (ss ++ s ∷ []) ≡ rank_after (last_rank low ss) (rank (section_kind s))
 last_rank_push low [] s = refl
-last_rank_push low (x ∷ xs) s = last_rank_push (rank_behind low (rank (section_kind x))) xs s
+last_rank_push low (x ∷ xs) s = last_rank_push (rank_after low (rank (section_kind x))) xs s
 
 -- Each of the sections in order may follow those before it.
 pub above_midst : (low : ℕ) (xs : List Section) (s : Section) (ys : List Section) → are_above low (xs ++ s ∷ ys) ≡ true → follows (last_rank low xs) (rank (section_kind s)) ≡ true
 above_midst low [] s ys up = (above_parts low s ys up).0
-above_midst low (x ∷ xs) s ys up = above_midst (rank_behind low (rank (section_kind x))) xs s ys (above_parts low x (xs ++ s ∷ ys) up).1
+above_midst low (x ∷ xs) s ys up = above_midst (rank_after low (rank (section_kind x))) xs s ys (above_parts low x (xs ++ s ∷ ys) up).1
 
 -- ---- the contents of one kind in sections
 
@@ -119,7 +119,7 @@ module _ (kind : Kind) where
         let parts = above_parts low s ss up in
         let grows = rank_grows low (rank (section_kind s)) parts.0 in
         elim (picks kind s) [
-          | inl other ↦ rw other (held_past d (rank_behind low (rank (section_kind s))) ss (omega arith) parts.1)
+          | inl other ↦ rw other (held_past d (rank_after low (rank (section_kind s))) ss (omega arith) parts.1)
           | inr own ↦
               let its : rank (section_kind s) ≡ Some r = ap (λ (x : Section). rank (section_kind x)) own.1 ∙ ranked in
               let on : follows low (Some r) ≡ true = ap (follows low) (sym its) ∙ parts.0 in
@@ -132,9 +132,9 @@ module _ (kind : Kind) where
         → content_in kind d (xs ++ holds kind x ∷ ys) ≡ x
     held_midst d low [] x ys up =
         let parts = above_parts low (holds kind x) ys up in
-        let behind : are_above r ys ≡ true = ap (λ (o : Option ℕ). are_above (rank_behind low o) ys) (sym ranked) ∙ parts.1 in
-        ap (λ (o : Option (Content kind)). content_in kind (some_or o d (λ y. y)) ys) (picked_own kind x) ∙ held_past x r ys (omega arith) behind
-    held_midst d low (y ∷ xs) x ys up = held_midst (with_one d y) (rank_behind low (rank (section_kind y))) xs x ys (above_parts low y (xs ++ holds kind x ∷ ys) up).1
+        let after : are_above r ys ≡ true = ap (λ (o : Option ℕ). are_above (rank_after low o) ys) (sym ranked) ∙ parts.1 in
+        ap (λ (o : Option (Content kind)). content_in kind (some_or o d (λ y. y)) ys) (picked_own kind x) ∙ held_past x r ys (omega arith) after
+    held_midst d low (y ∷ xs) x ys up = held_midst (with_one d y) (rank_after low (rank (section_kind y))) xs x ys (above_parts low y (xs ++ holds kind x ∷ ys) up).1
 
     -- The same for a section that is known to have this content.
     pub held_picked : (d : Content kind) (low : ℕ) (xs : List Section) (s : Section) (x : Content kind) (ys : List Section) → content_of kind s ≡ Some x

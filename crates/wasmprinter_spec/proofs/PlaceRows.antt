@@ -131,6 +131,6 @@ unfolding composing reading
 kept_are = refl
 
 -- The `if` is found among all lines.
-found_behind : (parsed hinted_if >>= λ m. place_of m (printed_lines m) 0 1) ≡ Some (5, 0x3c)
+found_after : (parsed hinted_if >>= λ m. place_of m (printed_lines m) 0 1) ≡ Some (5, 0x3c)
 unfolding composing reading
-found_behind = refl
+found_after = refl

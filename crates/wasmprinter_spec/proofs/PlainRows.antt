@@ -11,10 +11,10 @@ before_tab (inl e) = omega arith
 before_tab (inr (inl e)) = omega arith
 before_tab (inr (inr h)) = omega (arith, h.0, h.1)
 
-behind_feed : IsPlainByte 11 → ⊥
-behind_feed (inl e) = omega arith
-behind_feed (inr (inl e)) = omega arith
-behind_feed (inr (inr h)) = omega (arith, h.0, h.1)
+after_feed : IsPlainByte 11 → ⊥
+after_feed (inl e) = omega arith
+after_feed (inr (inl e)) = omega arith
+after_feed (inr (inr h)) = omega (arith, h.0, h.1)
 
 return_byte : IsPlainByte 13 → ⊥
 return_byte (inl e) = omega arith

@@ -37,9 +37,9 @@ unfolding lex class is_utf8 chars encode_utf8
 reads_empty = refl
 
 -- An annotation inside another annotation, before the module, has no effect.
-reads_empty_behind_annotations : read (codes "(@a (@custom \"x\" \"y\")) (module)") ≡ Some empty
+reads_empty_after_annotations : read (codes "(@a (@custom \"x\" \"y\")) (module)") ≡ Some empty
 unfolding lex class escape is_utf8 chars encode_utf8
-reads_empty_behind_annotations = refl
+reads_empty_after_annotations = refl
 
 reads_empty_with_offsets : read (codes "(module\n(;@8     ;))\n") ≡ Some empty
 unfolding lex class is_utf8 chars encode_utf8

@@ -92,7 +92,7 @@ empty_placed = record {
   start = None;
   elements = [];
   functions = [];
-  datas = [];
+  data_segments = [];
   customs = [];
   size = 8;
 }
@@ -109,7 +109,7 @@ empty = record {
   exports = [];
   start = None;
   elements = [];
-  datas = [];
+  data_segments = [];
   customs = [];
 }
 
@@ -128,7 +128,7 @@ hinted bytes =
 
 -- All index spaces are empty.
 abbrev pub no_spaces : Spaces
-no_spaces = record { types = []; functions = []; tables = []; memories = []; tags = []; globals = []; elems = []; datas = []; locals = [] }
+no_spaces = record { types = []; functions = []; tables = []; memories = []; tags = []; globals = []; elems = []; data_segments = []; locals = [] }
 
 -- ---- a function that returns its parameter, exported as f
 

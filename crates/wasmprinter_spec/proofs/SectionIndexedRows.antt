@@ -19,7 +19,7 @@ imports_indexed = record {
   tables = tt;
   globals = tt;
   elements = tt;
-  datas = tt;
+  data_segments = tt;
   types = ((record { supertypes = tt; composite = record { params = tt; results = tt } }, tt), tt);
   functions = tt;
   tags = ((_, refl), tt);
@@ -34,7 +34,7 @@ filled_table_indexed = record {
   tables = (record { element = tt; init = (tt, tt) }, tt);
   globals = tt;
   elements = tt;
-  datas = tt;
+  data_segments = tt;
   types = tt;
   functions = tt;
   tags = tt;
@@ -58,7 +58,7 @@ using element init e d = record empty {
   tables = table_of (table_type_of false (limits_of 1 None) element) None ∷ [];
   globals = global_of (global_type_of true (to_null (types.Index 0))) init ∷ [];
   elements = e ∷ [];
-  datas = d ∷ [];
+  data_segments = d ∷ [];
 }
 
 -- References to type 0; uses of the imported global, of both functions, of table 0 and of memory 0
@@ -78,7 +78,7 @@ using_indexed = record {
   tables = (record { element = omega arith; init = tt }, tt);
   globals = (record { type = omega arith; init = (omega arith, tt) }, tt);
   elements = (record { mode = (omega arith, (omega arith, tt)); items = (omega arith, (omega arith, tt)) }, tt);
-  datas = ((omega arith, (omega arith, tt)), tt);
+  data_segments = ((omega arith, (omega arith, tt)), tt);
   types = ((record { supertypes = tt; composite = record { params = tt; results = tt } }, tt), tt);
   functions = (record { type_index = (_, refl); locals = tt; operators = tt }, tt);
   tags = tt;
@@ -111,7 +111,7 @@ other_table : IsIndexed (using own_ref [] (element_of (Active 1 []) (Functions [
 other_table i = omega (arith, i.elements.0.mode.0)
 
 other_memory : IsIndexed (using own_ref [] own_element (data_of (ActiveData 1 []) [])) → ⊥
-other_memory i = let ((memory, offset), _) = i.datas in omega (arith, memory)
+other_memory i = let ((memory, offset), _) = i.data_segments in omega (arith, memory)
 
 -- The type of an imported function must be a function type that is declared.
 no_type : IsIndexed (record empty { imports = import_of [] [] (FuncExtern 0) ∷ [] }) → ⊥

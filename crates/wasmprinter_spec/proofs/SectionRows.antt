@@ -8,7 +8,7 @@ use Rattle.wasmprinter_spec.specs.Sections.{rank}
 use Rattle.wasmprinter_spec.specs.Layout.{section_order}
 use Rattle.wasmprinter_spec.specs.Limits.{IsWithinLimits}
 use Rattle.wasmprinter_spec.proofs.Samples.{head_bytes, empty_placed}
-use Rattle.wasmprinter_spec.proofs.SectionSamples.{Sample, with_item, emptied_table, tables, globals, elements, datas, memories, imports}
+use Rattle.wasmprinter_spec.proofs.SectionSamples.{Sample, with_item, emptied_table, tables, globals, elements, data_segments, memories, imports}
 use Rattle.wasmprinter_spec.proofs.Computing.{reading}
 use Rattle.wasmprinter_spec.proofs.FromBytes.{parsed}
 
@@ -41,7 +41,7 @@ elements_parse : AllByRecursion Parses elements
 unfolding reading
 elements_parse = (refl, (refl, (refl, (refl, (refl, (refl, (refl, (refl, (refl, tt)))))))))
 
-datas_parse : AllByRecursion Parses datas
+datas_parse : AllByRecursion Parses data_segments
 unfolding reading
 datas_parse = (refl, (refl, (refl, (refl, (refl, tt)))))
 
@@ -70,7 +70,7 @@ globals_are = (refl, (refl, (refl, (refl, (refl, tt)))))
 elements_are : AllByRecursion IsModule elements
 elements_are = (refl, (refl, (refl, (refl, (refl, (refl, (refl, (refl, (refl, tt)))))))))
 
-datas_are : AllByRecursion IsModule datas
+datas_are : AllByRecursion IsModule data_segments
 datas_are = (refl, (refl, (refl, (refl, (refl, tt)))))
 
 memories_are : AllByRecursion IsModule memories
@@ -85,7 +85,7 @@ imports_are = refl
 abbrev with_count : List ℕ → List ℕ
 with_count count = head_bytes ++ (0x0c ∷ 0x01 ∷ count) ++ (0x0b ∷ 0x04 ∷ 0x01 ∷ 0x01 ∷ 0x01 ∷ 0x61 ∷ [])
 
-right_count : parsed (with_count (0x01 ∷ [])) ≡ Some (record empty_placed { datas = record { place = 0xe; value = data_of PassiveData (0x61 ∷ []) } ∷ []; size = 17 })
+right_count : parsed (with_count (0x01 ∷ [])) ≡ Some (record empty_placed { data_segments = record { place = 0xe; value = data_of PassiveData (0x61 ∷ []) } ∷ []; size = 17 })
 right_count = refl
 
 -- Counts that differ; a count without segments, which is correct if it is 0; a count after the segments; two

@@ -147,14 +147,14 @@ elements =
 abbrev data_sample : List ℕ → DataMode (Placed Operator) → DataMode Operator → List ℕ → List ℕ → Sample
 data_sample item placed mode bytes text = record {
   bytes = with_item 11 item;
-  placed = record empty_placed { datas = at_first (data_of placed bytes); size = size_with item };
-  value = record empty { datas = data_of mode bytes ∷ [] };
+  placed = record empty_placed { data_segments = at_first (data_of placed bytes); size = size_with item };
+  value = record empty { data_segments = data_of mode bytes ∷ [] };
   text = one_field text;
 }
 
 -- Memory 0 is omitted, even if the bytes name it.
-abbrev pub datas : List Sample
-datas =
+abbrev pub data_segments : List Sample
+data_segments =
     data_sample (0x00 ∷ 0x41 ∷ 0x00 ∷ 0x0b ∷ 0x01 ∷ 0x61 ∷ []) (ActiveData 0 (at 0xc zero_const ∷ [])) (ActiveData 0 (zero_const ∷ [])) (codes "a")
     (codes "(data (;0;) (i32.const 0) \"a\")")
     ∷ data_sample (0x00 ∷ 0x0b ∷ 0x00 ∷ []) (ActiveData 0 []) (ActiveData 0 []) [] (codes "(data (;0;) (offset ) \"\")")

@@ -10,7 +10,7 @@ use Rattle.wasmprinter_spec.specs.Module.{Module}
 use Rattle.wasmprinter_spec.specs.Options.{defaults}
 use Rattle.wasmprinter_spec.specs.Read.{read}
 use Rattle.wasmprinter_spec.proofs.Samples.{empty, func, made}
-use Rattle.wasmprinter_spec.proofs.SectionSamples.{Sample, one_field, ref_null_func, ref_func, filled_table, emptied_table, tables, globals, elements, datas, memories, imports, zero_const}
+use Rattle.wasmprinter_spec.proofs.SectionSamples.{Sample, one_field, ref_null_func, ref_func, filled_table, emptied_table, tables, globals, elements, data_segments, memories, imports, zero_const}
 use Rattle.wasmprinter_spec.proofs.UnreadRows.{numbers_read}
 use Rattle.wasmprinter_spec.proofs.Computing.{composing, reading}
 use Rattle.wasmprinter_spec.proofs.FromBytes.{skeleton, text_by}
@@ -35,7 +35,7 @@ elements_print : AllByRecursion Prints elements
 unfolding composing
 elements_print = (refl, (refl, (refl, (refl, (refl, (refl, (refl, (refl, (refl, tt)))))))))
 
-datas_print : AllByRecursion Prints datas
+datas_print : AllByRecursion Prints data_segments
 unfolding composing
 datas_print = (refl, (refl, (refl, (refl, (refl, tt)))))
 
@@ -59,7 +59,7 @@ elements_read : AllByRecursion ReadsBack elements
 unfolding reading
 elements_read = (refl, (refl, (refl, (refl, (refl, (refl, (refl, (refl, (refl, tt)))))))))
 
-datas_read : AllByRecursion ReadsBack datas
+datas_read : AllByRecursion ReadsBack data_segments
 unfolding reading
 datas_read = (refl, (refl, (refl, (refl, (refl, tt)))))
 
@@ -96,7 +96,7 @@ elements_in_skeletons : map (λ s. text_by skeleton s.placed) elements ≡ map o
 unfolding composing
 elements_in_skeletons = refl
 
-datas_in_skeletons : map (λ s. text_by skeleton s.placed) datas ≡ map one_field (
+datas_in_skeletons : map (λ s. text_by skeleton s.placed) data_segments ≡ map one_field (
     codes "(data (;0;) (i32.const 0) ...)"
     ∷ codes "(data (;0;) (offset ) ...)"
     ∷ codes "(data (;0;) ...)"
@@ -117,7 +117,7 @@ abbrev elem_module : Element Operator → Option Module
 elem_module e = Some (record empty { elements = e ∷ [] })
 
 abbrev data_module : Data Operator → Option Module
-data_module d = Some (record empty { datas = d ∷ [] })
+data_module d = Some (record empty { data_segments = d ∷ [] })
 
 -- Offsets and items with `offset` and `item` or folded, table 0 omitted or named, and identifiers
 element_texts : map read (
@@ -158,7 +158,7 @@ data_texts : map read (
     ∷ Some (record empty {
       memories =
           types.memory_type_of false false (limits_of 0 None) None ∷ types.memory_type_of false false (limits_of 0 None) None ∷ [];
-      datas = data_of (ActiveData 1 []) [] ∷ [];
+      data_segments = data_of (ActiveData 1 []) [] ∷ [];
     })
     ∷ data_module (data_of PassiveData [])
     ∷ data_module (data_of (ActiveData 0 (zero_const ∷ zero_const ∷ made 0x6a NoImmediates ∷ [])) [])

@@ -3,7 +3,7 @@
 use Rattle.std.specs.Prelude.{◌≡◌, ℕ, List, [], ◌∷◌, ◌++◌, replicate, Bool, true, false, not, ◌&&◌, is_some, map, codes, Option, Some, option_map, refl}
 use Rattle.std.specs.List.{filter}
 use Rattle.wasmprinter_spec.specs.Operator.{opcode}
-use Rattle.wasmprinter_spec.specs.Row.{Row, Shape, NoneShape, BlockShape, TryTableShape, IndexShape, BranchTableShape, I32Shape, I64Shape, Func, Local, Label, Tag, Fixed, OfCall, OfThrow, OfReturn, OfBranch, OfBranchIf, OfBranchTable, OfBlock, Plain, Opens, OpensIf, OpensTry, Turns, Catches, CatchesAll, Delegates, Ends}
+use Rattle.wasmprinter_spec.specs.Row.{Row, Shape, NoneShape, BlockShape, TryTableShape, IndexShape, BranchTableShape, I32Shape, I64Shape, Func, Local, Label, Tag, Fixed, OfCall, OfThrow, OfReturn, OfBranch, OfBranchIf, OfBranchTable, OfBlock, Plain, Opens, OpensIf, OpensTry, Else, Catches, CatchesAll, Delegates, Ends}
 use Rattle.wasmprinter_spec.specs.Table.{table, first, has_opcode, rows_of, by_opcode, word_of, role_of, shape_of}
 use Rattle.wasmprinter_spec.specs.Code.{role_by}
 
@@ -49,7 +49,7 @@ nesting_arities : map (λ n. option_map (λ r. r.arity) (by_opcode (opcode 0 n))
 unfolding table
 nesting_arities = refl
 
-roles : map (λ n. role_of (opcode 0 n)) nesting_numbers ≡ Opens ∷ Opens ∷ OpensIf ∷ Turns ∷ OpensTry ∷ Catches ∷ CatchesAll ∷ Delegates ∷ Ends ∷ Opens ∷ []
+roles : map (λ n. role_of (opcode 0 n)) nesting_numbers ≡ Opens ∷ Opens ∷ OpensIf ∷ Else ∷ OpensTry ∷ Catches ∷ CatchesAll ∷ Delegates ∷ Ends ∷ Opens ∷ []
 unfolding table
 roles = refl
 

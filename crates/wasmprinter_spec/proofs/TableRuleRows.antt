@@ -6,14 +6,14 @@ use Rattle.std.specs.List.{filter, list_any}
 use Rattle.wasmprinter_spec.specs.Row.{Row, Shape, NoneShape, MemoryShape, MemoryLaneShape, LaneShape, Arity, Fixed}
 use Rattle.wasmprinter_spec.specs.Table.{table}
 use Rattle.wasmprinter_spec.specs.Text.Items.{or_else}
-use Rattle.wasmprinter_spec.specs.Text.Operators.{behind_prefix}
+use Rattle.wasmprinter_spec.specs.Text.Operators.{after_prefix}
 
 -- ---- the number of operators
 
-abbrev behind : ℕ → List Row
-behind p = filter (λ r. r.prefix == p) table
+abbrev after : ℕ → List Row
+after p = filter (λ r. r.prefix == p) table
 
-counts : map (λ p. length (behind p)) (0 ∷ 0xfb ∷ 0xfc ∷ 0xfd ∷ 0xfe ∷ []) ≡ 199 ∷ 31 ∷ 22 ∷ 256 ∷ 67 ∷ []
+counts : map (λ p. length (after p)) (0 ∷ 0xfb ∷ 0xfc ∷ 0xfd ∷ 0xfe ∷ []) ≡ 199 ∷ 31 ∷ 22 ∷ 256 ∷ 67 ∷ []
 unfolding table
 counts = refl
 
@@ -43,15 +43,15 @@ shared_words = refl
 -- ---- parts of words
 
 abbrev begins : List ℕ → List ℕ → Bool
-begins p w = is_some (behind_prefix p w)
+begins p w = is_some (after_prefix p w)
 
 -- The part of a word after the first occurrence of `p`
-abbrev behind_part : List ℕ → List ℕ → Option (List ℕ)
-behind_part p [] = behind_prefix p []
-behind_part p (b ∷ w) = or_else (behind_prefix p (b ∷ w)) (behind_part p w)
+abbrev after_part : List ℕ → List ℕ → Option (List ℕ)
+after_part p [] = after_prefix p []
+after_part p (b ∷ w) = or_else (after_prefix p (b ∷ w)) (after_part p w)
 
 abbrev holds : List ℕ → List ℕ → Bool
-holds w p = is_some (behind_part p w)
+holds w p = is_some (after_part p w)
 
 -- The value of the first listed prefix that `w` has
 abbrev by_beginning : {A : Type 0} → List (List ℕ × A) → List ℕ → Option A
@@ -63,8 +63,8 @@ part_by_beginning xs None = None
 part_by_beginning xs (Some w) = by_beginning xs w
 
 -- The part of a word after the first dot
-abbrev behind_dot : List ℕ → Option (List ℕ)
-behind_dot w = behind_part (codes ".") w
+abbrev after_dot : List ℕ → Option (List ℕ)
+after_dot w = after_part (codes ".") w
 
 -- ---- alignments
 
@@ -74,7 +74,7 @@ abbrev accessed : List ℕ → Option ℕ
 accessed w =
     part_by_beginning (
     (codes "8x8", 3) ∷ (codes "16x4", 3) ∷ (codes "32x2", 3) ∷ (codes "8", 0) ∷ (codes "16", 1) ∷ (codes "32", 2) ∷ (codes "64", 3) ∷ [])
-    (or_else (behind_part (codes "load") w) (or_else (behind_part (codes "store") w) (behind_part (codes "rmw") w)))
+    (or_else (after_part (codes "load") w) (or_else (after_part (codes "store") w) (after_part (codes "rmw") w)))
 
 -- Without such a number, the type or the operator's name determines the alignment.
 abbrev of_type : List ℕ → Option ℕ
@@ -144,7 +144,7 @@ by_name w =
     ∷ (codes "relaxed_laneselect", Fixed 3 1) ∷ (codes "relaxed_dot_i8x16_i7x16_add", Fixed 3 1)
     ∷ (codes "add128", Fixed 4 2) ∷ (codes "sub128", Fixed 4 2) ∷ (codes "mul_wide", Fixed 2 2) ∷ []) w
 
-numbers_take : map (λ r. Some r.arity) on_numbers ≡ map (λ r. or_else (by_name (behind_dot r.word)) (Some (Fixed 2 1))) on_numbers
+numbers_take : map (λ r. Some r.arity) on_numbers ≡ map (λ r. or_else (by_name (after_dot r.word)) (Some (Fixed 2 1))) on_numbers
 unfolding table
 numbers_take = refl
 

@@ -3,23 +3,23 @@
 use Rattle.std.proofs.Common.{◌≡◌, ℕ, List, [], ◌∷◌, ◌++◌, map, refl, sym, ap, ap₂, ◌∙◌, append_assoc, append-nil}
 use Rattle.wasmprinter_spec.specs.Call.{Call, Text, Newline, Line, Start, Claim, call_text, text_of, calls_of_bytes, atoms}
 use Rattle.wasmprinter_spec.specs.Lines.{TextLine, text_before_line, lines_of}
-use Rattle.wasmprinter_spec.specs.Coloured.{coloured_bytes, coloured_text}
+use Rattle.wasmprinter_spec.specs.Colored.{colored_bytes, colored_text}
 
 pub text_of-append : (k l : List Call) → text_of (k ++ l) ≡ text_of k ++ text_of l
 text_of-append [] l = refl
 text_of-append (c ∷ k) l = ap (λ t. call_text c ++ t) (text_of-append k l) ∙ sym (append_assoc (call_text c) (text_of k) (text_of l))
 
-pub coloured_text-append : (k l : List Call) → coloured_text (k ++ l) ≡ coloured_text k ++ coloured_text l
-coloured_text-append [] l = refl
-coloured_text-append (c ∷ k) l = ap (λ t. coloured_bytes c ++ t) (coloured_text-append k l) ∙ sym (append_assoc (coloured_bytes c) (coloured_text k) (coloured_text l))
+pub colored_text-append : (k l : List Call) → colored_text (k ++ l) ≡ colored_text k ++ colored_text l
+colored_text-append [] l = refl
+colored_text-append (c ∷ k) l = ap (λ t. colored_bytes c ++ t) (colored_text-append k l) ∙ sym (append_assoc (colored_bytes c) (colored_text k) (colored_text l))
 
 bytes_text : (s : List ℕ) → text_of (map (λ b. Text (b ∷ [])) s) ≡ s
 bytes_text [] = refl
 bytes_text (b ∷ bs) = ap (λ t. b ∷ t) (bytes_text bs)
 
-bytes_coloured : (s : List ℕ) → coloured_text (map (λ b. Text (b ∷ [])) s) ≡ s
-bytes_coloured [] = refl
-bytes_coloured (b ∷ bs) = ap (λ t. b ∷ t) (bytes_coloured bs)
+bytes_colored : (s : List ℕ) → colored_text (map (λ b. Text (b ∷ [])) s) ≡ s
+bytes_colored [] = refl
+bytes_colored (b ∷ bs) = ap (λ t. b ∷ t) (bytes_colored bs)
 
 cut_text : (c : Call) → text_of (calls_of_bytes c) ≡ call_text c
 cut_text (Text s) = bytes_text s
@@ -28,20 +28,20 @@ cut_text (Line place) = refl
 cut_text (Start style) = refl
 cut_text (Claim name place bytes answer) = refl
 
-cut_coloured : (c : Call) → coloured_text (calls_of_bytes c) ≡ coloured_bytes c
-cut_coloured (Text s) = bytes_coloured s
-cut_coloured Newline = refl
-cut_coloured (Line place) = refl
-cut_coloured (Start style) = append-nil (coloured_bytes (Start style))
-cut_coloured (Claim name place bytes answer) = refl
+cut_colored : (c : Call) → colored_text (calls_of_bytes c) ≡ colored_bytes c
+cut_colored (Text s) = bytes_colored s
+cut_colored Newline = refl
+cut_colored (Line place) = refl
+cut_colored (Start style) = append-nil (colored_bytes (Start style))
+cut_colored (Claim name place bytes answer) = refl
 
 text_of-atoms : (cs : List Call) → text_of (atoms cs) ≡ text_of cs
 text_of-atoms [] = refl
 text_of-atoms (c ∷ cs) = text_of-append (calls_of_bytes c) (atoms cs) ∙ ap₂ (λ x y. x ++ y) (cut_text c) (text_of-atoms cs)
 
-coloured_text-atoms : (cs : List Call) → coloured_text (atoms cs) ≡ coloured_text cs
-coloured_text-atoms [] = refl
-coloured_text-atoms (c ∷ cs) = coloured_text-append (calls_of_bytes c) (atoms cs) ∙ ap₂ (λ x y. x ++ y) (cut_coloured c) (coloured_text-atoms cs)
+colored_text-atoms : (cs : List Call) → colored_text (atoms cs) ≡ colored_text cs
+colored_text-atoms [] = refl
+colored_text-atoms (c ∷ cs) = colored_text-append (calls_of_bytes c) (atoms cs) ∙ ap₂ (λ x y. x ++ y) (cut_colored c) (colored_text-atoms cs)
 
 -- Lists of calls that differ only in how text is split have the same text.
 pub alike_texts : (k l : List Call) → atoms k ≡ atoms l → text_of k ≡ text_of l
@@ -53,8 +53,8 @@ prefix_text k rest l e =
     sym (text_of-atoms l) ∙ ap text_of (sym e) ∙ text_of-append (atoms k) rest ∙ ap (λ t. t ++ text_of rest) (text_of-atoms k)
 
 -- Lists of calls that differ only in how text is split have the same text with ANSI escape sequences.
-pub alike_coloured : (k l : List Call) → atoms k ≡ atoms l → coloured_text k ≡ coloured_text l
-alike_coloured k l e = sym (coloured_text-atoms k) ∙ ap coloured_text e ∙ coloured_text-atoms l
+pub alike_colored : (k l : List Call) → atoms k ≡ atoms l → colored_text k ≡ colored_text l
+alike_colored k l e = sym (colored_text-atoms k) ∙ ap colored_text e ∙ colored_text-atoms l
 
 -- ---- lines
 

@@ -185,7 +185,7 @@ mutual_types = record {
   exports = tt;
   start = tt;
   elements = tt;
-  datas = tt;
+  data_segments = tt;
 }
 
 undeclared_supertype : IsIndexed (of_types (sub_type false (1 ∷ []) nothing ∷ [])) → ⊥

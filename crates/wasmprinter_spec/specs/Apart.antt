@@ -73,6 +73,6 @@ pub record IsApart (m : PlacedModule) : Type 0 where
   pub exports : AllByRecursion (IsOutside low high) (places m.exports)
   pub start : AllByRecursion (IsOutside low high) (start_places m.start)
   pub elements : AllByRecursion (IsOutside low high) (places m.elements)
-  pub datas : AllByRecursion (IsOutside low high) (places m.datas)
+  pub data_segments : AllByRecursion (IsOutside low high) (places m.data_segments)
   pub customs : AllByRecursion (IsOutside low high) (flat_map custom_places m.customs)
   pub hints : AllByRecursion (IsOutside low high) (hint_places m)

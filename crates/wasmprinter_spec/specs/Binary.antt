@@ -7,7 +7,7 @@ use Rattle.wasmprinter_spec.specs.Sized.{take_bytes, seq_to_end, try_map_by_end}
 use Rattle.wasmprinter_spec.specs.Types.{MemoryType}
 use Rattle.wasmprinter_spec.specs.Operator.{Operator}
 use Rattle.wasmprinter_spec.specs.Placed.{TypeGroup, Import, Table, Global, ElementEntry, Data, Body, Export, CustomEntry, PlacedFunction, PlacedModule}
-use Rattle.wasmprinter_spec.specs.Sections.{Section, TypeSection, ImportSection, FunctionSection, TableSection, MemorySection, TagSection, GlobalSection, ExportSection, StartSection, ElementSection, DataCountSection, CodeSection, DataSection, section, are_above, content_in, customs_behind}
+use Rattle.wasmprinter_spec.specs.Sections.{Section, TypeSection, ImportSection, FunctionSection, TableSection, MemorySection, TagSection, GlobalSection, ExportSection, StartSection, ElementSection, DataCountSection, CodeSection, DataSection, section, are_above, content_in, customs_after}
 pub mod ValTypes
 pub mod Types
 pub mod Functions
@@ -76,7 +76,7 @@ abbrev pub datas_in : List Section → List (Placed (Data (Placed Operator)))
 datas_in ss = content_in DataSection [] ss
 
 abbrev pub customs_in : List Section → List CustomEntry
-customs_in ss = customs_behind None ss
+customs_in ss = customs_after None ss
 
 -- The type index and the body of each function, or None if their numbers differ.
 abbrev pub function_pairs : List ℕ → List (Placed Body) → Option (List PlacedFunction)
@@ -97,7 +97,7 @@ module_from size ss fs = record {
   start = start_in ss;
   elements = elements_in ss;
   functions = fs;
-  datas = datas_in ss;
+  data_segments = datas_in ss;
   customs = customs_in ss;
   size = size;
 }

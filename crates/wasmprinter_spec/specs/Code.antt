@@ -58,13 +58,13 @@ word_chunk w = chunk (rows_of w) End
 abbrev pub chunks_of_instructions : List Instruction → Option (List Chunk)
 chunks_of_instructions [] = Some []
 chunks_of_instructions (Flat c ∷ is) = option_map (λ cs. c ∷ cs) (chunks_of_instructions is)
-chunks_of_instructions (Folded before own behind ∷ is) = option_map (λ cs. before ++ (own ∷ (behind ++ cs))) (chunks_of_instructions is)
+chunks_of_instructions (Folded before own after ∷ is) = option_map (λ cs. before ++ (own ∷ (after ++ cs))) (chunks_of_instructions is)
 chunks_of_instructions (_ ∷ is) = None
 
 -- The operators of operands, which must be folded too.
 abbrev pub operands : List Instruction → Option (List Chunk)
 operands [] = Some []
-operands (Folded before own behind ∷ is) = option_map (λ cs. before ++ (own ∷ (behind ++ cs))) (operands is)
+operands (Folded before own after ∷ is) = option_map (λ cs. before ++ (own ∷ (after ++ cs))) (operands is)
 operands (_ ∷ is) = None
 
 -- The role of an operator in the nesting of blocks. Operators that share a word have the same role.
@@ -81,7 +81,7 @@ if_nested cs = if stops advance at_start (map (λ c. role_by c.rows) cs) Ends th
 abbrev pub branches : List Instruction → Option (List Chunk × List Chunk)
 branches (Then t ∷ []) = Some ([], t)
 branches (Then t ∷ Else e ∷ []) = Some ([], t ++ (word_chunk (codes "else") ∷ e))
-branches (Folded before own behind ∷ is) = option_map (λ x. (before ++ (own ∷ (behind ++ x.0)), x.1)) (branches is)
+branches (Folded before own after ∷ is) = option_map (λ x. (before ++ (own ∷ (after ++ x.0)), x.1)) (branches is)
 branches _ = None
 
 -- The folded operator of these rows: operands and the operator; or the opening operator of a block, the content of
@@ -146,7 +146,7 @@ with_hint_group h c = record c { hints = h ∷ c.hints }
 abbrev pub hint_first : Forest → List Instruction → List Instruction
 hint_first h [] = []
 hint_first h (Flat c ∷ is) = Flat (with_hint_group h c) ∷ is
-hint_first h (Folded before own behind ∷ is) = Folded before (with_hint_group h own) behind ∷ is
+hint_first h (Folded before own after ∷ is) = Folded before (with_hint_group h own) after ∷ is
 hint_first h is = is
 
 -- A hint before anything except an operator or the group of one is ignored.

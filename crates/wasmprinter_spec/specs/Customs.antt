@@ -31,16 +31,16 @@ pub data CustomRole : Type 0 where
   Linked : List Subsection → CustomRole
   Refused : ℕ → CustomRole  -- for a subsection with this unknown id
   Raw : CustomRole
-  Faulted : CustomRole  -- raw, after a line that reports its error
+  Malformed : CustomRole  -- raw, after a line that reports its error
 
 abbrev pub producers_role : Option (List Field) → CustomRole
-producers_role None = Faulted
+producers_role None = Malformed
 producers_role (Some fields) = if are_runs fields then Listed fields else Raw
 
 abbrev pub dylink_role : Judged → CustomRole
 dylink_role (Whole subsections) = Linked subsections
 dylink_role (Unknown id) = Refused id
-dylink_role Faulty = Faulted
+dylink_role Faulty = Malformed
 
 -- The role of a custom section, by its name and, for `producers` and `dylink.0`, by its data.
 abbrev pub custom_role_of : Custom → CustomRole
@@ -50,14 +50,14 @@ custom_role_of c =
     (if bytes_eq c.name producers_section then producers_role (p.producers.parse (input c.bytes.place c.bytes.value)) else
     (if bytes_eq c.name dylink_section then dylink_role (judgement_of (input c.bytes.place c.bytes.value)) else Raw)))
 
--- A custom section that a text must repeat: the kind of the section before it (`behind`), its name and its bytes.
+-- A custom section that a text must repeat: the kind of the section before it (`after`), its name and its bytes.
 pub record RawCustom : Type 0 where
-  pub behind : Option Kind
+  pub after : Option Kind
   pub name : List ℕ
   pub bytes : List ℕ
 
 abbrev pub raw_custom : CustomEntry → RawCustom
-raw_custom c = record { behind = c.behind; name = c.section.value.name; bytes = c.section.value.bytes.value }
+raw_custom c = record { after = c.after; name = c.section.value.name; bytes = c.section.value.bytes.value }
 
 -- The section is printed as raw bytes. A refused section is not raw: a text ends before it.
 abbrev pub is_raw : CustomRole → Bool
@@ -66,7 +66,7 @@ is_raw (Listed fields) = false
 is_raw (Linked subsections) = false
 is_raw (Refused id) = false
 is_raw Raw = true
-is_raw Faulted = true
+is_raw Malformed = true
 
 -- The custom sections that are printed as raw bytes, in order.
 abbrev pub raw_customs : List CustomEntry → List RawCustom

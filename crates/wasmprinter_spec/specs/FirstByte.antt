@@ -12,8 +12,8 @@ abbrev pub only : ℕ → Grammar ℕ
 only c = try_map (λ b. if b == c then Some b else None) byte
 
 -- A byte b, which is consumed, and then a value of `h b`.
-abbrev pub behind_first_byte : {A : Type 0} → (ℕ → Grammar A) → Grammar A
-behind_first_byte h = map_value (λ x. x.1) (seq byte h)
+abbrev pub after_first_byte : {A : Type 0} → (ℕ → Grammar A) → Grammar A
+after_first_byte h = map_value (λ x. x.1) (seq byte h)
 
 -- A value of `h b`, where b is the first of the bytes that encode the value.
 module _ {A : Type 0} (h : ℕ → Grammar A) where

@@ -111,15 +111,15 @@ bits_with_payload w (Some n) = if nat_lt 0 n && nat_lt n (2 ^ w.fraction) then S
 -- A text up to a byte, and the text after that byte, if the byte occurs.
 pub record Split : Type 0 where
   pub before : List ℕ
-  pub behind : Option (List ℕ)
+  pub after : Option (List ℕ)
 
-abbrev pub split_behind : ℕ → Split → Split
-split_behind b s = record { before = b ∷ s.before; behind = s.behind }
+abbrev pub split_after : ℕ → Split → Split
+split_after b s = record { before = b ∷ s.before; after = s.after }
 
 -- The text split at the first byte that passes the test.
 abbrev pub split_at : (ℕ → Bool) → List ℕ → Split
-split_at p [] = record { before = []; behind = None }
-split_at p (b ∷ bs) = cond (p b) (record { before = []; behind = Some bs }) (split_behind b (split_at p bs))
+split_at p [] = record { before = []; after = None }
+split_at p (b ∷ bs) = cond (p b) (record { before = []; after = Some bs }) (split_after b (split_at p bs))
 
 abbrev pub is_point : ℕ → Bool
 is_point b = b == 46
@@ -130,17 +130,17 @@ is_power b = (b == 112) || (b == 80)
 
 -- The significand with the digits of n before the point, and the number of digits after the point. The point may
 -- be the last byte.
-abbrev pub with_digits_behind : ℕ → Option (List ℕ) → Option (ℕ × ℕ)
-with_digits_behind n None = Some (n, 0)
-with_digits_behind n (Some []) = Some (n, 0)
-with_digits_behind n (Some (d ∷ ds)) =
+abbrev pub with_digits_after : ℕ → Option (List ℕ) → Option (ℕ × ℕ)
+with_digits_after n None = Some (n, 0)
+with_digits_after n (Some []) = Some (n, 0)
+with_digits_after n (Some (d ∷ ds)) =
     if is_numeral 16 (d ∷ ds)
     then Some (digits_value_after 16 n (without_underscores (d ∷ ds)), length (without_underscores (d ∷ ds))) else None
 
 -- The significand, and the number of digits after the point. A digit must occur before the point.
 abbrev pub significand_of : Option ℕ → Option (List ℕ) → Option (ℕ × ℕ)
-significand_of None behind = None
-significand_of (Some n) behind = with_digits_behind n behind
+significand_of None after = None
+significand_of (Some n) after = with_digits_after n after
 
 -- An exponent by its sign, as numbers of doublings and of halvings.
 abbrev pub steps_up : Option ℕ → Option (ℕ × ℕ)
@@ -170,7 +170,7 @@ abbrev pub hexfloat : List ℕ → Option Scaled
 hexfloat bs =
     let c : Split = split_at is_power bs in
     let m : Split = split_at is_point c.before in
-    scaled_by (significand_of (numeral 16 m.before) m.behind) (exponent_of c.behind)
+    scaled_by (significand_of (numeral 16 m.before) m.after) (exponent_of c.after)
 
 abbrev pub begins_with : List ℕ → List ℕ → Bool
 begins_with front bs = bytes_eq (take (length front) bs) front

@@ -9,9 +9,9 @@ use Rattle.wasmprinter_spec.specs.Float.{Width, bias, greatest_exponent, sign_bi
 -- ---- The text
 
 -- The hexadecimal digits of n / 16 ^ count, a number below 1, up to the last digit that is not 0.
-unfoldable pub digits_behind : ℕ → ℕ → List ℕ
-digits_behind zero n = []
-digits_behind (suc count) n = cond (n == 0) [] (digit_glyph false (n / 16 ^ count) ∷ digits_behind count (n % 16 ^ count))
+unfoldable pub digits_after : ℕ → ℕ → List ℕ
+digits_after zero n = []
+digits_after (suc count) n = cond (n == 0) [] (digit_glyph false (n / 16 ^ count) ∷ digits_after count (n % 16 ^ count))
 
 -- The number of hexadecimal digits that hold a fraction.
 abbrev pub digit_count : Width → ℕ
@@ -23,20 +23,20 @@ filled_fraction w fraction = fraction * 2 ^ (4 * digit_count w - w.fraction)
 
 -- The digits of fraction / 2 ^ w.fraction.
 abbrev pub fraction_digits : Width → ℕ → List ℕ
-fraction_digits w fraction = digits_behind (digit_count w) (filled_fraction w fraction)
+fraction_digits w fraction = digits_after (digit_count w) (filled_fraction w fraction)
 
 -- The exponent up - down, with its sign.
 abbrev pub exponent_text : ℕ → ℕ → List ℕ
 exponent_text up down = if nat_lt up down then 45 ∷ decimal (down - up) else 43 ∷ decimal (up - down)
 
 -- A point and the digits after it; no point if there are no digits.
-abbrev pub behind_point : List ℕ → List ℕ
-behind_point [] = []
-behind_point (d ∷ ds) = 46 ∷ (d ∷ ds)
+abbrev pub after_point : List ℕ → List ℕ
+after_point [] = []
+after_point (d ∷ ds) = 46 ∷ (d ∷ ds)
 
 -- The text of a normal number, with its leading 1, which the bits do not encode.
 abbrev pub normal_text : Width → ℕ → ℕ → List ℕ
-normal_text w exponent fraction = codes "0x1" ++ (behind_point (fraction_digits w fraction) ++ (112 ∷ exponent_text exponent (bias w)))
+normal_text w exponent fraction = codes "0x1" ++ (after_point (fraction_digits w fraction) ++ (112 ∷ exponent_text exponent (bias w)))
 
 -- How often n is doubled until it reaches the limit.
 unfoldable pub doublings : ℕ → ℕ → ℕ → ℕ

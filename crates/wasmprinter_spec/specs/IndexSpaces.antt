@@ -57,7 +57,7 @@ pub record Spaces : Type 0 where
   pub tags : Identifiers
   pub globals : Identifiers
   pub elems : Identifiers
-  pub datas : Identifiers
+  pub data_segments : Identifiers
   pub locals : Identifiers
 
 -- The index space of each kind. (Labels are resolved by another rule, with the operators.)
@@ -69,7 +69,7 @@ space_in s Memory = s.memories
 space_in s Tag = s.tags
 space_in s Global = s.globals
 space_in s Elem = s.elems
-space_in s Data = s.datas
+space_in s Data = s.data_segments
 space_in s Local = s.locals
 space_in s Label = []
 

@@ -75,7 +75,7 @@ pub record Counts : Type 0 where
   pub tags : ℕ
   pub globals : ℕ
   pub elems : ℕ
-  pub datas : ℕ
+  pub data_segments : ℕ
   pub locals : ℕ
   pub signature : ℕ → Option FuncType
   pub fields : ℕ → Option (List FieldType)
@@ -90,7 +90,7 @@ IsIndex c Memory n = n < c.memories
 IsIndex c Tag n = n < c.tags
 IsIndex c Global n = n < c.globals
 IsIndex c Elem n = n < c.elems
-IsIndex c Data n = n < c.datas
+IsIndex c Data n = n < c.data_segments
 IsIndex c Local n = n < c.locals
 IsIndex c Label n = Unit {0}
 
@@ -171,7 +171,7 @@ counts_of m = record {
   tags = length (imported_types tag_import m.imports) + length m.tags;
   globals = length (imported_types global_import m.imports) + length m.globals;
   elems = length m.elements;
-  datas = length m.datas;
+  data_segments = length m.data_segments;
   locals = 0;
   signature = signature_at (all_types m.types);
   fields = fields_at (all_types m.types);
@@ -258,7 +258,7 @@ pub record IsIndexed (m : Module) : Type 0 where
   pub tables : AllByRecursion (IsIndexedTable m) m.tables
   pub globals : AllByRecursion (IsIndexedGlobal m) m.globals
   pub elements : AllByRecursion (IsIndexedElement m) m.elements
-  pub datas : AllByRecursion (IsIndexedData m) m.datas
+  pub data_segments : AllByRecursion (IsIndexedData m) m.data_segments
   pub types : AllByRecursion (λ g. AllByRecursion (IsDeclaredSub (type_count m)) g) m.types
   pub functions : AllByRecursion (IsIndexedFunction m) m.functions
   pub tags : AllByRecursion (NamesFunction m) m.tags

@@ -8,7 +8,7 @@ use Rattle.wasmprinter_spec.specs.Repeated.{AreItems}
 use Rattle.wasmprinter_spec.specs.Leb.{signed, unsigned}
 use Rattle.wasmprinter_spec.specs.Name.{u32, vec}
 use Rattle.wasmprinter_spec.specs.Sized.{take_bytes}
-use Rattle.wasmprinter_spec.specs.FirstByte.{only, behind_first_byte, by_first_byte}
+use Rattle.wasmprinter_spec.specs.FirstByte.{only, after_first_byte, by_first_byte}
 use Rattle.wasmprinter_spec.specs.Types.{ref_type}
 use Rattle.wasmprinter_spec.specs.Binary.ValTypes.{lookup, signed_index, heap_type, val_type, begins_val_type}
 use Rattle.wasmprinter_spec.specs.Operator.{Opcode, opcode, BlockType, Empty, Value, OfType, Catch, One, OneRef, All, AllRef, MemArg, mem_arg_of, Immediates, NoImmediates, Block, TryTable, Index, Indices, BranchTable, Types, Heap, Cast, Memory, MemoryLane, Lane, I32, I64, F32, F64, Bytes, Operator}
@@ -48,7 +48,7 @@ catch_by k =
     (choose (k == 1) (tag_and_label OneRef) (choose (k == 2) (map_value All u32) (choose (k == 3) (map_value AllRef u32) fail)))
 
 abbrev pub catch : Grammar Catch
-catch = behind_first_byte catch_by
+catch = after_first_byte catch_by
 
 abbrev pub u64 : Grammar ℕ
 u64 = unsigned 64
@@ -254,9 +254,9 @@ end_text p text o s e =
     let is : code ≡ opcode 0 end_byte = code_is ∙ end_opcode o.opcode e in
     let same : numbered ≡ code = some_is numbered code same_code in
     let c = code_text (is_prefix first_byte) first_byte _ number numbered refl number_spelled (same ∙ is) in
-    let behind : (immediates_of_row (by_opcode (opcode 0 end_byte))).spells (p + length front) back operands =
+    let after : (immediates_of_row (by_opcode (opcode 0 end_byte))).spells (p + length front) back operands =
     subst (λ (k : Opcode). (immediates_of_row (by_opcode k)).spells (p + length front) back operands) is operands_spelled in
-    let n = no_immediates (p + length front) back operands behind in
+    let n = no_immediates (p + length front) back operands after in
     let first : front ≡ first_byte ∷ number = front_joined ∙ ap (λ (r : List ℕ). r ++ number) one_byte in
     let front_is : front ≡ end_byte ∷ [] = first ∙ ap (λ (r : List ℕ). (first_byte ∷ []) ++ r) c.0 ∙ ap (λ (b : ℕ). b ∷ []) c.1 in
     joined ∙ ap (λ (r : List ℕ). r ++ back) front_is ∙ ap (λ (r : List ℕ). (end_byte ∷ []) ++ r) n.0

@@ -14,13 +14,13 @@ abbrev pub label_content : ℕ → List ℕ → List ℕ
 label_content n s = cond (is_clean s) s (codes "#label" ++ (decimal n ++ (32 ∷ s)))
 
 abbrev pub label_named : Bool → ℕ → ℕ → Option (List ℕ) → Label
-label_named invents n d (Some s) = Some (record { given = Some s; content = label_content n s })
+label_named synthesizes n d (Some s) = Some (record { given = Some s; content = label_content n s })
 label_named true n d None = Some (record { given = None; content = codes "#label" ++ decimal d })
 label_named false n d None = None
 
 -- The identifiers of labels by their names. For labels without a name they are synthesized or absent.
 abbrev pub label_naming : Bool → (ℕ → Option (List ℕ)) → LabelNaming
-label_naming invents names n d = label_named invents n d (names n)
+label_naming synthesizes names n d = label_named synthesizes n d (names n)
 
 -- No label has an identifier.
 abbrev pub no_label_names : LabelNaming

@@ -43,16 +43,16 @@ pub data Target : Type 0 where
   Own : Target
   Nothing : Target
 
-abbrev pub behind : Label → Target → Target
-behind x (Around y further) = Around y (x ∷ further)
-behind x Own = Own
-behind x Nothing = Nothing
+abbrev pub after : Label → Target → Target
+after x (Around y further) = Around y (x ∷ further)
+after x Own = Own
+after x Nothing = Nothing
 
 abbrev pub target : ℕ → List Label → Target
 target zero [] = Own
 target (suc l) [] = Nothing
 target zero (x ∷ xs) = Around x []
-target (suc l) (x ∷ xs) = behind x (target l xs)
+target (suc l) (x ∷ xs) = after x (target l xs)
 
 -- The data of the open labels after an operator, the innermost first. x is that of the label that the operator
 -- opens.

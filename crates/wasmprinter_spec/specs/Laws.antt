@@ -8,8 +8,8 @@ use Rattle.wasmprinter_spec.specs.Module.{module_of}
 use Rattle.wasmprinter_spec.specs.Indexed.{IsIndexed}
 use Rattle.wasmprinter_spec.specs.Limits.{HasNoEmptyInit}
 use Rattle.wasmprinter_spec.specs.Call.{Call, atoms, text_of}
-use Rattle.wasmprinter_spec.specs.Colour.{uncolour}
-use Rattle.wasmprinter_spec.specs.Coloured.{coloured_text, bare_call}
+use Rattle.wasmprinter_spec.specs.Color.{uncolor}
+use Rattle.wasmprinter_spec.specs.Colored.{colored_text, bare_call}
 use Rattle.wasmprinter_spec.specs.Plain.{IsPlainText}
 use Rattle.wasmprinter_spec.specs.Options.{Options, Answers, AreUnclaimed, IsBlank}
 use Rattle.wasmprinter_spec.specs.Layout.{layout, refusal}
@@ -66,7 +66,7 @@ abbrev pub ReadsBack : Type 0
 ReadsBack =
     (bytes : List ℕ) (m : PlacedModule) (o : Options) (answers : Answers) →
     Spells bytes m → IsIndexed (module_of m) → AllByRecursion (λ t. HasNoEmptyInit t.value.init) m.tables → o.skeleton ≡ false →
-    o.paints ≡ false → IsBlank o.indent → AreUnclaimed answers →
+    o.color ≡ false → IsBlank o.indent → AreUnclaimed answers →
     IsFoldable o m → refusal o answers m ≡ None →
     read (text_of (layout o answers m)) ≡ Some (module_of m)
 
@@ -74,7 +74,7 @@ ReadsBack =
 abbrev pub TokensStay : Type 0
 TokensStay =
     (bytes : List ℕ) (m : PlacedModule) (o p : Options) (answers : Answers) →
-    Spells bytes m → o.skeleton ≡ p.skeleton → o.invents ≡ p.invents → o.folds ≡ p.folds → o.paints ≡ false → p.paints ≡ false →
+    Spells bytes m → o.skeleton ≡ p.skeleton → o.synthesizes ≡ p.synthesizes → o.folds ≡ p.folds → o.color ≡ false → p.color ≡ false →
     IsBlank o.indent → IsBlank p.indent →
     tokens (text_of (layout o answers m)) ≡ tokens (text_of (layout p answers m))
 
@@ -82,39 +82,39 @@ TokensStay =
 abbrev pub PrintsPlainText : Type 0
 PrintsPlainText =
     (bytes : List ℕ) (m : PlacedModule) (o : Options) (answers : Answers) →
-    Spells bytes m → o.paints ≡ false → IsBlank o.indent → IsPlainText (text_of (layout o answers m))
+    Spells bytes m → o.color ≡ false → IsBlank o.indent → IsPlainText (text_of (layout o answers m))
 
 -- Colors in the text of folded operators are ANSI escape sequences, and add nothing else: after they are deleted,
 -- the text without them remains.
-abbrev pub PaintsAddColours : Type 0
-PaintsAddColours =
+abbrev pub ColorAddsSequences : Type 0
+ColorAddsSequences =
     (bytes : List ℕ) (m : PlacedModule) (o : Options) (answers : Answers) →
     Spells bytes m → IsBlank o.indent →
-    uncolour (text_of (layout o answers m)) ≡ text_of (layout (record o { paints = false }) answers m)
+    uncolor (text_of (layout o answers m)) ≡ text_of (layout (record o { color = false }) answers m)
 
 -- The ANSI escape sequences of folded operators are within the texts of calls: each call without its sequences is
 -- that of the layout without them.
-abbrev pub ColoursStandInTexts : Type 0
-ColoursStandInTexts =
+abbrev pub TextsContainColors : Type 0
+TextsContainColors =
     (bytes : List ℕ) (m : PlacedModule) (o : Options) (answers : Answers) →
     Spells bytes m → IsBlank o.indent →
-    map bare_call (layout o answers m) ≡ layout (record o { paints = false }) answers m
+    map bare_call (layout o answers m) ≡ layout (record o { color = false }) answers m
 
 -- A printer in colors also writes the ANSI escape sequences of every style: after all sequences are deleted, the
 -- text without them remains.
-abbrev pub ColouredTextKeeps : Type 0
-ColouredTextKeeps =
+abbrev pub ColoredTextKeeps : Type 0
+ColoredTextKeeps =
     (bytes : List ℕ) (m : PlacedModule) (o : Options) (answers : Answers) →
     Spells bytes m → IsBlank o.indent →
-    uncolour (coloured_text (layout o answers m)) ≡ text_of (layout (record o { paints = false }) answers m)
+    uncolor (colored_text (layout o answers m)) ≡ text_of (layout (record o { color = false }) answers m)
 
 -- Plain text is UTF-8.
 abbrev pub PlainTextIsUtf8 : Type 0
 PlainTextIsUtf8 = (text : List ℕ) → IsPlainText text → IsUtf8 text
 
 -- Plain text has no ANSI escape sequences: deleting them leaves it as it is.
-abbrev pub PlainTextHasNoColour : Type 0
-PlainTextHasNoColour = (text : List ℕ) → IsPlainText text → uncolour text ≡ text
+abbrev pub PlainTextHasNoColor : Type 0
+PlainTextHasNoColor = (text : List ℕ) → IsPlainText text → uncolor text ≡ text
 
 -- Two plain texts joined are plain.
 abbrev pub PlainTextsJoin : Type 0
@@ -125,6 +125,6 @@ PlainTextsJoin = (a b : List ℕ) → IsPlainText a → IsPlainText b → IsPlai
 abbrev pub HintsStay : Type 0
 HintsStay =
     (bytes : List ℕ) (m : PlacedModule) (o : Options) (answers : Answers) (hs : List OperatorHint) →
-    Spells bytes m → o.skeleton ≡ false → o.paints ≡ false → IsBlank o.indent → IsFoldable o m → refusal o answers m ≡ None →
+    Spells bytes m → o.skeleton ≡ false → o.color ≡ false → IsBlank o.indent → IsFoldable o m → refusal o answers m ≡ None →
     module_hints m ≡ Some hs →
     text_hints (text_of (layout o answers m)) ≡ Some hs

@@ -10,9 +10,9 @@ use Rattle.wasmprinter_spec.specs.Placed.{PlacedModule}
 use Rattle.wasmprinter_spec.specs.Module.{groups_of, imported_types, func_import, table_import, memory_import, global_import, tag_import, without_places}
 use Rattle.wasmprinter_spec.specs.Call.{Call}
 use Rattle.wasmprinter_spec.specs.Options.{Options, Answers}
-use Rattle.wasmprinter_spec.specs.Piece.{Piece, Begin, Feed, Open, all_calls}
+use Rattle.wasmprinter_spec.specs.Piece.{Piece, Begin, EndLine, Open, all_calls}
 use Rattle.wasmprinter_spec.specs.Layout.Groups.{group_at, numbered_pieces}
-use Rattle.wasmprinter_spec.specs.Layout.Identifiers.{leading_mark_pieces}
+use Rattle.wasmprinter_spec.specs.Layout.Identifiers.{leading_id_and_name_pieces}
 use Rattle.wasmprinter_spec.specs.Layout.Declarations.{Folding, Scope, scope_of, scope_of_function, folding_of}
 use Rattle.wasmprinter_spec.specs.Layout.Types.{type_section_pieces}
 use Rattle.wasmprinter_spec.specs.Layout.Functions.{functions_pieces}
@@ -65,8 +65,8 @@ abbrev pub early_scope : Options → Names → PlacedModule → Scope
 early_scope o names m = scope_before (folding_of o m) names m
 
 -- The scope after the functions, from any scope of the module.
-abbrev pub scope_behind : PlacedModule → Scope → Scope
-scope_behind m s = scope_of_function s (count_of_imported func_import m + length m.functions)
+abbrev pub scope_after : PlacedModule → Scope → Scope
+scope_after m s = scope_of_function s (count_of_imported func_import m + length m.functions)
 
 -- The pieces of the section of a kind, where `s` is the scope before the functions. Functions are printed at the
 -- position of the code section. Data segments have the scope after the functions.
@@ -83,7 +83,7 @@ section_pieces o s m StartSection = start_pieces s m.start
 section_pieces o s m ElementSection = numbered_pieces (element_pieces o.skeleton s) 0 m.elements
 section_pieces o s m DataCountSection = []
 section_pieces o s m CodeSection = functions_pieces o s (hints_of m.customs) (count_of_imported func_import m) m.functions
-section_pieces o s m DataSection = numbered_pieces (data_pieces o.skeleton (scope_behind m s)) 0 m.datas
+section_pieces o s m DataSection = numbered_pieces (data_pieces o.skeleton (scope_after m s)) 0 m.data_segments
 section_pieces o s m CustomSection = []
 
 -- ---- The parts of a module
@@ -114,9 +114,9 @@ module_parts o answers names m = parts_by (folding_of o m) o answers names m
 -- The pieces of a module: all of them, or those up to the refusal of a custom section.
 abbrev pub module_pieces_of : Options → Names → ℕ → List Piece → Option ℕ → List Piece
 module_pieces_of o names size ps None =
-    Begin 0 ∷ (group_at o.offsets size 0 (codes "module") (leading_mark_pieces names.module_name ++ ps) ++ (Feed ∷ []))
+    Begin 0 ∷ (group_at o.offsets size 0 (codes "module") (leading_id_and_name_pieces names.module_name ++ ps) ++ (EndLine ∷ []))
 module_pieces_of o names size ps (Some id) =
-    Begin 0 ∷ (Open (codes "module") ∷ (leading_mark_pieces names.module_name ++ ps))
+    Begin 0 ∷ (Open (codes "module") ∷ (leading_id_and_name_pieces names.module_name ++ ps))
 
 -- A module with these identifiers.
 unfoldable pub module_pieces_with : Options → Answers → Names → PlacedModule → List Piece
@@ -126,7 +126,7 @@ module_pieces_with o answers names m =
 
 -- A module with the identifiers that its name sections give.
 unfoldable pub module_pieces : Options → Answers → PlacedModule → List Piece
-module_pieces o answers m = module_pieces_with o answers (module_names o.invents m) m
+module_pieces o answers m = module_pieces_with o answers (module_names o.synthesizes m) m
 
 -- The layout of a module as calls on the printer.
 unfoldable pub layout : Options → Answers → PlacedModule → List Call
@@ -135,7 +135,7 @@ layout o answers m = all_calls o (module_pieces o answers m)
 -- The id of the first unknown subsection of an unclaimed `dylink.0` section. The layout ends after the claim of
 -- that section.
 abbrev pub refusal : Options → Answers → PlacedModule → Option ℕ
-refusal o answers m = (laid_parts (module_parts o answers (module_names o.invents m) m)).refused
+refusal o answers m = (laid_parts (module_parts o answers (module_names o.synthesizes m) m)).refused
 
 -- ---- Operators folded in any way
 
@@ -148,4 +148,4 @@ pieces_by folding o answers names m =
 -- The calls for a module whose operators are folded in this way: with ANSI escape sequences in their text or
 -- without, and by any arities. The options about folding and colors have no effect on them.
 unfoldable pub layout_folded : Folding → Options → Answers → PlacedModule → List Call
-layout_folded f o answers m = all_calls o (pieces_by (Some f) o answers (module_names o.invents m) m)
+layout_folded f o answers m = all_calls o (pieces_by (Some f) o answers (module_names o.synthesizes m) m)

@@ -50,14 +50,14 @@ module _ {A E : Type 0} (g : Grammar A) (h : A → Lenient E) where
       ((x : A × Input) × Spans g.spells at x × (h x.0).gives x.1 xs end)
       ⊎ (Lacks g at × (xs ≡ []) × (end ≡ None))
 
-  abbrev pub read_behind : Option (A × Input) → List E × Option Input
-  read_behind None = ([], None)
-  read_behind (Some x) = (h x.0).read x.1
+  abbrev pub read_after : Option (A × Input) → List E × Option Input
+  read_after None = ([], None)
+  read_after (Some x) = (h x.0).read x.1
 
   abbrev pub follow_at : Input → List E × Option Input
-  follow_at at = read_behind (g.parse at)
+  follow_at at = read_after (g.parse at)
 
-  follow_sound_of : (at : Input) (r : Option (A × Input)) → g.parse at ≡ r → Follows at (read_behind r).0 (read_behind r).1
+  follow_sound_of : (at : Input) (r : Option (A × Input)) → g.parse at ≡ r → Follows at (read_after r).0 (read_after r).1
   follow_sound_of at None e = inr (lacks g at e, refl, refl)
   follow_sound_of at (Some x) e = inl (x, g.sound at x e, (h x.0).sound x.1)
 
@@ -149,20 +149,20 @@ module _ {E : Type 0} (l : Lenient E) where
 -- ---- Entries within the next n bytes; bytes that are left over are skipped
 
 -- Reading continues after the bytes if they had no error.
-abbrev pub behind_part : Option Input → Input → Option Input
-behind_part None after = None
-behind_part (Some _) after = Some after
+abbrev pub after_part : Option Input → Input → Option Input
+after_part None after = None
+after_part (Some _) after = Some after
 
 module _ {E : Type 0} (l : Lenient E) (n : ℕ) where
   abbrev pub StandsWithin : Input → List E → Option Input → Type 0
   StandsWithin at xs end =
       ((x : List ℕ × Input) × Spans (take_bytes n).spells at x × (inner : Option Input) × l.gives (input at.place x.0) xs inner
-      × (end ≡ behind_part inner x.1))
+      × (end ≡ after_part inner x.1))
       ⊎ (Lacks (take_bytes n) at × (xs ≡ []) × (end ≡ None))
 
   abbrev pub read_inside : Input → Option (List ℕ × Input) → List E × Option Input
   read_inside at None = ([], None)
-  read_inside at (Some x) = ((l.read (input at.place x.0)).0, behind_part (l.read (input at.place x.0)).1 x.1)
+  read_inside at (Some x) = ((l.read (input at.place x.0)).0, after_part (l.read (input at.place x.0)).1 x.1)
 
   abbrev pub within_at : Input → List E × Option Input
   within_at at = read_inside at ((take_bytes n).parse at)

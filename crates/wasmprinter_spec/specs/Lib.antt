@@ -26,9 +26,9 @@ pub mod Module
 pub mod Limits
 pub mod Indexed
 pub mod Call
-pub mod Colour
+pub mod Color
 pub mod Looks
-pub mod Coloured
+pub mod Colored
 pub mod Plain
 pub mod Meaning
 pub mod Options

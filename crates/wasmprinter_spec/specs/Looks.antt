@@ -1,15 +1,15 @@
 -- How text looks on a terminal, and the ANSI escape sequences for this (Select Graphic Rendition of ECMA-48).
 use Rattle.std.specs.Prelude.{ℕ, ◌+◌, Bool, true, false, List, [], ◌∷◌, ◌++◌, Option, Some, None, codes, decimal}
-use Rattle.wasmprinter_spec.specs.Colour.{introducer}
+use Rattle.wasmprinter_spec.specs.Color.{introducer}
 
 -- A look: the number of the color, if there is one; whether text is bold; whether the color is intense.
 pub record Look : Type 0 where
-  pub colour : Option ℕ
+  pub color : Option ℕ
   pub bold : Bool
   pub intense : Bool
 
 abbrev pub bare_look : Look
-bare_look = record { colour = None; bold = false; intense = false }
+bare_look = record { color = None; bold = false; intense = false }
 
 -- The sequence that resets to text without colors.
 abbrev pub reset_sequence : List ℕ
@@ -28,11 +28,11 @@ abbrev pub bold_sequences : Bool → List (List ℕ)
 bold_sequences true = bold_sequence ∷ []
 bold_sequences false = []
 
-abbrev pub colour_sequences : Option ℕ → Bool → List (List ℕ)
-colour_sequences (Some c) intense = foreground c intense ∷ []
-colour_sequences None intense = []
+abbrev pub color_sequences : Option ℕ → Bool → List (List ℕ)
+color_sequences (Some c) intense = foreground c intense ∷ []
+color_sequences None intense = []
 
 -- The sequences of a look, in order: reset, then bold, then the color. Without a look: reset alone.
 abbrev pub sequences_of : Option Look → List (List ℕ)
 sequences_of None = reset_sequence ∷ []
-sequences_of (Some look) = reset_sequence ∷ (bold_sequences look.bold ++ colour_sequences look.colour look.intense)
+sequences_of (Some look) = reset_sequence ∷ (bold_sequences look.bold ++ color_sequences look.color look.intense)

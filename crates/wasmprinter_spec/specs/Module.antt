@@ -27,7 +27,7 @@ pub record Module : Type 0 where
   pub exports : List Export
   pub start : Option ℕ
   pub elements : List (Element Operator)
-  pub datas : List (Data Operator)
+  pub data_segments : List (Data Operator)
   pub customs : List RawCustom
 
 abbrev pub without_places : {A : Type 0} → List (Placed A) → List A
@@ -91,7 +91,7 @@ module_of m = record {
   exports = without_places m.exports;
   start = option_map (λ x. x.value) m.start;
   elements = each_value element_without_places m.elements;
-  datas = each_value data_without_places m.datas;
+  data_segments = each_value data_without_places m.data_segments;
   customs = raw_customs m.customs;
 }
 

@@ -21,4 +21,4 @@ name_entries (c ∷ cs) = custom_entries c.section.value ++ name_entries cs
 
 -- The identifiers of a module. For items without a name they are synthesized or absent.
 abbrev pub module_names : Bool → PlacedModule → Names
-module_names invents m = names_of invents (name_entries m.customs)
+module_names synthesizes m = names_of synthesizes (name_entries m.customs)

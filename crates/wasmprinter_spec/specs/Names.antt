@@ -43,10 +43,10 @@ no_names = record {
 
 -- The name of an item. If identifiers are synthesized, an item without a name has the sign #, the word for its
 -- kind and its index.
-abbrev pub or_invented : Bool → List ℕ → ℕ → Option Named → Option Named
-or_invented invents group index (Some n) = Some n
-or_invented true group index None = Some (record { given = None; content = index_content group index })
-or_invented false group index None = None
+abbrev pub or_synthesized : Bool → List ℕ → ℕ → Option Named → Option Named
+or_synthesized synthesizes group index (Some n) = Some n
+or_synthesized true group index None = Some (record { given = None; content = index_content group index })
+or_synthesized false group index None = None
 
 -- The name of each item, by the id of the subsection, the function or type, and the index.
 abbrev pub Naming : Type 0
@@ -54,7 +54,7 @@ Naming = ℕ → ℕ → ℕ → Option Named
 
 -- The identifier of an item, given the names of all items.
 abbrev pub name_in : Bool → Naming → Naming
-name_in invents named s outer index = or_invented invents (group_of s) index (named s outer index)
+name_in synthesizes named s outer index = or_synthesized synthesizes (group_of s) index (named s outer index)
 
 -- The subsection that names the items of a space of the module.
 abbrev pub subsection_of : Space → Option ℕ
@@ -72,17 +72,17 @@ subsection_of Label = None
 -- The identifiers by these names. For items without a name they are synthesized or absent; the module's identifier
 -- is never synthesized.
 abbrev pub names_by : Bool → Naming → Names
-names_by invents named = record {
+names_by synthesizes named = record {
   module_name = named module_subsection 0 0;
-  items = λ space i. subsection_of space >>= λ s. name_in invents named s 0 i;
-  fields = λ t i. name_in invents named field_subsection t i;
-  locals = λ f i. name_in invents named local_subsection f i;
-  labels = λ f. label_naming invents (λ i. named label_subsection f i >>= λ n. n.given);
+  items = λ space i. subsection_of space >>= λ s. name_in synthesizes named s 0 i;
+  fields = λ t i. name_in synthesizes named field_subsection t i;
+  locals = λ f i. name_in synthesizes named local_subsection f i;
+  labels = λ f. label_naming synthesizes (λ i. named label_subsection f i >>= λ n. n.given);
 }
 
 -- The identifiers by all entries of a module.
 abbrev pub names_of : Bool → List Entry → Names
-names_of invents entries = names_by invents (name_of entries)
+names_of synthesizes entries = names_by synthesizes (name_of entries)
 
 -- ---- The identifiers of declarations
 

@@ -1,7 +1,7 @@
 -- How operators nest (section 5.4 of the standard, "Control Instructions", and legacy exception handling): a
 -- relation over the roles of the operators in their flat order.
 use Rattle.std.specs.Prelude.{List, [], ◌∷◌, ◌++◌}
-use Rattle.wasmprinter_spec.specs.Row.{Role, Plain, Opens, OpensIf, Turns, OpensTry, Catches, CatchesAll, Delegates, Ends}
+use Rattle.wasmprinter_spec.specs.Row.{Role, Plain, Opens, OpensIf, Else, OpensTry, Catches, CatchesAll, Delegates, Ends}
 use Rattle.wasmprinter_spec.specs.Stepped.{Move, On, Stop, Never}
 
 -- A part of a block: a sequence of operators, or the handlers of a `try`.
@@ -17,7 +17,7 @@ pub data Nests : FramePart → List Role → Type 0 where
   block : {body rest : List Role} → Nests Sequence body → Nests Sequence rest → Nests Sequence (Opens ∷ (body ++ Ends ∷ rest))
   one_armed : {body rest : List Role} → Nests Sequence body → Nests Sequence rest → Nests Sequence (OpensIf ∷ (body ++ Ends ∷ rest))
   two_armed : {yes no rest : List Role} → Nests Sequence yes → Nests Sequence no → Nests Sequence rest →
-      Nests Sequence (OpensIf ∷ (yes ++ Turns ∷ (no ++ Ends ∷ rest)))
+      Nests Sequence (OpensIf ∷ (yes ++ Else ∷ (no ++ Ends ∷ rest)))
   tried : {body handlers rest : List Role} → Nests Sequence body → Nests Handlers handlers → Nests Sequence rest →
       Nests Sequence (OpensTry ∷ (body ++ (handlers ++ Ends ∷ rest)))
   delegated : {body rest : List Role} → Nests Sequence body → Nests Sequence rest → Nests Sequence (OpensTry ∷ (body ++ Delegates ∷ rest))
@@ -49,8 +49,8 @@ turn Opens f = Enter InBlock
 turn OpensIf f = Enter InIf
 turn OpensTry f = Enter InTry
 turn Ends f = Leave
-turn Turns InIf = Become InBlock
-turn Turns _ = Refuse
+turn Else InIf = Become InBlock
+turn Else _ = Refuse
 turn Catches InTry = Become InCatch
 turn Catches InCatch = Become InCatch
 turn Catches _ = Refuse

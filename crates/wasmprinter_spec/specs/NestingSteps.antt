@@ -3,7 +3,7 @@
 use Rattle.std.specs.Prelude.{◌≡◌, ◌⊎◌, List, [], ◌∷◌, ◌++◌, Bool, true, false, refl}
 use Rattle.std.proofs.Common.{sym, ap, subst, ◌∙◌, append_assoc, append-nil, inl, inr}
 use Rattle.std.proofs.lemmas.List.{same_from_push}
-use Rattle.wasmprinter_spec.specs.Row.{Role, Plain, Opens, OpensIf, Turns, OpensTry, Catches, CatchesAll, Delegates, Ends}
+use Rattle.wasmprinter_spec.specs.Row.{Role, Plain, Opens, OpensIf, Else, OpensTry, Catches, CatchesAll, Delegates, Ends}
 use Rattle.wasmprinter_spec.specs.Stepped.{Move, On, Stop, Never, by_move, stops}
 use Rattle.wasmprinter_spec.specs.Nesting.{FramePart, Sequence, Handlers, Nests, none, plain, block, one_armed, two_armed, tried, delegated, no_handler, caught, caught_all, Frame, InBlock, InIf, InTry, InCatch, Open, open_frames, at_start, move_outwards, advance}
 
@@ -52,8 +52,8 @@ goes (one_armed {body} {rest} b r) = λ f fs more last.
     ∙ goes b InIf (f ∷ fs) (Ends ∷ (rest ++ more)) last
     ∙ goes r f fs more last
 goes (two_armed {yes} {no} {rest} y n r) = λ f fs more last.
-    ap (λ (ys : List Role). runs InIf (f ∷ fs) ys last) (append_assoc yes (Turns ∷ (no ++ Ends ∷ rest)) more)
-    ∙ goes y InIf (f ∷ fs) (Turns ∷ ((no ++ Ends ∷ rest) ++ more)) last
+    ap (λ (ys : List Role). runs InIf (f ∷ fs) ys last) (append_assoc yes (Else ∷ (no ++ Ends ∷ rest)) more)
+    ∙ goes y InIf (f ∷ fs) (Else ∷ ((no ++ Ends ∷ rest) ++ more)) last
     ∙ ap (λ (ys : List Role). runs InBlock (f ∷ fs) ys last) (append_assoc no (Ends ∷ rest) more)
     ∙ goes n InBlock (f ∷ fs) (Ends ∷ (rest ++ more)) last
     ∙ goes r f fs more last
@@ -93,7 +93,7 @@ record Caught (xs rest : List Role) : Type 0 where
 record Otherwise (xs rest : List Role) : Type 0 where
   no : List Role
   nested : Nests Sequence no
-  is : xs ≡ Turns ∷ (no ++ Ends ∷ rest)
+  is : xs ≡ Else ∷ (no ++ Ends ∷ rest)
 
 -- xs are the roles after the operators of an open block, up to those that close it, and then `rest`.
 abbrev Tail : Frame → List Role → List Role → Type 0
@@ -148,9 +148,9 @@ if_tail : (xs mid body tail : List Role) → Nests Sequence body → xs ≡ body
 if_tail xs mid body tail b e (inl c) =
     group_of OpensIf xs mid body (Ends ∷ []) (e ∙ ap (λ (ys : List Role). body ++ ys) c) (λ ys n. one_armed b n)
 if_tail xs mid body tail b e (inr c) =
-    group_of OpensIf xs mid body (Turns ∷ (c.no ++ Ends ∷ []))
-    (e ∙ ap (λ (ys : List Role). body ++ ys) (c.is ∙ ap (λ (ys : List Role). Turns ∷ ys) (sym (append_assoc c.no (Ends ∷ []) mid))))
-    (λ ys n. subst (λ (zs : List Role). Nests Sequence (OpensIf ∷ (body ++ Turns ∷ zs))) (sym (append_assoc c.no (Ends ∷ []) ys))
+    group_of OpensIf xs mid body (Else ∷ (c.no ++ Ends ∷ []))
+    (e ∙ ap (λ (ys : List Role). body ++ ys) (c.is ∙ ap (λ (ys : List Role). Else ∷ ys) (sym (append_assoc c.no (Ends ∷ []) mid))))
+    (λ ys n. subst (λ (zs : List Role). Nests Sequence (OpensIf ∷ (body ++ Else ∷ zs))) (sym (append_assoc c.no (Ends ∷ []) ys))
     (two_armed b c.nested n))
 
 try_tail : (xs mid body tail : List Role) → Nests Sequence body → xs ≡ body ++ tail → Tail InTry tail mid → Group OpensTry xs mid
@@ -174,12 +174,12 @@ entered x f g fs xs group d =
 bare : (f : Frame) (xs rest : List Role) → Tail f xs rest → Closing f xs rest
 bare f xs rest t = record { body = []; tail = xs; nested = none; is = refl; ends = t }
 
-else_tail : (xs rest : List Role) → Closing InBlock xs rest → Tail InIf (Turns ∷ xs) rest
+else_tail : (xs rest : List Role) → Closing InBlock xs rest → Tail InIf (Else ∷ xs) rest
 else_tail xs rest c =
     inr (record {
       no = c.body;
       nested = c.nested;
-      is = ap (λ (ys : List Role). Turns ∷ ys) (c.is ∙ ap (λ (ys : List Role). c.body ++ ys) c.ends);
+      is = ap (λ (ys : List Role). Else ∷ ys) (c.is ∙ ap (λ (ys : List Role). c.body ++ ys) c.ends);
     })
 
 catch_tail : (xs rest : List Role) → Closing InCatch xs rest → Caught (Catches ∷ xs) rest
@@ -220,10 +220,10 @@ one Opens f fs xs a = entered Opens f InBlock fs xs (block_group xs) a
 one OpensIf f fs xs a = entered OpensIf f InIf fs xs (λ mid c. if_tail xs mid c.body c.tail c.nested c.is c.ends) a
 one OpensTry f fs xs a = entered OpensTry f InTry fs xs (λ mid c. try_tail xs mid c.body c.tail c.nested c.is c.ends) a
 one Ends f fs xs a = (xs, bare f (Ends ∷ xs) xs (end_tail f xs), left_closes fs xs a)
-one Turns InIf fs xs a = let (rest, closing, closed) = a in (rest, bare InIf (Turns ∷ xs) rest (else_tail xs rest closing), closed)
-one Turns InBlock fs xs a = absurd a
-one Turns InTry fs xs a = absurd a
-one Turns InCatch fs xs a = absurd a
+one Else InIf fs xs a = let (rest, closing, closed) = a in (rest, bare InIf (Else ∷ xs) rest (else_tail xs rest closing), closed)
+one Else InBlock fs xs a = absurd a
+one Else InTry fs xs a = absurd a
+one Else InCatch fs xs a = absurd a
 one Catches InTry fs xs a =
     let (rest, closing, closed) = a in
     (rest, bare InTry (Catches ∷ xs) rest (inl (catch_tail xs rest closing)), closed)

@@ -4,27 +4,27 @@ use Rattle.std.specs.List.{AllByRecursion}
 
 -- The options of a layout.
 pub record Options : Type 0 where
-  -- Each line begins with its place, in a comment.
+  -- Each line after the first begins with its place, in a comment.
   pub offsets : Bool
   -- Bodies, the items of element segments, and the bytes of data segments and custom sections are left out.
   pub skeleton : Bool
   -- Identifiers are synthesized for items without a name.
-  pub invents : Bool
+  pub synthesizes : Bool
   -- Operators are folded: each is in parentheses with its operands.
   pub folds : Bool
   -- The text after the opening parenthesis of a folded operator has ANSI escape sequences. The user does not
   -- choose this: it holds if the printer can write colors as text.
-  pub paints : Bool
+  pub color : Bool
   -- The text that is written once for each level of nesting, up to `most_indents` of `Piece`.
   pub indent : List ℕ
 
 -- The default options: an indent of two spaces, and all else off.
 abbrev pub defaults : Options
-defaults = record { offsets = false; skeleton = false; invents = false; folds = false; paints = false; indent = codes "  " }
+defaults = record { offsets = false; skeleton = false; synthesizes = false; folds = false; color = false; indent = codes "  " }
 
 -- The options with or without ANSI escape sequences in the text of folded operators.
-abbrev pub in_colours : Options → Bool → Options
-in_colours o paints = record o { paints = paints }
+abbrev pub in_colors : Options → Bool → Options
+in_colors o color = record o { color = color }
 
 -- The answer to the claim of each custom section, by the number of the section among the custom sections.
 abbrev pub Answers : Type 0

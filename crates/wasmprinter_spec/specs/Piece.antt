@@ -14,17 +14,17 @@ use Rattle.wasmprinter_spec.specs.Token.{Token}
 -- A piece of a layout.
 pub data Piece : Type 0 where
   Begin : ℕ → Piece  -- the first line begins, at this place
-  Feed : Piece  -- the last line ends
+  EndLine : Piece  -- the last line ends
   Break : Option ℕ → ℕ → Piece  -- a new line: its place, if it has one, and its nesting depth
   Gap : Piece  -- a space
   Open : List ℕ → Piece  -- a parenthesis and a keyword
   OpenGap : List ℕ → Piece  -- the same, and a space
   OpenPlain : List ℕ → Piece  -- a parenthesis and a keyword without a style
-  OpenBare : Piece  -- a parenthesis without a keyword
+  OpenUnnamed : Piece  -- a parenthesis without a keyword
   OpenTypeGap : List ℕ → Piece  -- a parenthesis, the word of a type and a space
-  OpenNote : List ℕ → Piece  -- a parenthesis, the sign @ and the name of an annotation
-  OpenNoteGap : List ℕ → Piece  -- the same, and a space
-  OpenRun : List ℕ → Piece  -- in an annotation: a parenthesis and any run of identifier characters
+  OpenAnnotation : List ℕ → Piece  -- a parenthesis, the sign @ and the name of an annotation
+  OpenAnnotationGap : List ℕ → Piece  -- the same, and a space
+  OpenAnnotationWord : List ℕ → Piece  -- in an annotation: a parenthesis and any run of identifier characters
   Shut : Piece
   Word : List ℕ → Piece
   TypeWord : List ℕ → Piece  -- the word of a type
@@ -35,17 +35,17 @@ pub data Piece : Type 0 where
   Literals : List ℕ → List (List ℕ) → Piece  -- words with spaces between them
   GapLiterals : List (List ℕ) → Piece  -- words, a space before each
   Float : Width → ℕ → Piece  -- a floating-point number, by its bits
-  NumberRemark : ℕ → Piece  -- (;i;), the index of a declaration
+  IndexComment : ℕ → Piece  -- (;i;), the index of a declaration
   BeginName : Piece  -- text after this has the style of names
   EndStyle : Piece  -- text after this has no style
   Quoted : List ℕ → Piece  -- a quoted string, by its characters
   QuotedBytes : List ℕ → Piece  -- quoted bytes
   Identifier : List ℕ → Piece  -- an identifier, by the characters after the dollar sign
-  NameNote : List ℕ → Piece  -- the annotation `(@name "..")`, by the characters of the name
-  Remark : Bool → List ℕ → Piece  -- a space and a block comment, with a style or without
-  Ending : List ℕ → Piece  -- a line comment
-  PlainEnding : List ℕ → Piece  -- the same without a style
-  HintNote : Bool → Piece  -- the annotation of a branch hint
+  NameAnnotation : List ℕ → Piece  -- the annotation `(@name "..")`, by the characters of the name
+  BlockComment : Bool → List ℕ → Piece  -- a space and a block comment, with a style or without
+  LineComment : List ℕ → Piece  -- a line comment
+  PlainLineComment : List ℕ → Piece  -- the same without a style
+  HintAnnotation : Bool → Piece  -- the annotation of a branch hint
   Claimed : List ℕ → ℕ → List ℕ → Bool → Piece  -- the claim of a custom section, with the answer
 
 -- The greatest number of levels by which a line is indented.
@@ -76,9 +76,9 @@ abbrev pub calls_in_style : Style → List ℕ → List Call
 calls_in_style style s = Start style ∷ (Text s ∷ (Start Reset ∷ []))
 
 -- Words, with a space before each.
-abbrev pub behind_blanks : List (List ℕ) → List ℕ
-behind_blanks [] = []
-behind_blanks (w ∷ ws) = 32 ∷ (w ++ behind_blanks ws)
+abbrev pub after_blanks : List (List ℕ) → List ℕ
+after_blanks [] = []
+after_blanks (w ∷ ws) = 32 ∷ (w ++ after_blanks ws)
 
 abbrev pub word_tokens : List (List ℕ) → List Token
 word_tokens ws = map token.word ws
@@ -90,18 +90,18 @@ flag_byte false = 0
 -- The calls of a piece on the printer.
 abbrev pub calls : Options → Piece → List Call
 calls o (Begin place) = Line (Some place) ∷ []
-calls o Feed = Newline ∷ []
+calls o EndLine = Newline ∷ []
 calls o (Break place nesting) =
     Newline ∷ (Line place ∷ (place_calls o.offsets place ++ (Text (repetition_of (min nesting most_indents) o.indent) ∷ [])))
 calls o Gap = Text (codes " ") ∷ []
 calls o (Open w) = Text (codes "(") ∷ calls_in_style Keyword w
 calls o (OpenGap w) = Text (codes "(") ∷ calls_in_style Keyword (w ++ codes " ")
 calls o (OpenPlain w) = Text (codes "(" ++ w) ∷ []
-calls o OpenBare = Text (codes "(") ∷ calls_in_style Keyword []
+calls o OpenUnnamed = Text (codes "(") ∷ calls_in_style Keyword []
 calls o (OpenTypeGap w) = Text (codes "(") ∷ calls_in_style TypeName (w ++ codes " ")
-calls o (OpenNote w) = Text (codes "(") ∷ calls_in_style Keyword (64 ∷ w)
-calls o (OpenNoteGap w) = Text (codes "(") ∷ calls_in_style Keyword (64 ∷ (w ++ codes " "))
-calls o (OpenRun w) = Text (codes "(") ∷ calls_in_style Keyword w
+calls o (OpenAnnotation w) = Text (codes "(") ∷ calls_in_style Keyword (64 ∷ w)
+calls o (OpenAnnotationGap w) = Text (codes "(") ∷ calls_in_style Keyword (64 ∷ (w ++ codes " "))
+calls o (OpenAnnotationWord w) = Text (codes "(") ∷ calls_in_style Keyword w
 calls o Shut = Text (codes ")") ∷ []
 calls o (Word w) = Text w ∷ []
 calls o (TypeWord w) = calls_in_style TypeName w
@@ -109,22 +109,22 @@ calls o (TypeWordGap w) = calls_in_style TypeName (w ++ codes " ")
 calls o (GapTypeWord w) = calls_in_style TypeName (32 ∷ w)
 calls o (Number n) = calls_in_style Name (decimal n)
 calls o (Constant z) = calls_in_style Literal (32 ∷ signed_decimal z)
-calls o (Literals w ws) = calls_in_style Literal (w ++ behind_blanks ws)
-calls o (GapLiterals ws) = calls_in_style Literal (behind_blanks ws)
+calls o (Literals w ws) = calls_in_style Literal (w ++ after_blanks ws)
+calls o (GapLiterals ws) = calls_in_style Literal (after_blanks ws)
 calls o (Float w bits) = float_calls w bits
-calls o (NumberRemark n) = Text (codes "(;" ++ (decimal n ++ codes ";)")) ∷ []
+calls o (IndexComment n) = Text (codes "(;" ++ (decimal n ++ codes ";)")) ∷ []
 calls o BeginName = Start Name ∷ []
 calls o EndStyle = Start Reset ∷ []
 calls o (Quoted cs) = calls_in_style Literal (quoted_text cs)
 calls o (QuotedBytes bs) = calls_in_style Literal (quoted_bytes bs)
 calls o (Identifier cs) = Text (identifier_text cs) ∷ []
-calls o (NameNote cs) =
+calls o (NameAnnotation cs) =
     Text (codes "(") ∷ (calls_in_style Keyword (codes "@name \"") ++ (Text (flat_map char_text cs) ∷ (Text (codes "\")") ∷ [])))
-calls o (Remark true s) = calls_in_style Comment (codes " (;" ++ (s ++ codes ";)"))
-calls o (Remark false s) = Text (codes " (;" ++ (s ++ codes ";)")) ∷ []
-calls o (Ending s) = calls_in_style Comment (codes ";; " ++ s)
-calls o (PlainEnding s) = Text (codes ";; " ++ s) ∷ []
-calls o (HintNote taken) =
+calls o (BlockComment true s) = calls_in_style Comment (codes " (;" ++ (s ++ codes ";)"))
+calls o (BlockComment false s) = Text (codes " (;" ++ (s ++ codes ";)")) ∷ []
+calls o (LineComment s) = calls_in_style Comment (codes ";; " ++ s)
+calls o (PlainLineComment s) = Text (codes ";; " ++ s) ∷ []
+calls o (HintAnnotation taken) =
     calls_in_style Comment (codes "(@metadata.code.branch_hint " ++ (quoted_bytes (flag_byte taken ∷ []) ++ codes ")"))
 calls o (Claimed name place bytes answer) = Claim name place bytes answer ∷ []
 
@@ -133,11 +133,11 @@ abbrev pub piece_tokens : Piece → List Token
 piece_tokens (Open w) = token.left ∷ (token.word w ∷ [])
 piece_tokens (OpenGap w) = token.left ∷ (token.word w ∷ [])
 piece_tokens (OpenPlain w) = token.left ∷ (token.word w ∷ [])
-piece_tokens OpenBare = token.left ∷ []
+piece_tokens OpenUnnamed = token.left ∷ []
 piece_tokens (OpenTypeGap w) = token.left ∷ (token.word w ∷ [])
-piece_tokens (OpenNote w) = token.left_note w ∷ []
-piece_tokens (OpenNoteGap w) = token.left_note w ∷ []
-piece_tokens (OpenRun w) = token.tokens (40 ∷ w)
+piece_tokens (OpenAnnotation w) = token.left_note w ∷ []
+piece_tokens (OpenAnnotationGap w) = token.left_note w ∷ []
+piece_tokens (OpenAnnotationWord w) = token.tokens (40 ∷ w)
 piece_tokens Shut = token.right ∷ []
 piece_tokens (Word w) = token.word w ∷ []
 piece_tokens (TypeWord w) = token.word w ∷ []
@@ -151,8 +151,8 @@ piece_tokens (Float w bits) = token.word (float_text w bits) ∷ []
 piece_tokens (Quoted cs) = token.string (encode_utf8_all cs) ∷ []
 piece_tokens (QuotedBytes bs) = token.string bs ∷ []
 piece_tokens (Identifier cs) = token.name (encode_utf8_all cs) ∷ []
-piece_tokens (NameNote cs) = token.left_note (codes "name") ∷ (token.string (encode_utf8_all cs) ∷ (token.right ∷ []))
-piece_tokens (HintNote taken) =
+piece_tokens (NameAnnotation cs) = token.left_note (codes "name") ∷ (token.string (encode_utf8_all cs) ∷ (token.right ∷ []))
+piece_tokens (HintAnnotation taken) =
     token.left_note (codes "metadata.code.branch_hint") ∷ (token.string (flag_byte taken ∷ []) ∷ (token.right ∷ []))
 piece_tokens _ = []
 

@@ -57,11 +57,11 @@ custom_of n bytes = record { name = n; bytes = bytes }
 -- A custom section with the place of its first byte after its size, and the kind of the last section before it
 -- that is not empty (`is_place` in `Sections`).
 pub record CustomEntry : Type 0 where
-  pub behind : Option Kind
+  pub after : Option Kind
   pub section : Placed Custom
 
 abbrev pub custom_entry : Option Kind → Placed Custom → CustomEntry
-custom_entry k c = record { behind = k; section = c }
+custom_entry k c = record { after = k; section = c }
 
 -- ---- Fields with expressions, which are lists of operators, with or without their places
 
@@ -134,6 +134,6 @@ pub record PlacedModule : Type 0 where
   pub start : Option (Placed ℕ)
   pub elements : List (Placed ElementEntry)
   pub functions : List PlacedFunction
-  pub datas : List (Placed (Data (Placed Operator)))
+  pub data_segments : List (Placed (Data (Placed Operator)))
   pub customs : List CustomEntry
   pub size : ℕ

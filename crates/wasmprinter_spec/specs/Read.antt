@@ -39,7 +39,7 @@ pub record Fields : Type 0 where
   pub exports : List Forest
   pub start : Option Forest
   pub elements : List Forest
-  pub datas : List Forest
+  pub data_segments : List Forest
 
 abbrev pub no_fields : Fields
 no_fields = record {
@@ -53,7 +53,7 @@ no_fields = record {
   exports = [];
   start = None;
   elements = [];
-  datas = [];
+  data_segments = [];
 }
 
 -- There is at most one start function.
@@ -80,7 +80,7 @@ with_field w f m =
     (if bytes_eq w (codes "export") then Some (record m { exports = f ∷ m.exports }) else
     (if bytes_eq w (codes "start") then with_start f m m.start else
     (if bytes_eq w (codes "elem") then Some (record m { elements = f ∷ m.elements }) else
-    (if bytes_eq w (codes "data") then Some (record m { datas = f ∷ m.datas }) else None)))))))))))
+    (if bytes_eq w (codes "data") then Some (record m { data_segments = f ∷ m.data_segments }) else None)))))))))))
 
 -- The fields of a module, sorted by kind.
 abbrev pub fields : Forest → Option Fields
@@ -107,20 +107,20 @@ abbrev pub imported_ids : ExternKind → List ImportField → Identifiers
 imported_ids kind is = identifiers_of (map (λ i. i.item) (filter (λ i. same_kind kind i.kind) is))
 
 -- An index space, in which imports come first.
-abbrev pub space_behind : ExternKind → List ImportField → List Forest → Option Identifiers
-space_behind kind is fs = index_space (imported_ids kind is ++ identifiers_of fs)
+abbrev pub space_after : ExternKind → List ImportField → List Forest → Option Identifiers
+space_after kind is fs = index_space (imported_ids kind is ++ identifiers_of fs)
 
 -- The index spaces outside functions.
 abbrev pub spaces_of : Fields → Option Spaces
 spaces_of m = do
   types ← index_space (identifiers_of (concat m.types))
-  functions ← space_behind FuncKind m.imports m.functions
-  tables ← space_behind TableKind m.imports m.tables
-  memories ← space_behind MemoryKind m.imports m.memories
-  tags ← space_behind TagKind m.imports m.tags
-  globals ← space_behind GlobalKind m.imports m.globals
+  functions ← space_after FuncKind m.imports m.functions
+  tables ← space_after TableKind m.imports m.tables
+  memories ← space_after MemoryKind m.imports m.memories
+  tags ← space_after TagKind m.imports m.tags
+  globals ← space_after GlobalKind m.imports m.globals
   elems ← index_space (identifiers_of m.elements)
-  datas ← index_space (identifiers_of m.datas)
+  data_segments ← index_space (identifiers_of m.data_segments)
   Some (record {
     types = types;
     functions = functions;
@@ -129,7 +129,7 @@ spaces_of m = do
     tags = tags;
     globals = globals;
     elems = elems;
-    datas = datas;
+    data_segments = data_segments;
     locals = [];
   })
 
@@ -153,7 +153,7 @@ module_of_fields m = do
   exports ← each (read_export (context spaces types)) m.exports
   start ← read_start spaces m.start
   elements ← each (read_element (context spaces types)) m.elements
-  datas ← each (read_data (context spaces types)) m.datas
+  data_segments ← each (read_data (context spaces types)) m.data_segments
   Some (record {
     types = group_types types;
     imports = imports;
@@ -165,7 +165,7 @@ module_of_fields m = do
     exports = exports;
     start = start;
     elements = elements;
-    datas = datas;
+    data_segments = data_segments;
     customs = [];
   })
 

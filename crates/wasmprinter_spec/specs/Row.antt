@@ -71,7 +71,7 @@ pub data Role : Type 0 where
   Opens : Role  -- `block`, `loop`, `try_table`
   OpensIf : Role
   OpensTry : Role
-  Turns : Role  -- `else`
+  Else : Role  -- `else`
   Catches : Role
   CatchesAll : Role
   Delegates : Role

@@ -126,14 +126,14 @@ abbrev pub follows : ℕ → Option ℕ → Bool
 follows low r = some_or r true (λ n. nat_lt low n)
 
 -- The last rank after a section of rank r, if it was `low` before.
-abbrev pub rank_behind : ℕ → Option ℕ → ℕ
-rank_behind low r = some_or r low (λ n. n)
+abbrev pub rank_after : ℕ → Option ℕ → ℕ
+rank_after low r = some_or r low (λ n. n)
 
 -- The sections are in order, and each kind that has a rank occurs at most once: the ranks are above `low` and
 -- increase.
 abbrev pub are_above : ℕ → List Section → Bool
 are_above low [] = true
-are_above low (s ∷ ss) = follows low (rank (section_kind s)) && are_above (rank_behind low (rank (section_kind s))) ss
+are_above low (s ∷ ss) = follows low (rank (section_kind s)) && are_above (rank_after low (rank (section_kind s))) ss
 
 -- The content of the section of this kind, or `none` if there is no such section. (Each kind that has a rank
 -- occurs at most once.)
@@ -166,14 +166,14 @@ is_place CodeSection xs = is_filled xs
 is_place DataSection xs = is_filled xs
 
 -- The kind of the last section with `is_place` after one more section, if it was `last` before.
-abbrev pub place_behind : Option Kind → Section → Option Kind
-place_behind last (holds kind x) = if is_place kind x then Some kind else last
+abbrev pub place_after : Option Kind → Section → Option Kind
+place_after last (holds kind x) = if is_place kind x then Some kind else last
 
 abbrev pub with_custom : Option Kind → Option (Placed Custom) → List CustomEntry → List CustomEntry
 with_custom last None cs = cs
 with_custom last (Some c) cs = custom_entry last c ∷ cs
 
 -- The custom sections in order, each with the kind of the last section before it with `is_place`.
-abbrev pub customs_behind : Option Kind → List Section → List CustomEntry
-customs_behind last [] = []
-customs_behind last (s ∷ ss) = with_custom last (content_of CustomSection s) (customs_behind (place_behind last s) ss)
+abbrev pub customs_after : Option Kind → List Section → List CustomEntry
+customs_after last [] = []
+customs_after last (s ∷ ss) = with_custom last (content_of CustomSection s) (customs_after (place_after last s) ss)

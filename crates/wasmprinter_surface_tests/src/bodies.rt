@@ -284,7 +284,7 @@ fn compares_lists(rt: HostRuntime) -> Result<(), Fail> {
 }
 
 #[test]
-fn tells_operators_apart(rt: HostRuntime) -> Result<(), Fail> {
+fn distinguishes_operators(rt: HostRuntime) -> Result<(), Fail> {
     let module = decode(rt.alloc(), &EVERY_KIND)?;
     let body = module.body(0).ok_or("no body")?;
     assert!(rt; differ(body.operators()));
@@ -307,7 +307,7 @@ fn has_body_at(module: &Module<'_>, place: u64, end: u64) -> bool {
 }
 
 #[test]
-fn tells_where_bodies_lie(rt: HostRuntime) -> Result<(), Fail> {
+fn returns_the_range_of_bodies(rt: HostRuntime) -> Result<(), Fail> {
     assert!(rt; has_body_at(&decode(rt.alloc(), &IDENTITY)?, 0x1f, 0x22));
     assert!(rt; has_body_at(&decode(rt.alloc(), &EVERY_KIND)?, 0x16, 0x6f));
     let empty = decode(rt.alloc(), &EMPTY)?;

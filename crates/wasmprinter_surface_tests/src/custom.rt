@@ -112,7 +112,7 @@ impl Write for Marks {
 }
 
 impl WriteColor for Marks {
-    ghost paints = { λ _ _ _ _. Unit {0} };
+    ghost sets_color = { λ _ _ _ _. Unit {0} };
 
     ghost is_colored = { λ _. true };
 

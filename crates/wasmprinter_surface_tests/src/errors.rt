@@ -50,7 +50,7 @@ fn texts() -> [(Error, &'static str); 11] {
 }
 
 #[test]
-fn tells_each_error_in_words(rt: HostRuntime) -> Result<(), Fail> {
+fn describes_each_error(rt: HostRuntime) -> Result<(), Fail> {
     for (error, expected) in texts() {
         let text = format!(in rt.alloc(); "{error}")?;
         expect_text(text.as_str(), expected)?;

@@ -4,6 +4,8 @@
 #[cfg(test)]
 mod bodies;
 #[cfg(test)]
+mod coloring;
+#[cfg(test)]
 mod custom;
 #[cfg(test)]
 mod errors;
@@ -19,8 +21,6 @@ mod listed;
 mod named;
 #[cfg(test)]
 mod options;
-#[cfg(test)]
-mod painting;
 #[cfg(test)]
 mod printers;
 #[cfg(test)]

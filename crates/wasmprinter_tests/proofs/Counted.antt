@@ -18,20 +18,20 @@ run_keeps old new [] r = sym r
 run_keeps old new (c ∷ calls) r = run_keeps r.0 new calls r.2 ∙ some_is r.0 old r.1.kept
 
 -- After a refusal, the count is the one that the error implies.
-refusal_counts : (o : Options) (colours : Bool) (bytes : List ℕ) (old new : ℕ) (e : Error) → Leaves counting colours o bytes old new e → new ≡ faults_after e old
-refusal_counts o colours bytes old new (Printer x) h =
+refusal_counts : (o : Options) (colors : Bool) (bytes : List ℕ) (old new : ℕ) (e : Error) → Leaves counting colors o bytes old new e → new ≡ faults_after e old
+refusal_counts o colors bytes old new (Printer x) h =
     some_is new (one_fault_more h.left.before) h.left.failed.counted ∙ ap one_fault_more (run_keeps old h.left.before h.left.calls h.left.run)
-refusal_counts o colours bytes old new (DylinkSubsection id) h = run_keeps old new h.left.made.calls h.left.made.run
-refusal_counts o colours bytes old new Unreadable h = absurd h
-refusal_counts o colours bytes old new Memory (inl h) = h
-refusal_counts o colours bytes old new Memory (inr h) = run_keeps old new h.1.left.calls h.1.left.run
-refusal_counts o colours bytes old new (Malformed place) h = h
-refusal_counts o colours bytes old new Component h = h
-refusal_counts o colours bytes old new (TooManyLocals place) h = h
-refusal_counts o colours bytes old new (TooManyFunctions count) h = h
-refusal_counts o colours bytes old new (EmptyTableInit place) h = h
-refusal_counts o colours bytes old new (FoldLegacy place) h = h
-refusal_counts o colours bytes old new (FoldHint place) h = h
+refusal_counts o colors bytes old new (DylinkSubsection id) h = run_keeps old new h.left.made.calls h.left.made.run
+refusal_counts o colors bytes old new Unreadable h = absurd h
+refusal_counts o colors bytes old new Memory (inl h) = h
+refusal_counts o colors bytes old new Memory (inr h) = run_keeps old new h.1.left.calls h.1.left.run
+refusal_counts o colors bytes old new (Malformed place) h = h
+refusal_counts o colors bytes old new Component h = h
+refusal_counts o colors bytes old new (TooManyLocals place) h = h
+refusal_counts o colors bytes old new (TooManyFunctions count) h = h
+refusal_counts o colors bytes old new (EmptyTableInit place) h = h
+refusal_counts o colors bytes old new (FoldLegacy place) h = h
+refusal_counts o colors bytes old new (FoldHint place) h = h
 
 -- The same facts for a result: after `Ok` the count is unchanged, after `Err` it is the one that the error
 -- implies.

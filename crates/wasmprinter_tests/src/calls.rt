@@ -9,7 +9,7 @@ use wasmprinter_recorder::{REFUSED, Recorder};
 use wasmprinter_samples::sections::{TYPE, add_section};
 use wasmprinter_samples::{
     CONTROL, CONTROL_CALLS, EMPTY_CALLS, EVERYTHING, EVERYTHING_CALLS, FIELDS, FIELDS_CALLS,
-    IDENTITY, IDENTITY_CALLS, INVENTED_CALLS, KINDS, KINDS_CALLS, NAMED, NAMED_CALLS, PREAMBLE,
+    IDENTITY, IDENTITY_CALLS, KINDS, KINDS_CALLS, NAMED, NAMED_CALLS, PREAMBLE, SYNTHESIZED_CALLS,
 };
 
 /// Modules, each with the calls that print it.
@@ -32,12 +32,12 @@ fn makes_each_call_in_order(rt: HostRuntime) -> Result<(), Fail> {
 }
 
 #[test]
-fn makes_the_calls_of_identifiers_that_are_made_up(rt: HostRuntime) -> Result<(), Fail> {
+fn makes_the_calls_of_synthesized_identifiers(rt: HostRuntime) -> Result<(), Fail> {
     let mut recorder = Recorder::new(rt.alloc());
     let mut config = Config::new();
     config.name_unnamed(true);
     print_to(&config, rt.alloc(), &NAMED[..40], &mut recorder)?;
-    expect_recorded(&recorder, INVENTED_CALLS)
+    expect_recorded(&recorder, SYNTHESIZED_CALLS)
 }
 
 #[test]
@@ -122,7 +122,7 @@ fn answers_each_kind_of_error_as_it_is(rt: HostRuntime) {
 }
 
 #[test]
-fn places_the_types_of_a_group_behind_its_first_two_bytes(rt: HostRuntime) -> Result<(), Fail> {
+fn places_the_types_of_a_group_after_its_first_two_bytes(rt: HostRuntime) -> Result<(), Fail> {
     let mut wasm = Vec::from_slice(rt.alloc(), &PREAMBLE)?;
     add_section(
         &mut wasm,

@@ -169,9 +169,9 @@ fn with_every_place(alloc: Global) -> Result<Vec<u8>, AllocError> {
 }
 
 /// Reports whether the custom sections have these kinds of sections as their places.
-fn are_behind(customs: &[CustomEntry<'_>], kinds: &[Option<SectionKind>]) -> bool {
+fn are_after(customs: &[CustomEntry<'_>], kinds: &[Option<SectionKind>]) -> bool {
     for (custom, kind) in customs.iter().zip(kinds) {
-        if custom.behind != *kind {
+        if custom.after != *kind {
             return false;
         }
     }
@@ -183,12 +183,12 @@ fn knows_every_place(rt: HostRuntime) -> Result<(), Fail> {
     let wasm = with_every_place(rt.alloc())?;
     expect_printed(rt.alloc(), &wasm, EVERY_PLACE_TEXT)?;
     let module = decode(rt.alloc(), &wasm)?;
-    assert!(rt; are_behind(module.customs(), &EVERY_PLACE));
+    assert!(rt; are_after(module.customs(), &EVERY_PLACE));
     Ok(())
 }
 
 /// Reports whether a module of an empty section, followed by a custom section, has this text.
-fn prints_behind_empty(alloc: Global, id: u8, typed: &str) -> Result<bool, AllocError> {
+fn prints_after_empty(alloc: Global, id: u8, typed: &str) -> Result<bool, AllocError> {
     let mut wasm = Vec::from_slice(alloc, &PREAMBLE)?;
     add_with_custom(alloc, &mut wasm, id, &[0x00])?;
     Ok(is_printed_as(alloc, &wasm, typed))
@@ -208,7 +208,7 @@ fn passes_over_empty_sections(rt: HostRuntime) -> Result<(), Fail> {
             FIRST_TEXT
         };
         assert!(rt;
-            prints_behind_empty(rt.alloc(), id, typed)?,
+            prints_after_empty(rt.alloc(), id, typed)?,
             "behind an empty section {word}"
         );
     }

@@ -69,8 +69,8 @@ const BEHIND: &str = r#"    if ;; label = @1
 /// Checks that the text of that module has exactly this text before its `if`: the line of a hint, or nothing.
 fn expect_hint(alloc: Global, wasm: &[u8], line: &str) -> Result<(), Fail> {
     let text = print_bytes(alloc, wasm)?;
-    let behind = text.strip_prefix(BEFORE).ok_or("another beginning")?;
-    let found = behind.strip_suffix(BEHIND).ok_or("another end")?;
+    let after = text.strip_prefix(BEFORE).ok_or("another beginning")?;
+    let found = after.strip_suffix(BEHIND).ok_or("another end")?;
     expect_text(found, line)?;
     Ok(())
 }
@@ -141,7 +141,7 @@ const NESTED_BODY: &[u8] = &[
 ];
 
 #[test]
-fn stands_as_deep_as_the_operators_of_its_block(rt: HostRuntime) -> Result<(), Fail> {
+fn is_nested_as_the_operators_of_its_block(rt: HostRuntime) -> Result<(), Fail> {
     let wasm = hinted(rt.alloc(), NESTED_FUNCTION, &NESTED, NESTED_BODY)?;
     expect_printed(
         rt.alloc(),
@@ -223,7 +223,7 @@ fn module_with_two_hint_sections(alloc: Global) -> Result<Vec<u8>, AllocError> {
 }
 
 #[test]
-fn numbers_functions_behind_the_imported_ones(rt: HostRuntime) -> Result<(), Fail> {
+fn numbers_functions_after_the_imported_ones(rt: HostRuntime) -> Result<(), Fail> {
     let wasm = module_with_two_hint_sections(rt.alloc())?;
     expect_printed(
         rt.alloc(),

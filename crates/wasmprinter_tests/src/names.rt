@@ -12,15 +12,15 @@ use wasmprinter_samples::{
 };
 
 /// Returns the text of a module with identifiers synthesized for items without names.
-fn text_with_invented(alloc: Global, wasm: &[u8]) -> Result<String, Error> {
+fn text_with_synthesized(alloc: Global, wasm: &[u8]) -> Result<String, Error> {
     Config::new()
         .name_unnamed(true)
         .print_to_string(alloc, wasm)
 }
 
 /// Checks that this text is the typed text.
-fn expect_invented(alloc: Global, wasm: &[u8], typed: &str) -> Result<(), Fail> {
-    let text = text_with_invented(alloc, wasm)?;
+fn expect_synthesized(alloc: Global, wasm: &[u8], typed: &str) -> Result<(), Fail> {
+    let text = text_with_synthesized(alloc, wasm)?;
     expect_text(text.as_str(), typed)?;
     Ok(())
 }
@@ -83,8 +83,8 @@ fn expect_operators(alloc: Global, wasm: &[u8], typed: &str) -> Result<(), Fail>
 }
 
 /// Checks the same with identifiers synthesized.
-fn expect_invented_operators(alloc: Global, wasm: &[u8], typed: &str) -> Result<(), Fail> {
-    let text = text_with_invented(alloc, wasm)?;
+fn expect_synthesized_operators(alloc: Global, wasm: &[u8], typed: &str) -> Result<(), Fail> {
+    let text = text_with_synthesized(alloc, wasm)?;
     expect_body(text.as_str(), typed)
 }
 
@@ -129,7 +129,7 @@ fn passes_over_a_name_that_is_cut(rt: HostRuntime) -> Result<(), Fail> {
 
 #[test]
 fn makes_up_identifiers(rt: HostRuntime) -> Result<(), Fail> {
-    expect_invented(
+    expect_synthesized(
         rt.alloc(),
         &IDENTITY,
         r#"(module
@@ -202,7 +202,7 @@ fn prints_a_shadowed_label_by_its_number(rt: HostRuntime) -> Result<(), Fail> {
 }
 
 #[test]
-fn takes_the_label_off_behind_delegate(rt: HostRuntime) -> Result<(), Fail> {
+fn takes_the_label_off_after_delegate(rt: HostRuntime) -> Result<(), Fail> {
     let alloc = rt.alloc();
     let wasm = one_function(alloc, b"\x06\x40\x18\x00\x02\x40\x0c\x00\x0c\x01\x0b")?;
     let named = with_names(alloc, &wasm, b"\x03\x09\x01\x00\x02\x00\x01t\x01\x01u")?;
@@ -219,7 +219,7 @@ fn takes_the_label_off_behind_delegate(rt: HostRuntime) -> Result<(), Fail> {
 )
 "#,
     )?;
-    expect_invented_operators(
+    expect_synthesized_operators(
         alloc,
         &wasm,
         r#"    try $#label0
@@ -238,7 +238,7 @@ fn takes_the_label_off_behind_delegate(rt: HostRuntime) -> Result<(), Fail> {
 fn makes_up_labels(rt: HostRuntime) -> Result<(), Fail> {
     let alloc = rt.alloc();
     let wasm = one_function(alloc, b"\x02\x40\x0c\x00\x0c\x01\x0b")?;
-    expect_invented_operators(
+    expect_synthesized_operators(
         alloc,
         &wasm,
         r#"    block $#label0
@@ -321,7 +321,7 @@ const EVERY_SPACE_TEXT: &str = r#"(module $all
 "#;
 
 /// The text of `EVERY_SPACE` without its name section, with identifiers synthesized.
-const EVERY_SPACE_INVENTED: &str = r#"(module
+const EVERY_SPACE_SYNTHESIZED: &str = r#"(module
   (type $#type0 (;0;) (func (param i32) (result i32)))
   (type $#type1 (;1;) (struct (field $#field0 i32) (field $#field1 (mut i64))))
   (type $#type2 (;2;) (func (param i32)))
@@ -396,9 +396,9 @@ fn names_an_item_of_each_space(rt: HostRuntime) -> Result<(), Fail> {
 
 #[test]
 fn makes_up_identifiers_in_each_space(rt: HostRuntime) -> Result<(), Fail> {
-    expect_invented(
+    expect_synthesized(
         rt.alloc(),
         &EVERY_SPACE[..EVERY_SPACE_NAMES],
-        EVERY_SPACE_INVENTED,
+        EVERY_SPACE_SYNTHESIZED,
     )
 }

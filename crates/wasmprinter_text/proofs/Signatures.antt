@@ -5,9 +5,9 @@ use Rattle.wasmprinter_spec.specs.Types.{HeapType, ValType, FuncType}
 use Rattle.wasmprinter_spec.specs.Row.{Types}
 use Rattle.wasmprinter_spec.specs.Labels.{Named}
 use Rattle.wasmprinter_spec.specs.Names.{Names}
-use Rattle.wasmprinter_spec.specs.Piece.{Piece, Gap, Shut, NameNote, NumberRemark, EndStyle}
+use Rattle.wasmprinter_spec.specs.Piece.{Piece, Gap, Shut, NameAnnotation, IndexComment, EndStyle}
 use Rattle.wasmprinter_spec.specs.Layout.Groups.{has_break, line_group, line_group_gap}
-use Rattle.wasmprinter_spec.specs.Layout.Identifiers.{given_pieces, mark_pieces, mark_gap_pieces, declaration_pieces, index_pieces}
+use Rattle.wasmprinter_spec.specs.Layout.Identifiers.{given_pieces, id_and_name_pieces, id_and_name_gap_pieces, declaration_pieces, index_pieces}
 use Rattle.wasmprinter_spec.specs.Layout.ValTypes.{type_index_pieces, heap_pieces, null_ref_pieces, ref_pieces_by, ref_pieces, val_pieces, type_list}
 use Rattle.wasmprinter_spec.specs.Layout.Variables.{Variables, Alone, Together, variable_groups, variables_pieces, groups_pieces}
 use Rattle.wasmprinter_spec.specs.Layout.Types.{parameters_of, list_group, signature_pieces, signature_if_any, type_use_pieces}
@@ -29,24 +29,24 @@ given-line : (given : Option (List ℕ)) (content : List ℕ) → has_break (giv
 given-line None content = refl
 given-line (Some s) content = by (bytes_eq s content)
   where
-    by : (b : Bool) → has_break (cond b [] (Gap ∷ (NameNote (chars s) ∷ []))) ≡ false
+    by : (b : Bool) → has_break (cond b [] (Gap ∷ (NameAnnotation (chars s) ∷ []))) ≡ false
     by true = refl
     by false = refl
 
 -- No line begins within an identifier with its annotation.
-pub mark-line : (n : Named) → has_break (mark_pieces n) ≡ false
-unfolding mark_pieces
-mark-line n = given-line n.given n.content
+pub id_and_name-line : (n : Named) → has_break (id_and_name_pieces n) ≡ false
+unfolding id_and_name_pieces
+id_and_name-line n = given-line n.given n.content
 
-mark_gap-line : (n : Option Named) → has_break (mark_gap_pieces n) ≡ false
-unfolding mark_gap_pieces
-mark_gap-line None = refl
-mark_gap-line (Some n) = line-append (mark_pieces n) (Gap ∷ []) (mark-line n) refl
+id_and_name_gap-line : (n : Option Named) → has_break (id_and_name_gap_pieces n) ≡ false
+unfolding id_and_name_gap_pieces
+id_and_name_gap-line None = refl
+id_and_name_gap-line (Some n) = line-append (id_and_name_pieces n) (Gap ∷ []) (id_and_name-line n) refl
 
 -- No line begins within the declaration of an item.
 pub declaration-line : (n : Option Named) (i : ℕ) → has_break (declaration_pieces n i) ≡ false
 unfolding declaration_pieces
-declaration-line n i = line-append (mark_gap_pieces n) (NumberRemark i ∷ (EndStyle ∷ [])) (mark_gap-line n) refl
+declaration-line n i = line-append (id_and_name_gap_pieces n) (IndexComment i ∷ (EndStyle ∷ [])) (id_and_name_gap-line n) refl
 
 -- No line begins within an index.
 pub index-line : (n : Option Named) (i : ℕ) → has_break (index_pieces n i) ≡ false
@@ -99,7 +99,7 @@ module _ (names : Names) where
   pub variables-line : (w : List ℕ) (g : Variables) → has_break (variables_pieces names w g) ≡ false
   unfolding variables_pieces
   variables-line w (Alone n t) =
-      group-line w (Gap ∷ (mark_gap_pieces (Some n) ++ val_pieces names t)) (line-append (mark_gap_pieces (Some n)) (val_pieces names t) (mark_gap-line (Some n)) (val-line t))
+      group-line w (Gap ∷ (id_and_name_gap_pieces (Some n) ++ val_pieces names t)) (line-append (id_and_name_gap_pieces (Some n)) (val_pieces names t) (id_and_name_gap-line (Some n)) (val-line t))
   variables-line w (Together ts) = group-line w (type_list names ts) (types-line ts)
 
   -- No line begins within groups of variables.

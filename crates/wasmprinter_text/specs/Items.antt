@@ -13,7 +13,7 @@ use Rattle.wasmprinter_names.specs.declared.space.Space.{Space}
 
 -- The identifier of an item of an index space. It computes to a lookup in `names_of_identifiers`.
 abbrev pub item_of : Identifiers → Space → ℕ → ℕ → Option Named
-item_of x space outer number = name_in x.invents (name_at x.names.now) (id_of space) (outer_of space outer) number
+item_of x space outer number = name_in x.synthesizes (name_at x.names.now) (id_of space) (outer_of space outer) number
 
 -- The pieces of a field of the structure type `owner`, by the number of the field, with a space before it.
 abbrev pub owned_field : Names → ℕ → ℕ → FieldType → List Piece

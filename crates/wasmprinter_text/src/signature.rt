@@ -12,9 +12,9 @@ use crate::indices::put_index_group;
 use crate::types::put_signature;
 use std::io;
 use wasmprinter_names::{Identifiers, Space};
-use wasmprinter_print::{Fault, Print};
+use wasmprinter_print::{FirstError, Print};
 use wasmprinter_types::composite::FuncType;
-use wasmprinter_words::words::put_gap;
+use wasmprinter_words::words::put_space;
 
 /// The types of a module, by which function types are looked up.
 pub trait Signatures {
@@ -33,7 +33,7 @@ pub trait Signatures {
 /// function type. The parameters have identifiers only if `owner` is their function.
 fn put_signature_at<P: Print, S: Signatures>(
     p: &mut P,
-    fault: &mut Fault,
+    fault: &mut FirstError,
     identifiers: &Identifiers<'_, '_>,
     owner: Option<u64>,
     types: &S,
@@ -51,14 +51,14 @@ fn put_signature_at<P: Print, S: Signatures>(
 #[tactic(auto, unfolding(wasmprinter_spec::specs::Layout::ValTypes::type_index_pieces))]
 pub fn put_type_index<P: Print>(
     p: &mut P,
-    fault: &mut Fault,
+    fault: &mut FirstError,
     identifiers: &Identifiers<'_, '_>,
     index: u32,
 )
     ensures { Marks P.meaning p.old fault.old p.new fault.new
         (Gap ∷ line_group_gap (codes "type") (type_index_pieces (names_of_identifiers identifiers.now) index)) }
 {
-    put_gap(p, fault);
+    put_space(p, fault);
     put_index_group(p, fault, identifiers, "type", Space::Types, index);
 }
 
@@ -71,7 +71,7 @@ pub fn write_type_index<P: Print>(
     ensures { PrintsAlways P.meaning p.old p.new result
         (Gap ∷ line_group_gap (codes "type") (type_index_pieces (names_of_identifiers identifiers.now) index)) }
 {
-    let mut fault = Fault::none();
+    let mut fault = FirstError::none();
     put_type_index(p, &mut fault, identifiers, index);
     fault.into_result()
 }
@@ -80,7 +80,7 @@ pub fn write_type_index<P: Print>(
 /// function type. The parameters have identifiers only if `owner` is their function.
 pub fn put_type_use<P: Print, S: Signatures>(
     p: &mut P,
-    fault: &mut Fault,
+    fault: &mut FirstError,
     identifiers: &Identifiers<'_, '_>,
     owner: Option<u64>,
     types: &S,
@@ -105,7 +105,7 @@ pub fn write_type_use<P: Print, S: Signatures>(
     ensures { PrintsAlways P.meaning p.old p.new result
         (Gap ∷ type_use_pieces (names_of_identifiers identifiers.now) owner index (S.signature_at types.now index)) }
 {
-    let mut fault = Fault::none();
+    let mut fault = FirstError::none();
     put_type_use(p, &mut fault, identifiers, owner, types, index);
     fault.into_result()
 }

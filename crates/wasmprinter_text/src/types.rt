@@ -18,11 +18,11 @@ use crate::indices::put_index_of;
 use crate::types::variables::put_params;
 use std::io;
 use wasmprinter_names::{Identifiers, Space};
-use wasmprinter_print::{Fault, Print};
+use wasmprinter_print::{FirstError, Print};
 use wasmprinter_types::composite::FuncType;
 use wasmprinter_types::{HeapType, RefType, ValType, ValTypes};
 use wasmprinter_words::words::{
-    put_gap, put_open, put_open_gap, put_shut, put_type_word, put_word,
+    put_close_paren, put_open, put_open_gap, put_space, put_type_word, put_word,
 };
 
 /// Returns the keyword of an abstract heap type, or an empty string for a type index.
@@ -71,7 +71,7 @@ fn ref_word(heap: HeapType) -> &'static str
 #[tactic(auto, unfolding(wasmprinter_spec::specs::Layout::ValTypes::type_index_pieces))]
 pub(crate) fn put_type_number<P: Print>(
     p: &mut P,
-    fault: &mut Fault,
+    fault: &mut FirstError,
     identifiers: &Identifiers<'_, '_>,
     index: u32,
 )
@@ -88,7 +88,7 @@ pub fn write_type_number<P: Print>(
 ) -> io::Result<()>
     ensures { PrintsAlways P.meaning p.old p.new result (type_index_pieces (names_of_identifiers identifiers.now) index) }
 {
-    let mut fault = Fault::none();
+    let mut fault = FirstError::none();
     put_type_number(p, &mut fault, identifiers, index);
     fault.into_result()
 }
@@ -97,7 +97,7 @@ pub fn write_type_number<P: Print>(
 #[tactic(auto, unfolding(wasmprinter_spec::specs::Layout::ValTypes::heap_pieces))]
 pub fn put_heap_type<P: Print>(
     p: &mut P,
-    fault: &mut Fault,
+    fault: &mut FirstError,
     identifiers: &Identifiers<'_, '_>,
     heap: HeapType,
 )
@@ -117,7 +117,7 @@ pub fn write_heap_type<P: Print>(
 ) -> io::Result<()>
     ensures { PrintsAlways P.meaning p.old p.new result (heap_pieces (names_of_identifiers identifiers.now) (heap_view heap)) }
 {
-    let mut fault = Fault::none();
+    let mut fault = FirstError::none();
     put_heap_type(p, &mut fault, identifiers, heap);
     fault.into_result()
 }
@@ -126,7 +126,7 @@ pub fn write_heap_type<P: Print>(
 #[tactic(auto, unfolding(wasmprinter_spec::specs::Layout::ValTypes::null_ref_pieces, wasmprinter_spec::specs::Layout::Groups::line_group))]
 fn put_null_index<P: Print>(
     p: &mut P,
-    fault: &mut Fault,
+    fault: &mut FirstError,
     identifiers: &Identifiers<'_, '_>,
     index: u32,
 )
@@ -134,18 +134,18 @@ fn put_null_index<P: Print>(
         (null_ref_pieces (names_of_identifiers identifiers.now) (Index index)) }
 {
     put_open(p, fault, "ref");
-    put_gap(p, fault);
+    put_space(p, fault);
     put_word(p, fault, "null");
-    put_gap(p, fault);
+    put_space(p, fault);
     put_heap_type(p, fault, identifiers, HeapType::Index(index));
-    put_shut(p, fault);
+    put_close_paren(p, fault);
 }
 
 /// Writes a nullable reference type: one keyword, or a group if the heap type is a type index.
 #[tactic(auto, unfolding(wasmprinter_spec::specs::Layout::ValTypes::null_ref_pieces))]
 fn put_null_ref<P: Print>(
     p: &mut P,
-    fault: &mut Fault,
+    fault: &mut FirstError,
     identifiers: &Identifiers<'_, '_>,
     heap: HeapType,
 )
@@ -162,7 +162,7 @@ fn put_null_ref<P: Print>(
 #[tactic(auto, unfolding(wasmprinter_spec::specs::Layout::Groups::line_group_gap))]
 fn put_some_ref<P: Print>(
     p: &mut P,
-    fault: &mut Fault,
+    fault: &mut FirstError,
     identifiers: &Identifiers<'_, '_>,
     heap: HeapType,
 )
@@ -171,14 +171,14 @@ fn put_some_ref<P: Print>(
 {
     put_open_gap(p, fault, "ref");
     put_heap_type(p, fault, identifiers, heap);
-    put_shut(p, fault);
+    put_close_paren(p, fault);
 }
 
 /// Writes a reference type.
 #[tactic(auto, unfolding(wasmprinter_spec::specs::Layout::ValTypes::ref_pieces))]
 pub fn put_ref_type<P: Print>(
     p: &mut P,
-    fault: &mut Fault,
+    fault: &mut FirstError,
     identifiers: &Identifiers<'_, '_>,
     ref_type: RefType,
 )
@@ -199,7 +199,7 @@ pub fn write_ref_type<P: Print>(
 ) -> io::Result<()>
     ensures { PrintsAlways P.meaning p.old p.new result (ref_pieces (names_of_identifiers identifiers.now) (ref_view ref_type)) }
 {
-    let mut fault = Fault::none();
+    let mut fault = FirstError::none();
     put_ref_type(p, &mut fault, identifiers, ref_type);
     fault.into_result()
 }
@@ -208,7 +208,7 @@ pub fn write_ref_type<P: Print>(
 #[tactic(auto, unfolding(wasmprinter_spec::specs::Layout::ValTypes::val_pieces))]
 pub fn put_val_type<P: Print>(
     p: &mut P,
-    fault: &mut Fault,
+    fault: &mut FirstError,
     identifiers: &Identifiers<'_, '_>,
     value_type: ValType,
 )
@@ -232,7 +232,7 @@ pub fn write_val_type<P: Print>(
 ) -> io::Result<()>
     ensures { PrintsAlways P.meaning p.old p.new result (val_pieces (names_of_identifiers identifiers.now) (type_view value_type)) }
 {
-    let mut fault = Fault::none();
+    let mut fault = FirstError::none();
     put_val_type(p, &mut fault, identifiers, value_type);
     fault.into_result()
 }
@@ -240,21 +240,21 @@ pub fn write_val_type<P: Print>(
 /// Writes a space and a value type.
 pub(crate) fn put_type<P: Print>(
     p: &mut P,
-    fault: &mut Fault,
+    fault: &mut FirstError,
     identifiers: &Identifiers<'_, '_>,
     value_type: ValType,
 )
     ensures { Marks P.meaning p.old fault.old p.new fault.new
         (list_of_types (names_of_identifiers identifiers.now) (type_view value_type ∷ [])) }
 {
-    put_gap(p, fault);
+    put_space(p, fault);
     put_val_type(p, fault, identifiers, value_type);
 }
 
 /// Writes value types, with a space before each.
 fn put_type_list<P: Print>(
     p: &mut P,
-    fault: &mut Fault,
+    fault: &mut FirstError,
     identifiers: &Identifiers<'_, '_>,
     types: &ValTypes<'_>,
 )
@@ -273,7 +273,7 @@ fn put_type_list<P: Print>(
 #[tactic(auto, unfolding(wasmprinter_spec::specs::Layout::Groups::line_group))]
 pub fn put_group<P: Print>(
     p: &mut P,
-    fault: &mut Fault,
+    fault: &mut FirstError,
     identifiers: &Identifiers<'_, '_>,
     keyword: &str,
     types: &ValTypes<'_>,
@@ -281,10 +281,10 @@ pub fn put_group<P: Print>(
     ensures { Marks P.meaning p.old fault.old p.new fault.new
         (Gap ∷ line_group keyword.now (list_of_types (names_of_identifiers identifiers.now) (types_view types.now))) }
 {
-    put_gap(p, fault);
+    put_space(p, fault);
     put_open(p, fault, keyword);
     put_type_list(p, fault, identifiers, types);
-    put_shut(p, fault);
+    put_close_paren(p, fault);
 }
 
 /// Writes a space and a group of a keyword and types.
@@ -297,7 +297,7 @@ pub fn write_group<P: Print>(
     ensures { PrintsAlways P.meaning p.old p.new result
         (Gap ∷ line_group keyword.now (list_of_types (names_of_identifiers identifiers.now) (types_view types.now))) }
 {
-    let mut fault = Fault::none();
+    let mut fault = FirstError::none();
     put_group(p, &mut fault, identifiers, keyword, types);
     fault.into_result()
 }
@@ -305,7 +305,7 @@ pub fn write_group<P: Print>(
 /// Writes a space and a group of a keyword and types. Writes nothing if there are no types.
 fn put_list_group<P: Print>(
     p: &mut P,
-    fault: &mut Fault,
+    fault: &mut FirstError,
     identifiers: &Identifiers<'_, '_>,
     keyword: &str,
     types: &ValTypes<'_>,
@@ -323,7 +323,7 @@ fn put_list_group<P: Print>(
 #[tactic(auto, unfolding(wasmprinter_spec::specs::Layout::Types::signature_pieces))]
 pub(crate) fn put_signature<P: Print>(
     p: &mut P,
-    fault: &mut Fault,
+    fault: &mut FirstError,
     identifiers: &Identifiers<'_, '_>,
     owner: Option<u64>,
     func_type: &FuncType<'_>,
@@ -345,7 +345,7 @@ pub fn signature<P: Print>(
 ) -> io::Result<()>
     ensures { PrintsAlways P.meaning p.old p.new result (signature_pieces (names_of_identifiers identifiers.now) owner func_type.now) }
 {
-    let mut fault = Fault::none();
+    let mut fault = FirstError::none();
     put_signature(p, &mut fault, identifiers, owner, func_type);
     fault.into_result()
 }

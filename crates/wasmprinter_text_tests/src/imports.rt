@@ -26,7 +26,7 @@ const ALL_KINDS: [u8; 93] = [
 ];
 
 #[test]
-fn numbers_definitions_behind_imports(rt: HostRuntime) -> Result<(), Fail> {
+fn numbers_definitions_after_imports(rt: HostRuntime) -> Result<(), Fail> {
     expect_printed(
         rt.alloc(),
         &ALL_KINDS,

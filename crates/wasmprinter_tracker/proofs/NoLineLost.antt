@@ -16,7 +16,7 @@ abbrev texts_and : List ℕ → List Call → List Call
 texts_and s cs = map (λ b. Text (b ∷ [])) s ++ cs
 
 -- If calls may follow anything, then so may a text followed by these calls.
-texts_fed : (s : List ℕ) (cs : List Call) → ((behind : Bool) → Fed behind cs) → (fed : Bool) → Fed fed (texts_and s cs)
+texts_fed : (s : List ℕ) (cs : List Call) → ((after : Bool) → Fed after cs) → (fed : Bool) → Fed fed (texts_and s cs)
 texts_fed [] cs h fed = h fed
 texts_fed (b ∷ s) cs h fed = texts_fed s cs h false
 
@@ -24,7 +24,7 @@ texts_fed (b ∷ s) cs h fed = texts_fed s cs h false
 -- An empty text has no atom, so the atoms may follow a line feed that the calls do not follow.
 atoms_fed : (fed now : Bool) → (fed ≡ true → now ≡ true) → (cs : List Call) → Fed fed cs → Fed now (atoms cs)
 atoms_fed fed now le [] h = tt
-atoms_fed fed now le (Text s ∷ cs) h = texts_fed s (atoms cs) (λ behind. atoms_fed false behind (λ e. absurd (true≢false (sym e))) cs h) now
+atoms_fed fed now le (Text s ∷ cs) h = texts_fed s (atoms cs) (λ after. atoms_fed false after (λ e. absurd (true≢false (sym e))) cs h) now
 atoms_fed fed now le (Newline ∷ cs) h = atoms_fed true true (λ e. e) cs h
 atoms_fed fed now le (Line place ∷ cs) h = (le h.0, atoms_fed false false (λ e. e) cs h.1)
 atoms_fed fed now le (Start style ∷ cs) h = atoms_fed false false (λ e. e) cs h
@@ -39,9 +39,9 @@ first_fed fed (c ∷ k) l h = first_fed false k l h
 
 -- If `Fed` holds for a text followed by calls, then it holds for the calls. They directly follow a line feed only
 -- if the text is empty.
-behind_texts : (fed : Bool) (s : List ℕ) (cs : List Call) → Fed fed (texts_and s cs) → (behind : Bool) × Fed behind cs
-behind_texts fed [] cs h = (fed, h)
-behind_texts fed (b ∷ s) cs h = behind_texts false s cs h
+after_texts : (fed : Bool) (s : List ℕ) (cs : List Call) → Fed fed (texts_and s cs) → (after : Bool) × Fed after cs
+after_texts fed [] cs h = (fed, h)
+after_texts fed (b ∷ s) cs h = after_texts false s cs h
 
 -- ---- a run
 
@@ -59,7 +59,7 @@ record Keeps (t : Tracked) (cs : List Call) : Type 0 where
 
 after_call : (t : Tracked) (c : Call) (cs : List Call) → Keeps t (calls_of_bytes c ++ cs) → Keeps (tracked_after t c) cs
 after_call t (Text s) cs h =
-    let behind = behind_texts h.fed s cs h.follow in record { fed = behind.0; ready = λ e. refl; kept = h.kept; follow = behind.1 }
+    let after = after_texts h.fed s cs h.follow in record { fed = after.0; ready = λ e. refl; kept = h.kept; follow = after.1 }
 after_call t Newline cs h = record { fed = true; ready = λ e. refl; kept = h.kept; follow = h.follow }
 after_call t (Line place) cs h = record {
   fed = false;

@@ -8,4 +8,4 @@ mod tracker;
 
 pub use laws::no_line_is_lost;
 pub use lines::{LineStart, OffsetsAndLines};
-pub use tracker::Tracker;
+pub use tracker::LineTracker;

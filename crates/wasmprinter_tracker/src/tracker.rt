@@ -16,7 +16,7 @@ use wasmprinter_print::Print;
 /// nothing: the line waits for its entry until the next call that writes text. If another line starts before then,
 /// that line is lost, and all later calls that write text fail as if out of memory.
 #[derive(Drop)]
-pub struct Tracker {
+pub struct LineTracker {
     text: String,
     /// The lines that have entries, in order.
     starts: Vec<LineStart>,
@@ -26,7 +26,7 @@ pub struct Tracker {
     lost: bool,
 }
 
-impl Model for Tracker {
+impl Model for LineTracker {
     ghost use Rattle.std.specs.String.{string_bytes};
     ghost use Rattle.std.specs.Prelude.{◌++◌, length};
     ghost use Rattle.wasmprinter_tracker.specs.Tracked.{Tracked, waiting_start, tracked_of};
@@ -46,7 +46,7 @@ fn has_room(text: &String, piece: &str) -> bool
     piece.len() <= text.capacity() - text.len()
 }
 
-impl Tracker {
+impl LineTracker {
     ghost use Rattle.std.specs.Prelude.{◌≡◌, false, [], ◌∷◌, OnOk, OnErr, IfOk};
     ghost use Rattle.std.specs.String.{string_bytes};
     ghost use Rattle.wasmprinter_spec.specs.Call.{Text};
@@ -55,10 +55,10 @@ impl Tracker {
     ghost use Rattle.wasmprinter_tracker.specs.Cuts.{lines_at_starts, IsCuttable};
 
     /// Returns a tracker that appends to `text`, without lines. Allocates no memory.
-    pub fn new(alloc: Global, text: String) -> Tracker
+    pub fn new(alloc: Global, text: String) -> LineTracker
         ensures { result ≡ without_lines (string_bytes text) }
     {
-        Tracker {
+        LineTracker {
             text,
             starts: Vec::new(alloc),
             waiting: None,
@@ -120,7 +120,7 @@ impl Tracker {
         ensures kept { OnOk result.1 (self.lost ≡ false) }
     {
         let entered = self.enter();
-        let Tracker {
+        let LineTracker {
             text,
             starts,
             waiting: _,
@@ -133,7 +133,7 @@ impl Tracker {
     }
 }
 
-impl Print for Tracker {
+impl Print for LineTracker {
     ghost meaning = { tracked_meaning };
 
     ghost colors = { λ _. false };

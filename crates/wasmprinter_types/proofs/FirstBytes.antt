@@ -3,7 +3,7 @@ use Rattle.std.proofs.Common.{◌≡◌, ℕ, ◌<◌, List, [], ◌∷◌, leng
 use Rattle.std.specs.Prelude.{ℤ, slice_get}
 use Rattle.std.proofs.lemmas.Bool.{lt-ltb}
 use Rattle.wasmprinter_spec.specs.Grammar.{Input, input, Grammar, ◌>>=◌, some_is}
-use Rattle.wasmprinter_spec.specs.FirstByte.{behind_first_byte, shorter, by_first_byte, by_first_byte_of}
+use Rattle.wasmprinter_spec.specs.FirstByte.{after_first_byte, shorter, by_first_byte, by_first_byte_of}
 use Rattle.wasmprinter_spec.specs.Leb.{IsSigned}
 use Rattle.wasmprinter_spec.specs.Binary.ValTypes.{signed_index}
 
@@ -32,8 +32,8 @@ index_takes_byte at x e =
     omega (arith, ap length s.parts, length-append s.text x.1.bytes, some_signed 33 s.text number signed)
 
 -- A value that is selected by a byte before it takes at least that byte.
-pub announced_takes_byte : {A : Type 0} (h : ℕ → Grammar A) (at : Input) (x : A × Input) → (behind_first_byte h).parse at ≡ Some x → length x.1.bytes < length at.bytes
+pub announced_takes_byte : {A : Type 0} (h : ℕ → Grammar A) (at : Input) (x : A × Input) → (after_first_byte h).parse at ≡ Some x → length x.1.bytes < length at.bytes
 announced_takes_byte h at x e =
-    let s = (behind_first_byte h).sound at x e in
-    let (value, kept, (front, behind, joined, byte_spelled, spelled)) = s.spelled in
-    omega (arith, ap length s.parts, length-append s.text x.1.bytes, ap length joined, length-append front behind, ap length byte_spelled)
+    let s = (after_first_byte h).sound at x e in
+    let (value, kept, (front, after, joined, byte_spelled, spelled)) = s.spelled in
+    omega (arith, ap length s.parts, length-append s.text x.1.bytes, ap length joined, length-append front after, ap length byte_spelled)

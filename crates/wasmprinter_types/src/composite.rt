@@ -4,8 +4,8 @@ ghost use Rattle.std.specs.Prelude.{◌≡◌, ◌≤◌, length, option_map};
 ghost use Rattle.wasmprinter_spec.specs.Name.{vec};
 ghost use Rattle.wasmprinter_spec.specs.Repeated.{items_at};
 ghost use Rattle.wasmprinter_spec.specs.Types.{func_type_of};
-ghost use Rattle.wasmprinter_spec.specs.Binary.Types.{packed_type_of, storage_type, mutability, field, signature, composite_behind};
-ghost use Rattle.wasmprinter_spec.specs.Binary.Types.{composite as composite_grammar, sub_type_parts, sub_type_behind, subtype};
+ghost use Rattle.wasmprinter_spec.specs.Binary.Types.{packed_type_of, storage_type, mutability, field, signature, composite_after};
+ghost use Rattle.wasmprinter_spec.specs.Binary.Types.{composite as composite_grammar, sub_type_parts, sub_type_after, subtype};
 ghost use Rattle.wasmprinter_bytes.specs.Reads.{Reads, IsWithin, end_of};
 ghost use Rattle.wasmprinter_types.specs.ValTypes.{types_view};
 ghost use Rattle.wasmprinter_types.specs.Types.{storage_view, field_view, field_at, fields_view, composite_view};
@@ -13,7 +13,7 @@ ghost use Rattle.wasmprinter_types.specs.Types.{storage_view, field_view, field_
 use crate::val_types::{First, ValType, ValTypes, read_types};
 use std::marker::Model;
 use wasmprinter_bytes::bytes::Cursor;
-use wasmprinter_bytes::lists::{Items, Spelled, SpelledIn, no_items, read_items};
+use wasmprinter_bytes::lists::{Decode, DecodeIn, Items, no_items, read_items};
 use wasmprinter_error::Malformed;
 
 /// The byte before the field type of an array type.
@@ -122,7 +122,7 @@ impl StorageType {
         let first = First::read(cursor)?;
         match StorageType::of_byte(first.byte) {
             Some(packed) => Ok(packed),
-            None => Ok(StorageType::Val(ValType::read_behind(first, cursor)?)),
+            None => Ok(StorageType::Val(ValType::read_after(first, cursor)?)),
         }
     }
 }
@@ -158,7 +158,7 @@ impl FieldType {
     }
 }
 
-impl Spelled for FieldType {
+impl Decode for FieldType {
     ghost parse = { field_at };
 
     fn read(cursor: &mut Cursor) -> Result<FieldType, Malformed> {
@@ -214,9 +214,9 @@ impl<'a> FuncType<'a> {
 
 impl<'a> CompositeType<'a> {
     /// Reads the rest of a composite type, after its first byte.
-    fn read_behind(first: First, cursor: &mut Cursor<'a>) -> Result<Self, Malformed>
+    fn read_after(first: First, cursor: &mut Cursor<'a>) -> Result<Self, Malformed>
         requires { first.place ≤ end_of cursor.now }
-        ensures reads { Reads composite_view (composite_behind first.byte).parse cursor.old result cursor.new }
+        ensures reads { Reads composite_view (composite_after first.byte).parse cursor.old result cursor.new }
         ensures within { IsWithin cursor.old result }
         ensures end { end_of cursor.new ≡ end_of cursor.old }
     {
@@ -235,7 +235,7 @@ impl<'a> CompositeType<'a> {
         ensures end { end_of cursor.new ≡ end_of cursor.old }
     {
         let first = First::read(cursor)?;
-        CompositeType::read_behind(first, cursor)
+        CompositeType::read_after(first, cursor)
     }
 }
 
@@ -256,9 +256,9 @@ impl<'a> SubType<'a> {
     }
 
     /// Reads the rest of a subtype, after its first byte.
-    fn read_behind(first: First, cursor: &mut Cursor<'a>) -> Result<Self, Malformed>
+    fn read_after(first: First, cursor: &mut Cursor<'a>) -> Result<Self, Malformed>
         requires { first.place ≤ end_of cursor.now }
-        ensures reads { Reads (λ t. t) (sub_type_behind first.byte).parse cursor.old result cursor.new }
+        ensures reads { Reads (λ t. t) (sub_type_after first.byte).parse cursor.old result cursor.new }
         ensures within { IsWithin cursor.old result }
         ensures end { end_of cursor.new ≡ end_of cursor.old }
     {
@@ -268,7 +268,7 @@ impl<'a> SubType<'a> {
             _ => Ok(SubType {
                 is_final: true,
                 supertypes: no_items(cursor),
-                composite: CompositeType::read_behind(first, cursor)?,
+                composite: CompositeType::read_after(first, cursor)?,
             }),
         }
     }
@@ -305,12 +305,12 @@ impl<'a> SubType<'a> {
     }
 }
 
-impl<'a> SpelledIn<'a> for SubType<'a> {
+impl<'a> DecodeIn<'a> for SubType<'a> {
     ghost parse = { subtype.parse };
 
     fn read(cursor: &mut Cursor<'a>) -> Result<SubType<'a>, Malformed> {
         let first = First::read(cursor)?;
-        SubType::read_behind(first, cursor)
+        SubType::read_after(first, cursor)
     }
 }
 

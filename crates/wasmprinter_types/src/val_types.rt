@@ -4,12 +4,12 @@ ghost use Rattle.std.specs.Prelude.{◌≡◌, ◌≤◌, ◌^◌, ◌<ℤ◌, p
 ghost use Rattle.wasmprinter_spec.specs.Grammar.{byte as byte_grammar};
 ghost use Rattle.wasmprinter_spec.specs.Name.{vec};
 ghost use Rattle.wasmprinter_spec.specs.Binary.ValTypes.{abstract_heap_of, number_type_of, non_negative, signed_index, heap_type};
-ghost use Rattle.wasmprinter_spec.specs.Binary.ValTypes.{ref_type_behind, reference_type, val_type_behind, val_type, begins_val_type};
+ghost use Rattle.wasmprinter_spec.specs.Binary.ValTypes.{ref_type_after, reference_type, val_type_after, val_type, begins_val_type};
 ghost use Rattle.wasmprinter_bytes.specs.Reads.{Reads, IsWithin, end_of};
 ghost use Rattle.wasmprinter_types.specs.ValTypes.{heap_view, ref_view, type_view, types_view, type_at};
 
 use wasmprinter_bytes::bytes::Cursor;
-use wasmprinter_bytes::lists::{Items, Spelled, read_items};
+use wasmprinter_bytes::lists::{Decode, Items, read_items};
 use wasmprinter_error::Malformed;
 
 /// The byte before the heap type of a reference that can't be null.
@@ -184,9 +184,9 @@ pub fn read_heap_type(cursor: &mut Cursor) -> Result<HeapType, Malformed>
 
 impl RefType {
     /// Reads the rest of a reference type, after its first byte.
-    fn read_behind(first: First, cursor: &mut Cursor) -> Result<Self, Malformed>
+    fn read_after(first: First, cursor: &mut Cursor) -> Result<Self, Malformed>
         requires { first.place ≤ end_of cursor.now }
-        ensures reads { Reads ref_view (ref_type_behind first.byte).parse cursor.old result cursor.new }
+        ensures reads { Reads ref_view (ref_type_after first.byte).parse cursor.old result cursor.new }
         ensures within { IsWithin cursor.old result }
         ensures end { end_of cursor.new ≡ end_of cursor.old }
     {
@@ -213,7 +213,7 @@ pub fn read_ref_type(cursor: &mut Cursor) -> Result<RefType, Malformed>
     ensures end { end_of cursor.new ≡ end_of cursor.old }
 {
     let first = First::read(cursor)?;
-    RefType::read_behind(first, cursor)
+    RefType::read_after(first, cursor)
 }
 
 impl ValType {
@@ -232,15 +232,15 @@ impl ValType {
     }
 
     /// Reads the rest of a value type, after its first byte.
-    pub(crate) fn read_behind(first: First, cursor: &mut Cursor) -> Result<Self, Malformed>
+    pub(crate) fn read_after(first: First, cursor: &mut Cursor) -> Result<Self, Malformed>
         requires { first.place ≤ end_of cursor.now }
-        ensures reads { Reads type_view (val_type_behind first.byte).parse cursor.old result cursor.new }
+        ensures reads { Reads type_view (val_type_after first.byte).parse cursor.old result cursor.new }
         ensures within { IsWithin cursor.old result }
         ensures end { end_of cursor.new ≡ end_of cursor.old }
     {
         match ValType::of_byte(first.byte) {
             Some(val_type) => Ok(val_type),
-            None => Ok(ValType::Ref(RefType::read_behind(first, cursor)?)),
+            None => Ok(ValType::Ref(RefType::read_after(first, cursor)?)),
         }
     }
 }
@@ -266,10 +266,10 @@ pub fn read_type(cursor: &mut Cursor) -> Result<ValType, Malformed>
     ensures end { end_of cursor.new ≡ end_of cursor.old }
 {
     let first = First::read(cursor)?;
-    ValType::read_behind(first, cursor)
+    ValType::read_after(first, cursor)
 }
 
-impl Spelled for ValType {
+impl Decode for ValType {
     ghost parse = { type_at };
 
     fn read(cursor: &mut Cursor) -> Result<ValType, Malformed> {

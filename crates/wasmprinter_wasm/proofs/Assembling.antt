@@ -60,8 +60,8 @@ alike : {ts ts' : List (Placed TypeGroup)}
     {n n' : ℕ}
     → ts ≡ ts' → is ≡ is' → us ≡ us' → ms ≡ ms' → gs ≡ gs' → vs ≡ vs' → es ≡ es' → f ≡ f' → ss ≡ ss' → fs ≡ fs' → ds ≡ ds' → cs ≡ cs' → n ≡ n'
     → ◌≡◌ {A = PlacedModule}
-    (record { types = ts; imports = is; tables = us; memories = ms; tags = gs; globals = vs; exports = es; start = f; elements = ss; functions = fs; datas = ds; customs = cs; size = n })
-    (record { types = ts'; imports = is'; tables = us'; memories = ms'; tags = gs'; globals = vs'; exports = es'; start = f'; elements = ss'; functions = fs'; datas = ds'; customs = cs'; size = n' })
+    (record { types = ts; imports = is; tables = us; memories = ms; tags = gs; globals = vs; exports = es; start = f; elements = ss; functions = fs; data_segments = ds; customs = cs; size = n })
+    (record { types = ts'; imports = is'; tables = us'; memories = ms'; tags = gs'; globals = vs'; exports = es'; start = f'; elements = ss'; functions = fs'; data_segments = ds'; customs = cs'; size = n' })
 alike a b c d h i j k l m n o p = rw (a, b, c, d, h, i, j, k, l, m, n, o, p) refl
 
 -- If the number of locals in each body is within the limit, then so is that in each function.
@@ -98,9 +98,9 @@ module _ (bytes pre : List ℕ) (at : Input) (first : preamble.parse (input 0 by
       let read = binary.complete (input 0 bytes) m s.spelled in
       let ((front, all), parsed, made) =
       bind_some ((seq_to_end preamble (until_end section)).parse (input 0 bytes)) (λ x. module_of_sections size x.1) m read in
-      let ((begun, mid), begun_parsed, behind) =
+      let ((begun, mid), begun_parsed, after) =
       bind_some (preamble.parse (input 0 bytes)) (λ a. sections_at a.1 >>= λ ss. Some (a.0, ss)) (front, all) parsed in
-      let (ss, ss_parsed, whole) = bind_some (sections_at mid) (λ ss. Some (begun, ss)) (front, all) behind in
+      let (ss, ss_parsed, whole) = bind_some (sections_at mid) (λ ss. Some (begun, ss)) (front, all) after in
       let there : mid ≡ at = ap (λ (x : List ℕ × Input). x.1) (some_is (begun, mid) (pre, at) (sym begun_parsed ∙ first)) in
       let same : ss ≡ all = ap (λ (x : List ℕ × List Section). x.1) (some_is (begun, ss) (front, all) whole) in
       assembled_of ss m (ap sections_at (sym there) ∙ ss_parsed) (ap (module_of_sections size) same ∙ made)
@@ -125,7 +125,7 @@ module _ (bytes pre : List ℕ) (at : Input) (first : preamble.parse (input 0 by
       let globals : length m.globals ≡ length (globals_in s.sections) = ap (λ (x : PlacedModule). length x.globals) (sym s.is) in
       let exports : length m.exports ≡ length (exports_in s.sections) = ap (λ (x : PlacedModule). length x.exports) (sym s.is) in
       let elements : length m.elements ≡ length (elements_in s.sections) = ap (λ (x : PlacedModule). length x.elements) (sym s.is) in
-      let datas : length m.datas ≡ length (datas_in s.sections) = ap (λ (x : PlacedModule). length x.datas) (sym s.is) in
+      let data_segments : length m.data_segments ≡ length (datas_in s.sections) = ap (λ (x : PlacedModule). length x.data_segments) (sym s.is) in
       let customs : length m.customs ≡ length (customs_in s.sections) = ap (λ (x : PlacedModule). length x.customs) (sym s.is) in
       let bodies = paired_length (type_indices_in s.sections) (bodies_in s.sections) s.functions s.pairs in
       omega (arith, (functions_are m s).count)
@@ -208,7 +208,7 @@ module _ (bytes pre : List ℕ) (at : Input) (first : preamble.parse (input 0 by
         start = g.start;
         elements = g.elements;
         functions = functions_of g.type_indices g.bodies;
-        datas = g.datas;
+        data_segments = g.data_segments;
         customs = g.customs;
         size = length bytes;
       }

@@ -18,17 +18,17 @@ use Rattle.wasmprinter_entries.proofs.Parts.{sized, sized_is, sized_none, sized_
 use Rattle.wasmprinter_entries.proofs.LaterPlaces.{many_in_part, IsLater, later_none, later_more, many_later, empty_later, empty_in_part}
 
 -- An id and a size were read, and that many bytes cut out.
-module _ (old behind mid part new : Input) (id size : ℕ) (id_read : byte.parse old ≡ Some (id, behind)) (size_read : u32.parse behind ≡ Some (size, mid))
+module _ (old after_id mid part new : Input) (id size : ℕ) (id_read : byte.parse old ≡ Some (id, after_id)) (size_read : u32.parse after_id ≡ Some (size, mid))
     (cut : front_at size mid ≡ Some (part.bytes, new)) (begins : part.place ≡ mid.place) where
   -- The size comes after the id.
-  later : IsLater old behind
-  later = later_more byte old old behind id id_read (later_none old)
+  later : IsLater old after_id
+  later = later_more byte old old after_id id id_read (later_none old)
 
   -- A place that is not after the end of the part is not after the end of the whole.
   within : (place : ℕ) → place ≤ end_of part → place ≤ end_of old
   within place le =
-      let p = part_within behind mid part new size size_read cut begins in
-      omega (arith, ap length later.parts, later.begins, length-append later.text behind.bytes)
+      let p = part_within after_id mid part new size size_read cut begins in
+      omega (arith, ap length later.parts, later.begins, length-append later.text after_id.bytes)
 
   -- If no kind has the id, then no section is read.
   no_section : kind_of id ≡ None → section.parse old ≡ None
@@ -45,30 +45,30 @@ module _ (old behind mid part new : Input) (id size : ℕ) (id_read : byte.parse
     with_kind r = r >>= λ b. Some ((kind, b.0), b.1)
 
     -- The section, paired with its kind and then without it.
-    abbrev behind_kind : Option (Section × Input) → Option (Section × Input)
-    behind_kind r = with_kind r >>= λ ((_, s), rest). Some (s, rest)
+    abbrev after_kind : Option (Section × Input) → Option (Section × Input)
+    after_kind r = with_kind r >>= λ ((_, s), rest). Some (s, rest)
 
     -- Pairing a section with its kind and dropping the kind again changes nothing.
-    regroup : (r : Option (Section × Input)) → behind_kind r ≡ r
+    regroup : (r : Option (Section × Input)) → after_kind r ≡ r
     regroup None = refl
     regroup (Some a) = refl
 
     -- Reading a section is reading its sized content.
-    into : section.parse old ≡ made ((sized behind mid part new size size_read cut begins (content kind)).parse behind)
-    into = rw (id_read, is) (regroup (made ((sized behind mid part new size size_read cut begins (content kind)).parse behind)))
+    into : section.parse old ≡ made ((sized after_id mid part new size size_read cut begins (content kind)).parse after_id)
+    into = rw (id_read, is) (regroup (made ((sized after_id mid part new size size_read cut begins (content kind)).parse after_id)))
 
     -- If the part is read as content, then the section with this content is read.
     section_read : (c : Content kind) → (content kind).parse part ≡ Some c → section.parse old ≡ Some (holds kind c, new)
-    section_read c e = into ∙ ap made (sized_is behind mid part new size size_read cut begins (content kind)) ∙ rw e refl
+    section_read c e = into ∙ ap made (sized_is after_id mid part new size size_read cut begins (content kind)) ∙ rw e refl
 
     -- If a section is read, then its content is read from the part.
     section_content : (x : Section × Input) → section.parse old ≡ Some x → (c : Content kind) × ((content kind).parse part ≡ Some c) × (holds kind c ≡ x.0)
     section_content x r =
         let (((front, c), after), parsed, given) =
-        bind_some ((sized behind mid part new size size_read cut begins (content kind)).parse behind)
+        bind_some ((sized after_id mid part new size size_read cut begins (content kind)).parse after_id)
         (λ ((_, c), rest). Some (holds kind c, rest)) x (sym into ∙ r) in (
           c,
-          sized_some behind mid part new size size_read cut begins (content kind) ((front, c), after) parsed,
+          sized_some after_id mid part new size size_read cut begins (content kind) ((front, c), after) parsed,
           ap (λ (y : Section × Input). y.0) (some_is (holds kind c, after) x given),
         )
 
@@ -79,10 +79,10 @@ module _ (old behind mid part new : Input) (id size : ℕ) (id_read : byte.parse
     -- A section of the kind begins here, with the count.
     begun : (count : ℕ) → CountStands part count → BeginsSection old kind count
     begun count c =
-        let first = byte.sound old (id, behind) id_read in
-        let (size_text, split, part_begins, size_spelled) = old_parts behind mid part new size size_read cut begins in
+        let first = byte.sound old (id, after_id) id_read in
+        let (size_text, split, part_begins, size_spelled) = old_parts after_id mid part new size size_read cut begins in
         let n = u32.sound part (count, c.after) c.counted in
-        let head : old.bytes ≡ id ∷ behind.bytes = first.parts ∙ ap (λ (bs : List ℕ). bs ++ behind.bytes) first.spelled in
+        let head : old.bytes ≡ id ∷ after_id.bytes = first.parts ∙ ap (λ (bs : List ℕ). bs ++ after_id.bytes) first.spelled in
         let front : part.bytes ++ new.bytes ≡ n.text ++ (c.after.bytes ++ new.bytes) = ap (λ (bs : List ℕ). bs ++ new.bytes) n.parts ∙ append_assoc n.text c.after.bytes new.bytes in
         record {
           before = [];
@@ -90,7 +90,7 @@ module _ (old behind mid part new : Input) (id size : ℕ) (id_read : byte.parse
           of_kind = is;
           size_text = size_text;
           count_text = n.text;
-          behind = c.after.bytes ++ new.bytes;
+          after = c.after.bytes ++ new.bytes;
           parts = head ∙ ap (λ (bs : List ℕ). id ∷ bs) (split ∙ ap (λ (bs : List ℕ). size_text ++ bs) front);
           size = size;
           sized = size_spelled;
@@ -100,18 +100,18 @@ module _ (old behind mid part new : Input) (id size : ℕ) (id_read : byte.parse
     -- A true reason for an error of the content is a true reason for that error of the section.
     kind_fault : (f : Error) → HasReason (content_reasons kind part) f → HasReason (section_reasons old) f
     kind_fault = reason_implied (content_reasons kind part) (section_reasons old) (record {
-      malformed = λ place h. (into ∙ ap made (sized_none behind mid part new size size_read cut begins (content kind) h.0), within place h.1);
+      malformed = λ place h. (into ∙ ap made (sized_none after_id mid part new size size_read cut begins (content kind) h.0), within place h.1);
       component = λ h. h;
       locals = λ place h.
-          let (size_text, split, part_begins, size_spelled) = old_parts behind mid part new size size_read cut begins in
-          let there = many_in_part behind part size_text new.bytes place split part_begins h.0 in
-          (many_later old behind place later there, of_section (HasOver place) h.1);
+          let (size_text, split, part_begins, size_spelled) = old_parts after_id mid part new size size_read cut begins in
+          let there = many_in_part after_id part size_text new.bytes place split part_begins h.0 in
+          (many_later old after_id place later there, of_section (HasOver place) h.1);
       functions = λ count (of_functions, stands, many, counted).
           (subst (λ (k : Kind). BeginsSection old k count) of_functions (begun count stands), many, of_section (HasCount count) counted);
       tables = λ place h.
-          let (size_text, split, part_begins, size_spelled) = old_parts behind mid part new size size_read cut begins in
-          let there = empty_in_part behind part size_text new.bytes place split part_begins h.0 in
-          (empty_later old behind place later there, of_section (HasEmpty place) h.1);
+          let (size_text, split, part_begins, size_spelled) = old_parts after_id mid part new size size_read cut begins in
+          let there = empty_in_part after_id part size_text new.bytes place split part_begins h.0 in
+          (empty_later old after_id place later there, of_section (HasEmpty place) h.1);
       memory = λ (listed, stands, some). (
         record {
           kind = kind;

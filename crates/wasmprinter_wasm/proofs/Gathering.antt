@@ -2,7 +2,7 @@
 use Rattle.std.proofs.Common.{◌≡◌, ℕ, ◌<◌, inl, inr, true, false, List, [], ◌∷◌, ◌++◌, length, Option, Some, None, refl, sym, ap, ap₂, subst, ◌∙◌, arith, append_assoc, append-nil, length-append}
 use Rattle.std.specs.List.{AllByRecursion}
 use Rattle.wasmprinter_spec.specs.Grammar.{Input, bind_some, some_is}
-use Rattle.wasmprinter_spec.specs.Sections.{Kind, CustomSection, FunctionSection, Section, holds, section, section_kind, rank, follows, rank_behind, are_above, place_behind}
+use Rattle.wasmprinter_spec.specs.Sections.{Kind, CustomSection, FunctionSection, Section, holds, section, section_kind, rank, follows, rank_after, are_above, place_after}
 use Rattle.wasmprinter_spec.specs.Binary.{type_indices_in, tables_in, bodies_in}
 use Rattle.wasmprinter_spec.proofs.Ordered.{last_rank, last_rank_push, above_push, above_midst}
 use Rattle.wasmprinter_bytes.specs.Reads.{end_of}
@@ -21,8 +21,8 @@ use Rattle.wasmprinter_wasm.proofs.OrderedSections.{custom_kind, last_place, las
 pub takes_byte : (at : Input) (x : Section × Input) → section.parse at ≡ Some x → length x.1.bytes < length at.bytes
 takes_byte at x r =
     let s = section.sound at x r in
-    let (pair, kept, (front, behind, joined, (id, of_kind, id_spelled), spelled)) = s.spelled in
-    omega (arith, ap length s.parts, length-append s.text x.1.bytes, ap length joined, length-append front behind, ap length id_spelled)
+    let (pair, kept, (front, after, joined, (id, of_kind, id_spelled), spelled)) = s.spelled in
+    omega (arith, ap length s.parts, length-append s.text x.1.bytes, ap length joined, length-append front after, ap length id_spelled)
 
 -- The invariant of the loop: the sections from `start` to `at` were read, and `g` has their contents.
 pub record Gathering (start at : Input) (g : Gathered) : Type 0 where
@@ -31,7 +31,7 @@ pub record Gathering (start at : Input) (g : Gathered) : Type 0 where
   pub rise : are_above 0 sections ≡ true
   pub small : AllByRecursion IsSmall sections
   pub rank : g.rank ≡ last_rank 0 sections
-  pub behind : g.behind ≡ last_place None sections
+  pub after : g.after ≡ last_place None sections
   pub held : IsHeld g sections
   pub later : IsLater start at
   pub ends : end_of at ≡ end_of start
@@ -49,7 +49,7 @@ gathering_none at g same = record {
   rise = refl;
   small = tt;
   rank = ap (λ (x : Gathered). x.rank) same;
-  behind = ap (λ (x : Gathered). x.behind) same;
+  after = ap (λ (x : Gathered). x.after) same;
   held = λ kind. ap (gathered_items kind) same ∙ kept_none kind;
   later = later_none at;
   ends = refl;
@@ -78,10 +78,10 @@ module _ (start at after : Input) (g : Gathered) (s : Section) (read : section.p
     is = one_more;
     rise = above_push 0 k.sections s k.rise (ap (λ (r : ℕ). follows r (rank (section_kind s))) (sym k.rank) ∙ on);
     small = small-push k.sections s k.small small;
-    rank = ap (λ (x : Gathered). x.rank) same ∙ ap (λ (r : ℕ). rank_behind r (rank (section_kind s))) k.rank ∙ sym (last_rank_push 0 k.sections s);
-    behind = ap (λ (x : Gathered). x.behind) same ∙ ap (λ (last : Option Kind). place_behind last s) k.behind ∙ sym (last_place_push None k.sections s);
+    rank = ap (λ (x : Gathered). x.rank) same ∙ ap (λ (r : ℕ). rank_after r (rank (section_kind s))) k.rank ∙ sym (last_rank_push 0 k.sections s);
+    after = ap (λ (x : Gathered). x.after) same ∙ ap (λ (last : Option Kind). place_after last s) k.after ∙ sym (last_place_push None k.sections s);
     held = λ kind.
-        ap (gathered_items kind) same ∙ kept_added kind g s ∙ ap₂ (λ (last : Option Kind) (c : Kept kind). kept_with kind last c s) k.behind (k.held kind)
+        ap (gathered_items kind) same ∙ kept_added kind g s ∙ ap₂ (λ (last : Option Kind) (c : Kept kind). kept_with kind last c s) k.after (k.held kind)
         ∙ sym (kept_push kind k.sections s);
     later = later_more section start at after s read k.later;
     ends = ends ∙ k.ends;

@@ -29,7 +29,7 @@ use Rattle.wasmprinter_wasm.specs.Gathering.{Gathered, IsHeld, sections_at}
 -- A number that bytes encode in `bits` bits is below 2 ^ `bits`.
 unsigned_below : (text : List ℕ) (bits n : ℕ) → AreBytes text → IsUnsigned bits text n → n < 2 ^ bits
 unsigned_below [] bits n all s = absurd s
-unsigned_below (b ∷ bs) bits n all (inl (last, fits, none_behind, is)) = omega (arith, fits, is)
+unsigned_below (b ∷ bs) bits n all (inl (last, fits, none_after, is)) = omega (arith, fits, is)
 unsigned_below (b ∷ bs) bits n all (inr (more, has_room, high, joined, spelled)) =
     let below : high < 2 ^ (bits - 7) = unsigned_below bs (bits - 7) high all.1 spelled in
     omega (arith, joined_fits bits b high has_room all.0 below, joined)
@@ -37,8 +37,8 @@ unsigned_below (b ∷ bs) bits n all (inr (more, has_room, high, joined, spelled
 -- A list has as many items as its count says, so fewer than 2 ^ 32.
 vec_listed : {A : Type 0} (g : Grammar A) (p : ℕ) (text : List ℕ) (xs : List A) → AreBytes text → (vec g).spells p text xs → length xs < 2 ^ 32
 vec_listed g p text xs all s =
-    let ((count, items), kept, (front, behind, joined, count_spelled, (many, spelled))) = s in
-    let apart = all_parts (λ b. b < 256) front behind (subst AreBytes joined all) in
+    let ((count, items), kept, (front, after, joined, count_spelled, (many, spelled))) = s in
+    let apart = all_parts (λ b. b < 256) front after (subst AreBytes joined all) in
     let same : length xs ≡ count = ap length (sym (some_is items xs kept)) ∙ many in
     omega (arith, same, unsigned_below front 32 count apart.0 count_spelled)
 
@@ -66,20 +66,20 @@ content_listed DataSection p text c all s = vec_listed (value_with_place segment
 -- A section has fewer than 2 ^ 32 items.
 section_listed : (p : ℕ) (text : List ℕ) (s : Section) → AreBytes text → section.spells p text s → IsListed s
 section_listed p text s all spelled =
-    let ((kind, own), kept, (id_text, behind_id, joined, kind_spelled, sized)) = spelled in
-    let ((size, value), made, (size_text, behind_size, split, size_spelled, (fills, value_spelled))) = sized in
-    let id_apart = all_parts (λ b. b < 256) id_text behind_id (subst AreBytes joined all) in
-    let size_apart = all_parts (λ b. b < 256) size_text behind_size (subst AreBytes split id_apart.1) in
+    let ((kind, own), kept, (id_text, after_id, joined, kind_spelled, sized)) = spelled in
+    let ((size, value), made, (size_text, after_size, split, size_spelled, (fills, value_spelled))) = sized in
+    let id_apart = all_parts (λ b. b < 256) id_text after_id (subst AreBytes joined all) in
+    let size_apart = all_parts (λ b. b < 256) size_text after_size (subst AreBytes split id_apart.1) in
     let is : holds kind value ≡ s = some_is (holds kind value) own made ∙ some_is own s kept in
-    subst IsListed is (content_listed kind (p + length id_text + length size_text) behind_size value size_apart.1 value_spelled)
+    subst IsListed is (content_listed kind (p + length id_text + length size_text) after_size value size_apart.1 value_spelled)
 
 -- Each of several consecutive sections has fewer than 2 ^ 32 items.
 entries_listed : (p : ℕ) (text : List ℕ) (ss : List Section) → AreBytes text → Entries section p text ss → AllByRecursion IsListed ss
 entries_listed p text [] all spelled = tt
 entries_listed p text (s ∷ ss) all spelled =
-    let (front, behind, joined, takes, first_spelled, others_spelled) = spelled in
-    let apart = all_parts (λ b. b < 256) front behind (subst AreBytes joined all) in
-    (section_listed p front s apart.0 first_spelled, entries_listed (p + length front) behind ss apart.1 others_spelled)
+    let (front, after, joined, takes, first_spelled, others_spelled) = spelled in
+    let apart = all_parts (λ b. b < 256) front after (subst AreBytes joined all) in
+    (section_listed p front s apart.0 first_spelled, entries_listed (p + length front) after ss apart.1 others_spelled)
 
 -- Each section up to the end of the bytes has fewer than 2 ^ 32 items.
 pub sections_listed : (at : Input) (ss : List Section) → sections_at at ≡ Some ss → AreBytes at.bytes → AllByRecursion IsListed ss

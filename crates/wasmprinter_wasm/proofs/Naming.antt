@@ -27,9 +27,9 @@ front_nil [] ys e = refl
 front_nil (x ∷ xs) ys e = absurd cc
 
 -- If two lists together are empty, then the second is empty.
-behind_nil : (xs ys : List Entry) → xs ++ ys ≡ [] → ys ≡ []
-behind_nil [] ys e = e
-behind_nil (x ∷ xs) ys e = absurd cc
+after_nil : (xs ys : List Entry) → xs ++ ys ≡ [] → ys ≡ []
+after_nil [] ys e = e
+after_nil (x ∷ xs) ys e = absurd cc
 
 -- The next custom section.
 module _ (customs : List CustomEntry) (i : ℕ) (b : NamesBuilder) (c : CustomEntry) (lt : i < length customs) (same : c ≡ get_or customs i c) (k : Naming customs i b) where
@@ -68,7 +68,7 @@ module _ (customs : List CustomEntry) (i : ℕ) (b : NamesBuilder) (c : CustomEn
     -- If the module has no entries, then this section gives none.
     pub naming_nothing : name_entries customs ≡ [] → GivesNames section []
     naming_nothing none =
-        let rest : name_entries (drop i customs) ≡ [] = behind_nil k.entries (name_entries (drop i customs)) (k.all ∙ none) in
+        let rest : name_entries (drop i customs) ≡ [] = after_nil k.entries (name_entries (drop i customs)) (k.all ∙ none) in
         let nil : custom_entries c.section.value ≡ [] = front_nil (custom_entries c.section.value) (name_entries (drop (i + 1) customs)) (sym split ∙ rest) in
         subst (GivesNames section) (sym its ∙ nil) given
 

@@ -7,7 +7,7 @@ use Rattle.wasmprinter_spec.specs.Grammar.{Placed}
 use Rattle.wasmprinter_spec.specs.Placed.{Custom, CustomEntry, custom_entry}
 use Rattle.wasmprinter_spec.specs.Sections.{CustomSection, TypeSection, ImportSection, FunctionSection, TableSection, MemorySection, TagSection, GlobalSection}
 use Rattle.wasmprinter_spec.specs.Sections.{ExportSection, StartSection, ElementSection, DataCountSection, CodeSection, DataSection}
-use Rattle.wasmprinter_spec.specs.Sections.{Kind, Section, holds, section_kind, content_of, are_above, is_place, place_behind, with_custom, customs_behind}
+use Rattle.wasmprinter_spec.specs.Sections.{Kind, Section, holds, section_kind, content_of, are_above, is_place, place_after, with_custom, customs_after}
 use Rattle.wasmprinter_spec.specs.Binary.{type_indices_in, tables_in, bodies_in}
 use Rattle.wasmprinter_spec.specs.Limits.{most_functions}
 use Rattle.wasmprinter_spec.proofs.Ordered.{with_one, held_push, held_each, held_midst, held_picked}
@@ -27,18 +27,18 @@ joined false kind last None e = refl
 joined false kind last (Some k) e = absurd cc
 
 -- The place of custom sections after a section is the one that it gives, or else the one given before it.
-pub place_joined : (last r : Option SectionKind) (s : Section) → place_view r ≡ place_behind None s → place_view (option_or r last) ≡ place_behind (place_view last) s
+pub place_joined : (last r : Option SectionKind) (s : Section) → place_view r ≡ place_after None s → place_view (option_or r last) ≡ place_after (place_view last) s
 place_joined last r (holds kind x) e = joined (is_place kind x) kind last r e
 
 -- The place of custom sections that follow the sections, if `last` is the place of custom sections before them.
 abbrev pub last_place : Option Kind → List Section → Option Kind
 last_place last [] = last
-last_place last (s ∷ ss) = last_place (place_behind last s) ss
+last_place last (s ∷ ss) = last_place (place_after last s) ss
 
 -- The place after the sections and one more is the place that this one gives after theirs.
-pub last_place_push : (last : Option Kind) (ss : List Section) (s : Section) → last_place last (ss ++ s ∷ []) ≡ place_behind (last_place last ss) s
+pub last_place_push : (last : Option Kind) (ss : List Section) (s : Section) → last_place last (ss ++ s ∷ []) ≡ place_after (last_place last ss) s
 last_place_push last [] s = refl
-last_place_push last (x ∷ xs) s = last_place_push (place_behind last x) xs s
+last_place_push last (x ∷ xs) s = last_place_push (place_after last x) xs s
 
 front_push : (last : Option Kind) (o : Option (Placed Custom)) (cs ds more : List CustomEntry) → ds ≡ cs ++ more → with_custom last o ds ≡ with_custom last o cs ++ more
 front_push last None cs ds more e = e
@@ -49,18 +49,18 @@ front_length last None cs = omega arith
 front_length last (Some c) cs = omega arith
 
 -- The custom sections of a list and one more section are those of the list and that of the section.
-customs_push : (last : Option Kind) (ss : List Section) (s : Section) → customs_behind last (ss ++ s ∷ []) ≡ customs_behind last ss ++ customs_behind (last_place last ss) (s ∷ [])
+customs_push : (last : Option Kind) (ss : List Section) (s : Section) → customs_after last (ss ++ s ∷ []) ≡ customs_after last ss ++ customs_after (last_place last ss) (s ∷ [])
 customs_push last [] s = refl
 customs_push last (x ∷ xs) s =
-    let next : Option Kind = place_behind last x in
-    front_push last (content_of CustomSection x) (customs_behind next xs) (customs_behind next (xs ++ s ∷ [])) (customs_behind (last_place next xs) (s ∷ [])) (customs_push next xs s)
+    let next : Option Kind = place_after last x in
+    front_push last (content_of CustomSection x) (customs_after next xs) (customs_after next (xs ++ s ∷ [])) (customs_after (last_place next xs) (s ∷ [])) (customs_push next xs s)
 
 -- If a list of sections contains a custom section, then the list of its custom sections is not empty.
-customs_midst : (last : Option Kind) (xs : List Section) (c : Placed Custom) (ys : List Section) → 0 < length (customs_behind last (xs ++ holds CustomSection c ∷ ys))
+customs_midst : (last : Option Kind) (xs : List Section) (c : Placed Custom) (ys : List Section) → 0 < length (customs_after last (xs ++ holds CustomSection c ∷ ys))
 customs_midst last [] c ys = omega arith
 customs_midst last (x ∷ xs) c ys =
-    let rest : List CustomEntry = customs_behind (place_behind last x) (xs ++ holds CustomSection c ∷ ys) in
-    omega (arith, customs_midst (place_behind last x) xs c ys, front_length last (content_of CustomSection x) rest)
+    let rest : List CustomEntry = customs_after (place_after last x) (xs ++ holds CustomSection c ∷ ys) in
+    omega (arith, customs_midst (place_after last x) xs c ys, front_length last (content_of CustomSection x) rest)
 
 -- A section of the kind of custom sections is a custom section.
 pub custom_kind : (s : Section) → section_kind s ≡ CustomSection → (c : Placed Custom) × (s ≡ holds CustomSection c)
@@ -76,7 +76,7 @@ kept_none _ = refl
 
 -- The contents that are kept for a kind after one more section. `last` is the place of custom sections before it.
 abbrev pub kept_with : (kind : Kind) → Option Kind → Kept kind → Section → Kept kind
-kept_with CustomSection last cs s = cs ++ customs_behind last (s ∷ [])
+kept_with CustomSection last cs s = cs ++ customs_after last (s ∷ [])
 kept_with kind last c s = with_one kind c s
 
 -- The contents of a list of sections and one more section are those of the list, changed by that section.
@@ -86,7 +86,7 @@ kept_push kind ss s = held_push kind (gathered_items kind none_gathered) ss s
 
 -- A section replaces the content that is kept for its kind. A custom section is appended to the custom sections.
 -- Other kinds are unchanged.
-pub kept_added : (kind : Kind) (g : Gathered) (s : Section) → gathered_items kind (with_section g s) ≡ kept_with kind g.behind (gathered_items kind g) s
+pub kept_added : (kind : Kind) (g : Gathered) (s : Section) → gathered_items kind (with_section g s) ≡ kept_with kind g.after (gathered_items kind g) s
 kept_added CustomSection g (holds CustomSection x) = refl
 kept_added CustomSection g (holds _ x) = sym (append-nil g.customs)
 kept_added TypeSection g (holds TypeSection x) = refl

@@ -15,7 +15,7 @@ use Rattle.wasmprinter_wasm.specs.Modules.{bodies_of}
 abbrev pub items_held : PlacedModule → ℕ
 items_held m =
     length m.types + length m.imports + length m.functions + length m.tables + length m.memories + length m.tags + length m.globals
-    + length m.exports + length m.elements + length m.datas + length m.customs
+    + length m.exports + length m.elements + length m.data_segments + length m.customs
 
 -- The module has at least one item.
 abbrev pub HoldsSome : PlacedModule → Type 0

@@ -8,7 +8,7 @@ use Rattle.wasmprinter_spec.specs.Operator.{Operator}
 use Rattle.wasmprinter_spec.specs.Placed.{TypeGroup, Import, Table, Global, ElementEntry, Data, Body, Export, CustomEntry}
 use Rattle.wasmprinter_spec.specs.Sections.{CustomSection, TypeSection, ImportSection, FunctionSection, TableSection, MemorySection, TagSection, GlobalSection}
 use Rattle.wasmprinter_spec.specs.Sections.{ExportSection, StartSection, ElementSection, DataCountSection, CodeSection, DataSection}
-use Rattle.wasmprinter_spec.specs.Sections.{Kind, Content, Section, holds, section_kind, section, rank, rank_behind, are_above, place_behind, customs_behind}
+use Rattle.wasmprinter_spec.specs.Sections.{Kind, Content, Section, holds, section_kind, section, rank, rank_after, are_above, place_after, customs_after}
 use Rattle.wasmprinter_spec.specs.Binary.{types_in, imports_in, type_indices_in, tables_in, memories_in, tags_in, globals_in, exports_in, start_in, elements_in, data_count_in, bodies_in, datas_in, customs_in, counts_data}
 use Rattle.wasmprinter_spec.specs.Limits.{most_functions}
 use Rattle.wasmprinter_bytes.specs.Reads.{end_of}
@@ -21,7 +21,7 @@ use Rattle.wasmprinter_entries.specs.Contents.{IsSmall}
 -- follows them.
 pub record Gathered : Type 0 where
   pub rank : ℕ
-  pub behind : Option Kind
+  pub after : Option Kind
   pub types : List (Placed TypeGroup)
   pub imports : List (Placed Import)
   pub type_indices : List ℕ
@@ -34,14 +34,14 @@ pub record Gathered : Type 0 where
   pub elements : List (Placed ElementEntry)
   pub data_count : Option ℕ
   pub bodies : List (Placed Body)
-  pub datas : List (Placed (Data (Placed Operator)))
+  pub data_segments : List (Placed (Data (Placed Operator)))
   pub customs : List CustomEntry
 
 -- The state before the first section.
 abbrev pub none_gathered : Gathered
 none_gathered = record {
   rank = 0;
-  behind = None;
+  after = None;
   types = [];
   imports = [];
   type_indices = [];
@@ -54,7 +54,7 @@ none_gathered = record {
   elements = [];
   data_count = None;
   bodies = [];
-  datas = [];
+  data_segments = [];
   customs = [];
 }
 
@@ -79,7 +79,7 @@ gathered_items StartSection g = g.start
 gathered_items ElementSection g = g.elements
 gathered_items DataCountSection g = g.data_count
 gathered_items CodeSection g = g.bodies
-gathered_items DataSection g = g.datas
+gathered_items DataSection g = g.data_segments
 
 -- The contents of a kind in a list of sections.
 abbrev pub section_items : (kind : Kind) → List Section → Kept kind
@@ -101,7 +101,7 @@ section_items DataSection ss = datas_in ss
 -- Replaces the content of the section's kind. A custom section is appended, with the place that the sections
 -- before it give.
 abbrev pub with_content : Gathered → Section → Gathered
-with_content g (holds CustomSection c) = record g { customs = g.customs ++ customs_behind g.behind (holds CustomSection c ∷ []) }
+with_content g (holds CustomSection c) = record g { customs = g.customs ++ customs_after g.after (holds CustomSection c ∷ []) }
 with_content g (holds TypeSection ts) = record g { types = ts }
 with_content g (holds ImportSection is) = record g { imports = is }
 with_content g (holds FunctionSection is) = record g { type_indices = is }
@@ -114,11 +114,11 @@ with_content g (holds StartSection f) = record g { start = f }
 with_content g (holds ElementSection es) = record g { elements = es }
 with_content g (holds DataCountSection n) = record g { data_count = n }
 with_content g (holds CodeSection bs) = record g { bodies = bs }
-with_content g (holds DataSection ds) = record g { datas = ds }
+with_content g (holds DataSection ds) = record g { data_segments = ds }
 
 -- The state after one more section.
 abbrev pub with_section : Gathered → Section → Gathered
-with_section g s = record (with_content g s) { rank = rank_behind g.rank (rank (section_kind s)); behind = place_behind g.behind s }
+with_section g s = record (with_content g s) { rank = rank_after g.rank (rank (section_kind s)); after = place_after g.after s }
 
 -- For each kind, the gathered contents are those of the sections.
 abbrev pub IsHeld : Gathered → List Section → Type 0
@@ -127,7 +127,7 @@ IsHeld g ss = (kind : Kind) → gathered_items kind g ≡ section_items kind ss
 -- There are as many bodies as type indices, and as many data segments as the data count says.
 pub record IsWhole (g : Gathered) : Type 0 where
   pub as_many : length g.type_indices ≡ length g.bodies
-  pub counted : counts_data g.data_count (length g.datas) ≡ true
+  pub counted : counts_data g.data_count (length g.data_segments) ≡ true
 
 -- Reads sections up to the end of the bytes.
 abbrev pub sections_at : Input → Option (List Section)

@@ -60,7 +60,7 @@ struct Gathered<'a> {
     rank: u8,
     /// The place of the next custom section: the kind of the last section before it that holds an item or the
     /// start function.
-    behind: Option<SectionKind>,
+    after: Option<SectionKind>,
     types: Types<'a>,
     imports: Vec<Import<'a>>,
     type_indices: Vec<u32>,
@@ -73,7 +73,7 @@ struct Gathered<'a> {
     elements: Vec<Element<'a>>,
     data_count: Option<u32>,
     bodies: Vec<Body<'a>>,
-    datas: Vec<Data<'a>>,
+    data_segments: Vec<Data<'a>>,
     customs: Vec<CustomEntry<'a>>,
 }
 
@@ -85,7 +85,7 @@ impl<'a> Model for Gathered<'a> {
 
     ghost view = { λ g. record {
       rank = g.rank;
-      behind = place_view g.behind;
+      after = place_view g.after;
       types = g.types;
       imports = g.imports.items;
       type_indices = g.type_indices.items;
@@ -98,7 +98,7 @@ impl<'a> Model for Gathered<'a> {
       elements = g.elements.items;
       data_count = g.data_count;
       bodies = g.bodies.items;
-      datas = g.datas.items;
+      data_segments = g.data_segments.items;
       customs = g.customs.items;
     } };
 }
@@ -110,7 +110,7 @@ impl<'a> Gathered<'a> {
     {
         Gathered {
             rank: 0,
-            behind: None,
+            after: None,
             types: Types::new(alloc),
             imports: Vec::new(alloc),
             type_indices: Vec::new(alloc),
@@ -123,7 +123,7 @@ impl<'a> Gathered<'a> {
             elements: Vec::new(alloc),
             data_count: None,
             bodies: Vec::new(alloc),
-            datas: Vec::new(alloc),
+            data_segments: Vec::new(alloc),
             customs: Vec::new(alloc),
         }
     }
@@ -145,10 +145,10 @@ impl<'a> Gathered<'a> {
         ensures needed { IfErr result (λ _. section_kind (section_view section.entry) ≡ CustomSection) }
     {
         self.rank = section.rank().unwrap_or(self.rank);
-        self.behind = section.place().or(self.behind);
+        self.after = section.place().or(self.after);
         match section {
             Section::Custom(section) => self.customs.push(CustomEntry {
-                behind: self.behind,
+                after: self.after,
                 section,
             })?,
             Section::Types(types) => self.types.replace(types),
@@ -163,17 +163,17 @@ impl<'a> Gathered<'a> {
             Section::Elements(elements) => self.elements = elements,
             Section::DataCount(count) => self.data_count = Some(count),
             Section::Code(bodies) => self.bodies = bodies,
-            Section::Data(datas) => self.datas = datas,
+            Section::Data(data_segments) => self.data_segments = data_segments,
         }
         Ok(())
     }
 
     /// Reports whether the data count, if there is one, is the number of data segments.
     fn counts_data(&self) -> bool
-        ensures { result ≡ counts_data self.now.data_count (length self.now.datas) }
+        ensures { result ≡ counts_data self.now.data_count (length self.now.data_segments) }
     {
         match self.data_count {
-            Some(count) => count as usize == self.datas.len(),
+            Some(count) => count as usize == self.data_segments.len(),
             None => true,
         }
     }
@@ -225,7 +225,7 @@ fn read_module<'a>(alloc: Global, wasm: &'a [u8]) -> Result<Module<'a>, Error>
         start: gathered.start,
         elements: gathered.elements,
         bodies: gathered.bodies,
-        datas: gathered.datas,
+        data_segments: gathered.data_segments,
         customs: gathered.customs,
         size,
     })

@@ -35,7 +35,7 @@ pub struct Module<'a> {
     pub(crate) start: Option<Start>,
     pub(crate) elements: Vec<Element<'a>>,
     pub(crate) bodies: Vec<Body<'a>>,
-    pub(crate) datas: Vec<Data<'a>>,
+    pub(crate) data_segments: Vec<Data<'a>>,
     pub(crate) customs: Vec<CustomEntry<'a>>,
     pub(crate) size: u64,
 }
@@ -57,7 +57,7 @@ impl<'a> Model for Module<'a> {
       start = m.start;
       elements = m.elements.items;
       functions = functions_of m.type_indices.items m.bodies.items;
-      datas = m.datas.items;
+      data_segments = m.data_segments.items;
       customs = m.customs.items;
       size = m.size;
     } };
@@ -140,7 +140,7 @@ pub trait Fields<'a> {
     fn elements(&self) -> &[Element<'a>];
 
     /// Returns the data segments.
-    fn datas(&self) -> &[Data<'a>];
+    fn data_segments(&self) -> &[Data<'a>];
 
     /// Returns the custom sections in order, each with its place: the kind of the last section before it that
     /// holds an item or the start function, if there is one.
@@ -248,10 +248,10 @@ impl<'a> Fields<'a> for Module<'a> {
         &self.elements
     }
 
-    fn datas(&self) -> &[Data<'a>]
-        ensures { result.now ≡ self.now.datas }
+    fn data_segments(&self) -> &[Data<'a>]
+        ensures { result.now ≡ self.now.data_segments }
     {
-        &self.datas
+        &self.data_segments
     }
 
     fn customs(&self) -> &[CustomEntry<'a>]

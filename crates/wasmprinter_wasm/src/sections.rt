@@ -1,6 +1,6 @@
 //! Sections (section 5.5, "Sections"): an id, a size, and content of exactly that many bytes.
 ghost use Rattle.std.specs.Prelude.{◌≡◌, None};
-ghost use Rattle.wasmprinter_spec.specs.Sections.{kind_of, section_kind, rank, place_behind};
+ghost use Rattle.wasmprinter_spec.specs.Sections.{kind_of, section_kind, rank, place_after};
 ghost use Rattle.wasmprinter_bytes.specs.Reads.{end_of};
 ghost use Rattle.wasmprinter_entries.specs.Places.{place_view};
 ghost use Rattle.wasmprinter_wasm.specs.Sections.{section_view, TakesContent, TakesSection};
@@ -165,7 +165,7 @@ impl<'a> Section<'a> {
     /// Returns the place of custom sections that follow this section: its kind, if it has items or is a start
     /// section.
     pub(crate) fn place(&self) -> Option<SectionKind>
-        ensures { place_view result ≡ place_behind None (section_view self.now) }
+        ensures { place_view result ≡ place_after None (section_view self.now) }
     {
         match self {
             Section::Types(types) => (!types.groups().is_empty()).then_some(SectionKind::Type),
@@ -179,7 +179,9 @@ impl<'a> Section<'a> {
             Section::Start(_) => Some(SectionKind::Start),
             Section::Elements(elements) => (!elements.is_empty()).then_some(SectionKind::Element),
             Section::Code(bodies) => (!bodies.is_empty()).then_some(SectionKind::Code),
-            Section::Data(datas) => (!datas.is_empty()).then_some(SectionKind::Data),
+            Section::Data(data_segments) => (!data_segments.is_empty()).then_some(
+                SectionKind::Data,
+            ),
             Section::Custom(_) | Section::DataCount(_) => None,
         }
     }

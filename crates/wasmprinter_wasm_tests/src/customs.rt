@@ -24,8 +24,8 @@ const NO_NAMES: &[u8] = b"\x00\x05\x04name";
 const CUT_NAMES: &[u8] = b"\x00\x0e\x04name\x01\x07\x02\x00\x01c\x01\x05d";
 
 /// Returns a module with one function, and with these sections at three places among its own.
-fn with_names(alloc: Global, [before, amid, behind]: [&[u8]; 3]) -> Result<Vec<u8>, AllocError> {
-    module(alloc, &[before, &TYPES, &FUNCTIONS, amid, &CODE, behind])
+fn with_names(alloc: Global, [before, amid, after]: [&[u8]; 3]) -> Result<Vec<u8>, AllocError> {
+    module(alloc, &[before, &TYPES, &FUNCTIONS, amid, &CODE, after])
 }
 
 /// No section.
@@ -65,7 +65,7 @@ fn has_name_sections_at(alloc: Global, bytes: &[u8], places: &[u64]) -> Result<b
 }
 
 #[test]
-fn name_sections_may_stand_anywhere(rt: HostRuntime) -> Result<(), Fail> {
+fn name_sections_may_occur_anywhere(rt: HostRuntime) -> Result<(), Fail> {
     for (sections, places) in PLACED.iter() {
         let bytes = with_names(rt.alloc(), *sections)?;
         assert!(rt; has_name_sections_at(rt.alloc(), &bytes, places)?);
@@ -85,7 +85,7 @@ fn holds(custom: &CustomEntry, place: u64, bytes: &[u8]) -> bool {
 
 /// Reports whether there are exactly two custom sections: one without data at 0x0f, and one with the data of
 /// `FIRST_NAMES` at 0x20.
-fn hold_names_behind_none(customs: &[CustomEntry]) -> bool {
+fn hold_names_after_none(customs: &[CustomEntry]) -> bool {
     match customs {
         [first, second] => {
             second.section.place() == 0x1b
@@ -97,15 +97,15 @@ fn hold_names_behind_none(customs: &[CustomEntry]) -> bool {
 }
 
 #[test]
-fn custom_sections_hold_the_bytes_behind_their_name(rt: HostRuntime) -> Result<(), Fail> {
+fn custom_sections_hold_the_bytes_after_their_name(rt: HostRuntime) -> Result<(), Fail> {
     let bytes = with_names(rt.alloc(), [NO_NAMES, FIRST_NAMES, NONE])?;
     let decoded = decode(rt.alloc(), &bytes)?;
-    assert!(rt; hold_names_behind_none(decoded.customs()));
+    assert!(rt; hold_names_after_none(decoded.customs()));
     Ok(())
 }
 
 #[test]
-fn two_name_sections_may_stand_together(rt: HostRuntime) -> Result<(), Fail> {
+fn two_name_sections_may_be_adjacent(rt: HostRuntime) -> Result<(), Fail> {
     let twice = module(rt.alloc(), &[FIRST_NAMES, FIRST_NAMES])?;
     assert!(rt; is_accepted(rt.alloc(), &twice));
     let decoded = decode(rt.alloc(), &twice)?;
@@ -170,8 +170,8 @@ fn custom_sections_without_a_whole_name_are_refused(rt: HostRuntime) -> Result<(
     for (section, offset) in REFUSED {
         let before = with_names(rt.alloc(), [section, NONE, NONE])?;
         assert!(rt; fault_place(rt.alloc(), &before) == Some(0x08 + offset));
-        let behind = with_names(rt.alloc(), [NONE, NONE, section])?;
-        assert!(rt; fault_place(rt.alloc(), &behind) == Some(0x18 + offset));
+        let after = with_names(rt.alloc(), [NONE, NONE, section])?;
+        assert!(rt; fault_place(rt.alloc(), &after) == Some(0x18 + offset));
     }
     Ok(())
 }

@@ -150,7 +150,7 @@ fn is_at_fault(alloc: Global, section: &[u8], wanted: u64) -> Result<bool, Alloc
 }
 
 #[test]
-fn faults_are_told_where_they_begin(rt: HostRuntime) -> Result<(), Fail> {
+fn reports_faults_at_their_start(rt: HostRuntime) -> Result<(), Fail> {
     for faults in [UNKNOWN, DECLARATIONS, DEFINITIONS, SEGMENTS] {
         for (section, wanted) in faults {
             assert!(rt; is_at_fault(rt.alloc(), section, *wanted)?, "{section:?}");

@@ -59,7 +59,7 @@ pub(crate) fn fault_place(alloc: Global, bytes: &[u8]) -> Option<u64> {
 }
 
 #[test]
-fn beginnings_are_accepted_behind_sections_alone(rt: HostRuntime) {
+fn beginnings_are_accepted_after_sections_alone(rt: HostRuntime) {
     for len in 0..IDENTITY.len() {
         let beginning = &IDENTITY[..len];
         if len == 8 || len == 16 {
@@ -376,7 +376,7 @@ const ORDERS: [(&[&[u8]], bool); 13] = [
 ];
 
 #[test]
-fn sections_of_a_kind_stand_in_their_place_once(rt: HostRuntime) -> Result<(), Fail> {
+fn sections_of_a_kind_occur_once_in_order(rt: HostRuntime) -> Result<(), Fail> {
     for (sections, accepted) in ORDERS {
         assert!(rt;
             are_accepted(rt.alloc(), sections)? == accepted,

@@ -164,9 +164,9 @@ const ROWS: &[Row] = &[
 ];
 
 /// Reports whether custom sections have these places.
-fn stand_behind(customs: &[CustomEntry], places: &[Option<SectionKind>]) -> bool {
+fn stand_after(customs: &[CustomEntry], places: &[Option<SectionKind>]) -> bool {
     for (custom, place) in customs.iter().zip(places) {
-        if custom.behind != *place {
+        if custom.after != *place {
             return false;
         }
     }
@@ -174,20 +174,20 @@ fn stand_behind(customs: &[CustomEntry], places: &[Option<SectionKind>]) -> bool
 }
 
 /// Reports whether the custom sections of the module that these bytes encode have these places.
-fn has_customs_behind(
+fn has_customs_after(
     alloc: Global,
     bytes: &[u8],
     places: &[Option<SectionKind>],
 ) -> Result<bool, Error> {
     let decoded = decode(alloc, bytes)?;
-    Ok(stand_behind(decoded.customs(), places))
+    Ok(stand_after(decoded.customs(), places))
 }
 
 #[test]
-fn custom_sections_stand_behind_what_holds_something(rt: HostRuntime) -> Result<(), Fail> {
+fn custom_sections_follow_nonempty_sections(rt: HostRuntime) -> Result<(), Fail> {
     for (sections, places) in ROWS {
         let bytes = module(rt.alloc(), sections)?;
-        assert!(rt; has_customs_behind(rt.alloc(), &bytes, places)?);
+        assert!(rt; has_customs_after(rt.alloc(), &bytes, places)?);
     }
     Ok(())
 }

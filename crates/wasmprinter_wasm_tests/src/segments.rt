@@ -357,8 +357,8 @@ fn is_data(data: &Data, place: u64, memory: Option<u32>, bytes: &[u8]) -> bool {
 }
 
 /// Reports whether these are the segments of `DATA`, the first of which is at 0x0e.
-fn are_datas(datas: &[Data]) -> bool {
-    let [active, passive, last] = datas else {
+fn are_datas(data_segments: &[Data]) -> bool {
+    let [active, passive, last] = data_segments else {
         return false;
     };
     is_data(active, 0x0e, Some(0), &[0xaa, 0xbb])
@@ -370,7 +370,7 @@ fn are_datas(datas: &[Data]) -> bool {
 fn data_segments_have_bytes(rt: HostRuntime) -> Result<(), Fail> {
     let bytes = module(rt.alloc(), &[&[0x0c, 0x01, 0x03], DATA])?;
     let decoded = decode(rt.alloc(), &bytes)?;
-    assert!(rt; are_datas(decoded.datas()));
+    assert!(rt; are_datas(decoded.data_segments()));
     Ok(())
 }
 

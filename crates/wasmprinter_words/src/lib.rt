@@ -2,7 +2,7 @@
 //! Specification), each in its style, for any printer.
 //!
 //! A function that returns `io::Result` fails only if a call on the printer failed, and returns that call's error.
-//! The functions `put_..` record the first error in a `Fault` instead.
+//! The functions `put_..` record the first error in a `FirstError` instead.
 #![tactic(auto)]
 
 pub mod annotations;

@@ -4,7 +4,7 @@ ghost use Rattle.std.specs.Prelude.{◌<◌, ◌^◌, false, [], ◌∷◌, ◌+
 ghost use Rattle.std.specs.Fmt.{digits};
 ghost use Rattle.wasmprinter_spec.specs.Call.{Text};
 ghost use Rattle.wasmprinter_spec.specs.Types.{limits_of};
-ghost use Rattle.wasmprinter_spec.specs.Piece.{Word, behind_blanks};
+ghost use Rattle.wasmprinter_spec.specs.Piece.{Word, after_blanks};
 ghost use Rattle.wasmprinter_spec.specs.Layout.Limits.{max_words, limits_pieces};
 ghost use Rattle.wasmprinter_print.specs.Emits.{Emits};
 ghost use Rattle.wasmprinter_print.specs.Prints.{PrintsAlways};
@@ -15,7 +15,7 @@ use wasmprinter_print::{Print, Style, reset, start};
 
 /// Writes a space and the maximum, or nothing if there is none.
 fn write_max<P: Print>(p: &mut P, max: Option<u64>) -> io::Result<()>
-    ensures { Emits P.meaning p.old p.new result (Text (behind_blanks (max_words max)) ∷ []) }
+    ensures { Emits P.meaning p.old p.new result (Text (after_blanks (max_words max)) ∷ []) }
 {
     match max {
         None => Ok(()),

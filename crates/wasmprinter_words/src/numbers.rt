@@ -7,10 +7,12 @@ ghost use Rattle.wasmprinter_print.specs.Emits.{Emits};
 ghost use Rattle.wasmprinter_print.specs.Prints.{PrintsAlways};
 ghost use Rattle.wasmprinter_print.specs.Puts.{Puts, Marks};
 
-use crate::words::{gap, put_gap};
+use crate::words::{put_space, write_space};
 use itoa::Buffer;
 use std::io;
-use wasmprinter_print::{Fault, Print, Style, put_reset, put_start, put_text, reset, start, text};
+use wasmprinter_print::{
+    FirstError, Print, Style, put_reset, put_start, put_text, reset, start, text,
+};
 
 /// The base of hexadecimal numbers.
 pub const HEXADECIMAL: u64 = 16;
@@ -27,7 +29,7 @@ pub fn power(exponent: u32) -> u64
 static GLYPHS: [u8; 16] = *b"0123456789abcdef";
 
 /// Returns the character of a hexadecimal digit.
-pub(crate) fn glyph_of(digit: u8) -> u8
+pub(crate) fn hex_digit(digit: u8) -> u8
     requires { digit < 16 }
     ensures { result ≡ digit_glyph false digit }
 {
@@ -35,14 +37,14 @@ pub(crate) fn glyph_of(digit: u8) -> u8
 }
 
 /// Writes a hexadecimal digit, in lower case.
-pub fn put_digit<P: Print>(p: &mut P, fault: &mut Fault, digit: u8)
+pub fn put_digit<P: Print>(p: &mut P, fault: &mut FirstError, digit: u8)
     requires { digit < 16 }
     ensures { Puts P.meaning p.old fault.old p.new fault.new (Text (digit_glyph false digit ∷ []) ∷ []) }
 {
     put_text(
         p,
         fault,
-        char::from(glyph_of(digit)).encode_utf8(&mut [0; 4]),
+        char::from(hex_digit(digit)).encode_utf8(&mut [0; 4]),
     );
 }
 
@@ -51,11 +53,11 @@ pub fn write_digit<P: Print>(p: &mut P, digit: u8) -> io::Result<()>
     requires { digit < 16 }
     ensures { Emits P.meaning p.old p.new result (Text (digit_glyph false digit ∷ []) ∷ []) }
 {
-    text(p, char::from(glyph_of(digit)).encode_utf8(&mut [0; 4]))
+    text(p, char::from(hex_digit(digit)).encode_utf8(&mut [0; 4]))
 }
 
 /// Writes a number in hexadecimal, each digit in a call of its own.
-pub(crate) fn put_hexadecimal<P: Print>(p: &mut P, fault: &mut Fault, n: u64)
+pub(crate) fn put_hexadecimal<P: Print>(p: &mut P, fault: &mut FirstError, n: u64)
     ensures { Puts P.meaning p.old fault.old p.new fault.new (Text (digits 16 false n) ∷ []) }
 {
     if n < HEXADECIMAL {
@@ -70,13 +72,13 @@ pub(crate) fn put_hexadecimal<P: Print>(p: &mut P, fault: &mut Fault, n: u64)
 pub fn write_hexadecimal<P: Print>(p: &mut P, n: u64) -> io::Result<()>
     ensures { Emits P.meaning p.old p.new result (Text (digits 16 false n) ∷ []) }
 {
-    let mut fault = Fault::none();
+    let mut fault = FirstError::none();
     put_hexadecimal(p, &mut fault, n);
     fault.into_result()
 }
 
 /// Writes a number in decimal.
-pub fn put_decimal<P: Print>(p: &mut P, fault: &mut Fault, n: u64)
+pub fn put_decimal<P: Print>(p: &mut P, fault: &mut FirstError, n: u64)
     ensures { Puts P.meaning p.old fault.old p.new fault.new (Text (decimal n) ∷ []) }
 {
     let mut digits = Buffer::new();
@@ -92,7 +94,7 @@ pub fn write_decimal<P: Print>(p: &mut P, n: u64) -> io::Result<()>
 }
 
 /// Writes the two hexadecimal digits of a byte.
-pub fn put_byte_digits<P: Print>(p: &mut P, fault: &mut Fault, byte: u8)
+pub fn put_byte_digits<P: Print>(p: &mut P, fault: &mut FirstError, byte: u8)
     ensures { Puts P.meaning p.old fault.old p.new fault.new
         (Text (digit_glyph false (byte / 16) ∷ (digit_glyph false (byte % 16) ∷ [])) ∷ []) }
 {
@@ -128,7 +130,7 @@ pub fn write_hexadecimal_between<P: Print>(
 ) -> io::Result<()>
     ensures { Emits P.meaning p.old p.new result (Text (before.now ++ (digits 16 false n ++ after.now)) ∷ []) }
 {
-    let mut fault = Fault::none();
+    let mut fault = FirstError::none();
     put_text(p, &mut fault, before);
     put_hexadecimal(p, &mut fault, n);
     put_text(p, &mut fault, after);
@@ -144,13 +146,13 @@ pub fn write_decimal_between<P: Print>(
 ) -> io::Result<()>
     ensures { Emits P.meaning p.old p.new result (Text (before.now ++ (decimal n ++ after.now)) ∷ []) }
 {
-    let mut fault = Fault::none();
+    let mut fault = FirstError::none();
     put_decimal_between(p, &mut fault, before, n, after);
     fault.into_result()
 }
 
 /// Writes an index.
-pub fn put_number<P: Print>(p: &mut P, fault: &mut Fault, n: u64)
+pub fn put_number<P: Print>(p: &mut P, fault: &mut FirstError, n: u64)
     ensures { Marks P.meaning p.old fault.old p.new fault.new (Number n ∷ []) }
 {
     put_start(p, fault, Style::Name);
@@ -168,10 +170,10 @@ pub fn number<P: Print>(p: &mut P, n: u64) -> io::Result<()>
 }
 
 /// Writes a space and an index.
-pub fn put_gap_index<P: Print>(p: &mut P, fault: &mut Fault, index: u32)
+pub fn put_gap_index<P: Print>(p: &mut P, fault: &mut FirstError, index: u32)
     ensures { Marks P.meaning p.old fault.old p.new fault.new (Gap ∷ (Number index ∷ [])) }
 {
-    put_gap(p, fault);
+    put_space(p, fault);
     put_number(p, fault, u64::from(index));
 }
 
@@ -179,14 +181,14 @@ pub fn put_gap_index<P: Print>(p: &mut P, fault: &mut Fault, index: u32)
 pub fn gap_index<P: Print>(p: &mut P, index: u32) -> io::Result<()>
     ensures { PrintsAlways P.meaning p.old p.new result (Gap ∷ (Number index ∷ [])) }
 {
-    gap(p)?;
+    write_space(p)?;
     number(p, u64::from(index))
 }
 
 /// Writes a number in decimal between two texts.
 pub(crate) fn put_decimal_between<P: Print>(
     p: &mut P,
-    fault: &mut Fault,
+    fault: &mut FirstError,
     before: &str,
     n: u64,
     after: &str,
@@ -199,7 +201,7 @@ pub(crate) fn put_decimal_between<P: Print>(
 }
 
 /// Writes a number as a word without a style.
-pub fn put_number_word<P: Print>(p: &mut P, fault: &mut Fault, n: u64)
+pub fn put_number_word<P: Print>(p: &mut P, fault: &mut FirstError, n: u64)
     ensures { Marks P.meaning p.old fault.old p.new fault.new (Word (decimal n) ∷ []) }
 {
     put_decimal(p, fault, n);
@@ -209,13 +211,13 @@ pub fn put_number_word<P: Print>(p: &mut P, fault: &mut Fault, n: u64)
 pub fn number_word<P: Print>(p: &mut P, n: u64) -> io::Result<()>
     ensures { PrintsAlways P.meaning p.old p.new result (Word (decimal n) ∷ []) }
 {
-    let mut fault = Fault::none();
+    let mut fault = FirstError::none();
     put_number_word(p, &mut fault, n);
     fault.into_result()
 }
 
 /// Writes a word that ends in a number, without a style.
-pub fn put_numbered_word<P: Print>(p: &mut P, fault: &mut Fault, word: &str, n: u64)
+pub fn put_numbered_word<P: Print>(p: &mut P, fault: &mut FirstError, word: &str, n: u64)
     ensures { Marks P.meaning p.old fault.old p.new fault.new (Word (word.now ++ decimal n) ∷ []) }
 {
     put_text(p, fault, word);
@@ -226,13 +228,13 @@ pub fn put_numbered_word<P: Print>(p: &mut P, fault: &mut Fault, word: &str, n: 
 pub fn numbered_word<P: Print>(p: &mut P, word: &str, n: u64) -> io::Result<()>
     ensures { PrintsAlways P.meaning p.old p.new result (Word (word.now ++ decimal n) ∷ []) }
 {
-    let mut fault = Fault::none();
+    let mut fault = FirstError::none();
     put_numbered_word(p, &mut fault, word, n);
     fault.into_result()
 }
 
 /// Writes a space and a signed number.
-pub fn put_constant<P: Print>(p: &mut P, fault: &mut Fault, n: i64)
+pub fn put_constant<P: Print>(p: &mut P, fault: &mut FirstError, n: i64)
     ensures { Marks P.meaning p.old fault.old p.new fault.new (Constant n ∷ []) }
 {
     put_start(p, fault, Style::Literal);
@@ -245,7 +247,7 @@ pub fn put_constant<P: Print>(p: &mut P, fault: &mut Fault, n: i64)
 pub fn constant<P: Print>(p: &mut P, n: i64) -> io::Result<()>
     ensures { PrintsAlways P.meaning p.old p.new result (Constant n ∷ []) }
 {
-    let mut fault = Fault::none();
+    let mut fault = FirstError::none();
     put_constant(p, &mut fault, n);
     fault.into_result()
 }

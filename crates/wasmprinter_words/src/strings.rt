@@ -10,10 +10,10 @@ ghost use Rattle.wasmprinter_print.specs.Emits.{Emits, EmitsOrFails};
 ghost use Rattle.wasmprinter_print.specs.Prints.{PrintsAlways};
 ghost use Rattle.wasmprinter_print.specs.Puts.{Puts};
 
-use crate::numbers::{glyph_of, put_hexadecimal};
+use crate::numbers::{hex_digit, put_hexadecimal};
 use std::io;
 use wasmprinter_error::Error;
-use wasmprinter_print::{Fault, Print, Style, put_each_char, put_text, reset, start, text};
+use wasmprinter_print::{FirstError, Print, Style, put_each_char, put_text, reset, start, text};
 
 /// The maximum number of bytes of a quoted string that one call writes.
 const BUFFER_LEN: usize = 256;
@@ -44,7 +44,7 @@ fn is_plain(c: char) -> bool
 }
 
 /// Writes a character of a quoted string as `\u{..}`, with its number in hexadecimal.
-fn put_escape<P: Print>(p: &mut P, fault: &mut Fault, c: char)
+fn put_escape<P: Print>(p: &mut P, fault: &mut FirstError, c: char)
     requires { is_plain c ≡ false }
     ensures { Puts P.meaning p.old fault.old p.new fault.new (Text (char_text c) ∷ []) }
 {
@@ -75,7 +75,7 @@ fn plain_len(s: &str) -> usize
 
 /// Writes the characters of a text as a quoted string contains them, plain characters in runs, each run in one
 /// call.
-fn put_chars_in_runs<P: Print>(p: &mut P, fault: &mut Fault, s: &str)
+fn put_chars_in_runs<P: Print>(p: &mut P, fault: &mut FirstError, s: &str)
     ensures { Puts P.meaning p.old fault.old p.new fault.new (Text (flat_map char_text (chars s.now)) ∷ []) }
 {
     let mut rest = s;
@@ -103,7 +103,7 @@ fn write_escape<P: Print>(p: &mut P, c: char) -> io::Result<()>
     requires { is_plain c ≡ false }
     ensures { Emits P.meaning p.old p.new result (Text (char_text c) ∷ []) }
 {
-    let mut fault = Fault::none();
+    let mut fault = FirstError::none();
     put_escape(p, &mut fault, c);
     fault.into_result()
 }
@@ -129,13 +129,13 @@ pub(crate) fn write_chars<P: Print>(p: &mut P, s: &str) -> io::Result<()>
     if !p.takes_runs() {
         return write_chars_one_by_one(p, s);
     }
-    let mut fault = Fault::none();
+    let mut fault = FirstError::none();
     put_chars_in_runs(p, &mut fault, s);
     fault.into_result()
 }
 
 /// Writes the characters of a text as a quoted string contains them.
-pub(crate) fn put_chars<P: Print>(p: &mut P, fault: &mut Fault, s: &str)
+pub(crate) fn put_chars<P: Print>(p: &mut P, fault: &mut FirstError, s: &str)
     ensures { Puts P.meaning p.old fault.old p.new fault.new (Text (flat_map char_text (chars s.now)) ∷ []) }
 {
     if !fault.is_some() {
@@ -179,15 +179,15 @@ fn beginning_of(byte: u8) -> u8
 /// Appends a byte, as a quoted string contains it, to the first `len` bytes of `shown`, and returns the new
 /// length. The byte is an ASCII character, or `\hh` with its two hexadecimal digits. All three bytes are stored in
 /// both cases, because a branch would be slower.
-fn show_byte(shown: &mut [u8; BUFFER_LEN], len: usize, byte: u8) -> usize
+fn escape_byte(shown: &mut [u8; BUFFER_LEN], len: usize, byte: u8) -> usize
     requires { len + 3 ≤ 256 }
     ensures text { take result shown.new ≡ take len shown.old ++ byte_text byte }
     ensures len { result ≤ len + 3 }
 {
     let beginning = beginning_of(byte);
     shown[len] = beginning;
-    shown[len + 1] = glyph_of(byte / 16);
-    shown[len + 2] = glyph_of(byte % 16);
+    shown[len + 1] = hex_digit(byte / 16);
+    shown[len + 2] = hex_digit(byte % 16);
     if beginning == b'\\' {
         len + WIDEST
     } else {
@@ -204,13 +204,13 @@ fn show_bytes(shown: &mut [u8; BUFFER_LEN], bytes: &[u8]) -> usize
 {
     let mut len = 0;
     for &byte in bytes {
-        len = show_byte(shown, len, byte);
+        len = escape_byte(shown, len, byte);
     }
     len
 }
 
 /// Writes an ASCII text.
-fn put_ascii<P: Print>(p: &mut P, fault: &mut Fault, bytes: &[u8])
+fn put_ascii<P: Print>(p: &mut P, fault: &mut FirstError, bytes: &[u8])
     requires { IsAscii bytes.now }
     ensures { Puts P.meaning p.old fault.old p.new fault.new (Text bytes.now ∷ []) }
 {
@@ -221,7 +221,7 @@ fn put_ascii<P: Print>(p: &mut P, fault: &mut Fault, bytes: &[u8])
 }
 
 /// Writes bytes as a quoted string contains them, `CHUNK_LEN` bytes in each call.
-fn put_bytes_in_runs<P: Print>(p: &mut P, fault: &mut Fault, bytes: &[u8])
+fn put_bytes_in_runs<P: Print>(p: &mut P, fault: &mut FirstError, bytes: &[u8])
     ensures { Puts P.meaning p.old fault.old p.new fault.new (Text (flat_map byte_text bytes.now) ∷ []) }
 {
     let mut shown = [0; BUFFER_LEN];
@@ -242,8 +242,8 @@ fn write_byte_escape<P: Print>(p: &mut P, byte: u8) -> io::Result<()>
     ensures { Emits P.meaning p.old p.new result (Text (byte_text byte) ∷ []) }
 {
     text(p, "\\")?;
-    text(p, char::from(glyph_of(byte / 16)).encode_utf8(&mut [0; 4]))?;
-    text(p, char::from(glyph_of(byte % 16)).encode_utf8(&mut [0; 4]))
+    text(p, char::from(hex_digit(byte / 16)).encode_utf8(&mut [0; 4]))?;
+    text(p, char::from(hex_digit(byte % 16)).encode_utf8(&mut [0; 4]))
 }
 
 /// Writes bytes as a quoted string contains them, each plain byte in a call of its own.
@@ -268,7 +268,7 @@ fn write_each_byte<P: Print>(p: &mut P, bytes: &[u8]) -> io::Result<()>
     if !p.takes_runs() {
         return write_bytes_one_by_one(p, bytes);
     }
-    let mut fault = Fault::none();
+    let mut fault = FirstError::none();
     put_bytes_in_runs(p, &mut fault, bytes);
     fault.into_result()
 }

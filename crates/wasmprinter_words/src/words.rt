@@ -1,6 +1,6 @@
 //! Parentheses, spaces and words.
 ghost use Rattle.std.specs.Prelude.{[], ◌∷◌, ◌++◌};
-ghost use Rattle.wasmprinter_spec.specs.Piece.{Gap, Open, OpenBare, OpenGap, OpenPlain, OpenTypeGap, Shut, BeginName, EndStyle};
+ghost use Rattle.wasmprinter_spec.specs.Piece.{Gap, Open, OpenUnnamed, OpenGap, OpenPlain, OpenTypeGap, Shut, BeginName, EndStyle};
 ghost use Rattle.wasmprinter_spec.specs.Piece.{Word, TypeWord, TypeWordGap, GapTypeWord, calls_in_style as in_style};
 ghost use Rattle.wasmprinter_print.specs.Emits.{Emits};
 ghost use Rattle.wasmprinter_print.specs.Prints.{PrintsAlways};
@@ -9,14 +9,14 @@ ghost use Rattle.wasmprinter_print.specs.Styles.{style_of};
 
 use std::io;
 use wasmprinter_print::{
-    Fault, Print, Style, put_reset, put_start, put_text, put_text_in_style, reset, start, text,
-    text_in_style,
+    FirstError, Print, Style, put_reset, put_start, put_text, put_text_in_style, reset, start,
+    text, text_in_style,
 };
 
 /// Writes two texts in one style.
 pub(crate) fn put_two_texts_in_style<P: Print>(
     p: &mut P,
-    fault: &mut Fault,
+    fault: &mut FirstError,
     style: Style,
     first: &str,
     second: &str,
@@ -45,7 +45,7 @@ pub(crate) fn two_texts_in_style<P: Print>(
 }
 
 /// Opens a group: a parenthesis and a keyword.
-pub fn put_open<P: Print>(p: &mut P, fault: &mut Fault, keyword: &str)
+pub fn put_open<P: Print>(p: &mut P, fault: &mut FirstError, keyword: &str)
     ensures { Marks P.meaning p.old fault.old p.new fault.new (Open keyword.now ∷ []) }
 {
     put_text(p, fault, "(");
@@ -61,7 +61,7 @@ pub fn open<P: Print>(p: &mut P, keyword: &str) -> io::Result<()>
 }
 
 /// Opens a group, and writes a space after its keyword.
-pub fn put_open_gap<P: Print>(p: &mut P, fault: &mut Fault, keyword: &str)
+pub fn put_open_gap<P: Print>(p: &mut P, fault: &mut FirstError, keyword: &str)
     ensures { Marks P.meaning p.old fault.old p.new fault.new (OpenGap keyword.now ∷ []) }
 {
     put_text(p, fault, "(");
@@ -77,7 +77,7 @@ pub fn open_gap<P: Print>(p: &mut P, keyword: &str) -> io::Result<()>
 }
 
 /// Opens a group whose keyword has no style.
-pub fn put_open_plain<P: Print>(p: &mut P, fault: &mut Fault, unstyled: &str)
+pub fn put_open_plain<P: Print>(p: &mut P, fault: &mut FirstError, unstyled: &str)
     ensures { Marks P.meaning p.old fault.old p.new fault.new (OpenPlain unstyled.now ∷ []) }
 {
     put_text(p, fault, "(");
@@ -101,43 +101,43 @@ pub fn open_type_gap<P: Print>(p: &mut P, word: &str) -> io::Result<()>
 }
 
 /// Opens a group without a keyword.
-pub fn open_bare<P: Print>(p: &mut P) -> io::Result<()>
-    ensures { PrintsAlways P.meaning p.old p.new result (OpenBare ∷ []) }
+pub fn open_unnamed<P: Print>(p: &mut P) -> io::Result<()>
+    ensures { PrintsAlways P.meaning p.old p.new result (OpenUnnamed ∷ []) }
 {
     text(p, "(")?;
     text_in_style(p, Style::Keyword, "")
 }
 
 /// Closes a group on the current line.
-pub fn put_shut<P: Print>(p: &mut P, fault: &mut Fault)
+pub fn put_close_paren<P: Print>(p: &mut P, fault: &mut FirstError)
     ensures { Marks P.meaning p.old fault.old p.new fault.new (Shut ∷ []) }
 {
     put_text(p, fault, ")");
 }
 
 /// Closes a group on the current line.
-pub fn shut<P: Print>(p: &mut P) -> io::Result<()>
+pub fn write_close_paren<P: Print>(p: &mut P) -> io::Result<()>
     ensures { PrintsAlways P.meaning p.old p.new result (Shut ∷ []) }
 {
     text(p, ")")
 }
 
 /// Writes a space.
-pub fn put_gap<P: Print>(p: &mut P, fault: &mut Fault)
+pub fn put_space<P: Print>(p: &mut P, fault: &mut FirstError)
     ensures { Marks P.meaning p.old fault.old p.new fault.new (Gap ∷ []) }
 {
     put_text(p, fault, " ");
 }
 
 /// Writes a space.
-pub fn gap<P: Print>(p: &mut P) -> io::Result<()>
+pub fn write_space<P: Print>(p: &mut P) -> io::Result<()>
     ensures { PrintsAlways P.meaning p.old p.new result (Gap ∷ []) }
 {
     text(p, " ")
 }
 
 /// Writes a word without a style.
-pub fn put_word<P: Print>(p: &mut P, fault: &mut Fault, word: &str)
+pub fn put_word<P: Print>(p: &mut P, fault: &mut FirstError, word: &str)
     ensures { Marks P.meaning p.old fault.old p.new fault.new (Word word.now ∷ []) }
 {
     put_text(p, fault, word);
@@ -151,7 +151,7 @@ pub fn word<P: Print>(p: &mut P, word: &str) -> io::Result<()>
 }
 
 /// Writes the word of a type.
-pub fn put_type_word<P: Print>(p: &mut P, fault: &mut Fault, word: &str)
+pub fn put_type_word<P: Print>(p: &mut P, fault: &mut FirstError, word: &str)
     ensures { Marks P.meaning p.old fault.old p.new fault.new (TypeWord word.now ∷ []) }
 {
     put_text_in_style(p, fault, Style::TypeName, word);
@@ -172,7 +172,7 @@ pub fn type_word_gap<P: Print>(p: &mut P, word: &str) -> io::Result<()>
 }
 
 /// Writes a space and the word of a type.
-pub fn put_gap_type_word<P: Print>(p: &mut P, fault: &mut Fault, word: &str)
+pub fn put_gap_type_word<P: Print>(p: &mut P, fault: &mut FirstError, word: &str)
     ensures { Marks P.meaning p.old fault.old p.new fault.new (GapTypeWord word.now ∷ []) }
 {
     put_two_texts_in_style(p, fault, Style::TypeName, " ", word);
@@ -186,7 +186,7 @@ pub fn gap_type_word<P: Print>(p: &mut P, word: &str) -> io::Result<()>
 }
 
 /// Starts the style of names.
-pub fn put_begin_name<P: Print>(p: &mut P, fault: &mut Fault)
+pub fn put_begin_name<P: Print>(p: &mut P, fault: &mut FirstError)
     ensures { Marks P.meaning p.old fault.old p.new fault.new (BeginName ∷ []) }
 {
     put_start(p, fault, Style::Name);
@@ -200,7 +200,7 @@ pub fn begin_name<P: Print>(p: &mut P) -> io::Result<()>
 }
 
 /// Ends the current style: the text after it has none.
-pub fn put_end_style<P: Print>(p: &mut P, fault: &mut Fault)
+pub fn put_end_style<P: Print>(p: &mut P, fault: &mut FirstError)
     ensures { Marks P.meaning p.old fault.old p.new fault.new (EndStyle ∷ []) }
 {
     put_reset(p, fault);

@@ -46,7 +46,7 @@ impl Write for Console {
 }
 
 impl WriteColor for Console {
-    ghost paints = { λ s _ answer t. (answer ≡ Ok tt) × (t ≡ s) };
+    ghost sets_color = { λ s _ answer t. (answer ≡ Ok tt) × (t ≡ s) };
 
     ghost is_colored = { λ _. true };
 
@@ -103,8 +103,8 @@ fn prints_plain_text_where_there_are_no_colors(rt: HostRuntime) -> Result<(), Fa
         assert!(rt; uncolored.into_inner().as_slice() == text.as_bytes());
         let plain = print_bytes_to(alloc, wasm, Vec::new(alloc))?;
         assert!(rt; plain.as_slice() == text.as_bytes());
-        let behind = print_bytes_to(alloc, wasm, vec![in alloc; b'a', b'\n']?)?;
-        assert!(rt; behind.strip_prefix(b"a\n") == Some(text.as_bytes()));
+        let after = print_bytes_to(alloc, wasm, vec![in alloc; b'a', b'\n']?)?;
+        assert!(rt; after.strip_prefix(b"a\n") == Some(text.as_bytes()));
     }
     Ok(())
 }
@@ -198,7 +198,7 @@ fn sets_one_part_of_a_look_and_keeps_the_rest(rt: HostRuntime) {
 }
 
 #[test]
-fn tells_whether_colors_can_be_written_as_text(rt: HostRuntime) {
+fn reports_whether_colors_can_be_written_as_text(rt: HostRuntime) {
     let alloc = rt.alloc();
     assert!(rt; PrintTermcolor(Ansi::new(Vec::new(alloc))).supports_async_color());
     assert!(rt; !PrintTermcolor(NoColor::new(Vec::new(alloc))).supports_async_color());

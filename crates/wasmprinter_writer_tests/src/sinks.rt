@@ -74,7 +74,7 @@ fn word_of(spec: &ColorSpec) -> &'static [u8] {
 }
 
 impl WriteColor for Sink {
-    ghost paints = { λ _ _ _ _. Unit {0} };
+    ghost sets_color = { λ _ _ _ _. Unit {0} };
 
     ghost is_colored = { λ _. true };
 

@@ -40,7 +40,7 @@ impl fmt::Write for Refusing {
 }
 
 #[test]
-fn writes_nothing_behind_a_piece_that_was_refused(rt: HostRuntime) -> Result<(), Fail> {
+fn writes_nothing_after_a_piece_that_was_refused(rt: HostRuntime) -> Result<(), Fail> {
     let alloc = rt.alloc();
     let mut whole = PrintFmtWrite(Refusing::new(String::new(alloc), 0));
     print_to(&Config::new(), alloc, &IDENTITY, &mut whole)?;

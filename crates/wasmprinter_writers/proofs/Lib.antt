@@ -1,4 +1,4 @@
 pub mod Decimals
 pub mod Runs
-pub mod Uncoloured
+pub mod Uncolored
 pub mod SequenceRows

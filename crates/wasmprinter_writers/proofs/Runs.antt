@@ -8,8 +8,8 @@ use Rattle.wasmprinter_spec.specs.Meaning.{Meaning, Run}
 use Rattle.wasmprinter_print.specs.TextOnly.{Writes, WritesTextOnly, text_only}
 use Rattle.wasmprinter_writers.specs.Writing.{Writing, TakesWhole, WritesNothing, WritesEach}
 use Rattle.wasmprinter_spec.specs.Looks.{sequences_of}
-use Rattle.wasmprinter_spec.specs.Coloured.{look_of, coloured_bytes, coloured_text}
-use Rattle.wasmprinter_writers.specs.ColourCalls.{Painting, PaintsBySequences, PaintsNothing, WritesInColour, coloured_meaning}
+use Rattle.wasmprinter_spec.specs.Colored.{look_of, colored_bytes, colored_text}
+use Rattle.wasmprinter_writers.specs.ColorCalls.{Coloring, WritesSequences, KeepsColor, WritesInColor, colored_meaning}
 
 appends_nothing : (a : Option (List ℕ)) → Appends a a []
 appends_nothing None = tt
@@ -45,23 +45,23 @@ text_call view writes grows s (Line place) t h = stays view s t h
 text_call view writes grows s (Start style) t h = stays view s t h
 text_call view writes grows s (Claim name place bytes claimed) t h = stays view s t (h.1, h.2)
 
-coloured_call : {T : Type 0} (view : T → Option (List ℕ)) (takes : Writing T) (paints : Painting T) → Grows view takes →
-    ((s : T) (look : _) (t : T) → paints s look (Ok tt) t → Appends (view s) (view t) (concat (sequences_of look))) →
-    (s : T) (c : Call) (t : T) → WritesInColour takes paints s c (Ok tt) t → Appends (view s) (view t) (coloured_bytes c)
-coloured_call view takes paints grows painted s (Text bytes) t h = grows s bytes t h
-coloured_call view takes paints grows painted s Newline t h = grows s (10 ∷ []) t h
-coloured_call view takes paints grows painted s (Line place) t h = stays view s t h
-coloured_call view takes paints grows painted s (Start style) t h = painted s (look_of style) t h
-coloured_call view takes paints grows painted s (Claim name place bytes claimed) t h = stays view s t h.1
+colored_call : {T : Type 0} (view : T → Option (List ℕ)) (takes : Writing T) (sets_color : Coloring T) → Grows view takes →
+    ((s : T) (look : _) (t : T) → sets_color s look (Ok tt) t → Appends (view s) (view t) (concat (sequences_of look))) →
+    (s : T) (c : Call) (t : T) → WritesInColor takes sets_color s c (Ok tt) t → Appends (view s) (view t) (colored_bytes c)
+colored_call view takes sets_color grows colored s (Text bytes) t h = grows s bytes t h
+colored_call view takes sets_color grows colored s Newline t h = grows s (10 ∷ []) t h
+colored_call view takes sets_color grows colored s (Line place) t h = stays view s t h
+colored_call view takes sets_color grows colored s (Start style) t h = colored s (look_of style) t h
+colored_call view takes sets_color grows colored s (Claim name place bytes claimed) t h = stays view s t h.1
 
-uncoloured_call : {T : Type 0} (view : T → Option (List ℕ)) (takes : Writing T) (paints : Painting T) → Grows view takes →
-    ((s : T) (look : _) (t : T) → paints s look (Ok tt) t → WritesNothing s (Ok tt) t) →
-    (s : T) (c : Call) (t : T) → WritesInColour takes paints s c (Ok tt) t → Appends (view s) (view t) (call_text c)
-uncoloured_call view takes paints grows idle s (Text bytes) t h = grows s bytes t h
-uncoloured_call view takes paints grows idle s Newline t h = grows s (10 ∷ []) t h
-uncoloured_call view takes paints grows idle s (Line place) t h = stays view s t h
-uncoloured_call view takes paints grows idle s (Start style) t h = stays view s t (idle s (look_of style) t h)
-uncoloured_call view takes paints grows idle s (Claim name place bytes claimed) t h = stays view s t h.1
+uncolored_call : {T : Type 0} (view : T → Option (List ℕ)) (takes : Writing T) (sets_color : Coloring T) → Grows view takes →
+    ((s : T) (look : _) (t : T) → sets_color s look (Ok tt) t → WritesNothing s (Ok tt) t) →
+    (s : T) (c : Call) (t : T) → WritesInColor takes sets_color s c (Ok tt) t → Appends (view s) (view t) (call_text c)
+uncolored_call view takes sets_color grows idle s (Text bytes) t h = grows s bytes t h
+uncolored_call view takes sets_color grows idle s Newline t h = grows s (10 ∷ []) t h
+uncolored_call view takes sets_color grows idle s (Line place) t h = stays view s t h
+uncolored_call view takes sets_color grows idle s (Start style) t h = stays view s t (idle s (look_of style) t h)
+uncolored_call view takes sets_color grows idle s (Claim name place bytes claimed) t h = stays view s t h.1
 
 -- If a view grows by the bytes of each call, then it grows by the bytes of a run.
 run_appends : {P : Type 0} (m : Meaning P) (view : P → Option (List ℕ)) (bytes_of : Call → List ℕ) (all : List Call → List ℕ) → all [] ≡ [] →
@@ -78,18 +78,18 @@ text_run view =
     run_appends (text_only (TakesWhole view)) view call_text text_of refl (λ c cs. refl) (λ s c t h. text_call view (TakesWhole view) (λ a b z k. k) s c t h)
 
 -- The contents of a writer that writes nothing for colors grow by the text of the calls.
-pub uncoloured_run : {P T : Type 0} (writer_of : P → T) (contents : T → Option (List ℕ)) (s t : P) (calls : List Call) →
-    Run (coloured_meaning writer_of (TakesWhole contents) PaintsNothing) s calls t → Appends (contents (writer_of s)) (contents (writer_of t)) (text_of calls)
-uncoloured_run writer_of contents =
-    run_appends (coloured_meaning writer_of (TakesWhole contents) PaintsNothing) (λ p. contents (writer_of p)) call_text text_of refl (λ c cs. refl)
-    (λ s c t h. uncoloured_call contents (TakesWhole contents) PaintsNothing (λ a b z k. k) (λ a look z k. k) (writer_of s) c (writer_of t) h)
+pub uncolored_run : {P T : Type 0} (writer_of : P → T) (contents : T → Option (List ℕ)) (s t : P) (calls : List Call) →
+    Run (colored_meaning writer_of (TakesWhole contents) KeepsColor) s calls t → Appends (contents (writer_of s)) (contents (writer_of t)) (text_of calls)
+uncolored_run writer_of contents =
+    run_appends (colored_meaning writer_of (TakesWhole contents) KeepsColor) (λ p. contents (writer_of p)) call_text text_of refl (λ c cs. refl)
+    (λ s c t h. uncolored_call contents (TakesWhole contents) KeepsColor (λ a b z k. k) (λ a look z k. k) (writer_of s) c (writer_of t) h)
 
 -- The contents of a writer that writes colors as escape sequences grow by the text of the calls with the sequences.
-pub coloured_run : {P T U : Type 0} (writer_of : P → T) (inner_of : T → U) (contents : U → Option (List ℕ)) (s t : P) (calls : List Call) →
-    Run (coloured_meaning writer_of (TakesWhole (λ w. contents (inner_of w))) (PaintsBySequences inner_of (TakesWhole contents))) s calls t →
-    Appends (contents (inner_of (writer_of s))) (contents (inner_of (writer_of t))) (coloured_text calls)
-coloured_run {T} writer_of inner_of contents =
+pub colored_run : {P T U : Type 0} (writer_of : P → T) (inner_of : T → U) (contents : U → Option (List ℕ)) (s t : P) (calls : List Call) →
+    Run (colored_meaning writer_of (TakesWhole (λ w. contents (inner_of w))) (WritesSequences inner_of (TakesWhole contents))) s calls t →
+    Appends (contents (inner_of (writer_of s))) (contents (inner_of (writer_of t))) (colored_text calls)
+colored_run {T} writer_of inner_of contents =
     let view : T → Option (List ℕ) = λ w. contents (inner_of w) in
-    run_appends (coloured_meaning writer_of (TakesWhole view) (PaintsBySequences inner_of (TakesWhole contents))) (λ p. view (writer_of p)) coloured_bytes coloured_text refl (λ c cs. refl)
-    (λ s c t h. coloured_call view (TakesWhole view) (PaintsBySequences inner_of (TakesWhole contents)) (λ a b z k. k)
+    run_appends (colored_meaning writer_of (TakesWhole view) (WritesSequences inner_of (TakesWhole contents))) (λ p. view (writer_of p)) colored_bytes colored_text refl (λ c cs. refl)
+    (λ s c t h. colored_call view (TakesWhole view) (WritesSequences inner_of (TakesWhole contents)) (λ a b z k. k)
     (λ a look z k. each_appended contents (TakesWhole contents) (λ x b y j. j) (sequences_of look) (inner_of a) (inner_of z) k) (writer_of s) c (writer_of t) h)

@@ -1,5 +1,5 @@
 -- Definitions for the contracts of printers over byte writers.
 pub mod Writing
 pub mod Numbers
-pub mod ColourCalls
+pub mod ColorCalls
 pub mod Sequences

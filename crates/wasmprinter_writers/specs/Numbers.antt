@@ -11,6 +11,6 @@ number_of Yellow = 3
 number_of Magenta = 5
 number_of Cyan = 6
 
-abbrev pub colour_of : Option Color → Option ℕ
-colour_of (Some color) = Some (number_of color)
-colour_of None = None
+abbrev pub color_of : Option Color → Option ℕ
+color_of (Some color) = Some (number_of color)
+color_of None = None

@@ -2,9 +2,9 @@
 ghost use Rattle.std.specs.Prelude.{◌≡◌, true, false, OnOk};
 ghost use Rattle.std.specs.Io.KnownBytes.{Appends};
 ghost use Rattle.wasmprinter_writers.specs.Writing.{WritesEach};
-ghost use Rattle.wasmprinter_writers.specs.ColourCalls.{PaintsBySequences};
-ghost use Rattle.wasmprinter_spec.specs.Looks.{foreground, bold_sequences, colour_sequences};
-ghost use Rattle.wasmprinter_writers.specs.Numbers.{number_of, colour_of};
+ghost use Rattle.wasmprinter_writers.specs.ColorCalls.{WritesSequences};
+ghost use Rattle.wasmprinter_spec.specs.Looks.{foreground, bold_sequences, color_sequences};
+ghost use Rattle.wasmprinter_writers.specs.Numbers.{number_of, color_of};
 
 use crate::{Color, ColorSpec, WriteBytes, WriteColor};
 use std::io;
@@ -59,7 +59,7 @@ impl<W: WriteBytes> Write for Ansi<W> {
 }
 
 impl<W: WriteBytes> WriteColor for Ansi<W> {
-    ghost paints = { PaintsBySequences (λ s. s.inner) W.takes };
+    ghost sets_color = { WritesSequences (λ s. s.inner) W.takes };
 
     ghost is_colored = { λ _. true };
 
@@ -97,7 +97,7 @@ fn write_bold<W: WriteBytes>(w: &mut W, is_bold: bool) -> io::Result<()>
 
 /// Writes the sequence of the color, if there is one.
 fn write_color<W: WriteBytes>(w: &mut W, fg: Option<Color>, is_intense: bool) -> io::Result<()>
-    ensures { WritesEach W.takes w.old (colour_sequences (colour_of fg) is_intense) result w.new }
+    ensures { WritesEach W.takes w.old (color_sequences (color_of fg) is_intense) result w.new }
 {
     match fg {
         Some(color) => w.write_bytes(sequence(color, is_intense).as_bytes()),

@@ -16,10 +16,10 @@ impl Model for ColorSpec {
 
     ghost Value = { Look };
 
-    ghost use Rattle.wasmprinter_writers.specs.Numbers.{colour_of};
+    ghost use Rattle.wasmprinter_writers.specs.Numbers.{color_of};
 
     ghost view = { λ s. record {
-      colour = colour_of s.fg;
+      color = color_of s.fg;
       bold = s.is_bold;
       intense = s.is_intense;
     } };
@@ -28,7 +28,7 @@ impl Model for ColorSpec {
 impl ColorSpec {
     ghost use Rattle.std.specs.Prelude.{◌≡◌};
     ghost use Rattle.wasmprinter_spec.specs.Looks.{bare_look};
-    ghost use Rattle.wasmprinter_writers.specs.Numbers.{colour_of};
+    ghost use Rattle.wasmprinter_writers.specs.Numbers.{color_of};
 
     /// Returns the look of plain text: no color, not bold, not intense.
     pub fn new() -> ColorSpec
@@ -44,7 +44,7 @@ impl ColorSpec {
     /// Sets the color, or removes it.
     pub fn set_fg(&mut self, fg: Option<Color>) -> &mut ColorSpec
         ensures same_reference { result.ghost_name ≡ self.entry.ghost_name }
-        ensures set { result.now ≡ record self.old { colour = colour_of fg } }
+        ensures set { result.now ≡ record self.old { color = color_of fg } }
     {
         self.fg = fg;
         self
@@ -70,7 +70,7 @@ impl ColorSpec {
 
     /// Returns the color, if there is one.
     pub fn fg(&self) -> Option<Color>
-        ensures { colour_of result ≡ self.now.colour }
+        ensures { color_of result ≡ self.now.color }
     {
         self.fg
     }

@@ -1,7 +1,7 @@
 //! A writer that shows no colors.
 ghost use Rattle.std.specs.Prelude.{◌≡◌, false, OnOk};
 ghost use Rattle.std.specs.Io.KnownBytes.{Appends};
-ghost use Rattle.wasmprinter_writers.specs.ColourCalls.{PaintsNothing};
+ghost use Rattle.wasmprinter_writers.specs.ColorCalls.{KeepsColor};
 
 use crate::{ColorSpec, WriteBytes, WriteColor};
 use std::io;
@@ -49,7 +49,7 @@ impl<W: WriteBytes> Write for NoColor<W> {
 }
 
 impl<W: WriteBytes> WriteColor for NoColor<W> {
-    ghost paints = { PaintsNothing };
+    ghost sets_color = { KeepsColor };
 
     ghost is_colored = { λ _. false };
 

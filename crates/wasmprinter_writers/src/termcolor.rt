@@ -1,7 +1,7 @@
 //! A printer of colored text.
 ghost use Rattle.std.specs.Prelude.{◌≡◌, ◌&&◌, not};
-ghost use Rattle.wasmprinter_spec.specs.Coloured.{colour_look, strong_look};
-ghost use Rattle.wasmprinter_writers.specs.ColourCalls.{coloured_meaning};
+ghost use Rattle.wasmprinter_spec.specs.Colored.{color_look, strong_look};
+ghost use Rattle.wasmprinter_writers.specs.ColorCalls.{colored_meaning};
 ghost use Rattle.wasmprinter_writers.specs.Numbers.{number_of};
 
 use crate::{Color, ColorSpec, WriteBytes, WriteColor};
@@ -15,7 +15,7 @@ pub struct PrintTermcolor<T>(pub T);
 
 /// Returns the look of text in a color, neither bold nor intense.
 fn spec_of_color(color: Color) -> ColorSpec
-    ensures { result ≡ colour_look (number_of color) }
+    ensures { result ≡ color_look (number_of color) }
 {
     let mut spec = ColorSpec::new();
     spec.set_fg(Some(color));
@@ -32,7 +32,7 @@ fn strong(color: Color) -> ColorSpec
 }
 
 impl<T: WriteColor + WriteBytes> Print for PrintTermcolor<T> {
-    ghost meaning = { coloured_meaning (λ s. s.0) T.takes T.paints };
+    ghost meaning = { colored_meaning (λ s. s.0) T.takes T.sets_color };
 
     ghost colors = { λ s. T.is_colored s.0 && not (T.is_immediate s.0) };
 

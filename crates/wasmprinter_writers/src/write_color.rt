@@ -1,6 +1,6 @@
 //! Writers with colors.
 ghost use Rattle.std.specs.Prelude.{◌≡◌, Bool, Some, None};
-ghost use Rattle.wasmprinter_writers.specs.ColourCalls.{Painting};
+ghost use Rattle.wasmprinter_writers.specs.ColorCalls.{Coloring};
 
 use crate::ColorSpec;
 use std::io;
@@ -10,7 +10,7 @@ use std::io::Write;
 pub trait WriteColor: Write {
     // The results that a call for this look may have, and the states of the writer after it. `None` is the look of
     // text without colors.
-    ghost paints: { Painting Self };
+    ghost sets_color: { Coloring Self };
 
     // Whether such calls have an effect.
     ghost is_colored: { Self → Bool };
@@ -24,11 +24,11 @@ pub trait WriteColor: Write {
 
     /// Sets the look of the text after this call. It replaces the look that was set before.
     fn set_color(&mut self, spec: &ColorSpec) -> io::Result<()>
-        ensures { paints self.old (Some spec.now) result self.new };
+        ensures { sets_color self.old (Some spec.now) result self.new };
 
     /// Ends all colors: the text after this call has none.
     fn reset(&mut self) -> io::Result<()>
-        ensures { paints self.old None result self.new };
+        ensures { sets_color self.old None result self.new };
 
     /// Reports whether colors take effect on a console immediately, so that they cannot be written as text.
     fn is_synchronous(&self) -> bool

@@ -10,7 +10,7 @@ use std::alloc::{AllocError, Global};
 
 /// The kind of an operator's immediates.
 #[derive(Clone, Copy)]
-enum Behind {
+enum After {
     /// No immediates.
     Nothing,
     /// A small index.
@@ -45,45 +45,45 @@ enum Behind {
 
 /// Operators: the bytes of the opcode, and the kind of the immediates.
 #[rattlefmt::skip]
-static OPERATORS: [(&[u8], Behind); 112] = [
-    (&[0x00], Behind::Nothing), (&[0x01], Behind::Nothing), (&[0x08], Behind::Index),
-    (&[0x0a], Behind::Nothing), (&[0x0c], Behind::Index), (&[0x0d], Behind::Index),
-    (&[0x0f], Behind::Nothing), (&[0x10], Behind::Index), (&[0x11], Behind::Indices),
-    (&[0x12], Behind::Index), (&[0x13], Behind::Indices), (&[0x14], Behind::Index),
-    (&[0x15], Behind::Index), (&[0x1a], Behind::Nothing), (&[0x1b], Behind::Nothing),
-    (&[0x1c], Behind::Types), (&[0x20], Behind::Index), (&[0x20], Behind::Index),
-    (&[0x21], Behind::Index), (&[0x22], Behind::Index), (&[0x23], Behind::Index),
-    (&[0x24], Behind::Index), (&[0x25], Behind::Index), (&[0x26], Behind::Index),
-    (&[0x29], Behind::Memory(3)), (&[0x2a], Behind::Memory(2)), (&[0x2b], Behind::Memory(3)),
-    (&[0x37], Behind::Memory(3)), (&[0x3f], Behind::Zero), (&[0x40], Behind::Zero),
-    (&[0x42], Behind::Wide), (&[0x43], Behind::Single), (&[0x44], Behind::Double),
-    (&[0x7c], Behind::Nothing), (&[0x92], Behind::Nothing), (&[0xa0], Behind::Nothing),
-    (&[0xa2], Behind::Nothing), (&[0xac], Behind::Nothing), (&[0xb7], Behind::Nothing),
-    (&[0xbd], Behind::Nothing), (&[0xc4], Behind::Nothing), (&[0xd0], Behind::Heap),
-    (&[0xd1], Behind::Nothing), (&[0xd2], Behind::Index), (&[0xd3], Behind::Nothing),
-    (&[0xd4], Behind::Nothing), (&[0xd5], Behind::Index), (&[0xd6], Behind::Index),
-    (&[0xfb, 0x00], Behind::Index), (&[0xfb, 0x01], Behind::Index), (&[0xfb, 0x02], Behind::Indices),
-    (&[0xfb, 0x03], Behind::Indices), (&[0xfb, 0x05], Behind::Indices), (&[0xfb, 0x06], Behind::Index),
-    (&[0xfb, 0x08], Behind::Indices), (&[0xfb, 0x09], Behind::Indices), (&[0xfb, 0x0b], Behind::Index),
-    (&[0xfb, 0x0e], Behind::Index), (&[0xfb, 0x0f], Behind::Nothing), (&[0xfb, 0x11], Behind::Indices),
-    (&[0xfb, 0x14], Behind::Heap), (&[0xfb, 0x16], Behind::Heap), (&[0xfb, 0x17], Behind::Heap),
-    (&[0xfb, 0x18], Behind::Cast), (&[0xfb, 0x19], Behind::Cast), (&[0xfb, 0x1a], Behind::Nothing),
-    (&[0xfb, 0x1c], Behind::Nothing), (&[0xfb, 0x1d], Behind::Nothing), (&[0xfc, 0x00], Behind::Nothing),
-    (&[0xfc, 0x06], Behind::Nothing), (&[0xfc, 0x08], Behind::Indices), (&[0xfc, 0x09], Behind::Index),
-    (&[0xfc, 0x0a], Behind::Indices), (&[0xfc, 0x0b], Behind::Index), (&[0xfc, 0x0c], Behind::Indices),
-    (&[0xfc, 0x0d], Behind::Index), (&[0xfc, 0x0e], Behind::Indices), (&[0xfc, 0x0f], Behind::Index),
-    (&[0xfc, 0x10], Behind::Index), (&[0xfc, 0x11], Behind::Index), (&[0xfd, 0x00], Behind::Memory(4)),
-    (&[0xfd, 0x01], Behind::Memory(3)), (&[0xfd, 0x0b], Behind::Memory(4)), (&[0xfd, 0x0c], Behind::Vector),
-    (&[0xfd, 0x0d], Behind::Lanes), (&[0xfd, 0x0f], Behind::Nothing), (&[0xfd, 0x11], Behind::Nothing),
-    (&[0xfd, 0x15], Behind::Lane), (&[0xfd, 0x1b], Behind::Lane), (&[0xfd, 0x21], Behind::Lane),
-    (&[0xfd, 0x23], Behind::Nothing), (&[0xfd, 0x4d], Behind::Nothing), (&[0xfd, 0x52], Behind::Nothing),
-    (&[0xfd, 0x54], Behind::MemoryLane(0)), (&[0xfd, 0x57], Behind::MemoryLane(3)), (&[0xfd, 0x5a], Behind::MemoryLane(2)),
-    (&[0xfd, 0x5c], Behind::Memory(2)), (&[0xfd, 0x6e], Behind::Nothing), (&[0xfd, 0xae, 0x01], Behind::Nothing),
-    (&[0xfd, 0xb5, 0x01], Behind::Nothing), (&[0xfd, 0xe4, 0x01], Behind::Nothing), (&[0xfd, 0xf0, 0x01], Behind::Nothing),
-    (&[0xfd, 0x80, 0x02], Behind::Nothing), (&[0xfd, 0x87, 0x02], Behind::Nothing), (&[0xfe, 0x00], Behind::Memory(2)),
-    (&[0xfe, 0x01], Behind::Memory(2)), (&[0xfe, 0x03], Behind::Zero), (&[0xfe, 0x10], Behind::Memory(2)),
-    (&[0xfe, 0x11], Behind::Memory(3)), (&[0xfe, 0x17], Behind::Memory(2)), (&[0xfe, 0x1e], Behind::Memory(2)),
-    (&[0xfe, 0x48], Behind::Memory(2)),
+static OPERATORS: [(&[u8], After); 112] = [
+    (&[0x00], After::Nothing), (&[0x01], After::Nothing), (&[0x08], After::Index),
+    (&[0x0a], After::Nothing), (&[0x0c], After::Index), (&[0x0d], After::Index),
+    (&[0x0f], After::Nothing), (&[0x10], After::Index), (&[0x11], After::Indices),
+    (&[0x12], After::Index), (&[0x13], After::Indices), (&[0x14], After::Index),
+    (&[0x15], After::Index), (&[0x1a], After::Nothing), (&[0x1b], After::Nothing),
+    (&[0x1c], After::Types), (&[0x20], After::Index), (&[0x20], After::Index),
+    (&[0x21], After::Index), (&[0x22], After::Index), (&[0x23], After::Index),
+    (&[0x24], After::Index), (&[0x25], After::Index), (&[0x26], After::Index),
+    (&[0x29], After::Memory(3)), (&[0x2a], After::Memory(2)), (&[0x2b], After::Memory(3)),
+    (&[0x37], After::Memory(3)), (&[0x3f], After::Zero), (&[0x40], After::Zero),
+    (&[0x42], After::Wide), (&[0x43], After::Single), (&[0x44], After::Double),
+    (&[0x7c], After::Nothing), (&[0x92], After::Nothing), (&[0xa0], After::Nothing),
+    (&[0xa2], After::Nothing), (&[0xac], After::Nothing), (&[0xb7], After::Nothing),
+    (&[0xbd], After::Nothing), (&[0xc4], After::Nothing), (&[0xd0], After::Heap),
+    (&[0xd1], After::Nothing), (&[0xd2], After::Index), (&[0xd3], After::Nothing),
+    (&[0xd4], After::Nothing), (&[0xd5], After::Index), (&[0xd6], After::Index),
+    (&[0xfb, 0x00], After::Index), (&[0xfb, 0x01], After::Index), (&[0xfb, 0x02], After::Indices),
+    (&[0xfb, 0x03], After::Indices), (&[0xfb, 0x05], After::Indices), (&[0xfb, 0x06], After::Index),
+    (&[0xfb, 0x08], After::Indices), (&[0xfb, 0x09], After::Indices), (&[0xfb, 0x0b], After::Index),
+    (&[0xfb, 0x0e], After::Index), (&[0xfb, 0x0f], After::Nothing), (&[0xfb, 0x11], After::Indices),
+    (&[0xfb, 0x14], After::Heap), (&[0xfb, 0x16], After::Heap), (&[0xfb, 0x17], After::Heap),
+    (&[0xfb, 0x18], After::Cast), (&[0xfb, 0x19], After::Cast), (&[0xfb, 0x1a], After::Nothing),
+    (&[0xfb, 0x1c], After::Nothing), (&[0xfb, 0x1d], After::Nothing), (&[0xfc, 0x00], After::Nothing),
+    (&[0xfc, 0x06], After::Nothing), (&[0xfc, 0x08], After::Indices), (&[0xfc, 0x09], After::Index),
+    (&[0xfc, 0x0a], After::Indices), (&[0xfc, 0x0b], After::Index), (&[0xfc, 0x0c], After::Indices),
+    (&[0xfc, 0x0d], After::Index), (&[0xfc, 0x0e], After::Indices), (&[0xfc, 0x0f], After::Index),
+    (&[0xfc, 0x10], After::Index), (&[0xfc, 0x11], After::Index), (&[0xfd, 0x00], After::Memory(4)),
+    (&[0xfd, 0x01], After::Memory(3)), (&[0xfd, 0x0b], After::Memory(4)), (&[0xfd, 0x0c], After::Vector),
+    (&[0xfd, 0x0d], After::Lanes), (&[0xfd, 0x0f], After::Nothing), (&[0xfd, 0x11], After::Nothing),
+    (&[0xfd, 0x15], After::Lane), (&[0xfd, 0x1b], After::Lane), (&[0xfd, 0x21], After::Lane),
+    (&[0xfd, 0x23], After::Nothing), (&[0xfd, 0x4d], After::Nothing), (&[0xfd, 0x52], After::Nothing),
+    (&[0xfd, 0x54], After::MemoryLane(0)), (&[0xfd, 0x57], After::MemoryLane(3)), (&[0xfd, 0x5a], After::MemoryLane(2)),
+    (&[0xfd, 0x5c], After::Memory(2)), (&[0xfd, 0x6e], After::Nothing), (&[0xfd, 0xae, 0x01], After::Nothing),
+    (&[0xfd, 0xb5, 0x01], After::Nothing), (&[0xfd, 0xe4, 0x01], After::Nothing), (&[0xfd, 0xf0, 0x01], After::Nothing),
+    (&[0xfd, 0x80, 0x02], After::Nothing), (&[0xfd, 0x87, 0x02], After::Nothing), (&[0xfe, 0x00], After::Memory(2)),
+    (&[0xfe, 0x01], After::Memory(2)), (&[0xfe, 0x03], After::Zero), (&[0xfe, 0x10], After::Memory(2)),
+    (&[0xfe, 0x11], After::Memory(3)), (&[0xfe, 0x17], After::Memory(2)), (&[0xfe, 0x1e], After::Memory(2)),
+    (&[0xfe, 0x48], After::Memory(2)),
 ];
 
 /// Heap types, some of them indices.
@@ -185,29 +185,29 @@ fn cast(draws: &mut Draws, code: &mut Encoder) -> Result<(), AllocError> {
 }
 
 /// Appends immediates of this kind.
-fn immediates(draws: &mut Draws, behind: Behind, code: &mut Encoder) -> Result<(), AllocError> {
-    match behind {
-        Behind::Nothing => Ok(()),
-        Behind::Index => code.index(draws.small(12)),
-        Behind::Indices => {
+fn immediates(draws: &mut Draws, after: After, code: &mut Encoder) -> Result<(), AllocError> {
+    match after {
+        After::Nothing => Ok(()),
+        After::Index => code.index(draws.small(12)),
+        After::Indices => {
             code.index(draws.small(7))?;
             code.index(draws.small(3))
         }
-        Behind::Memory(exponent) => operand(draws, exponent, code),
-        Behind::MemoryLane(exponent) => {
+        After::Memory(exponent) => operand(draws, exponent, code),
+        After::MemoryLane(exponent) => {
             operand(draws, exponent, code)?;
             code.byte(draws.byte(2))
         }
-        Behind::Lane => code.byte(draws.byte(2)),
-        Behind::Vector => sixteen(draws, 256, code),
-        Behind::Lanes => sixteen(draws, 32, code),
-        Behind::Single => code.all(&draws.word().to_le_bytes()),
-        Behind::Double => code.all(&draws.number().to_le_bytes()),
-        Behind::Wide => code.signed(draws.number().cast_signed()),
-        Behind::Heap => code.byte(draws.pick(&HEAPS, 0x70)),
-        Behind::Cast => cast(draws, code),
-        Behind::Types => code.all(&[1, 0x7b]),
-        Behind::Zero => code.byte(0),
+        After::Lane => code.byte(draws.byte(2)),
+        After::Vector => sixteen(draws, 256, code),
+        After::Lanes => sixteen(draws, 32, code),
+        After::Single => code.all(&draws.word().to_le_bytes()),
+        After::Double => code.all(&draws.number().to_le_bytes()),
+        After::Wide => code.signed(draws.number().cast_signed()),
+        After::Heap => code.byte(draws.pick(&HEAPS, 0x70)),
+        After::Cast => cast(draws, code),
+        After::Types => code.all(&[1, 0x7b]),
+        After::Zero => code.byte(0),
     }
 }
 
@@ -225,9 +225,9 @@ fn operators(draws: &mut Draws, steps: u32, code: &mut Encoder) -> Result<(), Al
                 code.byte(0x0b)?;
             }
             _ => {
-                let (opcode, behind) = draws.pick(&OPERATORS, (&[0x01], Behind::Nothing));
+                let (opcode, after) = draws.pick(&OPERATORS, (&[0x01], After::Nothing));
                 code.all(opcode)?;
-                immediates(draws, behind, code)?;
+                immediates(draws, after, code)?;
             }
         }
     }

@@ -217,7 +217,7 @@ pub(crate) static ROLES: [Role; 0x20] = [
     Role::Opens, // 0x02
     Role::Opens, // 0x03
     Role::OpensIf, // 0x04
-    Role::Turns, // 0x05
+    Role::Else, // 0x05
     Role::OpensTry, // 0x06
     Role::Catches, // 0x07
     Role::Plain, Role::Plain, Role::Plain, // 0x08

@@ -212,7 +212,7 @@ fn constants_are_read(rt: HostRuntime) {
 }
 
 #[test]
-fn behind_a_fence_stands_zero(rt: HostRuntime) {
+fn zero_follows_a_fence(rt: HostRuntime) {
     assert_operators(&rt, &[(&[0xfe, 3, 0], "atomic.fence", Wanted::None)]);
     assert!(rt; place_of_refusal(&[0xfe, 3, 1]) == Some(2));
 }

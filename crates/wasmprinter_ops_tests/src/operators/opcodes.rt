@@ -163,7 +163,7 @@ const ROLES: [(u32, Role); 13] = [
     (0x02, Role::Opens),
     (0x03, Role::Opens),
     (0x04, Role::OpensIf),
-    (0x05, Role::Turns),
+    (0x05, Role::Else),
     (0x06, Role::OpensTry),
     (0x07, Role::Catches),
     (0x0b, Role::Ends),

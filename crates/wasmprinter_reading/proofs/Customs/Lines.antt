@@ -7,7 +7,7 @@ use Rattle.std.proofs.lemmas.Bool.{and_parts}
 use Rattle.std.proofs.lemmas.Str.{scalars-chars}
 use Rattle.wasmprinter_spec.specs.Character.{class}
 use Rattle.wasmprinter_spec.specs.Grammar.{Placed}
-use Rattle.wasmprinter_spec.specs.Quoted.{is_run}
+use Rattle.wasmprinter_spec.specs.Quoted.{is_id}
 use Rattle.wasmprinter_spec.specs.Customs.Producers.{Value, Field}
 use Rattle.wasmprinter_spec.specs.Customs.Dylink.{MemInfo, ExportInfo, ImportInfo, SubsectionContent, Sizes, Needed, Exports, Imports, Paths, Other, Subsection}
 use Rattle.wasmprinter_spec.specs.Piece.{Piece, Break, Gap, Open, OpenGap, OpenPlain, Shut, Word, Quoted}
@@ -65,7 +65,7 @@ list_written (s ∷ ss) h = both_written (gap_quoted_written s h.0) (list_writte
 
 -- ---- `producers`
 
-values_written : (field : List ℕ) (vs : List (Placed Value)) → is_run field ≡ true → AllByRecursion (λ v. IsRangedValue v.value) vs →
+values_written : (field : List ℕ) (vs : List (Placed Value)) → is_id field ≡ true → AllByRecursion (λ v. IsRangedValue v.value) vs →
     IsWritten Bound (values_pieces field vs) Bound
 unfolding values_pieces
 values_written field [] run h = nothing_written

@@ -10,7 +10,7 @@ use Rattle.wasmprinter_spec.specs.Kinds.{Kind, CustomSection, TypeSection, Impor
 use Rattle.wasmprinter_spec.specs.Placed.{CustomEntry}
 use Rattle.wasmprinter_spec.specs.Forest.{Forest, End, Word, String, Group, Note, onto, without_annotations, row_customs}
 use Rattle.wasmprinter_spec.specs.Code.{is_hint}
-use Rattle.wasmprinter_spec.specs.Customs.{CustomRole, Silent, Listed, Linked, Refused, Raw, Faulted, custom_role_of, RawCustom, raw_custom, is_raw, raw_customs}
+use Rattle.wasmprinter_spec.specs.Customs.{CustomRole, Silent, Listed, Linked, Refused, Raw, Malformed, custom_role_of, RawCustom, raw_custom, is_raw, raw_customs}
 use Rattle.wasmprinter_spec.specs.Options.{Answers, AreUnclaimed}
 use Rattle.wasmprinter_spec.specs.Piece as piece
 use Rattle.wasmprinter_spec.specs.Piece.{Piece, Gap, Quoted, Shut, Claimed}
@@ -40,7 +40,7 @@ place_items (Some kind) = Word (codes "after") (Word (place_word kind) End)
 
 -- The items in the annotation
 abbrev raw_items : Bool → CustomEntry → Forest
-raw_items skeleton c = String c.section.value.name (Group (place_items c.behind) (bytes_items skeleton c.section.value.bytes.value))
+raw_items skeleton c = String c.section.value.name (Group (place_items c.after) (bytes_items skeleton c.section.value.bytes.value))
 
 abbrev raw_note : Bool → CustomEntry → Forest
 raw_note skeleton c = Note (codes "custom") (raw_items skeleton c) End
@@ -72,23 +72,23 @@ unfolding place_pieces class
 place_writes None h rest = two_words_write (codes "before") (codes "first") refl refl rest
 place_writes (Some kind) h rest = two_words_write (codes "after") (place_word kind) refl (place_is_word kind h) rest
 
-raw_writes : {a : Edge} (skeleton : Bool) (c : CustomEntry) → is_any_place c.behind ≡ true → IsRangedCustom c.section.value →
+raw_writes : {a : Edge} (skeleton : Bool) (c : CustomEntry) → is_any_place c.after ≡ true → IsRangedCustom c.section.value →
     WritesNoted a (raw_pieces skeleton c) Bound End (raw_note skeleton c)
 unfolding raw_pieces class
 raw_writes skeleton c is h =
     let n : List ℕ = c.section.value.name in
     let shown : List Piece = shown_bytes skeleton c.section.value.bytes.value in
-    let held : Writes Free (Quoted (chars n) ∷ (Gap ∷ (place_pieces c.behind ++ (Gap ∷ shown)))) Bound
-    (String (encode_utf8_all (chars n)) (Group (place_items c.behind) (bytes_items skeleton c.section.value.bytes.value))) =
-    quoted_writes (scalars-chars n h.name) (gap_writes refl (place_writes c.behind is (gap_writes refl (bytes_write skeleton c.section.value.bytes.value h.bytes)))) in
-    let again : Writes Free (Quoted (chars n) ∷ (Gap ∷ (place_pieces c.behind ++ (Gap ∷ shown)))) Bound (raw_items skeleton c) =
+    let held : Writes Free (Quoted (chars n) ∷ (Gap ∷ (place_pieces c.after ++ (Gap ∷ shown)))) Bound
+    (String (encode_utf8_all (chars n)) (Group (place_items c.after) (bytes_items skeleton c.section.value.bytes.value))) =
+    quoted_writes (scalars-chars n h.name) (gap_writes refl (place_writes c.after is (gap_writes refl (bytes_write skeleton c.section.value.bytes.value h.bytes)))) in
+    let again : Writes Free (Quoted (chars n) ∷ (Gap ∷ (place_pieces c.after ++ (Gap ∷ shown)))) Bound (raw_items skeleton c) =
     rw (encodes-chars n h.name) at held in
-    let note = note_gap_writes {a = Free} {b = Bound} (codes "custom") (Quoted (chars n) ∷ (Gap ∷ (place_pieces c.behind ++ (Gap ∷ shown)))) refl refl again in
+    let note = note_gap_writes {a = Free} {b = Bound} (codes "custom") (Quoted (chars n) ∷ (Gap ∷ (place_pieces c.after ++ (Gap ∷ shown)))) refl refl again in
     break_writes
-    (subst (λ t. WritesNoted Free (piece.OpenNoteGap (codes "custom") ∷ (Quoted (chars n) ∷ (Gap ∷ t))) Bound End (raw_note skeleton c))
-    (append_assoc (place_pieces c.behind) (Gap ∷ shown) (Shut ∷ [])) note)
+    (subst (λ t. WritesNoted Free (piece.OpenAnnotationGap (codes "custom") ∷ (Quoted (chars n) ∷ (Gap ∷ t))) Bound End (raw_note skeleton c))
+    (append_assoc (place_pieces c.after) (Gap ∷ shown) (Shut ∷ [])) note)
 
-faulted_writes : {a : Edge} (skeleton : Bool) (c : CustomEntry) → is_any_place c.behind ≡ true → IsRangedCustom c.section.value → is_remark c.section.value.name ≡ true →
+faulted_writes : {a : Edge} (skeleton : Bool) (c : CustomEntry) → is_any_place c.after ≡ true → IsRangedCustom c.section.value → is_remark c.section.value.name ≡ true →
     WritesNoted a (faulted_pieces skeleton c) Bound End (raw_note skeleton c)
 unfolding faulted_pieces class
 faulted_writes skeleton c is h remark =
@@ -116,9 +116,9 @@ custom_place-items (Some ElementSection) h = refl
 custom_place-items (Some CodeSection) h = refl
 custom_place-items (Some DataSection) h = refl
 
-read_custom-items : (c : CustomEntry) → is_any_place c.behind ≡ true → IsRangedCustom c.section.value → read_custom (raw_items false c) ≡ Some (raw_custom c)
+read_custom-items : (c : CustomEntry) → is_any_place c.after ≡ true → IsRangedCustom c.section.value → read_custom (raw_items false c) ≡ Some (raw_custom c)
 read_custom-items c is h =
-    rw (is_utf8-from_IsUtf8 c.section.value.name h.name, custom_place-items c.behind is, append-nil c.section.value.bytes.value)
+    rw (is_utf8-from_IsUtf8 c.section.value.name h.name, custom_place-items c.after is, append-nil c.section.value.bytes.value)
 
 place_cut : (place : Option Kind) → without_annotations (place_items place) ≡ place_items place
 place_cut None = refl
@@ -164,7 +164,7 @@ record PartNotes (skeleton answer : Bool) (part : Part) (c : CustomEntry) : Type
   write : PartWrites part notes
   reads : answer ≡ false → skeleton ≡ false → RowReads notes (raw_customs (c ∷ []))
 
-module _ (skeleton answer : Bool) (c : CustomEntry) (is : is_any_place c.behind ≡ true) (h : IsRangedCustom c.section.value) where
+module _ (skeleton answer : Bool) (c : CustomEntry) (is : is_any_place c.after ≡ true) (h : IsRangedCustom c.section.value) where
   abbrev claim : Piece
   claim = Claimed c.section.value.name c.section.value.bytes.place c.section.value.bytes.value answer
 
@@ -183,7 +183,7 @@ module _ (skeleton answer : Bool) (c : CustomEntry) (is : is_any_place c.behind 
 
   raw_reads : (r : CustomRole) → custom_role_of c.section.value ≡ r → is_raw r ≡ true → skeleton ≡ false → RowReads (raw_note skeleton c) (raw_customs (c ∷ []))
   raw_reads r e raw whole =
-      let one : RowReads (raw_note false c) (raw_custom c ∷ []) = rw (place_cut c.behind, read_custom-items c is h) in
+      let one : RowReads (raw_note false c) (raw_custom c ∷ []) = rw (place_cut c.after, read_custom-items c is h) in
       subst (λ t. RowReads (raw_note t c) (raw_customs (c ∷ []))) (sym whole)
       (subst (RowReads (raw_note false c)) (sym (own_raws r e ∙ ap (λ t. cond t (raw_custom c ∷ []) []) raw)) one)
 
@@ -210,10 +210,10 @@ module _ (skeleton answer : Bool) (c : CustomEntry) (is : is_any_place c.behind 
       record { notes = End; are = tt; write = (claim_writes nothing_writes, refl); reads = λ u w. nothing_reads (Refused id) e refl }
   role_notes Raw e k =
       record { notes = raw_note skeleton c; are = (refl, tt); write = claim_writes (raw_writes skeleton c is h); reads = λ u w. raw_reads Raw e refl w }
-  role_notes Faulted e k =
-      record { notes = raw_note skeleton c; are = (refl, tt); write = claim_writes (faulted_writes skeleton c is h k); reads = λ u w. raw_reads Faulted e refl w }
+  role_notes Malformed e k =
+      record { notes = raw_note skeleton c; are = (refl, tt); write = claim_writes (faulted_writes skeleton c is h k); reads = λ u w. raw_reads Malformed e refl w }
 
-custom_notes : (skeleton answer : Bool) (c : CustomEntry) → is_any_place c.behind ≡ true → IsRangedCustom c.section.value →
+custom_notes : (skeleton answer : Bool) (c : CustomEntry) → is_any_place c.after ≡ true → IsRangedCustom c.section.value →
     PartNotes skeleton answer (custom_part skeleton answer c) c
 custom_notes skeleton true c is h = record { notes = End; are = tt; write = claim_writes skeleton true c is h nothing_writes; reads = λ u w. absurd cc }
 custom_notes skeleton false c is h = role_notes skeleton false c is h (custom_role_of c.section.value) refl (role_ranged c.section.value h)
@@ -222,7 +222,7 @@ custom_notes skeleton false c is h = role_notes skeleton false c is h (custom_ro
 
 abbrev pub at_place : Option Kind → List CustomEntry → List CustomEntry
 at_place place [] = []
-at_place place (c ∷ cs) = cond (same_place c.behind place) (c ∷ at_place place cs) (at_place place cs)
+at_place place (c ∷ cs) = cond (same_place c.after place) (c ∷ at_place place cs) (at_place place cs)
 
 pub raw_customs-append : (xs ys : List CustomEntry) → raw_customs (xs ++ ys) ≡ raw_customs xs ++ raw_customs ys
 raw_customs-append [] ys = refl
@@ -244,17 +244,17 @@ part_before (Stops ps id) {parts = parts} k {f = f} {h = h} w rest =
 
 -- The place of each custom section is one that it can have.
 abbrev pub AreAnywhere : List CustomEntry → Type 0
-AreAnywhere cs = AllByRecursion (λ c. is_any_place c.behind ≡ true) cs
+AreAnywhere cs = AllByRecursion (λ c. is_any_place c.after ≡ true) cs
 
 pub notes_at : (skeleton : Bool) (answers : Answers) (place : Option Kind) (n : ℕ) (cs : List CustomEntry) → AreAnywhere cs →
     AllByRecursion (λ c. IsRangedCustom c.section.value) cs → NotesAt skeleton answers place n cs
 notes_at skeleton answers place n [] is h = record { notes = End; are = tt; write = no_parts; reads = λ u w. refl }
-notes_at skeleton answers place n (c ∷ cs) is h = by (same_place c.behind place) refl (notes_at skeleton answers place (n + 1) cs is.1 h.1)
+notes_at skeleton answers place n (c ∷ cs) is h = by (same_place c.after place) refl (notes_at skeleton answers place (n + 1) cs is.1 h.1)
   where
     one : PartNotes skeleton (answers n) (custom_part skeleton (answers n) c) c
     one = custom_notes skeleton (answers n) c is.0 h.0
 
-    by : (t : Bool) → same_place c.behind place ≡ t → NotesAt skeleton answers place (n + 1) cs → NotesAt skeleton answers place n (c ∷ cs)
+    by : (t : Bool) → same_place c.after place ≡ t → NotesAt skeleton answers place (n + 1) cs → NotesAt skeleton answers place n (c ∷ cs)
     by true e rest = record {
       notes = onto one.notes rest.notes;
       are = notes_onto one.notes rest.notes one.are rest.are;

@@ -4,7 +4,7 @@ use Rattle.std.proofs.lemmas.Bool.{and_parts, ltb-true}
 use Rattle.wasmprinter_spec.specs.Repeated.{some_or}
 use Rattle.wasmprinter_spec.specs.Kinds.{Kind, CustomSection, TypeSection, ImportSection, FunctionSection, TableSection, MemorySection, TagSection, GlobalSection, ExportSection, StartSection, ElementSection, DataCountSection, CodeSection, DataSection}
 use Rattle.wasmprinter_spec.specs.Placed.{CustomEntry}
-use Rattle.wasmprinter_spec.specs.Sections.{Section, holds, section_kind, content_of, rank, follows, rank_behind, are_above, is_place, place_behind, customs_behind}
+use Rattle.wasmprinter_spec.specs.Sections.{Section, holds, section_kind, content_of, rank, follows, rank_after, are_above, is_place, place_after, customs_after}
 use Rattle.wasmprinter_spec.proofs.Ordered.{picks}
 
 -- The rank of a place
@@ -22,7 +22,7 @@ is_any_place (Some kind) = true
 -- The ranks of the places do not decrease, and none is below `low`.
 abbrev pub AreInOrder : ℕ → List CustomEntry → Type 0
 AreInOrder low [] = Unit {0}
-AreInOrder low (c ∷ cs) = (low ≤ place_rank c.behind) × (is_any_place c.behind ≡ true) × AreInOrder (place_rank c.behind) cs
+AreInOrder low (c ∷ cs) = (low ≤ place_rank c.after) × (is_any_place c.after ≡ true) × AreInOrder (place_rank c.after) cs
 
 earlier : (a b : ℕ) (cs : List CustomEntry) → a ≤ b → AreInOrder b cs → AreInOrder a cs
 earlier a b [] le h = tt
@@ -30,14 +30,14 @@ earlier a b (c ∷ cs) le (from, any, others) = (omega (arith, from), any, other
 
 -- The last place after a section, compared with the last place before it
 record Moves (low : ℕ) (last : Option Kind) (s : Section) : Type 0 where
-  any : is_any_place (place_behind last s) ≡ true
-  from : place_rank last ≤ place_rank (place_behind last s)
-  to : place_rank (place_behind last s) ≤ rank_behind low (rank (section_kind s))
+  any : is_any_place (place_after last s) ≡ true
+  from : place_rank last ≤ place_rank (place_after last s)
+  to : place_rank (place_after last s) ≤ rank_after low (rank (section_kind s))
 
 module _ (low : ℕ) (last : Option Kind) (any : is_any_place last ≡ true) (le : place_rank last ≤ low) where
   -- A section of a kind with a rank that may be a place
   moved : (kind : Kind) (r : ℕ) → rank kind ≡ Some r → is_any_place (Some kind) ≡ true → follows low (rank kind) ≡ true → (t : Bool) →
-      (is_any_place (cond t (Some kind) last) ≡ true) × (place_rank last ≤ place_rank (cond t (Some kind) last)) × (place_rank (cond t (Some kind) last) ≤ rank_behind low (rank kind))
+      (is_any_place (cond t (Some kind) last) ≡ true) × (place_rank last ≤ place_rank (cond t (Some kind) last)) × (place_rank (cond t (Some kind) last) ≤ rank_after low (rank kind))
   moved kind r e is up true =
       let lt = ltb-true low r (ap (follows low) (sym e) ∙ up) in
       (is, rw e (omega (arith, le, lt)), rw e (omega arith))
@@ -45,8 +45,8 @@ module _ (low : ℕ) (last : Option Kind) (any : is_any_place last ≡ true) (le
       let lt = ltb-true low r (ap (follows low) (sym e) ∙ up) in
       (any, omega arith, rw e (omega (arith, le, lt)))
 
-  moves_from : (s : Section) → (is_any_place (place_behind last s) ≡ true) × (place_rank last ≤ place_rank (place_behind last s))
-      × (place_rank (place_behind last s) ≤ rank_behind low (rank (section_kind s))) → Moves low last s
+  moves_from : (s : Section) → (is_any_place (place_after last s) ≡ true) × (place_rank last ≤ place_rank (place_after last s))
+      × (place_rank (place_after last s) ≤ rank_after low (rank (section_kind s))) → Moves low last s
   moves_from s (is_any, from, to) = record { any = is_any; from = from; to = to }
 
   moves : (s : Section) → follows low (rank (section_kind s)) ≡ true → Moves low last s
@@ -67,14 +67,14 @@ module _ (low : ℕ) (last : Option Kind) (any : is_any_place last ≡ true) (le
 
 -- The custom sections among sections in order are in order.
 pub in_order : (low : ℕ) (last : Option Kind) (ss : List Section) → is_any_place last ≡ true → place_rank last ≤ low → are_above low ss ≡ true →
-    AreInOrder (place_rank last) (customs_behind last ss)
+    AreInOrder (place_rank last) (customs_after last ss)
 in_order low last [] any le up = tt
 in_order low last (s ∷ ss) any le up =
-    let parts = and_parts (follows low (rank (section_kind s))) (are_above (rank_behind low (rank (section_kind s))) ss) up in
+    let parts = and_parts (follows low (rank (section_kind s))) (are_above (rank_after low (rank (section_kind s))) ss) up in
     let m : Moves low last s = moves low last any le s parts.0 in
-    let rest = in_order (rank_behind low (rank (section_kind s))) (place_behind last s) ss m.any m.to parts.1 in
-    let behind = earlier (place_rank last) (place_rank (place_behind last s)) (customs_behind (place_behind last s) ss) m.from rest in
+    let rest = in_order (rank_after low (rank (section_kind s))) (place_after last s) ss m.any m.to parts.1 in
+    let after = earlier (place_rank last) (place_rank (place_after last s)) (customs_after (place_after last s) ss) m.from rest in
     elim (picks CustomSection s) [
-      | inl other ↦ rw other behind
-      | inr own ↦ rw (ap (content_of CustomSection) own.1) (omega arith, any, behind)
+      | inl other ↦ rw other after
+      | inr own ↦ rw (ap (content_of CustomSection) own.1) (omega arith, any, after)
     ]

@@ -52,17 +52,17 @@ other_place a b apart = by (same_place a b) refl
 none_at : (p : Option Kind) (low : ℕ) (cs : List CustomEntry) → place_rank p < low → AreInOrder low cs → at_place p cs ≡ []
 none_at p low [] lt h = refl
 none_at p low (c ∷ cs) lt (from, any, others) =
-    rw (other_place c.behind p (λ e. omega (arith, from, lt, e)), none_at p (place_rank c.behind) cs (omega (arith, from, lt)) others)
+    rw (other_place c.after p (λ e. omega (arith, from, lt, e)), none_at p (place_rank c.after) cs (omega (arith, from, lt)) others)
 
 -- ---- all places
 
 -- A section with a rank below those of all places is at none of them.
-absent : (ps : List (Option Kind)) (low : ℕ) (c : CustomEntry) (cs : List CustomEntry) → rises low ps ≡ true → place_rank c.behind < low → over ps (c ∷ cs) ≡ over ps cs
+absent : (ps : List (Option Kind)) (low : ℕ) (c : CustomEntry) (cs : List CustomEntry) → rises low ps ≡ true → place_rank c.after < low → over ps (c ∷ cs) ≡ over ps cs
 absent [] low c cs up lt = refl
 absent (p ∷ ps) low c cs up lt =
     let parts = and_parts (leb low (place_rank p)) (rises (suc (place_rank p)) ps) up in
     let le : low ≤ place_rank p = leb-true low (place_rank p) parts.0 in
-    rw (other_place c.behind p (λ e. omega (arith, le, lt, e)), absent ps (suc (place_rank p)) c cs parts.1 (omega (arith, le, lt)))
+    rw (other_place c.after p (λ e. omega (arith, le, lt, e)), absent ps (suc (place_rank p)) c cs parts.1 (omega (arith, le, lt)))
 
 -- The rank of a section at one of these places is not below `low`.
 among_rank : (ps : List (Option Kind)) (low : ℕ) (k : Option Kind) → rises low ps ≡ true → is_among k ps ≡ true → low ≤ place_rank k
@@ -76,19 +76,19 @@ among_rank (p ∷ ps) low k up i =
     by false e j le more = omega (arith, le, more j)
 
 -- The first of sections in order comes first.
-first_over : (ps : List (Option Kind)) (low : ℕ) (c : CustomEntry) (cs : List CustomEntry) → rises low ps ≡ true → is_among c.behind ps ≡ true →
-    AreInOrder (place_rank c.behind) cs → over ps (c ∷ cs) ≡ c ∷ over ps cs
+first_over : (ps : List (Option Kind)) (low : ℕ) (c : CustomEntry) (cs : List CustomEntry) → rises low ps ≡ true → is_among c.after ps ≡ true →
+    AreInOrder (place_rank c.after) cs → over ps (c ∷ cs) ≡ c ∷ over ps cs
 first_over [] low c cs up i h = absurd (true≢false (sym i))
 first_over (p ∷ ps) low c cs up i h =
     let parts = and_parts (leb low (place_rank p)) (rises (suc (place_rank p)) ps) up in
-    by (same_place c.behind p) refl i parts.1 (λ j. first_over ps (suc (place_rank p)) c cs parts.1 j h)
+    by (same_place c.after p) refl i parts.1 (λ j. first_over ps (suc (place_rank p)) c cs parts.1 j h)
   where
-    by : (t : Bool) → same_place c.behind p ≡ t → (t || is_among c.behind ps) ≡ true → rises (suc (place_rank p)) ps ≡ true →
-        (is_among c.behind ps ≡ true → over ps (c ∷ cs) ≡ c ∷ over ps cs) → over (p ∷ ps) (c ∷ cs) ≡ c ∷ over (p ∷ ps) cs
-    by true e j higher more = rw (e, absent ps (suc (place_rank p)) c cs higher (omega (arith, same_rank c.behind p e)))
+    by : (t : Bool) → same_place c.after p ≡ t → (t || is_among c.after ps) ≡ true → rises (suc (place_rank p)) ps ≡ true →
+        (is_among c.after ps ≡ true → over ps (c ∷ cs) ≡ c ∷ over ps cs) → over (p ∷ ps) (c ∷ cs) ≡ c ∷ over (p ∷ ps) cs
+    by true e j higher more = rw (e, absent ps (suc (place_rank p)) c cs higher (omega (arith, same_rank c.after p e)))
     by false e j higher more =
-        let above : suc (place_rank p) ≤ place_rank c.behind = among_rank ps (suc (place_rank p)) c.behind higher j in
-        rw (e, none_at p (place_rank c.behind) cs (omega (arith, above)) h, more j)
+        let above : suc (place_rank p) ≤ place_rank c.after = among_rank ps (suc (place_rank p)) c.after higher j in
+        rw (e, none_at p (place_rank c.after) cs (omega (arith, above)) h, more j)
 
 is_among_all : (k : Option Kind) → is_any_place k ≡ true → is_among k all_places ≡ true
 is_among_all (Some CustomSection) h = absurd cc
@@ -98,7 +98,7 @@ is_among_all _ h = refl
 over_all : (low : ℕ) (cs : List CustomEntry) → AreInOrder low cs → over all_places cs ≡ cs
 over_all low [] h = refl
 over_all low (c ∷ cs) (from, any, others) =
-    first_over all_places 0 c cs refl (is_among_all c.behind any) others ∙ ap (λ t. c ∷ t) (over_all (place_rank c.behind) cs others)
+    first_over all_places 0 c cs refl (is_among_all c.after any) others ∙ ap (λ t. c ∷ t) (over_all (place_rank c.after) cs others)
 
 raws_over-over : (ps : List (Option Kind)) (cs : List CustomEntry) → raws_over ps cs ≡ raw_customs (over ps cs)
 raws_over-over [] cs = refl
@@ -109,4 +109,4 @@ raws_over_all low cs h = raws_over-over all_places cs ∙ ap raw_customs (over_a
 
 pub ordered_anywhere : (low : ℕ) (cs : List CustomEntry) → AreInOrder low cs → AreAnywhere cs
 ordered_anywhere low [] h = tt
-ordered_anywhere low (c ∷ cs) (from, any, others) = (any, ordered_anywhere (place_rank c.behind) cs others)
+ordered_anywhere low (c ∷ cs) (from, any, others) = (any, ordered_anywhere (place_rank c.after) cs others)

@@ -6,11 +6,11 @@ use Rattle.std.proofs.lemmas.Bool.{and_parts}
 use Rattle.std.specs.List.{AllByRecursion}
 use Rattle.wasmprinter_spec.specs.Character.{class}
 use Rattle.wasmprinter_spec.specs.Grammar.{Input, input, byte}
-use Rattle.wasmprinter_spec.specs.Quoted.{is_run}
+use Rattle.wasmprinter_spec.specs.Quoted.{is_id}
 use Rattle.wasmprinter_spec.specs.Sized.{take_bytes}
 use Rattle.wasmprinter_spec.specs.Lenient.{Lenient, give, one, unless_ended}
 use Rattle.wasmprinter_spec.specs.Placed.{Custom}
-use Rattle.wasmprinter_spec.specs.Customs.{CustomRole, Silent, Listed, Linked, Raw, Faulted, producers_role, dylink_role, custom_role_of, name_section, hint_section, producers_section, dylink_section}
+use Rattle.wasmprinter_spec.specs.Customs.{CustomRole, Silent, Listed, Linked, Raw, Malformed, producers_role, dylink_role, custom_role_of, name_section, hint_section, producers_section, dylink_section}
 use Rattle.wasmprinter_spec.specs.Customs.Producers.{Value, Field, value, field, producers, are_runs}
 use Rattle.wasmprinter_spec.specs.Customs.Dylink.{MemInfo, SubsectionContent, Sizes, Needed, Exports, Imports, Paths, Other, Subsection, mem_info, export_info, import_info, content_by_id, is_known, content, subsection, subsections, first_other, judgement_by, judgement_of}
 use Rattle.wasmprinter_lexical.proofs.Printed.{is_remark}
@@ -32,7 +32,7 @@ AreRangedValues f = AllByRecursion (λ v. IsRangedValue v.value) f.values
 
 -- The name of the field can start a group.
 abbrev pub IsRangedField : Field → Type 0
-IsRangedField f = (is_run f.name ≡ true) × AreRangedValues f
+IsRangedField f = (is_id f.name ≡ true) × AreRangedValues f
 
 AllSpelled-value : AllSpelled value IsRangedValue
 AllSpelled-value = Spelled-map_value (Spelled-seq AllSpelled-name (λ _. AllSpelled-name)) (λ x h. record { name = h.0; version = h.1 })
@@ -42,7 +42,7 @@ AllSpelled-field = Spelled-map_value (Spelled-seq AllSpelled-name (λ _. Spelled
 
 fields_ranged : (fs : List Field) → AllByRecursion AreRangedValues fs → are_runs fs ≡ true → AllByRecursion IsRangedField fs
 fields_ranged [] h r = tt
-fields_ranged (f ∷ fs) h r = let parts = and_parts (is_run f.name) (are_runs fs) r in ((parts.0, h.0), fields_ranged fs h.1 parts.1)
+fields_ranged (f ∷ fs) h r = let parts = and_parts (is_id f.name) (are_runs fs) r in ((parts.0, h.0), fields_ranged fs h.1 parts.1)
 
 -- ---- `dylink.0`
 
@@ -109,7 +109,7 @@ AllGiven-subsections n =
 abbrev pub IsRangedRole : Custom → CustomRole → Type 0
 IsRangedRole c (Listed fields) = AllByRecursion IsRangedField fields
 IsRangedRole c (Linked ss) = AreRangedSubsections ss
-IsRangedRole c Faulted = is_remark c.name ≡ true
+IsRangedRole c Malformed = is_remark c.name ≡ true
 IsRangedRole c _ = Unit {0}
 
 module _ (c : Custom) (h : IsRangedCustom c) where
@@ -137,7 +137,7 @@ module _ (c : Custom) (h : IsRangedCustom c) where
     where
       by : (ss : List Subsection) → AreRangedSubsections ss → (o : Option ℕ) (end : Option Input) → IsRangedRole c (dylink_role (judgement_by ss o end))
       by ss r (Some id) end = tt
-      by ss r None (Some behind) = r
+      by ss r None (Some after) = r
       by ss r None None = subst (λ n. is_remark n ≡ true) (sym same) refl
 
   pub role_ranged : IsRangedRole c (custom_role_of c)

@@ -24,7 +24,7 @@ use Rattle.wasmprinter_lexical.proofs.Writes.{Writes, both_write, nothing_writes
 use Rattle.wasmprinter_reading.specs.Listed.{AreSignaturesInRange}
 use Rattle.wasmprinter_reading.proofs.Declarations.{id}
 use Rattle.wasmprinter_reading.proofs.Identifiers.{declaration-items, declaration_writes, index_writes}
-use Rattle.wasmprinter_reading.proofs.Folded.Lists.{IsUnpainted}
+use Rattle.wasmprinter_reading.proofs.Folded.Lists.{IsUncolored}
 use Rattle.wasmprinter_reading.proofs.Fields.Scopes.{own_id, own_index, AreScoped, own_index-reads}
 use Rattle.wasmprinter_reading.proofs.Ranged.{IsRangedExpression, IsRangedDataMode, IsRangedData}
 use Rattle.wasmprinter_reading.proofs.Fields.Expressions.{constant_held, constant_group_writes, AreIndexed, constant_group-items, IsOffset, offset_stands, no_offset}
@@ -63,7 +63,7 @@ unfolding class
 bytes_write true bs h = word_writes refl nothing_writes
 bytes_write false bs h = quoted_bytes_writes h nothing_writes
 
-module _ (s : Scope) (named : AreNamed s.names) (ranged : AreSignaturesInRange (signature_at s.types)) (bare : IsUnpainted s.folding) where
+module _ (s : Scope) (named : AreNamed s.names) (ranged : AreSignaturesInRange (signature_at s.types)) (bare : IsUncolored s.folding) where
   named_memory_writes : (m : ℕ) → m < 2 ^ 32 → {qs : List piece.Piece} {f : Forest} → Writes Free qs Free f →
       Writes Free (named_memory s m ++ qs) Free (named_memory_items s m f)
   unfolding class

@@ -27,7 +27,7 @@ use Rattle.wasmprinter_reading.specs.Listed.{AreSignaturesInRange}
 use Rattle.wasmprinter_reading.proofs.Items.{leading_item-reads}
 use Rattle.wasmprinter_reading.proofs.Declarations.{id}
 use Rattle.wasmprinter_reading.proofs.Identifiers.{index_items, declaration-items, declaration_writes, index_writes}
-use Rattle.wasmprinter_reading.proofs.Folded.Lists.{IsUnpainted}
+use Rattle.wasmprinter_reading.proofs.Folded.Lists.{IsUncolored}
 use Rattle.wasmprinter_reading.proofs.Fields.Scopes.{own_id, own_index, AreScoped, own_index-reads, type_bound, type_indices-read, heap_bounded}
 use Rattle.wasmprinter_reading.proofs.Ranged.{IsRangedExpression, IsNamedTable, IsRangedMode, AreRangedItems, IsRangedElement}
 use Rattle.wasmprinter_reading.proofs.Types.Trees.{ref_items_by, ref_items, ref_writes}
@@ -77,7 +77,7 @@ module _ (s : Scope) where
 
 -- ---- pieces write the items
 
-module _ (s : Scope) (named : AreNamed s.names) (ranged : AreSignaturesInRange (signature_at s.types)) (bare : IsUnpainted s.folding) where
+module _ (s : Scope) (named : AreNamed s.names) (ranged : AreSignaturesInRange (signature_at s.types)) (bare : IsUncolored s.folding) where
   functions_write : (is : List ℕ) → AllByRecursion (λ i. i < 2 ^ 32) is → Writes Bound (layout.function_items s is) Bound (function_row s is)
   unfolding layout.function_items
   functions_write [] h = nothing_writes

@@ -31,7 +31,7 @@ use Rattle.wasmprinter_reading.proofs.Operators.Alone.{IsAlone, alone_for, chunk
 use Rattle.wasmprinter_reading.proofs.Operators.Immediates.{arguments_by, writes_by}
 use Rattle.wasmprinter_reading.proofs.Operators.Open.{outside_labels}
 use Rattle.wasmprinter_reading.proofs.Operators.Lists.{arguments_items, expression_items, chunks_of, expression_writes, expression_reads}
-use Rattle.wasmprinter_reading.proofs.Folded.Lists.{IsUnpainted, AreFoldable, list_items, unhinted_list_writes, chunks_of_forest-list}
+use Rattle.wasmprinter_reading.proofs.Folded.Lists.{IsUncolored, AreFoldable, list_items, unhinted_list_writes, chunks_of_forest-list}
 use Rattle.wasmprinter_reading.proofs.Fields.Scopes.{AreScoped}
 
 -- ---- the items
@@ -47,8 +47,8 @@ constant_held s w os = Word w (constant_items s 3 os)
 
 -- ---- pieces write the items
 
-module _ (s : Scope) (named : AreNamed s.names) (ranged : AreSignaturesInRange (signature_at s.types)) (bare : IsUnpainted s.folding) where
-  constant_writes : (folding : Option Folding) → IsUnpainted folding → (nesting : ℕ) (os : List (Placed Operator)) → AllByRecursion IsListed (without_places os) →
+module _ (s : Scope) (named : AreNamed s.names) (ranged : AreSignaturesInRange (signature_at s.types)) (bare : IsUncolored s.folding) where
+  constant_writes : (folding : Option Folding) → IsUncolored folding → (nesting : ℕ) (os : List (Placed Operator)) → AllByRecursion IsListed (without_places os) →
       Writes Free (constant_by folding (in_line s nesting) os) Bound (list_items false folding (Some 0) (in_line s nesting) [] os)
   unfolding constant_by
   constant_writes None b nesting os l = expression_writes (in_line s nesting) named ranged os l

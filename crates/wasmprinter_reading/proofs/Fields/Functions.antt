@@ -10,7 +10,7 @@ use Rattle.wasmprinter_spec.specs.Row.{Space, Types, Func}
 use Rattle.wasmprinter_spec.specs.Labels.{Named}
 use Rattle.wasmprinter_spec.specs.Names.{AreNamed, AreDistinct, identifiers_at, identifiers, in_function}
 use Rattle.wasmprinter_spec.specs.Operator.{Operator}
-use Rattle.wasmprinter_spec.specs.Customs.Hints.{Hint, FunctionHints, next_hint, next_hints, hints_behind}
+use Rattle.wasmprinter_spec.specs.Customs.Hints.{Hint, FunctionHints, next_hint, next_hints, hints_after}
 use Rattle.wasmprinter_spec.specs.Placed.{LocalEntry, PlacedFunction}
 use Rattle.wasmprinter_spec.specs.Module.{without_places, locals_of, function_of}
 use Rattle.wasmprinter_spec.specs.Indexed.{Counts, IsDeclaredVal, IsIndexedOperator, parameter_count}
@@ -29,7 +29,7 @@ use Rattle.wasmprinter_spec.specs.Text.Functions.{function_of_type, read_functio
 use Rattle.wasmprinter_spec.specs.Text.Operators.{read_operators}
 use Rattle.wasmprinter_spec.proofs.OneLine.{hint_breaks}
 use Rattle.wasmprinter_lexical.proofs.Pieces.{Edge, Bound, Ended}
-use Rattle.wasmprinter_lexical.proofs.Writes.{Writes, WritesNoted, writing, is_open, both_write, behind_anything, nothing_writes, break_writes, line_group_gap_writes, group_gap_at_writes, ended_group_gap_at_writes}
+use Rattle.wasmprinter_lexical.proofs.Writes.{Writes, WritesNoted, writing, is_open, both_write, after_anything, nothing_writes, break_writes, line_group_gap_writes, group_gap_at_writes, ended_group_gap_at_writes}
 use Rattle.wasmprinter_reading.specs.Listed.{AreSignaturesInRange, IsListed}
 use Rattle.wasmprinter_reading.specs.OperatorLaws.{count_in, HaveSameTypes, HaveSameNames}
 use Rattle.wasmprinter_reading.proofs.Ranged.{IsRangedLocal, IsRangedFunction}
@@ -37,10 +37,10 @@ use Rattle.wasmprinter_reading.proofs.Declarations.{id, declared_from, types_of-
 use Rattle.wasmprinter_reading.proofs.Spaces.{identifiers_space}
 use Rattle.wasmprinter_reading.proofs.Types.Ranged.{IsRangedVal}
 use Rattle.wasmprinter_reading.proofs.Types.Trees.{groups_items, signature_items, type_use_items, HaveTypes, HaveNames, grouped_types, grouped_names, variables_write, groups_write}
-use Rattle.wasmprinter_reading.proofs.Types.Back.{variables_leave, variables_take, IsBehindSignature, printed_signature, signature-items, own_parameters}
+use Rattle.wasmprinter_reading.proofs.Types.Back.{variables_leave, variables_take, IsAfterSignature, printed_signature, signature-items, own_parameters}
 use Rattle.wasmprinter_reading.proofs.Operators.Lists.{expression_items, hinted_items, chunks_of, hinted_write, expression_reads}
 use Rattle.wasmprinter_reading.proofs.Tabled.{StandsAlone, differs}
-use Rattle.wasmprinter_reading.proofs.Folded.Lists.{IsUnpainted, AreFoldable, list_items, folded_list_writes, chunks_of_forest-list}
+use Rattle.wasmprinter_reading.proofs.Folded.Lists.{IsUncolored, AreFoldable, list_items, folded_list_writes, chunks_of_forest-list}
 use Rattle.wasmprinter_reading.proofs.Folded.Begins.{BeginsCode, list_begins}
 use Rattle.wasmprinter_reading.proofs.Fields.Scopes.{own_index, AreScoped, own_index-reads, type_bound, type_indices-read, vals_bounded, signature_bounded, signature_declared}
 use Rattle.wasmprinter_reading.proofs.Fields.Headers.{header_items, header_writes, identifier_in_front-header}
@@ -79,7 +79,7 @@ function_hinted skeleton s i hs f =
 abbrev pub functions_hinted : Bool → Scope → List FunctionHints → ℕ → List PlacedFunction → Forest
 functions_hinted skeleton s es i [] = End
 functions_hinted skeleton s es i (f ∷ fs) =
-    Group (Word (codes "func") (function_hinted skeleton s i (next_hints i es) f)) (functions_hinted skeleton s (hints_behind i es) (i + 1) fs)
+    Group (Word (codes "func") (function_hinted skeleton s i (next_hints i es) f)) (functions_hinted skeleton s (hints_after i es) (i + 1) fs)
 
 -- ---- pieces write the items
 
@@ -92,9 +92,9 @@ locals_ranged : (es : List (Placed LocalEntry)) → AllByRecursion (λ e. IsRang
 locals_ranged [] r = tt
 locals_ranged (e ∷ es) r = replicated_ranged e.value.count e.value.type (locals_of es) r.0.type (locals_ranged es r.1)
 
-has_break-behind : (hs ps : List Piece) → has_break ps ≡ true → has_break (hs ++ ps) ≡ true
-has_break-behind [] ps h = h
-has_break-behind (p ∷ hs) ps h = by (breaks p) (has_break-behind hs ps h)
+has_break-after : (hs ps : List Piece) → has_break ps ≡ true → has_break (hs ++ ps) ≡ true
+has_break-after [] ps h = h
+has_break-after (p ∷ hs) ps h = by (breaks p) (has_break-after hs ps h)
   where
     by : (t : Bool) → has_break (hs ++ ps) ≡ true → cond t true (has_break (hs ++ ps)) ≡ true
     by true e = refl
@@ -106,7 +106,7 @@ body_breaks : (s : Scope) (place : ℕ) (hs : List (Placed Hint)) (o : Placed Op
 unfolding operators_pieces operator_pieces
 body_breaks s place hs o os = hint_breaks (2 + 0) (next_hint (o.place - place) hs) _ refl
 
-module _ (s : Scope) (named : AreNamed s.names) (ranged : AreSignaturesInRange (signature_at s.types)) (bare : IsUnpainted s.folding) where
+module _ (s : Scope) (named : AreNamed s.names) (ranged : AreSignaturesInRange (signature_at s.types)) (bare : IsUncolored s.folding) where
   local_line_writes : (place : Option ℕ) (gs : List Variables) → AllByRecursion HaveNames gs → AllByRecursion (HaveTypes IsRangedVal) gs →
       Writes Bound (local_line s.names place gs) Bound (groups_items s.names (codes "local") gs)
   unfolding local_line class
@@ -127,7 +127,7 @@ module _ (s : Scope) (named : AreNamed s.names) (ranged : AreSignaturesInRange (
   body_writes : (place : ℕ) (hs : List (Placed Hint)) (os : List (Placed Operator)) → AllByRecursion IsListed (without_places os) →
       WritesNoted Bound (operators_pieces (over_lines s place) hs true 0 [] os) Ended (expression_items (over_lines s place) (without_places os))
       (hinted_items (over_lines s place) hs 0 [] os)
-  body_writes place hs os l = behind_anything Bound (hinted_write (over_lines s place) named ranged hs os l)
+  body_writes place hs os l = after_anything Bound (hinted_write (over_lines s place) named ranged hs os l)
 
   empty_body_writes : (place : ℕ) (hs : List (Placed Hint)) → Writes Bound (operators_pieces (over_lines s place) hs true 0 [] []) Bound End
   unfolding operators_pieces
@@ -169,14 +169,14 @@ module _ (s : Scope) (named : AreNamed s.names) (ranged : AreSignaturesInRange (
           (both_write (local_writes (own_parameter_count s f) locals r.body.locals) (empty_body_writes place hs)))
       flat (o ∷ os) l =
           ended_group_gap_at_writes offsets f.body.value.end 1 (codes "func") _ e refl
-          (has_break-behind header _ (has_break-behind own_locals _ (body_breaks s place hs o os)))
+          (has_break-after header _ (has_break-after own_locals _ (body_breaks s place hs o os)))
           (header_writes s named ranged Func (Some s.function) s.function f.type_index _ _ _ h r.type_index
           (both_write (local_writes (own_parameter_count s f) locals r.body.locals) (body_writes place hs (o ∷ os) l)))
 
       own : Option ℕ
       own = result_count s f.type_index
 
-      by : (folding : Option Folding) → IsUnpainted folding →
+      by : (folding : Option Folding) → IsUncolored folding →
           WritesNoted a (group_gap_at offsets f.body.value.end 1 (codes "func") (header ++ (own_locals ++ body_by folding own (over_lines s place) hs f.body.value.operators))) Bound
           (Group (Word (codes "func") (own_items (list_items false folding own (over_lines s place) hs f.body.value.operators))) End)
           (Group (Word (codes "func") (own_items (list_items true folding own (over_lines s place) hs f.body.value.operators))) End)
@@ -187,7 +187,7 @@ module _ (s : Scope) (named : AreNamed s.names) (ranged : AreSignaturesInRange (
           (both_write (local_writes (own_parameter_count s f) locals r.body.locals)
           (folded_list_writes x b own (over_lines s place) named ranged hs f.body.value.operators r.body.listed)))
 
-pub function_writes : (s : Scope) → AreNamed s.names → AreSignaturesInRange (signature_at s.types) → IsUnpainted s.folding → {a : Edge} → is_open a ≡ true → (skeleton offsets : Bool) (i : ℕ)
+pub function_writes : (s : Scope) → AreNamed s.names → AreSignaturesInRange (signature_at s.types) → IsUncolored s.folding → {a : Edge} → is_open a ≡ true → (skeleton offsets : Bool) (i : ℕ)
     (hs : List (Placed Hint)) (f : PlacedFunction) → i < 2 ^ 64 → IsRangedFunction f →
     WritesNoted a (function_group skeleton offsets (scope_of_function s i) hs f) Bound
     (Group (Word (codes "func") (function_items skeleton s i hs f)) End)
@@ -314,14 +314,14 @@ module _ (s : Scope) (c : Context) (n : Counts) (scoped : AreScoped s c n) where
       let rest : Forest = onto (groups_items s.names (codes "local") gs) code in
       let bound : ℕ = type_bound s c n scoped in
       let reads = type_indices-read s c n scoped in
-      let behind : IsBehindSignature ids rest = record {
+      let after : IsAfterSignature ids rest = record {
         params = variables_leave s.names (variables ids) (codes "param") (codes "local") gs code refl (groups_operators (variables ids) (codes "param") no_param code begins);
         results = variables_leave s.names (val_types ids) (codes "result") (codes "local") gs code refl (groups_operators (val_types ids) (codes "result") no_result code begins);
       } in
       let type : index ids (own_index s Types f.type_index) ≡ Some f.type_index =
       own_index-reads s c n scoped Types (λ names g. refl) f.type_index (signature_declared s c n scoped t f.type_index own) h.type_index in
       let sig : signature ids (onto (signature_items s.names (Some i) t) rest) ≡ Some (printed_signature (parameters_of s.names (Some i)) t, rest) =
-      signature-items s.names ids bound reads (Some i) t rest (signature_bounded s c n scoped t f.type_index own) behind in
+      signature-items s.names ids bound reads (Some i) t rest (signature_bounded s c n scoped t f.type_index own) after in
       let variables : groups (variables ids) (codes "local") rest ≡ Some (declared_from named count ls, code) =
       variables_take s.names ids bound reads named count (codes "local") ls code
       (vals_bounded s c n scoped ls (locals_ranged f.body.value.locals h.body.locals) locals) (groups_operators (variables ids) (codes "local") no_local code begins) in

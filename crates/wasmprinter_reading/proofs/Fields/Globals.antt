@@ -27,7 +27,7 @@ use Rattle.wasmprinter_reading.proofs.Types.Trees.{val_items, val_writes}
 use Rattle.wasmprinter_reading.proofs.Types.Back.{identifier_in_front-val, IsValItem, val_is_item, val_item}
 use Rattle.wasmprinter_reading.proofs.Declarations.{id}
 use Rattle.wasmprinter_reading.proofs.Identifiers.{declaration-items, declaration_writes}
-use Rattle.wasmprinter_reading.proofs.Folded.Lists.{IsUnpainted}
+use Rattle.wasmprinter_reading.proofs.Folded.Lists.{IsUncolored}
 use Rattle.wasmprinter_reading.proofs.Fields.Scopes.{own_id, AreScoped, type_bound, type_indices-read, val_bounded}
 use Rattle.wasmprinter_reading.proofs.Fields.Expressions.{constant_items, in_line_writes, AreIndexed, expression-items}
 
@@ -56,7 +56,7 @@ module _ (names : Names) (named : AreNamed names) where
   unfolding global_type_pieces
   global_type_writes t h = mutable_writes t.mutable t.type h
 
-pub global_writes : (s : Scope) → AreNamed s.names → AreSignaturesInRange (signature_at s.types) → IsUnpainted s.folding → (i : ℕ) (g : Placed (Global (Placed Operator))) → i < 2 ^ 64 →
+pub global_writes : (s : Scope) → AreNamed s.names → AreSignaturesInRange (signature_at s.types) → IsUncolored s.folding → (i : ℕ) (g : Placed (Global (Placed Operator))) → i < 2 ^ 64 →
     IsRangedGlobal g.value →
     Writes Bound (global_pieces s i g) Bound (Group (Word (codes "global") (global_items s i g.value)) End)
 unfolding global_pieces class

@@ -23,7 +23,7 @@ use Rattle.wasmprinter_reading.proofs.Declarations.{id}
 use Rattle.wasmprinter_reading.proofs.Identifiers.{declaration-items, declaration_writes}
 use Rattle.wasmprinter_reading.proofs.Spaces.{identifiers_space}
 use Rattle.wasmprinter_reading.proofs.Types.Trees.{signature_items, type_use_items, type_use_writes}
-use Rattle.wasmprinter_reading.proofs.Types.Back.{end_behind_signature, printed_signature, signature-items, own_parameters}
+use Rattle.wasmprinter_reading.proofs.Types.Back.{end_after_signature, printed_signature, signature-items, own_parameters}
 use Rattle.wasmprinter_reading.proofs.Fields.Scopes.{own_id, own_index, AreScoped, own_index-reads, type_bound, type_indices-read, signature_bounded, signature_declared}
 
 -- The type and its signature, with the identifiers of the parameters of a function or of none
@@ -78,7 +78,7 @@ module _ (s : Scope) (c : Context) (n : Counts) (scoped : AreScoped s c n) where
       let index : index ids (own_index s Types i) ≡ Some i =
       own_index-reads s c n scoped Types (λ names g. refl) i (signature_declared s c n scoped t i own) small in
       let sig : signature ids (onto (signature_items s.names f t) End) ≡ Some (printed_signature named t, End) =
-      signature-items s.names ids (type_bound s c n scoped) (type_indices-read s c n scoped) f t End (signature_bounded s c n scoped t i own) (end_behind_signature ids) in
+      signature-items s.names ids (type_bound s c n scoped) (type_indices-read s c n scoped) f t End (signature_bounded s c n scoped t i own) (end_after_signature ids) in
       let fit : length t.params < 2 ^ 32 = parameters_fit t i own in
       let space : index_space (identifiers named (length t.params)) ≡ Some (identifiers named (length t.params)) =
       identifiers_space named (parameters_apart f) (length t.params) (omega (arith, fit)) in

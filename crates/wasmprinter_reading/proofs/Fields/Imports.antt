@@ -14,7 +14,7 @@ use Rattle.wasmprinter_spec.specs.Placed.{Import}
 use Rattle.wasmprinter_spec.specs.IndexSpaces.{Context}
 use Rattle.wasmprinter_spec.specs.Indexed.{Counts, IsDeclaredHeap, IsDeclaredVal, space_of}
 use Rattle.wasmprinter_spec.specs.Layout.Declarations.{Scope}
-use Rattle.wasmprinter_spec.specs.Layout.Imports.{Numbers, number_of, numbers_behind, extern_pieces, import_pieces, imports_pieces}
+use Rattle.wasmprinter_spec.specs.Layout.Imports.{Numbers, number_of, numbers_after, extern_pieces, import_pieces, imports_pieces}
 use Rattle.wasmprinter_spec.specs.Text.Items.{identifier_in_front}
 use Rattle.wasmprinter_spec.specs.Text.Exports.{kind_of_word}
 use Rattle.wasmprinter_spec.specs.Text.Tables.{table_type}
@@ -58,7 +58,7 @@ import_items s n i = String i.source (String i.name (Group (Word (extern_word i.
 abbrev pub imports_items : Scope → Numbers → List (Placed Import) → Forest
 imports_items s n [] = End
 imports_items s n (i ∷ is) =
-    Group (Word (codes "import") (import_items s (number_of i.value.type n) i.value)) (imports_items s (numbers_behind i.value.type n) is)
+    Group (Word (codes "import") (import_items s (number_of i.value.type n) i.value)) (imports_items s (numbers_after i.value.type n) is)
 
 -- ---- pieces write the items
 
@@ -79,12 +79,12 @@ number_small (GlobalExtern t) n more h = omega (arith, h.globals)
 number_small (TagExtern i) n more h = omega (arith, h.tags)
 
 -- An import takes one number of its kind.
-room_behind : (t : ExternType) (n : Numbers) (more : ℕ) → LeaveRoom n (suc more) → LeaveRoom (numbers_behind t n) more
-room_behind t n more h =
+room_after : (t : ExternType) (n : Numbers) (more : ℕ) → LeaveRoom n (suc more) → LeaveRoom (numbers_after t n) more
+room_after t n more h =
     by t (omega (arith, h.functions)) (omega (arith, h.tables)) (omega (arith, h.memories)) (omega (arith, h.globals)) (omega (arith, h.tags))
   where
     by : (t : ExternType) → n.functions + 1 + more ≤ 2 ^ 64 → n.tables + 1 + more ≤ 2 ^ 64 → n.memories + 1 + more ≤ 2 ^ 64 → n.globals + 1 + more ≤ 2 ^ 64 →
-        n.tags + 1 + more ≤ 2 ^ 64 → LeaveRoom (numbers_behind t n) more
+        n.tags + 1 + more ≤ 2 ^ 64 → LeaveRoom (numbers_after t n) more
     by (FuncExtern i) f t m g k = record { functions = f; tables = omega arith; memories = omega arith; globals = omega arith; tags = omega arith }
     by (TableExtern i) f t m g k = record { functions = omega arith; tables = t; memories = omega arith; globals = omega arith; tags = omega arith }
     by (MemoryExtern i) f t m g k = record { functions = omega arith; tables = omega arith; memories = m; globals = omega arith; tags = omega arith }
@@ -129,7 +129,7 @@ module _ (s : Scope) (named : AreNamed s.names) (ranged : AreSignaturesInRange (
   imports_write n [] room h = nothing_writes
   imports_write n (i ∷ is) room h =
       both_write (import_writes (number_of i.value.type n) i (number_small i.value.type n (length is) room) h.0)
-      (imports_write (numbers_behind i.value.type n) is (room_behind i.value.type n (length is) room) h.1)
+      (imports_write (numbers_after i.value.type n) is (room_after i.value.type n (length is) room) h.1)
 
 -- ---- the items read back
 
@@ -146,15 +146,15 @@ pub import_field-items : (s : Scope) (n : ℕ) (i : Import) → IsRangedImport i
 import_field-items s n i h = rw (is_utf8-from_IsUtf8 i.source h.source, is_utf8-from_IsUtf8 i.name h.name, kind_of_word-extern i.type)
 
 -- The items of an imported item after its identifier
-abbrev pub behind_id : Scope → ℕ → ExternType → Forest
-behind_id s n (FuncExtern i) = onto (use_items s (Some n) i) End
-behind_id s n (TableExtern t) = table_type_items s.names t
-behind_id s n (MemoryExtern t) = memory_type_items t
-behind_id s n (GlobalExtern t) = global_type_items s.names t
-behind_id s n (TagExtern i) = onto (use_items s None i) End
+abbrev pub after_id : Scope → ℕ → ExternType → Forest
+after_id s n (FuncExtern i) = onto (use_items s (Some n) i) End
+after_id s n (TableExtern t) = table_type_items s.names t
+after_id s n (MemoryExtern t) = memory_type_items t
+after_id s n (GlobalExtern t) = global_type_items s.names t
+after_id s n (TagExtern i) = onto (use_items s None i) End
 
 pub identifier_in_front-extern : (s : Scope) (n : ℕ) (t : ExternType) →
-    identifier_in_front (extern_items s n t) ≡ (id (s.names.items (space_of (kind_of_extern t)) n), behind_id s n t)
+    identifier_in_front (extern_items s n t) ≡ (id (s.names.items (space_of (kind_of_extern t)) n), after_id s n t)
 identifier_in_front-extern s n (FuncExtern i) = identifier_in_front-header s Func (Some n) n i End
 identifier_in_front-extern s n (TableExtern t) =
     declaration-items (s.names.items row.Table n) (table_type_items s.names t) (rw onto-End at (identifier_in_front-table_type s.names t End))
@@ -172,7 +172,7 @@ IsScopedExtern s n (GlobalExtern t) = IsDeclaredVal n.types t.type
 IsScopedExtern s n (TagExtern i) = (t : FuncType) × (signature_at s.types i ≡ Some t)
 
 module _ (s : Scope) (c : Context) (n : Counts) (scoped : AreScoped s c n) where
-  extern_type-items : (k : ℕ) (t : ExternType) → IsRangedExtern t → IsScopedExtern s n t → extern_type c (kind_of_extern t) (behind_id s k t) ≡ Some t
+  extern_type-items : (k : ℕ) (t : ExternType) → IsRangedExtern t → IsScopedExtern s n t → extern_type c (kind_of_extern t) (after_id s k t) ≡ Some t
   extern_type-items k (FuncExtern i) h d = ap (option_map FuncExtern) (use-items s c n scoped (Some k) d.0 i d.1 h)
   extern_type-items k (TableExtern t) h d =
       let e : table_type c (table_type_items s.names t) ≡ Some (t, End) = rw onto-End at (table_type-items s c n scoped t End h d) in

@@ -7,7 +7,7 @@ use Rattle.wasmprinter_spec.specs.Numeral.{numeral, natural}
 use Rattle.wasmprinter_spec.specs.Types.{Limits, limits_of}
 use Rattle.wasmprinter_spec.specs.Layout.Limits.{wide_pieces, max_words, limits_pieces}
 use Rattle.wasmprinter_spec.specs.Text.Items.{identifier_in_front}
-use Rattle.wasmprinter_spec.specs.Text.Limits.{address_type, max_behind, limits}
+use Rattle.wasmprinter_spec.specs.Text.Limits.{address_type, max_after, limits}
 use Rattle.wasmprinter_reading.proofs.Operators.Numbers.{u64-decimal}
 use Rattle.wasmprinter_lexical.proofs.Runs.{are_words}
 use Rattle.wasmprinter_lexical.proofs.Numbers.{natural-decimal, is_word-decimal}
@@ -67,16 +67,16 @@ address_type-items false l f h = rw (not_word l.min (codes "i64") h no_i64, not_
 
 -- The items do not start with a number.
 abbrev pub IsNoNumber : Forest → Type 0
-IsNoNumber f = (min : ℕ) → max_behind min f ≡ (limits_of min None, f)
+IsNoNumber f = (min : ℕ) → max_after min f ≡ (limits_of min None, f)
 
 max-items : (min : ℕ) (max : Option ℕ) (f : Forest) → IsRangedMax max → IsNoNumber f →
-    max_behind min (onto (words_before (max_words max) End) f) ≡ (limits_of min max, f)
-max-items min (Some n) f k behind = rw (u64-decimal n k)
-max-items min None f k behind = behind min
+    max_after min (onto (words_before (max_words max) End) f) ≡ (limits_of min max, f)
+max-items min (Some n) f k after = rw (u64-decimal n k)
+max-items min None f k after = after min
 
 pub limits-items : (l : Limits) (f : Forest) → l.min < 2 ^ 64 → IsRangedMax l.max → IsNoNumber f →
     limits (onto (limits_items l) f) ≡ Some (l, f)
-limits-items l f h k behind = rw (u64-decimal l.min h, max-items l.min l.max f k behind)
+limits-items l f h k after = rw (u64-decimal l.min h, max-items l.min l.max f k after)
 
 -- The limits do not start with an identifier.
 pub identifier_in_front-limits : (wide : Bool) (l : Limits) (f : Forest) →

@@ -80,16 +80,16 @@ memory_writes s named i m h r =
 -- ---- the items read back
 
 -- The items after the limits
-abbrev behind_items : Bool → Option ℕ → Forest
-behind_items shared e = onto (shared_items shared) (page_items e)
+abbrev after_items : Bool → Option ℕ → Forest
+after_items shared e = onto (shared_items shared) (page_items e)
 
-no_number_behind : (shared : Bool) (e : Option ℕ) → IsNoNumber (behind_items shared e)
+no_number_after : (shared : Bool) (e : Option ℕ) → IsNoNumber (after_items shared e)
 unfolding natural numeral
-no_number_behind true e min = refl
-no_number_behind false None min = refl
-no_number_behind false (Some e) min = refl
+no_number_after true e min = refl
+no_number_after false None min = refl
+no_number_after false (Some e) min = refl
 
-shared_in_front-items : (shared : Bool) (e : Option ℕ) → shared_in_front (behind_items shared e) ≡ (shared, page_items e)
+shared_in_front-items : (shared : Bool) (e : Option ℕ) → shared_in_front (after_items shared e) ≡ (shared, page_items e)
 shared_in_front-items true e = refl
 shared_in_front-items false None = refl
 shared_in_front-items false (Some e) = refl
@@ -107,13 +107,13 @@ page-items (Some e) h = ap (λ o. o >>= λ n. Some (Some n)) (exponent_of-size e
 
 -- The type does not start with an identifier.
 pub identifier_in_front-memory_type : (m : MemoryType) → identifier_in_front (memory_type_items m) ≡ (None, memory_type_items m)
-identifier_in_front-memory_type m = identifier_in_front-limits m.wide m.limits (behind_items m.shared m.page)
+identifier_in_front-memory_type m = identifier_in_front-limits m.wide m.limits (after_items m.shared m.page)
 
 pub memory_type-items : (m : MemoryType) → IsRangedMemory m → memory_type (memory_type_items m) ≡ Some m
 memory_type-items m h =
     rw (
-      address_type-items m.wide m.limits (behind_items m.shared m.page) h.min,
-      limits-items m.limits (behind_items m.shared m.page) h.min h.max (no_number_behind m.shared m.page),
+      address_type-items m.wide m.limits (after_items m.shared m.page) h.min,
+      limits-items m.limits (after_items m.shared m.page) h.min h.max (no_number_after m.shared m.page),
       shared_in_front-items m.shared m.page,
       page-items m.page h.page,
     )

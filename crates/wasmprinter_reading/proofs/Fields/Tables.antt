@@ -30,7 +30,7 @@ use Rattle.wasmprinter_reading.proofs.Types.Back.{ref_item}
 use Rattle.wasmprinter_reading.proofs.Fields.Limits.{wide_items, limits_items, wide_writes, limits_write, IsNoNumber, address_type-items, limits-items, identifier_in_front-limits}
 use Rattle.wasmprinter_reading.proofs.Declarations.{id}
 use Rattle.wasmprinter_reading.proofs.Identifiers.{declaration-items, declaration_writes}
-use Rattle.wasmprinter_reading.proofs.Folded.Lists.{IsUnpainted}
+use Rattle.wasmprinter_reading.proofs.Folded.Lists.{IsUncolored}
 use Rattle.wasmprinter_reading.proofs.Fields.Scopes.{own_id, AreScoped, type_bound, type_indices-read, heap_bounded}
 use Rattle.wasmprinter_reading.proofs.Fields.Expressions.{constant_items, in_line_writes, AreIndexed, expression-items}
 
@@ -54,7 +54,7 @@ unfolding table_type_pieces
 table_type_writes names named t h =
     both_write (wide_writes t.wide) (both_write (limits_write t.limits h.min h.max) (gap_writes refl (ref_writes names named t.element h.element)))
 
-module _ (s : Scope) (named : AreNamed s.names) (ranged : AreSignaturesInRange (signature_at s.types)) (bare : IsUnpainted s.folding) where
+module _ (s : Scope) (named : AreNamed s.names) (ranged : AreSignaturesInRange (signature_at s.types)) (bare : IsUncolored s.folding) where
   init_writes : (i : Option (List (Placed Operator))) → IsRangedInit i → Writes Bound (init_pieces s i) Bound (init_items s i)
   unfolding init_pieces
   init_writes None h = nothing_writes
@@ -97,12 +97,12 @@ module _ (s : Scope) (c : Context) (n : Counts) (scoped : AreScoped s c n) where
   pub table_type-items : (t : TableType) (f : Forest) → IsRangedTableType t → IsDeclaredHeap n.types t.element.heap →
       table_type c (onto (table_type_items s.names t) f) ≡ Some (t, f)
   table_type-items t f h d =
-      let behind : Forest = onto (ref_items s.names t.element) f in
+      let after : Forest = onto (ref_items s.names t.element) f in
       let bounded = heap_bounded s c n scoped t.element.heap h.element d in
       rw (
         table_type_onto s.names t f,
-        address_type-items t.wide t.limits behind h.min,
-        limits-items t.limits behind h.min h.max (no_number-ref s.names t.element.nullable t.element.heap f),
+        address_type-items t.wide t.limits after h.min,
+        limits-items t.limits after h.min h.max (no_number-ref s.names t.element.nullable t.element.heap f),
         leading_item-reads ref_named (ref_group c.spaces.types) (ref_items s.names t.element) t.element f
             (ref_item s.names c.spaces.types (type_bound s c n scoped) (type_indices-read s c n scoped) t.element.nullable t.element.heap bounded),
       )

@@ -2,7 +2,7 @@
 use Rattle.std.proofs.Common.{◌∷◌, ◌++◌, subst}
 use Rattle.std.specs.List.{AllByRecursion}
 use Rattle.wasmprinter_spec.specs.Folding.Code.{Item, NestedCode, Done, Plain, Block, If, IfElse, flat}
-use Rattle.wasmprinter_spec.specs.Folding.Tree.{Head, Of, ThenCase, ElseCase, Nodes, Nil, Snoc, row_of_both, front, last, Operands, Fit, Passed, Short, operand_search, with_operands, with_operator, tree_behind, tree}
+use Rattle.wasmprinter_spec.specs.Folding.Tree.{Head, Of, ThenCase, ElseCase, Nodes, Nil, Snoc, row_of_both, front, last, Operands, Fit, Overshot, TooFew, operand_search, with_operands, with_operator, tree_after, tree}
 use Rattle.wasmprinter_spec.proofs.Folding.{AreLast, AreLast-operand_search}
 use Rattle.wasmprinter_spec.proofs.Each.{all_parts}
 
@@ -25,29 +25,29 @@ module _ (P : Item → Type 0) where
   ends Nil h = (tt, tt)
   ends (Snoc b g r held) (own, before, inside) = (before, (own, tt, inside))
 
-  heads-operand_search : (f : Nodes) (x : Item) (o : Operands) → P x → AreLast f o → AllHeads f → AllHeads (with_operands f (Of x) x.gives o)
+  heads-operand_search : (f : Nodes) (x : Item) (o : Operands) → P x → AreLast f o → AllHeads f → AllHeads (with_operands f (Of x) x.results o)
   heads-operand_search f x (Fit before run) p l h = let ps = parts before run (subst AllHeads l h) in (p, ps.0, ps.1)
-  heads-operand_search f x Passed p l h = (p, h, tt)
-  heads-operand_search f x Short p l h = (p, h, tt)
+  heads-operand_search f x Overshot p l h = (p, h, tt)
+  heads-operand_search f x TooFew p l h = (p, h, tt)
 
-  heads-tree_behind : (f : Nodes) (code : NestedCode) → AllByRecursion P (flat code) → AllHeads f → AllHeads (tree_behind f code)
-  heads-tree_behind f Done p h = h
-  heads-tree_behind f (Plain x rest) p h = heads-tree_behind (with_operator f x) rest p.1 (heads-operand_search f x (operand_search x.takes f) p.0 (AreLast-operand_search x.takes f) h)
-  heads-tree_behind f (Block x body end rest) p h =
-      let (in_body, (of_end, behind)) = all_parts P (flat body) (end ∷ flat rest) p.1 in
-      heads-tree_behind (Snoc f (Of x) x.gives (tree_behind Nil body)) rest behind (p.0, h, heads-tree_behind Nil body in_body tt)
-  heads-tree_behind f (If x body end rest) p h =
-      let (in_body, (of_end, behind)) = all_parts P (flat body) (end ∷ flat rest) p.1 in
+  heads-tree_after : (f : Nodes) (code : NestedCode) → AllByRecursion P (flat code) → AllHeads f → AllHeads (tree_after f code)
+  heads-tree_after f Done p h = h
+  heads-tree_after f (Plain x rest) p h = heads-tree_after (with_operator f x) rest p.1 (heads-operand_search f x (operand_search x.operands f) p.0 (AreLast-operand_search x.operands f) h)
+  heads-tree_after f (Block x body end rest) p h =
+      let (in_body, (of_end, after)) = all_parts P (flat body) (end ∷ flat rest) p.1 in
+      heads-tree_after (Snoc f (Of x) x.results (tree_after Nil body)) rest after (p.0, h, heads-tree_after Nil body in_body tt)
+  heads-tree_after f (If x body end rest) p h =
+      let (in_body, (of_end, after)) = all_parts P (flat body) (end ∷ flat rest) p.1 in
       let es = ends f h in
-      heads-tree_behind (Snoc (front f) (Of x) x.gives (Snoc (last f) (ThenCase x) 0 (tree_behind Nil body))) rest behind
-      (p.0, es.0, (tt, es.1, heads-tree_behind Nil body in_body tt))
-  heads-tree_behind f (IfElse x body turn other end rest) p h =
-      let (in_body, (of_turn, behind_turn)) = all_parts P (flat body) (turn ∷ (flat other ++ end ∷ flat rest)) p.1 in
-      let (in_other, (of_end, behind)) = all_parts P (flat other) (end ∷ flat rest) behind_turn in
+      heads-tree_after (Snoc (front f) (Of x) x.results (Snoc (last f) (ThenCase x) 0 (tree_after Nil body))) rest after
+      (p.0, es.0, (tt, es.1, heads-tree_after Nil body in_body tt))
+  heads-tree_after f (IfElse x body turn other end rest) p h =
+      let (in_body, (of_turn, after_turn)) = all_parts P (flat body) (turn ∷ (flat other ++ end ∷ flat rest)) p.1 in
+      let (in_other, (of_end, after)) = all_parts P (flat other) (end ∷ flat rest) after_turn in
       let es = ends f h in
-      let body_case : Nodes = Snoc (last f) (ThenCase x) 0 (tree_behind Nil body) in
-      heads-tree_behind (Snoc (front f) (Of x) x.gives (Snoc body_case (ElseCase turn) 0 (tree_behind Nil other))) rest behind
-      (p.0, es.0, (of_turn, (tt, es.1, heads-tree_behind Nil body in_body tt), heads-tree_behind Nil other in_other tt))
+      let body_case : Nodes = Snoc (last f) (ThenCase x) 0 (tree_after Nil body) in
+      heads-tree_after (Snoc (front f) (Of x) x.results (Snoc body_case (ElseCase turn) 0 (tree_after Nil other))) rest after
+      (p.0, es.0, (of_turn, (tt, es.1, heads-tree_after Nil body in_body tt), heads-tree_after Nil other in_other tt))
 
   pub heads-tree : (code : NestedCode) → AllByRecursion P (flat code) → AllHeads (tree code)
-  heads-tree code p = heads-tree_behind Nil code p tt
+  heads-tree code p = heads-tree_after Nil code p tt

@@ -6,11 +6,11 @@ use Rattle.wasmprinter_spec.specs.Grammar.{Placed}
 use Rattle.wasmprinter_spec.specs.Token.{Token}
 use Rattle.wasmprinter_spec.specs.Forest.{Forest, End, String, grow, the_one, without_annotations}
 use Rattle.wasmprinter_spec.specs.Operator.{Operator}
-use Rattle.wasmprinter_spec.specs.Row.{Role, Plain, Opens, OpensIf, OpensTry, Turns, Catches, CatchesAll, Delegates, Ends}
+use Rattle.wasmprinter_spec.specs.Row.{Role, Plain, Opens, OpensIf, OpensTry, Else, Catches, CatchesAll, Delegates, Ends}
 use Rattle.wasmprinter_spec.specs.Table.{rows_of, word_of, role_of, shape_of}
 use Rattle.wasmprinter_spec.specs.Labels.{Label, labels_after, count_after, labels_outside, labels_inside}
 use Rattle.wasmprinter_spec.specs.Module.{without_places}
-use Rattle.wasmprinter_spec.specs.Customs.Hints.{Hint, next_hint, hint_behind}
+use Rattle.wasmprinter_spec.specs.Customs.Hints.{Hint, next_hint, hint_after}
 use Rattle.wasmprinter_spec.specs.Names.{IsNamedIfAny, AreNamed}
 use Rattle.wasmprinter_spec.specs.Piece.{Piece, Word, flag_byte}
 use Rattle.wasmprinter_spec.specs.Layout.Operators.{Form, Setting, pieces_by}
@@ -27,7 +27,7 @@ use Rattle.wasmprinter_lexical.proofs.Respelled.{all_lexed}
 use Rattle.wasmprinter_lexical.proofs.Writes.{Writes, writes_lexed}
 use Rattle.wasmprinter_reading.specs.Listed.{IsListed, AreSignaturesInRange}
 use Rattle.wasmprinter_reading.proofs.Operators.Arguments.{AreArguments}
-use Rattle.wasmprinter_reading.proofs.Operators.Forms.{behind}
+use Rattle.wasmprinter_reading.proofs.Operators.Forms.{after}
 use Rattle.wasmprinter_reading.proofs.Operators.Immediates.{items_by, arguments_by, writes_by}
 use Rattle.wasmprinter_reading.proofs.Operators.Open.{outside_labels, after_labels}
 use Rattle.wasmprinter_reading.proofs.Operators.Lists.{arguments_items, chunks_of}
@@ -53,20 +53,20 @@ items_of-writes w = ap (λ (t : List Token). forest_or_end (the_one (grow t))) (
 abbrev pub word : Item → List ℕ
 word x = word_of x.operator.value.opcode
 
-abbrev pub behind_first : List Piece → List Piece
-behind_first [] = []
-behind_first (p ∷ ps) = ps
+abbrev pub after_first : List Piece → List Piece
+after_first [] = []
+after_first (p ∷ ps) = ps
 
 -- The pieces of the immediates, and the items that they write
 abbrev pub rest : Item → List Piece
-rest x = behind_first x.pieces
+rest x = after_first x.pieces
 
 abbrev pub arguments : Item → Forest
 arguments x = items_of (rest x)
 
 -- `else` and `end` have no immediates.
 abbrev pub is_bare : Role → Bool
-is_bare Turns = true
+is_bare Else = true
 is_bare Ends = true
 is_bare _ = false
 
@@ -75,7 +75,7 @@ pub record IsPrinted (form : Form) (x : Item) : Type 0 where
   pub listed : IsListed x.operator.value
   pub pieces : x.pieces ≡ Word (word x) ∷ rest x
   pub are : AreArguments (arguments x)
-  pub writes : Writes Bound (rest x) (behind form) (arguments x)
+  pub writes : Writes Bound (rest x) (after form) (arguments x)
   pub bare : is_bare (role x) ≡ true → arguments x ≡ End
   pub line : IsOneLine x.pieces
 
@@ -109,7 +109,7 @@ hintless_chunk false x h e = refl
 hintless_chunk true x h e = ap (λ i. noted_chunk true i (item_chunk x)) (h e)
 
 -- The chunk of an `else` is that of its word.
-pub turn_chunk : {form : Form} (hints : Bool) (x : Item) → IsPrinted form x → IsHintless hints x → role x ≡ Turns → own_chunk hints x ≡ word_chunk (codes "else")
+pub turn_chunk : {form : Form} (hints : Bool) (x : Item) → IsPrinted form x → IsHintless hints x → role x ≡ Else → own_chunk hints x ≡ word_chunk (codes "else")
 turn_chunk hints x h k e =
     let b : IsBare x.operator.value (codes "else") = turn_is_bare x.operator.value h.listed e in
     hintless_chunk hints x k (ap is_hintless e) ∙ ap₂ (λ w f. chunk (rows_of w) f) b.word (h.bare (ap is_bare e))
@@ -129,7 +129,7 @@ told_item hints x h k = by (role x) refl
     by Opens e = refl
     by OpensIf e = refl
     by OpensTry e = refl
-    by Turns e = refl
+    by Else e = refl
     by Catches e = refl
     by CatchesAll e = refl
     by Delegates e = refl
@@ -159,13 +159,13 @@ bare_by_role : (s : Setting) (inner xs : List Label) (own : Label) (o : Operator
 bare_by_role s inner xs own o l h = by (role_of o.opcode) refl h
   where
     by : (r : Role) → role_of o.opcode ≡ r → is_bare r ≡ true → items_by s inner xs own (shape_of o.opcode) o.immediates ≡ End
-    by Turns e k = bare_items s inner xs own o (codes "else") (turn_is_bare o l e)
+    by Else e k = bare_items s inner xs own o (codes "else") (turn_is_bare o l e)
     by Ends e k = bare_items s inner xs own o (codes "end") (end_is_bare o l e)
     by _ e k = absurd cc
 
 module _ (s : Setting) (named : AreNamed s.names) (ranged : AreSignaturesInRange s.signature) (signatures : Signatures) where
   item_writes : (own : Label) (xs : List Label) (o : Placed Operator) → AllByRecursion IsNamedIfAny xs → IsNamedIfAny own → IsListed o.value →
-      Writes Bound (pieces_by s (labels_inside (role_of o.value.opcode) xs) (labels_outside (role_of o.value.opcode) xs) own (shape_of o.value.opcode) o.value.immediates) (behind s.form)
+      Writes Bound (pieces_by s (labels_inside (role_of o.value.opcode) xs) (labels_outside (role_of o.value.opcode) xs) own (shape_of o.value.opcode) o.value.immediates) (after s.form)
       (arguments_items s own xs o.value)
   item_writes own xs o h k l =
       let is : Role = role_of o.value.opcode in
@@ -185,7 +185,7 @@ module _ (s : Setting) (named : AreNamed s.names) (ranged : AreSignaturesInRange
         listed = l;
         pieces = refl;
         are = subst AreArguments (sym e) (arguments_by s (labels_inside is xs) (labels_outside is xs) own (shape_of o.value.opcode) o.value.immediates l.range);
-        writes = subst (Writes Bound (rest (item s signatures hint own xs ls o)) (behind s.form)) (sym e) (item_writes own xs o h k l);
+        writes = subst (Writes Bound (rest (item s signatures hint own xs ls o)) (after s.form)) (sym e) (item_writes own xs o h k l);
         bare = λ b. e ∙ bare_by_role s (labels_inside is xs) (labels_outside is xs) own o.value l b;
         line = then_stay refl (by_shape_stay s (labels_inside is xs) (labels_outside is xs) own (shape_of o.value.opcode) o.value.immediates);
       }
@@ -200,7 +200,7 @@ module _ (s : Setting) (named : AreNamed s.names) (ranged : AreSignaturesInRange
       let k : IsNamedIfAny own = named.labels s.function n (length xs) in
       let offset : ℕ = o.place - s.body in (
         item_printed (next_hint offset hs) own xs ls o h k l.0,
-        items_printed (hint_behind offset hs) (count_after is n) (labels_after is own xs) (labels_after is (label_of_block signatures o.value) ls) os
+        items_printed (hint_after offset hs) (count_after is n) (labels_after is own xs) (labels_after is (label_of_block signatures o.value) ls) os
             (after_labels is own xs k h) l.1,
       )
 
@@ -216,5 +216,5 @@ module _ (s : Setting) (named : AreNamed s.names) (ranged : AreSignaturesInRange
       let k : IsNamedIfAny own = named.labels s.function n (length xs) in
       let offset : ℕ = o.place - s.body in
       ap₂ (λ f cs. chunk (rows_of (word_of o.value.opcode)) f ∷ cs) (item_arguments (next_hint offset hs) own xs ls o h k l.0)
-      (items_chunks (hint_behind offset hs) (count_after is n) (labels_after is own xs) (labels_after is (label_of_block signatures o.value) ls) os
+      (items_chunks (hint_after offset hs) (count_after is n) (labels_after is own xs) (labels_after is (label_of_block signatures o.value) ls) os
       (after_labels is own xs k h) l.1)

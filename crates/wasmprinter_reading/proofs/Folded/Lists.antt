@@ -24,7 +24,7 @@ use Rattle.wasmprinter_spec.specs.Folding.Tree.{Of, ThenCase, ElseCase, Nodes, N
 use Rattle.wasmprinter_spec.proofs.FoldingItems.{roles-items}
 use Rattle.wasmprinter_spec.proofs.FoldingCode.{nested_code_of-nested, nested_code_of-tree}
 use Rattle.wasmprinter_lexical.proofs.Pieces.{Edge, Free, Bound}
-use Rattle.wasmprinter_lexical.proofs.Writes.{Writes, WritesNoted, nothing_writes, free_writes, behind_anything, respelled_write}
+use Rattle.wasmprinter_lexical.proofs.Writes.{Writes, WritesNoted, nothing_writes, free_writes, after_anything, respelled_write}
 use Rattle.wasmprinter_reading.specs.Listed.{IsListed, AreSignaturesInRange}
 use Rattle.wasmprinter_reading.proofs.Operators.Forms.{hint_items}
 use Rattle.wasmprinter_reading.proofs.Operators.Lists.{expression_items, hinted_items, chunks_of, chunks_of_forest-operators}
@@ -59,9 +59,9 @@ list_items hints (Some f) own s hs os = folded_items hints s (f.signatures own) 
 -- ---- the premises
 
 -- The text of folded operators has no colors.
-abbrev pub IsUnpainted : Option Folding → Type 0
-IsUnpainted None = Unit {0}
-IsUnpainted (Some f) = f.paints ≡ false
+abbrev pub IsUncolored : Option Folding → Type 0
+IsUncolored None = Unit {0}
+IsUncolored (Some f) = f.color ≡ false
 
 abbrev pub is_folding : Option Folding → Bool
 is_folding None = false
@@ -92,17 +92,17 @@ row_in_front form nesting f h =
   where
     by : (form : Form) (f : Nodes) → RowWrites defaults form true nesting f → WritesNoted (in_front form) (whole_pieces defaults form true nesting f) Bound (row_items false f) (row_items true f)
     by form Nil w = no_nodes_write form
-    by OverLines (Snoc b g r held) w = behind_anything Bound w
+    by OverLines (Snoc b g r held) w = after_anything Bound w
     by InLine (Snoc b g r held) w = w
 
-pub folded_list_writes : (f : Folding) → f.paints ≡ false → (own : Option ℕ) (s : Setting) → AreNamed s.names → AreSignaturesInRange s.signature →
+pub folded_list_writes : (f : Folding) → f.color ≡ false → (own : Option ℕ) (s : Setting) → AreNamed s.names → AreSignaturesInRange s.signature →
     (hs : List (Placed Hint)) (os : List (Placed Operator)) → AllByRecursion IsListed (without_places os) →
     WritesNoted (in_front s.form) (folded_list f own s hs os) Bound (folded_items false s (f.signatures own) hs os) (folded_items true s (f.signatures own) hs os)
 unfolding folded_pieces
-folded_list_writes f bare own s named ranged hs os l = by f.paints bare (folding.nested_code_of (items s (f.signatures own) hs 0 [] [] os)) refl
+folded_list_writes f bare own s named ranged hs os l = by f.color bare (folding.nested_code_of (items s (f.signatures own) hs 0 [] [] os)) refl
   where
-    by : (paints : Bool) → paints ≡ false → (c : Option NestedCode) → folding.nested_code_of (items s (f.signatures own) hs 0 [] [] os) ≡ c →
-        WritesNoted (in_front s.form) (if_folded (option_map (λ code. node_pieces defaults paints s.form true s.nesting (tree code)) c)) Bound (code_items false c) (code_items true c)
+    by : (color : Bool) → color ≡ false → (c : Option NestedCode) → folding.nested_code_of (items s (f.signatures own) hs 0 [] [] os) ≡ c →
+        WritesNoted (in_front s.form) (if_folded (option_map (λ code. node_pieces defaults color s.form true s.nesting (tree code)) c)) Bound (code_items false c) (code_items true c)
     by true b c e = absurd cc
     by false b None e = no_nodes_write s.form
     by false b (Some code) e = row_in_front s.form s.nesting (tree code) (tree_row s named ranged (f.signatures own) hs os l code e)
@@ -139,7 +139,7 @@ folded_unhinted s signatures os = by (folding.nested_code_of xs) refl
         row_unhinted (tree code)
         (heads-tree IsUnhinted code (subst (AllByRecursion IsUnhinted) (sym (nested_code_of-tree xs code e).0) (items_unhinted s signatures os 0 [] [])))
 
-pub unhinted_list_writes : (f : Folding) → f.paints ≡ false → (own : Option ℕ) (s : Setting) → AreNamed s.names → AreSignaturesInRange s.signature →
+pub unhinted_list_writes : (f : Folding) → f.color ≡ false → (own : Option ℕ) (s : Setting) → AreNamed s.names → AreSignaturesInRange s.signature →
     (os : List (Placed Operator)) → AllByRecursion IsListed (without_places os) →
     Writes (in_front s.form) (folded_list f own s [] os) Bound (folded_items false s (f.signatures own) [] os)
 unhinted_list_writes f bare own s named ranged os l =

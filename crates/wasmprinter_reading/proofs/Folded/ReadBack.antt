@@ -86,8 +86,8 @@ module _ (s : Setting) (named : AreNamed s.names) (ranged : AreSignaturesInRange
 -- ---- other numbers of operands and results
 
 -- The pieces of an item do not depend on these numbers.
-recounted : (form : Form) (x : Item) (takes gives : ℕ) → IsPrinted form x → IsPrinted form (record x { takes = takes; gives = gives })
-recounted form x takes gives h = record { listed = h.listed; pieces = h.pieces; are = h.are; writes = h.writes; bare = h.bare; line = h.line }
+recounted : (form : Form) (x : Item) (operands results : ℕ) → IsPrinted form x → IsPrinted form (record x { operands = operands; results = results })
+recounted form x operands results h = record { listed = h.listed; pieces = h.pieces; are = h.are; writes = h.writes; bare = h.bare; line = h.line }
 
 printed_uncounted : (form : Form) (xs : List Item) → AllByRecursion (IsPrinted form) xs → AllByRecursion (IsPrinted form) (map without_counts xs)
 printed_uncounted form [] h = tt
@@ -95,7 +95,7 @@ printed_uncounted form (x ∷ xs) h = (recounted form x 0 0 h.0, printed_uncount
 
 uncounted_printed : (form : Form) (xs : List Item) → AllByRecursion (IsPrinted form) (map without_counts xs) → AllByRecursion (IsPrinted form) xs
 uncounted_printed form [] h = tt
-uncounted_printed form (x ∷ xs) h = (recounted form (without_counts x) x.takes x.gives h.0, uncounted_printed form xs h.1)
+uncounted_printed form (x ∷ xs) h = (recounted form (without_counts x) x.operands x.results h.0, uncounted_printed form xs h.1)
 
 -- The chunk of an item does not depend on them either.
 chunks-without_counts : (xs : List Item) → map (own_chunk false) (map without_counts xs) ≡ map (own_chunk false) xs

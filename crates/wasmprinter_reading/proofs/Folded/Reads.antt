@@ -49,14 +49,14 @@ row_items hints (Snoc b h r held) = onto (row_items hints b) (hint_at hints (hea
 pub record Fold : Type 0 where
   pub front : List Chunk
   pub own : Chunk
-  pub behind : List Chunk
+  pub after : List Chunk
 
 abbrev pub as_folded : Fold → Instruction
-as_folded n = Folded n.front n.own n.behind
+as_folded n = Folded n.front n.own n.after
 
 abbrev pub chunks_in : List Fold → List Chunk
 chunks_in [] = []
-chunks_in (n ∷ ns) = n.front ++ (n.own ∷ (n.behind ++ chunks_in ns))
+chunks_in (n ∷ ns) = n.front ++ (n.own ∷ (n.after ++ chunks_in ns))
 
 chunks_in-append : (a b : List Fold) → chunks_in (a ++ b) ≡ chunks_in a ++ chunks_in b
 chunks_in-append [] b = refl
@@ -176,7 +176,7 @@ note_reads false h n f g is e = e
 module _ (hints : Bool) where
   -- If a row reads back, then so does the row with one more node.
   one_more : (b : Nodes) (x : Item) (r : ℕ) (held : Nodes) (rb : Reads hints b) (n : Fold) → n.own ≡ item_chunk x →
-      n.front ++ own_chunk hints x ∷ n.behind ≡ told_chunks hints (own_told x held) →
+      n.front ++ own_chunk hints x ∷ n.after ≡ told_chunks hints (own_told x held) →
       ((g : Forest) (is : List Instruction) → code g ≡ Some (code_of End is) → code (Group (head_items (Of x) (row_items hints held)) g) ≡ Some (code_of End (as_folded n ∷ is))) →
       Reads hints (Snoc b (Of x) r held)
   unfolding noted_fold
@@ -187,7 +187,7 @@ module _ (hints : Bool) where
         folds = rb.folds ++ (k ∷ []);
         say =
             chunks_in-append rb.folds (k ∷ [])
-            ∙ ap₂ (λ a c. a ++ c) rb.say (ap (λ (l : List Chunk). n.front ++ k.own ∷ l) (append-nil n.behind) ∙ ap (λ c. n.front ++ c ∷ n.behind) own ∙ says)
+            ∙ ap₂ (λ a c. a ++ c) rb.say (ap (λ (l : List Chunk). n.front ++ k.own ∷ l) (append-nil n.after) ∙ ap (λ c. n.front ++ c ∷ n.after) own ∙ says)
             ∙ sym (told_append hints (unfolding_of b) (own_told x held));
         reads = λ g is e.
             let inner : Forest = head_items (Of x) (row_items hints held) in
@@ -203,7 +203,7 @@ module _ (hints : Bool) where
   row_reads form f no_nodes a = record { folds = []; say = refl; reads = λ g is e. e }
   row_reads form f (a_plain b x r held p h rb rh) (own, before, inside) =
       let k : Reads hints held = row_reads form held rh inside in
-      let n : Fold = record { front = chunks_in k.folds; own = item_chunk x; behind = [] } in
+      let n : Fold = record { front = chunks_in k.folds; own = item_chunk x; after = [] } in
       one_more b x r held (row_reads form b rb before) n refl
       (ap (λ (l : List Chunk). l ++ own_chunk hints x ∷ []) k.say
       ∙ sym (told_append hints (unfolding_of held) (Some x ∷ []))
@@ -212,7 +212,7 @@ module _ (hints : Bool) where
   row_reads form f (a_block b x r held p h rb rh nested) (own, before, inside) =
       let k : Reads hints held = row_reads form held rh inside in
       let end : Chunk = word_chunk (codes "end") in
-      let n : Fold = record { front = []; own = item_chunk x; behind = chunks_in k.folds ++ end ∷ [] } in
+      let n : Fold = record { front = []; own = item_chunk x; after = chunks_in k.folds ++ end ∷ [] } in
       let same : are_nested (chunks_in k.folds) ≡ true = ap are_nested k.say ∙ nested_at hints held nested in
       one_more b x r held (row_reads form b rb before) n refl
       (ap (λ (l : List Chunk). own_chunk hints x ∷ (l ++ end ∷ [])) k.say
@@ -225,7 +225,7 @@ module _ (hints : Bool) where
       let k : Reads hints held = row_reads form held rh inside in
       let end : Chunk = word_chunk (codes "end") in
       let yes : List Chunk = chunks_in k.folds in
-      let n : Fold = record { front = chunks_in j.folds ++ []; own = item_chunk x; behind = yes ++ end ∷ [] } in
+      let n : Fold = record { front = chunks_in j.folds ++ []; own = item_chunk x; after = yes ++ end ∷ [] } in
       let same : are_nested yes ≡ true = ap are_nested k.say ∙ nested_at hints held nested in
       let node : Nodes = Snoc given (ThenCase x) q held in
       let cases : code (row_items hints node) ≡ Some (code_of End (map as_folded j.folds ++ code.Then yes ∷ [])) =
@@ -245,7 +245,7 @@ module _ (hints : Bool) where
       let turn : Chunk = word_chunk (codes "else") in
       let yes : List Chunk = chunks_in k.folds in
       let otherwise : List Chunk = chunks_in l.folds in
-      let n : Fold = record { front = chunks_in j.folds ++ []; own = item_chunk x; behind = (yes ++ turn ∷ otherwise) ++ end ∷ [] } in
+      let n : Fold = record { front = chunks_in j.folds ++ []; own = item_chunk x; after = (yes ++ turn ∷ otherwise) ++ end ∷ [] } in
       let same : are_nested yes ≡ true = ap are_nested k.say ∙ nested_at hints held nested in
       let same_other : are_nested otherwise ≡ true = ap are_nested l.say ∙ nested_at hints other nested_other in
       let node : Nodes = Snoc (Snoc given (ThenCase x) q held) (ElseCase y) t other in

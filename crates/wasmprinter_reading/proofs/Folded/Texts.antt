@@ -6,7 +6,7 @@ use Rattle.std.specs.Option.{is_none}
 use Rattle.wasmprinter_spec.specs.Grammar.{Placed}
 use Rattle.wasmprinter_spec.specs.Customs.Hints.{Hint}
 use Rattle.wasmprinter_spec.specs.Options.{Options, IsBlank}
-use Rattle.wasmprinter_spec.specs.Piece.{Piece, Word, OpenPlain, Shut, Ending, PlainEnding, HintNote, text}
+use Rattle.wasmprinter_spec.specs.Piece.{Piece, Word, OpenPlain, Shut, LineComment, PlainLineComment, HintAnnotation, text}
 use Rattle.wasmprinter_spec.specs.Layout.Operators.{Form, before_word}
 use Rattle.wasmprinter_spec.specs.Layout.Folded.{head_place, head_text, head_hint, has_line_comment, comment_end, node_hint, node_pieces}
 use Rattle.wasmprinter_spec.specs.Folding.Tree.{Head, Of, ThenCase, ElseCase, Nodes, Nil, Snoc, is_nil}
@@ -28,7 +28,7 @@ head_pieces (ElseCase x) = Word (codes "else") ∷ []
 
 abbrev pub whole_hint : Form → Bool → ℕ → ℕ → Option (Placed Hint) → List Piece
 whole_hint form first place nesting None = []
-whole_hint form first place nesting (Some h) = before_word form first place nesting ++ HintNote h.value.taken ∷ []
+whole_hint form first place nesting (Some h) = before_word form first place nesting ++ HintAnnotation h.value.taken ∷ []
 
 abbrev pub whole_pieces : Options → Form → Bool → ℕ → Nodes → List Piece
 whole_pieces o form first nesting Nil = []
@@ -53,10 +53,10 @@ module _ (o : Options) where
   AreSpelled (Snoc b h r held) = HeadSpelled h × AreSpelled b × AreSpelled held
 
   module _ (blank : IsBlank o.indent) where
-    note_spelled : (taken : Bool) → Respelled (Word (text o (HintNote taken)) ∷ []) (HintNote taken ∷ [])
+    note_spelled : (taken : Bool) → Respelled (Word (text o (HintAnnotation taken)) ∷ []) (HintAnnotation taken ∷ [])
     note_spelled taken = record {
-      text = λ p. ap (λ t. t ++ []) (append-nil (text o (HintNote taken)));
-      tokens = ap (λ t. t ++ []) (pieces_tokens o blank (HintNote taken ∷ []) refl (tt, tt));
+      text = λ p. ap (λ t. t ++ []) (append-nil (text o (HintAnnotation taken)));
+      tokens = ap (λ t. t ++ []) (pieces_tokens o blank (HintAnnotation taken ∷ []) refl (tt, tt));
     }
 
     hint_spelled : (form : Form) (first : Bool) (place nesting : ℕ) (h : Option (Placed Hint)) →
@@ -91,13 +91,13 @@ module _ (o : Options) where
 
 -- ---- without two adjacent semicolons, there is no line comment
 
-comment_behind : (a : ℕ) (l : List ℕ) → has_line_comment (a ∷ l) ≡ false → has_line_comment l ≡ false
-comment_behind a [] h = refl
-comment_behind a (b ∷ cs) h = (or_parts ((a == 59) && (b == 59)) (has_line_comment (b ∷ cs)) h).1
+comment_after : (a : ℕ) (l : List ℕ) → has_line_comment (a ∷ l) ≡ false → has_line_comment l ≡ false
+comment_after a [] h = refl
+comment_after a (b ∷ cs) h = (or_parts ((a == 59) && (b == 59)) (has_line_comment (b ∷ cs)) h).1
 
-pub no_comment_behind : (s t : List ℕ) → has_line_comment (s ++ t) ≡ false → has_line_comment t ≡ false
-no_comment_behind [] t h = h
-no_comment_behind (a ∷ s) t h = no_comment_behind s t (comment_behind a (s ++ t) h)
+pub no_comment_after : (s t : List ℕ) → has_line_comment (s ++ t) ≡ false → has_line_comment t ≡ false
+no_comment_after [] t h = h
+no_comment_after (a ∷ s) t h = no_comment_after s t (comment_after a (s ++ t) h)
 
 -- Reports whether a parenthesis may close there.
 abbrev pub may_shut : Edge → Bool
@@ -105,8 +105,8 @@ may_shut Ended = false
 may_shut _ = true
 
 leaves_shut : (o : Options) (p : Piece) (rest : List ℕ) → has_line_comment (text o p ++ rest) ≡ false → may_shut (leaves p) ≡ true
-leaves_shut o (Ending s) rest h = absurd (true≢false h)
-leaves_shut o (PlainEnding s) rest h = absurd (true≢false h)
+leaves_shut o (LineComment s) rest h = absurd (true≢false h)
+leaves_shut o (PlainLineComment s) rest h = absurd (true≢false h)
 leaves_shut o _ rest h = refl
 
 pub shut_joins : (o : Options) (a : Edge) (ps qs : List Piece) → may_shut a ≡ true → has_line_comment (all_text o ps) ≡ false → pieces_follow a ps ≡ true →
@@ -118,4 +118,4 @@ shut_joins o Ended [] qs m n j g = absurd (true≢false (sym m))
 shut_joins o a (p ∷ ps) qs m n j g =
     let parts : (may_follow a p ≡ true) × (pieces_follow (leaves p) ps ≡ true) = and_parts (may_follow a p) (pieces_follow (leaves p) ps) j in
     and_from (may_follow a p) (pieces_follow (leaves p) (ps ++ Shut ∷ qs)) parts.0
-    (shut_joins o (leaves p) ps qs (leaves_shut o p (all_text o ps) n) (no_comment_behind (text o p) (all_text o ps) n) parts.1 g)
+    (shut_joins o (leaves p) ps qs (leaves_shut o p (all_text o ps) n) (no_comment_after (text o p) (all_text o ps) n) parts.1 g)

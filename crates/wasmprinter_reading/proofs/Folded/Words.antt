@@ -3,7 +3,7 @@
 use Rattle.std.proofs.Common.{◌≡◌, Bool, true, false, ◌&&◌, ◌||◌, not, cond, List, ◌∷◌, Option, Some, refl, sym, ap, ◌∙◌, codes, bytes_eq, ℕ}
 use Rattle.std.proofs.lemmas.Bool.{and_parts, not-true}
 use Rattle.wasmprinter_spec.specs.Operator.{Operator}
-use Rattle.wasmprinter_spec.specs.Row.{Row, Role, Plain, Opens, OpensIf, OpensTry, Turns, Catches, CatchesAll, Delegates, Ends, Shape, NoneShape}
+use Rattle.wasmprinter_spec.specs.Row.{Row, Role, Plain, Opens, OpensIf, OpensTry, Else, Catches, CatchesAll, Delegates, Ends, Shape, NoneShape}
 use Rattle.wasmprinter_spec.specs.Table.{table, rows_of, by_opcode, word_of_row, word_of, role_of_row, role_of, shape_of_row, shape_of}
 use Rattle.wasmprinter_spec.specs.Code.{role_by, OperatorHead, head_by, head}
 use Rattle.wasmprinter_reading.specs.Listed.{IsListed}
@@ -26,7 +26,7 @@ abbrev role_of_word : List ℕ → Role
 role_of_word w =
     cond (bytes_eq w (codes "block") || (bytes_eq w (codes "loop") || bytes_eq w (codes "try_table"))) Opens
     (cond (bytes_eq w (codes "if")) OpensIf
-    (cond (bytes_eq w (codes "else")) Turns
+    (cond (bytes_eq w (codes "else")) Else
     (cond (bytes_eq w (codes "end")) Ends
     (cond (bytes_eq w (codes "try")) OpensTry
     (cond (bytes_eq w (codes "catch")) Catches (cond (bytes_eq w (codes "catch_all")) CatchesAll (cond (bytes_eq w (codes "delegate")) Delegates Plain)))))))
@@ -36,7 +36,7 @@ same_role Plain Plain = true
 same_role Opens Opens = true
 same_role OpensIf OpensIf = true
 same_role OpensTry OpensTry = true
-same_role Turns Turns = true
+same_role Else Else = true
 same_role Catches Catches = true
 same_role CatchesAll CatchesAll = true
 same_role Delegates Delegates = true
@@ -49,7 +49,7 @@ is_none_shape _ = false
 
 -- Reports whether an operator, if it is an `else` or `end`, has that word and no immediates.
 abbrev stands_bare : Role → List ℕ → Shape → Bool
-stands_bare Turns w s = bytes_eq w (codes "else") && is_none_shape s
+stands_bare Else w s = bytes_eq w (codes "else") && is_none_shape s
 stands_bare Ends w s = bytes_eq w (codes "end") && is_none_shape s
 stands_bare _ w s = true
 
@@ -75,7 +75,7 @@ same_role-true Plain Plain e = refl
 same_role-true Opens Opens e = refl
 same_role-true OpensIf OpensIf e = refl
 same_role-true OpensTry OpensTry e = refl
-same_role-true Turns Turns e = refl
+same_role-true Else Else e = refl
 same_role-true Catches Catches e = refl
 same_role-true CatchesAll CatchesAll e = refl
 same_role-true Delegates Delegates e = refl
@@ -153,10 +153,10 @@ bare_by o r w e =
       shape = ap shape_of_row r.found ∙ ap (λ x. Some x) (none_shape-true r.row.shape parts.1);
     }
 
-pub turn_is_bare : (o : Operator) → IsListed o → role_of o.opcode ≡ Turns → IsBare o (codes "else")
+pub turn_is_bare : (o : Operator) → IsListed o → role_of o.opcode ≡ Else → IsBare o (codes "else")
 turn_is_bare o h e =
     let r : HasRow o = row_for o h in
-    let t : r.row.role ≡ Turns = sym (ap role_of_row r.found) ∙ e in
+    let t : r.row.role ≡ Else = sym (ap role_of_row r.found) ∙ e in
     bare_by o r (codes "else") (ap (λ x. stands_bare x r.row.word r.row.shape) (sym t) ∙ bare_row o h r.row r.found)
 
 pub end_is_bare : (o : Operator) → IsListed o → role_of o.opcode ≡ Ends → IsBare o (codes "end")

@@ -10,7 +10,7 @@ use Rattle.wasmprinter_spec.specs.Table.{word_of_row}
 use Rattle.wasmprinter_spec.specs.Customs.Hints.{Hint}
 use Rattle.wasmprinter_spec.specs.Options.{Options}
 use Rattle.wasmprinter_spec.specs.Piece as piece
-use Rattle.wasmprinter_spec.specs.Piece.{Piece, Break, OpenPlain, Shut, HintNote}
+use Rattle.wasmprinter_spec.specs.Piece.{Piece, Break, OpenPlain, Shut, HintAnnotation}
 use Rattle.wasmprinter_spec.specs.Layout.Operators.{Form, OverLines, InLine, before_word}
 use Rattle.wasmprinter_spec.specs.Layout.Folded.{head_place, head_text, head_hint, has_line_comment, comment_end}
 use Rattle.wasmprinter_spec.specs.Folding.Code.{Item}
@@ -20,13 +20,13 @@ use Rattle.wasmprinter_lexical.proofs.Noted.{no_items, a_word, a_group}
 use Rattle.wasmprinter_lexical.proofs.Runs.{is_word}
 use Rattle.wasmprinter_lexical.proofs.Pieces.{Edge, Free, Bound, leaves, may_follow, pieces_follow, all_text, text_of-all_calls}
 use Rattle.wasmprinter_lexical.proofs.Respelled.{same_spelled, first_spelled, both_spelled}
-use Rattle.wasmprinter_lexical.proofs.Writes.{Writes, WritesNoted, writes_joined, all_tokens-append, ArePieces-append, both_write, nothing_writes, free_writes, break_writes, hint_note_writes, behind_anything, plain_group_then}
+use Rattle.wasmprinter_lexical.proofs.Writes.{Writes, WritesNoted, writes_joined, all_tokens-append, ArePieces-append, both_write, nothing_writes, free_writes, break_writes, hint_note_writes, after_anything, plain_group_then}
 use Rattle.wasmprinter_reading.proofs.Tabled.{HasRow, row_for}
-use Rattle.wasmprinter_reading.proofs.Operators.Forms.{behind, may_end, ahead, before_writes, hint_items, goes_on, at_free}
+use Rattle.wasmprinter_reading.proofs.Operators.Forms.{after, may_end, ahead, before_writes, hint_items, goes_on, at_free}
 use Rattle.wasmprinter_reading.proofs.Folded.Items.{word as item_word, rest, IsPrinted}
 use Rattle.wasmprinter_reading.proofs.Folded.Rows.{IsRow, no_nodes, a_plain, a_block, an_if, an_if_else}
 use Rattle.wasmprinter_reading.proofs.Folded.Reads.{head_items, row_items}
-use Rattle.wasmprinter_reading.proofs.Folded.Texts.{opened, head_pieces, whole_hint, whole_pieces, no_comment_behind, shut_joins}
+use Rattle.wasmprinter_reading.proofs.Folded.Texts.{opened, head_pieces, whole_hint, whole_pieces, no_comment_after, shut_joins}
 
 -- ---- one group
 
@@ -57,7 +57,7 @@ text_closes o v ps h n w = record {
 module _ (o : Options) (form : Form) where
   -- A group without inner nodes: if the text may contain a line comment, the line ends before the parenthesis.
   bare_group : {f : Forest} (v : List ℕ) (ps : List Piece) (s : List ℕ) (place nesting : ℕ) → is_word v ≡ true → (has_line_comment s ≡ false → has_line_comment (all_text o ps) ≡ false) →
-      Writes Bound ps (behind form) f → Writes Free (OpenPlain v ∷ (ps ++ (comment_end true s place nesting ++ (Shut ∷ [])))) Bound (Group (Word v (onto f End)) End)
+      Writes Bound ps (after form) f → Writes Free (OpenPlain v ∷ (ps ++ (comment_end true s place nesting ++ (Shut ∷ [])))) Bound (Group (Word v (onto f End)) End)
   bare_group {f = f} v ps s place nesting h n w = by (has_line_comment s) refl
     where
       by : (t : Bool) → has_line_comment s ≡ t →
@@ -79,7 +79,7 @@ module _ (o : Options) (form : Form) where
 
   -- A group with its inner nodes
   group_by : {f : Forest} (v : List ℕ) (ps : List Piece) (s : List ℕ) (place nesting : ℕ) (held : Nodes) → is_word v ≡ true →
-      (has_line_comment s ≡ false → has_line_comment (all_text o ps) ≡ false) → Writes Bound ps (behind form) f → RowWrites false (nesting + 1) held →
+      (has_line_comment s ≡ false → has_line_comment (all_text o ps) ≡ false) → Writes Bound ps (after form) f → RowWrites false (nesting + 1) held →
       WritesNoted Free (OpenPlain v ∷ (ps ++ held_pieces s place nesting held)) Bound
       (Group (Word v (onto f (row_items false held))) End) (Group (Word v (onto f (row_items true held))) End)
   group_by v ps s place nesting Nil h n w k = bare_group v ps s place nesting h n w
@@ -107,7 +107,7 @@ module _ (o : Options) (form : Form) where
       subst (λ ps. WritesNoted Free (opened ps ++ tail) Bound (Group (head_items (Of x) (row_items false held)) End) (Group (head_items (Of x) (row_items true held)) End))
       (sym p.pieces)
       (group_by w (rest x) (head_text o (Of x)) x.operator.place nesting held is
-      (λ n. no_comment_behind (piece.text o (piece.Word w)) (all_text o (rest x)) (ap has_line_comment (sym same) ∙ n)) p.writes k)
+      (λ n. no_comment_after (piece.text o (piece.Word w)) (all_text o (rest x)) (ap has_line_comment (sym same) ∙ n)) p.writes k)
 
   then_group : (x : Item) (nesting : ℕ) (held : Nodes) → RowWrites false (nesting + 1) held → HeadWrites (ThenCase x) nesting held
   unfolding class
@@ -126,27 +126,27 @@ module _ (o : Options) (form : Form) where
   led false place nesting None w = before_writes form false place nesting w
   led {ps = ps} {f = f} {k = k} leads place nesting (Some h) w =
       subst (λ t. WritesNoted (ahead form leads) t Bound f (hint_items (Some h) k))
-      (sym (append_assoc (before_word form leads place nesting) (HintNote h.value.taken ∷ []) (before_word form (leads && false) place nesting ++ ps)))
-      (before_writes form leads place nesting (hint_note_writes refl (behind_hint leads)))
+      (sym (append_assoc (before_word form leads place nesting) (HintAnnotation h.value.taken ∷ []) (before_word form (leads && false) place nesting ++ ps)))
+      (before_writes form leads place nesting (hint_note_writes refl (after_hint leads)))
     where
-      behind_hint : (t : Bool) → WritesNoted Free (before_word form (t && false) place nesting ++ ps) Bound f k
-      behind_hint true = at_free form false (before_writes form false place nesting w)
-      behind_hint false = at_free form false (before_writes form false place nesting w)
+      after_hint : (t : Bool) → WritesNoted Free (before_word form (t && false) place nesting ++ ps) Bound f k
+      after_hint true = at_free form false (before_writes form false place nesting w)
+      after_hint false = at_free form false (before_writes form false place nesting w)
 
   -- Pieces that may follow an operator may follow a group.
-  behind_group : {ps : List Piece} {f k : Forest} → WritesNoted (ahead form false) ps Bound f k → WritesNoted Bound ps Bound f k
-  behind_group w = by form w
+  after_group : {ps : List Piece} {f k : Forest} → WritesNoted (ahead form false) ps Bound f k → WritesNoted Bound ps Bound f k
+  after_group w = by form w
     where
       by : {ps : List Piece} {f k : Forest} (form : Form) → WritesNoted (ahead form false) ps Bound f k → WritesNoted Bound ps Bound f k
-      by OverLines w = behind_anything Bound w
+      by OverLines w = after_anything Bound w
       by InLine w = w
 
   one_more : (b : Nodes) (h : Head) (r : ℕ) (held : Nodes) (first : Bool) (nesting : ℕ) → RowWrites first nesting b → HeadWrites h nesting held →
       RowWrites first nesting (Snoc b h r held)
   one_more Nil h r held true nesting k g = led true (head_place h) nesting (head_hint h) g
   one_more Nil h r held false nesting k g = led false (head_place h) nesting (head_hint h) g
-  one_more (Snoc c i q inner) h r held true nesting k g = both_write k (behind_group (led false (head_place h) nesting (head_hint h) g))
-  one_more (Snoc c i q inner) h r held false nesting k g = both_write k (behind_group (led false (head_place h) nesting (head_hint h) g))
+  one_more (Snoc c i q inner) h r held true nesting k g = both_write k (after_group (led false (head_place h) nesting (head_hint h) g))
+  one_more (Snoc c i q inner) h r held false nesting k g = both_write k (after_group (led false (head_place h) nesting (head_hint h) g))
 
   pub row_writes : (f : Nodes) → IsRow form f → (first : Bool) (nesting : ℕ) → RowWrites first nesting f
   row_writes f no_nodes first nesting = tt

@@ -38,7 +38,7 @@ bare_chunks cs = map bare_chunk cs
 
 abbrev bare_instruction : Instruction → Instruction
 bare_instruction (Flat c) = Flat (bare_chunk c)
-bare_instruction (Folded front own behind) = Folded (bare_chunks front) (bare_chunk own) (bare_chunks behind)
+bare_instruction (Folded front own after) = Folded (bare_chunks front) (bare_chunk own) (bare_chunks after)
 bare_instruction (Then cs) = Then (bare_chunks cs)
 bare_instruction (Else cs) = Else (bare_chunks cs)
 

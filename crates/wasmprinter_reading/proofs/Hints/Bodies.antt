@@ -8,7 +8,7 @@ use Rattle.wasmprinter_spec.specs.Row.{Role}
 use Rattle.wasmprinter_spec.specs.Table.{rows_of, word_of, role_of, shape_of}
 use Rattle.wasmprinter_spec.specs.Labels.{Label, labels_after, count_after, labels_outside, labels_inside}
 use Rattle.wasmprinter_spec.specs.Module.{without_places}
-use Rattle.wasmprinter_spec.specs.Customs.Hints.{Hint, FunctionHints, flag, next_hint, hint_behind, next_hints, hints_behind}
+use Rattle.wasmprinter_spec.specs.Customs.Hints.{Hint, FunctionHints, flag, next_hint, hint_after, next_hints, hints_after}
 use Rattle.wasmprinter_spec.specs.Placed.{PlacedFunction}
 use Rattle.wasmprinter_spec.specs.HintsOfModule.{OperatorHint, operator_hint}
 use Rattle.wasmprinter_spec.specs.Piece.{flag_byte}
@@ -33,12 +33,12 @@ own_hint f k (Some h) = operator_hint f k h.value.taken ∷ []
 -- The hints of operators from k on, in a body that starts at the place `body`
 abbrev pub taken_hints : ℕ → ℕ → ℕ → List (Placed Hint) → List (Placed Operator) → List OperatorHint
 taken_hints f k body hs [] = []
-taken_hints f k body hs (o ∷ os) = own_hint f k (next_hint (o.place - body) hs) ++ taken_hints f (k + 1) body (hint_behind (o.place - body) hs) os
+taken_hints f k body hs (o ∷ os) = own_hint f k (next_hint (o.place - body) hs) ++ taken_hints f (k + 1) body (hint_after (o.place - body) hs) os
 
 -- The hints of functions from index i on
 abbrev pub all_taken : List FunctionHints → ℕ → List PlacedFunction → List OperatorHint
 all_taken es i [] = []
-all_taken es i (f ∷ fs) = taken_hints i 0 f.body.place (next_hints i es) f.body.value.operators ++ all_taken (hints_behind i es) (i + 1) fs
+all_taken es i (f ∷ fs) = taken_hints i 0 f.body.place (next_hints i es) f.body.value.operators ++ all_taken (hints_after i es) (i + 1) fs
 
 -- ---- code
 
@@ -49,34 +49,34 @@ record IsCode (z front : Forest) (f k : ℕ) (rs : List OperatorHint) : Type 0 w
   hints : chunk_hints f k chunks ≡ Some rs
 
 -- The same after any items
-record BehindFront (z : Forest) (f k : ℕ) (rs : List OperatorHint) : Type 0 where
+record AfterFront (z : Forest) (f k : ℕ) (rs : List OperatorHint) : Type 0 where
   front : Forest
   code_is : IsCode z front f k rs
 
 -- Arguments before operators
 arguments_noted : (a : Forest) → AreArguments a → (g : Forest) (f k : ℕ) (rs : List OperatorHint) → ((y : Forest) → Noted y g → IsCode y End f k rs) →
-    (z : Forest) → Noted z (onto a g) → BehindFront z f k rs
+    (z : Forest) → Noted z (onto a g) → AfterFront z f k rs
 arguments_noted End h g f k rs law z n = record { front = End; code_is = law z n }
 arguments_noted (Word w a) h g f k rs law _ (a_word {f = y} n) =
-    let b : BehindFront y f k rs = arguments_noted a h.1 g f k rs law y n in
+    let b : AfterFront y f k rs = arguments_noted a h.1 g f k rs law y n in
     record {
       front = Word w b.front;
       code_is = record { chunks = b.code_is.chunks; is = rw (h.0, b.code_is.is); hints = b.code_is.hints };
     }
 arguments_noted (Name s a) h g f k rs law _ (a_name {f = y} n) =
-    let b : BehindFront y f k rs = arguments_noted a h g f k rs law y n in
+    let b : AfterFront y f k rs = arguments_noted a h g f k rs law y n in
     record {
       front = Name s b.front;
       code_is = record { chunks = b.code_is.chunks; is = rw b.code_is.is; hints = b.code_is.hints };
     }
 arguments_noted (Name s a) h g f k rs law _ (a_noted_name {f = y} n) =
-    let b : BehindFront y f k rs = arguments_noted a h g f k rs law y n in
+    let b : AfterFront y f k rs = arguments_noted a h g f k rs law y n in
     record {
       front = Name s b.front;
       code_is = record { chunks = b.code_is.chunks; is = rw b.code_is.is; hints = b.code_is.hints };
     }
 arguments_noted (Group (Word w x) a) h g f k rs law _ (a_group {f = z} (a_word {f = y} m) n) =
-    let b : BehindFront z f k rs = arguments_noted a h.1 g f k rs law z n in
+    let b : AfterFront z f k rs = arguments_noted a h.1 g f k rs law z n in
     record {
       front = Group (Word w y) b.front;
       code_is = record { chunks = b.code_is.chunks; is = rw (h.0, b.code_is.is); hints = b.code_is.hints };
@@ -89,7 +89,7 @@ flag-byte true = refl
 flag-byte false = refl
 
 -- The word of an operator, before operators, is that operator.
-operator_code : (o : Operator) → IsListed o → (z : Forest) (f k : ℕ) (rs : List OperatorHint) → BehindFront z f (k + 1) rs → IsCode (Word (word_of o.opcode) z) End f k rs
+operator_code : (o : Operator) → IsListed o → (z : Forest) (f k : ℕ) (rs : List OperatorHint) → AfterFront z f (k + 1) rs → IsCode (Word (word_of o.opcode) z) End f k rs
 operator_code o l z f k rs b =
     let r : HasRow o = row_for o l in
     let w : List ℕ = word_of o.opcode in
@@ -106,7 +106,7 @@ operator_noted : (hint : Option (Placed Hint)) (o : Operator) → IsListed o →
 operator_noted None o l a h g f k rs law _ (a_word {f = y} n) = operator_code o l y f k rs (arguments_noted a h g f (k + 1) rs law y n)
 operator_noted (Some hint) o l a h g f k rs law _ (a_note (a_string no_items) (a_word {f = y} n)) =
     let w : List ℕ = word_of o.opcode in
-    let b : BehindFront y f (k + 1) rs = arguments_noted a h g f (k + 1) rs law y n in
+    let b : AfterFront y f (k + 1) rs = arguments_noted a h g f (k + 1) rs law y n in
     let x : Forest = String (flag_byte hint.value.taken ∷ []) End in
     let r : HasRow o = row_for o l in
     let own : code (Word w y) ≡ Some (code_of End (map Flat (chunk (rows_of w) b.front ∷ b.code_is.chunks))) =
@@ -125,11 +125,11 @@ module _ (s : Setting) (f : ℕ) where
       let role : Role = role_of o.value.opcode in
       let own : Label = s.names.labels s.function n (length xs) in
       let ys : List Label = labels_after role own xs in
-      let behind : List (Placed Hint) = hint_behind (o.place - s.body) hs in
+      let after : List (Placed Hint) = hint_after (o.place - s.body) hs in
       operator_noted (next_hint (o.place - s.body) hs) o.value l.0 (arguments_items s own xs o.value)
       (arguments_by s (labels_inside role xs) (labels_outside role xs) own (shape_of o.value.opcode) o.value.immediates l.0.range)
-      (hinted_items s behind (count_after role n) ys os) f k (taken_hints f (k + 1) s.body behind os)
-      (operators_code behind (count_after role n) ys os (k + 1) l.1) z m
+      (hinted_items s after (count_after role n) ys os) f k (taken_hints f (k + 1) s.body after os)
+      (operators_code after (count_after role n) ys os (k + 1) l.1) z m
 
   -- The body starts with the first operator or its hint.
   first_noted : (hint : Option (Placed Hint)) (w : List ℕ) (g z : Forest) → Noted z (hint_items hint (Word w g)) → body_of z ≡ z

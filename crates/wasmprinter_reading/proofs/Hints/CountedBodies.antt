@@ -15,7 +15,7 @@ use Rattle.wasmprinter_spec.specs.Labels as labels
 use Rattle.wasmprinter_spec.specs.Labels.{labels_after, count_after, labels_outside, labels_inside}
 use Rattle.wasmprinter_spec.specs.Names.{IsNamedIfAny, AreNamed}
 use Rattle.wasmprinter_spec.specs.Placed.{PlacedFunction}
-use Rattle.wasmprinter_spec.specs.Customs.Hints.{Hint, FunctionHints, next_hint, hint_behind, next_hints, hints_behind}
+use Rattle.wasmprinter_spec.specs.Customs.Hints.{Hint, FunctionHints, next_hint, hint_after, next_hints, hints_after}
 use Rattle.wasmprinter_spec.specs.HintsOfModule.{OperatorHint}
 use Rattle.wasmprinter_spec.specs.Indexed.{parameter_count}
 use Rattle.wasmprinter_spec.specs.Layout.Variables.{variable_groups}
@@ -41,11 +41,11 @@ use Rattle.wasmprinter_reading.proofs.Operators.Lists.{arguments_items, hinted_i
 use Rattle.wasmprinter_reading.proofs.Operators.Open.{outside_labels, after_labels}
 use Rattle.wasmprinter_reading.proofs.Folded.Items.{IsHintless, items_printed}
 use Rattle.wasmprinter_reading.proofs.Folded.Heads.{heads-tree}
-use Rattle.wasmprinter_reading.proofs.Folded.Lists.{IsUnpainted, AreFoldable, is_folding, code_items, folded_items, list_items, has_tree}
+use Rattle.wasmprinter_reading.proofs.Folded.Lists.{IsUncolored, AreFoldable, is_folding, code_items, folded_items, list_items, has_tree}
 use Rattle.wasmprinter_reading.proofs.Fields.Functions.{function_hinted, functions_hinted, function_writes}
 use Rattle.wasmprinter_reading.proofs.Hints.Bodies.{own_hint, taken_hints, all_taken}
 use Rattle.wasmprinter_reading.proofs.Hints.FoldedBodies.{all_hintless}
-use Rattle.wasmprinter_reading.proofs.Hints.Counts.{front_count, behind_count, written_count, one_if_any, hint_count-hint_items, length-own_hint}
+use Rattle.wasmprinter_reading.proofs.Hints.Counts.{front_count, after_count, written_count, one_if_any, hint_count-hint_items, length-own_hint}
 use Rattle.wasmprinter_reading.proofs.Hints.Nodes.{HasBareArguments, bare_arguments, row_count, item_hints, node_hints-tree}
 
 -- One more operator, which takes its hint
@@ -68,13 +68,13 @@ module _ (s : Setting) (named : AreNamed s.names) (ranged : AreSignaturesInRange
       let own : labels.Label = s.names.labels s.function n (length xs) in
       let own_named : IsNamedIfAny own = named.labels s.function n (length xs) in
       let hint : Option (Placed Hint) = next_hint (o.place - s.body) hs in
-      let behind : List (Placed Hint) = hint_behind (o.place - s.body) hs in
+      let after : List (Placed Hint) = hint_after (o.place - s.body) hs in
       let a : Forest = arguments_items s own xs o.value in
-      let rest : Forest = hinted_items s behind (count_after role n) (labels_after role own xs) os in
+      let rest : Forest = hinted_items s after (count_after role n) (labels_after role own xs) os in
       hint_count-hint_items hint (Word (word_of o.value.opcode) (onto a rest))
-      ∙ ap (λ c. one_if_any hint + c) (behind_count a rest (arguments_count own xs o.value h own_named l.0))
-      ∙ taken_count f k hint (taken_hints f (k + 1) s.body behind os) (hint_count rest)
-      (operators_count behind (count_after role n) (labels_after role own xs) os (k + 1) (after_labels role own xs own_named h) l.1)
+      ∙ ap (λ c. one_if_any hint + c) (after_count a rest (arguments_count own xs o.value h own_named l.0))
+      ∙ taken_count f k hint (taken_hints f (k + 1) s.body after os) (hint_count rest)
+      (operators_count after (count_after role n) (labels_after role own xs) os (k + 1) (after_labels role own xs own_named h) l.1)
 
 -- ---- folded
 
@@ -87,9 +87,9 @@ module _ (s : Setting) (signatures : Signatures) (f : ℕ) where
       let r : Role = role_of o.value.opcode in
       let own : labels.Label = s.names.labels s.function n (length xs) in
       let offset : ℕ = o.place - s.body in
-      let behind : List Item = items s signatures (hint_behind offset hs) (count_after r n) (labels_after r own xs) (labels_after r (label_of_block signatures o.value) ls) os in
-      taken_count f k (next_hint offset hs) (taken_hints f (k + 1) s.body (hint_behind offset hs) os) (item_hints behind)
-      (items_count os (hint_behind offset hs) (count_after r n) (labels_after r own xs) (labels_after r (label_of_block signatures o.value) ls) (k + 1))
+      let after : List Item = items s signatures (hint_after offset hs) (count_after r n) (labels_after r own xs) (labels_after r (label_of_block signatures o.value) ls) os in
+      taken_count f k (next_hint offset hs) (taken_hints f (k + 1) s.body (hint_after offset hs) os) (item_hints after)
+      (items_count os (hint_after offset hs) (count_after r n) (labels_after r own xs) (labels_after r (label_of_block signatures o.value) ls) (k + 1))
 
   folded_count : AreNamed s.names → AreSignaturesInRange s.signature → (hs : List (Placed Hint)) (os : List (Placed Operator)) → AllByRecursion IsListed (without_places os) →
       Nests Sequence (roles os) → AreWithoutTry (roles os) → misplaced_hints_in s.body hs os ≡ [] →
@@ -116,7 +116,7 @@ list_count (Some x) own s f named ranged hs os l n t fit = folded_count s (x.sig
 
 -- ---- functions
 
-module _ (s : Scope) (named : AreNamed s.names) (ranged : AreSignaturesInRange (signature_at s.types)) (bare : IsUnpainted s.folding) where
+module _ (s : Scope) (named : AreNamed s.names) (ranged : AreSignaturesInRange (signature_at s.types)) (bare : IsUncolored s.folding) where
   -- All hints of a function are those of its body.
   function_count : (i : ℕ) (hs : List (Placed Hint)) (f : PlacedFunction) → i < 2 ^ 64 → IsRangedFunction f → AreFoldable s.folding f.body.value.operators →
       (is_folding s.folding ≡ true → misplaced_hints_in f.body.place hs f.body.value.operators ≡ []) →
@@ -131,12 +131,12 @@ module _ (s : Scope) (named : AreNamed s.names) (ranged : AreSignaturesInRange (
       let setting : Setting = over_lines own f.body.place in
       let shown : Bool → Forest = λ t. list_items t s.folding results setting hs f.body.value.operators in
       let none : hint_count (onto id (onto type (onto locals (shown false)))) ≡ 0 = omega (arith, written_count w) in
-      let (no_id, behind_id) = front_count id (onto type (onto locals (shown false))) none in
-      let (no_type, behind_type) = front_count type (onto locals (shown false)) behind_id in
-      let (no_locals, _) = front_count locals (shown false) behind_type in
-      behind_count id (onto type (onto locals (shown true))) no_id
-      ∙ behind_count type (onto locals (shown true)) no_type
-      ∙ behind_count locals (shown true) no_locals
+      let (no_id, after_id) = front_count id (onto type (onto locals (shown false))) none in
+      let (no_type, after_type) = front_count type (onto locals (shown false)) after_id in
+      let (no_locals, _) = front_count locals (shown false) after_type in
+      after_count id (onto type (onto locals (shown true))) no_id
+      ∙ after_count type (onto locals (shown true)) no_type
+      ∙ after_count locals (shown true) no_locals
       ∙ list_count s.folding results setting i named ranged hs f.body.value.operators h.body.listed h.body.nested foldable fit
 
   pub functions_count : (es : List FunctionHints) (i : ℕ) (fs : List PlacedFunction) → i + length fs ≤ 2 ^ 64 → AllByRecursion IsRangedFunction fs →
@@ -145,8 +145,8 @@ module _ (s : Scope) (named : AreNamed s.names) (ranged : AreSignaturesInRange (
   functions_count es i [] small k l fit = refl
   functions_count es i (f ∷ fs) small k l fit =
       let own : List OperatorHint = taken_hints i 0 f.body.place (next_hints i es) f.body.value.operators in
-      let behind : List OperatorHint = all_taken (hints_behind i es) (i + 1) fs in
-      let parts = λ (e : is_folding s.folding ≡ true). nothing_joined (misplaced_hints_in f.body.place (next_hints i es) f.body.value.operators) (misplaced_hints_from (hints_behind i es) (i + 1) fs) (fit e) in
+      let after : List OperatorHint = all_taken (hints_after i es) (i + 1) fs in
+      let parts = λ (e : is_folding s.folding ≡ true). nothing_joined (misplaced_hints_in f.body.place (next_hints i es) f.body.value.operators) (misplaced_hints_from (hints_after i es) (i + 1) fs) (fit e) in
       let first = function_count i (next_hints i es) f (omega (arith, small)) k.0 l.0 (λ e. (parts e).0) in
-      let rest = functions_count (hints_behind i es) (i + 1) fs (omega (arith, small)) k.1 l.1 (λ e. (parts e).1) in
-      omega (arith, first, rest, length-append own behind)
+      let rest = functions_count (hints_after i es) (i + 1) fs (omega (arith, small)) k.1 l.1 (λ e. (parts e).1) in
+      omega (arith, first, rest, length-append own after)

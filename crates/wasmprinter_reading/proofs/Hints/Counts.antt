@@ -46,8 +46,8 @@ pub front_count : (a f : Forest) → hint_count (onto a f) ≡ 0 → (hint_count
 front_count a f e = (omega (arith, e, hint_count-onto a f), omega (arith, e, hint_count-onto a f))
 
 -- Items without hints, before other items, do not change the number of hints.
-pub behind_count : (a f : Forest) → hint_count a ≡ 0 → hint_count (onto a f) ≡ hint_count f
-behind_count a f e = omega (arith, e, hint_count-onto a f)
+pub after_count : (a f : Forest) → hint_count a ≡ 0 → hint_count (onto a f) ≡ hint_count f
+after_count a f e = omega (arith, e, hint_count-onto a f)
 
 -- ---- items without hints
 

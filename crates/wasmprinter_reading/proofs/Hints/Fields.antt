@@ -10,13 +10,13 @@ use Rattle.wasmprinter_spec.specs.Names.{Names, AreNamed}
 use Rattle.wasmprinter_spec.specs.Placed.{TypeGroup, Import, PlacedFunction}
 use Rattle.wasmprinter_spec.specs.Module.{without_places, imported_types, with_first_if_any, func_import, locals_of}
 use Rattle.wasmprinter_spec.specs.Indexed.{parameter_count}
-use Rattle.wasmprinter_spec.specs.Customs.Hints.{Hint, FunctionHints, next_hints, hints_behind}
+use Rattle.wasmprinter_spec.specs.Customs.Hints.{Hint, FunctionHints, next_hints, hints_after}
 use Rattle.wasmprinter_spec.specs.HintsOfModule.{OperatorHint}
 use Rattle.wasmprinter_spec.specs.Code.{chunks_of_forest}
 use Rattle.wasmprinter_spec.specs.Layout.Variables.{Variables, Alone, Together, variable_groups}
 use Rattle.wasmprinter_spec.specs.Layout.Types.{parameters_of}
 use Rattle.wasmprinter_spec.specs.Layout.Declarations.{Scope, scope_of_function}
-use Rattle.wasmprinter_spec.specs.Layout.Imports.{Numbers, number_of, numbers_behind}
+use Rattle.wasmprinter_spec.specs.Layout.Imports.{Numbers, number_of, numbers_after}
 use Rattle.wasmprinter_spec.specs.Text.Hints.{header_words, chunk_hints, function_hints_in, field_hints}
 use Rattle.wasmprinter_spec.specs.Layout.Functions.{over_lines, result_count}
 use Rattle.wasmprinter_spec.specs.Folding.Refusals.{misplaced_hints_in, misplaced_hints_from}
@@ -123,14 +123,14 @@ pub imports_before : (s : Scope) (n : Numbers) (is : List (Placed Import)) {i : 
     HasHints (i + length (imported_types func_import (without_places is))) g hs → HasHints i (onto (imports_items s n is) g) hs
 imports_before s n [] {i = i} {g = g} {hs = hs} h = subst (λ k. HasHints k g hs) (omega arith) h
 imports_before s n (x ∷ xs) {i = i} {g = g} {hs = hs} h =
-    by x.value.type h (λ j k. imports_before s (numbers_behind x.value.type n) xs {i = j} k)
+    by x.value.type h (λ j k. imports_before s (numbers_after x.value.type n) xs {i = j} k)
   where
-    behind : Forest
-    behind = onto (imports_items s (numbers_behind x.value.type n) xs) g
+    after : Forest
+    after = onto (imports_items s (numbers_after x.value.type n) xs) g
 
     by : (t : ExternType) → HasHints (i + length (with_first_if_any (func_import t) (imported_types func_import (without_places xs)))) g hs →
-        ((j : ℕ) → HasHints (j + length (imported_types func_import (without_places xs))) g hs → HasHints j behind hs) →
-        HasHints i (Group (import_group x.value.source x.value.name (extern_word t) (extern_items s (number_of x.value.type n) t)) behind) hs
+        ((j : ℕ) → HasHints (j + length (imported_types func_import (without_places xs))) g hs → HasHints j after hs) →
+        HasHints i (Group (import_group x.value.source x.value.name (extern_word t) (extern_items s (number_of x.value.type n) t)) after) hs
     by (FuncExtern f) k more =
         function_import_before x.value.source x.value.name _ (more (i + 1) (subst (λ j. HasHints j g hs) (omega arith) k))
     by (TableExtern t) k more = other_import_before x.value.source x.value.name (codes "table") _ refl (more i k)
@@ -186,8 +186,8 @@ module _ (s : Scope) (named : AreNamed s.names) (ranged : AreSignaturesInRange (
   functions_before es i [] k l fit {g = g} {hs = hs} h = subst (λ j. HasHints j g hs) (omega arith) h
   functions_before es i (f ∷ fs) k l fit {g = g} {hs = hs} h =
       let rs : List OperatorHint = taken_hints i 0 f.body.place (next_hints i es) f.body.value.operators in
-      let behind : List OperatorHint = all_taken (hints_behind i es) (i + 1) fs in
-      let parts = λ (e : is_folding s.folding ≡ true). nothing_joined (misplaced_hints_in f.body.place (next_hints i es) f.body.value.operators) (misplaced_hints_from (hints_behind i es) (i + 1) fs) (fit e) in
-      let rest = functions_before (hints_behind i es) (i + 1) fs k.1 l.1 (λ e. (parts e).1) {g = g} {hs = hs} (subst (λ j. HasHints j g hs) (omega arith) h) in
-      subst (HasHints i (onto (functions_hinted false s es i (f ∷ fs)) g)) (sym (append_assoc rs behind hs))
+      let after : List OperatorHint = all_taken (hints_after i es) (i + 1) fs in
+      let parts = λ (e : is_folding s.folding ≡ true). nothing_joined (misplaced_hints_in f.body.place (next_hints i es) f.body.value.operators) (misplaced_hints_from (hints_after i es) (i + 1) fs) (fit e) in
+      let rest = functions_before (hints_after i es) (i + 1) fs k.1 l.1 (λ e. (parts e).1) {g = g} {hs = hs} (subst (λ j. HasHints j g hs) (omega arith) h) in
+      subst (HasHints i (onto (functions_hinted false s es i (f ∷ fs)) g)) (sym (append_assoc rs after hs))
       (function_before i (function_hinted false s i (next_hints i es) f) rs (function_has i (next_hints i es) f k.0 l.0 (λ e. (parts e).0)) rest)

@@ -30,19 +30,19 @@ use Rattle.wasmprinter_reading.proofs.Identifiers.{id_items}
 use Rattle.wasmprinter_reading.proofs.Fields.Functions.{functions_hinted}
 use Rattle.wasmprinter_reading.proofs.Back.{early, before, signatures_ranged, numbers_fit}
 use Rattle.wasmprinter_reading.proofs.Foldable.{CanFold}
-use Rattle.wasmprinter_reading.proofs.AsAsked.{layout_as_asked, refused_as_asked, folds_where_asked, can_fold_as_asked, unpainted_as_asked}
+use Rattle.wasmprinter_reading.proofs.AsAsked.{layout_as_asked, refused_as_asked, folds_where_asked, can_fold_as_asked, uncolored_as_asked}
 use Rattle.wasmprinter_reading.proofs.Written.{fields_noted, fields_write, noting, noted, kinds_noted, module_noted, module_writes}
 use Rattle.wasmprinter_reading.proofs.Hints.Bodies.{all_taken}
-use Rattle.wasmprinter_reading.proofs.Folded.Lists.{IsUnpainted, is_folding}
+use Rattle.wasmprinter_reading.proofs.Folded.Lists.{IsUncolored, is_folding}
 use Rattle.wasmprinter_reading.proofs.Hints.Fields.{HasHints, no_hints, notes_before, id_before, rows_before, start_before, types_before, imports_before, functions_before}
 use Rattle.wasmprinter_reading.proofs.Hints.Taken.{functions_take}
-use Rattle.wasmprinter_reading.proofs.Hints.Counts.{noted_count, hint_count-onto, behind_count, written_count, id_count, notes_count}
+use Rattle.wasmprinter_reading.proofs.Hints.Counts.{noted_count, hint_count-onto, after_count, written_count, id_count, notes_count}
 use Rattle.wasmprinter_reading.proofs.Hints.CountedBodies.{functions_count}
 
 at_number : {i k : ℕ} {g : Forest} {hs : List OperatorHint} → i ≡ k → HasHints i g hs → HasHints k g hs
 at_number {g = g} {hs = hs} e h = subst (λ i. HasHints i g hs) e h
 
-module _ (folding : Option Folding) (bare : IsUnpainted folding) (o : Options) (whole : o.skeleton ≡ false) (names : Names) (named : AreNamed names) (m : PlacedModule) (h : IsRanged m)
+module _ (folding : Option Folding) (bare : IsUncolored folding) (o : Options) (whole : o.skeleton ≡ false) (names : Names) (named : AreNamed names) (m : PlacedModule) (h : IsRanged m)
     (foldable : CanFold folding m) (placed : is_folding folding ≡ true → misplaced_hints o m ≡ []) (answers : Answers) where
   abbrev own_taken : List OperatorHint
   own_taken = all_taken (hints_of m.customs) (before folding names m FuncKind) m.functions
@@ -88,20 +88,20 @@ module _ (folding : Option Folding) (bare : IsUnpainted folding) (o : Options) (
   functions_have =
       let i : ℕ = before folding names m FuncKind in
       let n : ℕ = i + length m.functions in
-      let behind = place_before (Some CodeSection) (kinds_before (DataSection ∷ []) [] refl (no_hints n)) in
+      let after = place_before (Some CodeSection) (kinds_before (DataSection ∷ []) [] refl (no_hints n)) in
       let rest : Forest = onto (noted folding bare o names named m h answers (Some CodeSection)) (own_kinds (DataSection ∷ [])) in
       subst (λ t. HasHints i (onto (functions_hinted t (early folding names m) (hints_of m.customs) i m.functions) rest) own_taken) (sym whole)
       (subst (HasHints i (onto (functions_hinted false (early folding names m) (hints_of m.customs) i m.functions) rest)) (append-nil own_taken)
       (functions_before (early folding names m) named (signatures_ranged folding names m h) (hints_of m.customs) i m.functions h.each_function
-      foldable.functions hints_fit behind))
+      foldable.functions hints_fit after))
 
   fields_have : HasHints 0 (onto (id_items names.module_name) (module_noted folding bare o names named m h answers)) own_taken
   unfolding module_noted
   fields_have =
       let defined : List Kind =
       FunctionSection ∷ TableSection ∷ MemorySection ∷ TagSection ∷ GlobalSection ∷ ExportSection ∷ StartSection ∷ ElementSection ∷ [] in
-      let behind = place_before (Some ImportSection) (kinds_before defined (CodeSection ∷ DataSection ∷ []) refl functions_have) in
-      let imports = imports_before (early folding names m) no_numbers m.imports (at_number (omega arith) behind) in
+      let after = place_before (Some ImportSection) (kinds_before defined (CodeSection ∷ DataSection ∷ []) refl functions_have) in
+      let imports = imports_before (early folding names m) no_numbers m.imports (at_number (omega arith) after) in
       id_before names.module_name (place_before None (fields_before TypeSection refl (place_before (Some TypeSection) imports)))
 
   -- The text of the module's pieces has the hints that its functions take.
@@ -131,18 +131,18 @@ module _ (folding : Option Folding) (bare : IsUnpainted folding) (o : Options) (
   place_count : (place : Option Kind) (f : Forest) → hint_count (onto (noted folding bare o names named m h answers place) f) ≡ hint_count f
   place_count place f =
       let a : Forest = noted folding bare o names named m h answers place in
-      behind_count a f (notes_count a (noting folding bare o names named m h answers place).are)
+      after_count a f (notes_count a (noting folding bare o names named m h answers place).are)
 
   kinds_count : (ks : List Kind) → hint_count (own_kinds ks) ≡ sections_count ks
   kinds_count [] = refl
   kinds_count (k ∷ ks) =
-      let behind : Forest = onto (noted folding bare o names named m h answers (Some k)) (own_kinds ks) in
-      omega (arith, hint_count-onto (fields_noted folding bare o names named m h k) behind, fields_count k, place_count (Some k) (own_kinds ks), kinds_count ks)
+      let after : Forest = onto (noted folding bare o names named m h answers (Some k)) (own_kinds ks) in
+      omega (arith, hint_count-onto (fields_noted folding bare o names named m h k) after, fields_count k, place_count (Some k) (own_kinds ks), kinds_count ks)
 
   module_count : hint_count (onto (id_items names.module_name) (module_noted folding bare o names named m h answers)) ≡ length own_taken
   unfolding module_noted
   module_count =
-      behind_count (id_items names.module_name) (onto (noted folding bare o names named m h answers None) (own_kinds section_order)) (id_count names.module_name)
+      after_count (id_items names.module_name) (onto (noted folding bare o names named m h answers None) (own_kinds section_order)) (id_count names.module_name)
       ∙ place_count None (own_kinds section_order)
       ∙ omega (arith, kinds_count section_order)
 
@@ -169,10 +169,10 @@ well_formed m hs e =
 pub hints_stay : HintsStay
 hints_stay bytes m o answers hs spelled whole plain blank foldable none e =
     let h : IsRanged m = ranged bytes m spelled in
-    let names : Names = module_names o.invents m in
-    let named : AreNamed names = module_names_named o.invents m h in
+    let names : Names = module_names o.synthesizes m in
+    let named : AreNamed names = module_names_named o.synthesizes m h in
     let own : Option Folding = folding_of o m in
-    let bare : IsUnpainted own = unpainted_as_asked o m plain in
+    let bare : IsUncolored own = uncolored_as_asked o m plain in
     let w = module_writes own bare o names named m h answers (sym (refused_as_asked o answers m) ∙ none) in
     let is : AreWellFormed m hs = well_formed m hs e in
     let taken : all_taken (hints_of m.customs) (before own names m FuncKind) m.functions ≡ hs =

@@ -41,9 +41,9 @@ passed : (place k : ℕ) (o : Placed Operator) (os : List (Placed Operator)) →
 passed place k o os lt = rw (ne_eqb o.place place (λ e. omega (arith, lt, e)))
 
 -- If an operator is found at a place, the place is not before the first operator.
-found_behind : (place low k : ℕ) (os : List (Placed Operator)) (n : ℕ) → ArePlaced low os → number_at place k os ≡ Some n → low ≤ place
-found_behind place low k [] n h e = absurd cc
-found_behind place low k (o ∷ os) n h e = by (eqb o.place place) refl e (λ f. found_behind place (suc o.place) (k + 1) os n h.1 f)
+found_after : (place low k : ℕ) (os : List (Placed Operator)) (n : ℕ) → ArePlaced low os → number_at place k os ≡ Some n → low ≤ place
+found_after place low k [] n h e = absurd cc
+found_after place low k (o ∷ os) n h e = by (eqb o.place place) refl e (λ f. found_after place (suc o.place) (k + 1) os n h.1 f)
   where
     by : (t : Bool) → eqb o.place place ≡ t → cond t (Some k) (number_at place (k + 1) os) ≡ Some n → (number_at place (k + 1) os ≡ Some n → suc o.place ≤ place) → low ≤ place
     by true same f more = omega (arith, h.0, eqb-true o.place place same)
@@ -85,10 +85,10 @@ module _ (f body : ℕ) where
       let own : hint_from k (o ∷ os) h ≡ Some (operator_hint f k h.value.taken) =
       ap (λ t. option_map (λ n. operator_hint f n h.value.taken) (cond t (Some k) (number_at (body + h.value.offset) (k + 1) os))) (eq-eqb o.place (body + h.value.offset) same) in
       let first : operator_hint f k h.value.taken ≡ found = some_is (operator_hint f k h.value.taken) found (sym own ∙ is_found) in
-      let behind : taken_hints f (k + 1) body hs os ≡ others =
+      let after : taken_hints f (k + 1) body hs os ≡ others =
       more others (sym (each_passed k o os hs h.value.offset (omega (arith, same)) over) ∙ are_others) in
       let takes : eqb h.value.offset (o.place - body) ≡ true = eq-eqb h.value.offset (o.place - body) (omega (arith, same)) in
-      rw takes (ap₂ (λ x y. x ∷ y) first behind ∙ some_is (found ∷ others) rs result)
+      rw takes (ap₂ (λ x y. x ∷ y) first after ∙ some_is (found ∷ others) rs result)
 
   -- Operator o takes no hint.
   taken_later : (k : ℕ) (o : Placed Operator) (os : List (Placed Operator)) (h : Placed Hint) (hs : List (Placed Hint)) (rs : List OperatorHint) → body ≤ o.place →
@@ -99,8 +99,8 @@ module _ (f body : ℕ) where
       ap (λ t. option_map (λ n. operator_hint f n h.value.taken) (cond t (Some k) (number_at (body + h.value.offset) (k + 1) os))) other in
       let one = bind_some (hint_from k (o ∷ os) h) (λ y. each (hint_from k (o ∷ os)) hs >>= λ ys. Some (y ∷ ys)) rs e in
       let found = mapped_some (λ n. operator_hint f n h.value.taken) (number_at (body + h.value.offset) (k + 1) os) one.0 (sym moved ∙ one.1) in
-      let behind : suc o.place ≤ body + h.value.offset = found_behind (body + h.value.offset) (suc o.place) (k + 1) os found.0 p found.1 in
-      let rest : each (hint_from k (o ∷ os)) hs ≡ each (hint_from (k + 1) os) hs = each_passed k o os hs h.value.offset (omega (arith, behind)) over in
+      let after : suc o.place ≤ body + h.value.offset = found_after (body + h.value.offset) (suc o.place) (k + 1) os found.0 p found.1 in
+      let rest : each (hint_from k (o ∷ os)) hs ≡ each (hint_from (k + 1) os) hs = each_passed k o os hs h.value.offset (omega (arith, after)) over in
       let all : each (hint_from (k + 1) os) (h ∷ hs) ≡ Some rs = ap₂ (λ x y. x >>= λ z. y >>= λ zs. Some (z ∷ zs)) (sym moved) (sym rest) ∙ e in
       let leaves : eqb h.value.offset (o.place - body) ≡ false =
       ne_eqb h.value.offset (o.place - body) (λ same. eqb-false o.place (body + h.value.offset) other (omega (arith, le, same))) in
@@ -137,13 +137,13 @@ no_body i g = by (ltb g i)
 
 first_body : (i g : ℕ) (f : PlacedFunction) (fs : List PlacedFunction) → g ≡ i → body_at i (f ∷ fs) g ≡ Some f.body
 first_body i g f fs same =
-    let zero_behind : g - i ≡ 0 = omega (arith, same) in
-    rw (le-ltb g i (omega (arith, same)), zero_behind)
+    let zero_after : g - i ≡ 0 = omega (arith, same) in
+    rw (le-ltb g i (omega (arith, same)), zero_after)
 
 later_body : (i g : ℕ) (f : PlacedFunction) (fs : List PlacedFunction) → i < g → body_at i (f ∷ fs) g ≡ body_at (i + 1) fs g
 later_body i g f fs lt =
-    let behind : g - i ≡ suc (g - (i + 1)) = omega (arith, lt) in
-    rw (le-ltb g i (omega (arith, lt)), le-ltb g (i + 1) (omega (arith, lt)), behind)
+    let after : g - i ≡ suc (g - (i + 1)) = omega (arith, lt) in
+    rw (le-ltb g i (omega (arith, lt)), le-ltb g (i + 1) (omega (arith, lt)), after)
 
 -- A function with a body is not imported.
 is_defined : (i g : ℕ) (fs : List PlacedFunction) (b : Placed Body) → body_at i fs g ≡ Some b → i ≤ g
@@ -166,9 +166,9 @@ entry_here : (i : ℕ) (f : PlacedFunction) (fs : List PlacedFunction) (e : Func
     rise (offsets i f.body.place e.hints) ≡ true → AreOver i (functions_of es) → e.function ≡ i → all_hints i (f ∷ fs) (e ∷ es) ≡ Some rs →
     ((ts : List OperatorHint) → all_hints (i + 1) fs es ≡ Some ts → all_taken es (i + 1) fs ≡ ts) → all_taken (e ∷ es) i (f ∷ fs) ≡ rs
 entry_here i f fs e es rs h up over same k more =
-    let (found, are_found, behind) =
+    let (found, are_found, after) =
     bind_some (entry_hints i (f ∷ fs) e) (λ hs. all_hints i (f ∷ fs) es >>= λ rest. Some (hs ++ rest)) rs k in
-    let (others, are_others, result) = bind_some (all_hints i (f ∷ fs) es) (λ rest. Some (found ++ rest)) rs behind in
+    let (others, are_others, result) = bind_some (all_hints i (f ∷ fs) es) (λ rest. Some (found ++ rest)) rs after in
     let body : entry_hints i (f ∷ fs) e ≡ each (hint_in e.function f.body) e.hints =
     ap (λ b. b >>= λ x. each (hint_in e.function x) e.hints) (first_body i e.function f fs same) in
     let own : each (hint_in i f.body) e.hints ≡ Some found = ap (λ g. each (hint_in g f.body) e.hints) (sym same) ∙ sym body ∙ are_found in

@@ -8,7 +8,7 @@ use Rattle.wasmprinter_spec.specs.LabelNames.{is_clean}
 use Rattle.wasmprinter_spec.specs.Row.{Space, Types, Func, Table, Memory, Tag, Global, Elem, Data, Local, Label}
 use Rattle.wasmprinter_spec.specs.Names.Section.{Entry, function_subsection, local_subsection, type_subsection, table_subsection, memory_subsection, global_subsection, elem_subsection, data_subsection, field_subsection, tag_subsection}
 use Rattle.wasmprinter_spec.specs.Names.Content.{group_of, index_content, marked_content, is_counted, is_among, content, entry_name, last_name, is_in, entries_in, name_of}
-use Rattle.wasmprinter_spec.specs.Names.{names_of, no_names, or_invented, name_in, AreDistinct, AreApart}
+use Rattle.wasmprinter_spec.specs.Names.{names_of, no_names, or_synthesized, name_in, AreDistinct, AreApart}
 use Rattle.wasmprinter_reading.specs.NameLaws.{AreEntries, IsEntry, IdentifiersAreApart}
 use Rattle.wasmprinter_reading.proofs.Bytes.{same_bytes}
 use Rattle.wasmprinter_reading.proofs.Operators.LabelNames.{no_blank-decimal, around_blank, has_blank, label_naming_apart, no_label_names_are_apart}
@@ -26,12 +26,12 @@ are_entries-in s outer (e ∷ entries) h = keeps_entry (is_in s outer e) e (entr
 -- ---- the index in a content
 
 -- Two equal texts with the same prefix have the same rest.
-behind_group : (g xs ys : List ℕ) → g ++ xs ≡ g ++ ys → xs ≡ ys
-behind_group [] xs ys e = e
-behind_group (c ∷ g) xs ys e = behind_group g xs ys (let f : g ++ xs ≡ g ++ ys = cc in f)
+after_group : (g xs ys : List ℕ) → g ++ xs ≡ g ++ ys → xs ≡ ys
+after_group [] xs ys e = e
+after_group (c ∷ g) xs ys e = after_group g xs ys (let f : g ++ xs ≡ g ++ ys = cc in f)
 
-behind_sign : (g xs ys : List ℕ) → ◌≡◌ {A = List ℕ} (35 ∷ (g ++ xs)) (35 ∷ (g ++ ys)) → xs ≡ ys
-behind_sign g xs ys e = behind_group g xs ys (let f : g ++ xs ≡ g ++ ys = cc in f)
+after_sign : (g xs ys : List ℕ) → ◌≡◌ {A = List ℕ} (35 ∷ (g ++ xs)) (35 ∷ (g ++ ys)) → xs ≡ ys
+after_sign g xs ys e = after_group g xs ys (let f : g ++ xs ≡ g ++ ys = cc in f)
 
 number : (i j : ℕ) → i < 2 ^ 64 → j < 2 ^ 64 → decimal i ≡ decimal j → i ≡ j
 number i j p q e = decimal_injective i j p q e
@@ -39,13 +39,13 @@ number i j p q e = decimal_injective i j p q e
 marked-index : (g m n : List ℕ) (i j : ℕ) → i < 2 ^ 64 → j < 2 ^ 64 → marked_content g i m ≡ marked_content g j n → i ≡ j
 marked-index g m n i j p q e =
     number i j p q (around_blank (decimal i) (decimal j) m n (no_blank-decimal i) (no_blank-decimal j)
-    (behind_sign g (decimal i ++ (32 ∷ m)) (decimal j ++ (32 ∷ n)) e)).0
+    (after_sign g (decimal i ++ (32 ∷ m)) (decimal j ++ (32 ∷ n)) e)).0
 
 index-index : (g : List ℕ) (i j : ℕ) → i < 2 ^ 64 → j < 2 ^ 64 → index_content g i ≡ index_content g j → i ≡ j
-index-index g i j p q e = number i j p q (behind_sign g (decimal i) (decimal j) e)
+index-index g i j p q e = number i j p q (after_sign g (decimal i) (decimal j) e)
 
 marked-not_index : (g n : List ℕ) (i j : ℕ) → marked_content g j n ≡ index_content g i → ⊥
-marked-not_index g n i j e = has_blank (decimal j) (decimal i) n (no_blank-decimal i) (behind_sign g (decimal j ++ (32 ∷ n)) (decimal i) e)
+marked-not_index g n i j e = has_blank (decimal j) (decimal i) n (no_blank-decimal i) (after_sign g (decimal j ++ (32 ∷ n)) (decimal i) e)
 
 -- ---- the identifier of an index
 
@@ -57,7 +57,7 @@ text_at s (Some n) index = n.content
 -- An identifier contains its own index, or it is a name that was given.
 data Calls (s : ℕ) (given : List (List ℕ)) (i : ℕ) (c : List ℕ) : Type 0 where
   Marked : (n : List ℕ) → c ≡ marked_content (group_of s) i n → Calls s given i c
-  Invented : c ≡ index_content (group_of s) i → Calls s given i c
+  Synthesized : c ≡ index_content (group_of s) i → Calls s given i c
   Given : is_among c given ≡ true → is_clean c ≡ true → Calls s given i c
 
 not-false : (a : Bool) → not a ≡ false → a ≡ true
@@ -86,7 +86,7 @@ calls_by s given e false h = Given (or_left (bytes_eq e.name e.name) (is_among e
 
 still_calls : (s : ℕ) (given : List (List ℕ)) (i : ℕ) (c n : List ℕ) → Calls s given i c → Calls s (n ∷ given) i c
 still_calls s given i c n (Marked m e) = Marked m e
-still_calls s given i c n (Invented e) = Invented e
+still_calls s given i c n (Synthesized e) = Synthesized e
 still_calls s given i c n (Given h k) = Given (or_right (bytes_eq n c) (is_among c given) h) k
 
 -- ---- two indices
@@ -96,10 +96,10 @@ module _ (s : ℕ) (counted : is_counted s ≡ true) where
   apart_by : (given : List (List ℕ)) (e : Entry) (b : Bool) (j : ℕ) (d : List ℕ) → needs_mark s given e ≡ b
       → e.index < 2 ^ 64 → j < 2 ^ 64 → e.index ≢ j → Calls s given j d → (if b then marked_content (group_of s) e.index e.name else e.name) ≢ d
   apart_by given e true j d h p q ne (Marked n r) f = ne (marked-index (group_of s) e.name n e.index j p q (f ∙ r))
-  apart_by given e true j d h p q ne (Invented r) f = marked-not_index (group_of s) e.name j e.index (f ∙ r)
+  apart_by given e true j d h p q ne (Synthesized r) f = marked-not_index (group_of s) e.name j e.index (f ∙ r)
   apart_by given e true j d h p q ne (Given a k) f = unclean d (marked_content (group_of s) e.index e.name) k refl (sym f)
   apart_by given e false j d h p q ne (Marked n r) f = unclean e.name (marked_content (group_of s) j n) (clean s given e h) refl (f ∙ r)
-  apart_by given e false j d h p q ne (Invented r) f = unclean e.name (index_content (group_of s) j) (clean s given e h) refl (f ∙ r)
+  apart_by given e false j d h p q ne (Synthesized r) f = unclean e.name (index_content (group_of s) j) (clean s given e h) refl (f ∙ r)
   apart_by given e false j d h p q ne (Given a k) f =
       let new : is_among e.name given ≡ false =
       and-right (is_counted s) (is_among e.name given) counted (or_parts (not (is_clean e.name)) (is_counted s && is_among e.name given) h).1 in
@@ -139,44 +139,44 @@ module _ (s : ℕ) (counted : is_counted s ≡ true) where
   texts_apart : (entries : List Entry) (outer i j : ℕ) → AreEntries entries → i < 2 ^ 64 → j < 2 ^ 64 → i ≢ j
       → text_at s (name_of entries s outer i) i ≢ text_at s (name_of entries s outer j) j
   texts_apart entries outer i j h p q ne =
-      stay_apart (entries_in s outer entries) [] None None i j (are_entries-in s outer entries h) p q ne (Invented refl) (Invented refl)
+      stay_apart (entries_in s outer entries) [] None None i j (are_entries-in s outer entries h) p q ne (Synthesized refl) (Synthesized refl)
       (λ e. ne (index-index (group_of s) i j p q e))
 
-  text-content : (invents : Bool) (o : Option Named) (i : ℕ) (n : Named) → or_invented invents (group_of s) i o ≡ Some n → n.content ≡ text_at s o i
-  text-content invents (Some m) i n e = let same : m ≡ n = cc in ap (λ (x : Named). x.content) (sym same)
+  text-content : (synthesizes : Bool) (o : Option Named) (i : ℕ) (n : Named) → or_synthesized synthesizes (group_of s) i o ≡ Some n → n.content ≡ text_at s o i
+  text-content synthesizes (Some m) i n e = let same : m ≡ n = cc in ap (λ (x : Named). x.content) (sym same)
   text-content true None i n e =
       let same : record { given = None; content = index_content (group_of s) i } ≡ n = cc in
       ap (λ (x : Named). x.content) (sym same)
   text-content false None i n e = absurd cc
 
-  distinct : (invents : Bool) (entries : List Entry) (outer : ℕ) → AreEntries entries → AreDistinct (name_in invents (name_of entries) s outer)
-  distinct invents entries outer h i j a b p q f g e = by (nat_eq i j) refl
+  distinct : (synthesizes : Bool) (entries : List Entry) (outer : ℕ) → AreEntries entries → AreDistinct (name_in synthesizes (name_of entries) s outer)
+  distinct synthesizes entries outer h i j a b p q f g e = by (nat_eq i j) refl
     where
       texts : text_at s (name_of entries s outer i) i ≡ text_at s (name_of entries s outer j) j
-      texts = sym (text-content invents (name_of entries s outer i) i a f) ∙ e ∙ text-content invents (name_of entries s outer j) j b g
+      texts = sym (text-content synthesizes (name_of entries s outer i) i a f) ∙ e ∙ text-content synthesizes (name_of entries s outer j) j b g
 
       by : (t : Bool) → nat_eq i j ≡ t → i ≡ j
       by true t = eqb-true i j t
       by false t = absurd (texts_apart entries outer i j h p q (eqb-false i j t) texts)
 
-items_distinct : (invents : Bool) (entries : List Entry) → AreEntries entries → (space : Space) → AreDistinct ((names_of invents entries).items space)
-items_distinct invents entries h Types = distinct type_subsection refl invents entries 0 h
-items_distinct invents entries h Func = distinct function_subsection refl invents entries 0 h
-items_distinct invents entries h Table = distinct table_subsection refl invents entries 0 h
-items_distinct invents entries h Memory = distinct memory_subsection refl invents entries 0 h
-items_distinct invents entries h Tag = distinct tag_subsection refl invents entries 0 h
-items_distinct invents entries h Global = distinct global_subsection refl invents entries 0 h
-items_distinct invents entries h Elem = distinct elem_subsection refl invents entries 0 h
-items_distinct invents entries h Data = distinct data_subsection refl invents entries 0 h
-items_distinct invents entries h Local = λ i j a b p q f g e. absurd cc
-items_distinct invents entries h Label = λ i j a b p q f g e. absurd cc
+items_distinct : (synthesizes : Bool) (entries : List Entry) → AreEntries entries → (space : Space) → AreDistinct ((names_of synthesizes entries).items space)
+items_distinct synthesizes entries h Types = distinct type_subsection refl synthesizes entries 0 h
+items_distinct synthesizes entries h Func = distinct function_subsection refl synthesizes entries 0 h
+items_distinct synthesizes entries h Table = distinct table_subsection refl synthesizes entries 0 h
+items_distinct synthesizes entries h Memory = distinct memory_subsection refl synthesizes entries 0 h
+items_distinct synthesizes entries h Tag = distinct tag_subsection refl synthesizes entries 0 h
+items_distinct synthesizes entries h Global = distinct global_subsection refl synthesizes entries 0 h
+items_distinct synthesizes entries h Elem = distinct elem_subsection refl synthesizes entries 0 h
+items_distinct synthesizes entries h Data = distinct data_subsection refl synthesizes entries 0 h
+items_distinct synthesizes entries h Local = λ i j a b p q f g e. absurd cc
+items_distinct synthesizes entries h Label = λ i j a b p q f g e. absurd cc
 
 pub identifiers_are_apart : IdentifiersAreApart
-identifiers_are_apart invents entries h = record {
-  items = items_distinct invents entries h;
-  fields = λ t. distinct field_subsection refl invents entries t h;
-  locals = λ f. distinct local_subsection refl invents entries f h;
-  labels = λ f. label_naming_apart invents _;
+identifiers_are_apart synthesizes entries h = record {
+  items = items_distinct synthesizes entries h;
+  fields = λ t. distinct field_subsection refl synthesizes entries t h;
+  locals = λ f. distinct local_subsection refl synthesizes entries f h;
+  labels = λ f. label_naming_apart synthesizes _;
 }
 
 pub no_names_are_apart : AreApart no_names

@@ -53,9 +53,9 @@ groups_by xs groups (Some mid) s b m h = all_both IsEntry xs (all_of groups) s (
 
 groups_fit : (groups : List (List Entry)) (at : Input) → AreBytes at.bytes → Groups subsection at groups → AreEntries (all_of groups)
 groups_fit [] at b g = tt
-groups_fit (xs ∷ groups) at b (some, end, given, behind) =
+groups_fit (xs ∷ groups) at b (some, end, given, after) =
     let fit = fits_subsection.has at xs end b given in
-    groups_by xs groups end fit.0 fit.1 behind (λ mid c k. groups_fit groups mid c k)
+    groups_by xs groups end fit.0 fit.1 after (λ mid c k. groups_fit groups mid c k)
 
 pub bytes_give_entries : BytesGiveEntries
 bytes_give_entries at entries b (groups, given, joined) = subst AreEntries (sym joined) (groups_fit groups at b given)

@@ -15,19 +15,19 @@ module _ {A E : Type 0} (h : A → E) (g : Grammar A) where
   items_none : (at : Input) → Spans (AreItems g) at ([], at)
   items_none at = record { text = []; parts = refl; ends = omega arith; spelled = refl }
 
-  items_more : (at : Input) (x : A × Input) (xs : List A) (behind : Input) → Spans g.spells at x → Spans (AreItems g) x.1 (xs, behind) → Spans (AreItems g) at (x.0 ∷ xs, behind)
-  items_more at x xs behind s t = record {
+  items_more : (at : Input) (x : A × Input) (xs : List A) (after : Input) → Spans g.spells at x → Spans (AreItems g) x.1 (xs, after) → Spans (AreItems g) at (x.0 ∷ xs, after)
+  items_more at x xs after s t = record {
     text = s.text ++ t.text;
-    parts = s.parts ∙ ap (λ (r : List ℕ). s.text ++ r) t.parts ∙ sym (append_assoc s.text t.text behind.bytes);
+    parts = s.parts ∙ ap (λ (r : List ℕ). s.text ++ r) t.parts ∙ sym (append_assoc s.text t.text after.bytes);
     ends = omega (arith, s.ends, t.ends, length-append s.text t.text);
     spelled = (s.text, t.text, refl, s.spelled, subst (λ (p : ℕ). AreItems g p t.text xs) s.ends t.spelled);
   }
 
   more_by : (n : ℕ) (at : Input) (x : A × Input) (zs : List E) (end : Option Input) → Spans g.spells at x → Lists n x.1 zs end → Lists (suc n) at (h x.0 ∷ zs) end
-  more_by n at x zs end s (xs, (behind, t, inl whole), e) =
-      (x.0 ∷ xs, (behind, items_more at x xs behind s t, inl (ap suc whole.0, whole.1)), ap (λ (es : List E). h x.0 ∷ es) e)
-  more_by n at x zs end s (xs, (behind, t, inr (fewer, lacking, ended)), e) =
-      (x.0 ∷ xs, (behind, items_more at x xs behind s t, inr (omega (arith, fewer), lacking, ended)), ap (λ (es : List E). h x.0 ∷ es) e)
+  more_by n at x zs end s (xs, (after, t, inl whole), e) =
+      (x.0 ∷ xs, (after, items_more at x xs after s t, inl (ap suc whole.0, whole.1)), ap (λ (es : List E). h x.0 ∷ es) e)
+  more_by n at x zs end s (xs, (after, t, inr (fewer, lacking, ended)), e) =
+      (x.0 ∷ xs, (after, items_more at x xs after s t, inr (omega (arith, fewer), lacking, ended)), ap (λ (es : List E). h x.0 ∷ es) e)
 
   abbrev single : Lenient E
   single = one (λ a. h a ∷ []) g

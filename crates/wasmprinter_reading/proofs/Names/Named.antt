@@ -9,7 +9,7 @@ use Rattle.wasmprinter_spec.specs.LabelNames.{is_clean}
 use Rattle.wasmprinter_spec.specs.Row.{Space, Types, Func, Table, Memory, Tag, Global, Elem, Data, Local, Label}
 use Rattle.wasmprinter_spec.specs.Names.Section.{Entry, module_subsection, function_subsection, local_subsection, label_subsection, type_subsection, table_subsection, memory_subsection, global_subsection, elem_subsection, data_subsection, field_subsection, tag_subsection}
 use Rattle.wasmprinter_spec.specs.Names.Content.{group_of, index_content, marked_content, is_counted, is_among, entry_name, last_name, entries_in, name_of}
-use Rattle.wasmprinter_spec.specs.Names.{names_of, no_names, or_invented, name_in, IsGiven, IsNamed, IsNamedIfAny, AreNamed}
+use Rattle.wasmprinter_spec.specs.Names.{names_of, no_names, or_synthesized, name_in, IsGiven, IsNamed, IsNamedIfAny, AreNamed}
 use Rattle.wasmprinter_reading.specs.NameLaws.{AreEntries, IsEntry, IdentifiersAreNamed}
 use Rattle.wasmprinter_reading.proofs.Operators.LabelNames.{printed_is_utf8, utf8-decimal, label_naming_names}
 use Rattle.wasmprinter_reading.proofs.Names.Distinct.{are_entries-in}
@@ -78,25 +78,25 @@ last-named s given before (e ∷ entries) i b h = last-named s (e.name ∷ given
 name_of-named : (entries : List Entry) (s outer i : ℕ) → AreEntries entries → IsNamedIfAny (name_of entries s outer i)
 name_of-named entries s outer i h = last-named s [] None (entries_in s outer entries) i tt (are_entries-in s outer entries h)
 
-or_invented-named : (invents : Bool) (s i : ℕ) (o : Option Named) → IsNamedIfAny o → IsNamedIfAny (or_invented invents (group_of s) i o)
-or_invented-named invents s i (Some n) h = h
-or_invented-named true s i None h = index-named s i
-or_invented-named false s i None h = tt
+or_synthesized-named : (synthesizes : Bool) (s i : ℕ) (o : Option Named) → IsNamedIfAny o → IsNamedIfAny (or_synthesized synthesizes (group_of s) i o)
+or_synthesized-named synthesizes s i (Some n) h = h
+or_synthesized-named true s i None h = index-named s i
+or_synthesized-named false s i None h = tt
 
-named : (invents : Bool) (entries : List Entry) (s outer i : ℕ) → AreEntries entries → IsNamedIfAny (name_in invents (name_of entries) s outer i)
-named invents entries s outer i h = or_invented-named invents s i (name_of entries s outer i) (name_of-named entries s outer i h)
+named : (synthesizes : Bool) (entries : List Entry) (s outer i : ℕ) → AreEntries entries → IsNamedIfAny (name_in synthesizes (name_of entries) s outer i)
+named synthesizes entries s outer i h = or_synthesized-named synthesizes s i (name_of entries s outer i) (name_of-named entries s outer i h)
 
-items_named : (invents : Bool) (entries : List Entry) → AreEntries entries → (space : Space) (i : ℕ) → IsNamedIfAny ((names_of invents entries).items space i)
-items_named invents entries h Types i = named invents entries type_subsection 0 i h
-items_named invents entries h Func i = named invents entries function_subsection 0 i h
-items_named invents entries h Table i = named invents entries table_subsection 0 i h
-items_named invents entries h Memory i = named invents entries memory_subsection 0 i h
-items_named invents entries h Tag i = named invents entries tag_subsection 0 i h
-items_named invents entries h Global i = named invents entries global_subsection 0 i h
-items_named invents entries h Elem i = named invents entries elem_subsection 0 i h
-items_named invents entries h Data i = named invents entries data_subsection 0 i h
-items_named invents entries h Local i = tt
-items_named invents entries h Label i = tt
+items_named : (synthesizes : Bool) (entries : List Entry) → AreEntries entries → (space : Space) (i : ℕ) → IsNamedIfAny ((names_of synthesizes entries).items space i)
+items_named synthesizes entries h Types i = named synthesizes entries type_subsection 0 i h
+items_named synthesizes entries h Func i = named synthesizes entries function_subsection 0 i h
+items_named synthesizes entries h Table i = named synthesizes entries table_subsection 0 i h
+items_named synthesizes entries h Memory i = named synthesizes entries memory_subsection 0 i h
+items_named synthesizes entries h Tag i = named synthesizes entries tag_subsection 0 i h
+items_named synthesizes entries h Global i = named synthesizes entries global_subsection 0 i h
+items_named synthesizes entries h Elem i = named synthesizes entries elem_subsection 0 i h
+items_named synthesizes entries h Data i = named synthesizes entries data_subsection 0 i h
+items_named synthesizes entries h Local i = tt
+items_named synthesizes entries h Label i = tt
 
 -- ---- names of labels
 
@@ -108,13 +108,13 @@ given-utf8 (Some n) text h e = subst IsGiven e h.given
 given-utf8 None text h e = absurd cc
 
 pub identifiers_are_named : IdentifiersAreNamed
-identifiers_are_named invents entries h = record {
+identifiers_are_named synthesizes entries h = record {
   module_name = name_of-named entries module_subsection 0 0 h;
-  items = items_named invents entries h;
-  fields = λ t i. named invents entries field_subsection t i h;
-  locals = λ f i. named invents entries local_subsection f i h;
+  items = items_named synthesizes entries h;
+  fields = λ t i. named synthesizes entries field_subsection t i h;
+  locals = λ f i. named synthesizes entries local_subsection f i h;
   labels = λ f.
-      label_naming_names invents (λ j. name_of entries label_subsection f j >>= λ n. n.given)
+      label_naming_names synthesizes (λ j. name_of entries label_subsection f j >>= λ n. n.given)
       (λ j text e. given-utf8 (name_of entries label_subsection f j) text (name_of-named entries label_subsection f j h) e);
 }
 

@@ -3,7 +3,7 @@ use Rattle.std.proofs.Common.{◌≡◌, true, cond, List, [], ◌∷◌, ℕ, O
 use Rattle.wasmprinter_spec.specs.Grammar.{◌>>=◌}
 use Rattle.wasmprinter_spec.specs.Forest.{Forest, End, Word, Group, onto}
 use Rattle.wasmprinter_spec.specs.Operator.{Operator}
-use Rattle.wasmprinter_spec.specs.Row.{Row, Role, Plain, Opens, OpensIf, Turns, OpensTry, Catches, CatchesAll, Delegates, Ends}
+use Rattle.wasmprinter_spec.specs.Row.{Row, Role, Plain, Opens, OpensIf, Else, OpensTry, Catches, CatchesAll, Delegates, Ends}
 use Rattle.wasmprinter_spec.specs.Table.{table, rows_of, word_of_row, word_of, role_of_row, role_of}
 use Rattle.wasmprinter_spec.specs.Stepped.{stops}
 use Rattle.wasmprinter_spec.specs.Nesting.{Nests, Sequence, advance, at_start}
@@ -22,7 +22,7 @@ plain_role r n = by r (stops_at_end (r ∷ []) n)
     by Plain e = refl
     by Opens e = absurd cc
     by OpensIf e = absurd cc
-    by Turns e = absurd cc
+    by Else e = absurd cc
     by OpensTry e = absurd cc
     by Catches e = absurd cc
     by CatchesAll e = absurd cc

@@ -13,7 +13,7 @@ use Rattle.wasmprinter_spec.specs.Code.{PartHead, head}
 use Rattle.wasmprinter_spec.specs.IndexSpaces.{Context}
 use Rattle.wasmprinter_spec.specs.Text.Items.{ids_of}
 use Rattle.wasmprinter_spec.specs.Text.Types.{signature}
-use Rattle.wasmprinter_spec.specs.Text.Operators.{id_of, behind_id, are_unnamed, type_with, block_type}
+use Rattle.wasmprinter_spec.specs.Text.Operators.{id_of, after_id, are_unnamed, type_with, block_type}
 use Rattle.wasmprinter_spec.specs.Layout.Variables.{Variables, Alone, Together, variable_groups}
 use Rattle.wasmprinter_spec.specs.Layout.Types.{parameters_of}
 use Rattle.wasmprinter_spec.specs.Layout.Operators.{Setting, Form, OverLines, InLine, ending_pieces, block_pieces}
@@ -25,9 +25,9 @@ use Rattle.wasmprinter_reading.specs.OperatorLaws.{HaveSameTypes, HaveSameNames}
 use Rattle.wasmprinter_reading.proofs.Identifiers.{id_items, of_least}
 use Rattle.wasmprinter_reading.proofs.Declarations.{id, declared_from}
 use Rattle.wasmprinter_reading.proofs.Types.Trees.{val_items, group_items, groups_items, signature_if_any_items, type_use_items, val_writes, type_use_writes}
-use Rattle.wasmprinter_reading.proofs.Types.Back.{IsBehindSignature, end_behind_signature, val_types-one, signature-items, printed_agrees}
+use Rattle.wasmprinter_reading.proofs.Types.Back.{IsAfterSignature, end_after_signature, val_types-one, signature-items, printed_agrees}
 use Rattle.wasmprinter_reading.proofs.Operators.Arguments.{AreArguments, arguments_onto}
-use Rattle.wasmprinter_reading.proofs.Operators.Forms.{behind, may_end}
+use Rattle.wasmprinter_reading.proofs.Operators.Forms.{after, may_end}
 use Rattle.wasmprinter_reading.proofs.Operators.Spaces.{least, item_reads, types_read}
 
 -- ---- the items
@@ -52,10 +52,10 @@ groups_arguments names w [] h = tt
 groups_arguments names w (Alone n t ∷ gs) h = (h, groups_arguments names w gs h)
 groups_arguments names w (Together ts ∷ gs) h = (h, groups_arguments names w gs h)
 
-behind_arguments : (names : Names) (t : Option FuncType) → AreArguments (signature_if_any_items names None t)
+after_arguments : (names : Names) (t : Option FuncType) → AreArguments (signature_if_any_items names None t)
 unfolding head
-behind_arguments names None = tt
-behind_arguments names (Some t) =
+after_arguments names None = tt
+after_arguments names (Some t) =
     arguments_onto (groups_items names (codes "param") (variable_groups (parameters_of names None) 0 t.params)) (group_items names (codes "result") t.results)
     (groups_arguments names (codes "param") (variable_groups (parameters_of names None) 0 t.params) refl) (group_arguments names (codes "result") t.results refl)
 
@@ -63,26 +63,26 @@ pub block_arguments : (s : Setting) (t : BlockType) → AreArguments (block_item
 unfolding head
 block_arguments s Empty = tt
 block_arguments s (Value t) = (refl, tt)
-block_arguments s (OfType n) = (refl, behind_arguments s.names (s.signature n))
+block_arguments s (OfType n) = (refl, after_arguments s.names (s.signature n))
 
 -- ---- the items read back
 
 -- The items that may follow a block type: they start with no identifier, no block type and no signature.
-pub record IsBehindBlock (c : Context) (f : Forest) : Type 0 where
+pub record IsAfterBlock (c : Context) (f : Forest) : Type 0 where
   pub no_id : id_of f ≡ None
-  pub all_behind_id : behind_id f ≡ f
+  pub all_after_id : after_id f ≡ f
   pub no_type : block_type c f ≡ Some (Empty, f)
-  pub no_signature : IsBehindSignature c.spaces.types f
+  pub no_signature : IsAfterSignature c.spaces.types f
 
-pub end_behind_block : (c : Context) → IsBehindBlock c End
-end_behind_block c = record { no_id = refl; all_behind_id = refl; no_type = refl; no_signature = end_behind_signature c.spaces.types }
+pub end_after_block : (c : Context) → IsAfterBlock c End
+end_after_block c = record { no_id = refl; all_after_id = refl; no_type = refl; no_signature = end_after_signature c.spaces.types }
 
-pub behind_id-block : (s : Setting) (own : Label) (t : BlockType) (f : Forest) → behind_id f ≡ f →
-    behind_id (onto (id_items own) (onto (block_items s t) f)) ≡ onto (block_items s t) f
-behind_id-block s (Some n) t f e = refl
-behind_id-block s None Empty f e = e
-behind_id-block s None (Value t) f e = refl
-behind_id-block s None (OfType n) f e = refl
+pub after_id-block : (s : Setting) (own : Label) (t : BlockType) (f : Forest) → after_id f ≡ f →
+    after_id (onto (id_items own) (onto (block_items s t) f)) ≡ onto (block_items s t) f
+after_id-block s (Some n) t f e = refl
+after_id-block s None Empty f e = e
+after_id-block s None (Value t) f e = refl
+after_id-block s None (OfType n) f e = refl
 
 pub id_of-block : (s : Setting) (own : Label) (t : BlockType) (f : Forest) → id_of f ≡ None →
     id_of (onto (id_items own) (onto (block_items s t) f)) ≡ id own
@@ -97,7 +97,7 @@ nameless k (t ∷ ts) = nameless (k + 1) ts
 
 module _ (s : Setting) (c : Context) (k : Counts) (types : HaveSameTypes s c k) (same : HaveSameNames s c k) (apart : AreApart s.names) where
   -- The signature after the index of its type reads as that type.
-  type_reads : (n : ℕ) (x : Option FuncType) (f : Forest) → IsFunctionType x → ((t : FuncType) → x ≡ Some t → IsDeclaredFunc (least k) t) → IsBehindSignature c.spaces.types f →
+  type_reads : (n : ℕ) (x : Option FuncType) (f : Forest) → IsFunctionType x → ((t : FuncType) → x ≡ Some t → IsDeclaredFunc (least k) t) → IsAfterSignature c.spaces.types f →
       (signature c.spaces.types (onto (signature_if_any_items s.names None x) f) >>= type_with n x) ≡ Some (OfType n, f)
   type_reads n None f i r h = absurd i
   type_reads n (Some t) f i r h =
@@ -117,7 +117,7 @@ module _ (s : Setting) (c : Context) (k : Counts) (types : HaveSameTypes s c k) 
   function_is_type n None e i = absurd i
   function_is_type n (Some t) e i = same.functions n t e
 
-  pub block_reads : (t : BlockType) (f : Forest) → IsBlockInRange t → IsBlockType k t → IsBehindBlock c f → block_type c (onto (block_items s t) f) ≡ Some (t, f)
+  pub block_reads : (t : BlockType) (f : Forest) → IsBlockInRange t → IsBlockType k t → IsAfterBlock c f → block_type c (onto (block_items s t) f) ≡ Some (t, f)
   block_reads Empty f r d h = h.no_type
   block_reads (Value t) f r d h =
       rw (val_types-one s.names c.spaces.types (least k) (types_read s c k same apart) t (of_least (λ m. IsDeclaredVal m t) (2 ^ 32) k.types r d))
@@ -139,7 +139,7 @@ block_writes s named ranged Empty h = search writing
 block_writes s named ranged (Value t) h = gap_writes refl (line_group_gap_writes (codes "result") _ refl refl (val_writes s.names named t h))
 block_writes s named ranged (OfType n) h = gap_writes refl (type_use_writes s.names named None n (s.signature n) refl h (ranged n))
 
-pub comment_writes : (form : Form) (own : Label) (d : ℕ) → Writes Bound (ending_pieces form own d) (behind form) End
+pub comment_writes : (form : Form) (own : Label) (d : ℕ) → Writes Bound (ending_pieces form own d) (after form) End
 unfolding ending_pieces class
 comment_writes form (Some n) d = may_end form nothing_writes
 comment_writes OverLines None d =

@@ -12,7 +12,7 @@ use Rattle.wasmprinter_spec.specs.Code.{head}
 use Rattle.wasmprinter_spec.specs.IndexSpaces.{Identifiers, Context}
 use Rattle.wasmprinter_spec.specs.Text.Items.{groups}
 use Rattle.wasmprinter_spec.specs.Text.Types.{val_types, variables}
-use Rattle.wasmprinter_spec.specs.Text.Operators.{id_of, behind_id, block_type, label, first_alone, behind_first, tag_clause, clauses}
+use Rattle.wasmprinter_spec.specs.Text.Operators.{id_of, after_id, block_type, label, first_alone, after_first, tag_clause, clauses}
 use Rattle.wasmprinter_spec.specs.Piece.{Gap}
 use Rattle.wasmprinter_spec.specs.Layout.Operators.{Setting, named_index, label_pieces, catch_pieces, catches_pieces}
 use Rattle.wasmprinter_lexical.proofs.Pieces.{Free, Bound}
@@ -23,7 +23,7 @@ use Rattle.wasmprinter_reading.proofs.Identifiers.{index_items}
 use Rattle.wasmprinter_reading.proofs.Operators.Labels.{ids, Opened, label_items, label_reads, label_writes}
 use Rattle.wasmprinter_reading.proofs.Operators.Arguments.{AreArguments}
 use Rattle.wasmprinter_reading.proofs.Operators.Spaces.{space_items, item_reads, item_writes}
-use Rattle.wasmprinter_reading.proofs.Operators.Blocks.{IsBehindBlock}
+use Rattle.wasmprinter_reading.proofs.Operators.Blocks.{IsAfterBlock}
 
 -- ---- the items
 
@@ -77,14 +77,14 @@ catches_no_id : (s : Setting) (inner xs : List Label) (cs : List Catch) → id_o
 catches_no_id s inner xs [] = refl
 catches_no_id s inner xs (c ∷ cs) = refl
 
-catches_behind_id : (s : Setting) (inner xs : List Label) (cs : List Catch) → behind_id (catches_items s inner xs cs) ≡ catches_items s inner xs cs
-catches_behind_id s inner xs [] = refl
-catches_behind_id s inner xs (c ∷ cs) = refl
+catches_after_id : (s : Setting) (inner xs : List Label) (cs : List Catch) → after_id (catches_items s inner xs cs) ≡ catches_items s inner xs cs
+catches_after_id s inner xs [] = refl
+catches_after_id s inner xs (c ∷ cs) = refl
 
-pub catches_behind_block : (s : Setting) (c : Context) (inner xs : List Label) (cs : List Catch) → IsBehindBlock c (catches_items s inner xs cs)
-catches_behind_block s c inner xs cs = record {
+pub catches_after_block : (s : Setting) (c : Context) (inner xs : List Label) (cs : List Catch) → IsAfterBlock c (catches_items s inner xs cs)
+catches_after_block s c inner xs cs = record {
   no_id = catches_no_id s inner xs cs;
-  all_behind_id = catches_behind_id s inner xs cs;
+  all_after_id = catches_after_id s inner xs cs;
   no_type = catches_no_type s c inner xs cs;
   no_signature = record { params = catches_no_params s c.spaces.types inner xs cs; results = catches_no_results s c.spaces.types inner xs cs };
 }
@@ -94,9 +94,9 @@ tag_alone : (o : Option Named) (t : ℕ) (f : Forest) → first_alone (onto (ind
 tag_alone None t f = refl
 tag_alone (Some n) t f = refl
 
-behind_tag : (o : Option Named) (t : ℕ) (f : Forest) → behind_first (onto (index_items o t) f) ≡ f
-behind_tag None t f = refl
-behind_tag (Some n) t f = refl
+after_tag : (o : Option Named) (t : ℕ) (f : Forest) → after_first (onto (index_items o t) f) ≡ f
+after_tag None t f = refl
+after_tag (Some n) t f = refl
 
 module _ (s : Setting) (c : Context) (k : Counts) (same : HaveSameNames s c k) (apart : AreApart s.names)
     (inner xs : List Label) (o : Opened (s.names.labels s.function) xs) where
@@ -108,7 +108,7 @@ module _ (s : Setting) (c : Context) (k : Counts) (same : HaveSameNames s c k) (
       let named : Option Named = in_function s.names s.function row.Tag t in
       rw (
         tag_alone named t (label_items inner xs l),
-        behind_tag named t (label_items inner xs l),
+        after_tag named t (label_items inner xs l),
         item_reads s c k same apart row.Tag t refl h d,
         one_label l i,
       )

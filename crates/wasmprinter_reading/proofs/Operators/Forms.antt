@@ -6,16 +6,16 @@ use Rattle.wasmprinter_spec.specs.Customs.Hints.{Hint}
 use Rattle.wasmprinter_spec.specs.Piece.{Piece, flag_byte}
 use Rattle.wasmprinter_spec.specs.Layout.Operators.{Form, OverLines, InLine, before_word, hint_pieces}
 use Rattle.wasmprinter_lexical.proofs.Pieces.{Edge, Free, Bound, Ended}
-use Rattle.wasmprinter_lexical.proofs.Writes.{Writes, WritesNoted, loosened, nothing_writes, free_writes, break_writes, gap_writes, hint_note_writes, behind_anything, before_line}
+use Rattle.wasmprinter_lexical.proofs.Writes.{Writes, WritesNoted, loosened, nothing_writes, free_writes, break_writes, gap_writes, hint_note_writes, after_anything, before_line}
 
 -- ---- after an operator
 
 -- If operators are on several lines, the line must end, since its last piece may be a line comment.
-abbrev pub behind : Form → Edge
-behind OverLines = Ended
-behind InLine = Bound
+abbrev pub after : Form → Edge
+after OverLines = Ended
+after InLine = Bound
 
-pub may_end : {ps : List Piece} {f k : Forest} (form : Form) → WritesNoted Bound ps Bound f k → WritesNoted Bound ps (behind form) f k
+pub may_end : {ps : List Piece} {f k : Forest} (form : Form) → WritesNoted Bound ps Bound f k → WritesNoted Bound ps (after form) f k
 may_end OverLines w = before_line Bound w
 may_end InLine w = w
 
@@ -41,19 +41,19 @@ hint_items (Some h) f = Note (codes "metadata.code.branch_hint") (String (flag_b
 
 -- ---- lists of operators
 
-pub no_operators_write : (form : Form) (first : Bool) → Writes (ahead form first) [] (behind form) End
+pub no_operators_write : (form : Form) (first : Bool) → Writes (ahead form first) [] (after form) End
 no_operators_write OverLines first = nothing_writes
 no_operators_write InLine true = free_writes
 no_operators_write InLine false = nothing_writes
 
 -- Further operators may follow the first.
-pub goes_on : {ps : List Piece} {b : Edge} {f k : Forest} (form : Form) → WritesNoted (ahead form false) ps b f k → WritesNoted (behind form) ps b f k
+pub goes_on : {ps : List Piece} {b : Edge} {f k : Forest} (form : Form) → WritesNoted (ahead form false) ps b f k → WritesNoted (after form) ps b f k
 goes_on OverLines w = w
 goes_on InLine w = w
 
 -- An operator may also follow a piece that any piece may follow.
 pub at_free : {ps : List Piece} {b : Edge} {f k : Forest} (form : Form) (first : Bool) → WritesNoted (ahead form first) ps b f k → WritesNoted Free ps b f k
-at_free OverLines first w = behind_anything Free w
+at_free OverLines first w = after_anything Free w
 at_free InLine true w = w
 at_free InLine false w = loosened w
 

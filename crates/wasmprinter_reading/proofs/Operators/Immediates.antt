@@ -13,7 +13,7 @@ use Rattle.wasmprinter_spec.specs.Labels as labels
 use Rattle.wasmprinter_spec.specs.Names.{IsNamedIfAny, AreNamed, AreApart}
 use Rattle.wasmprinter_spec.specs.Indexed.{Counts, IsFunctionType, IsFieldOf, IsDeclaredHeap, IsDeclaredVal, AreDeclared}
 use Rattle.wasmprinter_spec.specs.IndexSpaces.{Identifiers, Context}
-use Rattle.wasmprinter_spec.specs.Text.Operators.{id_of, behind_id, block_type, immediates}
+use Rattle.wasmprinter_spec.specs.Text.Operators.{id_of, after_id, block_type, immediates}
 use Rattle.wasmprinter_spec.specs.Layout.Operators.{Setting, immediate_pieces, pieces_by}
 use Rattle.wasmprinter_lexical.proofs.Grown.{onto-End}
 use Rattle.wasmprinter_lexical.proofs.Floats.{single-reads, double-reads}
@@ -24,7 +24,7 @@ use Rattle.wasmprinter_reading.specs.Listed.{AreSignaturesInRange, AreInRange}
 use Rattle.wasmprinter_reading.specs.OperatorLaws.{HaveSameTypes, HaveSameNames}
 use Rattle.wasmprinter_reading.proofs.Tabled.{has_block, is_item, means_items, refuses}
 use Rattle.wasmprinter_reading.proofs.Declarations.{id}
-use Rattle.wasmprinter_reading.proofs.Identifiers.{id_items, of_least, leading_mark_writes}
+use Rattle.wasmprinter_reading.proofs.Identifiers.{id_items, of_least, leading_id_and_name_writes}
 use Rattle.wasmprinter_reading.proofs.Types.Trees.{heap_items, ref_items_by}
 use Rattle.wasmprinter_reading.proofs.Types.Back.{heap_type-items}
 use Rattle.wasmprinter_reading.proofs.Operators.Labels.{ids, Opened, labels_items, labels_arguments, last_apart-targets, labels_read, labels_write}
@@ -36,9 +36,9 @@ use Rattle.wasmprinter_reading.proofs.Operators.References.{select_items, cast_i
 use Rattle.wasmprinter_reading.proofs.Operators.Memory.{mem_arg_items, lane_items, mem_arg_lane_items, mem_arg_arguments, lane_arguments, mem_arg_lane_arguments, mem_arg_reads, mem_arg_lane_reads, mem_arg_writes, lane_writes, mem_arg_lane_writes}
 use Rattle.wasmprinter_reading.proofs.Operators.Vectors.{vector_items, lanes_items, vector_arguments, lanes_arguments, vector_reads, lanes_read, vector_writes, lanes_write}
 use Rattle.wasmprinter_reading.proofs.Operators.Floats.{float_items, float_arguments, single_writes, double_writes}
-use Rattle.wasmprinter_reading.proofs.Operators.Forms.{behind, may_end}
-use Rattle.wasmprinter_reading.proofs.Operators.Blocks.{block_items, id_arguments, block_arguments, IsBehindBlock, end_behind_block, behind_id-block, id_of-block, function_is_type, block_reads, block_writes, comment_writes}
-use Rattle.wasmprinter_reading.proofs.Operators.Catches.{catches_items, catches_arguments, catches_behind_block, catches_read, catches_write}
+use Rattle.wasmprinter_reading.proofs.Operators.Forms.{after, may_end}
+use Rattle.wasmprinter_reading.proofs.Operators.Blocks.{block_items, id_arguments, block_arguments, IsAfterBlock, end_after_block, after_id-block, id_of-block, function_is_type, block_reads, block_writes, comment_writes}
+use Rattle.wasmprinter_reading.proofs.Operators.Catches.{catches_items, catches_arguments, catches_after_block, catches_read, catches_write}
 
 -- ---- the items
 
@@ -136,15 +136,15 @@ module _ (s : Setting) (c : Context) (n : Counts) (types : HaveSameTypes s c n) 
     immediates_read NoneShape NoImmediates k l h d = refl
     immediates_read FenceShape NoImmediates k l h d = refl
     immediates_read BlockShape (Block t) k l h d =
-        let e : behind_id (onto (id_items own) (block_items s t)) ≡ block_items s t = rw onto-End at (behind_id-block s own t End refl) in
+        let e : after_id (onto (id_items own) (block_items s t)) ≡ block_items s t = rw onto-End at (after_id-block s own t End refl) in
         let b : block_type c (block_items s t) ≡ Some (t, End) =
-        rw onto-End at (block_reads s c n types same apart t End h d (end_behind_block c)) in
+        rw onto-End at (block_reads s c n types same apart t End h d (end_after_block c)) in
         rw (e, b)
     immediates_read TryTableShape (TryTable t cs) k l h d =
-        let behind : IsBehindBlock c (catches_items s inner xs cs) = catches_behind_block s c inner xs cs in
+        let after : IsAfterBlock c (catches_items s inner xs cs) = catches_after_block s c inner xs cs in
         rw (
-          behind_id-block s own t (catches_items s inner xs cs) behind.all_behind_id,
-          block_reads s c n types same apart t (catches_items s inner xs cs) h.0 d.0 behind,
+          after_id-block s own t (catches_items s inner xs cs) after.all_after_id,
+          block_reads s c n types same apart t (catches_items s inner xs cs) h.0 d.0 after,
           catches_read s c n same apart inner xs o cs h.1 d.1,
         )
     immediates_read (IndexShape space) (Index m) k l h d = rw (operand_reads s c n same apart inner xs o space m h d)
@@ -197,7 +197,7 @@ pub id_of-opening : (s : Setting) (c : Context) (inner xs : List labels.Label) (
     id_of (immediate_items s inner xs own t i) ≡ id own
 id_of-opening s c inner xs own BlockShape (Block t) b k = rw onto-End at (id_of-block s own t End refl)
 id_of-opening s c inner xs own TryTableShape (TryTable t cs) b k =
-    id_of-block s own t (catches_items s inner xs cs) (catches_behind_block s c inner xs cs).no_id
+    id_of-block s own t (catches_items s inner xs cs) (catches_after_block s c inner xs cs).no_id
 id_of-opening s c inner xs own _ _ b k = absurd cc
 
 -- ---- pieces write the items
@@ -205,15 +205,15 @@ id_of-opening s c inner xs own _ _ b k = absurd cc
 module _ (s : Setting) (named : AreNamed s.names) (ranged : AreSignaturesInRange s.signature) (inner xs : List labels.Label) (own : labels.Label)
     (labelled : AllByRecursion IsNamedIfAny xs) (own_named : IsNamedIfAny own) where
   immediate_writes : (t : Shape) (i : Immediates) → AreInRange i →
-      Writes Bound (immediate_pieces s inner xs own t i) (behind s.form) (immediate_items s inner xs own t i)
+      Writes Bound (immediate_pieces s inner xs own t i) (after s.form) (immediate_items s inner xs own t i)
   unfolding immediate_pieces
   immediate_writes BlockShape (Block t) r =
       let comment = comment_writes s.form own (suc (length xs)) in
-      rw onto-End at (both_write (leading_mark_writes own own_named) (both_write (block_writes s named ranged t r) comment))
+      rw onto-End at (both_write (leading_id_and_name_writes own own_named) (both_write (block_writes s named ranged t r) comment))
   immediate_writes TryTableShape (TryTable t cs) r =
       let comment = comment_writes s.form own (suc (length xs)) in
       let clauses = both_write (catches_write s named inner xs labelled cs r.1) comment in
-      rw onto-End at (both_write (leading_mark_writes own own_named) (both_write (block_writes s named ranged t r.0) clauses))
+      rw onto-End at (both_write (leading_id_and_name_writes own own_named) (both_write (block_writes s named ranged t r.0) clauses))
   immediate_writes (IndexShape space) (Index n) r = may_end s.form (operand_writes s named inner xs space n labelled r)
   immediate_writes (DefaultIndexShape space) (Index n) r = may_end s.form (default_writes s named space n r)
   immediate_writes (PairShape first second) (Indices m n) r = may_end s.form (pair_writes s named first second m n r.0 r.1)
@@ -244,6 +244,6 @@ module _ (s : Setting) (named : AreNamed s.names) (ranged : AreSignaturesInRange
   immediate_writes _ _ r = may_end s.form nothing_writes
 
   pub writes_by : (t : Option Shape) (i : Immediates) → AreInRange i →
-      Writes Bound (pieces_by s inner xs own t i) (behind s.form) (items_by s inner xs own t i)
+      Writes Bound (pieces_by s inner xs own t i) (after s.form) (items_by s inner xs own t i)
   writes_by None i r = may_end s.form nothing_writes
   writes_by (Some t) i r = immediate_writes t i r

@@ -77,16 +77,16 @@ one_content m n s t e = by (is_clean s) refl (is_clean t) refl e
         (around_blank (decimal m) (decimal n) s t (no_blank-decimal m) (no_blank-decimal n) rest).1
 
 -- The content that a name gives is never a synthesized one.
-not_invented : (m d : ℕ) (s : List ℕ) → label_content m s ≡ codes "#label" ++ decimal d → ⊥
-not_invented m d s e = by (is_clean s) refl e
+not_synthesized : (m d : ℕ) (s : List ℕ) → label_content m s ≡ codes "#label" ++ decimal d → ⊥
+not_synthesized m d s e = by (is_clean s) refl e
   where
     by : (a : Bool) → is_clean s ≡ a → cond a s (codes "#label" ++ (decimal m ++ (32 ∷ s))) ≡ codes "#label" ++ decimal d → ⊥
     by true f e = true≢false (sym f ∙ ap is_clean e)
     by false f e = let rest : decimal m ++ (32 ∷ s) ≡ decimal d = cc in has_blank (decimal m) (decimal d) s (no_blank-decimal d) rest
 
-named_apart : (invents : Bool) (i j d e : ℕ) (x y : Option (List ℕ)) (outer inner : Named) → d < e → e < 2 ^ 64 →
-    label_named invents i d x ≡ Some outer → label_named invents j e y ≡ Some inner → inner.content ≡ outer.content → same_name inner.given outer.given ≡ true
-named_apart invents i j d e (Some s) (Some t) outer inner lt small f g same =
+named_apart : (synthesizes : Bool) (i j d e : ℕ) (x y : Option (List ℕ)) (outer inner : Named) → d < e → e < 2 ^ 64 →
+    label_named synthesizes i d x ≡ Some outer → label_named synthesizes j e y ≡ Some inner → inner.content ≡ outer.content → same_name inner.given outer.given ≡ true
+named_apart synthesizes i j d e (Some s) (Some t) outer inner lt small f g same =
     let o : record { given = Some s; content = label_content i s } ≡ outer = cc in
     let n : record { given = Some t; content = label_content j t } ≡ inner = cc in
     let ts : t ≡ s = one_content j i t s (ap (λ r. r.content) n ∙ same ∙ sym (ap (λ r. r.content) o)) in
@@ -94,11 +94,11 @@ named_apart invents i j d e (Some s) (Some t) outer inner lt small f g same =
 named_apart true i j d e (Some s) None outer inner lt small f g same =
     let o : record { given = Some s; content = label_content i s } ≡ outer = cc in
     let n : record { given = None; content = codes "#label" ++ decimal e } ≡ inner = cc in
-    absurd (not_invented i e s (ap (λ r. r.content) o ∙ sym same ∙ sym (ap (λ r. r.content) n)))
+    absurd (not_synthesized i e s (ap (λ r. r.content) o ∙ sym same ∙ sym (ap (λ r. r.content) n)))
 named_apart true i j d e None (Some t) outer inner lt small f g same =
     let o : record { given = None; content = codes "#label" ++ decimal d } ≡ outer = cc in
     let n : record { given = Some t; content = label_content j t } ≡ inner = cc in
-    absurd (not_invented j d t (ap (λ r. r.content) n ∙ same ∙ sym (ap (λ r. r.content) o)))
+    absurd (not_synthesized j d t (ap (λ r. r.content) n ∙ same ∙ sym (ap (λ r. r.content) o)))
 named_apart true i j d e None None outer inner lt small f g same =
     let o : record { given = None; content = codes "#label" ++ decimal d } ≡ outer = cc in
     let n : record { given = None; content = codes "#label" ++ decimal e } ≡ inner = cc in
@@ -109,8 +109,8 @@ named_apart true i j d e None None outer inner lt small f g same =
 named_apart false i j d e (Some s) None outer inner lt small f g same = absurd cc
 named_apart false i j d e None y outer inner lt small f g same = absurd cc
 
-pub label_naming_apart : (invents : Bool) (names : ℕ → Option (List ℕ)) → AreLabelsApart (label_naming invents names)
-label_naming_apart invents names i j d e outer inner lt small f g same = named_apart invents i j d e (names i) (names j) outer inner lt small f g same
+pub label_naming_apart : (synthesizes : Bool) (names : ℕ → Option (List ℕ)) → AreLabelsApart (label_naming synthesizes names)
+label_naming_apart synthesizes names i j d e outer inner lt small f g same = named_apart synthesizes i j d e (names i) (names j) outer inner lt small f g same
 
 -- ---- contents are UTF-8
 
@@ -120,8 +120,8 @@ printed_is_utf8 text h = plain_is_utf8 text (plain_text text h)
 pub utf8-decimal : (n : ℕ) → IsUtf8 (decimal n)
 utf8-decimal n = printed_is_utf8 (decimal n) (remark (decimal n) (is_remark-decimal n)).printed
 
-label_is_named : (invents : Bool) (n d : ℕ) (x : Option (List ℕ)) → ((s : List ℕ) → x ≡ Some s → IsUtf8 s) → IsNamedIfAny (label_named invents n d x)
-label_is_named invents n d (Some s) utf8 = by (is_clean s) refl
+label_is_named : (synthesizes : Bool) (n d : ℕ) (x : Option (List ℕ)) → ((s : List ℕ) → x ≡ Some s → IsUtf8 s) → IsNamedIfAny (label_named synthesizes n d x)
+label_is_named synthesizes n d (Some s) utf8 = by (is_clean s) refl
   where
     blank : IsUtf8 (32 ∷ [])
     blank = printed_is_utf8 (32 ∷ []) refl
@@ -143,9 +143,9 @@ label_is_named invents n d (Some s) utf8 = by (is_clean s) refl
 label_is_named true n d None utf8 = record { given = tt; content = IsUtf8-append (codes "#label") (decimal d) (printed_is_utf8 (codes "#label") refl) (utf8-decimal d); some = omega arith }
 label_is_named false n d None utf8 = tt
 
-pub label_naming_names : (invents : Bool) (names : ℕ → Option (List ℕ)) → ((n : ℕ) (s : List ℕ) → names n ≡ Some s → IsUtf8 s) →
-    (i d : ℕ) → IsNamedIfAny (label_naming invents names i d)
-label_naming_names invents names utf8 i d = label_is_named invents i d (names i) (utf8 i)
+pub label_naming_names : (synthesizes : Bool) (names : ℕ → Option (List ℕ)) → ((n : ℕ) (s : List ℕ) → names n ≡ Some s → IsUtf8 s) →
+    (i d : ℕ) → IsNamedIfAny (label_naming synthesizes names i d)
+label_naming_names synthesizes names utf8 i d = label_is_named synthesizes i d (names i) (utf8 i)
 
 -- ---- no label has a name
 

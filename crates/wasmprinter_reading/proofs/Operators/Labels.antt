@@ -4,7 +4,7 @@ use Rattle.std.specs.List.{AllByRecursion}
 use Rattle.std.proofs.lemmas.Bool.{or_parts, both_ways, false_from_ne_true, lt-ltb}
 use Rattle.wasmprinter_spec.specs.Character.{class}
 use Rattle.wasmprinter_spec.specs.Forest.{Forest, End, Word, Name, onto}
-use Rattle.wasmprinter_spec.specs.Labels.{Named, Label, LabelNaming, same_name, hides, is_hidden, AreLabelsApart, Target, Around, Own, Nothing, behind, target}
+use Rattle.wasmprinter_spec.specs.Labels.{Named, Label, LabelNaming, same_name, hides, is_hidden, AreLabelsApart, Target, Around, Own, Nothing, after, target}
 use Rattle.wasmprinter_spec.specs.IndexSpaces.{Identifiers, declares}
 use Rattle.wasmprinter_spec.specs.Text.Operators.{depth, labels, label, last_apart}
 use Rattle.wasmprinter_spec.specs.Layout.Operators.{label_name_pieces, named_pieces, target_pieces, label_pieces, labels_pieces}
@@ -20,7 +20,7 @@ use Rattle.wasmprinter_reading.specs.LabelLaws.{LabelsMeanTheirBlocks}
 use Rattle.wasmprinter_spec.specs.Names.{IsNamed, IsNamedIfAny}
 use Rattle.wasmprinter_reading.proofs.Bytes.{bytes_same, same_bytes}
 use Rattle.wasmprinter_reading.proofs.Declarations.{id}
-use Rattle.wasmprinter_reading.proofs.Identifiers.{mark_writes, index_writes}
+use Rattle.wasmprinter_reading.proofs.Identifiers.{id_and_name_writes, index_writes}
 use Rattle.wasmprinter_reading.proofs.Operators.Arguments.{AreArguments, arguments_onto}
 use Rattle.wasmprinter_reading.proofs.Operators.Numbers.{index_is_no_word}
 
@@ -41,7 +41,7 @@ module _ (naming : LabelNaming) (apart : AreLabelsApart naming) where
       (index, length xs, omega arith, own ∙ same)
   further_out (suc l) (x ∷ xs) y further (own, small, others) e = by (target l xs) refl e (λ z f. further_out l xs z f others)
     where
-      by : (t : Target) → target l xs ≡ t → behind x t ≡ Around y further →
+      by : (t : Target) → target l xs ≡ t → after x t ≡ Around y further →
           ((z : Label) (f : List Label) → target l xs ≡ Around z f → (i : ℕ) × (d : ℕ) × (d < length xs) × (naming i d ≡ z)) →
           (i : ℕ) × (d : ℕ) × (d < suc (length xs)) × (naming i d ≡ y)
       by (Around z f) same g more =
@@ -72,7 +72,7 @@ module _ (naming : LabelNaming) (apart : AreLabelsApart naming) where
   depth-target (suc l) (x ∷ xs) n further ((own_index, is_own), small, others) e h =
       by (target l xs) refl e (λ f. depth-target l xs n f others)
     where
-      by : (t : Target) → target l xs ≡ t → behind x t ≡ Around (Some n) further →
+      by : (t : Target) → target l xs ≡ t → after x t ≡ Around (Some n) further →
           ((f : List Label) → target l xs ≡ Around (Some n) f → is_hidden n f ≡ false → depth n.content (ids xs) ≡ Some l) →
           depth n.content (ids (x ∷ xs)) ≡ Some (suc l)
       by (Around z f) same g more =
@@ -180,13 +180,13 @@ is_label-target (suc l) [] y further h e = absurd cc
 is_label-target zero (x ∷ xs) y further h e = let same : x ≡ y = cc in subst IsNamedIfAny same h.0
 is_label-target (suc l) (x ∷ xs) y further h e = by (target l xs) refl e (λ z f. is_label-target l xs z f h.1)
   where
-    by : (t : Target) → target l xs ≡ t → behind x t ≡ Around y further → ((z : Label) (f : List Label) → target l xs ≡ Around z f → IsNamedIfAny z) → IsNamedIfAny y
+    by : (t : Target) → target l xs ≡ t → after x t ≡ Around y further → ((z : Label) (f : List Label) → target l xs ≡ Around z f → IsNamedIfAny z) → IsNamedIfAny y
     by (Around z f) same g more = let zy : z ≡ y = cc in subst IsNamedIfAny zy (more z f same)
     by Own same g more = absurd cc
     by Nothing same g more = absurd cc
 
 label_name_writes : (g : Option (List ℕ)) (l : ℕ) (n : Named) → l < 2 ^ 64 → IsNamed n → Writes Free (label_name_pieces g l n) Bound (Name n.content End)
-label_name_writes (Some s) l n small h = mark_writes n h
+label_name_writes (Some s) l n small h = id_and_name_writes n h
 label_name_writes None l n small h = index_writes (Some n) l h small
 
 target_writes : (inner : List Label) (d l : ℕ) (t : Target) → l < 2 ^ 64 → ((n : Named) (f : List Label) → t ≡ Around (Some n) f → IsNamed n) →

@@ -12,12 +12,12 @@ use Rattle.wasmprinter_spec.specs.Nesting.{Nests, Sequence, advance, at_start}
 use Rattle.wasmprinter_spec.specs.NestingSteps.{stops_at_end}
 use Rattle.wasmprinter_spec.specs.Instructions.{roles}
 use Rattle.wasmprinter_spec.specs.Module.{without_places}
-use Rattle.wasmprinter_spec.specs.Customs.Hints.{Hint, next_hint, hint_behind}
+use Rattle.wasmprinter_spec.specs.Customs.Hints.{Hint, next_hint, hint_after}
 use Rattle.wasmprinter_spec.specs.Indexed.{Counts, AreDeclared, AreDeclaredBy, IsIndexedOperator}
 use Rattle.wasmprinter_spec.specs.Code.{Chunk, chunk, Instruction, Flat, code_of, with_word, code, chunks_of_instructions, chunks_of_forest}
 use Rattle.wasmprinter_spec.specs.Names.{IsNamedIfAny, AreNamed, AreApart}
 use Rattle.wasmprinter_spec.specs.IndexSpaces.{Context}
-use Rattle.wasmprinter_spec.specs.Text.Operators.{id_of, immediates, labels_in_sight, open_behind, operators, are_nested, read_operators}
+use Rattle.wasmprinter_spec.specs.Text.Operators.{id_of, immediates, labels_in_sight, open_after, operators, are_nested, read_operators}
 use Rattle.wasmprinter_spec.specs.Layout.Operators.{Setting, level, operator_pieces, operators_pieces, expression_pieces}
 use Rattle.wasmprinter_lexical.proofs.Runs.{is_word}
 use Rattle.wasmprinter_lexical.proofs.Writes.{Writes, WritesNoted, both_write, word_writes}
@@ -26,7 +26,7 @@ use Rattle.wasmprinter_reading.specs.OperatorLaws.{HaveSameTypes, HaveSameNames,
 use Rattle.wasmprinter_reading.proofs.Tabled.{In, refuses, HasRow, row_for, fits}
 use Rattle.wasmprinter_reading.proofs.Operators.Labels.{ids, Opened}
 use Rattle.wasmprinter_reading.proofs.Operators.Arguments.{arguments_front}
-use Rattle.wasmprinter_reading.proofs.Operators.Forms.{behind, ahead, hint_items, before_writes, no_operators_write, goes_on, hinted_writes}
+use Rattle.wasmprinter_reading.proofs.Operators.Forms.{after, ahead, hint_items, before_writes, no_operators_write, goes_on, hinted_writes}
 use Rattle.wasmprinter_reading.proofs.Operators.Immediates.{immediate_items, items_by, arguments_by, immediates_read, immediates_refused, writes_by}
 use Rattle.wasmprinter_reading.proofs.Operators.Rows.{IsSome, rows_of-row, first_reading-row}
 use Rattle.wasmprinter_reading.proofs.Operators.Open.{outside_ids, outside_opened, outside_labels, after_opened, after_labels, after_length, after_ids}
@@ -53,7 +53,7 @@ hinted_items s hs n xs [] = End
 hinted_items s hs n xs (o ∷ os) =
     hint_items (next_hint (o.place - s.body) hs)
     (Word (word_of o.value.opcode) (onto (arguments_items s (s.names.labels s.function n (length xs)) xs o.value)
-    (hinted_items s (hint_behind (o.place - s.body) hs) (count_after (role_of o.value.opcode) n)
+    (hinted_items s (hint_after (o.place - s.body) hs) (count_after (role_of o.value.opcode) n)
     (labels_after (role_of o.value.opcode) (s.names.labels s.function n (length xs)) xs) os)))
 
 unhinted : (s : Setting) (n : ℕ) (xs : List Label) (os : List (Placed Operator)) → hinted_items s [] n xs os ≡ operators_items s n xs (without_places os)
@@ -144,9 +144,9 @@ module _ (s : Setting) (c : Context) (k : Counts) (types : HaveSameTypes s c k) 
       ∙ immediates_read s c k types same apart (labels_inside is xs) (labels_outside is xs) (outside_opened (s.names.labels s.function) is xs o) own
       r.row.shape p.immediates r.shape r.items h.0.range (declared_by_row k p r.row r.found d.0) in
       let fit : fits is r.row.shape ≡ true = ap (λ x. fits x r.row.shape) role ∙ r.fit in
-      let after : open_behind r.row.role (id_of a) (ids xs) ≡ ids ys =
-      ap (λ x. open_behind x (id_of a) (ids xs)) (sym role)
-      ∙ ap (λ x. open_behind is (id_of x) (ids xs)) written
+      let after : open_after r.row.role (id_of a) (ids xs) ≡ ids ys =
+      ap (λ x. open_after x (id_of a) (ids xs)) (sym role)
+      ∙ ap (λ x. open_after is (id_of x) (ids xs)) written
       ∙ after_ids s c (labels_inside is xs) (labels_outside is xs) is r.row.shape own xs p.immediates fit r.shape in
       let refused : (x : Row) → refuses x.shape r.row.shape ≡ true → immediates c (labels_in_sight x.role (ids xs)) x.shape a ≡ None =
       λ x no. ap (immediates c (labels_in_sight x.role (ids xs)) x.shape) written
@@ -170,7 +170,7 @@ module _ (s : Setting) (c : Context) (k : Counts) (types : HaveSameTypes s c k) 
 
 operator_writes : (s : Setting) → AreNamed s.names → AreSignaturesInRange s.signature → (first : Bool) (own : Label) (xs : List Label) (o : Placed Operator) →
     AllByRecursion IsNamedIfAny xs → IsNamedIfAny own → IsListed o.value →
-    Writes (ahead s.form first) (operator_pieces s first own xs o) (behind s.form) (Word (word_of o.value.opcode) (arguments_items s own xs o.value))
+    Writes (ahead s.form first) (operator_pieces s first own xs o) (after s.form) (Word (word_of o.value.opcode) (arguments_items s own xs o.value))
 unfolding operator_pieces
 operator_writes s named ranged first own xs o h k l =
     let r : HasRow o.value = row_for o.value l in
@@ -182,7 +182,7 @@ operator_writes s named ranged first own xs o h k l =
 
 operators_write : (s : Setting) → AreNamed s.names → AreSignaturesInRange s.signature →
     (hs : List (Placed Hint)) (first : Bool) (n : ℕ) (xs : List Label) (os : List (Placed Operator)) → AllByRecursion IsNamedIfAny xs → AllByRecursion IsListed (without_places os) →
-    WritesNoted (ahead s.form first) (operators_pieces s hs first n xs os) (behind s.form) (operators_items s n xs (without_places os)) (hinted_items s hs n xs os)
+    WritesNoted (ahead s.form first) (operators_pieces s hs first n xs os) (after s.form) (operators_items s n xs (without_places os)) (hinted_items s hs n xs os)
 unfolding operators_pieces
 operators_write s named ranged hs first n xs [] h l = no_operators_write s.form first
 operators_write s named ranged hs first n xs (o ∷ os) h l =
@@ -190,20 +190,20 @@ operators_write s named ranged hs first n xs (o ∷ os) h l =
     let own : Label = s.names.labels s.function n (length xs) in
     let k : IsNamedIfAny own = named.labels s.function n (length xs) in
     let offset : ℕ = o.place - s.body in
-    let rest = operators_write s named ranged (hint_behind offset hs) false (count_after role n) (labels_after role own xs) os (after_labels role own xs k h) l.1 in
+    let rest = operators_write s named ranged (hint_after offset hs) false (count_after role n) (labels_after role own xs) os (after_labels role own xs k h) l.1 in
     hinted_writes s.form first (s.nesting + length xs) (next_hint offset hs)
     (both_write (operator_writes s named ranged first own xs o h k l.0) (goes_on s.form rest))
 
 -- The pieces of operators write their items if no label is open.
 pub hinted_write : (s : Setting) → AreNamed s.names → AreSignaturesInRange s.signature → (hs : List (Placed Hint)) (os : List (Placed Operator)) →
     AllByRecursion IsListed (without_places os) →
-    WritesNoted (ahead s.form true) (operators_pieces s hs true 0 [] os) (behind s.form) (expression_items s (without_places os)) (hinted_items s hs 0 [] os)
+    WritesNoted (ahead s.form true) (operators_pieces s hs true 0 [] os) (after s.form) (expression_items s (without_places os)) (hinted_items s hs 0 [] os)
 hinted_write s named ranged hs os l = operators_write s named ranged hs true 0 [] os tt l
 
 pub expression_writes : (s : Setting) → AreNamed s.names → AreSignaturesInRange s.signature → (os : List (Placed Operator)) →
     AllByRecursion IsListed (without_places os) →
-    Writes (ahead s.form true) (expression_pieces s os) (behind s.form) (expression_items s (without_places os))
+    Writes (ahead s.form true) (expression_pieces s os) (after s.form) (expression_items s (without_places os))
 unfolding expression_pieces
 expression_writes s named ranged os l =
     let items : Forest = expression_items s (without_places os) in
-    subst (WritesNoted (ahead s.form true) (operators_pieces s [] true 0 [] os) (behind s.form) items) (unhinted s 0 [] os) (hinted_write s named ranged [] os l)
+    subst (WritesNoted (ahead s.form true) (operators_pieces s [] true 0 [] os) (after s.form) items) (unhinted s 0 [] os) (hinted_write s named ranged [] os l)

@@ -19,7 +19,7 @@ use Rattle.wasmprinter_spec.specs.Piece as piece
 use Rattle.wasmprinter_spec.specs.Piece.{Gap}
 use Rattle.wasmprinter_spec.specs.Layout.Operators.{Setting, offset_pieces, align_pieces, mem_arg_pieces, lane_pieces}
 use Rattle.wasmprinter_lexical.proofs.Runs.{is_word}
-use Rattle.wasmprinter_spec.proofs.Runs.{all_run-digits}
+use Rattle.wasmprinter_spec.proofs.Runs.{all_id_chars-digits}
 use Rattle.wasmprinter_lexical.proofs.Numbers.{is_word-decimal}
 use Rattle.wasmprinter_lexical.proofs.Pieces.{Bound}
 use Rattle.wasmprinter_lexical.proofs.Writes.{Writes, writing, both_write}
@@ -230,13 +230,13 @@ is_word-offset : (n : ℕ) → n < 2 ^ 64 → is_word (codes "offset=" ++ decima
 unfolding class
 is_word-offset n h =
     let ((some, are_digits), value) = decimal_is_IsNumeral n h in
-    all_run-digits (decimal n) are_digits
+    all_id_chars-digits (decimal n) are_digits
 
 is_word-align : (n : ℕ) → n < 2 ^ 64 → is_word (codes "align=" ++ decimal n) ≡ true
 unfolding class
 is_word-align n h =
     let ((some, are_digits), value) = decimal_is_IsNumeral n h in
-    all_run-digits (decimal n) are_digits
+    all_id_chars-digits (decimal n) are_digits
 
 offset_writes : (n : ℕ) → n < 2 ^ 64 → Writes Bound (offset_pieces n) Bound (offset_items n)
 unfolding offset_pieces

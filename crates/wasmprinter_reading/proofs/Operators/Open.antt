@@ -7,7 +7,7 @@ use Rattle.wasmprinter_spec.specs.Labels.{Label, LabelNaming, labels_after, labe
 use Rattle.wasmprinter_spec.specs.Names.{IsNamedIfAny}
 use Rattle.wasmprinter_spec.specs.IndexSpaces.{Context}
 use Rattle.wasmprinter_spec.specs.Layout.Operators.{Setting}
-use Rattle.wasmprinter_spec.specs.Text.Operators.{id_of, labels_in_sight, open_behind}
+use Rattle.wasmprinter_spec.specs.Text.Operators.{id_of, labels_in_sight, open_after}
 use Rattle.wasmprinter_spec.specs.Shapes.{has_shape}
 use Rattle.wasmprinter_reading.proofs.Tabled.{fits}
 use Rattle.wasmprinter_reading.proofs.Operators.Labels.{ids, Opened}
@@ -66,7 +66,7 @@ after_length _ own xs = omega arith
 
 pub after_ids : (s : Setting) (c : Context) (inner ys : List Label) (r : Role) (t : Shape) (own : Label) (xs : List Label) (i : Immediates) →
     fits r t ≡ true → has_shape t i ≡ true →
-    open_behind r (id_of (immediate_items s inner ys own t i)) (ids xs) ≡ ids (labels_after r own xs)
+    open_after r (id_of (immediate_items s inner ys own t i)) (ids xs) ≡ ids (labels_after r own xs)
 after_ids s c inner ys Opens t own xs i f k = ap (λ x. x ∷ ids xs) (id_of-opening s c inner ys own t i f k)
 after_ids s c inner ys OpensIf t own xs i f k = ap (λ x. x ∷ ids xs) (id_of-opening s c inner ys own t i f k)
 after_ids s c inner ys OpensTry t own xs i f k = ap (λ x. x ∷ ids xs) (id_of-opening s c inner ys own t i f k)

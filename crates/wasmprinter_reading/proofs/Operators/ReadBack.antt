@@ -24,5 +24,5 @@ operators_read_back s apart named c n types same hs os h o blank =
     ∙ expression_reads s c n types same apart os h
 
 pub named_operators_read_back : NamedOperatorsReadBack
-named_operators_read_back invents entries h s e =
-    operators_read_back s (subst AreApart (sym e) (identifiers_are_apart invents entries h)) (subst AreNamed (sym e) (identifiers_are_named invents entries h))
+named_operators_read_back synthesizes entries h s e =
+    operators_read_back s (subst AreApart (sym e) (identifiers_are_apart synthesizes entries h)) (subst AreNamed (sym e) (identifiers_are_named synthesizes entries h))

@@ -15,7 +15,7 @@ use Rattle.wasmprinter_spec.specs.IndexSpaces.{Context}
 use Rattle.wasmprinter_spec.specs.Text.Items.{all_items, groups}
 use Rattle.wasmprinter_spec.specs.Text.Types.{ref_named, ref_group, reference_type}
 use Rattle.wasmprinter_spec.specs.Text.TypeUses.{same_flag}
-use Rattle.wasmprinter_spec.specs.Text.Operators.{first_alone, behind_first, select_types, heap_with, cast_parts}
+use Rattle.wasmprinter_spec.specs.Text.Operators.{first_alone, after_first, select_types, heap_with, cast_parts}
 use Rattle.wasmprinter_spec.specs.Piece.{Gap}
 use Rattle.wasmprinter_spec.specs.Layout.ValTypes.{heap_word, val_pieces, type_list, heap_pieces, ref_pieces}
 use Rattle.wasmprinter_spec.specs.Layout.Operators.{label_pieces, select_pieces}
@@ -72,7 +72,7 @@ module _ (names : Names) where
 -- The items of a label are split from those after it.
 record IsAlone (f g : Forest) : Type 0 where
   first : first_alone (onto f g) ≡ f
-  others : behind_first (onto f g) ≡ g
+  others : after_first (onto f g) ≡ g
 
 label_alone : (inner xs : List Label) (l : ℕ) (g : Forest) → IsAlone (label_items inner xs l) g
 label_alone inner xs l g = by (target l xs)

@@ -18,7 +18,7 @@ use Rattle.wasmprinter_spec.specs.Module.{without_places}
 use Rattle.wasmprinter_spec.specs.Binary.{AreBytes}
 use Rattle.wasmprinter_spec.specs.Shapes.{has_shape, has_row_shape}
 use Rattle.wasmprinter_reading.specs.Listed.{IsU32, IsByte, IsBlockInRange, IsCatchInRange, IsMemArgInRange, AreInRange, IsListed}
-use Rattle.wasmprinter_reading.proofs.AllSpelled.{AllSpelled, split_bytes, items_have, Spelled-any, Spelled-seq, Spelled-map_value, Spelled-succeed, Spelled-fail, Spelled-choose, Spelled-choose_by, AllSpelled-byte, AllSpelled-take_bytes, Spelled-behind_first_byte, Spelled-by_first_byte, Spelled-value_with_place}
+use Rattle.wasmprinter_reading.proofs.AllSpelled.{AllSpelled, split_bytes, items_have, Spelled-any, Spelled-seq, Spelled-map_value, Spelled-succeed, Spelled-fail, Spelled-choose, Spelled-choose_by, AllSpelled-byte, AllSpelled-take_bytes, Spelled-after_first_byte, Spelled-by_first_byte, Spelled-value_with_place}
 use Rattle.wasmprinter_reading.proofs.LebRange.{AllSpelled-unsigned, AllSpelled-signed}
 use Rattle.wasmprinter_reading.proofs.Vectors.{AllSpelled-u32, Spelled-vec}
 use Rattle.wasmprinter_reading.proofs.Types.Ranges.{AllSpelled-signed_index, AllSpelled-heap_type, AllSpelled-val_type}
@@ -50,7 +50,7 @@ AllSpelled-catch_by k =
     (Spelled-choose (k == 3) (Spelled-map_value AllSpelled-u32 (λ l h. h)) Spelled-fail)))
 
 AllSpelled-catch : AllSpelled catch IsCatchInRange
-AllSpelled-catch = Spelled-behind_first_byte AllSpelled-catch_by
+AllSpelled-catch = Spelled-after_first_byte AllSpelled-catch_by
 
 -- A memory operand is in range. Its first number says whether the index of a memory follows.
 AllSpelled-u64 : AllSpelled u64 (λ n. n < 2 ^ 64)

@@ -53,9 +53,9 @@ lanes_arguments (k ∷ ks) h = (byte_is_no_word k h.0, lanes_arguments ks h.1)
 -- ---- hexadecimal words
 
 -- The number of bytes after those of `n`, the highest byte first
-abbrev number_behind : ℕ → List ℕ → ℕ
-number_behind n [] = n
-number_behind n (b ∷ bs) = number_behind (n * 256 + b) bs
+abbrev number_after : ℕ → List ℕ → ℕ
+number_after n [] = n
+number_after n (b ∷ bs) = number_after (n * 256 + b) bs
 
 glyph_is : (x : ℕ) → x < 16 → digit_value (digit_glyph false x) ≡ x
 glyph_is x h = digit_value-digit_char x (omega arith)
@@ -67,7 +67,7 @@ hex_are_digits : (bs : List ℕ) → AllByRecursion IsByte bs → AllDigits 16 (
 hex_are_digits [] h = tt
 hex_are_digits (b ∷ bs) h = (glyph_below (b / 16) (omega (arith, h.0)), (glyph_below (b % 16) (omega arith), hex_are_digits bs h.1))
 
-hex_value : (n : ℕ) (bs : List ℕ) → AllByRecursion IsByte bs → digits_value_after 16 n (hex_digits bs) ≡ number_behind n bs
+hex_value : (n : ℕ) (bs : List ℕ) → AllByRecursion IsByte bs → digits_value_after 16 n (hex_digits bs) ≡ number_after n bs
 hex_value n [] h = refl
 hex_value n (b ∷ bs) h =
     let high : digit_value (digit_glyph false (b / 16)) ≡ b / 16 = glyph_is (b / 16) (omega (arith, h.0)) in
@@ -92,8 +92,8 @@ unsigned-signed n h = by (ltb n (2 ^ 31))
     by true = refl
     by false = negative_unsigned (pos n -ℤ pos (2 ^ 32)) n h refl
 
-bytes_of-behind : (count n b : ℕ) → b < 256 → bytes_of (suc count) (n * 256 + b) ≡ b ∷ bytes_of count n
-bytes_of-behind count n b h =
+bytes_of-after : (count n b : ℕ) → b < 256 → bytes_of (suc count) (n * 256 + b) ≡ b ∷ bytes_of count n
+bytes_of-after count n b h =
     let low : (n * 256 + b) % 256 ≡ b = omega arith in
     let high : (n * 256 + b) / 256 ≡ n = omega arith in
     rw (low, high)
@@ -123,9 +123,9 @@ word_reads a b c d h =
     let number : numeral 16 (hex_digits bs) ≡ Some n = numeral_from 16 n (hex_digits bs) (lit≤ tt) (lit< tt, hex_are_digits bs are) value in
     let highest : d % 256 ≡ d = omega (arith, h.fourth) in
     let four : bytes_of 4 n ≡ a ∷ (b ∷ (c ∷ (d ∷ []))) =
-    bytes_of-behind 3 ((d * 256 + c) * 256 + b) a h.first
+    bytes_of-after 3 ((d * 256 + c) * 256 + b) a h.first
     ∙ ap (λ xs. a ∷ xs)
-    (bytes_of-behind 2 (d * 256 + c) b h.second ∙ ap (λ xs. b ∷ xs) (bytes_of-behind 1 d c h.third ∙ ap (λ x. c ∷ (x ∷ [])) highest)) in
+    (bytes_of-after 2 (d * 256 + c) b h.second ∙ ap (λ xs. b ∷ xs) (bytes_of-after 1 d c h.third ∙ ap (λ x. c ∷ (x ∷ [])) highest)) in
     rw (integer_of_word (hex_digits bs) n number small, unsigned-signed n small, four)
 
 -- ---- the items read back

@@ -40,10 +40,10 @@ use Rattle.wasmprinter_reading.proofs.Fields.Globals.{mutable_items, global_type
 use Rattle.wasmprinter_reading.proofs.Fields.Expressions.{constant_items, constant_held}
 use Rattle.wasmprinter_reading.proofs.Fields.Elements as elements
 use Rattle.wasmprinter_reading.proofs.Fields.Elements.{element_items}
-use Rattle.wasmprinter_reading.proofs.Fields.DataSegments as datas
+use Rattle.wasmprinter_reading.proofs.Fields.DataSegments as data_segments
 use Rattle.wasmprinter_reading.proofs.Fields.DataSegments.{data_items}
 use Rattle.wasmprinter_reading.proofs.Fields.Functions.{function_items}
-use Rattle.wasmprinter_reading.proofs.Trees.Lists.{HasNodes, list_has, IsField, behind_front, field_has, GroupHas, constant_has, constant_folds, group_has}
+use Rattle.wasmprinter_reading.proofs.Trees.Lists.{HasNodes, list_has, IsField, after_front, field_has, GroupHas, constant_has, constant_folds, group_has}
 
 -- ---- the items before the operators
 
@@ -138,7 +138,7 @@ unfolding head table
 table_silent s true t f = refl
 table_silent s false t f = refl
 
-memory_silent : (s : Scope) (zeroth : Bool) (m : ℕ) (f : Forest) → segment_nodes (datas.named_memory_items_by s zeroth m f) ≡ segment_nodes f
+memory_silent : (s : Scope) (zeroth : Bool) (m : ℕ) (f : Forest) → segment_nodes (data_segments.named_memory_items_by s zeroth m f) ≡ segment_nodes f
 unfolding head table
 memory_silent s true m f = refl
 memory_silent s false m f = refl
@@ -157,9 +157,9 @@ group_then {t = t} h f ts rest =
 
 -- The way in which this module's operators are folded
 abbrev pub own_folding : Bool → PlacedModule → Folding
-own_folding paints m = record { paints = paints; signatures = signatures_within m }
+own_folding color m = record { color = color; signatures = signatures_within m }
 
-module _ (paints : Bool) (m : PlacedModule) (s : Scope) (is : s.folding ≡ Some (own_folding paints m)) (named : AreNamed s.names) (ranged : AreSignaturesInRange (signature_at s.types)) where
+module _ (color : Bool) (m : PlacedModule) (s : Scope) (is : s.folding ≡ Some (own_folding color m)) (named : AreNamed s.names) (ranged : AreSignaturesInRange (signature_at s.types)) where
   abbrev Foldable : List (Placed Operator) → Type 0
   Foldable os = AreFoldable s.folding os
 
@@ -174,43 +174,43 @@ module _ (paints : Bool) (m : PlacedModule) (s : Scope) (is : s.folding ≡ Some
       list_has setting named ranged (signatures_within m results) hs os h.body.listed h.body.nested (subst (λ t. AreFoldable t os) is foldable) in
       let locals : List Variables = variable_groups (s.names.locals i) (parameter_count (signature_at s.types f.type_index)) (locals_of f.body.value.locals) in
       field_has k
-      (behind_front (own_id s row.Func i) (id_front (s.names.items row.Func i))
-      (behind_front (type_use_items s.names (Some i) f.type_index (signature_at s.types f.type_index)) (use_front s.names (Some i) f.type_index (signature_at s.types f.type_index))
-      (behind_front (groups_items s.names (codes "local") locals) (groups_front s.names (codes "local") locals no_local)
+      (after_front (own_id s row.Func i) (id_front (s.names.items row.Func i))
+      (after_front (type_use_items s.names (Some i) f.type_index (signature_at s.types f.type_index)) (use_front s.names (Some i) f.type_index (signature_at s.types f.type_index))
+      (after_front (groups_items s.names (codes "local") locals) (groups_front s.names (codes "local") locals no_local)
       (record { front = End; row = ap (λ t. node_row_of (list_items false t results setting hs os)) is ∙ k.row }))))
 
   -- A constant expression in a field
   constant_field : (nesting : ℕ) (os : List (Placed Operator)) (h : IsRangedExpression os) (foldable : Foldable os) →
-      IsField (constant_items s nesting os) (constant_has s (own_folding paints m) is named ranged nesting os h foldable).groups
+      IsField (constant_items s nesting os) (constant_has s (own_folding color m) is named ranged nesting os h foldable).groups
   constant_field nesting os h foldable =
       record {
         front = End;
-        row = ap node_row_of (constant_folds s (own_folding paints m) is named ranged nesting os) ∙ (constant_has s (own_folding paints m) is named ranged nesting os h foldable).row;
+        row = ap node_row_of (constant_folds s (own_folding color m) is named ranged nesting os) ∙ (constant_has s (own_folding color m) is named ranged nesting os h foldable).row;
       }
 
   pub global_has : (i : ℕ) (g : Global (Placed Operator)) → IsRangedGlobal g → Foldable g.init →
       AreNodesOf (field_nodes (global_items s i g)) (constant_tree m s 2 g.init)
   global_has i g h foldable =
-      field_has (constant_has s (own_folding paints m) is named ranged 2 g.init h.init foldable)
-      (behind_front (own_id s row.Global i) (id_front (s.names.items row.Global i))
-      (behind_front (global_type_items s.names g.type) (mutable_front s.names g.type.mutable g.type.type)
+      field_has (constant_has s (own_folding color m) is named ranged 2 g.init h.init foldable)
+      (after_front (own_id s row.Global i) (id_front (s.names.items row.Global i))
+      (after_front (global_type_items s.names g.type) (mutable_front s.names g.type.mutable g.type.type)
       (constant_field 2 g.init h.init foldable)))
 
   pub table_has : (i : ℕ) (t : Table (Placed Operator)) → IsRangedTable t → AllByRecursion Foldable (elim t.init as (λ x. List Operators) [ None ↦ [] | Some os ↦ os ∷ [] ]) →
       AreNodesOf (field_nodes (table_items s i t)) (init_tree m s t.init)
   table_has i t h foldable = by t.init h.init foldable
     where
-      behind : {f : Forest} {ns : NodesOf Forest} → IsField f ns → IsField (onto (own_id s row.Table i) (onto (table_type_items s.names t.type) f)) ns
-      behind x =
-          behind_front (own_id s row.Table i) (id_front (s.names.items row.Table i))
-          (behind_front (table_type_items s.names t.type) (table_type_front s.names t.type) x)
+      after : {f : Forest} {ns : NodesOf Forest} → IsField f ns → IsField (onto (own_id s row.Table i) (onto (table_type_items s.names t.type) f)) ns
+      after x =
+          after_front (own_id s row.Table i) (id_front (s.names.items row.Table i))
+          (after_front (table_type_items s.names t.type) (table_type_front s.names t.type) x)
 
       by : (o : Option (List (Placed Operator))) → IsRangedInit o → AllByRecursion Foldable (elim o as (λ x. List Operators) [ None ↦ [] | Some os ↦ os ∷ [] ]) →
           AreNodesOf (field_nodes (onto (own_id s row.Table i) (onto (table_type_items s.names t.type) (init_items s o)))) (init_tree m s o)
       by None h l =
-          let x = behind (record { front = End; row = refl }) in
+          let x = after (record { front = End; row = refl }) in
           (Nil, refl, ap (λ r. option_map (with_heads (λ (f : Forest). Some f)) (option_map (λ r. r.nodes) r)) x.row)
-      by (Some os) h l = field_has (constant_has s (own_folding paints m) is named ranged 2 os h l.0) (behind (constant_field 2 os h l.0))
+      by (Some os) h l = field_has (constant_has s (own_folding color m) is named ranged 2 os h l.0) (after (constant_field 2 os h l.0))
 
   -- ---- segments
 
@@ -219,12 +219,12 @@ module _ (paints : Bool) (m : PlacedModule) (s : Scope) (is : s.folding ≡ Some
   HasExpressions f es = AreAlike AreNodesOf (segment_nodes f) (segment_trees m s es)
 
   offset_has : (os : List (Placed Operator)) → IsRangedExpression os → Foldable os → GroupHas (constant_held s (codes "offset") os) (constant_tree m s 3 os)
-  offset_has os h foldable = group_has s (own_folding paints m) is named ranged (codes "offset") refl os h foldable
+  offset_has os h foldable = group_has s (own_folding color m) is named ranged (codes "offset") refl os h foldable
 
   expressions_have : (es : List Operators) → AllByRecursion IsRangedExpression es → AllByRecursion Foldable es → HasExpressions (elements.expressions_items s es) es
   expressions_have [] h l = tt
   expressions_have (e ∷ es) h l =
-      group_then (group_has s (own_folding paints m) is named ranged (codes "item") refl e h.0 l.0) (elements.expressions_items s es) (segment_trees m s es) (expressions_have es h.1 l.1)
+      group_then (group_has s (own_folding color m) is named ranged (codes "item") refl e h.0 l.0) (elements.expressions_items s es) (segment_trees m s es) (expressions_have es h.1 l.1)
 
   items_have : (is : Items (Placed Operator)) → AreRangedItems is → AllByRecursion Foldable (item_lists is) → HasExpressions (elements.items_items s is) (item_lists is)
   items_have (Functions is) h l = subst (λ ns. AreAlike AreNodesOf ns []) (sym (function_row_silent s is)) tt
@@ -251,13 +251,13 @@ module _ (paints : Bool) (m : PlacedModule) (s : Scope) (is : s.folding ≡ Some
   pub data_has : (i : ℕ) (d : Placed (Data (Placed Operator))) → IsRangedData d.value → AllByRecursion Foldable (data_lists d) →
       AreAlike AreNodesOf (segment_nodes (data_items s false i d.value)) (segment_trees m s (data_lists d))
   data_has i d h l =
-      subst (λ ns. AreAlike AreNodesOf ns (segment_trees m s (data_lists d))) (sym (id_silent (s.names.items row.Data i) (datas.segment_items s false d.value)))
+      subst (λ ns. AreAlike AreNodesOf ns (segment_trees m s (data_lists d))) (sym (id_silent (s.names.items row.Data i) (data_segments.segment_items s false d.value)))
       (by d.value.mode h.mode l)
     where
       by : (mode : DataMode (Placed Operator)) → IsRangedDataMode mode → AllByRecursion Foldable (elim mode as (λ x. List Operators) [ PassiveData ↦ [] | ActiveData memory os ↦ os ∷ [] ]) →
-          HasExpressions (datas.data_mode_items s mode (datas.bytes_items false d.value.bytes)) (elim mode as (λ x. List Operators) [ PassiveData ↦ [] | ActiveData memory os ↦ os ∷ [] ])
+          HasExpressions (data_segments.data_mode_items s mode (data_segments.bytes_items false d.value.bytes)) (elim mode as (λ x. List Operators) [ PassiveData ↦ [] | ActiveData memory os ↦ os ∷ [] ])
       by PassiveData h l = tt
       by (ActiveData memory offset) h l =
           subst (λ ns. AreAlike AreNodesOf ns (segment_trees m s (offset ∷ [])))
-          (sym (memory_silent s (memory == 0) memory (Group (constant_held s (codes "offset") offset) (datas.bytes_items false d.value.bytes))))
-          (group_then (offset_has offset h.1 l.0) (datas.bytes_items false d.value.bytes) [] tt)
+          (sym (memory_silent s (memory == 0) memory (Group (constant_held s (codes "offset") offset) (data_segments.bytes_items false d.value.bytes))))
+          (group_then (offset_has offset h.1 l.0) (data_segments.bytes_items false d.value.bytes) [] tt)

@@ -72,8 +72,8 @@ pub record IsField (f : Forest) (ns : NodesOf Forest) : Type 0 where
   pub row : node_row_of f ≡ Some (node_row front ns)
 
 -- The same with more items before the row
-pub behind_front : (a : Forest) → AreFront a → {f : Forest} {ns : NodesOf Forest} → IsField f ns → IsField (onto a f) ns
-behind_front a h {f} {ns} x = record { front = onto a x.front; row = node_front a h f x.front ns x.row }
+pub after_front : (a : Forest) → AreFront a → {f : Forest} {ns : NodesOf Forest} → IsField f ns → IsField (onto a f) ns
+after_front a h {f} {ns} x = record { front = onto a x.front; row = node_front a h f x.front ns x.row }
 
 -- The nodes of a field are those of its list of operators, with any items before them.
 pub field_has : {s : Setting} {signatures : Signatures} {hs : List (Placed Hint)} {os : List (Placed Operator)} (h : HasNodes s signatures hs os) {f : Forest} → IsField f h.groups →
@@ -126,10 +126,10 @@ one_tree : (x : Item) → folding.role x ≡ Plain → nested_code_of (x ∷ [])
 one_tree x e = rw e refl
 
 -- Its group contains only its immediates, since there are no operands to take.
-one_node : (x : Item) → row_items false (with_operands Nil (Of x) x.gives (operand_search x.takes Nil)) ≡ Group (head_items (Of x) End) End
-one_node x = by x.takes
+one_node : (x : Item) → row_items false (with_operands Nil (Of x) x.results (operand_search x.operands Nil)) ≡ Group (head_items (Of x) End) End
+one_node x = by x.operands
   where
-    by : (n : ℕ) → row_items false (with_operands Nil (Of x) x.gives (operand_search n Nil)) ≡ Group (head_items (Of x) End) End
+    by : (n : ℕ) → row_items false (with_operands Nil (Of x) x.results (operand_search n Nil)) ≡ Group (head_items (Of x) End) End
     by zero = refl
     by (suc n) = refl
 

@@ -105,12 +105,12 @@ variables_leave names read w v (Alone n t ∷ gs) f other h = rw other
 variables_leave names read w v (Together ts ∷ gs) f other h = rw other
 
 -- The items do not start with a parameter or a result.
-pub record IsBehindSignature (ids : Identifiers) (f : Forest) : Type 0 where
+pub record IsAfterSignature (ids : Identifiers) (f : Forest) : Type 0 where
   pub params : groups (variables ids) (codes "param") f ≡ Some ([], f)
   pub results : groups (val_types ids) (codes "result") f ≡ Some ([], f)
 
-pub end_behind_signature : (ids : Identifiers) → IsBehindSignature ids End
-end_behind_signature ids = record { params = no_groups (variables ids) (codes "param"); results = no_groups (val_types ids) (codes "result") }
+pub end_after_signature : (ids : Identifiers) → IsAfterSignature ids End
+end_after_signature ids = record { params = no_groups (variables ids) (codes "param"); results = no_groups (val_types ids) (codes "result") }
 
 -- The signature of a type, printed with these identifiers of parameters
 abbrev pub printed_signature : (ℕ → Option Named) → FuncType → Signature
@@ -209,7 +209,7 @@ module _ (names : Names) (ids : Identifiers) (bound : ℕ) (reads : Reads ids (n
   -- ---- signatures
 
   -- A signature reads back before items that are neither parameters nor results.
-  pub signature-items : (function : Option ℕ) (t : FuncType) (f : Forest) → IsDeclaredFunc bound t → IsBehindSignature ids f →
+  pub signature-items : (function : Option ℕ) (t : FuncType) (f : Forest) → IsDeclaredFunc bound t → IsAfterSignature ids f →
       signature ids (onto (signature_items names function t) f) ≡ Some (printed_signature (parameters_of names function) t, f)
   signature-items function t f h b =
       let left : groups (variables ids) (codes "param") (onto (group_items names (codes "result") t.results) f) ≡ Some ([], onto (group_items names (codes "result") t.results) f) =
@@ -220,7 +220,7 @@ module _ (names : Names) (ids : Identifiers) (bound : ℕ) (reads : Reads ids (n
 
   signature-alone : (t : FuncType) → IsDeclaredFunc bound t → signature ids (signature_items names None t) ≡ Some (printed_signature (λ i. None) t, End)
   signature-alone t h =
-      rw onto-End at (signature-items None t End h (end_behind_signature ids))
+      rw onto-End at (signature-items None t End h (end_after_signature ids))
 
   -- ---- composite types
 

@@ -6,11 +6,11 @@ use Rattle.wasmprinter_spec.specs.Grammar.{some_is, byte, Placed}
 use Rattle.wasmprinter_spec.specs.Types.{HeapType, Index, ValType, Ref, StorageType, Val, CompositeType, FuncComposite, SubType, all_types, func_type_of, signature_at}
 use Rattle.wasmprinter_spec.specs.Placed.{TypeGroup}
 use Rattle.wasmprinter_spec.specs.Module.{groups_of}
-use Rattle.wasmprinter_spec.specs.Binary.ValTypes.{number_type_of, abstract_heap_of, non_negative, signed_index, heap_type, ref_type_behind, reference_type, val_type_behind, val_type}
-use Rattle.wasmprinter_spec.specs.Binary.Types.{packed_type_of, storage_type, mutability, field, signature, composite_behind, sub_type_parts, sub_type_behind, group}
+use Rattle.wasmprinter_spec.specs.Binary.ValTypes.{number_type_of, abstract_heap_of, non_negative, signed_index, heap_type, ref_type_after, reference_type, val_type_after, val_type}
+use Rattle.wasmprinter_spec.specs.Binary.Types.{packed_type_of, storage_type, mutability, field, signature, composite_after, sub_type_parts, sub_type_after, group}
 use Rattle.wasmprinter_spec.proofs.Each.{all_both}
 use Rattle.wasmprinter_reading.specs.Listed.{FitsSigned, IsU32, IsSignatureInRange}
-use Rattle.wasmprinter_reading.proofs.AllSpelled.{AllSpelled, Spelled-any, Spelled-seq, Spelled-try_map, Spelled-map_value, Spelled-fail, Spelled-choose, Spelled-value_if_any, Spelled-behind_first_byte, Spelled-by_first_byte}
+use Rattle.wasmprinter_reading.proofs.AllSpelled.{AllSpelled, Spelled-any, Spelled-seq, Spelled-try_map, Spelled-map_value, Spelled-fail, Spelled-choose, Spelled-value_if_any, Spelled-after_first_byte, Spelled-by_first_byte}
 use Rattle.wasmprinter_reading.proofs.LebRange.{AllSpelled-signed}
 use Rattle.wasmprinter_reading.proofs.Vectors.{AllSpelled-u32, Spelled-vec}
 use Rattle.wasmprinter_reading.proofs.Types.Ranged.{IsRangedHeap, IsRangedVal, IsRangedStorage, IsRangedField, IsRangedFunc, IsRangedComposite, IsRangedSub, IsFewComposite, IsFewSub, IsRangedGroup}
@@ -39,22 +39,22 @@ AllSpelled-heap_type =
     (Spelled-try_map (Spelled-any byte) (λ c h e _. abstract_ranged c h e))
     (Spelled-map_value AllSpelled-signed_index (λ n h. h)))
 
-AllSpelled-ref_type_behind : (b : ℕ) → AllSpelled (ref_type_behind b) (λ r. IsRangedHeap r.heap)
-AllSpelled-ref_type_behind b =
+AllSpelled-ref_type_after : (b : ℕ) → AllSpelled (ref_type_after b) (λ r. IsRangedHeap r.heap)
+AllSpelled-ref_type_after b =
     Spelled-choose (b == 0x64) (Spelled-map_value AllSpelled-heap_type (λ t h. h))
     (Spelled-choose (b == 0x63) (Spelled-map_value AllSpelled-heap_type (λ t h. h))
     (Spelled-map_value (Spelled-value_if_any (abstract_heap_of b) (abstract_ranged b)) (λ t h. h)))
 
 pub AllSpelled-reference_type : AllSpelled reference_type (λ r. IsRangedHeap r.heap)
-AllSpelled-reference_type = Spelled-behind_first_byte AllSpelled-ref_type_behind
+AllSpelled-reference_type = Spelled-after_first_byte AllSpelled-ref_type_after
 
-AllSpelled-val_type_behind : (b : ℕ) → AllSpelled (val_type_behind b) IsRangedVal
-AllSpelled-val_type_behind b =
+AllSpelled-val_type_after : (b : ℕ) → AllSpelled (val_type_after b) IsRangedVal
+AllSpelled-val_type_after b =
     Spelled-choose (is_some (number_type_of b)) (Spelled-value_if_any (number_type_of b) (number_ranged b))
-    (Spelled-map_value (AllSpelled-ref_type_behind b) (λ t h. h))
+    (Spelled-map_value (AllSpelled-ref_type_after b) (λ t h. h))
 
 pub AllSpelled-val_type : AllSpelled val_type IsRangedVal
-AllSpelled-val_type = Spelled-behind_first_byte AllSpelled-val_type_behind
+AllSpelled-val_type = Spelled-after_first_byte AllSpelled-val_type_after
 
 -- ---- composite types
 
@@ -64,8 +64,8 @@ packed_ranged b _ e = tt
 
 AllSpelled-storage_type : AllSpelled storage_type IsRangedStorage
 AllSpelled-storage_type =
-    Spelled-behind_first_byte (λ b. Spelled-choose (is_some (packed_type_of b)) (Spelled-value_if_any (packed_type_of b) (packed_ranged b))
-    (Spelled-map_value (AllSpelled-val_type_behind b) (λ t h. h)))
+    Spelled-after_first_byte (λ b. Spelled-choose (is_some (packed_type_of b)) (Spelled-value_if_any (packed_type_of b) (packed_ranged b))
+    (Spelled-map_value (AllSpelled-val_type_after b) (λ t h. h)))
 
 AllSpelled-field : AllSpelled field IsRangedField
 AllSpelled-field = Spelled-map_value (Spelled-seq AllSpelled-storage_type (λ _. Spelled-any mutability)) (λ x h. h.0)
@@ -75,8 +75,8 @@ AllSpelled-signature =
     Spelled-map_value (Spelled-seq (Spelled-vec AllSpelled-val_type) (λ _. Spelled-vec AllSpelled-val_type))
     (λ x h. (record { params = h.0.each; results = h.1.each }, h.0.count))
 
-AllSpelled-composite_behind : (b : ℕ) → AllSpelled (composite_behind b) (λ c. IsRangedComposite c × IsFewComposite c)
-AllSpelled-composite_behind b =
+AllSpelled-composite_after : (b : ℕ) → AllSpelled (composite_after b) (λ c. IsRangedComposite c × IsFewComposite c)
+AllSpelled-composite_after b =
     Spelled-choose (b == 0x5e) (Spelled-map_value AllSpelled-field (λ f h. (h, tt)))
     (Spelled-choose (b == 0x5f) (Spelled-map_value (Spelled-vec AllSpelled-field) (λ fs h. (h.each, h.count)))
     (Spelled-choose (b == 0x60) (Spelled-map_value AllSpelled-signature (λ t h. h)) Spelled-fail))
@@ -85,14 +85,14 @@ AllSpelled-composite_behind b =
 
 AllSpelled-sub_type_parts : (final : Bool) → AllSpelled (sub_type_parts final) (λ t. IsRangedSub t × IsFewSub t)
 AllSpelled-sub_type_parts final =
-    Spelled-map_value (Spelled-seq (Spelled-vec AllSpelled-u32) (λ _. Spelled-behind_first_byte AllSpelled-composite_behind))
+    Spelled-map_value (Spelled-seq (Spelled-vec AllSpelled-u32) (λ _. Spelled-after_first_byte AllSpelled-composite_after))
     (λ x (supertypes, (composite, few)). (record { supertypes = supertypes.each; composite = composite }, few))
 
-AllSpelled-sub_type_behind : (b : ℕ) → AllSpelled (sub_type_behind b) (λ t. IsRangedSub t × IsFewSub t)
-AllSpelled-sub_type_behind b =
+AllSpelled-sub_type_after : (b : ℕ) → AllSpelled (sub_type_after b) (λ t. IsRangedSub t × IsFewSub t)
+AllSpelled-sub_type_after b =
     Spelled-choose (b == 0x50) (AllSpelled-sub_type_parts false)
     (Spelled-choose (b == 0x4f) (AllSpelled-sub_type_parts true)
-    (Spelled-map_value (AllSpelled-composite_behind b) (λ c h. (record { supertypes = tt; composite = h.0 }, h.1))))
+    (Spelled-map_value (AllSpelled-composite_after b) (λ c h. (record { supertypes = tt; composite = h.0 }, h.1))))
 
 -- If both facts hold of each type, then each of them holds of all types.
 each_ranged : (ts : List SubType) → AllByRecursion (λ t. IsRangedSub t × IsFewSub t) ts → AllByRecursion IsRangedSub ts × AllByRecursion IsFewSub ts
@@ -101,10 +101,10 @@ each_ranged (t ∷ ts) ((ranged, few), others) = let rest = each_ranged ts other
 
 pub AllSpelled-group : AllSpelled group IsRangedGroup
 AllSpelled-group =
-    Spelled-behind_first_byte (λ b. Spelled-choose (b == 0x4e)
-    (Spelled-map_value (Spelled-vec (Spelled-behind_first_byte AllSpelled-sub_type_behind))
+    Spelled-after_first_byte (λ b. Spelled-choose (b == 0x4e)
+    (Spelled-map_value (Spelled-vec (Spelled-after_first_byte AllSpelled-sub_type_after))
     (λ ts h. let both = each_ranged ts h.each in record { count = h.count; each = both.0; few = both.1; single = tt }))
-    (Spelled-map_value (AllSpelled-sub_type_behind b) (λ t h. record { count = omega arith; each = (h.0, tt); few = (h.1, tt); single = tt })))
+    (Spelled-map_value (AllSpelled-sub_type_after b) (λ t h. record { count = omega arith; each = (h.0, tt); few = (h.1, tt); single = tt })))
 
 -- ---- the types of all groups
 

@@ -20,7 +20,7 @@ use Rattle.wasmprinter_lexical.proofs.Writes.{Writes, is_open, writing, both_wri
 use Rattle.wasmprinter_reading.specs.Listed.{IsSignatureInRange}
 use Rattle.wasmprinter_reading.proofs.Types.Ranged.{IsRangedHeap, IsRangedVal, IsRangedStorage, IsRangedField, IsRangedFunc, IsRangedComposite, IsRangedSub, IsRangedGroup}
 use Rattle.wasmprinter_reading.proofs.Numbered.{rows, map_numbered, numbered_writes}
-use Rattle.wasmprinter_reading.proofs.Identifiers.{index_items, id_items, index_writes, mark_gap_writes, identifier_gap_writes, declaration_writes}
+use Rattle.wasmprinter_reading.proofs.Identifiers.{index_items, id_items, index_writes, id_and_name_gap_writes, identifier_gap_writes, declaration_writes}
 
 -- ---- the items
 
@@ -227,7 +227,7 @@ module _ (names : Names) (named : AreNamed names) where
   pub variables_write : {a : Edge} (w : List ℕ) (g : Variables) → is_open a ≡ true → is_word w ≡ true → HaveNames g → HaveTypes IsRangedVal g →
       Writes a (variables_pieces names w g) Bound (Group (variables_items names w g) End)
   unfolding variables_pieces
-  variables_write w (Alone n t) e h k r = line_group_writes w _ e h (gap_writes refl (both_write (mark_gap_writes (Some n) k) (val_writes t r)))
+  variables_write w (Alone n t) e h k r = line_group_writes w _ e h (gap_writes refl (both_write (id_and_name_gap_writes (Some n) k) (val_writes t r)))
   variables_write w (Together ts) e h k r = line_group_writes w _ e h (type_list_writes ts r)
 
   pub groups_write : (w : List ℕ) (gs : List Variables) → is_word w ≡ true → AllByRecursion HaveNames gs → AllByRecursion (HaveTypes IsRangedVal) gs →

@@ -37,8 +37,8 @@ segment names modes contents = map_value (λ (mode, items). entry_of names (elem
 
 -- An element segment after the flags: bit 0 says that the segment is not active, bit 1 that it is declarative or
 -- that it names its table, bit 2 that its items are expressions.
-abbrev pub element_behind : ℕ → Grammar ElementEntry
-element_behind flags =
+abbrev pub element_after : ℕ → Grammar ElementEntry
+element_after flags =
     choose (flags == 0) (segment false active function_items)
     (choose (flags == 1) (segment false (succeed Passive) items_of_kind)
     (choose (flags == 2) (segment true active_in items_of_kind)
@@ -49,7 +49,7 @@ element_behind flags =
     (choose (flags == 7) (segment false (succeed Declared) items_of_type) fail)))))))
 
 abbrev pub element : Grammar ElementEntry
-element = map_value (λ x. x.1) (seq u32 element_behind)
+element = map_value (λ x. x.1) (seq u32 element_after)
 
 abbrev pub element_section : Remainder (List (Placed ElementEntry))
 element_section = alone (vec (value_with_place element))

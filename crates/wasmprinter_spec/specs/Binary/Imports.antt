@@ -2,7 +2,7 @@
 -- an external type.
 use Rattle.std.specs.Prelude.{ℕ, List, ◌==◌}
 use Rattle.wasmprinter_spec.specs.Grammar.{Grammar, Remainder, seq, map_value, fail, choose, Placed, value_with_place}
-use Rattle.wasmprinter_spec.specs.FirstByte.{behind_first_byte}
+use Rattle.wasmprinter_spec.specs.FirstByte.{after_first_byte}
 use Rattle.wasmprinter_spec.specs.Sized.{alone}
 use Rattle.wasmprinter_spec.specs.Name.{name, u32, vec}
 use Rattle.wasmprinter_spec.specs.Types.{ExternType, FuncExtern, TableExtern, MemoryExtern, GlobalExtern, TagExtern}
@@ -13,8 +13,8 @@ use Rattle.wasmprinter_spec.specs.Binary.Globals.{global_type}
 use Rattle.wasmprinter_spec.specs.Binary.Tags.{tag}
 
 -- An external type after the byte of its kind (section 5.3, "External Types").
-abbrev pub extern_type_behind : ℕ → Grammar ExternType
-extern_type_behind kind =
+abbrev pub extern_type_after : ℕ → Grammar ExternType
+extern_type_after kind =
     choose (kind == 0) (map_value FuncExtern u32)
     (choose (kind == 1) (map_value TableExtern table_type)
     (choose (kind == 2) (map_value MemoryExtern memory_type)
@@ -22,7 +22,7 @@ extern_type_behind kind =
     (choose (kind == 4) (map_value TagExtern tag) fail))))
 
 abbrev pub extern_type : Grammar ExternType
-extern_type = behind_first_byte extern_type_behind
+extern_type = after_first_byte extern_type_after
 
 abbrev pub import : Grammar Import
 import = map_value (λ (source, (field, type)). import_of source field type) (seq name (λ _. seq name (λ _. extern_type)))

@@ -2,7 +2,7 @@
 -- to the standard adds), and the memory section (section 5.5, "Memory Section"): a list of memory types.
 use Rattle.std.specs.Prelude.{ℕ, nat_lt, Bool, true, false, List, Option, Some, None, if◌then◌else◌}
 use Rattle.wasmprinter_spec.specs.Grammar.{Grammar, Remainder, seq, try_map, map_value, succeed, fail, choose, Placed, value_with_place}
-use Rattle.wasmprinter_spec.specs.FirstByte.{behind_first_byte}
+use Rattle.wasmprinter_spec.specs.FirstByte.{after_first_byte}
 use Rattle.wasmprinter_spec.specs.Sized.{alone}
 use Rattle.wasmprinter_spec.specs.Name.{u32, vec}
 use Rattle.wasmprinter_spec.specs.Types.{MemoryType, memory_type_of}
@@ -18,14 +18,14 @@ page false = succeed None
 
 -- A memory type after the flags: bit 0 says that there is a maximum size, bit 1 that the memory is shared, bit 2
 -- that addresses have 64 bits, bit 3 that the exponent of the page size follows.
-abbrev pub memory_type_behind : ℕ → Grammar MemoryType
-memory_type_behind flags =
+abbrev pub memory_type_after : ℕ → Grammar MemoryType
+memory_type_after flags =
     choose (nat_lt flags 16)
     (map_value (λ (limits, page). memory_type_of (has_bit 2 flags) (has_bit 1 flags) limits page)
     (seq (limits (has_bit 0 flags)) (λ _. page (has_bit 3 flags)))) fail
 
 abbrev pub memory_type : Grammar MemoryType
-memory_type = behind_first_byte memory_type_behind
+memory_type = after_first_byte memory_type_after
 
 abbrev pub memory_section : Remainder (List (Placed MemoryType))
 memory_section = alone (vec (value_with_place memory_type))

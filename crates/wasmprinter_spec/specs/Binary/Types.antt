@@ -2,22 +2,22 @@
 -- (section 5.5, "Type Section"): a list of groups.
 use Rattle.std.specs.Prelude.{ℕ, List, [], ◌∷◌, Bool, true, false, ◌==◌, is_some, Option}
 use Rattle.wasmprinter_spec.specs.Grammar.{Grammar, Remainder, byte, seq, try_map, map_value, fail, choose, Placed, value_with_place}
-use Rattle.wasmprinter_spec.specs.FirstByte.{behind_first_byte}
+use Rattle.wasmprinter_spec.specs.FirstByte.{after_first_byte}
 use Rattle.wasmprinter_spec.specs.Sized.{alone}
 use Rattle.wasmprinter_spec.specs.Name.{u32, vec}
 use Rattle.wasmprinter_spec.specs.Types.{StorageType, Val, I8, I16, FieldType, field_type, FuncType, CompositeType, FuncComposite, ArrayComposite, StructComposite, SubType, sub_type, final_type}
-use Rattle.wasmprinter_spec.specs.Binary.ValTypes.{lookup, value_if_any, val_type, val_type_behind}
+use Rattle.wasmprinter_spec.specs.Binary.ValTypes.{lookup, value_if_any, val_type, val_type_after}
 use Rattle.wasmprinter_spec.specs.Placed.{TypeGroup, type_group}
 
 abbrev pub packed_type_of : ℕ → Option StorageType
 packed_type_of b = lookup ((0x78, I8) ∷ (0x77, I16) ∷ []) b
 
 -- A storage type after its first byte: a packed type, or a value type.
-abbrev pub storage_type_behind : ℕ → Grammar StorageType
-storage_type_behind b = choose (is_some (packed_type_of b)) (value_if_any (packed_type_of b)) (map_value Val (val_type_behind b))
+abbrev pub storage_type_after : ℕ → Grammar StorageType
+storage_type_after b = choose (is_some (packed_type_of b)) (value_if_any (packed_type_of b)) (map_value Val (val_type_after b))
 
 abbrev pub storage_type : Grammar StorageType
-storage_type = behind_first_byte storage_type_behind
+storage_type = after_first_byte storage_type_after
 
 -- Whether a field or a global is mutable.
 abbrev pub mutability : Grammar Bool
@@ -31,14 +31,14 @@ abbrev pub signature : Grammar FuncType
 signature = map_value (λ x. record { params = x.0; results = x.1 }) (seq (vec val_type) (λ _. vec val_type))
 
 -- A composite type after its first byte: 5E and a field, 5F and fields, or 60 and a function type.
-abbrev pub composite_behind : ℕ → Grammar CompositeType
-composite_behind b =
+abbrev pub composite_after : ℕ → Grammar CompositeType
+composite_after b =
     choose (b == 0x5e) (map_value ArrayComposite field)
     (choose (b == 0x5f) (map_value StructComposite (vec field))
     (choose (b == 0x60) (map_value FuncComposite signature) fail))
 
 abbrev pub composite : Grammar CompositeType
-composite = behind_first_byte composite_behind
+composite = after_first_byte composite_after
 
 -- Supertypes, and a composite type.
 abbrev pub sub_type_parts : Bool → Grammar SubType
@@ -46,23 +46,23 @@ sub_type_parts final = map_value (λ x. sub_type final x.0 x.1) (seq (vec u32) (
 
 -- A subtype after its first byte: 50 if it is not final, 4F if it is; or a composite type, which is final and has
 -- no supertypes.
-abbrev pub sub_type_behind : ℕ → Grammar SubType
-sub_type_behind b =
+abbrev pub sub_type_after : ℕ → Grammar SubType
+sub_type_after b =
     choose (b == 0x50) (sub_type_parts false)
     (choose (b == 0x4f) (sub_type_parts true)
-    (map_value final_type (composite_behind b)))
+    (map_value final_type (composite_after b)))
 
 abbrev pub subtype : Grammar SubType
-subtype = behind_first_byte sub_type_behind
+subtype = after_first_byte sub_type_after
 
 -- A group after its first byte: 4E and a list of types, or a single type by itself.
-abbrev pub group_behind : ℕ → Grammar TypeGroup
-group_behind b =
+abbrev pub group_after : ℕ → Grammar TypeGroup
+group_after b =
     choose (b == 0x4e) (map_value (type_group true) (vec subtype))
-    (map_value (λ t. type_group false (t ∷ [])) (sub_type_behind b))
+    (map_value (λ t. type_group false (t ∷ [])) (sub_type_after b))
 
 abbrev pub group : Grammar TypeGroup
-group = behind_first_byte group_behind
+group = after_first_byte group_after
 
 abbrev pub type_section : Remainder (List (Placed TypeGroup))
 type_section = alone (vec (value_with_place group))

@@ -1,7 +1,7 @@
 -- How bytes encode heap types, reference types and value types (section 5.3 of the standard).
 use Rattle.std.specs.Prelude.{ℕ, ℤ, pos, negsuc, List, [], ◌∷◌, Bool, true, false, ◌||◌, ◌==◌, is_some, cond, Option, Some, None}
 use Rattle.wasmprinter_spec.specs.Grammar.{Grammar, byte, try_map, map_value, succeed, fail, choose}
-use Rattle.wasmprinter_spec.specs.FirstByte.{behind_first_byte, by_first_byte}
+use Rattle.wasmprinter_spec.specs.FirstByte.{after_first_byte, by_first_byte}
 use Rattle.wasmprinter_spec.specs.Leb.{signed}
 use Rattle.wasmprinter_spec.specs.Types.{HeapType, Exn, Array, Struct, I31, Eq, Any, Extern, Func, NoAny, NoExtern, NoFunc, NoExn, Index, RefType, ref_type, ValType, I32, I64, F32, F64, V128, Ref}
 
@@ -42,21 +42,21 @@ heap_type = by_first_byte heap_type_by
 
 -- A reference type after its first byte: 64 and a heap type; 63 and a heap type, nullable; or an abstract heap
 -- type, nullable.
-abbrev pub ref_type_behind : ℕ → Grammar RefType
-ref_type_behind b =
+abbrev pub ref_type_after : ℕ → Grammar RefType
+ref_type_after b =
     choose (b == 0x64) (map_value (ref_type false) heap_type)
     (choose (b == 0x63) (map_value (ref_type true) heap_type)
     (map_value (ref_type true) (value_if_any (abstract_heap_of b))))
 
 abbrev pub reference_type : Grammar RefType
-reference_type = behind_first_byte ref_type_behind
+reference_type = after_first_byte ref_type_after
 
 -- A value type after its first byte: a number type, the vector type, or a reference type.
-abbrev pub val_type_behind : ℕ → Grammar ValType
-val_type_behind b = choose (is_some (number_type_of b)) (value_if_any (number_type_of b)) (map_value Ref (ref_type_behind b))
+abbrev pub val_type_after : ℕ → Grammar ValType
+val_type_after b = choose (is_some (number_type_of b)) (value_if_any (number_type_of b)) (map_value Ref (ref_type_after b))
 
 abbrev pub val_type : Grammar ValType
-val_type = behind_first_byte val_type_behind
+val_type = after_first_byte val_type_after
 
 -- A value type begins with this byte.
 abbrev pub begins_val_type : ℕ → Bool

@@ -97,7 +97,7 @@ first_other (s ∷ ss) = first_some (other_of s.value) (first_other ss)
 
 abbrev pub judgement_by : List Subsection → Option ℕ → Option Input → Judged
 judgement_by ss (Some id) end = Unknown id
-judgement_by ss None (Some behind) = Whole ss
+judgement_by ss None (Some after) = Whole ss
 judgement_by ss None None = Faulty
 
 abbrev pub judgement_of : Input → Judged

@@ -72,15 +72,15 @@ abbrev pub next_hints : ℕ → List FunctionHints → List (Placed Hint)
 next_hints i [] = []
 next_hints i (e ∷ es) = if e.function == i then e.hints else []
 
-abbrev pub hints_behind : ℕ → List FunctionHints → List FunctionHints
-hints_behind i [] = []
-hints_behind i (e ∷ es) = if e.function == i then es else e ∷ es
+abbrev pub hints_after : ℕ → List FunctionHints → List FunctionHints
+hints_after i [] = []
+hints_after i (e ∷ es) = if e.function == i then es else e ∷ es
 
 -- The hint of the operator at this offset from the body's first byte, if it is the next.
 abbrev pub next_hint : ℕ → List (Placed Hint) → Option (Placed Hint)
 next_hint offset [] = None
 next_hint offset (h ∷ hs) = if h.value.offset == offset then Some h else None
 
-abbrev pub hint_behind : ℕ → List (Placed Hint) → List (Placed Hint)
-hint_behind offset [] = []
-hint_behind offset (h ∷ hs) = if h.value.offset == offset then hs else h ∷ hs
+abbrev pub hint_after : ℕ → List (Placed Hint) → List (Placed Hint)
+hint_after offset [] = []
+hint_after offset (h ∷ hs) = if h.value.offset == offset then hs else h ∷ hs

@@ -4,7 +4,7 @@ use Rattle.std.specs.Prelude.{ℕ, List, [], ◌∷◌, Bool, true, ◌&&◌}
 use Rattle.wasmprinter_spec.specs.Grammar.{Grammar, Remainder, Placed, value_with_place, seq, map_value}
 use Rattle.wasmprinter_spec.specs.Sized.{alone}
 use Rattle.wasmprinter_spec.specs.Name.{vec, name}
-use Rattle.wasmprinter_spec.specs.Quoted.{is_run}
+use Rattle.wasmprinter_spec.specs.Quoted.{is_id}
 
 pub record Value : Type 0 where
   pub name : List ℕ
@@ -27,4 +27,4 @@ producers = alone (vec field)
 -- The name of each field consists of identifier characters, at least one, so that it can begin a group.
 abbrev pub are_runs : List Field → Bool
 are_runs [] = true
-are_runs (f ∷ fs) = is_run f.name && are_runs fs
+are_runs (f ∷ fs) = is_id f.name && are_runs fs

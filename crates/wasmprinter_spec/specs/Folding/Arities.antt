@@ -25,16 +25,16 @@ pub record Signatures : Type 0 where
 
 -- The number of operands that are taken, and of results that are given.
 pub record OperandCounts : Type 0 where
-  pub takes : ℕ
-  pub gives : ℕ
+  pub operands : ℕ
+  pub results : ℕ
 
 -- p operands are taken, and q results are given.
-abbrev pub takes_and_gives : ℕ → ℕ → OperandCounts
-takes_and_gives p q = record { takes = p; gives = q }
+abbrev pub operands_and_results : ℕ → ℕ → OperandCounts
+operands_and_results p q = record { operands = p; results = q }
 
 -- The counts, if they are known. Otherwise the operator takes and gives nothing.
 abbrev pub if_known : Option OperandCounts → OperandCounts
-if_known None = takes_and_gives 0 0
+if_known None = operands_and_results 0 0
 if_known (Some c) = c
 
 -- The greatest number of 32 bits.
@@ -58,12 +58,12 @@ block_signature s (Value t) = Some (one_result t)
 block_signature s (OfType n) = s.types n
 
 -- The number of values that a block takes.
-abbrev pub block_takes : Signatures → BlockType → Option ℕ
-block_takes s t = option_map (λ f. length f.params) (block_signature s t)
+abbrev pub block_operands : Signatures → BlockType → Option ℕ
+block_operands s t = option_map (λ f. length f.params) (block_signature s t)
 
 -- The number of values that a block gives.
-abbrev pub block_gives : Signatures → BlockType → Option ℕ
-block_gives s t = option_map (λ f. length f.results) (block_signature s t)
+abbrev pub block_results : Signatures → BlockType → Option ℕ
+block_results s t = option_map (λ f. length f.results) (block_signature s t)
 
 -- The opcode is that of `loop`: a branch to its label goes to its start.
 abbrev pub is_loop : Opcode → Bool
@@ -71,13 +71,13 @@ is_loop o = (o.prefix == 0) && (o.number == 0x03)
 
 -- The number of values of a branch to the label of a block of this type, which is a loop or not.
 abbrev pub label_of_type : Signatures → Bool → BlockType → Option ℕ
-label_of_type s true t = block_takes s t
-label_of_type s false t = block_gives s t
+label_of_type s true t = block_operands s t
+label_of_type s false t = block_results s t
 
 -- The number of values of a branch to the label that the operator opens.
 abbrev pub label_of_block : Signatures → Operator → Option ℕ
 label_of_block s o =
-    elim o.immediates as (λ i. Option ℕ) [ Block t ↦ label_of_type s (is_loop o.opcode) t | TryTable t cs ↦ block_gives s t | _ ↦ None ]
+    elim o.immediates as (λ i. Option ℕ) [ Block t ↦ label_of_type s (is_loop o.opcode) t | TryTable t cs ↦ block_results s t | _ ↦ None ]
 
 -- The number of values of a branch to label l: the label of an enclosing block or, after the last of these, the
 -- body's own. A label that does not exist has no count.
@@ -100,32 +100,32 @@ by_count f n = if_known (option_map f n)
 -- The counts of each arity, a line for each. P and Q are the numbers of parameters and results of the type that is
 -- named; v is the number of values that a branch to the label takes.
 abbrev pub counts : Signatures → List (Option ℕ) → Arity → Immediates → OperandCounts
-counts s ls (Fixed p q) i = takes_and_gives p q
-counts s ls OfCall (Index f) = by_type (λ P Q. takes_and_gives P Q) (s.functions f)
-counts s ls OfReturnCall (Index f) = by_type (λ P Q. takes_and_gives P 0) (s.functions f)
-counts s ls OfIndirectCall (Index t) = by_type (λ P Q. takes_and_gives (saturating_sum P 1) Q) (s.types t)
-counts s ls OfIndirectCall (Indices t n) = by_type (λ P Q. takes_and_gives (saturating_sum P 1) Q) (s.types t)
-counts s ls OfReturnIndirectCall (Index t) = by_type (λ P Q. takes_and_gives (saturating_sum P 1) 0) (s.types t)
-counts s ls OfReturnIndirectCall (Indices t n) = by_type (λ P Q. takes_and_gives (saturating_sum P 1) 0) (s.types t)
-counts s ls OfThrow (Index t) = by_type (λ P Q. takes_and_gives P 0) (s.tags t)
-counts s ls OfReturn i = by_count (λ n. takes_and_gives n 0) s.own
-counts s ls OfBranch (Index l) = by_count (λ v. takes_and_gives v 0) (label_count ls s.own l)
-counts s ls OfBranchIf (Index l) = by_count (λ v. takes_and_gives (saturating_sum v 1) v) (label_count ls s.own l)
-counts s ls OfBranchTable (BranchTable others l) = by_count (λ v. takes_and_gives (saturating_sum v 1) 0) (label_count ls s.own l)
-counts s ls OfBranchOnNull (Index l) = by_count (λ v. takes_and_gives (saturating_sum v 1) (saturating_sum v 1)) (label_count ls s.own l)
+counts s ls (Fixed p q) i = operands_and_results p q
+counts s ls OfCall (Index f) = by_type (λ P Q. operands_and_results P Q) (s.functions f)
+counts s ls OfReturnCall (Index f) = by_type (λ P Q. operands_and_results P 0) (s.functions f)
+counts s ls OfIndirectCall (Index t) = by_type (λ P Q. operands_and_results (saturating_sum P 1) Q) (s.types t)
+counts s ls OfIndirectCall (Indices t n) = by_type (λ P Q. operands_and_results (saturating_sum P 1) Q) (s.types t)
+counts s ls OfReturnIndirectCall (Index t) = by_type (λ P Q. operands_and_results (saturating_sum P 1) 0) (s.types t)
+counts s ls OfReturnIndirectCall (Indices t n) = by_type (λ P Q. operands_and_results (saturating_sum P 1) 0) (s.types t)
+counts s ls OfThrow (Index t) = by_type (λ P Q. operands_and_results P 0) (s.tags t)
+counts s ls OfReturn i = by_count (λ n. operands_and_results n 0) s.own
+counts s ls OfBranch (Index l) = by_count (λ v. operands_and_results v 0) (label_count ls s.own l)
+counts s ls OfBranchIf (Index l) = by_count (λ v. operands_and_results (saturating_sum v 1) v) (label_count ls s.own l)
+counts s ls OfBranchTable (BranchTable others l) = by_count (λ v. operands_and_results (saturating_sum v 1) 0) (label_count ls s.own l)
+counts s ls OfBranchOnNull (Index l) = by_count (λ v. operands_and_results (saturating_sum v 1) (saturating_sum v 1)) (label_count ls s.own l)
 -- If the label takes nothing, nothing is given either.
-counts s ls OfBranchOnNonNull (Index l) = by_count (λ v. takes_and_gives v (v - 1)) (label_count ls s.own l)
-counts s ls OfBranchOnCast (Cast l from to) = by_count (λ v. takes_and_gives v v) (label_count ls s.own l)
+counts s ls OfBranchOnNonNull (Index l) = by_count (λ v. operands_and_results v (v - 1)) (label_count ls s.own l)
+counts s ls OfBranchOnCast (Cast l from to) = by_count (λ v. operands_and_results v v) (label_count ls s.own l)
 -- A block is folded without operands, whatever its parameters are.
-counts s ls OfBlock (Block t) = by_count (λ n. takes_and_gives 0 n) (block_gives s t)
-counts s ls OfBlock (TryTable t cs) = by_count (λ n. takes_and_gives 0 n) (block_gives s t)
-counts s ls OfStruct (Index t) = by_count (λ n. takes_and_gives n 1) (s.fields t)
-counts s ls OfCount (Indices t n) = takes_and_gives n 1
-counts s ls _ _ = takes_and_gives 0 0
+counts s ls OfBlock (Block t) = by_count (λ n. operands_and_results 0 n) (block_results s t)
+counts s ls OfBlock (TryTable t cs) = by_count (λ n. operands_and_results 0 n) (block_results s t)
+counts s ls OfStruct (Index t) = by_count (λ n. operands_and_results n 1) (s.fields t)
+counts s ls OfCount (Indices t n) = operands_and_results n 1
+counts s ls _ _ = operands_and_results 0 0
 
 -- An opcode that is not listed takes and gives nothing.
 abbrev pub counts_if_listed : Signatures → List (Option ℕ) → Option Arity → Immediates → OperandCounts
-counts_if_listed s ls None i = takes_and_gives 0 0
+counts_if_listed s ls None i = operands_and_results 0 0
 counts_if_listed s ls (Some a) i = counts s ls a i
 
 -- The counts of an operator, where these labels are open.

@@ -5,7 +5,7 @@ use Rattle.std.specs.List.{AllByRecursion}
 use Rattle.wasmprinter_spec.specs.Grammar.{Placed, ◌>>=◌}
 use Rattle.wasmprinter_spec.specs.Operator.{Operator}
 use Rattle.wasmprinter_spec.specs.Row as row
-use Rattle.wasmprinter_spec.specs.Row.{Role, Opens, OpensIf, OpensTry, Turns, Catches, CatchesAll, Delegates, Ends}
+use Rattle.wasmprinter_spec.specs.Row.{Role, Opens, OpensIf, OpensTry, Else, Catches, CatchesAll, Delegates, Ends}
 use Rattle.wasmprinter_spec.specs.Table.{role_of}
 use Rattle.wasmprinter_spec.specs.Nesting.{Nests, Sequence}
 use Rattle.wasmprinter_spec.specs.Customs.Hints.{Hint}
@@ -18,8 +18,8 @@ pub record Item : Type 0 where
   pub operator : Placed Operator
   pub pieces : List Piece
   pub hint : Option (Placed Hint)
-  pub takes : ℕ
-  pub gives : ℕ
+  pub operands : ℕ
+  pub results : ℕ
 
 -- Operators whose blocks are closed. Each constructor is the first operator, and its last field is the code after
 -- it. Between them are the content of the block, the `else` and its content if there is one, and the `end`.
@@ -59,43 +59,43 @@ AreWithoutTry rs = AllByRecursion (λ r. is_try r ≡ false) rs
 -- The code after a position in a list. Outside: no `end` in it closes a block around the position. InBlock: the
 -- code up to such an `end`, the `end`, and the code after it. InIf: the code up to the `else` of such a block, the
 -- `else`, the code up to the `end`, the `end`, and the code after it.
-pub data Behind : Type 0 where
-  Outside : NestedCode → Behind
-  InBlock : NestedCode → Item → Behind → Behind
-  InIf : NestedCode → Item → NestedCode → Item → Behind → Behind
+pub data After : Type 0 where
+  Outside : NestedCode → After
+  InBlock : NestedCode → Item → After → After
+  InIf : NestedCode → Item → NestedCode → Item → After → After
 
 -- f applied to the code up to the first `else` or `end`.
-abbrev pub with_code : (NestedCode → NestedCode) → Behind → Behind
+abbrev pub with_code : (NestedCode → NestedCode) → After → After
 with_code f (Outside code) = Outside (f code)
-with_code f (InBlock code end behind) = InBlock (f code) end behind
-with_code f (InIf code turn other end behind) = InIf (f code) turn other end behind
+with_code f (InBlock code end after) = InBlock (f code) end after
+with_code f (InIf code turn other end after) = InIf (f code) turn other end after
 
 -- One more operator before the code. An `end` closes a block whose start is still to come, an `else` is in such a
 -- block, and an operator that opens a block takes the code up to the `end`. Operators of legacy exception handling
 -- have no tree.
-abbrev pub in_front : Role → Item → Behind → Option Behind
-in_front row.Plain x behind = Some (with_code (Plain x) behind)
-in_front Ends x behind = Some (InBlock Done x behind)
-in_front Turns x (InBlock code end behind) = Some (InIf Done x code end behind)
-in_front Opens x (InBlock code end behind) = Some (with_code (Block x code end) behind)
-in_front OpensIf x (InBlock code end behind) = Some (with_code (If x code end) behind)
-in_front OpensIf x (InIf code turn other end behind) = Some (with_code (IfElse x code turn other end) behind)
-in_front _ x behind = None
+abbrev pub in_front : Role → Item → After → Option After
+in_front row.Plain x after = Some (with_code (Plain x) after)
+in_front Ends x after = Some (InBlock Done x after)
+in_front Else x (InBlock code end after) = Some (InIf Done x code end after)
+in_front Opens x (InBlock code end after) = Some (with_code (Block x code end) after)
+in_front OpensIf x (InBlock code end after) = Some (with_code (If x code end) after)
+in_front OpensIf x (InIf code turn other end after) = Some (with_code (IfElse x code turn other end) after)
+in_front _ x after = None
 
 -- The code of a list, after the position before its first operator.
-abbrev pub behind_of : List Item → Option Behind
-behind_of [] = Some (Outside Done)
-behind_of (x ∷ xs) = behind_of xs >>= in_front (role x) x
+abbrev pub after_of : List Item → Option After
+after_of [] = Some (Outside Done)
+after_of (x ∷ xs) = after_of xs >>= in_front (role x) x
 
 -- The code, if the block of every `end` was found.
-abbrev pub whole : Behind → Option NestedCode
+abbrev pub whole : After → Option NestedCode
 whole (Outside code) = Some code
 whole _ = None
 
 -- The tree of a list of operators. None if they are not well nested or if there is legacy exception handling among
 -- them.
 abbrev pub nested_code_of : List Item → Option NestedCode
-nested_code_of xs = behind_of xs >>= whole
+nested_code_of xs = after_of xs >>= whole
 
 -- Each operator has the role that its position in the tree needs.
 abbrev pub IsFit : NestedCode → Type 0
@@ -104,7 +104,7 @@ IsFit (Plain x rest) = (role x ≡ row.Plain) × IsFit rest
 IsFit (Block x body end rest) = (role x ≡ Opens) × IsFit body × (role end ≡ Ends) × IsFit rest
 IsFit (If x body end rest) = (role x ≡ OpensIf) × IsFit body × (role end ≡ Ends) × IsFit rest
 IsFit (IfElse x body turn other end rest) =
-    (role x ≡ OpensIf) × IsFit body × (role turn ≡ Turns) × IsFit other × (role end ≡ Ends) × IsFit rest
+    (role x ≡ OpensIf) × IsFit body × (role turn ≡ Else) × IsFit other × (role end ≡ Ends) × IsFit rest
 
 -- ---- Laws
 

@@ -3,9 +3,9 @@
 use Rattle.std.specs.Prelude.{◌≡◌, ℕ, ◌+◌, ◌-◌, List, [], ◌∷◌, ◌++◌, map, flat_map, Bool, true, false, cond, length, Option, Some, None}
 use Rattle.wasmprinter_spec.specs.Grammar.{Placed}
 use Rattle.wasmprinter_spec.specs.Operator.{Operator}
-use Rattle.wasmprinter_spec.specs.Row.{Role, Opens, Turns, Ends}
+use Rattle.wasmprinter_spec.specs.Row.{Role, Opens, Else, Ends}
 use Rattle.wasmprinter_spec.specs.Table.{role_of}
-use Rattle.wasmprinter_spec.specs.Customs.Hints.{Hint, FunctionHints, hints_of, next_hints, hints_behind, next_hint, hint_behind}
+use Rattle.wasmprinter_spec.specs.Customs.Hints.{Hint, FunctionHints, hints_of, next_hints, hints_after, next_hint, hint_after}
 use Rattle.wasmprinter_spec.specs.Placed.{Table, ElementMode, Passive, Declared, Active, Items, Functions, Expressions, ElementEntry, PassiveData, ActiveData, Data, PlacedFunction, PlacedModule}
 use Rattle.wasmprinter_spec.specs.Module.{without_places, imported_types, func_import}
 use Rattle.wasmprinter_spec.specs.Options.{Options}
@@ -43,7 +43,7 @@ data_lists d = elim d.value.mode as (λ m. List Operators) [ PassiveData ↦ [] 
 abbrev pub constant_lists : Options → PlacedModule → List Operators
 constant_lists o m =
     flat_map init_list m.tables ++ map (λ g. g.value.init) m.globals ++ flat_map (element_lists o.skeleton) m.elements
-    ++ flat_map data_lists m.datas
+    ++ flat_map data_lists m.data_segments
 
 -- The lists of bodies. In a skeleton they are not printed.
 abbrev pub body_lists : Options → PlacedModule → List Operators
@@ -67,7 +67,7 @@ legacy_places o m = flat_map legacy_places_in (constant_lists o m) ++ flat_map l
 -- standard's tools put hints on `if` and on branches.)
 abbrev pub is_hintless : Role → Bool
 is_hintless Opens = true
-is_hintless Turns = true
+is_hintless Else = true
 is_hintless Ends = true
 is_hintless _ = false
 
@@ -81,13 +81,13 @@ abbrev pub misplaced_hints_in : ℕ → List (Placed Hint) → Operators → Lis
 misplaced_hints_in body hs [] = []
 misplaced_hints_in body hs (o ∷ os) =
     place_if_misplaced (role_of o.value.opcode) (next_hint (o.place - body) hs)
-    ++ misplaced_hints_in body (hint_behind (o.place - body) hs) os
+    ++ misplaced_hints_in body (hint_after (o.place - body) hs) os
 
 -- The places of misplaced hints in functions from index i on.
 abbrev pub misplaced_hints_from : List FunctionHints → ℕ → List PlacedFunction → List ℕ
 misplaced_hints_from es i [] = []
 misplaced_hints_from es i (f ∷ fs) =
-    misplaced_hints_in f.body.place (next_hints i es) f.body.value.operators ++ misplaced_hints_from (hints_behind i es) (i + 1) fs
+    misplaced_hints_in f.body.place (next_hints i es) f.body.value.operators ++ misplaced_hints_from (hints_after i es) (i + 1) fs
 
 -- The places of misplaced hints in all bodies that are printed.
 abbrev pub misplaced_hints : Options → PlacedModule → List ℕ

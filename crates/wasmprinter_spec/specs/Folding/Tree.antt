@@ -51,8 +51,8 @@ count (Snoc before head results held) = suc (count before + count held)
 -- The result of the search for operands.
 pub data OperandsOf (H : Type 0) : Type 0 where
   Fit : NodesOf H → NodesOf H → OperandsOf H  -- the nodes before the operands, and the operands
-  Passed : OperandsOf H  -- a sum exceeded the needed number first
-  Short : OperandsOf H  -- no run has the needed number
+  Overshot : OperandsOf H  -- a sum exceeded the needed number first
+  TooFew : OperandsOf H  -- no run has the needed number
 
 abbrev pub Operands : Type 0
 Operands = OperandsOf Head
@@ -60,33 +60,33 @@ Operands = OperandsOf Head
 -- One more operand at the end.
 abbrev pub with_last : {H : Type 0} → H → ℕ → NodesOf H → OperandsOf H → OperandsOf H
 with_last head results held (Fit before run) = Fit before (Snoc run head results held)
-with_last head results held Passed = Passed
-with_last head results held Short = Short
+with_last head results held Overshot = Overshot
+with_last head results held TooFew = TooFew
 
 -- The shortest run of last nodes whose results, with `sum` more, are exactly the number that is needed.
 abbrev pub operands_from : {H : Type 0} → ℕ → ℕ → NodesOf H → OperandsOf H
-operands_from wanted sum Nil = Short
+operands_from wanted sum Nil = TooFew
 operands_from wanted sum (Snoc before head results held) =
     let next : ℕ = saturating_sum sum results in
     if next == wanted then Fit before (Snoc Nil head results held) else
-    (if nat_lt wanted next then Passed else with_last head results held (operands_from wanted next before))
+    (if nat_lt wanted next then Overshot else with_last head results held (operands_from wanted next before))
 
 -- The operands of an operator. One that takes nothing has no operands, not even nodes without results.
 abbrev pub operand_search : {H : Type 0} → ℕ → NodesOf H → OperandsOf H
-operand_search zero f = Short
+operand_search zero f = TooFew
 operand_search (suc n) f = operands_from (suc n) 0 f
 
 -- An operator after a row of nodes, with the nodes that it takes. If a sum exceeded the number, results that were
 -- given together would have to be divided: the operator takes no node, and counts for `greatest` results, so that
 -- hardly any other operator takes it.
 abbrev pub with_operands : {H : Type 0} → NodesOf H → H → ℕ → OperandsOf H → NodesOf H
-with_operands f head gives (Fit before run) = Snoc before head gives run
-with_operands f head gives Passed = Snoc f head greatest Nil
-with_operands f head gives Short = Snoc f head gives Nil
+with_operands f head results (Fit before run) = Snoc before head results run
+with_operands f head results Overshot = Snoc f head greatest Nil
+with_operands f head results TooFew = Snoc f head results Nil
 
 -- An operator after a row of nodes.
 abbrev pub with_operator : Nodes → Item → Nodes
-with_operator f x = with_operands f (Of x) x.gives (operand_search x.takes f)
+with_operator f x = with_operands f (Of x) x.results (operand_search x.operands f)
 
 -- ---- The rule for operands, without the search
 
@@ -106,11 +106,11 @@ abbrev pub IsAnswer : {H : Type 0} → ℕ → ℕ → NodesOf H → OperandsOf 
 IsAnswer wanted sum f (Fit before run) =
     (f ≡ row_of_both before run) × (saturating_sum sum (results_of run) ≡ wanted) × IsFirst wanted sum run
 -- The results of a run exceed the number, and no shorter run reaches it.
-IsAnswer {H} wanted sum f Passed =
+IsAnswer {H} wanted sum f Overshot =
     (before : NodesOf H) × (run : NodesOf H) × (f ≡ row_of_both before run) × (wanted < saturating_sum sum (results_of run))
     × IsFirst wanted sum run
 -- No run reaches the number.
-IsAnswer {H} wanted sum f Short = (before run : NodesOf H) → f ≡ row_of_both before run → saturating_sum sum (results_of run) < wanted
+IsAnswer {H} wanted sum f TooFew = (before run : NodesOf H) → f ≡ row_of_both before run → saturating_sum sum (results_of run) < wanted
 
 -- The search ends as the rule says.
 abbrev pub OperandRule : Type 0
@@ -120,16 +120,16 @@ OperandRule = (wanted : ℕ) (f : Nodes) → 0 < wanted → IsAnswer wanted 0 f 
 
 -- The nodes of code after a row of nodes. A block gives its own results only. An `if` takes the last node before
 -- it, if there is one, and then has its cases.
-abbrev pub tree_behind : Nodes → NestedCode → Nodes
-tree_behind f Done = f
-tree_behind f (Plain x rest) = tree_behind (with_operator f x) rest
-tree_behind f (Block x body end rest) = tree_behind (Snoc f (Of x) x.gives (tree_behind Nil body)) rest
-tree_behind f (If x body end rest) = tree_behind (Snoc (front f) (Of x) x.gives (Snoc (last f) (ThenCase x) 0 (tree_behind Nil body))) rest
-tree_behind f (IfElse x body turn other end rest) =
-    tree_behind
-    (Snoc (front f) (Of x) x.gives (Snoc (Snoc (last f) (ThenCase x) 0 (tree_behind Nil body)) (ElseCase turn) 0 (tree_behind Nil other)))
+abbrev pub tree_after : Nodes → NestedCode → Nodes
+tree_after f Done = f
+tree_after f (Plain x rest) = tree_after (with_operator f x) rest
+tree_after f (Block x body end rest) = tree_after (Snoc f (Of x) x.results (tree_after Nil body)) rest
+tree_after f (If x body end rest) = tree_after (Snoc (front f) (Of x) x.results (Snoc (last f) (ThenCase x) 0 (tree_after Nil body))) rest
+tree_after f (IfElse x body turn other end rest) =
+    tree_after
+    (Snoc (front f) (Of x) x.results (Snoc (Snoc (last f) (ThenCase x) 0 (tree_after Nil body)) (ElseCase turn) 0 (tree_after Nil other)))
     rest
 
 -- The nodes of code.
 abbrev pub tree : NestedCode → Nodes
-tree code = tree_behind Nil code
+tree code = tree_after Nil code

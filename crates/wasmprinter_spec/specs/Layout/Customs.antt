@@ -6,11 +6,11 @@ use Rattle.std.specs.Fmt.{digits}
 use Rattle.wasmprinter_spec.specs.Grammar.{Placed}
 use Rattle.wasmprinter_spec.specs.Kinds.{Kind, TypeSection, ImportSection, FunctionSection, TableSection, MemorySection, TagSection, GlobalSection, ExportSection, StartSection, ElementSection, CodeSection, DataSection, same_kind}
 use Rattle.wasmprinter_spec.specs.Placed.{Custom, CustomEntry}
-use Rattle.wasmprinter_spec.specs.Customs.{CustomRole, Silent, Listed, Linked, Refused, Raw, Faulted, custom_role_of}
+use Rattle.wasmprinter_spec.specs.Customs.{CustomRole, Silent, Listed, Linked, Refused, Raw, Malformed, custom_role_of}
 use Rattle.wasmprinter_spec.specs.Customs.Producers.{Value, Field}
 use Rattle.wasmprinter_spec.specs.Customs.Dylink.{MemInfo, ExportInfo, ImportInfo, SubsectionContent, Sizes, Needed, Exports, Imports, Paths, Other, Subsection}
 use Rattle.wasmprinter_spec.specs.Options.{Answers}
-use Rattle.wasmprinter_spec.specs.Piece.{Piece, Break, Gap, Open, OpenGap, OpenPlain, OpenNote, OpenNoteGap, OpenRun, Shut, Word, Quoted, PlainEnding, Claimed}
+use Rattle.wasmprinter_spec.specs.Piece.{Piece, Break, Gap, Open, OpenGap, OpenPlain, OpenAnnotation, OpenAnnotationGap, OpenAnnotationWord, Shut, Word, Quoted, PlainLineComment, Claimed}
 use Rattle.wasmprinter_spec.specs.Layout.Groups.{close, has_break}
 use Rattle.wasmprinter_spec.specs.Layout.DataSegments.{shown_bytes}
 
@@ -43,20 +43,20 @@ unfoldable pub raw_pieces : Bool → CustomEntry → List Piece
 raw_pieces skeleton c =
     let s : Custom = c.section.value in
     Break (Some c.section.place) 1
-    ∷ (OpenNoteGap (codes "custom") ∷ (Quoted (chars s.name) ∷ (Gap ∷ (place_pieces c.behind
+    ∷ (OpenAnnotationGap (codes "custom") ∷ (Quoted (chars s.name) ∷ (Gap ∷ (place_pieces c.after
     ++ (Gap ∷ (shown_bytes skeleton s.bytes.value ++ (Shut ∷ [])))))))
 
 -- The line that reports the error, and the section as raw bytes.
 unfoldable pub faulted_pieces : Bool → CustomEntry → List Piece
 faulted_pieces skeleton c =
     Break (Some c.section.value.bytes.place) 1
-    ∷ (PlainEnding (codes "failed to parse custom section `" ++ (c.section.value.name ++ codes "`")) ∷ raw_pieces skeleton c)
+    ∷ (PlainLineComment (codes "failed to parse custom section `" ++ (c.section.value.name ++ codes "`")) ∷ raw_pieces skeleton c)
 
 -- ---- Lines of an annotation
 
 -- An annotation whose lines are nested like those of a group.
 abbrev pub note : List ℕ → List Piece → List Piece
-note w ps = OpenNote w ∷ (ps ++ close None 1 (has_break ps))
+note w ps = OpenAnnotation w ∷ (ps ++ close None 1 (has_break ps))
 
 -- A space and a quoted string.
 abbrev pub gap_quoted : List ℕ → List Piece
@@ -71,7 +71,7 @@ gap_quoted_list (s ∷ ss) = gap_quoted s ++ gap_quoted_list ss
 unfoldable pub values_pieces : List ℕ → List (Placed Value) → List Piece
 values_pieces field [] = []
 values_pieces field (v ∷ vs) =
-    Break (Some v.place) 2 ∷ (OpenRun field ∷ (gap_quoted v.value.name ++ (gap_quoted v.value.version ++ (Shut ∷ values_pieces field vs))))
+    Break (Some v.place) 2 ∷ (OpenAnnotationWord field ∷ (gap_quoted v.value.name ++ (gap_quoted v.value.version ++ (Shut ∷ values_pieces field vs))))
 
 unfoldable pub fields_pieces : List Field → List Piece
 fields_pieces [] = []
@@ -153,7 +153,7 @@ role_part skeleton claim c (Listed fields) =
 role_part skeleton claim c (Linked ss) = Shown (claim ∷ (Break (Some c.section.place) 1 ∷ note (codes "dylink.0") (subsections_pieces ss)))
 role_part skeleton claim c (Refused id) = Stops (claim ∷ []) id
 role_part skeleton claim c Raw = Shown (claim ∷ raw_pieces skeleton c)
-role_part skeleton claim c Faulted = Shown (claim ∷ faulted_pieces skeleton c)
+role_part skeleton claim c Malformed = Shown (claim ∷ faulted_pieces skeleton c)
 
 -- A custom section, with the answer to its claim. A claimed section is neither printed nor checked.
 abbrev pub custom_part : Bool → Bool → CustomEntry → Part
@@ -172,7 +172,7 @@ same_place _ _ = false
 abbrev pub parts_at : Bool → Answers → Option Kind → ℕ → List CustomEntry → List Part
 parts_at skeleton answers place n [] = []
 parts_at skeleton answers place n (c ∷ cs) =
-    if same_place c.behind place then custom_part skeleton (answers n) c ∷ parts_at skeleton answers place (n + 1) cs
+    if same_place c.after place then custom_part skeleton (answers n) c ∷ parts_at skeleton answers place (n + 1) cs
     else parts_at skeleton answers place (n + 1) cs
 
 -- ---- Up to a refusal

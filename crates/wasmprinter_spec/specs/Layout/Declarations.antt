@@ -13,12 +13,12 @@ use Rattle.wasmprinter_spec.specs.Layout.Types.{type_use_pieces}
 -- How operators are folded: whether their text has ANSI escape sequences, and the arities of their opcodes and of
 -- the items that they name in the module, in a function with the given number of results.
 pub record Folding : Type 0 where
-  pub paints : Bool
+  pub color : Bool
   pub signatures : Option ℕ → Signatures
 
 -- How operators are folded, if the options ask for folding.
 abbrev pub folding_of : Options → PlacedModule → Option Folding
-folding_of o m = cond o.folds (Some (record { paints = o.paints; signatures = signatures_within m })) None
+folding_of o m = cond o.folds (Some (record { color = o.color; signatures = signatures_within m })) None
 
 -- The module's types and identifiers, the function to which the locals and labels of an expression belong, and how
 -- operators are folded, if they are.

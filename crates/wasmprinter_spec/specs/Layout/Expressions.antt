@@ -5,7 +5,7 @@ use Rattle.std.specs.Prelude.{ℕ, ◌+◌, List, [], ◌∷◌, ◌++◌, Optio
 use Rattle.wasmprinter_spec.specs.Grammar.{Placed}
 use Rattle.wasmprinter_spec.specs.Types.{signature_at}
 use Rattle.wasmprinter_spec.specs.Operator.{Operator}
-use Rattle.wasmprinter_spec.specs.Piece.{Piece, Gap, OpenBare, Word}
+use Rattle.wasmprinter_spec.specs.Piece.{Piece, Gap, OpenUnnamed, Word}
 use Rattle.wasmprinter_spec.specs.Layout.Groups.{close, has_break}
 use Rattle.wasmprinter_spec.specs.Layout.Operators.{InLine, Setting, expression_pieces}
 use Rattle.wasmprinter_spec.specs.Layout.Declarations.{Scope, Folding}
@@ -41,4 +41,4 @@ group_parts s nesting w os = word_unless_one w os ++ held_pieces s nesting os
 -- An expression in a group at this nesting depth.
 unfoldable pub constant_group : Scope → ℕ → List ℕ → List (Placed Operator) → List Piece
 constant_group s nesting w os =
-    let ps : List Piece = group_parts s (nesting + 1) w os in OpenBare ∷ (ps ++ close None nesting (has_break ps))
+    let ps : List Piece = group_parts s (nesting + 1) w os in OpenUnnamed ∷ (ps ++ close None nesting (has_break ps))

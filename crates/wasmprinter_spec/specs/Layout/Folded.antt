@@ -11,11 +11,11 @@ use Rattle.wasmprinter_spec.specs.Nesting.{Nests, Sequence}
 use Rattle.wasmprinter_spec.specs.Instructions.{roles}
 use Rattle.wasmprinter_spec.specs.Labels as labels
 use Rattle.wasmprinter_spec.specs.Labels.{labels_after, count_after, labels_outside, labels_inside}
-use Rattle.wasmprinter_spec.specs.Customs.Hints.{Hint, next_hint, hint_behind}
+use Rattle.wasmprinter_spec.specs.Customs.Hints.{Hint, next_hint, hint_after}
 use Rattle.wasmprinter_spec.specs.Call.{Call, Text, text_of}
-use Rattle.wasmprinter_spec.specs.Coloured.{coloured_text}
+use Rattle.wasmprinter_spec.specs.Colored.{colored_text}
 use Rattle.wasmprinter_spec.specs.Options.{Options, defaults}
-use Rattle.wasmprinter_spec.specs.Piece.{Piece, Break, Word, OpenPlain, Shut, HintNote, text, all_calls}
+use Rattle.wasmprinter_spec.specs.Piece.{Piece, Break, Word, OpenPlain, Shut, HintAnnotation, text, all_calls}
 use Rattle.wasmprinter_spec.specs.Layout.Declarations.{Folding}
 use Rattle.wasmprinter_spec.specs.Layout.Operators.{Form, Setting, pieces_by, before_word}
 use Rattle.wasmprinter_spec.specs.Folding.Arities.{Signatures, OperandCounts, counts_of, label_of_block}
@@ -36,8 +36,8 @@ item s signatures hint own xs ls o =
           Word (word_of o.value.opcode)
           ∷ pieces_by s (labels_inside role xs) (labels_outside role xs) own (shape_of o.value.opcode) o.value.immediates;
       hint = hint;
-      takes = counts.takes;
-      gives = counts.gives;
+      operands = counts.operands;
+      results = counts.results;
     }
 
 -- A list of operators. n blocks were opened before it, the labels `xs` are open, `ls` are the numbers of values
@@ -50,7 +50,7 @@ items s signatures hs n xs ls (o ∷ os) =
     let own : labels.Label = s.names.labels s.function n (length xs) in
     let offset : ℕ = o.place - s.body in
     item s signatures (next_hint offset hs) own xs ls o
-    ∷ items s signatures (hint_behind offset hs) (count_after role n) (labels_after role own xs)
+    ∷ items s signatures (hint_after offset hs) (count_after role n) (labels_after role own xs)
     (labels_after role (label_of_block signatures o.value) ls) os
 
 -- ---- Nodes
@@ -68,9 +68,9 @@ head_calls o (ThenCase x) = Text (codes "then") ∷ []
 head_calls o (ElseCase x) = Text (codes "else") ∷ []
 
 -- The text of these calls, with the ANSI escape sequences of their styles or without.
-abbrev pub painted_text : Bool → List Call → List ℕ
-painted_text true cs = coloured_text cs
-painted_text false cs = text_of cs
+abbrev pub text_in_color : Bool → List Call → List ℕ
+text_in_color true cs = colored_text cs
+text_in_color false cs = text_of cs
 
 -- The text after the parenthesis of a node, without styles.
 abbrev pub head_text : Options → Head → List ℕ
@@ -97,26 +97,26 @@ comment_end false s place nesting = []
 -- The hint before the node of its operator. It begins as a node would, with the place of the node.
 abbrev pub node_hint : Options → Form → Bool → ℕ → ℕ → Option (Placed Hint) → List Piece
 node_hint o form first place nesting None = []
-node_hint o form first place nesting (Some h) = before_word form first place nesting ++ Word (text o (HintNote h.value.taken)) ∷ []
+node_hint o form first place nesting (Some h) = before_word form first place nesting ++ Word (text o (HintAnnotation h.value.taken)) ∷ []
 
 -- Nodes in a row, at this nesting depth. `first` says that they are the first on their line. The nodes inside a
 -- node are one level deeper.
 unfoldable pub node_pieces : Options → Bool → Form → Bool → ℕ → Nodes → List Piece
-node_pieces o paints form first nesting Nil = []
-node_pieces o paints form first nesting (Snoc before head results held) =
+node_pieces o color form first nesting Nil = []
+node_pieces o color form first nesting (Snoc before head results held) =
     let place : ℕ = head_place head in
     let leads : Bool = first && is_nil before in
-    node_pieces o paints form first nesting before
+    node_pieces o color form first nesting before
     ++ node_hint o form leads place nesting (head_hint head)
     ++ before_word form (leads && is_none (head_hint head)) place nesting
-    ++ OpenPlain (painted_text paints (head_calls o head))
-    ∷ (comment_end (is_nil held) (head_text o head) place nesting ++ node_pieces o paints form false (nesting + 1) held ++ (Shut ∷ []))
+    ++ OpenPlain (text_in_color color (head_calls o head))
+    ∷ (comment_end (is_nil held) (head_text o head) place nesting ++ node_pieces o color form false (nesting + 1) held ++ (Shut ∷ []))
 
 -- A list of operators, with no label open. None if the operators are not well nested or if there is legacy
 -- exception handling among them, which is not folded.
 unfoldable pub folded_pieces : Options → Bool → Setting → Signatures → List (Placed Hint) → List (Placed Operator) → Option (List Piece)
-folded_pieces o paints s signatures hs os =
-    option_map (λ code. node_pieces o paints s.form true s.nesting (tree code)) (nested_code_of (items s signatures hs 0 [] [] os))
+folded_pieces o color s signatures hs os =
+    option_map (λ code. node_pieces o color s.form true s.nesting (tree code)) (nested_code_of (items s signatures hs 0 [] [] os))
 
 -- The pieces, or nothing if there is no tree: then the module is refused.
 abbrev pub if_folded : Option (List Piece) → List Piece
@@ -126,18 +126,18 @@ if_folded (Some ps) = ps
 -- A list of operators in a module, in a function with `own` results. (The words and immediates of an operator are
 -- in one line, which is the same for all options.)
 abbrev pub folded_list : Folding → Option ℕ → Setting → List (Placed Hint) → List (Placed Operator) → List Piece
-folded_list f own s hs os = if_folded (folded_pieces defaults f.paints s (f.signatures own) hs os)
+folded_list f own s hs os = if_folded (folded_pieces defaults f.color s (f.signatures own) hs os)
 
 -- ---- Laws
 
 -- A list is folded if it is well nested and has no operator of legacy exception handling.
 abbrev pub FoldedRule : Setting → Signatures → Type 0
 FoldedRule s signatures =
-    (o : Options) (paints : Bool) (hs : List (Placed Hint)) (os : List (Placed Operator))
-    → Nests Sequence (roles os) → AreWithoutTry (roles os) → (ps : List Piece) × (folded_pieces o paints s signatures hs os ≡ Some ps)
+    (o : Options) (color : Bool) (hs : List (Placed Hint)) (os : List (Placed Operator))
+    → Nests Sequence (roles os) → AreWithoutTry (roles os) → (ps : List Piece) × (folded_pieces o color s signatures hs os ≡ Some ps)
 
 -- A list that is folded is well nested and has no operator of legacy exception handling.
 abbrev pub FoldingRule : Setting → Signatures → Type 0
 FoldingRule s signatures =
-    (o : Options) (paints : Bool) (hs : List (Placed Hint)) (os : List (Placed Operator)) (ps : List Piece)
-    → folded_pieces o paints s signatures hs os ≡ Some ps → Nests Sequence (roles os) × AreWithoutTry (roles os)
+    (o : Options) (color : Bool) (hs : List (Placed Hint)) (os : List (Placed Operator)) (ps : List Piece)
+    → folded_pieces o color s signatures hs os ≡ Some ps → Nests Sequence (roles os) × AreWithoutTry (roles os)

@@ -2,26 +2,26 @@
 -- indices. If the identifier had to differ from the given name, an annotation `(@name "..")` has the name.
 use Rattle.std.specs.Prelude.{ℕ, List, [], ◌∷◌, ◌++◌, cond, chars, bytes_eq, Option, Some, None}
 use Rattle.wasmprinter_spec.specs.Labels.{Named}
-use Rattle.wasmprinter_spec.specs.Piece.{Piece, Gap, Number, NumberRemark, BeginName, EndStyle, Identifier, NameNote}
+use Rattle.wasmprinter_spec.specs.Piece.{Piece, Gap, Number, IndexComment, BeginName, EndStyle, Identifier, NameAnnotation}
 
 -- The annotation with the given name, if the name is not the identifier.
 abbrev pub given_pieces : Option (List ℕ) → List ℕ → List Piece
 given_pieces None content = []
-given_pieces (Some s) content = cond (bytes_eq s content) [] (Gap ∷ (NameNote (chars s) ∷ []))
+given_pieces (Some s) content = cond (bytes_eq s content) [] (Gap ∷ (NameAnnotation (chars s) ∷ []))
 
 -- An identifier, and the annotation with the given name.
-unfoldable pub mark_pieces : Named → List Piece
-mark_pieces n = Identifier (chars n.content) ∷ given_pieces n.given n.content
+unfoldable pub id_and_name_pieces : Named → List Piece
+id_and_name_pieces n = Identifier (chars n.content) ∷ given_pieces n.given n.content
 
 -- A space, the identifier and the annotation, if there is an identifier.
-unfoldable pub leading_mark_pieces : Option Named → List Piece
-leading_mark_pieces None = []
-leading_mark_pieces (Some n) = Gap ∷ mark_pieces n
+unfoldable pub leading_id_and_name_pieces : Option Named → List Piece
+leading_id_and_name_pieces None = []
+leading_id_and_name_pieces (Some n) = Gap ∷ id_and_name_pieces n
 
 -- The identifier, the annotation and a space, if there is an identifier.
-unfoldable pub mark_gap_pieces : Option Named → List Piece
-mark_gap_pieces None = []
-mark_gap_pieces (Some n) = mark_pieces n ++ (Gap ∷ [])
+unfoldable pub id_and_name_gap_pieces : Option Named → List Piece
+id_and_name_gap_pieces None = []
+id_and_name_gap_pieces (Some n) = id_and_name_pieces n ++ (Gap ∷ [])
 
 -- The identifier and a space, if there is one.
 unfoldable pub identifier_gap_pieces : Option Named → List Piece
@@ -30,7 +30,7 @@ identifier_gap_pieces (Some n) = Identifier (chars n.content) ∷ (Gap ∷ [])
 
 -- The declaration of an item, with its index.
 unfoldable pub declaration_pieces : Option Named → ℕ → List Piece
-declaration_pieces n i = BeginName ∷ (mark_gap_pieces n ++ (NumberRemark i ∷ (EndStyle ∷ [])))
+declaration_pieces n i = BeginName ∷ (id_and_name_gap_pieces n ++ (IndexComment i ∷ (EndStyle ∷ [])))
 
 -- An index: the identifier of the item, or else the number.
 unfoldable pub index_pieces : Option Named → ℕ → List Piece

@@ -30,12 +30,12 @@ number_of (MemoryExtern t) n = n.memories
 number_of (GlobalExtern t) n = n.globals
 number_of (TagExtern i) n = n.tags
 
-abbrev pub numbers_behind : ExternType → Numbers → Numbers
-numbers_behind (FuncExtern i) n = record n { functions = n.functions + 1 }
-numbers_behind (TableExtern t) n = record n { tables = n.tables + 1 }
-numbers_behind (MemoryExtern t) n = record n { memories = n.memories + 1 }
-numbers_behind (GlobalExtern t) n = record n { globals = n.globals + 1 }
-numbers_behind (TagExtern i) n = record n { tags = n.tags + 1 }
+abbrev pub numbers_after : ExternType → Numbers → Numbers
+numbers_after (FuncExtern i) n = record n { functions = n.functions + 1 }
+numbers_after (TableExtern t) n = record n { tables = n.tables + 1 }
+numbers_after (MemoryExtern t) n = record n { memories = n.memories + 1 }
+numbers_after (GlobalExtern t) n = record n { globals = n.globals + 1 }
+numbers_after (TagExtern i) n = record n { tags = n.tags + 1 }
 
 -- The declaration and type of an import with index n. Parameters of functions have identifiers, those of tags do
 -- not.
@@ -62,4 +62,4 @@ import_pieces s n i = Break (Some i.place) 1 ∷ line_group_gap (codes "import")
 
 unfoldable pub imports_pieces : Scope → Numbers → List (Placed Import) → List Piece
 imports_pieces s n [] = []
-imports_pieces s n (i ∷ is) = import_pieces s (number_of i.value.type n) i ++ imports_pieces s (numbers_behind i.value.type n) is
+imports_pieces s n (i ∷ is) = import_pieces s (number_of i.value.type n) i ++ imports_pieces s (numbers_after i.value.type n) is

@@ -9,15 +9,15 @@ use Rattle.wasmprinter_spec.specs.Types.{FuncType, ref_type, ValType}
 use Rattle.wasmprinter_spec.specs.Operator.{BlockType, Empty, Value, OfType, Catch, One, OneRef, All, AllRef, MemArg, Immediates, Block, TryTable, Index, Indices, BranchTable, Types, Heap, Cast, Memory, MemoryLane, Lane, I32, I64, F32, F64, Bytes, Operator}
 use Rattle.wasmprinter_spec.specs.Float.{single, double}
 use Rattle.wasmprinter_spec.specs.Row as row
-use Rattle.wasmprinter_spec.specs.Row.{Space, Label, Shape, BlockShape, TryTableShape, IndexShape, DefaultIndexShape, PairShape, FieldShape, CountShape, CallShape, SegmentShape, CopyShape, BranchTableShape, SelectShape, HeapShape, RefShape, CastShape, MemoryShape, MemoryLaneShape, LaneShape, I32Shape, I64Shape, F32Shape, F64Shape, VectorShape, LanesShape, Role, Turns, Catches, CatchesAll, Delegates, Ends}
+use Rattle.wasmprinter_spec.specs.Row.{Space, Label, Shape, BlockShape, TryTableShape, IndexShape, DefaultIndexShape, PairShape, FieldShape, CountShape, CallShape, SegmentShape, CopyShape, BranchTableShape, SelectShape, HeapShape, RefShape, CastShape, MemoryShape, MemoryLaneShape, LaneShape, I32Shape, I64Shape, F32Shape, F64Shape, VectorShape, LanesShape, Role, Else, Catches, CatchesAll, Delegates, Ends}
 use Rattle.wasmprinter_spec.specs.Table.{word_of, role_of, shape_of}
 use Rattle.wasmprinter_spec.specs.Labels as labels
 use Rattle.wasmprinter_spec.specs.Names.{Names, in_function}
-use Rattle.wasmprinter_spec.specs.Customs.Hints.{Hint, next_hint, hint_behind}
+use Rattle.wasmprinter_spec.specs.Customs.Hints.{Hint, next_hint, hint_after}
 use Rattle.wasmprinter_spec.specs.Labels.{Named, is_hidden, Target, Around, Own, Nothing, target, labels_after, count_after, labels_outside, labels_inside}
-use Rattle.wasmprinter_spec.specs.Piece.{Piece, Break, Gap, Word, GapTypeWord, Number, Constant, GapLiterals, Float, Remark, Ending, HintNote}
+use Rattle.wasmprinter_spec.specs.Piece.{Piece, Break, Gap, Word, GapTypeWord, Number, Constant, GapLiterals, Float, BlockComment, LineComment, HintAnnotation}
 use Rattle.wasmprinter_spec.specs.Layout.Groups.{line_group, line_group_gap}
-use Rattle.wasmprinter_spec.specs.Layout.Identifiers.{mark_pieces, leading_mark_pieces, index_pieces}
+use Rattle.wasmprinter_spec.specs.Layout.Identifiers.{id_and_name_pieces, leading_id_and_name_pieces, index_pieces}
 use Rattle.wasmprinter_spec.specs.Layout.ValTypes.{type_index_pieces, heap_pieces, ref_pieces, val_pieces, type_list}
 use Rattle.wasmprinter_spec.specs.Layout.Types.{type_use_pieces}
 
@@ -46,7 +46,7 @@ named_index s space n = index_pieces (in_function s.names s.function space n) n
 
 -- A label's identifier, which comes from a given name or is synthesized.
 abbrev pub label_name_pieces : Option (List ℕ) → ℕ → Named → List Piece
-label_name_pieces (Some s) l n = mark_pieces n
+label_name_pieces (Some s) l n = id_and_name_pieces n
 label_name_pieces None l n = index_pieces (Some n) l
 
 -- The identifier of label l, or its number if the identifier is shadowed.
@@ -57,9 +57,9 @@ named_pieces l n false = label_name_pieces n.given l n
 -- The label l, where d blocks are open.
 abbrev pub target_pieces : List labels.Label → ℕ → ℕ → Target → List Piece
 target_pieces inner d l (Around (Some n) further) = named_pieces l n (is_hidden n further || is_hidden n inner)
-target_pieces inner d l (Around None further) = Number l ∷ (Remark true (64 ∷ decimal (d - l)) ∷ [])
+target_pieces inner d l (Around None further) = Number l ∷ (BlockComment true (64 ∷ decimal (d - l)) ∷ [])
 target_pieces inner d l Own = Number l ∷ []
-target_pieces inner d l Nothing = Word (decimal l) ∷ (Remark false (codes " INVALID ") ∷ [])
+target_pieces inner d l Nothing = Word (decimal l) ∷ (BlockComment false (codes " INVALID ") ∷ [])
 
 unfoldable pub label_pieces : List labels.Label → List labels.Label → ℕ → List Piece
 label_pieces inner xs l = Gap ∷ target_pieces inner (length xs) l (target l xs)
@@ -73,8 +73,8 @@ labels_pieces inner xs (m ∷ ms) l = label_pieces inner xs m ++ labels_pieces i
 -- The comment of a block whose label has no identifier. Blocks are counted from 1.
 unfoldable pub ending_pieces : Form → labels.Label → ℕ → List Piece
 ending_pieces form (Some n) d = []
-ending_pieces OverLines None d = Gap ∷ (Ending (codes "label = @" ++ decimal d) ∷ [])
-ending_pieces InLine None d = Gap ∷ (Remark true (codes " label = @" ++ (decimal d ++ codes " ")) ∷ [])
+ending_pieces OverLines None d = Gap ∷ (LineComment (codes "label = @" ++ decimal d) ∷ [])
+ending_pieces InLine None d = Gap ∷ (BlockComment true (codes " label = @" ++ (decimal d ++ codes " ")) ∷ [])
 
 unfoldable pub block_pieces : Setting → BlockType → List Piece
 block_pieces s Empty = []
@@ -159,9 +159,9 @@ vector_pieces bs = GapTypeWord (codes "i32x4") ∷ (GapLiterals (hex_words bs) �
 -- The immediates of each shape, a line for each. Immediates that do not have the shape are not printed.
 unfoldable pub immediate_pieces : Setting → List labels.Label → List labels.Label → labels.Label → Shape → Immediates → List Piece
 immediate_pieces s inner xs own BlockShape (Block t) =
-    leading_mark_pieces own ++ (block_pieces s t ++ ending_pieces s.form own (suc (length xs)))
+    leading_id_and_name_pieces own ++ (block_pieces s t ++ ending_pieces s.form own (suc (length xs)))
 immediate_pieces s inner xs own TryTableShape (TryTable t cs) =
-    leading_mark_pieces own ++ (block_pieces s t ++ (catches_pieces s inner xs cs ++ ending_pieces s.form own (suc (length xs))))
+    leading_id_and_name_pieces own ++ (block_pieces s t ++ (catches_pieces s inner xs cs ++ ending_pieces s.form own (suc (length xs))))
 immediate_pieces s inner xs own (IndexShape space) (Index n) = operand_pieces s inner xs space n
 immediate_pieces s inner xs own (DefaultIndexShape space) (Index n) = default_index_pieces s space n
 immediate_pieces s inner xs own (PairShape first second) (Indices m n) = two_index_pieces s first second m n
@@ -197,7 +197,7 @@ pieces_by s inner xs own (Some shape) i = immediate_pieces s inner xs own shape 
 -- The nesting depth of an operator in d blocks. An operator that ends a block or a part of it is one level further
 -- out.
 abbrev pub level : Role → ℕ → ℕ
-level Turns d = d - 1
+level Else d = d - 1
 level Catches d = d - 1
 level CatchesAll d = d - 1
 level Delegates d = d - 1
@@ -220,7 +220,7 @@ operator_pieces s first own xs o =
 -- A hint on a line of its own, at the nesting depth of the operators of the block.
 abbrev pub hint_pieces : ℕ → Option (Placed Hint) → List Piece
 hint_pieces nesting None = []
-hint_pieces nesting (Some h) = Break (Some h.place) nesting ∷ (HintNote h.value.taken ∷ [])
+hint_pieces nesting (Some h) = Break (Some h.place) nesting ∷ (HintAnnotation h.value.taken ∷ [])
 
 -- A list of operators. n blocks were opened before it, the labels `xs` are open, and the hints `hs` are not yet
 -- printed.
@@ -232,7 +232,7 @@ operators_pieces s hs first n xs (o ∷ os) =
     let offset : ℕ = o.place - s.body in
     hint_pieces (s.nesting + length xs) (next_hint offset hs)
     ++ (operator_pieces s first own xs o
-    ++ operators_pieces s (hint_behind offset hs) false (count_after role n) (labels_after role own xs) os)
+    ++ operators_pieces s (hint_after offset hs) false (count_after role n) (labels_after role own xs) os)
 
 -- A list of operators, with no label open and without hints.
 unfoldable pub expression_pieces : Setting → List (Placed Operator) → List Piece

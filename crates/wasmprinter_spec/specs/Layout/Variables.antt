@@ -6,7 +6,7 @@ use Rattle.wasmprinter_spec.specs.Labels.{Named}
 use Rattle.wasmprinter_spec.specs.Names.{Names}
 use Rattle.wasmprinter_spec.specs.Piece.{Piece, Gap}
 use Rattle.wasmprinter_spec.specs.Layout.Groups.{line_group}
-use Rattle.wasmprinter_spec.specs.Layout.Identifiers.{mark_gap_pieces}
+use Rattle.wasmprinter_spec.specs.Layout.Identifiers.{id_and_name_gap_pieces}
 use Rattle.wasmprinter_spec.specs.Layout.ValTypes.{val_pieces, type_list}
 
 -- A group of variables: one with an identifier, or several without.
@@ -27,7 +27,7 @@ variable_groups named k (t ∷ ts) = with_variable (named k) t (variable_groups 
 
 module _ (names : Names) where
   unfoldable pub variables_pieces : List ℕ → Variables → List Piece
-  variables_pieces w (Alone n t) = line_group w (Gap ∷ (mark_gap_pieces (Some n) ++ val_pieces names t))
+  variables_pieces w (Alone n t) = line_group w (Gap ∷ (id_and_name_gap_pieces (Some n) ++ val_pieces names t))
   variables_pieces w (Together ts) = line_group w (type_list names ts)
 
   -- Groups, with a space before each.

@@ -1,7 +1,7 @@
 -- Control operators (section 5.4 of the standard, "Control Instructions"; `try`, `catch`, `rethrow`, `delegate`
 -- and `catch_all` are those of the legacy exception handling proposal).
 use Rattle.std.specs.Prelude.{List, [], ◌∷◌}
-use Rattle.wasmprinter_spec.specs.Row.{Row, Types, Func, Tag, Label, NoneShape, BlockShape, TryTableShape, IndexShape, CallShape, BranchTableShape, CastShape, Fixed, OfCall, OfReturnCall, OfIndirectCall, OfReturnIndirectCall, OfThrow, OfReturn, OfBranch, OfBranchIf, OfBranchTable, OfBranchOnNull, OfBranchOnNonNull, OfBranchOnCast, OfBlock, Opens, OpensIf, OpensTry, Turns, Catches, CatchesAll, Delegates, Ends}
+use Rattle.wasmprinter_spec.specs.Row.{Row, Types, Func, Tag, Label, NoneShape, BlockShape, TryTableShape, IndexShape, CallShape, BranchTableShape, CastShape, Fixed, OfCall, OfReturnCall, OfIndirectCall, OfReturnIndirectCall, OfThrow, OfReturn, OfBranch, OfBranchIf, OfBranchTable, OfBranchOnNull, OfBranchOnNonNull, OfBranchOnCast, OfBlock, Opens, OpensIf, OpensTry, Else, Catches, CatchesAll, Delegates, Ends}
 use Rattle.wasmprinter_spec.specs.Table.Rows.{control, prefixed_row, plain}
 
 unfoldable pub control_rows : List Row
@@ -11,7 +11,7 @@ control_rows =
     control 0x02 "block" BlockShape OfBlock Opens ∷
     control 0x03 "loop" BlockShape OfBlock Opens ∷
     control 0x04 "if" BlockShape OfBlock OpensIf ∷
-    control 0x05 "else" NoneShape OfBlock Turns ∷
+    control 0x05 "else" NoneShape OfBlock Else ∷
     control 0x06 "try" BlockShape OfBlock OpensTry ∷
     control 0x07 "catch" (IndexShape Tag) OfBlock Catches ∷
     plain 0x08 "throw" (IndexShape Tag) OfThrow ∷

@@ -31,5 +31,5 @@ custom_place f = None
 
 abbrev pub read_custom : Forest → Option RawCustom
 read_custom (String n (Group p f)) =
-    if is_utf8 n then (custom_place p >>= λ k. strings f >>= λ bs. Some (record { behind = k; name = n; bytes = bs })) else None
+    if is_utf8 n then (custom_place p >>= λ k. strings f >>= λ bs. Some (record { after = k; name = n; bytes = bs })) else None
 read_custom f = None

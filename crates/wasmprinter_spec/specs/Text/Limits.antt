@@ -16,10 +16,10 @@ with_max min (Some max) f rest = (limits_of min (Some max), rest)
 with_max min None f rest = (limits_of min None, f)
 
 -- Limits with this minimum size, a maximum size if a number follows, and the items after it.
-abbrev pub max_behind : ℕ → Forest → Limits × Forest
-max_behind min (Word w f) = with_max min (u64 w) (Word w f) f
-max_behind min f = (limits_of min None, f)
+abbrev pub max_after : ℕ → Forest → Limits × Forest
+max_after min (Word w f) = with_max min (u64 w) (Word w f) f
+max_after min f = (limits_of min None, f)
 
 abbrev pub limits : Forest → Option (Limits × Forest)
-limits (Word w f) = u64 w >>= λ min. Some (max_behind min f)
+limits (Word w f) = u64 w >>= λ min. Some (max_after min f)
 limits f = None

@@ -45,8 +45,8 @@ last_apart (l ∷ m ∷ ls) = option_map (λ x. (l ∷ x.0, x.1)) (last_apart (m
 abbrev pub id_of : Forest → Option (List ℕ)
 id_of f = (identifier_in_front f).0
 
-abbrev pub behind_id : Forest → Forest
-behind_id f = (identifier_in_front f).1
+abbrev pub after_id : Forest → Forest
+after_id f = (identifier_in_front f).1
 
 -- ---- Block types
 
@@ -82,14 +82,14 @@ first_alone (Word w f) = Word w End
 first_alone (Name s f) = Name s End
 first_alone f = f
 
-abbrev pub behind_first : Forest → Forest
-behind_first (Word w f) = f
-behind_first (Name s f) = f
-behind_first f = f
+abbrev pub after_first : Forest → Forest
+after_first (Word w f) = f
+after_first (Name s f) = f
+after_first f = f
 
 abbrev pub tag_clause : (ℕ → ℕ → Catch) → Context → Identifiers → Forest → Option Catch
 tag_clause make c ids f =
-    index_in c.spaces.tags (first_alone f) >>= λ t. label ids (behind_first f) >>= λ l. Some (make t l)
+    index_in c.spaces.tags (first_alone f) >>= λ t. label ids (after_first f) >>= λ l. Some (make t l)
 
 abbrev pub clause : Context → Identifiers → List ℕ → Forest → Option Catch
 clause c ids w f =
@@ -180,21 +180,21 @@ two_types l _ = None
 -- A label and two reference types.
 abbrev pub cast_parts : Context → Identifiers → Forest → Option Immediates
 cast_parts c ids f =
-    label ids (first_alone f) >>= λ l. all_items ref_named (ref_group c.spaces.types) (behind_first f) >>= λ rs. two_types l rs
+    label ids (first_alone f) >>= λ l. all_items ref_named (ref_group c.spaces.types) (after_first f) >>= λ rs. two_types l rs
 
 -- ---- Memory operands (section 6.5 of the standard, "Memory Instructions")
 
 -- The characters after this prefix.
-abbrev pub behind_prefix : List ℕ → List ℕ → Option (List ℕ)
-behind_prefix [] w = Some w
-behind_prefix (p ∷ ps) [] = None
-behind_prefix (p ∷ ps) (b ∷ w) = if b == p then behind_prefix ps w else None
+abbrev pub after_prefix : List ℕ → List ℕ → Option (List ℕ)
+after_prefix [] w = Some w
+after_prefix (p ∷ ps) [] = None
+after_prefix (p ∷ ps) (b ∷ w) = if b == p then after_prefix ps w else None
 
 abbrev pub offset_word : List ℕ → Option (List ℕ)
-offset_word w = behind_prefix (codes "offset=") w
+offset_word w = after_prefix (codes "offset=") w
 
 abbrev pub align_word : List ℕ → Option (List ℕ)
-align_word w = behind_prefix (codes "align=") w
+align_word w = after_prefix (codes "align=") w
 
 -- The exponent of the alignment, the natural one if it is absent.
 abbrev pub alignment : ℕ → Forest → Option ℕ
@@ -273,8 +273,8 @@ lanes f = all_items u8 no_group f >>= sixteen
 abbrev pub immediates : Context → Identifiers → Shape → Forest → Option Immediates
 immediates c ids NoneShape f = no_immediates f
 immediates c ids FenceShape f = no_immediates f
-immediates c ids BlockShape f = block_type c (behind_id f) >>= block_alone
-immediates c ids TryTableShape f = block_type c (behind_id f) >>= λ x. clauses c ids x.1 >>= λ cs. Some (TryTable x.0 cs)
+immediates c ids BlockShape f = block_type c (after_id f) >>= block_alone
+immediates c ids TryTableShape f = block_type c (after_id f) >>= λ x. clauses c ids x.1 >>= λ cs. Some (TryTable x.0 cs)
 immediates c ids (IndexShape space) f = option_map Index (index c ids space f)
 immediates c ids (DefaultIndexShape space) f = option_map Index (default_index c space f)
 immediates c ids (PairShape first second) f = option_map pair (two_indices c first second f)
@@ -305,13 +305,13 @@ labels_in_sight Delegates (i ∷ is) = is
 labels_in_sight _ is = is
 
 -- The open labels after an operator.
-abbrev pub open_behind : Role → Option (List ℕ) → Identifiers → Identifiers
-open_behind Opens i is = i ∷ is
-open_behind OpensIf i is = i ∷ is
-open_behind OpensTry i is = i ∷ is
-open_behind Delegates i (j ∷ is) = is
-open_behind Ends i (j ∷ is) = is
-open_behind _ i is = is
+abbrev pub open_after : Role → Option (List ℕ) → Identifiers → Identifiers
+open_after Opens i is = i ∷ is
+open_after OpensIf i is = i ∷ is
+open_after OpensTry i is = i ∷ is
+open_after Delegates i (j ∷ is) = is
+open_after Ends i (j ∷ is) = is
+open_after _ i is = is
 
 -- The first of these rows that reads the arguments, and the immediates that it reads.
 abbrev pub first_reading : Context → Identifiers → List Row → Forest → Option (Row × Immediates)
@@ -328,7 +328,7 @@ operator_of x = record { opcode = opcode x.0.prefix x.0.number; immediates = x.1
 abbrev pub operators : Context → Identifiers → List Chunk → Option (List Operator)
 operators c ids [] = Some []
 operators c ids (k ∷ ks) =
-    first_reading c ids k.rows k.arguments >>= λ x. operators c (open_behind x.0.role (id_of k.arguments) ids) ks
+    first_reading c ids k.rows k.arguments >>= λ x. operators c (open_after x.0.role (id_of k.arguments) ids) ks
     >>= λ os. Some (operator_of x ∷ os)
 
 -- The operators are well nested: an `end` after them closes the last open block.

@@ -14,19 +14,19 @@ use crate::indices::{put_declaration_of, put_identifier_gap};
 use crate::types::{put_signature, put_type_number, put_val_type};
 use std::io;
 use wasmprinter_names::{Identifier, Identifiers, Space};
-use wasmprinter_print::{Fault, Print};
+use wasmprinter_print::{FirstError, Print};
 use wasmprinter_types::composite::{
     CompositeType, FieldType, FieldTypes, FuncType, StorageType, SubType, TypeIndices,
 };
 use wasmprinter_words::words::{
-    put_gap, put_open, put_open_gap, put_open_plain, put_shut, put_word,
+    put_close_paren, put_open, put_open_gap, put_open_plain, put_space, put_word,
 };
 
 /// Writes the storage type of a field.
 #[tactic(auto, unfolding(wasmprinter_spec::specs::Layout::Types::storage_pieces))]
 fn put_storage<P: Print>(
     p: &mut P,
-    fault: &mut Fault,
+    fault: &mut FirstError,
     identifiers: &Identifiers<'_, '_>,
     storage: StorageType,
 )
@@ -43,7 +43,7 @@ fn put_storage<P: Print>(
 /// Writes the storage type of a mutable field, as a group.
 fn put_mutable<P: Print>(
     p: &mut P,
-    fault: &mut Fault,
+    fault: &mut FirstError,
     identifiers: &Identifiers<'_, '_>,
     storage: StorageType,
 )
@@ -51,15 +51,15 @@ fn put_mutable<P: Print>(
         (field_pieces_by (names_of_identifiers identifiers.now) true (storage_view storage)) }
 {
     put_open_plain(p, fault, "mut");
-    put_gap(p, fault);
+    put_space(p, fault);
     put_storage(p, fault, identifiers, storage);
-    put_shut(p, fault);
+    put_close_paren(p, fault);
 }
 
 /// Writes a field type.
 fn put_field_type<P: Print>(
     p: &mut P,
-    fault: &mut Fault,
+    fault: &mut FirstError,
     identifiers: &Identifiers<'_, '_>,
     field: FieldType,
 )
@@ -77,7 +77,7 @@ fn put_field_type<P: Print>(
 #[tactic(auto, unfolding(wasmprinter_spec::specs::Layout::Types::field_pieces))]
 fn put_field<P: Print>(
     p: &mut P,
-    fault: &mut Fault,
+    fault: &mut FirstError,
     identifiers: &Identifiers<'_, '_>,
     identifier: Option<Identifier<'_>>,
     field: FieldType,
@@ -85,7 +85,7 @@ fn put_field<P: Print>(
     ensures { Marks P.meaning p.old fault.old p.new fault.new
         (field_pieces (names_of_identifiers identifiers.now) (option_map identifier_view identifier.entry) (field_view field)) }
 {
-    put_gap(p, fault);
+    put_space(p, fault);
     put_identifier_gap(p, fault, identifier);
     put_field_type(p, fault, identifiers, field);
 }
@@ -94,7 +94,7 @@ fn put_field<P: Print>(
 #[tactic(auto, unfolding(wasmprinter_spec::specs::Layout::Types::struct_field_pieces))]
 fn put_field_group<P: Print>(
     p: &mut P,
-    fault: &mut Fault,
+    fault: &mut FirstError,
     identifiers: &Identifiers<'_, '_>,
     owner: u64,
     number: u64,
@@ -103,7 +103,7 @@ fn put_field_group<P: Print>(
     ensures { Marks P.meaning p.old fault.old p.new fault.new
         (owned_field (names_of_identifiers identifiers.now) owner number (field_view field)) }
 {
-    put_gap(p, fault);
+    put_space(p, fault);
     put_open_plain(p, fault, "field");
     put_field(
         p,
@@ -112,13 +112,13 @@ fn put_field_group<P: Print>(
         identifiers.item(Space::Field, owner, number),
         field,
     );
-    put_shut(p, fault);
+    put_close_paren(p, fault);
 }
 
 /// Writes the fields of the structure type `owner`, with a space before each.
 fn put_fields<P: Print>(
     p: &mut P,
-    fault: &mut Fault,
+    fault: &mut FirstError,
     identifiers: &Identifiers<'_, '_>,
     owner: u64,
     fields: &FieldTypes<'_>,
@@ -138,7 +138,7 @@ fn put_fields<P: Print>(
 #[tactic(auto, unfolding(wasmprinter_spec::specs::Layout::Types::composite_pieces, wasmprinter_spec::specs::Layout::Groups::line_group))]
 fn put_func_type<P: Print>(
     p: &mut P,
-    fault: &mut Fault,
+    fault: &mut FirstError,
     identifiers: &Identifiers<'_, '_>,
     func_type: &FuncType<'_>,
 )
@@ -147,14 +147,14 @@ fn put_func_type<P: Print>(
 {
     put_open(p, fault, "func");
     put_signature(p, fault, identifiers, None, func_type);
-    put_shut(p, fault);
+    put_close_paren(p, fault);
 }
 
 /// Writes an array type with the given element type, as a group.
 #[tactic(auto, unfolding(wasmprinter_spec::specs::Layout::Types::composite_pieces, wasmprinter_spec::specs::Layout::Groups::line_group))]
 fn put_array_type<P: Print>(
     p: &mut P,
-    fault: &mut Fault,
+    fault: &mut FirstError,
     identifiers: &Identifiers<'_, '_>,
     element: FieldType,
 )
@@ -163,14 +163,14 @@ fn put_array_type<P: Print>(
 {
     put_open(p, fault, "array");
     put_field(p, fault, identifiers, None, element);
-    put_shut(p, fault);
+    put_close_paren(p, fault);
 }
 
 /// Writes the structure type with the given number and fields, as a group.
 #[tactic(auto, unfolding(wasmprinter_spec::specs::Layout::Types::composite_pieces, wasmprinter_spec::specs::Layout::Groups::line_group))]
 fn put_struct_type<P: Print>(
     p: &mut P,
-    fault: &mut Fault,
+    fault: &mut FirstError,
     identifiers: &Identifiers<'_, '_>,
     number: u64,
     fields: &FieldTypes<'_>,
@@ -180,13 +180,13 @@ fn put_struct_type<P: Print>(
 {
     put_open(p, fault, "struct");
     put_fields(p, fault, identifiers, number, fields);
-    put_shut(p, fault);
+    put_close_paren(p, fault);
 }
 
 /// Writes the composite type of the type with the given number.
 fn put_composite_type<P: Print>(
     p: &mut P,
-    fault: &mut Fault,
+    fault: &mut FirstError,
     identifiers: &Identifiers<'_, '_>,
     number: u64,
     composite: &CompositeType<'_>,
@@ -202,12 +202,12 @@ fn put_composite_type<P: Print>(
 }
 
 /// Writes `final` and a space if the subtype is final.
-fn put_final_if<P: Print>(p: &mut P, fault: &mut Fault, is_final: bool)
+fn put_final_if<P: Print>(p: &mut P, fault: &mut FirstError, is_final: bool)
     ensures { (names : Names) → Marks P.meaning p.old fault.old p.new fault.new (final_pieces names is_final) }
 {
     if is_final {
         put_word(p, fault, "final");
-        put_gap(p, fault);
+        put_space(p, fault);
     }
 }
 
@@ -215,7 +215,7 @@ fn put_final_if<P: Print>(p: &mut P, fault: &mut Fault, is_final: bool)
 #[tactic(auto, unfolding(wasmprinter_spec::specs::Layout::Types::supertype_pieces))]
 fn put_supertype<P: Print>(
     p: &mut P,
-    fault: &mut Fault,
+    fault: &mut FirstError,
     identifiers: &Identifiers<'_, '_>,
     index: u32,
 )
@@ -223,13 +223,13 @@ fn put_supertype<P: Print>(
         (supertype_pieces (names_of_identifiers identifiers.now) (index ∷ [])) }
 {
     put_type_number(p, fault, identifiers, index);
-    put_gap(p, fault);
+    put_space(p, fault);
 }
 
 /// Writes the indices of supertypes, with a space after each.
 fn put_supertypes<P: Print>(
     p: &mut P,
-    fault: &mut Fault,
+    fault: &mut FirstError,
     identifiers: &Identifiers<'_, '_>,
     supertypes: &TypeIndices<'_>,
 )
@@ -248,7 +248,7 @@ fn put_supertypes<P: Print>(
 #[tactic(auto, unfolding(wasmprinter_spec::specs::Layout::Types::sub_group, wasmprinter_spec::specs::Layout::Groups::line_group))]
 fn put_sub_group<P: Print>(
     p: &mut P,
-    fault: &mut Fault,
+    fault: &mut FirstError,
     identifiers: &Identifiers<'_, '_>,
     number: u64,
     sub_type: &SubType<'_>,
@@ -257,11 +257,11 @@ fn put_sub_group<P: Print>(
         (sub_group (names_of_identifiers identifiers.now) number sub_type.now.final sub_type.now.supertypes sub_type.now.composite) }
 {
     put_open(p, fault, "sub");
-    put_gap(p, fault);
+    put_space(p, fault);
     put_final_if(p, fault, sub_type.is_final());
     put_supertypes(p, fault, identifiers, &sub_type.supertypes());
     put_composite_type(p, fault, identifiers, number, sub_type.composite());
-    put_shut(p, fault);
+    put_close_paren(p, fault);
 }
 
 /// Reports whether a subtype is written as its composite type alone: it is final and has no supertypes.
@@ -275,7 +275,7 @@ fn is_plain(sub_type: &SubType<'_>) -> bool
 /// composite type alone.
 fn put_sub_type<P: Print>(
     p: &mut P,
-    fault: &mut Fault,
+    fault: &mut FirstError,
     identifiers: &Identifiers<'_, '_>,
     number: u64,
     sub_type: &SubType<'_>,
@@ -294,7 +294,7 @@ fn put_sub_type<P: Print>(
 #[tactic(auto, unfolding(wasmprinter_spec::specs::Layout::Types::type_pieces, wasmprinter_spec::specs::Layout::Groups::line_group_gap))]
 fn put_type_field<P: Print>(
     p: &mut P,
-    fault: &mut Fault,
+    fault: &mut FirstError,
     identifiers: &Identifiers<'_, '_>,
     number: u64,
     sub_type: &SubType<'_>,
@@ -304,9 +304,9 @@ fn put_type_field<P: Print>(
 {
     put_open_gap(p, fault, "type");
     put_declaration_of(p, fault, identifiers, Space::Types, 0, number);
-    put_gap(p, fault);
+    put_space(p, fault);
     put_sub_type(p, fault, identifiers, number, sub_type);
-    put_shut(p, fault);
+    put_close_paren(p, fault);
 }
 
 /// Writes the definition of the type with the given number.
@@ -318,7 +318,7 @@ pub fn type_field<P: Print>(
 ) -> io::Result<()>
     ensures { PrintsAlways P.meaning p.old p.new result (type_pieces (names_of_identifiers identifiers.now) number sub_type.now) }
 {
-    let mut fault = Fault::none();
+    let mut fault = FirstError::none();
     put_type_field(p, &mut fault, identifiers, number, sub_type);
     fault.into_result()
 }

@@ -3,7 +3,7 @@
 ghost use Rattle.std.specs.Prelude.{◌≡◌, ◌∷◌, ◌++◌, Some, IfOk, codes, option_map};
 ghost use Rattle.wasmprinter_spec.specs.Layout.Groups.{line_group};
 ghost use Rattle.wasmprinter_spec.specs.Layout.Types.{parameters_of};
-ghost use Rattle.wasmprinter_spec.specs.Layout.Identifiers.{mark_gap_pieces};
+ghost use Rattle.wasmprinter_spec.specs.Layout.Identifiers.{id_and_name_gap_pieces};
 ghost use Rattle.wasmprinter_spec.specs.Layout.ValTypes.{val_pieces};
 ghost use Rattle.wasmprinter_spec.specs.Layout.Variables.{variable_groups, groups_pieces};
 ghost use Rattle.wasmprinter_spec.specs.Piece.{Gap};
@@ -13,13 +13,13 @@ ghost use Rattle.wasmprinter_names.specs.Shown.{identifier_view, names_of_identi
 ghost use Rattle.wasmprinter_types.specs.ValTypes.{type_view, types_view};
 ghost use Rattle.wasmprinter_text.specs.Variables.{front_pieces, end_pieces, before_next, first_pieces, unnamed_pieces, variable_pieces};
 
-use crate::indices::put_mark_gap;
+use crate::indices::put_id_and_name_gap;
 use crate::types::{put_type, put_val_type};
 use std::io;
 use wasmprinter_names::{Identifier, Identifiers, Space};
-use wasmprinter_print::{Fault, Print};
+use wasmprinter_print::{FirstError, Print};
 use wasmprinter_types::{ValType, ValTypes};
-use wasmprinter_words::words::{put_gap, put_open, put_shut};
+use wasmprinter_words::words::{put_close_paren, put_open, put_space};
 
 /// The state of the text before a variable.
 #[derive(Clone, Copy)]
@@ -47,15 +47,15 @@ fn variable<'n>(
 }
 
 /// Writes the text before a new group: closes the group that is open and writes a space, as far as needed.
-fn put_begin_group<P: Print>(p: &mut P, fault: &mut Fault, before: Before)
+fn put_begin_group<P: Print>(p: &mut P, fault: &mut FirstError, before: Before)
     ensures { Marks P.meaning p.old fault.old p.new fault.new (front_pieces before) }
 {
     match before {
         Before::Line => {}
-        Before::Shut => put_gap(p, fault),
+        Before::Shut => put_space(p, fault),
         Before::Open => {
-            put_shut(p, fault);
-            put_gap(p, fault);
+            put_close_paren(p, fault);
+            put_space(p, fault);
         }
     }
 }
@@ -64,27 +64,27 @@ fn put_begin_group<P: Print>(p: &mut P, fault: &mut Fault, before: Before)
 #[tactic(auto, unfolding(wasmprinter_spec::specs::Layout::Groups::line_group))]
 fn put_alone<P: Print>(
     p: &mut P,
-    fault: &mut Fault,
+    fault: &mut FirstError,
     identifiers: &Identifiers<'_, '_>,
     keyword: &str,
     identifier: Identifier<'_>,
     value_type: ValType,
 )
     ensures { Marks P.meaning p.old fault.old p.new fault.new
-        (line_group keyword.now (Gap ∷ (mark_gap_pieces (Some (identifier_view identifier.entry))
+        (line_group keyword.now (Gap ∷ (id_and_name_gap_pieces (Some (identifier_view identifier.entry))
         ++ val_pieces (names_of_identifiers identifiers.now) (type_view value_type)))) }
 {
     put_open(p, fault, keyword);
-    put_gap(p, fault);
-    put_mark_gap(p, fault, Some(identifier));
+    put_space(p, fault);
+    put_id_and_name_gap(p, fault, Some(identifier));
     put_val_type(p, fault, identifiers, value_type);
-    put_shut(p, fault);
+    put_close_paren(p, fault);
 }
 
 /// Writes a variable without an identifier as the first of a new group, which stays open.
 fn put_first<P: Print>(
     p: &mut P,
-    fault: &mut Fault,
+    fault: &mut FirstError,
     identifiers: &Identifiers<'_, '_>,
     keyword: &str,
     before: Before,
@@ -101,7 +101,7 @@ fn put_first<P: Print>(
 /// Writes a variable without an identifier: in the open group, or as the first of a new one.
 fn put_together<P: Print>(
     p: &mut P,
-    fault: &mut Fault,
+    fault: &mut FirstError,
     identifiers: &Identifiers<'_, '_>,
     keyword: &str,
     before: Before,
@@ -120,7 +120,7 @@ fn put_together<P: Print>(
 #[tactic(auto, unfolding(wasmprinter_spec::specs::Layout::Variables::variables_pieces))]
 fn put_variable<P: Print>(
     p: &mut P,
-    fault: &mut Fault,
+    fault: &mut FirstError,
     identifiers: &Identifiers<'_, '_>,
     identifier: Option<Identifier<'_>>,
     keyword: &str,
@@ -162,7 +162,7 @@ pub fn write_variable<P: Print>(
     ensures next { IfOk result (λ b. b ≡ before_next (parameters_of (names_of_identifiers identifiers.now) owner number)) }
 {
     let identifier = variable(identifiers, owner, number);
-    let mut fault = Fault::none();
+    let mut fault = FirstError::none();
     let next = put_variable(
         p,
         &mut fault,
@@ -177,11 +177,11 @@ pub fn write_variable<P: Print>(
 }
 
 /// Closes the group that is open after the last variable, if there is one.
-fn put_end_variables<P: Print>(p: &mut P, fault: &mut Fault, before: Before)
+fn put_end_variables<P: Print>(p: &mut P, fault: &mut FirstError, before: Before)
     ensures { Marks P.meaning p.old fault.old p.new fault.new (end_pieces before) }
 {
     if let Before::Open = before {
-        put_shut(p, fault);
+        put_close_paren(p, fault);
     }
 }
 
@@ -189,7 +189,7 @@ fn put_end_variables<P: Print>(p: &mut P, fault: &mut Fault, before: Before)
 pub fn end_variables<P: Print>(p: &mut P, before: Before) -> io::Result<()>
     ensures { PrintsAlways P.meaning p.old p.new result (end_pieces before) }
 {
-    let mut fault = Fault::none();
+    let mut fault = FirstError::none();
     put_end_variables(p, &mut fault, before);
     fault.into_result()
 }
@@ -198,7 +198,7 @@ pub fn end_variables<P: Print>(p: &mut P, before: Before) -> io::Result<()>
 /// `None` for parameters without a function.
 pub(crate) fn put_params<P: Print>(
     p: &mut P,
-    fault: &mut Fault,
+    fault: &mut FirstError,
     identifiers: &Identifiers<'_, '_>,
     owner: Option<u64>,
     types: &ValTypes<'_>,

@@ -2,7 +2,7 @@
 use Rattle.std.proofs.Common.{rules, Some, string_bytes}
 use Rattle.std.specs.Path.{path_bytes}
 use Rattle.wasmprinter_spec.specs.Options.{defaults}
-use Rattle.wasmprinter.proofs.OfFile.{text_of_file, refused_of_file}
+use Rattle.wasmprinter.proofs.TextOfFile.{text_of_file, refused_of_file}
 use Rattle.wasmprinter.proofs.files.print_file.Goals as goal
 
 pub returns-clause-printed : goal.returns-clause-printed

@@ -32,5 +32,5 @@ returns-in-Raw g c =
 pub returns : goal.returns
 returns g c =
     let breaks = faulted-break c.args.options.now.skeleton c.args.entry.now in
-    rw c.in-Faulted.is
-    (wrote_part g.P.Print.meaning c.args.options.now c.with_lines-in-Faulted.result c.write_faulted.result c.with_lines-in-Faulted.ensures breaks c.write_faulted.ensures)
+    rw c.in-Malformed.is
+    (wrote_part g.P.Print.meaning c.args.options.now c.with_lines-in-Malformed.result c.write_faulted.result c.with_lines-in-Malformed.ensures breaks c.write_faulted.ensures)

@@ -37,4 +37,4 @@ returns g c =
     both_pieces m c.in_ok-break_line.ensures
     (both_pieces m (c.in_ok-open_gap.ensures o)
     (both_pieces m (rw c.name.ensures at (c.in_ok-write_string.ensures.pieces o))
-    (both_pieces m (rw c.flags.ensures at (c.in_ok-write_flags.ensures o)) (c.shut.ensures o))))
+    (both_pieces m (rw c.flags.ensures at (c.in_ok-write_flags.ensures o)) (c.write_close_paren.ensures o))))

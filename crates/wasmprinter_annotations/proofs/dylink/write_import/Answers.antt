@@ -19,12 +19,12 @@ returns-in_err-write_string g c =
     both_pieces m c.in_ok-break_line.ensures
     (both_pieces m (c.in_ok-open_gap.ensures o) ended)
 
-pub returns-in_err-gap : goal.returns-in_err-gap
+pub returns-in_err-write_space : goal.returns-in_err-write_space
 unfolding import_infos_pieces
-returns-in_err-gap g c =
+returns-in_err-write_space g c =
     let m = g.P.Print.meaning in
     let o = c.args.options.now in
-    let ended = pieces_end m c.from_residual-in_err-gap.result _ c.from_residual-in_err-gap.ensures.1 (c.in_err-gap.ensures o) in
+    let ended = pieces_end m c.from_residual-in_err-write_space.result _ c.from_residual-in_err-write_space.ensures.1 (c.in_err-write_space.ensures o) in
     both_pieces m c.in_ok-break_line.ensures
     (both_pieces m (c.in_ok-open_gap.ensures o)
     (both_pieces m (rw c.source.ensures at (c.in_ok-write_string.ensures.pieces o)) ended))
@@ -38,7 +38,7 @@ returns-in_err-write_string-2 g c =
     both_pieces m c.in_ok-break_line.ensures
     (both_pieces m (c.in_ok-open_gap.ensures o)
     (both_pieces m (rw c.source.ensures at (c.in_ok-write_string.ensures.pieces o))
-    (both_pieces m (c.in_ok-gap.ensures o) ended)))
+    (both_pieces m (c.in_ok-write_space.ensures o) ended)))
 
 pub returns-in_err-write_flags : goal.returns-in_err-write_flags
 unfolding import_infos_pieces
@@ -49,7 +49,7 @@ returns-in_err-write_flags g c =
     both_pieces m c.in_ok-break_line.ensures
     (both_pieces m (c.in_ok-open_gap.ensures o)
     (both_pieces m (rw c.source.ensures at (c.in_ok-write_string.ensures.pieces o))
-    (both_pieces m (c.in_ok-gap.ensures o)
+    (both_pieces m (c.in_ok-write_space.ensures o)
     (both_pieces m (rw c.name.ensures at (c.in_ok-write_string-2.ensures.pieces o)) ended))))
 
 pub returns : goal.returns
@@ -60,6 +60,6 @@ returns g c =
     both_pieces m c.in_ok-break_line.ensures
     (both_pieces m (c.in_ok-open_gap.ensures o)
     (both_pieces m (rw c.source.ensures at (c.in_ok-write_string.ensures.pieces o))
-    (both_pieces m (c.in_ok-gap.ensures o)
+    (both_pieces m (c.in_ok-write_space.ensures o)
     (both_pieces m (rw c.name.ensures at (c.in_ok-write_string-2.ensures.pieces o))
-    (both_pieces m (rw c.flags.ensures at (c.in_ok-write_flags.ensures o)) (c.shut.ensures o))))))
+    (both_pieces m (rw c.flags.ensures at (c.in_ok-write_flags.ensures o)) (c.write_close_paren.ensures o))))))

@@ -33,4 +33,4 @@ returns g c =
     let memory = rw (c.memory_size.ensures, c.memory_alignment.ensures) at (c.in_ok-write_sizes_group.ensures c.args.options.now) in
     let table = rw (c.table_size.ensures, c.table_alignment.ensures) at (c.in_ok-write_sizes_group-2.ensures c.args.options.now) in
     both_pieces m c.in_ok-break_line.ensures
-    (both_pieces m (c.in_ok-open.ensures c.args.options.now) (both_pieces m memory (both_pieces m table (c.shut.ensures c.args.options.now))))
+    (both_pieces m (c.in_ok-open.ensures c.args.options.now) (both_pieces m memory (both_pieces m table (c.write_close_paren.ensures c.args.options.now))))

@@ -9,7 +9,7 @@ returns g c =
     let o = c.args.options.now in
     both_pieces m (rw c.place.ensures at c.in_ok-break_line.ensures)
     (both_pieces m (c.in_ok-open_run.ensures o)
-    (both_pieces m (c.in_ok-gap.ensures o)
+    (both_pieces m (c.in_ok-write_space.ensures o)
     (both_pieces m (rw c.name.ensures at (c.in_ok-write_string.ensures.pieces o))
-    (both_pieces m (c.in_ok-gap-2.ensures o)
-    (both_pieces m (rw c.version.ensures at (c.in_ok-write_string-2.ensures.pieces o)) (c.shut.ensures o))))))
+    (both_pieces m (c.in_ok-write_space-2.ensures o)
+    (both_pieces m (rw c.version.ensures at (c.in_ok-write_string-2.ensures.pieces o)) (c.write_close_paren.ensures o))))))

@@ -13,6 +13,6 @@ returns-in-Block c own =
 
 pub returns-in-TryTable : goal.returns-in-TryTable
 returns-in-TryTable c own =
-    c.block_gives.ensures own
+    c.block_results.ensures own
     ∙ label_in_try (signatures_within c.args.callees.now own) c.operator.inside.opcode (immediates_view c.operator.inside.immediates) c.args.operator.now
     (block_type_view c.in-TryTable.block_type) _ c.operator.view_is (ap immediates_view c.in-TryTable.is)

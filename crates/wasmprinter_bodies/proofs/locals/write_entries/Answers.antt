@@ -1,8 +1,8 @@
 use Rattle.std.proofs.Common.{◌≡◌, ◌∙◌, ap, refl, [], length, replicate, arith}
 use Rattle.wasmprinter_print.specs.PrintsLaws.{no_piece, rest_written, next_written, next_fails}
 use Rattle.wasmprinter_labels.specs.Scan.{names_of}
-use Rattle.wasmprinter_bodies.specs.LocalWalk.{behind_all}
-use Rattle.wasmprinter_bodies.proofs.LocalLines.{entries-next, entries-none, behind_times-number}
+use Rattle.wasmprinter_bodies.specs.LocalWalk.{after_all}
+use Rattle.wasmprinter_bodies.proofs.LocalLines.{entries-next, entries-none, after_times-number}
 use Rattle.wasmprinter_bodies.proofs.locals.write_entries.Goals as goal
 
 pub loop-entry-init : goal.loop-entry-init
@@ -27,10 +27,10 @@ loop-entry-preserved g c =
     let names = names_of c.args.scope.now.labels in
     let entry = c.in-Some.entry.value in
     let step = entries-next names c.args.function c.loop-entry.position _ _ _ c.in-Some.ensures.steps in
-    let behind : c.in_ok-position.position ≡ behind_all (names.locals c.args.function) c.loop-entry.position (replicate entry.count entry.type) = c.in_ok-position.ensures.behind in
-    let number = ap (λ x. x.number) behind ∙ behind_times-number (names.locals c.args.function) c.loop-entry.position entry.count entry.type in
+    let after : c.in_ok-position.position ≡ after_all (names.locals c.args.function) c.loop-entry.position (replicate entry.count entry.type) = c.in_ok-position.ensures.after in
+    let number = ap (λ x. x.number) after ∙ after_times-number (names.locals c.args.function) c.loop-entry.position entry.count entry.type in
     record {
-      lacks = λ o. rw behind (next_written g.P.Print.meaning _ _ (rw step at (c.loop-entry.invariant.lacks o)) (c.in_ok-position.ensures.pieces o));
+      lacks = λ o. rw after (next_written g.P.Print.meaning _ _ (rw step at (c.loop-entry.invariant.lacks o)) (c.in_ok-position.ensures.pieces o));
       number = omega (arith, number, c.loop-entry.invariant.number, ap length c.in-Some.ensures.steps, c.if-prove-2.false, c.count.ensures);
     }
 

@@ -1,8 +1,8 @@
 use Rattle.std.proofs.Common.{◌≡◌, ◌-◌, ◌<◌, ◌≤◌, sym, ap, ◌∙◌, [], arith, replicate}
 use Rattle.wasmprinter_print.specs.PrintsLaws.{no_piece, lacks_none, next_written, next_fails}
 use Rattle.wasmprinter_labels.specs.Scan.{names_of}
-use Rattle.wasmprinter_bodies.specs.LocalWalk.{behind_one, behind_all, locals_parts}
-use Rattle.wasmprinter_bodies.proofs.LocalLines.{times-next, times-none, behind_times-next, behind_times-none}
+use Rattle.wasmprinter_bodies.specs.LocalWalk.{after_one, after_all, locals_parts}
+use Rattle.wasmprinter_bodies.proofs.LocalLines.{times-next, times-none, after_times-next, after_times-none}
 use Rattle.wasmprinter_bodies.proofs.locals.write_entry.Goals as goal
 
 pub loop-init : goal.loop-init
@@ -16,7 +16,7 @@ loop-init g c =
         written = no_piece g.P.Print.meaning o c.args.p.now;
         joined = sym (ap (λ n. locals_parts names c.args.function c.args.start (replicate n entry.type)) all);
       };
-      behind = sym (ap (λ n. behind_all (names.locals c.args.function) c.args.start (replicate n entry.type)) all);
+      after = sym (ap (λ n. after_all (names.locals c.args.function) c.args.start (replicate n entry.type)) all);
       number = omega arith;
     }
 
@@ -36,11 +36,11 @@ loop-preserved g c =
     let entry = c.args.entry.now.value in
     let left : c.loop.counter < entry.count = omega (arith, c.loop-test.true, c.count-end.ensures) in
     let step = times-next names c.args.function c.loop.position entry.count c.loop.counter entry.type left in
-    let behind_step = behind_times-next (names.locals c.args.function) c.loop.position entry.count c.loop.counter entry.type left in
-    let behind : c.in_ok-position.position ≡ behind_one (names.locals c.args.function) c.loop.position = c.in_ok-position.ensures.behind in
-    rw behind (record {
+    let after_step = after_times-next (names.locals c.args.function) c.loop.position entry.count c.loop.counter entry.type left in
+    let after : c.in_ok-position.position ≡ after_one (names.locals c.args.function) c.loop.position = c.in_ok-position.ensures.after in
+    rw after (record {
       lacks = λ o. next_written g.P.Print.meaning _ _ (rw step at (c.loop.invariant.lacks o)) (rw c.val_type.ensures at (c.in_ok-position.ensures.pieces o));
-      behind = sym behind_step ∙ c.loop.invariant.behind;
+      after = sym after_step ∙ c.loop.invariant.after;
       number = omega (arith, c.loop.invariant.number);
     })
 
@@ -51,9 +51,9 @@ returns-clause-pieces g c o =
     let none = times-none (names_of c.args.scope.now.labels) c.args.function c.loop.position entry.count c.loop.counter entry.type past in
     lacks_none g.P.Print.meaning _ (rw none at (c.loop.invariant.lacks o))
 
-pub returns-clause-behind : goal.returns-clause-behind
-returns-clause-behind g c =
+pub returns-clause-after : goal.returns-clause-after
+returns-clause-after g c =
     let entry = c.args.entry.now.value in
     let past : entry.count ≤ c.loop.counter = omega (arith, c.loop-test.false, c.count-end.ensures) in
-    sym (behind_times-none ((names_of c.args.scope.now.labels).locals c.args.function) c.loop.position entry.count c.loop.counter entry.type past)
-    ∙ c.loop.invariant.behind
+    sym (after_times-none ((names_of c.args.scope.now.labels).locals c.args.function) c.loop.position entry.count c.loop.counter entry.type past)
+    ∙ c.loop.invariant.after

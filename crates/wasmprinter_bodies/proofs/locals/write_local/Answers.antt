@@ -19,7 +19,7 @@ returns-clause-pieces g c o =
     subst (λ (n : Names). Written g.P.Print.meaning o c.args.p.now c.write_variable.new.p Through
     (local_parts n c.args.function c.args.position (type_view c.args.value_type))) c.identifiers.ensures.all (c.in_ok-before.ensures.pieces o)
 
-pub returns-clause-behind : goal.returns-clause-behind
-returns-clause-behind g c =
+pub returns-clause-after : goal.returns-clause-after
+returns-clause-after g c =
     ap (λ b. record { before = b; number = c.args.position.number + 1 })
     (subst (λ (n : Names). c.in_ok-before.before ≡ before_next (n.locals c.args.function c.args.position.number)) c.identifiers.ensures.all c.in_ok-before.ensures.next)

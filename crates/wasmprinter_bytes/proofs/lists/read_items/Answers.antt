@@ -7,23 +7,23 @@ use Rattle.wasmprinter_bytes.proofs.lists.read_items.Goals as goal
 
 pub loop-preserved : goal.loop-preserved
 loop-preserved g c = record {
-  rest = skip_more g.T.Spelled.parse c.in_ok-count.count c.loop.counter c.loop.cursor _ c.read.new.cursor _ (omega arith) c.in_ok-read.ensures.reads c.loop.invariant.rest;
+  rest = skip_more g.T.Decode.parse c.in_ok-count.count c.loop.counter c.loop.cursor _ c.read.new.cursor _ (omega arith) c.in_ok-read.ensures.reads c.loop.invariant.rest;
   end = omega (arith, c.in_ok-read.ensures.end, c.loop.invariant.end);
 }
 
 pub invariant_of-result : goal.invariant_of-result
 invariant_of-result g c =
-    HasItems-skip g.T.Spelled.parse c.in_ok-count.count c.fork-start.result c.loop.cursor
-    (skip_end g.T.Spelled.parse c.in_ok-count.count c.loop.counter c.loop.cursor _ (omega arith) c.loop.invariant.rest)
+    HasItems-skip g.T.Decode.parse c.in_ok-count.count c.fork-start.result c.loop.cursor
+    (skip_end g.T.Decode.parse c.in_ok-count.count c.loop.counter c.loop.cursor _ (omega arith) c.loop.invariant.rest)
 
 pub returns-clause-reads : goal.returns-clause-reads
 returns-clause-reads g c =
-    vec_some g.T.Spelled.parse c.args.cursor.now c.fork-start.result c.loop.cursor c.in_ok-count.count (c.in_ok-count.ensures.reads ∙ ap (λ (at : Input). Some (c.in_ok-count.count, at)) (sym c.fork-start.ensures.same))
-    (skip_end g.T.Spelled.parse c.in_ok-count.count c.loop.counter c.loop.cursor _ (omega arith) c.loop.invariant.rest)
+    vec_some g.T.Decode.parse c.args.cursor.now c.fork-start.result c.loop.cursor c.in_ok-count.count (c.in_ok-count.ensures.reads ∙ ap (λ (at : Input). Some (c.in_ok-count.count, at)) (sym c.fork-start.ensures.same))
+    (skip_end g.T.Decode.parse c.in_ok-count.count c.loop.counter c.loop.cursor _ (omega arith) c.loop.invariant.rest)
 
 pub returns-in_err-read-clause-reads : goal.returns-in_err-read-clause-reads
 returns-in_err-read-clause-reads g c =
     let p = err_from_is_err_and c.from_residual-in_err-read.result c.from_residual-in_err-read.ensures.1 in
     rw p.1
-    (vec_none g.T.Spelled.parse c.args.cursor.now c.fork-start.result c.in_ok-count.count (c.in_ok-count.ensures.reads ∙ ap (λ (at : Input). Some (c.in_ok-count.count, at)) (sym c.fork-start.ensures.same))
-    (skip_none g.T.Spelled.parse c.in_ok-count.count c.loop.counter c.loop.cursor (skip_at g.T.Spelled.parse c.in_ok-count.count c.fork-start.result) (omega arith) c.in_err-read.ensures.reads c.loop.invariant.rest))
+    (vec_none g.T.Decode.parse c.args.cursor.now c.fork-start.result c.in_ok-count.count (c.in_ok-count.ensures.reads ∙ ap (λ (at : Input). Some (c.in_ok-count.count, at)) (sym c.fork-start.ensures.same))
+    (skip_none g.T.Decode.parse c.in_ok-count.count c.loop.counter c.loop.cursor (skip_at g.T.Decode.parse c.in_ok-count.count c.fork-start.result) (omega arith) c.in_err-read.ensures.reads c.loop.invariant.rest))

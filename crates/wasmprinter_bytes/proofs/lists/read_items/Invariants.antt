@@ -5,6 +5,6 @@ use Rattle.wasmprinter_bytes.proofs.lists.read_items.Given as goal
 
 abbrev pub invariant-loop : goal.invariant-loop
 invariant-loop g l = record {
-  rest : skip_at g.T.Spelled.parse (l.count - l.counter) l.cursor ≡ skip_at g.T.Spelled.parse l.count l.start;
+  rest : skip_at g.T.Decode.parse (l.count - l.counter) l.cursor ≡ skip_at g.T.Decode.parse l.count l.start;
   end : end_of l.cursor ≡ end_of l.start;
 }

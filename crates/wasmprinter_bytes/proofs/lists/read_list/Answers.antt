@@ -5,9 +5,9 @@ use Rattle.wasmprinter_bytes.proofs.lists.read_list.Goals as goal
 
 pub loop-preserved : goal.loop-preserved
 loop-preserved g c = record {
-  rest = rw c.in_ok-push.ensures.items (front_more g.T.SpelledIn.parse c.loop.values.items c.in_ok-count.count c.loop.counter c.loop.cursor c.in_ok-read.field-0 c.read.new.cursor _ (omega arith) c.in_ok-read.ensures.reads c.loop.invariant.rest);
+  rest = rw c.in_ok-push.ensures.items (front_more g.T.DecodeIn.parse c.loop.values.items c.in_ok-count.count c.loop.counter c.loop.cursor c.in_ok-read.field-0 c.read.new.cursor _ (omega arith) c.in_ok-read.ensures.reads c.loop.invariant.rest);
   end = omega (arith, c.in_ok-read.ensures.end, c.loop.invariant.end);
-  first = inr (first_stands g.T.SpelledIn.parse c.u32.new.self c.loop.cursor (c.in_ok-read.field-0, c.read.new.cursor) c.loop.invariant.first c.in_ok-read.ensures.reads);
+  first = inr (first_stands g.T.DecodeIn.parse c.u32.new.self c.loop.cursor (c.in_ok-read.field-0, c.read.new.cursor) c.loop.invariant.first c.in_ok-read.ensures.reads);
 }
 
 pub returns-in_err-push-clause-reads : goal.returns-in_err-push-clause-reads
@@ -17,5 +17,5 @@ returns-in_err-push-clause-reads g c =
     rw (p.1, p.2)
     (record {
       counts = record { count = c.in_ok-count.count; after = c.u32.new.self; counted = c.in_ok-count.ensures.reads; some = some };
-      first = first_stands g.T.SpelledIn.parse c.u32.new.self c.loop.cursor (c.in_ok-read.field-0, c.read.new.cursor) c.loop.invariant.first c.in_ok-read.ensures.reads;
+      first = first_stands g.T.DecodeIn.parse c.u32.new.self c.loop.cursor (c.in_ok-read.field-0, c.read.new.cursor) c.loop.invariant.first c.in_ok-read.ensures.reads;
     })

@@ -7,7 +7,7 @@ use Rattle.wasmprinter_bytes.proofs.lists.read_list.Given as goal
 
 abbrev pub invariant-loop : goal.invariant-loop
 invariant-loop g l = record {
-  rest : with_front l.values.items (items_at g.T.SpelledIn.parse (l.count - l.counter) l.cursor) ≡ items_at g.T.SpelledIn.parse l.count l.initial.cursor;
+  rest : with_front l.values.items (items_at g.T.DecodeIn.parse (l.count - l.counter) l.cursor) ≡ items_at g.T.DecodeIn.parse l.count l.initial.cursor;
   end : end_of l.cursor ≡ end_of l.initial.cursor;
-  first : (l.cursor ≡ l.initial.cursor) ⊎ IsSome (g.T.SpelledIn.parse l.initial.cursor);
+  first : (l.cursor ≡ l.initial.cursor) ⊎ IsSome (g.T.DecodeIn.parse l.initial.cursor);
 }

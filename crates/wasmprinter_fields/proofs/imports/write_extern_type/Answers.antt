@@ -22,4 +22,4 @@ pub returns : goal.returns
 returns g c o =
     let keyword : c.kind_word.result.now ≡ kind_word (kind_of_type (extern_view c.args.extern_type)) = c.kind_word.ensures ∙ ap kind_word c.kind.ensures in
     rw (extern-group (scope_view c.args.scope.now) c.args.number (extern_view c.args.extern_type), ← keyword)
-    (group_closes g.P.Print.meaning _ _ (c.in_ok-open_gap.ensures o) (c.in_ok-write_extern_parts.ensures o) (c.shut.ensures o))
+    (group_closes g.P.Print.meaning _ _ (c.in_ok-open_gap.ensures o) (c.in_ok-write_extern_parts.ensures o) (c.write_close_paren.ensures o))

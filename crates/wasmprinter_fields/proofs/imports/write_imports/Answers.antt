@@ -1,11 +1,11 @@
 use Rattle.std.specs.Prelude.{◌≡◌, refl, []}
 use Rattle.std.proofs.Common.{arith, ap, ◌∙◌}
-use Rattle.wasmprinter_spec.specs.Layout.Imports.{number_of, numbers_behind}
+use Rattle.wasmprinter_spec.specs.Layout.Imports.{number_of, numbers_after}
 use Rattle.wasmprinter_print.specs.PrintsLaws.{no_piece, lacks_none, next_written, next_halts}
 use Rattle.wasmprinter_entries.specs.Externs.{extern_view}
 use Rattle.wasmprinter_scope.specs.Scopes.{scope_view, folds_in}
 use Rattle.wasmprinter_fields.proofs.Closing.{as_kept}
-use Rattle.wasmprinter_fields.proofs.ImportLines.{imports-none, imports-next, total, total-behind, number-total}
+use Rattle.wasmprinter_fields.proofs.ImportLines.{imports-none, imports-next, total, total-after, number-total}
 use Rattle.wasmprinter_fields.proofs.imports.write_imports.Goals as goal
 
 pub loop-import-init : goal.loop-import-init
@@ -37,12 +37,12 @@ loop-import-preserved g c =
     let item = c.import-item.result in
     let step = imports-next (scope_view c.args.scope.now) c.loop-import.numbers c.loop-import.import-index c.args.imports.now item item c.loop-import-test.true c.import-item.is in
     let number : c.of.result ≡ number_of item.value.type c.loop-import.numbers = rw c.ty.ensures.is at c.of.ensures in
-    let behind : c.count.new.self ≡ numbers_behind item.value.type c.loop-import.numbers = rw c.ty-in-loop-import.ensures.is at c.count.ensures in
+    let after : c.count.new.self ≡ numbers_after item.value.type c.loop-import.numbers = rw c.ty-in-loop-import.ensures.is at c.count.ensures in
     let made = rw (number, c.loop-import.invariant.scope) at c.in_ok-write_field.ensures.pieces in
     record {
-      lacks = rw behind (next_written g.P.Print.meaning _ _ (rw step at c.loop-import.invariant.lacks) made);
+      lacks = rw after (next_written g.P.Print.meaning _ _ (rw step at c.loop-import.invariant.lacks) made);
       scope = c.in_ok-write_field.ensures.scope ∙ c.loop-import.invariant.scope;
-      count = omega (arith, ap total behind, total-behind item.value.type c.loop-import.numbers, c.loop-import.invariant.count);
+      count = omega (arith, ap total after, total-after item.value.type c.loop-import.numbers, c.loop-import.invariant.count);
     }
 
 pub returns : goal.returns

@@ -2,7 +2,7 @@ use Rattle.std.specs.Prelude.{◌≡◌, length}
 use Rattle.std.proofs.Common.{ap, arith, ◌∙◌}
 use Rattle.wasmprinter_print.specs.PrintsLaws.{lacks_none, next_written, next_fails}
 use Rattle.wasmprinter_labels.specs.Scan.{names_of}
-use Rattle.wasmprinter_fields.proofs.TypeFields.{groups-next, groups-none, behind-next}
+use Rattle.wasmprinter_fields.proofs.TypeFields.{groups-next, groups-none, after-next}
 use Rattle.wasmprinter_fields.proofs.types.write_type_groups.Goals as goal
 
 pub returns-in_err-write_group : goal.returns-in_err-write_group
@@ -17,7 +17,7 @@ loop-group-preserved g c =
     let len : c.from-number.result ≡ length c.group-item.result.value.types = c.from-number.ensures ∙ c.len.ensures ∙ ap (λ ts. length ts) c.types.ensures in
     record {
       lacks = rw len (next_written g.P.Print.meaning _ _ (rw step at c.loop-group.invariant.lacks) c.in_ok-write_group.ensures);
-      count = omega (arith, len, c.loop-group.invariant.count, behind-next c.loop-group.group-index c.args.groups.now item item c.loop-group-test.true c.group-item.is);
+      count = omega (arith, len, c.loop-group.invariant.count, after-next c.loop-group.group-index c.args.groups.now item item c.loop-group-test.true c.group-item.is);
     }
 
 pub returns : goal.returns

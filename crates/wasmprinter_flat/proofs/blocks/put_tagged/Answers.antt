@@ -6,4 +6,4 @@ pub returns : goal.returns
 unfolding line_group
 returns g c =
     both_marks g.P.Print.meaning c.put_open.ensures
-    (both_marks g.P.Print.meaning c.put_tag_and_label.ensures c.put_shut.ensures)
+    (both_marks g.P.Print.meaning c.put_tag_and_label.ensures c.put_close_paren.ensures)

@@ -3,7 +3,7 @@ use Rattle.wasmprinter_flat.proofs.immediates.put_indices.Goals as goal
 
 pub returns-in-Pair : goal.returns-in-Pair
 unfolding immediate_pieces
-returns-in-Pair g c = rw c.in-Pair.is c.put_two.ensures
+returns-in-Pair g c = rw c.in-Pair.is c.write_index_pair.ensures
 
 pub returns-in-Field : goal.returns-in-Field
 unfolding immediate_pieces

@@ -13,4 +13,4 @@ returns g c =
     let s = setting_among g.S.Signatures.signature_at c.args.setting.now l in
     let o : Operator = record { opcode = c.operator.inside.opcode; immediates = immediates_view c.operator.inside.immediates } in
     rw (← c.operator.view_is, operator-out s c.args.first (own_label l) l.labels c.args.place o (role_view c.role.result) c.level-level.result c.role.ensures (rw c.depth.ensures at c.level-level.ensures))
-    (both_marks_under g.P.Print.meaning c.put_before.ensures (rw (← c.operator.view_is) at (c.put_operator_word.ensures.under c.args.options.now)))
+    (both_marks_under g.P.Print.meaning c.start_operator.ensures (rw (← c.operator.view_is) at (c.put_operator_word.ensures.under c.args.options.now)))

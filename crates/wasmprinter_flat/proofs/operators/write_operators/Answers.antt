@@ -22,8 +22,8 @@ returns-then-is_some-clause-prints g c =
 pub returns-then-is_some-clause-named : goal.returns-then-is_some-clause-named
 returns-then-is_some-clause-named g c = c.loop-place.invariant.1.named
 
-pub returns-then-is_some-clause-invents : goal.returns-then-is_some-clause-invents
-returns-then-is_some-clause-invents g c = c.loop-place.invariant.1.invents
+pub returns-then-is_some-clause-synthesizes : goal.returns-then-is_some-clause-synthesizes
+returns-then-is_some-clause-synthesizes g c = c.loop-place.invariant.1.synthesizes
 
 pub advance-requires : goal.advance-requires
 advance-requires g c = has_count g.P.Print.meaning c.loop-place.invariant.1 _ _ c.in-Some.ensures.steps
@@ -34,8 +34,8 @@ returns-clause-prints g c = all_written g.P.Print.meaning c.loop-place.invariant
 pub returns-clause-named : goal.returns-clause-named
 returns-clause-named g c = c.loop-place.invariant.1.named
 
-pub returns-clause-invents : goal.returns-clause-invents
-returns-clause-invents g c = c.loop-place.invariant.1.invents
+pub returns-clause-synthesizes : goal.returns-clause-synthesizes
+returns-clause-synthesizes g c = c.loop-place.invariant.1.synthesizes
 
 pub loop-place-preserved : goal.loop-place-preserved
 loop-place-preserved g c =
@@ -44,6 +44,6 @@ loop-place-preserved g c =
     c.loop-place.invariant.0 (sym c.is_some.ensures ∙ c.if-is_some.false) in (
       none,
       goes_on g.P.Print.meaning c.loop-place.invariant.1 _ _ _ _ _ c.in-Some.ensures.steps
-          (c.role.ensures ∙ ap (λ (o : Operator). role_of o.opcode) c.operator.view_is) c.advance.ensures c.put_next_hint.ensures.behind
+          (c.role.ensures ∙ ap (λ (o : Operator). role_of o.opcode) c.operator.view_is) c.advance.ensures c.put_next_hint.ensures.after
           hint operator,
     )

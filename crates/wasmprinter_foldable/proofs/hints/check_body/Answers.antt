@@ -17,4 +17,4 @@ loop-place-preserved c =
     let role = c.role.ensures ∙ ap (λ (o : Operator). role_of o.opcode) c.operator.view_is in
     let hint = rw (role, c.next_at.ensures.gives, c.saturating_sub-offset.ensures, c.place.ensures) at c.in_ok-check_hint.ensures in
     let next = misplaced_next _ _ _ _ _ _ c.in-Some.ensures.steps in
-    rw (c.next_at.ensures.behind, c.saturating_sub-offset.ensures, c.place.ensures) (front_passed FoldHint _ _ _ next (sym hint)) ∙ c.loop-place.invariant
+    rw (c.next_at.ensures.after, c.saturating_sub-offset.ensures, c.place.ensures) (front_passed FoldHint _ _ _ next (sym hint)) ∙ c.loop-place.invariant

@@ -21,4 +21,4 @@ pub loop-index-preserved : goal.loop-index-preserved
 loop-index-preserved c =
     let body = rw (c.next_function.ensures.gives, c.body.ensures, c.from.ensures, c.imported_count-first.ensures.is) at c.in_ok-check_body.ensures in
     let next = hints_next c.loop-index.hints (imported_count FuncKind c.args.module.now.imports) c.loop-index.index c.args.module.now.functions _ c.function-function.ensures in
-    rw (c.next_function.ensures.behind, c.from.ensures, c.imported_count-first.ensures.is) (front_passed FoldHint _ _ _ next (sym body)) ∙ c.loop-index.invariant
+    rw (c.next_function.ensures.after, c.from.ensures, c.imported_count-first.ensures.is) (front_passed FoldHint _ _ _ next (sym body)) ∙ c.loop-index.invariant

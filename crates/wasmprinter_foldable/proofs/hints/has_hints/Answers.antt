@@ -6,7 +6,7 @@ use Rattle.wasmprinter_foldable.proofs.hints.has_hints.Goals as goal
 
 pub returns-then-is_hint_section : goal.returns-then-is_hint_section
 returns-then-is_hint_section c =
-    let entry : CustomEntry = custom_entry (place_view c.entry.inside.behind) c.entry.inside.section in
+    let entry : CustomEntry = custom_entry (place_view c.entry.inside.after) c.entry.inside.section in
     let found : entry ≡ get_or c.args.customs.now c.loop-entry.entry-index entry =
     subst (λ (e : CustomEntry). e ≡ get_or c.args.customs.now c.loop-entry.entry-index e) (sym c.entry.view_is) c.entry-item.is in
     let named = rw c.name.ensures at c.is_hint_section.ensures in

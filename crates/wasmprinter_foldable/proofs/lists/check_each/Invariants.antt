@@ -8,5 +8,5 @@ use Rattle.wasmprinter_foldable.proofs.lists.check_each.Given as goal
 
 abbrev pub invariant-loop-item : goal.invariant-loop-item
 invariant-loop-item g l =
-    error_of_first FoldLegacy (flat_map legacy_places_in (flat_map (g.T.Holder.lists l.skeleton) (drop l.item-index l.items)))
-    ≡ error_of_first FoldLegacy (flat_map legacy_places_in (flat_map (g.T.Holder.lists l.skeleton) l.items))
+    error_of_first FoldLegacy (flat_map legacy_places_in (flat_map (g.T.HasExpressions.lists l.skeleton) (drop l.item-index l.items)))
+    ≡ error_of_first FoldLegacy (flat_map legacy_places_in (flat_map (g.T.HasExpressions.lists l.skeleton) l.items))

@@ -8,4 +8,4 @@ returns-in-Some c =
     (same_by_eq c.in-Some.field-0.now.0 c.args.place c.eq.result c.eq.ensures c.if-eq.true)
 
 pub returns-in_default : goal.returns-in_default
-returns-in_default c = none_there c.args.entries.now c.args.place c.args.likely (c.all_before.ensures.before c.if-all_before.true) (c.all_behind.ensures c.if-all_behind.true)
+returns-in_default c = none_there c.args.entries.now c.args.place c.args.likely (c.all_before.ensures.before c.if-all_before.true) (c.all_after.ensures c.if-all_after.true)

@@ -8,7 +8,7 @@ abbrev pub invariant-loop-last : goal.invariant-loop-last
 invariant-loop-last l =
     record {
       row : IsPostorder l.before;
-      same : outcome (operands_from l.takes l.sum (forest_of l.before)) ≡ outcome (operand_search l.takes (forest_of l.row));
+      same : outcome (operands_from l.operands l.sum (forest_of l.before)) ≡ outcome (operand_search l.operands (forest_of l.row));
     }
 
 abbrev pub decreases-loop-last : goal.decreases-loop-last

@@ -2,7 +2,7 @@
 use Rattle.std.proofs.Common.{refl}
 use Rattle.wasmprinter_spec.specs.Types.{TableKind, MemoryKind, GlobalKind, TagKind, FuncKind}
 use Rattle.wasmprinter_spec.specs.Customs.Hints.{hints_of}
-use Rattle.wasmprinter_spec.specs.Layout.{scope_behind}
+use Rattle.wasmprinter_spec.specs.Layout.{scope_after}
 use Rattle.wasmprinter_spec.specs.Layout.Tags.{tag_pieces}
 use Rattle.wasmprinter_spec.specs.Layout.Imports.{no_numbers}
 use Rattle.wasmprinter_spec.specs.Layout.Tables.{table_pieces}
@@ -70,5 +70,5 @@ returns-in-Code c o s =
 pub returns-in-Data : goal.returns-in-Data
 returns-in-Data c o s =
     let m = c.args.module.now in
-    let late = scope_behind m s in
-    rw (c.in-Data.is, numbered_pieces-break (data_pieces o.skeleton late) 0 m.datas (data-break o.skeleton late), c.is_empty-in-Data.ensures, c.datas.ensures) refl
+    let late = scope_after m s in
+    rw (c.in-Data.is, numbered_pieces-break (data_pieces o.skeleton late) 0 m.data_segments (data-break o.skeleton late), c.is_empty-in-Data.ensures, c.data_segments.ensures) refl

@@ -3,4 +3,4 @@ use Rattle.wasmprinter_sections.proofs.sections.write_datas.Goals as goal
 
 pub returns-clause-pieces : goal.returns-clause-pieces
 unfolding data_pieces
-returns-clause-pieces g c = rw (c.datas.ensures, c.from.ensures, c.function_count.ensures, c.imported_count.ensures.is) at c.write_each-written.ensures.pieces
+returns-clause-pieces g c = rw (c.data_segments.ensures, c.from.ensures, c.function_count.ensures, c.imported_count.ensures.is) at c.write_each-written.ensures.pieces

@@ -8,7 +8,7 @@ use Rattle.wasmprinter_spec.specs.Types.{MemoryKind, TagKind}
 use Rattle.wasmprinter_entries.specs.Externs.{imported_count}
 use Rattle.wasmprinter_scope.specs.Scopes.{scope_view}
 use Rattle.wasmprinter_fields.proofs.FieldsOnOneLine.{memory-line, tag-line, export-line}
-use Rattle.wasmprinter_sections.proofs.Painting.{numbered_pieces-agree}
+use Rattle.wasmprinter_sections.proofs.Coloring.{numbered_pieces-agree}
 use Rattle.wasmprinter_sections.proofs.sections.write_fields_of.Goals as goal
 
 pub returns-in-Table-clause-pieces : goal.returns-in-Table-clause-pieces

@@ -22,7 +22,7 @@ loop-index-preserved g c =
     let made = rw (c.next_function.ensures.gives, c.from.ensures, c.imported_count-first.ensures.is, c.loop-index.invariant.scope) at c.in_ok-write_function.ensures.pieces in
     let number : (first + c.loop-index.index) + 1 ≡ first + (c.loop-index.index + 1) = omega (arith) in
     record {
-      lacks = rw (c.next_function.ensures.behind, c.from.ensures, c.imported_count-first.ensures.is, ← number) (next_written g.P.Print.meaning _ _ (rw step at c.loop-index.invariant.lacks) made);
+      lacks = rw (c.next_function.ensures.after, c.from.ensures, c.imported_count-first.ensures.is, ← number) (next_written g.P.Print.meaning _ _ (rw step at c.loop-index.invariant.lacks) made);
       scope = c.in_ok-write_function.ensures.scope ∙ c.loop-index.invariant.scope;
     }
 

@@ -6,4 +6,4 @@ use Rattle.wasmprinter_text.proofs.types.put_type.Goals as goal
 
 pub returns : goal.returns
 returns g c =
-    rw (one_type (names_of_identifiers c.args.identifiers.now) (type_view c.args.value_type)) (both_marks g.P.Print.meaning c.put_gap.ensures c.put_val_type.ensures)
+    rw (one_type (names_of_identifiers c.args.identifiers.now) (type_view c.args.value_type)) (both_marks g.P.Print.meaning c.put_space.ensures c.put_val_type.ensures)

@@ -23,7 +23,7 @@ abbrev gathered_of : ℕ → Option Kind → List (Placed TypeGroup) → List (P
 gathered_of n last ts is js us ms gs vs es f ss k bs ds cs =
     record {
       rank = n;
-      behind = last;
+      after = last;
       types = ts;
       imports = is;
       type_indices = js;
@@ -36,7 +36,7 @@ gathered_of n last ts is js us ms gs vs es f ss k bs ds cs =
       elements = ss;
       data_count = k;
       bodies = bs;
-      datas = ds;
+      data_segments = ds;
       customs = cs;
     }
 
@@ -52,10 +52,10 @@ pub returns-then-not-is_whole : goal.returns-then-not-is_whole
 returns-then-not-is_whole c =
     let first = ap preamble.parse (sym c.new-cursor.ensures) ∙ c.in_ok-read_preamble.ensures.reads in
     let g : Gathered =
-    gathered_of c.gathered.inside.rank (place_view c.gathered.inside.behind) c.gathered.inside.types c.gathered.inside.imports.items c.gathered.inside.type_indices.items
+    gathered_of c.gathered.inside.rank (place_view c.gathered.inside.after) c.gathered.inside.types c.gathered.inside.imports.items c.gathered.inside.type_indices.items
     c.gathered.inside.tables.items c.gathered.inside.memories.items c.gathered.inside.tags.items c.gathered.inside.globals.items
     c.gathered.inside.exports.items c.gathered.inside.start c.gathered.inside.elements.items c.gathered.inside.data_count c.gathered.inside.bodies.items
-    c.gathered.inside.datas.items c.gathered.inside.customs.items in
+    c.gathered.inside.data_segments.items c.gathered.inside.customs.items in
     let h : HoldsSections c.read_preamble.new.cursor g = subst (HoldsSections c.read_preamble.new.cursor) (sym c.gathered.view_is) c.in_ok-gathered.ensures in
     module_unpaired c.args.wasm.now preamble_bytes c.read_preamble.new.cursor first g h
     (λ whole. let t = c.is_whole.ensures.1 (subst IsWhole c.gathered.view_is whole) in let f = c.if-not-is_whole.true in cc)
@@ -64,10 +64,10 @@ pub invariant_of-result : goal.invariant_of-result
 invariant_of-result c =
     let first = ap preamble.parse (sym c.new-cursor.ensures) ∙ c.in_ok-read_preamble.ensures.reads in
     let g : Gathered =
-    gathered_of c.gathered.inside.rank (place_view c.gathered.inside.behind) c.gathered.inside.types c.gathered.inside.imports.items c.gathered.inside.type_indices.items
+    gathered_of c.gathered.inside.rank (place_view c.gathered.inside.after) c.gathered.inside.types c.gathered.inside.imports.items c.gathered.inside.type_indices.items
     c.gathered.inside.tables.items c.gathered.inside.memories.items c.gathered.inside.tags.items c.gathered.inside.globals.items
     c.gathered.inside.exports.items c.gathered.inside.start c.gathered.inside.elements.items c.gathered.inside.data_count c.gathered.inside.bodies.items
-    c.gathered.inside.datas.items c.gathered.inside.customs.items in
+    c.gathered.inside.data_segments.items c.gathered.inside.customs.items in
     let h : HoldsSections c.read_preamble.new.cursor g = subst (HoldsSections c.read_preamble.new.cursor) (sym c.gathered.view_is) c.in_ok-gathered.ensures in
     let whole : IsWhole g = subst IsWhole (sym c.gathered.view_is) (c.is_whole.ensures.0 c.if-not-is_whole.false) in
     module_kept c.args.wasm.now preamble_bytes c.read_preamble.new.cursor first g h whole (are_bytes c.args.wasm.now c.type_inv.wasm)
@@ -76,10 +76,10 @@ pub returns : goal.returns
 returns c =
     let first = ap preamble.parse (sym c.new-cursor.ensures) ∙ c.in_ok-read_preamble.ensures.reads in
     let g : Gathered =
-    gathered_of c.gathered.inside.rank (place_view c.gathered.inside.behind) c.gathered.inside.types c.gathered.inside.imports.items c.gathered.inside.type_indices.items
+    gathered_of c.gathered.inside.rank (place_view c.gathered.inside.after) c.gathered.inside.types c.gathered.inside.imports.items c.gathered.inside.type_indices.items
     c.gathered.inside.tables.items c.gathered.inside.memories.items c.gathered.inside.tags.items c.gathered.inside.globals.items
     c.gathered.inside.exports.items c.gathered.inside.start c.gathered.inside.elements.items c.gathered.inside.data_count c.gathered.inside.bodies.items
-    c.gathered.inside.datas.items c.gathered.inside.customs.items in
+    c.gathered.inside.data_segments.items c.gathered.inside.customs.items in
     let h : HoldsSections c.read_preamble.new.cursor g = subst (HoldsSections c.read_preamble.new.cursor) (sym c.gathered.view_is) c.in_ok-gathered.ensures in
     let whole : IsWhole g = subst IsWhole (sym c.gathered.view_is) (c.is_whole.ensures.0 c.if-not-is_whole.false) in (
       module_spelled c.args.wasm.now preamble_bytes c.read_preamble.new.cursor first g h whole (are_bytes c.args.wasm.now c.type_inv.wasm),

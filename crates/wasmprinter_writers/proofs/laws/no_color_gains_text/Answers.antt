@@ -1,5 +1,5 @@
-use Rattle.wasmprinter_writers.proofs.Runs.{uncoloured_run}
+use Rattle.wasmprinter_writers.proofs.Runs.{uncolored_run}
 use Rattle.wasmprinter_writers.proofs.laws.no_color_gains_text.Goals as goal
 
 pub returns : goal.returns
-returns g c = uncoloured_run (λ p. p.0) (λ w. g.W.Write.contents w.inner)
+returns g c = uncolored_run (λ p. p.0) (λ w. g.W.Write.contents w.inner)

@@ -1,4 +1,4 @@
-use Rattle.wasmprinter.specs.Outcome.{HasCause, IsTrueOf, Leaves}
+use Rattle.wasmprinter.specs.Outcome.{HasListedCause, IsSoundRefusal, Leaves}
 use Rattle.std.proofs.Common.{ap, ◌∙◌}
 use Rattle.wasmprinter_spec.specs.Names.Section.{label_subsection}
 use Rattle.wasmprinter_error.specs.declared.error.Error.TheVariants.{Memory}
@@ -8,12 +8,12 @@ use Rattle.wasmprinter.proofs.config.Config.print.Goals as goal
 
 pub returns-in_err-module-clause-caused : goal.returns-in_err-module-clause-caused
 returns-in_err-module-clause-caused g c =
-    handed_on (HasCause g.P.Print.meaning c.args.self.now c.args.wasm.now c.args.printer.now c.args.printer.now) c.from_residual.result c.in_err-module.field-0.0 c.from_residual.ensures.1
+    handed_on (HasListedCause g.P.Print.meaning c.args.self.now c.args.wasm.now c.args.printer.now c.args.printer.now) c.from_residual.result c.in_err-module.field-0.0 c.from_residual.ensures.1
     (refusal_cause g.P.Print.meaning c.args.self.now c.args.wasm.now c.args.printer.now c.in_err-module.field-0.0 c.in_err-module.ensures.refused)
 
 pub returns-in_err-module-clause-refused : goal.returns-in_err-module-clause-refused
 returns-in_err-module-clause-refused g c =
-    handed_on (IsTrueOf c.args.self.now c.args.wasm.now) c.from_residual.result c.in_err-module.field-0.0 c.from_residual.ensures.1
+    handed_on (IsSoundRefusal c.args.self.now c.args.wasm.now) c.from_residual.result c.in_err-module.field-0.0 c.from_residual.ensures.1
     (refusal_true c.args.self.now c.args.wasm.now c.in_err-module.field-0.0 c.in_err-module.ensures.refused)
 
 pub returns-in_err-module-clause-left : goal.returns-in_err-module-clause-left
@@ -23,26 +23,26 @@ returns-in_err-module-clause-left g c =
 
 pub returns-in_err-names-clause-caused : goal.returns-in_err-names-clause-caused
 returns-in_err-names-clause-caused g c =
-    handed_on (HasCause g.P.Print.meaning c.args.self.now c.args.wasm.now c.args.printer.now c.args.printer.now) c.from_residual-in_err-names.result c.in_err-names.field-0.0 c.from_residual-in_err-names.ensures.1
+    handed_on (HasListedCause g.P.Print.meaning c.args.self.now c.args.wasm.now c.args.printer.now c.args.printer.now) c.from_residual-in_err-names.result c.in_err-names.field-0.0 c.from_residual-in_err-names.ensures.1
     (refusal_cause g.P.Print.meaning c.args.self.now c.args.wasm.now c.args.printer.now c.in_err-names.field-0.0
     (rw c.in_err-names.ensures.memory (names_refusal c.args.wasm.now c.in_ok-module.module c.in_ok-module.ensures.ok.0 (λ none. not_ok (c.in_err-names.ensures.needed none)))))
 
 pub returns-in_err-names-clause-refused : goal.returns-in_err-names-clause-refused
 returns-in_err-names-clause-refused g c =
-    handed_on (IsTrueOf c.args.self.now c.args.wasm.now) c.from_residual-in_err-names.result c.in_err-names.field-0.0 c.from_residual-in_err-names.ensures.1
+    handed_on (IsSoundRefusal c.args.self.now c.args.wasm.now) c.from_residual-in_err-names.result c.in_err-names.field-0.0 c.from_residual-in_err-names.ensures.1
     (refusal_true c.args.self.now c.args.wasm.now c.in_err-names.field-0.0
     (rw c.in_err-names.ensures.memory (names_refusal c.args.wasm.now c.in_ok-module.module c.in_ok-module.ensures.ok.0 (λ none. not_ok (c.in_err-names.ensures.needed none)))))
 
 pub returns-in_err-labels-clause-caused : goal.returns-in_err-labels-clause-caused
 returns-in_err-labels-clause-caused g c =
-    handed_on (HasCause g.P.Print.meaning c.args.self.now c.args.wasm.now c.args.printer.now c.args.printer.now) c.from_residual-in_err-labels.result Memory c.from_residual-in_err-labels.ensures.1
+    handed_on (HasListedCause g.P.Print.meaning c.args.self.now c.args.wasm.now c.args.printer.now c.args.printer.now) c.from_residual-in_err-labels.result Memory c.from_residual-in_err-labels.ensures.1
     (refusal_cause g.P.Print.meaning c.args.self.now c.args.wasm.now c.args.printer.now Memory
     (names_refusal c.args.wasm.now c.in_ok-module.module c.in_ok-module.ensures.ok.0
     (λ none. not_ok (c.in_err-labels.ensures.needed (λ f n. c.in_ok-names.ensures.names label_subsection f n ∙ unnamed _ none label_subsection f n)))))
 
 pub returns-in_err-labels-clause-refused : goal.returns-in_err-labels-clause-refused
 returns-in_err-labels-clause-refused g c =
-    handed_on (IsTrueOf c.args.self.now c.args.wasm.now) c.from_residual-in_err-labels.result Memory c.from_residual-in_err-labels.ensures.1
+    handed_on (IsSoundRefusal c.args.self.now c.args.wasm.now) c.from_residual-in_err-labels.result Memory c.from_residual-in_err-labels.ensures.1
     (refusal_true c.args.self.now c.args.wasm.now Memory
     (names_refusal c.args.wasm.now c.in_ok-module.module c.in_ok-module.ensures.ok.0
     (λ none. not_ok (c.in_err-labels.ensures.needed (λ f n. c.in_ok-names.ensures.names label_subsection f n ∙ unnamed _ none label_subsection f n)))))
@@ -50,13 +50,13 @@ returns-in_err-labels-clause-refused g c =
 pub returns-in_err-check-clause-caused : goal.returns-in_err-check-clause-caused
 returns-in_err-check-clause-caused g c =
     let o = c.args.self.now in
-    handed_on (HasCause g.P.Print.meaning o c.args.wasm.now c.args.printer.now c.args.printer.now) c.from_residual-in_err-check.result c.in_err-check.field-0.0 c.from_residual-in_err-check.ensures.1
+    handed_on (HasListedCause g.P.Print.meaning o c.args.wasm.now c.args.printer.now c.args.printer.now) c.from_residual-in_err-check.result c.in_err-check.field-0.0 c.from_residual-in_err-check.ensures.1
     (fold_cause g.P.Print.meaning o c.args.wasm.now c.in_ok-module.module c.in_ok-module.ensures.ok.0 c.in_ok-module.ensures.ok.1 c.in_err-check.ensures.refused.0 c.args.printer.now c.in_err-check.field-0.0 c.in_err-check.ensures.refused.1)
 
 pub returns-in_err-check-clause-refused : goal.returns-in_err-check-clause-refused
 returns-in_err-check-clause-refused g c =
     let o = c.args.self.now in
-    handed_on (IsTrueOf o c.args.wasm.now) c.from_residual-in_err-check.result c.in_err-check.field-0.0 c.from_residual-in_err-check.ensures.1
+    handed_on (IsSoundRefusal o c.args.wasm.now) c.from_residual-in_err-check.result c.in_err-check.field-0.0 c.from_residual-in_err-check.ensures.1
     (fold_true g.P.Print.meaning o c.args.wasm.now c.in_ok-module.module c.in_ok-module.ensures.ok.0 c.in_ok-module.ensures.ok.1 c.in_err-check.ensures.refused.0 c.args.printer.now c.in_err-check.field-0.0 c.in_err-check.ensures.refused.1)
 
 pub returns-in_err-check-clause-left : goal.returns-in_err-check-clause-left
@@ -74,7 +74,7 @@ pub returns : goal.returns
 returns g c =
     let o = c.args.self.now in
     let m = g.P.Print.meaning in
-    let colours = g.P.Print.colors c.args.printer.now in
+    let colors = g.P.Print.colors c.args.printer.now in
     let bytes = c.args.wasm.now in
     let placed = c.in_ok-module.module in
     let spelled = c.in_ok-module.ensures.ok.0 in
@@ -86,12 +86,12 @@ returns g c =
     let laid = rw c.self.view_is at c.write_module.ensures in
     let answers = laid.0 in
     let start = c.in_ok-labels.ensures.start in
-    let invents = ap (λ s. s.invents) start ∙ ap (λ i. i.options.invents) c.self-inside.view_is ∙ ap (λ o. o.invents) c.self.view_is in
-    let ended = own_ended m colours o bytes placed spelled within foldable old new answers r c.in_ok-labels.labels c.in_ok-names.names (ap (λ s. s.named) start) invents c.in_ok-names.ensures.names laid.1 in
+    let synthesizes = ap (λ s. s.synthesizes) start ∙ ap (λ i. i.options.synthesizes) c.self-inside.view_is ∙ ap (λ o. o.synthesizes) c.self.view_is in
+    let ended = own_ended m colors o bytes placed spelled within foldable old new answers r c.in_ok-labels.labels c.in_ok-names.names (ap (λ s. s.named) start) synthesizes c.in_ok-names.ensures.names laid.1 in
     record {
-      printed = ended_printed m colours o bytes placed spelled within foldable old new answers r ended;
-      caused = ended_caused m colours o bytes placed spelled within foldable old new answers r ended;
-      refused = ended_true m colours o bytes placed spelled within foldable old new answers r ended;
-      left = ended_left m colours o bytes placed spelled within foldable old new answers r ended;
-      component = ended_unmarked m colours o bytes placed spelled within foldable old new answers r ended;
+      printed = ended_printed m colors o bytes placed spelled within foldable old new answers r ended;
+      caused = ended_caused m colors o bytes placed spelled within foldable old new answers r ended;
+      refused = ended_true m colors o bytes placed spelled within foldable old new answers r ended;
+      left = ended_left m colors o bytes placed spelled within foldable old new answers r ended;
+      component = ended_unmarked m colors o bytes placed spelled within foldable old new answers r ended;
     }

@@ -1,5 +1,5 @@
 use Rattle.std.proofs.Common.{sym, subst}
-use Rattle.wasmprinter.specs.Outcome.{HasTextCause, IsTrueOfText}
+use Rattle.wasmprinter.specs.Outcome.{HasListedTextCause, IsSoundTextRefusal}
 use Rattle.wasmprinter.proofs.Outcomes.{growth_cause, growth_true}
 use Rattle.wasmprinter.proofs.Texts.{printed_text}
 use Rattle.wasmprinter.proofs.config.Config.print_to_string.Goals as goal
@@ -10,8 +10,8 @@ returns-in-Ok-clause-printed c =
 
 pub returns-in-Err-clause-caused : goal.returns-in-Err-clause-caused
 returns-in-Err-clause-caused c =
-    subst (HasTextCause c.args.self.now c.args.wasm.now) (sym c.without_printer.ensures) (growth_cause _ c.args.self.now c.args.wasm.now _ c.print.new.printer c.in-Err.error c.in-Err.ensures.caused)
+    subst (HasListedTextCause c.args.self.now c.args.wasm.now) (sym c.without_printer.ensures) (growth_cause _ c.args.self.now c.args.wasm.now _ c.print.new.printer c.in-Err.error c.in-Err.ensures.caused)
 
 pub returns-in-Err-clause-refused : goal.returns-in-Err-clause-refused
 returns-in-Err-clause-refused c =
-    subst (IsTrueOfText c.args.self.now c.args.wasm.now) (sym c.without_printer.ensures) (growth_true c.args.self.now c.args.wasm.now c.in-Err.error c.in-Err.ensures.refused)
+    subst (IsSoundTextRefusal c.args.self.now c.args.wasm.now) (sym c.without_printer.ensures) (growth_true c.args.self.now c.args.wasm.now c.in-Err.error c.in-Err.ensures.refused)

@@ -4,7 +4,7 @@ use Rattle.wasmprinter_tracker.specs.Cuts.{lines_at_starts}
 use Rattle.wasmprinter_tracker.specs.Tracked.{without_lines}
 use Rattle.wasmprinter_error.specs.declared.error.Error.TheVariants.{Memory}
 use Rattle.wasmprinter.specs.Lined.{HasLinesBy, LeavesStorage}
-use Rattle.wasmprinter.specs.Outcome.{HasTextCause, IsTrueOfText, as_growth}
+use Rattle.wasmprinter.specs.Outcome.{HasListedTextCause, IsSoundTextRefusal, as_growth}
 use Rattle.wasmprinter.proofs.Outcomes.{growth_cause, growth_true}
 use Rattle.wasmprinter.proofs.TrackedLines.{told_as, handed_on_as, leaves_as, printed_leaves, printable, finished_lines, refusal_leaves}
 use Rattle.wasmprinter.proofs.config.Config.print_with_line_starts.Goals as goal
@@ -22,7 +22,7 @@ pub returns-in-Ok-clause-refused : goal.returns-in-Ok-clause-refused
 returns-in-Ok-clause-refused c =
     let base = string_bytes c.args.storage.now in
     let begun : c.new-printer.result ≡ without_lines base = c.new-printer.ensures ∙ ap (λ s. without_lines (string_bytes s)) c.replace-text.ensures.value in
-    told_as _ (λ e y h. search rules) c.finish-text.result.1 c.map_err.result c.map_err.ensures.cases (IsTrueOfText c.args.self.now c.args.wasm.now)
+    told_as _ (λ e y h. search rules) c.finish-text.result.1 c.map_err.result c.map_err.ensures.cases (IsSoundTextRefusal c.args.self.now c.args.wasm.now)
     (printable c.args.self.now c.args.wasm.now base (string_bytes c.finish-text.result.0) c.new-printer.result c.print-printed.new.printer begun c.finish-text.ensures.text c.in-Ok.ensures.printed)
 
 pub returns-in-Ok-clause-left : goal.returns-in-Ok-clause-left
@@ -36,12 +36,12 @@ returns-in-Ok-clause-left c =
 
 pub returns-in-Err-clause-caused : goal.returns-in-Err-clause-caused
 returns-in-Err-clause-caused c =
-    subst (HasTextCause c.args.self.now c.args.wasm.now) (sym c.without_printer.ensures)
+    subst (HasListedTextCause c.args.self.now c.args.wasm.now) (sym c.without_printer.ensures)
     (growth_cause _ c.args.self.now c.args.wasm.now _ c.print-printed.new.printer c.in-Err.error c.in-Err.ensures.caused)
 
 pub returns-in-Err-clause-refused : goal.returns-in-Err-clause-refused
 returns-in-Err-clause-refused c =
-    subst (IsTrueOfText c.args.self.now c.args.wasm.now) (sym c.without_printer.ensures) (growth_true c.args.self.now c.args.wasm.now c.in-Err.error c.in-Err.ensures.refused)
+    subst (IsSoundTextRefusal c.args.self.now c.args.wasm.now) (sym c.without_printer.ensures) (growth_true c.args.self.now c.args.wasm.now c.in-Err.error c.in-Err.ensures.refused)
 
 pub returns-in-Err-clause-left : goal.returns-in-Err-clause-left
 returns-in-Err-clause-left c =

@@ -3,4 +3,4 @@ use Rattle.wasmprinter_bytes.proofs.Items.{length-items_of}
 use Rattle.wasmprinter_bytes.proofs.lists.Items.len.Goals as goal
 
 pub returns : goal.returns
-returns g c = sym (length-items_of g.T.Spelled.parse c.self.inside.left c.self.inside.cursor c.self.invariant) ∙ ap length c.self.view_is
+returns g c = sym (length-items_of g.T.Decode.parse c.self.inside.left c.self.inside.cursor c.self.invariant) ∙ ap length c.self.view_is

@@ -14,12 +14,12 @@ returns-in_err-write_declared_global g c = record {
   scope = refl;
 }
 
-pub returns-in_err-gap : goal.returns-in_err-gap
-returns-in_err-gap g c = record {
+pub returns-in_err-write_space : goal.returns-in_err-write_space
+returns-in_err-write_space g c = record {
   pieces = rw (global-parts (scope_view c.args.scope.now) c.args.number c.args.self.now.value)
       (both_pieces g.P.Print.meaning (rw c.ty.ensures at (c.in_ok-write_declared_global.ensures c.args.options.now))
-      (pieces_halt g.P.Print.meaning (folds_in (scope_view c.args.scope.now)) c.from_residual-in_err-gap.result _ _ c.from_residual-in_err-gap.ensures.1 (c.in_err-gap.ensures c.args.options.now)));
-  lines = no_answer _ _ c.from_residual-in_err-gap.result c.from_residual-in_err-gap.ensures.1;
+      (pieces_halt g.P.Print.meaning (folds_in (scope_view c.args.scope.now)) c.from_residual-in_err-write_space.result _ _ c.from_residual-in_err-write_space.ensures.1 (c.in_err-write_space.ensures c.args.options.now)));
+  lines = no_answer _ _ c.from_residual-in_err-write_space.result c.from_residual-in_err-write_space.ensures.1;
   scope = refl;
 }
 
@@ -27,7 +27,7 @@ pub returns : goal.returns
 returns g c = record {
   pieces = rw (global-parts (scope_view c.args.scope.now) c.args.number c.args.self.now.value)
       (both_pieces g.P.Print.meaning (rw c.ty.ensures at (c.in_ok-write_declared_global.ensures c.args.options.now))
-      (both_pieces g.P.Print.meaning (c.in_ok-gap.ensures c.args.options.now) (rw c.init.ensures at c.write_constant.ensures.pieces)));
+      (both_pieces g.P.Print.meaning (c.in_ok-write_space.ensures c.args.options.now) (rw c.init.ensures at c.write_constant.ensures.pieces)));
   lines = rw (global-breaks (scope_view c.args.scope.now) c.args.number c.args.self.now.value) (rw c.init.ensures at c.write_constant.ensures.lines);
   scope = c.write_constant.ensures.scope;
 }

@@ -10,62 +10,62 @@ use Rattle.wasmprinter_fold.proofs.tree.GrowingTree.add.Goals as goal
 
 pub returns-in-Plain-clause-steps : goal.returns-in-Plain-clause-steps
 returns-in-Plain-clause-steps g c =
-    let paints = c.args.self.now.texts.paints in
+    let color = c.args.self.now.texts.color in
     let x =
-    shown_operator paints (setting_among g.S.Signatures.signature_at c.args.setting.now c.args.labels.now) c.args.labels.now
+    shown_operator color (setting_among g.S.Signatures.signature_at c.args.setting.now c.args.labels.now) c.args.labels.now
     c.args.place c.args.hint c.args.operator.now in
-    let then = shown_keyword paints c.args.place (codes "then") in
-    let otherwise = shown_keyword paints c.args.place (codes "else") in
+    let then = shown_keyword color c.args.place (codes "then") in
+    let otherwise = shown_keyword color c.args.place (codes "else") in
     same_step c.plain.result c.args.self.now c.plain.new.self _ _
     (by_role (role_view c.role.result) _ x then otherwise (counts_view c.args.counts) (c.role.ensures ∙ ap (λ (o : Operator). role_of o.opcode) c.operator.view_is))
     (rw (c.in-Plain.is) c.plain.ensures.steps)
 
 pub returns-in-Opens-clause-steps : goal.returns-in-Opens-clause-steps
 returns-in-Opens-clause-steps g c =
-    let paints = c.args.self.now.texts.paints in
+    let color = c.args.self.now.texts.color in
     let x =
-    shown_operator paints (setting_among g.S.Signatures.signature_at c.args.setting.now c.args.labels.now) c.args.labels.now
+    shown_operator color (setting_among g.S.Signatures.signature_at c.args.setting.now c.args.labels.now) c.args.labels.now
     c.args.place c.args.hint c.args.operator.now in
-    let then = shown_keyword paints c.args.place (codes "then") in
-    let otherwise = shown_keyword paints c.args.place (codes "else") in
+    let then = shown_keyword color c.args.place (codes "then") in
+    let otherwise = shown_keyword color c.args.place (codes "else") in
     same_step c.open.result c.args.self.now c.open.new.self _ _
     (by_role (role_view c.role.result) _ x then otherwise (counts_view c.args.counts) (c.role.ensures ∙ ap (λ (o : Operator). role_of o.opcode) c.operator.view_is))
     (rw (c.in-Opens.is) c.open.ensures.steps)
 
 pub returns-in-OpensIf-clause-steps : goal.returns-in-OpensIf-clause-steps
 returns-in-OpensIf-clause-steps g c =
-    let paints = c.args.self.now.texts.paints in
+    let color = c.args.self.now.texts.color in
     let x =
-    shown_operator paints (setting_among g.S.Signatures.signature_at c.args.setting.now c.args.labels.now) c.args.labels.now
+    shown_operator color (setting_among g.S.Signatures.signature_at c.args.setting.now c.args.labels.now) c.args.labels.now
     c.args.place c.args.hint c.args.operator.now in
-    let then = shown_keyword paints c.args.place (codes "then") in
-    let otherwise = shown_keyword paints c.args.place (codes "else") in
+    let then = shown_keyword color c.args.place (codes "then") in
+    let otherwise = shown_keyword color c.args.place (codes "else") in
     same_step c.open_if.result c.args.self.now c.open_if.new.self _ _
     (by_role (role_view c.role.result) _ x then otherwise (counts_view c.args.counts) (c.role.ensures ∙ ap (λ (o : Operator). role_of o.opcode) c.operator.view_is))
     (rw (c.in-OpensIf.is) c.open_if.ensures.steps)
 
-pub returns-in-Turns-clause-steps : goal.returns-in-Turns-clause-steps
-returns-in-Turns-clause-steps g c =
-    let paints = c.args.self.now.texts.paints in
+pub returns-in-Else-clause-steps : goal.returns-in-Else-clause-steps
+returns-in-Else-clause-steps g c =
+    let color = c.args.self.now.texts.color in
     let x =
-    shown_operator paints (setting_among g.S.Signatures.signature_at c.args.setting.now c.args.labels.now) c.args.labels.now
+    shown_operator color (setting_among g.S.Signatures.signature_at c.args.setting.now c.args.labels.now) c.args.labels.now
     c.args.place c.args.hint c.args.operator.now in
-    let then = shown_keyword paints c.args.place (codes "then") in
-    let otherwise = shown_keyword paints c.args.place (codes "else") in
+    let then = shown_keyword color c.args.place (codes "then") in
+    let otherwise = shown_keyword color c.args.place (codes "else") in
     same_step c.turn.result c.args.self.now c.turn.new.self _ _
     (by_role (role_view c.role.result) _ x then otherwise (counts_view c.args.counts) (c.role.ensures ∙ ap (λ (o : Operator). role_of o.opcode) c.operator.view_is))
-    (rw (c.in-Turns.is) c.turn.ensures.steps)
+    (rw (c.in-Else.is) c.turn.ensures.steps)
 
 pub returns-in-OpensTry : goal.returns-in-OpensTry
 returns-in-OpensTry g c =
-    let paints = c.args.self.now.texts.paints in
+    let color = c.args.self.now.texts.color in
     let x =
-    shown_operator paints (setting_among g.S.Signatures.signature_at c.args.setting.now c.args.labels.now) c.args.labels.now
+    shown_operator color (setting_among g.S.Signatures.signature_at c.args.setting.now c.args.labels.now) c.args.labels.now
     c.args.place c.args.hint c.args.operator.now in
-    let then = shown_keyword paints c.args.place (codes "then") in
-    let otherwise = shown_keyword paints c.args.place (codes "else") in
+    let then = shown_keyword color c.args.place (codes "then") in
+    let otherwise = shown_keyword color c.args.place (codes "else") in
     record {
-      paints = c.end.ensures.paints;
+      color = c.end.ensures.color;
       labels = c.end.ensures.labels;
       steps =
           same_step c.end.result c.args.self.now c.end.new.self _ _

@@ -17,5 +17,5 @@ pub loop-place-preserved : goal.loop-place-preserved
 loop-place-preserved g c =
     goes_on c.loop-place.invariant _ _ _ c.advance.new.self c.take_hint-hint.new.hints c.fold_next.new.self c.take_hint-hint.result c.in-Some.ensures.steps
     (c.role-role.ensures ∙ ap (λ (o : Operator). role_of o.opcode) c.operator.view_is) (sym c.is_of_try.ensures ∙ c.if-is_of_try.false) c.advance.ensures
-    (rw c.saturating_sub.ensures at c.take_hint-hint.ensures.behind) (rw c.saturating_sub.ensures at c.take_hint-hint.ensures.gives) c.in_ok-fold_next.ensures.paints c.in_ok-fold_next.ensures.labels
+    (rw c.saturating_sub.ensures at c.take_hint-hint.ensures.after) (rw c.saturating_sub.ensures at c.take_hint-hint.ensures.results) c.in_ok-fold_next.ensures.color c.in_ok-fold_next.ensures.labels
     c.in_ok-fold_next.ensures.steps

@@ -17,8 +17,8 @@ returns-clause-steps g c =
     let second = c.write_operator.new.self.bytes in
     let third = c.write_keyword.new.self.bytes in
     on_ok_weaker c.open_if.result (λ f s h.
-    shows-step third c.args.self.now.builder c.open_if.new.self (OpensIf head then c.args.counts.gives) _ s
+    shows-step third c.args.self.now.builder c.open_if.new.self (OpensIf head then c.args.counts.results) _ s
     (in_grown second third head k.grows e.inside, k.inside)
-    (ap₂ (λ (x y : Shown). OpensIf x y c.args.counts.gives) (shown_grown second third head k.grows e.inside ∙ e.shows)
-    (k.shows ∙ ap (λ (paints : Bool). shown_keyword paints c.args.place (codes "then")) e.paints)) f
+    (ap₂ (λ (x y : Shown). OpensIf x y c.args.counts.results) (shown_grown second third head k.grows e.inside ∙ e.shows)
+    (k.shows ∙ ap (λ (color : Bool). shown_keyword color c.args.place (codes "then")) e.color)) f
     (shows-more second third c.args.self.now.builder s k.grows (shows-more first second c.args.self.now.builder s e.grows h))) c.open_if.ensures

@@ -10,6 +10,6 @@ returns-clause-steps g c =
     let head = c.in_ok-head.head in
     let e = c.in_ok-head.ensures in
     on_ok_weaker c.plain.result (λ f s h.
-    shows-step c.write_operator.new.self.bytes c.args.self.now.builder c.plain.new.self (Plain head c.args.counts.takes c.args.counts.gives) _ s e.inside
-    (ap (λ (x : Shown). Plain x c.args.counts.takes c.args.counts.gives) e.shows) f
+    shows-step c.write_operator.new.self.bytes c.args.self.now.builder c.plain.new.self (Plain head c.args.counts.operands c.args.counts.results) _ s e.inside
+    (ap (λ (x : Shown). Plain x c.args.counts.operands c.args.counts.results) e.shows) f
     (shows-more c.args.self.now.texts.bytes c.write_operator.new.self.bytes c.args.self.now.builder s e.grows h)) c.plain.ensures

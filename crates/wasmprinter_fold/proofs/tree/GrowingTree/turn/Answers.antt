@@ -1,6 +1,6 @@
 use Rattle.std.proofs.Common.{ap}
 use Rattle.std.proofs.lemmas.Result.{on_ok_weaker}
-use Rattle.wasmprinter_nodes.specs.Building.{Turns}
+use Rattle.wasmprinter_nodes.specs.Building.{Else}
 use Rattle.wasmprinter_node_text.specs.Shown.{Shown}
 use Rattle.wasmprinter_fold.proofs.Growing.{shows-more, shows-step}
 use Rattle.wasmprinter_fold.proofs.tree.GrowingTree.turn.Goals as goal
@@ -9,6 +9,6 @@ pub returns-clause-steps : goal.returns-clause-steps
 returns-clause-steps c =
     let e = c.in_ok-head.ensures in
     on_ok_weaker c.turn.result (λ f s h.
-    shows-step c.write_keyword.new.self.bytes c.args.self.now.builder c.turn.new.self (Turns c.in_ok-head.head) _ s e.inside
-    (ap (λ (y : Shown). Turns y) e.shows) f
+    shows-step c.write_keyword.new.self.bytes c.args.self.now.builder c.turn.new.self (Else c.in_ok-head.head) _ s e.inside
+    (ap (λ (y : Shown). Else y) e.shows) f
     (shows-more c.args.self.now.texts.bytes c.write_keyword.new.self.bytes c.args.self.now.builder s e.grows h)) c.turn.ensures

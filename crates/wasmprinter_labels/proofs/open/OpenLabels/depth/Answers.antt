@@ -5,4 +5,4 @@ use Rattle.wasmprinter_labels.proofs.open.OpenLabels.depth.Goals as goal
 
 pub returns : goal.returns
 returns c =
-    sym (labels_length c.self.inside.identifiers.invents c.self.inside.named.blocks c.self.inside.depth) ∙ ap (λ (s : Scan). length s.labels) c.self.view_is
+    sym (labels_length c.self.inside.identifiers.synthesizes c.self.inside.named.blocks c.self.inside.depth) ∙ ap (λ (s : Scan). length s.labels) c.self.view_is

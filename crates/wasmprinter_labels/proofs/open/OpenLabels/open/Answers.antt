@@ -1,5 +1,5 @@
 use Rattle.std.proofs.Common.{sym, ap, ◌∙◌, arith, add-one, length, ◌<◌}
-use Rattle.wasmprinter_labels.specs.Scan.{behind_opening}
+use Rattle.wasmprinter_labels.specs.Scan.{after_opening}
 use Rattle.wasmprinter_labels.proofs.Steps.{kept_unnamed, scan_unnamed, has_room, has_number, not_last, kept_named, scan_named}
 use Rattle.wasmprinter_labels.proofs.open.OpenLabels.open.Goals as goal
 
@@ -7,33 +7,33 @@ pub invariant_of-self : goal.invariant_of-self
 invariant_of-self c =
     let x = c.self.inside in
     simp add-one
-    (kept_unnamed x.identifiers.names.now x.labels.items c.deref.result.now x.identifiers.invents x.next x.function x.opened x.depth x.named c.self.invariant c.deref.ensures.value
+    (kept_unnamed x.identifiers.names.now x.labels.items c.deref.result.now x.identifiers.synthesizes x.next x.function x.opened x.depth x.named c.self.invariant c.deref.ensures.value
     (sym c.label_of-label.ensures ∙ c.in_default.is))
 
 pub returns-in_default : goal.returns-in_default
 returns-in_default c =
     let x = c.self.inside in
     simp add-one
-    (scan_unnamed x.identifiers.names.now x.labels.items c.deref.result.now x.identifiers.invents x.next x.function x.opened x.depth x.named c.self.invariant c.deref.ensures.value
-    (sym c.label_of-label.ensures ∙ c.in_default.is) ∙ ap behind_opening c.self.view_is)
+    (scan_unnamed x.identifiers.names.now x.labels.items c.deref.result.now x.identifiers.synthesizes x.next x.function x.opened x.depth x.named c.self.invariant c.deref.ensures.value
+    (sym c.label_of-label.ensures ∙ c.in_default.is) ∙ ap after_opening c.self.view_is)
 
 pub push-requires-clause-room : goal.push-requires-clause-room
 push-requires-clause-room c =
     let x = c.self.inside in
-    has_room x.identifiers.names.now x.labels.items c.deref.result.now x.identifiers.invents x.next x.function x.opened x.depth x.named c.self.invariant c.deref.ensures.value
+    has_room x.identifiers.names.now x.labels.items c.deref.result.now x.identifiers.synthesizes x.next x.function x.opened x.depth x.named c.self.invariant c.deref.ensures.value
     c.in-Some.label (sym c.label_of-label.ensures ∙ c.in-Some.is)
 
 pub push-requires-clause-number : goal.push-requires-clause-number
 push-requires-clause-number c =
     let x = c.self.inside in
-    has_number x.identifiers.names.now x.labels.items c.deref.result.now x.identifiers.invents x.next x.function x.opened x.depth x.named c.self.invariant c.deref.ensures.value
+    has_number x.identifiers.names.now x.labels.items c.deref.result.now x.identifiers.synthesizes x.next x.function x.opened x.depth x.named c.self.invariant c.deref.ensures.value
     c.in-Some.label (sym c.label_of-label.ensures ∙ c.in-Some.is)
 
 pub overflow_add-self-3 : goal.overflow_add-self-3
 overflow_add-self-3 c =
     let x = c.self.inside in
     let lt : x.next < length x.labels.items =
-    not_last x.identifiers.names.now x.labels.items c.deref.result.now x.identifiers.invents x.next x.function x.opened x.depth x.named c.self.invariant c.deref.ensures.value
+    not_last x.identifiers.names.now x.labels.items c.deref.result.now x.identifiers.synthesizes x.next x.function x.opened x.depth x.named c.self.invariant c.deref.ensures.value
     c.in-Some.label (sym c.label_of-label.ensures ∙ c.in-Some.is) in
     omega (arith, lt, x.labels.ok, x.labels.small)
 
@@ -41,12 +41,12 @@ pub invariant_of-self-2 : goal.invariant_of-self-2
 invariant_of-self-2 c =
     let x = c.self.inside in
     rw c.push.ensures (simp add-one
-    (kept_named x.identifiers.names.now x.labels.items c.deref.result.now x.identifiers.invents x.next x.function x.opened x.depth x.named c.self.invariant c.deref.ensures.value
+    (kept_named x.identifiers.names.now x.labels.items c.deref.result.now x.identifiers.synthesizes x.next x.function x.opened x.depth x.named c.self.invariant c.deref.ensures.value
     c.in-Some.label (sym c.label_of-label.ensures ∙ c.in-Some.is)))
 
 pub returns : goal.returns
 returns c =
     let x = c.self.inside in
     rw c.push.ensures (simp add-one
-    (scan_named x.identifiers.names.now x.labels.items c.deref.result.now x.identifiers.invents x.next x.function x.opened x.depth x.named c.self.invariant c.deref.ensures.value
-    c.in-Some.label (sym c.label_of-label.ensures ∙ c.in-Some.is) ∙ ap behind_opening c.self.view_is))
+    (scan_named x.identifiers.names.now x.labels.items c.deref.result.now x.identifiers.synthesizes x.next x.function x.opened x.depth x.named c.self.invariant c.deref.ensures.value
+    c.in-Some.label (sym c.label_of-label.ensures ∙ c.in-Some.is) ∙ ap after_opening c.self.view_is))

@@ -6,6 +6,6 @@ use Rattle.wasmprinter_scope.proofs.scope.Scope.identifiers.Goals as goal
 
 pub returns : goal.returns
 returns c = record {
-  all = ap₂ (λ invents named. names_by invents (name_at named)) c.identifiers.ensures.invents c.identifiers.ensures.named;
-  items = λ space n. ap₂ (λ invents named. name_in invents (name_at named) (id_of space) (outer_of space 0) n) c.identifiers.ensures.invents c.identifiers.ensures.named;
+  all = ap₂ (λ synthesizes named. names_by synthesizes (name_at named)) c.identifiers.ensures.synthesizes c.identifiers.ensures.named;
+  items = λ space n. ap₂ (λ synthesizes named. name_in synthesizes (name_at named) (id_of space) (outer_of space 0) n) c.identifiers.ensures.synthesizes c.identifiers.ensures.named;
 }

@@ -11,4 +11,4 @@ returns g c =
     let supers = rw c.supertypes.ensures at c.put_supertypes.ensures in
     let composite = rw c.composite.ensures at c.put_composite_type.ensures in
     let whole = sub_group-parts names c.args.number c.args.sub_type.now.final c.args.sub_type.now.supertypes c.args.sub_type.now.composite in
-    rw whole (both_marks m c.put_open.ensures (both_marks m c.put_gap.ensures (both_marks m final (both_marks m supers (both_marks m composite c.put_shut.ensures)))))
+    rw whole (both_marks m c.put_open.ensures (both_marks m c.put_space.ensures (both_marks m final (both_marks m supers (both_marks m composite c.put_close_paren.ensures)))))

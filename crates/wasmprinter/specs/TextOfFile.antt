@@ -1,0 +1,29 @@
+-- Definition of the text of a file's module. No contract can say what a file contains: its bytes are those that
+-- reading it returned.
+use Rattle.std.specs.Prelude.{◌≡◌, ◌↔◌, ◌⊎◌, ℕ, List, Option, Some, None}
+use Rattle.wasmprinter_error.specs.declared.error.Error.{Error}
+use Rattle.wasmprinter_error.specs.declared.error.Error.TheVariants.{Component, Unreadable}
+use Rattle.wasmprinter_spec.specs.Binary.{IsComponent}
+use Rattle.wasmprinter_spec.specs.Options.{Options}
+use Rattle.wasmprinter.specs.Printed.{HasText}
+use Rattle.wasmprinter.specs.Outcome.{HasListedTextCause, IsSoundTextRefusal}
+
+-- The possible results of reading one file: its bytes, or `None` if reading fails.
+abbrev pub Reading : Type 1
+Reading = Option (List ℕ) → Type 0
+
+-- Reading may return bytes that encode a module with this text.
+abbrev pub IsTextOfFile : Reading → List ℕ → Type 0
+IsTextOfFile gives text = (wasm : List ℕ) × gives (Some wasm) × HasText wasm text
+
+-- With these options, these bytes are refused with this error, for a cause that is true of them. The error is
+-- `Component` if and only if the bytes are marked as a component.
+pub record AreRefused (o : Options) (wasm : List ℕ) (error : Error) : Type 0 where
+  pub true_of : IsSoundTextRefusal o wasm error
+  pub caused : HasListedTextCause o wasm error
+  pub component : (error ≡ Component) ↔ IsComponent wasm
+
+-- With these options, the file has no text: either reading failed and the error is `Unreadable`, or reading
+-- returned bytes that are refused with this error.
+abbrev pub IsRefusedBy : Options → Reading → Error → Type 0
+IsRefusedBy o gives error = (gives None × (error ≡ Unreadable)) ⊎ ((wasm : List ℕ) × gives (Some wasm) × AreRefused o wasm error)
