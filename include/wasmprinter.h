@@ -8,8 +8,9 @@
  * time, on buffers of their own. Threads may share the input of a call, `wasm`, `options` and `indent`, as long as no thread writes to it.
  * Do not call a function from a signal handler, or in the forked child of a process with threads.
  *
- * Memory: the caller owns every buffer, and no function keeps a pointer after it returns. The functions that print allocate with `malloc`
- * and free what they allocate before they return. The text itself is never allocated.
+ * Memory: the caller owns every buffer, and no function keeps a pointer after it returns. The functions that print
+ * allocate with `malloc` and free what they allocate before they return. They write the text to the caller's buffer
+ * while they print. With `fold`, they first collect the text of a body's operators in memory that they allocate.
  *
  * Pointers: no pointer may be null, even if its length is 0, except for the functions whose name ends in `_nullable`. An object that a
  * function writes to must not overlap any other object that is passed to it. */
@@ -70,7 +71,9 @@ enum {
  * WASMPRINTER_DYLINK_SUBSECTION, WASMPRINTER_TOO_LONG and, with `fold`, WASMPRINTER_MEMORY, the buffer may hold a prefix of the text. After
  * any other error it is unchanged.
  *
- * With an indent of spaces and tabs the text consists of printable ASCII characters, tabs and line feeds, and reads back as the module. */
+ * With an indent of spaces and tabs the text consists of printable ASCII characters, tabs and line feeds. If also
+ * `skeleton` is false, and every index that the module uses is declared and names an item of the right kind, the text
+ * reads back as the module. */
 uint32_t wasmprinter_print(const uint8_t *wasm, size_t wasm_len, const WasmprinterOptions *options, const uint8_t *indent,
                            size_t indent_len, uint8_t *out, size_t out_len, size_t *length, uint64_t *detail);
 
@@ -96,8 +99,8 @@ uint32_t wasmprinter_print_lines(const uint8_t *wasm, size_t wasm_len, const Was
 #define WASMPRINTER_ERROR_TEXT_LEN ((size_t)200)
 
 /* Writes the description of a status with its detail to `out`, in English and ASCII, such as `malformed module at byte 0x1f`. Writes as
- * many of its first bytes as fit, and returns the length of the whole description. A status that no function returns is described as
- * unknown. Allocates nothing. */
+ * many of its first bytes as fit, and returns the length of the whole description. The description of a status greater
+ * than 12 is `unknown status`. Allocates nothing. */
 size_t wasmprinter_error_text(uint32_t status, uint64_t detail, uint8_t *out, size_t out_len);
 
 /* Returns the version of the library: the major number times 1,000,000, plus the minor number times 1,000, plus the patch number.

@@ -131,7 +131,7 @@ pub fn run<S: Source, R: Render<Error>, O: Sink, E: Sink>(
         let _ = err.write_text(USAGE);
         return MISUSED;
     };
-    match write_file(source, alloc, &choice_of(words), file, out) {
+    match write_text_of(source, alloc, &choice_of(words), file, out) {
         Ok(()) => PRINTED,
         Err(error) => refuse(renderer, err, error),
     }
@@ -191,8 +191,8 @@ fn choice_of(words: &[String]) -> Choice
     }
 }
 
-/// Writes the text of the module in a file in one write. The text is complete before it is written.
-fn write_file<S: Source, O: Sink>(
+/// Writes the text of the module that a file contains, in one call. The text is complete before it is written.
+fn write_text_of<S: Source, O: Sink>(
     source: &S,
     alloc: Global,
     choice: &Choice,
@@ -202,12 +202,12 @@ fn write_file<S: Source, O: Sink>(
     ensures written { OnOk result (WritesModuleText choice.now (S.gives source.now file.now) O.takes out.old out.new (Ok tt)) }
     ensures refused { IfErr result (FailsToWrite choice.now (S.gives source.now file.now) O.takes out.old out.new) }
 {
-    let text = print_file(source, alloc, choice, file)?;
+    let text = text_of_file(source, alloc, choice, file)?;
     out.write_bytes(&text).map_err(Error::Printer)
 }
 
-/// Returns the text of the module in a file.
-fn print_file<S: Source>(
+/// Returns the text of the module that a file contains.
+fn text_of_file<S: Source>(
     source: &S,
     alloc: Global,
     choice: &Choice,
@@ -217,11 +217,11 @@ fn print_file<S: Source>(
     ensures refused { IfErr result (GivesNoText choice.now (S.gives source.now file.now)) }
 {
     let wasm = source.read(Path::new(file)).map_err(|_| Error::Unreadable)?;
-    print(alloc, choice, &wasm)
+    text_of(alloc, choice, &wasm)
 }
 
 /// Returns the text of a module.
-fn print(alloc: Global, choice: &Choice, wasm: &[u8]) -> Result<Vec<u8>, Error>
+fn text_of(alloc: Global, choice: &Choice, wasm: &[u8]) -> Result<Vec<u8>, Error>
     ensures printed { IfOk result (λ text. IsTextBy choice.now wasm.now text.items) }
     ensures caused { IfErr result (HasListedTextCause choice.now.options wasm.now) }
     ensures refused { IfErr result (IsSoundTextRefusal choice.now.options wasm.now) }

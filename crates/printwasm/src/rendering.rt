@@ -1,8 +1,8 @@
 //! The lines that report errors.
 //!
-//! The program is generic over `Render`, so that its contract can say which error it reports: generic code knows
-//! of a text only which error it belongs to. The text goes directly to the sink. So it needs no memory and is
-//! never truncated.
+//! The program is generic over `Render`. In generic code the prover knows of a text only which error it describes. So
+//! the contract of the program can say which error it reports. The text goes directly to the sink: it needs no memory
+//! and is never truncated.
 ghost use Rattle.std.specs.Prelude.{◌≡◌, ℕ, List, Option, Some};
 ghost use Rattle.std.specs.IoError.{error_kind};
 ghost use Rattle.printwasm.specs.Messages.{words_error_text};

@@ -1,7 +1,8 @@
 //! The streams to which the program writes.
 //!
-//! The program is generic over the `Source` of files and over its `Sink`s, so that its contract can say which file
-//! was read, and what was written before a write failed. Generic code knows of a call only that it was made.
+//! The program is generic over the `Source` of files and over its `Sink`s. In generic code the prover knows of a write
+//! only what the relation `takes` says. So the contract of the program can say which file was read, which text was
+//! passed to a sink, and with which result.
 ghost use Rattle.std.specs.Prelude.{ℕ, List, Some, Option, Result, OnOk, IfSome};
 ghost use Rattle.std.specs.Io.KnownBytes.{Appends};
 ghost use Rattle.std.specs.declared.io.Error.{Error};

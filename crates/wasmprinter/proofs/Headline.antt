@@ -1,4 +1,4 @@
--- The headline follows from its parts: the module that the decoder read, the calls that the printer made, and the
+-- The main theorem follows from its parts: the module that the decoder read, the calls that the printer made, and the
 -- laws of reading and of colors.
 use Rattle.std.proofs.Common.{◌≡◌, ℕ, List, Bool, false, None, refl, sym, ap, ◌∙◌, subst}
 use Rattle.wasmprinter_spec.specs.Binary.{Spells}

@@ -10,15 +10,21 @@ use Rattle.wasmprinter_spec.specs.Colored.{colored_text}
 use Rattle.wasmprinter_spec.specs.Folding.Refusals.{IsFoldable}
 use Rattle.wasmprinter.specs.Printed.{IsTextOf, no_claims}
 
--- The bytes encode a module within the limits that can be folded if folding is on. Of its layout no custom section
--- is claimed and no `dylink.0` section is refused. `text` is the text of this layout with the ANSI escape
--- sequences of each style, those within the texts of folded operators included. If the indent consists of spaces
--- and tabs, the text without the sequences is the module's text.
+-- The bytes encode a module whose text, with these options and with the ANSI escape sequences of each style, is `text`.
+-- No custom section of it is claimed.
 pub record HasColoredTextBy (o : Options) (bytes text : List ℕ) : Type 0 where
+  -- The module, with its places.
   pub placed : PlacedModule
+  -- The bytes encode it.
   pub spelled : Spells bytes placed
+  -- It is within the limits.
   pub within : IsWithinLimits placed
+  -- It can be folded if folding is on.
   pub foldable : IsFoldable o placed
+  -- No `dylink.0` section of it is refused.
   pub accepted : refusal (in_colors o true) no_claims placed ≡ None
+  -- The text is that of the layout with the sequences of each style, including those within the text of folded
+  -- operators.
   pub is : text ≡ colored_text (layout (in_colors o true) no_claims placed)
+  -- With an indent of spaces and tabs: the text without the sequences is the text of a module that the bytes encode.
   pub bare : IsBlank o.indent → IsTextOf o bytes (uncolor text)

@@ -25,15 +25,23 @@ NamesItsLine m lines function operator result =
     (o : Placed Operator) × (operator_at m function operator ≡ Some o) × (place ≡ o.place)
     × (slice_get (line_places lines) number ≡ Some (Some place))
 
--- The lines are all those that were returned for bytes that encode the module, with its bodies, and not folded.
+-- These are all lines of a text of the module, printed flat and without `skeleton`.
 pub record AreLinesOf (m : PlacedModule) (lines : List TextLine) : Type 0 where
+  -- The bytes that were printed.
   pub bytes : List ℕ
+  -- They encode the module.
   pub spelled : Spells bytes m
+  -- The options of printing.
   pub options : Options
+  -- `skeleton` is off.
   pub whole : options.skeleton ≡ false
+  -- Folding is off.
   pub flat : options.folds ≡ false
+  -- The text in the storage before printing.
   pub old : List ℕ
+  -- The text in the storage after printing.
   pub storage : List ℕ
+  -- The bytes encode a module whose text, appended to `old`, gives `storage` and these lines.
   pub given : HasLinesBy options bytes old storage lines
 
 -- In all lines of the module, the line of an existing operator is found, and it is the only one with its place.

@@ -13,15 +13,20 @@ use Rattle.wasmprinter_tracker.specs.Cuts.{lines_at_starts}
 use Rattle.wasmprinter.specs.Printed.{IsTextOf, no_claims}
 use Rattle.wasmprinter.specs.Outcome.{WhilePrinting}
 
--- The storage is the old text followed by the text of the module that the bytes encode. The lines are those of its
--- layout, and joined they are that text. If bodies are printed flat, each function has a line for its header, its
--- locals and each of its operators.
+-- The storage is the old text followed by the text of the module that the bytes encode, and these are its lines.
 pub record HasLinesBy (o : Options) (bytes old storage : List ℕ) (lines : List TextLine) : Type 0 where
+  -- The text of the module.
   pub text : List ℕ
+  -- The bytes encode a module that has this text with these options.
   pub printed : IsTextOf o bytes text
+  -- The text was appended to the old text.
   pub appended : storage ≡ old ++ text
+  -- The lines are those of the layout.
   pub are : lines ≡ lines_of (layout (in_colors o false) no_claims printed.placed)
+  -- The lines, joined, are the text.
   pub joined : joined_lines lines ≡ text
+  -- Without `skeleton` and folding, each defined function has a line for its header, one for its locals if it has any,
+  -- and one for each of its operators.
   pub functions : o.skeleton ≡ false → o.folds ≡ false → (i : ℕ) (f : PlacedFunction) → slice_get printed.placed.functions i ≡ Some f →
       HasFunctionLines (hint_places printed.placed) (line_places lines) f
 
@@ -29,26 +34,33 @@ pub record HasLinesBy (o : Options) (bytes old storage : List ℕ) (lines : List
 abbrev pub HasLinesAt : Options → List ℕ → List ℕ → List ℕ → List LineStart → Type 0
 HasLinesAt o bytes old storage starts = HasLinesBy o bytes old storage (lines_at_starts starts storage)
 
--- Text was appended. It is the text of calls that are a prefix of the module's layout, however text is split, and
--- that claim no custom section.
+-- A prefix of the text of the module's layout was appended.
 pub record GainsPrefix (o : Options) (old new : List ℕ) (placed : PlacedModule) (answers : Answers) : Type 0 where
+  -- The calls whose text was appended.
   pub calls : List Call
+  -- The calls of the layout after them, with each text cut into single bytes.
   pub rest : List Call
+  -- With each text cut into single bytes, `calls` and then `rest` are the calls of the layout.
   pub alike : atoms calls ++ rest ≡ atoms (layout o answers placed)
+  -- The calls claim no custom section.
   pub unclaimed : AllByRecursion IsUnclaimed calls
+  -- The text of the calls was appended.
   pub appended : new ≡ old ++ text_of calls
 
--- The layout ends at a `dylink.0` section because of its subsection with this id, and no custom section is claimed
--- in it. All of its text was appended.
+-- The whole text of a layout that ends at a refused `dylink.0` section was appended.
 pub record GainsTextBefore (id : ℕ) (o : Options) (old new : List ℕ) (placed : PlacedModule) (answers : Answers) : Type 0 where
+  -- The layout ends at this section because of its subsection with this id.
   pub ends : refusal o answers placed ≡ Some id
+  -- No custom section is claimed in the layout.
   pub unclaimed : AllByRecursion IsUnclaimed (layout o answers placed)
+  -- The text of the layout was appended.
   pub appended : new ≡ old ++ text_of (layout o answers placed)
 
--- The contents of the storage after an error. After an unknown subsection of a `dylink.0` section, it has the text
--- before that section. If an allocation failed, a prefix of the module's text may have been appended. After any
--- other error it is unchanged.
+-- The contents of the storage after an error.
 abbrev pub LeavesStorage : Options → List ℕ → Error → List ℕ → List ℕ → Type 0
+-- After an unknown subsection of a `dylink.0` section: the old text and the text before that section.
 LeavesStorage o bytes (DylinkSubsection id) old new = WhilePrinting o bytes (GainsTextBefore id (in_colors o false) old new)
+-- If an allocation failed: the old text, possibly with a prefix of the module's text.
 LeavesStorage o bytes Memory old new = (new ≡ old) ⊎ WhilePrinting o bytes (GainsPrefix (in_colors o false) old new)
+-- After any other error: the old text.
 LeavesStorage o bytes e old new = new ≡ old

@@ -25,13 +25,17 @@ abbrev pub AnyIsUnknown : ℕ → List CustomEntry → Type 0
 AnyIsUnknown id [] = ⊥
 AnyIsUnknown id (c ∷ cs) = (custom_role_of c.section.value ≡ Refused id) ⊎ AnyIsUnknown id cs
 
--- All calls succeeded. The last one, apart from empty texts, asked whether the printer claims this section, and
--- the answer was no.
+-- The printer did not claim this `dylink.0` section, which has an unknown subsection with this id.
 pub record IsRefused {P : Type 0} (m : Meaning P) (old new : P) (id : ℕ) (c : CustomEntry) : Type 0 where
+  -- The section is refused because of its subsection with this id.
   pub unknown : custom_role_of c.section.value ≡ Refused id
+  -- The calls that were made.
   pub calls : List Call
+  -- All of them succeeded, and they lead from `old` to `new`.
   pub run : Run m old calls new
+  -- The calls before the claim, with each text cut into single bytes.
   pub before : List Call
+  -- The last call, apart from empty texts, asked whether the printer claims this section, and it returned false.
   pub asked : atoms calls ≡ before ++ Claim c.section.value.name c.section.value.bytes.place c.section.value.bytes.value false ∷ []
 
 -- The calls ended in this way at one of these sections.
@@ -39,13 +43,15 @@ abbrev pub AnyIsRefused : {P : Type 0} → Meaning P → P → P → ℕ → Lis
 AnyIsRefused m old new id [] = ⊥
 AnyIsRefused m old new id (c ∷ cs) = IsRefused m old new id c ⊎ AnyIsRefused m old new id cs
 
--- The reasons for the errors of printing, besides those of decoding: a call on the printer failed with this error;
--- a `dylink.0` section is refused for a subsection with this id; at this place is an operator of legacy exception
--- handling, or a branch hint, that can't be folded.
+-- The reasons for the errors of printing, besides those of decoding.
 pub record PrintReasons : Type 1 where
+  -- A call on the printer failed with this error.
   pub failed : IoError → Type 0
+  -- A `dylink.0` section is refused for a subsection with this id.
   pub unknown : ℕ → Type 0
+  -- At this place is an operator of legacy exception handling, which can't be folded.
   pub legacy : ℕ → Type 0
+  -- At this place is a branch hint that can't be folded.
   pub hint : ℕ → Type 0
 
 -- The reason for an error of printing.
@@ -82,13 +88,18 @@ print_reasons o m failed unknown = record {
   hint = IsMisplacedAt o m;
 }
 
--- After some list of calls, one call failed with this error, which is possible in that state. A count of failures
--- increased by one, unless it had its greatest value.
+-- A call failed with this error.
 pub record PrinterFailed {P : Type 0} (m : Meaning P) (old new : P) (error : IoError) : Type 0 where
+  -- The calls before it.
   pub calls : List Call
+  -- The state before it.
   pub before : P
+  -- All calls before it succeeded, and they lead from `old` to this state.
   pub run : Run m old calls before
+  -- The failed call.
   pub call : Call
+  -- In this state it may fail, with this error and the state `new`. The count of failures, if the printer has one,
+  -- increased by one, unless it had its greatest value.
   pub failed : Failed m before call error new
 
 -- The reasons of decoding for bytes that encode this module: the function whose body is at this place has too many
@@ -141,15 +152,22 @@ as_growth Memory = Memory
 
 -- The bytes encode a module within the limits.
 pub record ArePrintable (bytes : List ℕ) : Type 0 where
+  -- The module, with its places.
   pub placed : PlacedModule
+  -- The bytes encode it.
   pub spelled : Spells bytes placed
+  -- It is within the limits.
   pub within : IsWithinLimits placed
 
 -- The bytes encode a module within the limits that satisfies `So`.
 pub record HaveSome (bytes : List ℕ) (So : PlacedModule → Type 0) : Type 0 where
+  -- The module, with its places.
   pub placed : PlacedModule
+  -- The bytes encode it.
   pub spelled : Spells bytes placed
+  -- It is within the limits.
   pub within : IsWithinLimits placed
+  -- It satisfies `So`.
   pub so : So placed
 
 -- The reasons for these bytes. `failed` is the reason for a failed call.
@@ -180,20 +198,27 @@ text_reasons bytes decoding = record decoding { memory = decoding.memory ⊎ Are
 abbrev pub IsSoundTextRefusal : Options → List ℕ → Error → Type 0
 IsSoundTextRefusal o bytes e = HasPrintReason (bytes_reasons o bytes (λ x. ⊥)) (text_reasons bytes (module_reasons bytes (IsComponent bytes))) e
 
--- A module within the limits that the bytes encode, and that can be folded if folding is on, was being printed.
--- `Left` holds of it, with the answers to its claims.
+-- A module that the bytes encode was being printed, and `Left` describes the state.
 pub record WhilePrinting (o : Options) (bytes : List ℕ) (Left : PlacedModule → Answers → Type 0) : Type 0 where
+  -- The module, with its places.
   pub placed : PlacedModule
+  -- The bytes encode it.
   pub spelled : Spells bytes placed
+  -- It is within the limits.
   pub within : IsWithinLimits placed
+  -- It can be folded if folding is on.
   pub foldable : IsFoldable o placed
+  -- The printer's answer to the claim of each custom section.
   pub answers : Answers
+  -- `Left` holds for the module and these answers.
   pub left : Left placed answers
 
--- The calls of a layout that ends with this refusal were made.
+-- The calls of a layout that ends at a refused `dylink.0` section were made.
 pub record MadeUpTo {P : Type 0} (m : Meaning P) (old new : P) (id : ℕ) (o : Options) (placed : PlacedModule)
     (answers : Answers) : Type 0 where
+  -- The layout ends there because of the subsection with this id.
   pub ends : refusal o answers placed ≡ Some id
+  -- All calls of this layout were made and succeeded.
   pub made : Whole m old new (layout o answers placed)
 
 -- The reasons of decoding, with the same proposition for each error.
@@ -207,19 +232,20 @@ each_reason so = record {
   memory = so;
 }
 
--- Either no call was made, or operators are folded and the calls that were made are a prefix of the layout,
--- however text is split.
+-- Either no call was made, or operators are folded and the calls that were made are a prefix of the layout, once each
+-- text is cut into single bytes.
 abbrev pub LeavesBeginning : {P : Type 0} → Meaning P → Bool → Options → List ℕ → P → P → Type 0
 LeavesBeginning m colors o bytes old new =
     (new ≡ old)
     ⊎ ((o.folds ≡ true) × WhilePrinting o bytes (λ placed answers. Begun m old new (layout (in_colors o colors) answers placed)))
 
--- The state of the printer after an error.
--- If a call on the printer failed, a module was being printed. The calls before the failed one, followed by it,
--- are a prefix of the layout, however text is split. The texts of folded operators have ANSI escape sequences
--- exactly if the printer can write colors as text.
--- If a `dylink.0` section was refused, the calls are those of the layout up to that section. If an allocation
--- failed during folding, the calls are a prefix of the layout. After any other error no call was made.
+-- The state of the printer after an error. In these layouts, the styles within the text of a folded operator are ANSI
+-- escape sequences if the printer can write colors as text. Otherwise that text has no styles.
+-- - `Printer`: a module was being printed. The calls before the failed one, and then that call, are a prefix of the
+--   layout, once each text is cut into single bytes.
+-- - `DylinkSubsection`: the calls are those of the layout up to the refused section.
+-- - `Memory`: no call was made, or operators are folded and the calls are a prefix of the layout.
+-- - Any other error: no call was made.
 abbrev pub Leaves : {P : Type 0} → Meaning P → Bool → Options → List ℕ → P → P → Error → Type 0
 Leaves m colors o bytes old new e =
     HasPrintReason

@@ -1,4 +1,4 @@
--- Definition of a module that was printed: the headline.
+-- Definitions of a printed module and of its text. `Printed` is the statement of the main theorem.
 use Rattle.std.specs.Prelude.{◌≡◌, ℕ, List, map, Bool, false, Some, None}
 use Rattle.std.specs.List.{AllByRecursion}
 use Rattle.wasmprinter_spec.specs.Binary.{Spells}
@@ -22,58 +22,84 @@ use Rattle.wasmprinter_spec.specs.Read.{read}
 abbrev pub no_claims : Answers
 no_claims = λ n. false
 
--- The bytes encode a module within the limits. It can be folded if folding is on, and no `dylink.0` section of it
--- is refused.
--- The printer's state follows from the old one by calls that equal those of the module's layout, however text is
--- split. The texts of folded operators have ANSI escape sequences exactly if the printer can write colors as text.
--- If the indent consists of spaces and tabs: without these sequences, the calls and their text are those of the
--- layout without colors. If bodies are printed too, the text has the branch hints of the module, if its hint
--- section is well formed. If also every used index is declared and no custom section was claimed, the text reads
--- as exactly the module. If the printer can't write colors as text, the text is plain.
+-- The bytes encode a module, and the calls of its layout lead from the printer's state `old` to `new`. `colors` says
+-- whether the printer can write colors as text. If it can, the styles within the text of a folded operator become ANSI
+-- escape sequences. Otherwise that text has no styles.
 pub record Printed {P : Type 0} (m : Meaning P) (colors : Bool) (o : Options) (bytes : List ℕ) (old new : P) : Type 0 where
+  -- The module, with its places.
   pub placed : PlacedModule
+  -- The bytes encode it.
   pub spelled : Spells bytes placed
+  -- It is within the limits.
   pub within : IsWithinLimits placed
+  -- The printer's answer to the claim of each custom section.
   pub answers : Answers
+  -- It can be folded if folding is on.
   pub foldable : IsFoldable o placed
+  -- No `dylink.0` section of it is refused.
   pub accepted : refusal (in_colors o colors) answers placed ≡ None
+  -- The calls that were made.
   pub calls : List Call
+  -- All of them succeeded, and they lead from `old` to `new`.
   pub run : Run m old calls new
+  -- With each text cut into single bytes, they are the calls of the layout.
   pub alike : atoms calls ≡ atoms (layout (in_colors o colors) answers placed)
+  -- With an indent of spaces and tabs: deleting the ANSI escape sequences from the text of each call of the layout
+  -- gives the layout without colors.
   pub bare : IsBlank o.indent → map bare_call (layout (in_colors o colors) answers placed) ≡ layout (in_colors o false) answers placed
+  -- With an indent of spaces and tabs: deleting the ANSI escape sequences from the whole text of the calls gives the
+  -- text of the layout without colors.
   pub uncolored : IsBlank o.indent → uncolor (text_of calls) ≡ text_of (layout (in_colors o false) answers placed)
+  -- With an indent of spaces and tabs and without `skeleton`, if the module satisfies `IsIndexed` and no section was
+  -- claimed: the text without ANSI escape sequences reads as `module_of placed`.
   pub reads : IsIndexed (module_of placed) → o.skeleton ≡ false → IsBlank o.indent → AllByRecursion IsUnclaimed calls →
       read (uncolor (text_of calls)) ≡ Some (module_of placed)
+  -- With an indent of spaces and tabs and without `skeleton`, if the module's branch hints are valid: the text without
+  -- ANSI escape sequences has exactly these hints.
   pub hints : (hs : List OperatorHint) → o.skeleton ≡ false → IsBlank o.indent → module_hints placed ≡ Some hs →
       text_hints (uncolor (text_of calls)) ≡ Some hs
+  -- With an indent of spaces and tabs, if the printer can't write colors as text: the text is plain.
   pub plain : IsBlank o.indent → colors ≡ false → IsPlainText (text_of calls)
 
--- The text is that of the layout of a module that the bytes encode, within the limits. The module can be folded if
--- folding is on, no custom section of it is claimed, and no `dylink.0` section is refused.
--- If the indent consists of spaces and tabs, the text is plain. If bodies are printed too, the text has the branch
--- hints of the module, if its hint section is well formed. If also every used index is declared, it reads as
--- exactly the module.
+-- The bytes encode a module whose text, with these options and without colors, is `text`. No custom section of it is
+-- claimed.
 pub record IsTextOf (o : Options) (bytes text : List ℕ) : Type 0 where
+  -- The module, with its places.
   pub placed : PlacedModule
+  -- The bytes encode it.
   pub spelled : Spells bytes placed
+  -- It is within the limits.
   pub within : IsWithinLimits placed
+  -- It can be folded if folding is on.
   pub foldable : IsFoldable o placed
+  -- No `dylink.0` section of it is refused.
   pub accepted : refusal (in_colors o false) no_claims placed ≡ None
+  -- The text is that of the layout.
   pub is : text ≡ text_of (layout (in_colors o false) no_claims placed)
+  -- With an indent of spaces and tabs: the text is plain.
   pub plain : IsBlank o.indent → IsPlainText text
+  -- With an indent of spaces and tabs and without `skeleton`, if the module satisfies `IsIndexed`: the text reads as
+  -- `module_of placed`.
   pub reads : IsIndexed (module_of placed) → o.skeleton ≡ false → IsBlank o.indent → read text ≡ Some (module_of placed)
+  -- With an indent of spaces and tabs and without `skeleton`, if the module's branch hints are valid: the text has
+  -- exactly these hints.
   pub hints : (hs : List OperatorHint) → o.skeleton ≡ false → IsBlank o.indent → module_hints placed ≡ Some hs → text_hints text ≡ Some hs
 
--- The text is that of the layout, with the default options, of a module that the bytes encode, within the limits.
--- No custom section of it is claimed, and no `dylink.0` section is refused. The text is plain. If every used index
--- is declared, it reads as exactly the module. It has the branch hints of the module, if its hint section is well
--- formed.
+-- The bytes encode a module whose text with the default options is `text`. No custom section of it is claimed.
 pub record HasText (bytes text : List ℕ) : Type 0 where
+  -- The module, with its places.
   pub placed : PlacedModule
+  -- The bytes encode it.
   pub spelled : Spells bytes placed
+  -- It is within the limits.
   pub within : IsWithinLimits placed
+  -- No `dylink.0` section of it is refused.
   pub accepted : refusal defaults no_claims placed ≡ None
+  -- The text is that of the layout.
   pub is : text ≡ text_of (layout defaults no_claims placed)
+  -- The text is plain.
   pub plain : IsPlainText text
+  -- If the module satisfies `IsIndexed`, the text reads as `module_of placed`.
   pub reads : IsIndexed (module_of placed) → read text ≡ Some (module_of placed)
+  -- If the module's branch hints are valid, the text has exactly these hints.
   pub hints : (hs : List OperatorHint) → module_hints placed ≡ Some hs → text_hints text ≡ Some hs

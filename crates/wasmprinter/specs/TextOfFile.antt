@@ -16,11 +16,13 @@ Reading = Option (List ℕ) → Type 0
 abbrev pub IsTextOfFile : Reading → List ℕ → Type 0
 IsTextOfFile gives text = (wasm : List ℕ) × gives (Some wasm) × HasText wasm text
 
--- With these options, these bytes are refused with this error, for a cause that is true of them. The error is
--- `Component` if and only if the bytes are marked as a component.
+-- With these options, these bytes are refused with this error.
 pub record AreRefused (o : Options) (wasm : List ℕ) (error : Error) : Type 0 where
+  -- The error is true of the bytes.
   pub true_of : IsSoundTextRefusal o wasm error
+  -- If the bytes encode a module, the error has one of the listed causes.
   pub caused : HasListedTextCause o wasm error
+  -- The error is `Component` if and only if the bytes are marked as a component.
   pub component : (error ≡ Component) ↔ IsComponent wasm
 
 -- With these options, the file has no text: either reading failed and the error is `Unreadable`, or reading

@@ -113,9 +113,11 @@ impl Config {
 
     /// Prints the text of a module in the binary format to a printer.
     ///
-    /// The whole module is read and checked, and its names are read, before the first call on the printer. The
-    /// printer is asked whether it claims each custom section, `name` and `metadata.code.branch_hint` included. A
-    /// claimed section is not printed; its names and hints still apply.
+    /// The whole module is decoded, and its names are read, before the first call on the printer. The module is
+    /// not validated. The data of a `dylink.0` section is checked only when that section is reached.
+    ///
+    /// The printer is asked whether it claims each custom section, `name` and `metadata.code.branch_hint` included.
+    /// A claimed section is not printed; its names and hints still apply.
     ///
     /// # Errors
     ///

@@ -1,7 +1,7 @@
 //! Printing the module in a file, from any source of files.
 //!
-//! `print_file` is generic over [`Source`], so that its contract can say which file was read. Generic code knows
-//! of the bytes only that the source returned them for that path.
+//! `print_file` is generic over [`Source`]. In generic code the prover knows of a read only what the relation `gives`
+//! says: the source returned these bytes for that path. So the contract can say which file was read.
 ghost use Rattle.std.specs.Prelude.{ℕ, List, Option, Some, None, MatchResult, IfOk, IfErr, string_bytes, ⊤};
 ghost use Rattle.std.specs.Path.{path_bytes};
 ghost use Rattle.wasmprinter_spec.specs.Options.{defaults};

@@ -13,23 +13,33 @@ use Rattle.wasmprinter_c.specs.declared.copier.WasmprinterLine.{WasmprinterLine}
 abbrev pub chosen : WasmprinterOptions → List ℕ → Options
 chosen c indent = record defaults { offsets = c.offsets; skeleton = c.skeleton; synthesizes = c.name_unnamed; folds = c.fold; indent = indent }
 
--- The bytes encode a module that has this text with these options, as `Config::print_to_string` returns it. The
--- buffer holds the first bytes of the text, as many as fit. `whole` is the length of the text.
+-- The bytes encode a module, and its text was written over the buffer.
 pub record HasTextOver (o : Options) (bytes old new : List ℕ) (whole : ℕ) : Type 0 where
+  -- The text of the module.
   pub text : List ℕ
+  -- It is the text with these options that `Config::print_to_string` returns.
   pub printed : IsTextOf o bytes text
+  -- Its first bytes, as many as fit, were written over the buffer.
   pub copied : new ≡ over text old
+  -- `whole` is its length in bytes.
   pub counted : whole ≡ length text
 
--- The same with a table of lines. The text, cut where the lines start, has the lines and the places that
--- `Config::offsets_and_lines` returns for an empty storage. The first entries of the table were written over
--- `before`, as many as fit. `count` is the number of all entries.
+-- The bytes encode a module. Its text was written over the buffer, and the entries of its lines over a table.
 pub record HasLinesOver (o : Options) (bytes old new : List ℕ) (before after : List WasmprinterLine) (whole count : ℕ) : Type 0 where
+  -- The text of the module.
   pub text : List ℕ
+  -- The entries of all its lines.
   pub table : List WasmprinterLine
+  -- The text, cut where the lines start, has the lines and the places that `Config::offsets_and_lines` returns for an
+  -- empty storage.
   pub lines : HasLinesAt o bytes [] text (map line_start table)
+  -- The entries are those of the lines of the layout.
   pub starts : table ≡ entries 0 (layout (in_colors o false) no_claims lines.printed.placed)
+  -- The first bytes of the text, as many as fit, were written over the buffer.
   pub copied : new ≡ over text old
+  -- `whole` is the length of the text in bytes.
   pub counted : whole ≡ length text
+  -- The first entries, as many as fit, were written over `before`.
   pub entered : after ≡ over table before
+  -- `count` is the number of all entries.
   pub listed : count ≡ length table

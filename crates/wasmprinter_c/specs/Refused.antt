@@ -44,12 +44,17 @@ detail_in Memory = 0
 abbrev pub IsCopied : List ℕ → Type 0
 IsCopied indent = ¬ (indent ≡ defaults.indent)
 
--- The bytes encode a module whose text has 2^64 bytes or more.
+-- The text of the module is too long to be counted.
 pub record IsTooLong (o : Options) (bytes : List ℕ) : Type 0 where
+  -- The module, with its places.
   pub placed : PlacedModule
+  -- The bytes encode it.
   pub spelled : Spells bytes placed
+  -- It is within the limits.
   pub within : IsWithinLimits placed
+  -- The answers to the claims of its custom sections.
   pub answers : Answers
+  -- The text of its layout has 2^64 bytes or more.
   pub long : 2 ^ 64 ≤ length (text_of (layout (in_colors o false) answers placed))
 
 -- If the bytes encode a module, the error has one of the causes of `HasListedCause`. The printer fails only if the text
@@ -65,13 +70,17 @@ HasBufferCause o bytes e =
 abbrev pub IsTrueOrUncopied : Options → List ℕ → Error → Type 0
 IsTrueOrUncopied o bytes e = IsSoundRefusal o bytes e ⊎ ((e ≡ Memory) × IsCopied o.indent)
 
--- The text of calls that are a prefix of a layout, however text is split, was written over the buffer. The calls
--- claim no custom section.
+-- The text of calls that are a prefix of a layout was written over the buffer.
 pub record HoldsPrefix (layout : List Call) (old new : List ℕ) : Type 0 where
+  -- The calls whose text was written.
   pub calls : List Call
+  -- The calls of the layout after them, with each text cut into single bytes.
   pub rest : List Call
+  -- With each text cut into single bytes, `calls` and then `rest` are the calls of the layout.
   pub alike : atoms calls ++ rest ≡ atoms layout
+  -- The calls claim no custom section.
   pub unclaimed : AllByRecursion IsUnclaimed calls
+  -- The first bytes of their text, as many as fit, were written over the buffer.
   pub copied : new ≡ over (text_of calls) old
 
 -- The module that the bytes encode was being printed. The buffer holds a prefix of the text of its layout.
@@ -79,29 +88,41 @@ abbrev pub HoldsPrefixOf : Options → List ℕ → List ℕ → List ℕ → Ty
 HoldsPrefixOf o bytes old new =
     WhilePrinting o bytes (λ placed answers. HoldsPrefix (layout (in_colors o false) answers placed) old new)
 
--- The layout ends at a `dylink.0` section because of its subsection with this id, and no custom section is claimed
--- in it. All of its text was written over the buffer.
+-- The whole text of a layout that ends at a refused `dylink.0` section was written over the buffer.
 pub record HoldsTextBefore (id : ℕ) (o : Options) (old new : List ℕ) (placed : PlacedModule) (answers : Answers) : Type 0 where
+  -- The layout ends at this section because of its subsection with this id.
   pub ends : refusal o answers placed ≡ Some id
+  -- No custom section is claimed in the layout.
   pub unclaimed : AllByRecursion IsUnclaimed (layout o answers placed)
+  -- The first bytes of its text, as many as fit, were written over the buffer.
   pub copied : new ≡ over (text_of (layout o answers placed)) old
 
--- The contents of the buffer after an error. If the module was refused before it was printed, the buffer is
--- unchanged. After an unknown subsection of a `dylink.0` section, it holds the text before that section. If the
--- text is too long, or an allocation failed while operators were folded, it holds a prefix of the text.
+-- The contents of the buffer after an error. Of a text that is longer than the buffer, it has the first bytes.
 abbrev pub LeavesBuffer : Options → List ℕ → Error → List ℕ → List ℕ → Type 0
+-- After an unknown subsection of a `dylink.0` section: the text before that section.
 LeavesBuffer o bytes (DylinkSubsection id) old new = WhilePrinting o bytes (HoldsTextBefore id (in_colors o false) old new)
+-- If the text is too long: a prefix of the text.
 LeavesBuffer o bytes (Printer e) old new = HoldsPrefixOf o bytes old new
+-- If an allocation failed: the buffer is unchanged or, only if operators are folded, has a prefix of the text.
 LeavesBuffer o bytes Memory old new = (new ≡ old) ⊎ ((o.folds ≡ true) × HoldsPrefixOf o bytes old new)
+-- After any other error: the buffer is unchanged.
 LeavesBuffer o bytes e old new = new ≡ old
 
--- The module was refused for an error with this number and this detail, and nothing was counted.
+-- The module was refused.
 pub record IsRefusedWith (o : Options) (bytes old new : List ℕ) (status whole count detail : ℕ) : Type 0 where
+  -- The error.
   pub error : Error
+  -- The status is its number.
   pub numbered : status ≡ number_of error
+  -- The detail is its place, count or id, or 0 if it has none.
   pub detailed : detail ≡ detail_in error
+  -- It is true of the bytes, or the indent was not copied because an allocation failed.
   pub is_so : IsTrueOrUncopied o bytes error
+  -- If the bytes encode a module, it has one of the causes of `HasBufferCause`.
   pub caused : HasBufferCause o bytes error
+  -- The buffer has the contents that the error leaves.
   pub left : LeavesBuffer o bytes error old new
+  -- `whole`, the length of the text, is 0.
   pub uncounted : whole ≡ 0
+  -- `count`, the number of lines, is 0.
   pub unlisted : count ≡ 0

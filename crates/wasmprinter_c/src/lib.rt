@@ -293,8 +293,8 @@ fn write_description(copier: &mut Copier<'_>, status: u32, detail: u64)
 }
 
 /// Writes the description of a status with its detail over `out`: the first bytes, as many as fit. Returns the
-/// length of the whole description in bytes. A status that no function returns is described as unknown. Allocates
-/// nothing.
+/// length of the whole description in bytes. The description of a status greater than 12 is `unknown status`.
+/// Allocates nothing.
 #[unsafe(no_mangle)]
 pub extern "C" fn wasmprinter_error_text(status: u32, detail: u64, out: &mut [u8]) -> usize
     ensures whole { result ≡ length (message status detail) }

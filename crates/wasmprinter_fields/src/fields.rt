@@ -12,8 +12,8 @@ use wasmprinter_print::Print;
 use wasmprinter_scope::scope::{FIELD_NESTING, Scope};
 use wasmprinter_words::words::open_gap;
 
-/// A field of a module that is a group. It is on one line, except that the comment of a folded operator ends its
-/// line.
+/// A field of a module that is printed as one group. It is on one line, unless operators are folded and the text of
+/// a node without children contains `;;`, as a name may. Then that node and the field close on new lines.
 pub trait Field {
     ghost use Rattle.std.specs.Prelude.{ℕ, List};
     ghost use Rattle.wasmprinter_spec.specs.Piece.{Piece};

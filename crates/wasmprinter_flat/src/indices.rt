@@ -137,7 +137,8 @@ pub(crate) fn put_call<P: Print, S: Signatures>(
     put_type_index(p, fault, &context.identifiers(), type_index);
 }
 
-/// Writes the table or memory that a segment is copied to, unless that is 0, and then the element or data segment.
+/// Writes the immediates of `memory.init` and `table.init`: the memory or table, left out if its index is 0, and then
+/// the segment.
 pub(crate) fn put_segment<P: Print, S: Signatures>(
     p: &mut P,
     fault: &mut FirstError,

@@ -18,7 +18,8 @@ use wasmprinter_words::comments::{put_depth_comment, put_unstyled_comment};
 use wasmprinter_words::numbers::{put_gap_index, put_number, put_number_word};
 use wasmprinter_words::words::put_space;
 
-/// Writes a label by its identifier: a given one with its name annotation, a synthesized one as an index.
+/// Writes a space and the identifier of a label. A given identifier has no style, and its name annotation follows if
+/// the name differs from it. A synthesized identifier has the style of names.
 fn put_by_name<P: Print>(p: &mut P, fault: &mut FirstError, identifier: Identifier<'_>, label: u32)
     ensures { Marks P.meaning p.old fault.old p.new fault.new
         (Gap ∷ label_name_pieces (identifier_view identifier.entry).given label (identifier_view identifier.entry)) }

@@ -242,8 +242,8 @@ pub fn has_operators(expression: &Expression<'_>) -> bool
     expression.operators().next().is_some()
 }
 
-/// Writes the operators of an expression, each after its hint if it has one. `labels` may be in any state; the
-/// identifiers that it was created with are printed.
+/// Writes the operators of an expression, each after its hint if it has one. `labels` is first reset to the start of
+/// `setting.function`, so its earlier use does not matter. Its identifiers are those passed to `OpenLabels::new`.
 pub fn write_operators<P: Print, S: Signatures>(
     p: &mut P,
     options: &PrintOptions,

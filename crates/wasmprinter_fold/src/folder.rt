@@ -58,8 +58,9 @@ impl<'m, 'a> Folder<'m, 'a> {
     }
 
     /// Writes the operators of an expression, folded, and returns whether a line began. `own` is the number of results
-    /// of the enclosing function: 0 in a constant expression, `None` if the function's type is unknown. `labels` may be
-    /// in any state; the identifiers that it was created with are printed.
+    /// of the enclosing function: 0 in a constant expression, `None` if the function's type is unknown. `labels` is
+    /// first reset to the start of the function, so its earlier use does not matter. Its identifiers are those passed
+    /// to `OpenLabels::new`.
     ///
     /// Writes nothing if the list has an operator of legacy exception handling, which cannot be folded.
     ///

@@ -171,9 +171,9 @@ impl GrowingTree {
         self.builder.end()
     }
 
-    /// Adds an operator with these numbers of operands and results. Operators of legacy exception handling count as
-    /// `end`: no list with one of them is folded. A hint before an `else` or an `end` is dropped: a module with such a
-    /// hint is refused before anything is printed.
+    /// Adds an operator with these numbers of operands and results. `fold` stops at the first operator of legacy
+    /// exception handling, so this function never gets one; its `match` treats them like `end`. A hint before an `else`
+    /// or an `end` is dropped: a module with such a hint is refused before anything is printed.
     fn add<S: Signatures>(
         &mut self,
         setting: &Setting<'_, S>,

@@ -420,7 +420,8 @@ fn names_of_a_function_far_after_are_found(rt: HostRuntime) -> Result<(), Fail> 
     assert_names(&rt, rt.alloc(), &[two], None, &FIRST_AND_FAR_BEHIND)
 }
 
-/// Globals 0 `g` and 1 `h`; locals of function 0: 0 `x`; of function 1: 0 `y`, 1 `z`; functions 0 `a`, 1 `b`, 2 `c` and 3 `d`.
+/// Globals 0 `g` and 1 `h`; locals of function 0: 0 `x`; of function 1: 0 `y`, 1 `z`; functions 0 `a`, 1 `b`, 2 `c`
+/// and 3 `d`.
 const FROM_THE_LAST: [Item; 15] = [
     (Space::Global, 0, 0, Some("g")),
     (Space::Global, 0, 1, Some("h")),

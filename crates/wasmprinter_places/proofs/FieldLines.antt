@@ -1,4 +1,4 @@
--- The lines that fields begin: each field begins one line, except written groups of types.
+-- The lines that fields begin: each field begins one line, except an explicit `(rec ..)`.
 use Rattle.std.proofs.Common.{◌≡◌, ℕ, ◌+◌, ◌==◌, List, [], ◌∷◌, ◌++◌, Bool, true, false, Option, Some, None, map, refl, ap, ap₂, subst, sym, ◌∙◌, codes, length}
 use Rattle.std.specs.List.{AllByRecursion, flat_map}
 use Rattle.std.proofs.lemmas.List.Concat.{flat_map-append}

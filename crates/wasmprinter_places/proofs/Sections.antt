@@ -26,7 +26,7 @@ use Rattle.wasmprinter_places.proofs.Lies.{Lies, Lies-any, Lies-byte, Lies-u32, 
 use Rattle.wasmprinter_places.proofs.Bodies.{Lies-code_entry}
 use Rattle.wasmprinter_places.proofs.CustomData.{Lies-here, Lies-list, role_inside, hints_inside}
 
--- ---- groups of types: the place of the types of a written group is two bytes after that of the group
+-- ---- groups of types: the place of the types of an explicit `(rec ..)` is two bytes after that of the group
 
 all_same : (low q high : ℕ) (ts : List SubType) → low ≤ q → q ≤ high → Inside low (map (λ t. q) ts) high
 all_same low q high [] above below = omega (arith, above, below)

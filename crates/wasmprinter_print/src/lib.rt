@@ -56,8 +56,8 @@ pub trait Print {
     fn write_str(&mut self, s: &str) -> io::Result<()>
         ensures { Does meaning self.old (Text s.now) self.new result };
 
-    /// Writes a piece of text. By default it calls [`Print::write_str`] once for each character. Quoted strings
-    /// use it only if [`Print::takes_runs`] returns `true`.
+    /// Writes a run of characters of a quoted string. Printing calls it only if [`Print::takes_runs`] returns `true`.
+    /// The default body makes one call of [`Print::write_str`] for each character.
     ///
     /// # Errors
     /// - The printer's error. Printing stops and returns it.
@@ -70,10 +70,10 @@ pub trait Print {
         Ok(())
     }
 
-    /// Reports whether several characters of a quoted string may be passed to one call of
+    /// Returns whether several characters of a quoted string may be passed to one call of
     /// [`Print::write_each_char`]. By default they may not: a plain character is then written by one call, and an
-    /// escape by one call for each of its parts. Every call returns the same value. It decides how text is split
-    /// into calls, never the text itself.
+    /// escape by one call for each of its parts. Must return the same value at each call. It decides how text is
+    /// split into calls, never the text itself.
     #[inline(always)]
     fn takes_runs(&self) -> bool {
         false
@@ -146,7 +146,8 @@ pub trait Print {
     fn reset_color(&mut self) -> io::Result<()>
         ensures { Does meaning self.old (Start Reset) self.new result };
 
-    /// Reports whether colors can be written as text, at a later time than the call that chose the style.
+    /// Returns whether the text that is passed to this printer may contain ANSI escape sequences. If not, the text of
+    /// folded operators has no styles.
     fn supports_async_color(&self) -> bool
         ensures { result ≡ colors self.now };
 

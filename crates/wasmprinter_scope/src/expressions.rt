@@ -1,5 +1,5 @@
-//! Constant expressions in fields (section 6.6 of the WebAssembly Core Specification, "Expressions"), each in one
-//! line unless the comment of a folded operator ends the line.
+//! Constant expressions in fields (section 6.6 of the WebAssembly Core Specification, "Expressions"). Each is in one
+//! line, unless operators are folded and the text of one contains `;;`, as a name may.
 ghost use Rattle.std.specs.Prelude.{◌≡◌, false};
 ghost use Rattle.wasmprinter_spec.specs.Layout.Operators.{expression_pieces};
 ghost use Rattle.wasmprinter_spec.specs.Layout.Expressions.{in_line, word_unless_one};

@@ -95,7 +95,7 @@ structure_of_try_table : IsIndexed (one_function ((structure ∷ []) ∷ (func [
 unfolding table
 structure_of_try_table i = let (block, catches) = i.functions.0.operators.0 in block
 
--- ---- the index of a type in a group: type indices count the types of all groups, not the groups
+-- ---- the index of a type in a group: type indices run across all groups
 
 abbrev group_bytes : List ℕ
 group_bytes =

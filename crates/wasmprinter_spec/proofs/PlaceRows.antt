@@ -73,7 +73,7 @@ with_locals : decoded_lines (
 unfolding composing reading
 with_locals = refl
 
--- All types of a written group have the same place. The closing parenthesis of the group has none.
+-- All types of an explicit `(rec ..)` have the same place. The closing parenthesis of the group has none.
 with_group : decoded_lines (head_bytes ++ section 0x01 (0x01 ∷ 0x4e ∷ 0x02 ∷ 0x60 ∷ 0x00 ∷ 0x00 ∷ 0x60 ∷ 0x00 ∷ 0x00 ∷ [])) ≡ Some (
     line 0 (codes "(module")
     ∷ line 0xb (codes "  (rec")

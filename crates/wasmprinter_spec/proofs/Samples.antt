@@ -47,7 +47,7 @@ func ps rs = final_type (FuncComposite (record { params = ps; results = rs }))
 abbrev pub nothing : CompositeType
 nothing = FuncComposite (record { params = []; results = [] })
 
--- A type outside written groups, at this place
+-- A type outside an explicit `(rec ..)`, at this place
 abbrev pub bare : ℕ → SubType → Placed TypeGroup
 bare place t = record { place = place; value = type_group false (t ∷ []) }
 

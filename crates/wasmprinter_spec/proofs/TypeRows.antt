@@ -146,7 +146,7 @@ no_groups = refl
 
 -- ---- type indices
 
--- Type indices count the types of all groups.
+-- Type indices run across all groups.
 abbrev two_groups : List (List SubType)
 two_groups = (final_type (StructComposite []) ∷ []) ∷ [] ∷ (func (I32 ∷ []) [] ∷ sub_type false [] nothing ∷ []) ∷ []
 

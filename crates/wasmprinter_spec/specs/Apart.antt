@@ -34,7 +34,7 @@ body_places b = b.place ∷ (locals_places b.value.locals ++ (places b.value.ope
 
 -- ---- All other places
 
--- All types of a written group have the same place.
+-- All types of an explicit `(rec ..)` have the same place.
 abbrev pub member_places : Bool → ℕ → List SubType → List ℕ
 member_places true place ts = map (λ t. place + 2) ts
 member_places false place ts = []

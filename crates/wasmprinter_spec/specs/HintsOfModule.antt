@@ -48,7 +48,7 @@ abbrev pub offsets_rise : List FunctionHints → Bool
 offsets_rise [] = true
 offsets_rise (e ∷ es) = rise (map (λ h. h.value.offset) e.hints) && offsets_rise es
 
--- The hints of a module, if its last hint section is well formed: its functions are defined and increase, and in
+-- The hints of a module, if they are valid: the functions of its last hint section are defined and increase, and in
 -- each function the offsets are those of operators and increase.
 abbrev pub module_hints : PlacedModule → Option (List OperatorHint)
 module_hints m =

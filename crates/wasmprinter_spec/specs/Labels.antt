@@ -71,13 +71,14 @@ count_after OpensIf n = suc n
 count_after OpensTry n = suc n
 count_after _ n = n
 
--- The labels that an operator's immediates may mean: for `delegate` those outside its block.
+-- The open labels from which an operator's label immediates count. For `delegate` these are all labels except that of
+-- its own `try`.
 abbrev pub labels_outside : Role → List Label → List Label
 labels_outside Delegates (x ∷ xs) = xs
 labels_outside _ xs = xs
 
--- The labels nested inside all of those. They shadow outer labels with the same names, which are then printed by
--- their numbers.
+-- The labels that an operator's immediates can't refer to, but that still shadow outer labels with the same names. For
+-- `delegate` this is the label of its own `try`; other operators have none.
 abbrev pub labels_inside : Role → List Label → List Label
 labels_inside Delegates (x ∷ xs) = x ∷ []
 labels_inside _ xs = []

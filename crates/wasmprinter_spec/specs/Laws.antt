@@ -120,8 +120,8 @@ PlainTextHasNoColor = (text : List ℕ) → IsPlainText text → uncolor text �
 abbrev pub PlainTextsJoin : Type 0
 PlainTextsJoin = (a b : List ℕ) → IsPlainText a → IsPlainText b → IsPlainText (a ++ b)
 
--- The hints of a module whose hint section is well formed are those of its printed text: each once, directly
--- before its operator.
+-- If the branch hints of a module are valid, they are those of its printed text: each once, directly before its
+-- operator.
 abbrev pub HintsStay : Type 0
 HintsStay =
     (bytes : List ℕ) (m : PlacedModule) (o : Options) (answers : Answers) (hs : List OperatorHint) →

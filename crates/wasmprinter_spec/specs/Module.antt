@@ -1,5 +1,6 @@
--- A module: everything that its text must repeat (section 2.5 of the standard). Places, how numbers were encoded
--- and how locals were grouped are not part of it.
+-- A module: everything that its text must repeat (section 2.5 of the standard). These are not part of it: places; how
+-- numbers were encoded and locals were grouped; the data count; `rec` around a single type; whether an element segment
+-- names its table explicitly; and all custom sections that are not printed as raw bytes, such as `name` sections.
 use Rattle.std.specs.Prelude.{ℕ, List, [], ◌∷◌, ◌++◌, map, replicate, Option, Some, None, option_map}
 use Rattle.wasmprinter_spec.specs.Grammar.{Placed}
 use Rattle.wasmprinter_spec.specs.Types.{ValType, SubType, TableType, MemoryType, GlobalType, ExternType, FuncExtern, TableExtern, MemoryExtern, GlobalExtern, TagExtern}

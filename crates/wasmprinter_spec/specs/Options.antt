@@ -12,8 +12,8 @@ pub record Options : Type 0 where
   pub synthesizes : Bool
   -- Operators are folded: each is in parentheses with its operands.
   pub folds : Bool
-  -- The text after the opening parenthesis of a folded operator has ANSI escape sequences. The user does not
-  -- choose this: it holds if the printer can write colors as text.
+  -- The styles within the text of a folded operator become ANSI escape sequences. Otherwise that text has no styles.
+  -- The user does not choose this: it holds if the printer can write colors as text.
   pub color : Bool
   -- The text that is written once for each level of nesting, up to `most_indents` of `Piece`.
   pub indent : List ℕ

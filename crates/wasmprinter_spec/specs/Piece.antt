@@ -1,6 +1,6 @@
--- Pieces: the smallest parts of a layout that read by themselves. Each has its calls on the printer and its
--- tokens. (The text of a folded operator up to its operands is one piece, and its hint another. How these read is
--- stated for the pieces that they replace.)
+-- Pieces: the smallest parts of a layout that read by themselves. Each has its calls on the printer and its tokens.
+-- With folding, a keyword with its immediates is one `OpenPlain`, and a hint is one `Word`. The tokens of these two are
+-- not those of `piece_tokens`, but those of the pieces that they were joined from.
 use Rattle.std.specs.Prelude.{ℕ, ℤ, zero, suc, ◌-◌, min, List, [], ◌∷◌, ◌++◌, Bool, true, false, codes, decimal, Option, Some, None, replicate, length, flat_map, encode_utf8_all, map}
 use Rattle.std.specs.Fmt.{signed_decimal, digits}
 use Rattle.wasmprinter_spec.specs.Call.{Call, Text, Newline, Line, Start, Claim, Style, Literal, Name, Keyword, TypeName, Comment, Reset, text_of}

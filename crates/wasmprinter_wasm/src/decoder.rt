@@ -58,7 +58,7 @@ fn read_preamble(cursor: &mut Cursor) -> Result<(), Malformed>
 struct Gathered<'a> {
     /// The rank of the last section that is not a custom section, 0 before the first.
     rank: u8,
-    /// The place of the next custom section: the kind of the last section before it that holds an item or the
+    /// The position of the next custom section: the kind of the last section before it that holds an item or the
     /// start function.
     after: Option<SectionKind>,
     types: Types<'a>,

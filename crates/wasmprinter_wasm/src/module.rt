@@ -91,10 +91,10 @@ impl<'a> Module<'a> {
 pub trait Fields<'a> {
     ghost use Rattle.std.specs.Prelude.{ℕ};
 
-    // The module defines a function with this number.
+    // The module defines a function with this index among its defined functions.
     ghost defines: { Self → ℕ → Type 0 };
 
-    /// Returns the defined function with this number. Imported functions are not counted.
+    /// Returns the function with this index among the defined functions. Imported functions are not counted.
     fn function(&self, number: u32) -> Function<'a>
         requires { defines self.now number };
 
@@ -103,13 +103,13 @@ pub trait Fields<'a> {
 
     /// Returns the function type with this index, or `None` if there is no such type or it is not a function type.
     ///
-    /// Type indices count the types of all groups. The time is the same for every index.
+    /// Type indices run across recursive groups. The time is the same for every index.
     fn signature(&self, index: u32) -> Option<FuncType<'a>>;
 
     /// Returns the number of fields of the structure type with this index, or `None` if there is no such type or
     /// it is not a structure type.
     ///
-    /// Type indices count the types of all groups. The time is the same for every index.
+    /// Type indices run across recursive groups. The time is the same for every index.
     fn field_count(&self, index: u32) -> Option<u32>;
 
     /// Returns the imports.
@@ -142,7 +142,7 @@ pub trait Fields<'a> {
     /// Returns the data segments.
     fn data_segments(&self) -> &[Data<'a>];
 
-    /// Returns the custom sections in order, each with its place: the kind of the last section before it that
+    /// Returns the custom sections in order, each with its position: the kind of the last section before it that
     /// holds an item or the start function, if there is one.
     fn customs(&self) -> &[CustomEntry<'a>];
 

@@ -5,8 +5,8 @@ use Rattle.std.specs.Prelude.{◌≡◌, ◌≢◌, ◌<◌, ℕ, zero, suc, ◌
 use Rattle.wasmprinter_spec.specs.Folding.Arities.{greatest, saturating_sum}
 use Rattle.wasmprinter_spec.specs.Folding.Code.{Item, NestedCode, Done, Plain, Block, If, IfElse}
 
--- The head of a node: an operator, which for a block is the one that opens it; the word `then` of this `if`; or
--- this `else`.
+-- The head of a node: an operator (for a block, the one that opens it), the keyword `then` (the item is its `if`), or
+-- an `else` (the item is that `else`).
 pub data Head : Type 0 where
   Of : Item → Head
   ThenCase : Item → Head
@@ -76,9 +76,9 @@ abbrev pub operand_search : {H : Type 0} → ℕ → NodesOf H → OperandsOf H
 operand_search zero f = TooFew
 operand_search (suc n) f = operands_from (suc n) 0 f
 
--- An operator after a row of nodes, with the nodes that it takes. If a sum exceeded the number, results that were
--- given together would have to be divided: the operator takes no node, and counts for `greatest` results, so that
--- hardly any other operator takes it.
+-- An operator after a row of nodes, with the nodes that it takes as operands. `Overshot`: the operands would begin
+-- inside a node with several results, which can't be split. The operator then takes no node, and counts for `greatest`
+-- results (2^32 - 1), so that hardly any other operator takes it.
 abbrev pub with_operands : {H : Type 0} → NodesOf H → H → ℕ → OperandsOf H → NodesOf H
 with_operands f head results (Fit before run) = Snoc before head results run
 with_operands f head results Overshot = Snoc f head greatest Nil
@@ -118,8 +118,8 @@ OperandRule = (wanted : ℕ) (f : Nodes) → 0 < wanted → IsAnswer wanted 0 f 
 
 -- ---- Code
 
--- The nodes of code after a row of nodes. A block gives its own results only. An `if` takes the last node before
--- it, if there is one, and then has its cases.
+-- The nodes of code after a row of nodes. A block takes no node before it, and counts for its own results. An `if`
+-- takes the last node before it, if there is one, however many results that node has, and then has its cases.
 abbrev pub tree_after : Nodes → NestedCode → Nodes
 tree_after f Done = f
 tree_after f (Plain x rest) = tree_after (with_operator f x) rest

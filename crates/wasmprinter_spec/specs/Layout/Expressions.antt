@@ -1,6 +1,7 @@
--- The layout of expressions in fields: in one line, unless the comment of a folded operator ends the line. If a
--- field has an expression in a group of its own, a single operator is alone in the group (section 6.6 of the
--- standard: `(instr)` is an abbreviation of `(offset instr)` and of `(item instr)`).
+-- The layout of expressions in fields: in one line, unless operators are folded and the text of a node without
+-- children contains `;;`, as a name may: then its line ends there. If a field has an expression in a group of its
+-- own, a single operator is alone in the group (section 6.6 of the standard: `(instr)` is an abbreviation of
+-- `(offset instr)` and of `(item instr)`).
 use Rattle.std.specs.Prelude.{ℕ, ◌+◌, List, [], ◌∷◌, ◌++◌, Option, Some, None}
 use Rattle.wasmprinter_spec.specs.Grammar.{Placed}
 use Rattle.wasmprinter_spec.specs.Types.{signature_at}

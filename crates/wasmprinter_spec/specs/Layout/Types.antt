@@ -91,8 +91,8 @@ module _ (names : Names) where
 
   -- ---- Groups of types
 
-  -- A type of a written group, on a line of its own. The place of all these lines is that after the group's first
-  -- two bytes.
+  -- A type of an explicit `(rec ..)`, on a line of its own. The place of all these lines is that after the group's
+  -- first two bytes.
   unfoldable pub member_pieces : ℕ → ℕ → SubType → List Piece
   member_pieces place i t = Break (Some (place + 2)) 2 ∷ type_pieces i t
 
@@ -104,7 +104,7 @@ module _ (names : Names) where
   unfoldable pub type_group_pieces : ℕ → Placed TypeGroup → List Piece
   type_group_pieces i g = Break (Some g.place) 1 ∷ group_pieces_by g.value.written g.place i g.value.types
 
-  -- Groups. Type indices count the types of all of them.
+  -- Groups. Type indices run across all of them.
   unfoldable pub type_section_pieces : ℕ → List (Placed TypeGroup) → List Piece
   type_section_pieces i [] = []
   type_section_pieces i (g ∷ gs) = type_group_pieces i g ++ type_section_pieces (i + length g.value.types) gs

@@ -1,7 +1,7 @@
--- An error of `print_file` is returned unchanged, before anything is written.
+-- An error of `text_of_file` is returned unchanged, before anything is written.
 use Rattle.std.proofs.Common.{refl, inl}
 use Rattle.std.proofs.lemmas.Result.{err_from_is_err_and}
-use Rattle.printwasm.proofs.program.write_file.Goals as goal
+use Rattle.printwasm.proofs.program.write_text_of.Goals as goal
 
 pub returns-in_err-text-clause-refused : goal.returns-in_err-text-clause-refused
 returns-in_err-text-clause-refused g c =

@@ -2,7 +2,7 @@
 use Rattle.std.proofs.Common.{◌≡◌, ap, subst}
 use Rattle.wasmprinter.specs.Outcome.{HasListedTextCause}
 use Rattle.printwasm.specs.Words.{Choice}
-use Rattle.printwasm.proofs.program.print.Goals as goal
+use Rattle.printwasm.proofs.program.text_of.Goals as goal
 
 pub returns-in-Err-clause-caused : goal.returns-in-Err-clause-caused
 returns-in-Err-clause-caused c =
