@@ -1,0 +1,5 @@
+-- What the contracts of the printing handle cite.
+pub mod Indents
+pub mod Made
+pub mod MadeLaws
+pub mod OutputLaws

@@ -1,0 +1,2 @@
+-- Definitions for the contracts of floats.
+pub mod Formats
