@@ -1,0 +1,5 @@
+pub mod Composites
+pub mod Counting
+pub mod Made
+pub mod TypeLists
+pub mod Walks
