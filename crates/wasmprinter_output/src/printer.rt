@@ -95,17 +95,19 @@ impl<'o, 'p, P: Print, K: Chosen> Output for Printer<'o, 'p, P, K> {
     ghost group_of = { λ a s t v outer place n xs h w c.
         (closed P.meaning K.options false outer place n xs h.0 w.0 c.parenthesis.0 c.leaves.0, c.leaves.1 ∙ (c.parenthesis.1 ∙ (w.1 ∙ h.1))) };
 
-    ghost group_at_of = { λ a s t v outer place n xs h w c.
-        (closed P.meaning K.options K.options.offsets outer (Some place) n xs h.0 w.0 c.parenthesis.0 c.leaves.0,
-        c.leaves.1 ∙ (c.parenthesis.1 ∙ (w.1 ∙ h.1))) };
+    ghost group_at_of = { λ a s t v outer place n xs h w c. (
+      closed P.meaning K.options K.options.offsets outer (Some place) n xs h.0 w.0 c.parenthesis.0 c.leaves.0,
+      c.leaves.1 ∙ (c.parenthesis.1 ∙ (w.1 ∙ h.1)),
+    ) };
 
     ghost part_of = { λ a t xs v. (shown P.meaning K.options xs v.0, v.1) };
 
     ghost stop_of = { λ a s t xs ys id v w. (stopped P.meaning K.options xs ys id v.0 w.0, w.1 ∙ v.1) };
 
-    ghost parts_at_of = { λ a s t v outer place n ps h w c.
-        (closed_parts P.meaning K.options K.options.offsets outer (Some place) n ps h.0 w.0 c.parenthesis.0 c.leaves.0,
-        c.leaves.1 ∙ (c.parenthesis.1 ∙ (w.1 ∙ h.1))) };
+    ghost parts_at_of = { λ a s t v outer place n ps h w c. (
+      closed_parts P.meaning K.options K.options.offsets outer (Some place) n ps h.0 w.0 c.parenthesis.0 c.leaves.0,
+      c.leaves.1 ∙ (c.parenthesis.1 ∙ (w.1 ∙ h.1)),
+    ) };
 
     ghost part_then = { λ a s t p ps v w. (both_parts P.meaning K.options (p ∷ []) ps v.0 w.0, w.1 ∙ v.1) };
 

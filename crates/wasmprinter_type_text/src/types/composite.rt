@@ -1,5 +1,5 @@
 //! Composite types and subtypes (section 6.4 of the WebAssembly Core Specification).
-ghost use Rattle.std.specs.Prelude.{◌≡◌, [], ◌∷◌, true, ℕ, ◌&&◌, ◌==◌, None, codes, length, option_map};
+ghost use Rattle.std.specs.Prelude.{◌≡◌, [], ◌∷◌, true, ℕ, ◌&&◌, ◌==◌, None, length, option_map};
 ghost use Rattle.wasmprinter_spec.specs.Names.{Names};
 ghost use Rattle.wasmprinter_spec.specs.Types.{FuncComposite, ArrayComposite, StructComposite};
 ghost use Rattle.wasmprinter_spec.specs.Layout.Types.{storage_pieces, field_pieces_by, field_pieces, composite_pieces};
