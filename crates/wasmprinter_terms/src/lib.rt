@@ -4,6 +4,7 @@
 
 pub mod annotations;
 pub mod comments;
+pub mod data_strings;
 pub mod floats;
 mod format;
 pub mod hints;

@@ -2,7 +2,6 @@
 //! output.
 #![tactic(auto)]
 
-pub mod data_strings;
 pub mod indices;
 pub mod signature;
 pub mod types;

@@ -1,9 +1,9 @@
 //! The bytes of data segments and custom sections.
 ghost use Rattle.wasmprinter_spec.specs.Layout.DataSegments.{shown_bytes};
 
+use crate::strings::write_byte_string;
+use crate::words::write_word;
 use wasmprinter_output::Output;
-use wasmprinter_terms::strings::write_byte_string;
-use wasmprinter_terms::words::write_word;
 
 /// Writes bytes as a quoted string, or `...` in a skeleton.
 pub fn write_shown_bytes<O: Output>(out: &mut O, bytes: &[u8])

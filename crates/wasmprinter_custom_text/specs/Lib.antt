@@ -1,0 +1,2 @@
+-- The definitions that the contracts of custom sections cite.
+pub mod Unclaimed
