@@ -1,0 +1,3 @@
+-- The definitions that the contracts of flat operators cite.
+pub mod Settings
+pub mod Contexts

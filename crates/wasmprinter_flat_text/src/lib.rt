@@ -1,0 +1,14 @@
+//! Writes operators as flat text (section 6.5 of the WebAssembly Core Specification), with their branch hints, to
+//! any output.
+#![tactic(auto)]
+
+mod blocks;
+mod constants;
+mod context;
+mod immediates;
+mod indices;
+mod labels;
+mod memory;
+pub mod operators;
+mod references;
+mod vectors;
