@@ -14,7 +14,7 @@ use Rattle.wasmprinter.specs.AnsiText.{ansi_text_meaning}
 use Rattle.wasmprinter.specs.Printed.{Printed, no_claims}
 use Rattle.wasmprinter.specs.Colored.{HasColoredTextBy}
 use Rattle.wasmprinter.proofs.Claims.{IsSame}
-use Rattle.wasmprinter.proofs.ColorPieces.{refusal-color}
+use Rattle.wasmprinter.proofs.ColorRefusals.{refusal-color}
 use Rattle.wasmprinter.proofs.Texts.{unclaimed_printed, module_text}
 
 -- A run of calls appends their text with the escape sequences.

@@ -20,7 +20,7 @@ use Rattle.wasmprinter_reading.proofs.Hints.Kept.{hints_stay}
 use Rattle.wasmprinter_colors.proofs.Texts.{color_adds_sequences, texts_contain_colors}
 use Rattle.wasmprinter.specs.Printed.{Printed, no_claims}
 use Rattle.wasmprinter.proofs.Claims.{alike_unclaimed, unclaimed_layout}
-use Rattle.wasmprinter.proofs.ColorPieces.{refusal-color}
+use Rattle.wasmprinter.proofs.ColorRefusals.{refusal-color}
 
 -- A module that can be folded can also be folded with escape sequences.
 pub foldable_in : (o : Options) (b : Bool) (m : PlacedModule) → IsFoldable o m → IsFoldable (in_colors o b) m

@@ -1,4 +1,4 @@
-pub mod ColorPieces
+pub mod ColorRefusals
 pub mod Headline
 pub mod Outcomes
 pub mod Texts

@@ -9,16 +9,15 @@ use Rattle.wasmprinter_spec.specs.Limits.{IsWithinLimits}
 use Rattle.wasmprinter_spec.specs.Meaning.{Meaning}
 use Rattle.wasmprinter_spec.specs.Options.{Options, Answers, in_colors}
 use Rattle.wasmprinter_spec.specs.Names.{Names}
+use Rattle.wasmprinter_spec.specs.Piece.{all_calls}
 use Rattle.wasmprinter_spec.specs.Layout.{module_pieces, layout, refusal}
 use Rattle.wasmprinter_spec.specs.Layout.Customs.{Laid}
 use Rattle.wasmprinter_print.specs.Emits.{Made, Broken, Begun, Ending, Through, AtCall, Stopped, Never, at_growth}
-use Rattle.wasmprinter_print.specs.Prints.{Written}
-use Rattle.wasmprinter_print.specs.PrintsLaws.{written}
 use Rattle.wasmprinter_error.specs.declared.error.Error.{Error}
 use Rattle.wasmprinter_error.specs.declared.error.Error.TheVariants.{Malformed, Component, TooManyLocals, TooManyFunctions, EmptyTableInit, FoldLegacy, FoldHint, DylinkSubsection, Unreadable, Printer, Memory}
 use Rattle.std.specs.declared.io.Error.{Error as IoError}
 use Rattle.wasmprinter_wasm.specs.Decoding.{IsRefusal}
-use Rattle.wasmprinter_annotations.specs.Parts.{PrintsLaid}
+use Rattle.wasmprinter_sections.specs.Endings.{PrintsLaid}
 use Rattle.wasmprinter_sections.specs.Sections.{module_laid}
 use Rattle.wasmprinter_spec.specs.Call.{Call}
 use Rattle.wasmprinter_spec.specs.Folding.Refusals.{IsFoldable}
@@ -29,7 +28,6 @@ use Rattle.wasmprinter_spec.specs.Names.Content.{name_of}
 use Rattle.wasmprinter_spec.specs.ModuleNames.{name_entries, module_names}
 use Rattle.wasmprinter_names.specs.Views.{NamedItem, name_at}
 use Rattle.wasmprinter_labels.specs.Scan.{Scan, names_of}
-use Rattle.wasmprinter.proofs.ColorPieces.{calls-color}
 use Rattle.wasmprinter.proofs.Headline.{printed}
 use Rattle.wasmprinter.proofs.Named.{shown_names, one_module}
 use Rattle.wasmprinter.proofs.Subsections.{refusal_unknown, refused_unknown, made_refused}
@@ -122,22 +120,23 @@ module _ {P : Type 0} (m : Meaning P) (colors : Bool) (o : Options) (bytes : Lis
   abbrev by : Options
   by = in_colors o colors
 
-  made : (r : Ending) → Written m o old new r (module_pieces by answers placed) → Made m old new r (layout by answers placed)
+  -- The calls of the module's pieces are those of its layout.
+  made : (r : Ending) → Made m old new r (all_calls by (module_pieces by answers placed)) → Made m old new r (layout by answers placed)
   unfolding layout
-  made r v = subst (λ (l : List Call). Made m old new r l) (sym (calls-color o colors (module_pieces by answers placed))) (written m v)
+  made r v = v
 
   -- The result of printing, with the calls that were made.
   abbrev Ended : Result (Unit {0}) Error → Type 0
-  Ended r = PrintsLaid m o old new o.folds r (own_laid by answers placed)
+  Ended r = PrintsLaid m by old new r (own_laid by answers placed)
 
   -- A module that was written with the names of its sections was printed as its own layout says.
   pub own_ended : (r : Result (Unit {0}) Error) (s : Scan) (items : List NamedItem) → s.named ≡ items → s.synthesizes ≡ o.synthesizes →
       ((t outer index : ℕ) → name_at items t outer index ≡ name_of (name_entries placed.customs) t outer index) →
-      PrintsLaid m o old new o.folds r (module_laid by answers (names_of s) placed) → Ended r
-  own_ended r s items same synthesizes given v = subst (λ (l : Laid). PrintsLaid m o old new o.folds r l) (own_layout by answers placed s items same synthesizes given) v
+      PrintsLaid m by old new r (module_laid by answers (names_of s) placed) → Ended r
+  own_ended r s items same synthesizes given v = subst (λ (l : Laid). PrintsLaid m by old new r l) (own_layout by answers placed s items same synthesizes given) v
 
-  never : Written m o old new Never (module_pieces by answers placed) → ⊥
-  never v = (made Never v).made
+  never : Made m old new Never (all_calls by (module_pieces by answers placed)) → ⊥
+  never v = v.made
 
   -- A property holds for every error of printing if it holds after a failed call, after a refused section and
   -- after a failed allocation. An allocation can fail only during folding.
@@ -147,22 +146,15 @@ module _ {P : Type 0} (m : Meaning P) (colors : Bool) (o : Options) (bytes : Lis
         Ended r → IfErr r Q
     with_folds Q failed refused stopped v = by_result r v
       where
-        by_growth : (b : Bool) → o.folds ≡ b → Written m o old new (at_growth b) (module_pieces by answers placed) → Q Memory
+        by_growth : (b : Bool) → o.folds ≡ b → Made m old new (at_growth b) (all_calls by (module_pieces by answers placed)) → Q Memory
         by_growth true k v = stopped k (made Stopped v).made
         by_growth false k v = absurd (never v)
 
         by_error : (e : Error) → Ended (Err e) → Q e
-        by_error Memory v = by_growth o.folds refl v.written
-        by_error (Malformed place) v = absurd (never v.written)
-        by_error Component v = absurd (never v.written)
-        by_error (TooManyLocals place) v = absurd (never v.written)
-        by_error (TooManyFunctions count) v = absurd (never v.written)
-        by_error (EmptyTableInit place) v = absurd (never v.written)
-        by_error (FoldLegacy place) v = absurd (never v.written)
-        by_error (FoldHint place) v = absurd (never v.written)
-        by_error (DylinkSubsection id) v = refused id (record { ends = v.refused; made = (made Through v.written).made })
-        by_error Unreadable v = absurd (never v.written)
-        by_error (Printer x) v = failed x (made (AtCall x) v.written).made
+        by_error Memory v = by_growth o.folds refl v.made
+        by_error (DylinkSubsection id) v = refused id (record { ends = v.refused; made = (made Through v.made).made })
+        by_error (Printer x) v = failed x (made (AtCall x) v.made).made
+        by_error _ v = absurd (never v.made)
 
         by_result : (r : Result (Unit {0}) Error) → Ended r → IfErr r Q
         by_result (Ok x) v = tt
@@ -191,12 +183,12 @@ module _ {P : Type 0} (m : Meaning P) (colors : Bool) (o : Options) (bytes : Lis
 
   -- If writing succeeds, the module was printed.
   pub ended_printed : (r : Result (Unit {0}) Error) → Ended r → OnOk r (Printed m colors o bytes old new)
-  ended_printed (Ok x) v = printed m colors o bytes placed answers spelled within foldable v.refused (made Through v.written).made
+  ended_printed (Ok x) v = printed m colors o bytes placed answers spelled within foldable v.refused (made Through v.made).made
   ended_printed (Err e) v = tt
 
   -- Printing does not return `Component`.
   not_marked : (r : Result (Unit {0}) Error) → Ended r → r ≡ Err Component → ⊥
-  not_marked r v e = never (subst (λ (q : Result (Unit {0}) Error). Ended q) e v).written
+  not_marked r v e = never (subst (λ (q : Result (Unit {0}) Error). Ended q) e v).made
 
   pub ended_unmarked : (r : Result (Unit {0}) Error) → Ended r → (r ≡ Err Component) ↔ IsComponent bytes
   ended_unmarked r v = (λ e. absurd (not_marked r v e), λ c. absurd (not_component bytes placed spelled c))

@@ -13,10 +13,10 @@ use std::marker::Model;
 use wasmprinter_error::Error;
 use wasmprinter_foldable::check_folding;
 use wasmprinter_labels::OpenLabels;
-use wasmprinter_lines::options::PrintOptions;
 use wasmprinter_names::Identifiers;
+use wasmprinter_output::PrintOptions;
 use wasmprinter_print::Print;
-use wasmprinter_sections::modules::write_module;
+use wasmprinter_sections::print_module;
 use wasmprinter_wasm::{Module, decode};
 
 /// The options of printing: which parts of a module are printed, and in which form.
@@ -152,7 +152,7 @@ impl Config {
             synthesizes: self.options.synthesizes,
         };
         let labels = OpenLabels::new(alloc, identifiers)?;
-        write_module(alloc, printer, &self.options, &module, labels)
+        print_module(alloc, printer, &self.options, &module, labels)
     }
 
     /// Returns the text of a module in the binary format.

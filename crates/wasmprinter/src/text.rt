@@ -1,3 +1,2 @@
 //! Writing single values in the text format: floats and quoted strings.
-pub use wasmprinter_floats::floats::{write_f32, write_f64};
-pub use wasmprinter_words::strings::{write_bytes, write_quoted};
+pub use wasmprinter_terms::values::{write_bytes, write_f32, write_f64, write_quoted};

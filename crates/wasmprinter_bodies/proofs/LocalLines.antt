@@ -1,5 +1,5 @@
 -- The layout of locals, entry by entry.
-use Rattle.std.specs.Prelude.{◌≡◌, ℕ, zero, suc, ◌+◌, ◌-◌, ◌<◌, ◌≤◌, ◌==◌, List, [], ◌∷◌, ◌++◌, Bool, true, false, cond, Option, Some, None, is_some, codes, replicate, refl}
+use Rattle.std.specs.Prelude.{◌≡◌, ℕ, zero, suc, ◌+◌, ◌-◌, ◌<◌, ◌≤◌, ◌==◌, List, [], ◌∷◌, ◌++◌, Bool, true, false, cond, Option, Some, None, codes, replicate, refl}
 use Rattle.std.proofs.Common.{sym, ap, ap₂, ◌∙◌, append_assoc, arith}
 use Rattle.std.proofs.lemmas.Bool.{eqb-true, eqb-false}
 use Rattle.wasmprinter_spec.specs.Grammar.{Placed}
@@ -10,11 +10,10 @@ use Rattle.wasmprinter_spec.specs.Placed.{LocalEntry}
 use Rattle.wasmprinter_spec.specs.Module.{locals_of}
 use Rattle.wasmprinter_spec.specs.Piece.{Piece, Break}
 use Rattle.wasmprinter_spec.specs.Layout.Functions.{locals_place, local_line, local_pieces}
-use Rattle.wasmprinter_spec.specs.Layout.Groups.{has_break}
 use Rattle.wasmprinter_spec.specs.Layout.Variables.{variable_groups}
-use Rattle.wasmprinter_text.specs.declared.types.variables.Before.TheVariants as before
-use Rattle.wasmprinter_text.specs.Variables.{end_pieces, walk_pieces}
-use Rattle.wasmprinter_text.proofs.Walks.{walk-line}
+use Rattle.wasmprinter_type_text.specs.declared.types.variables.Before.TheVariants as before
+use Rattle.wasmprinter_type_text.specs.Variables.{end_pieces, walk_pieces}
+use Rattle.wasmprinter_type_text.proofs.Walks.{walk-line}
 use Rattle.wasmprinter_bodies.specs.declared.locals.Position.{Position}
 use Rattle.wasmprinter_bodies.specs.LocalWalk.{after_one, after_all, local_parts, locals_parts}
 
@@ -123,11 +122,3 @@ module _ (names : Names) (f count : ℕ) where
       ap₂ (λ p ts. local_line names p (variable_groups (names.locals f) count ts)) h d.types
       ∙ sym (walk-line names (Some place) (names.locals f) count d.first d.others)
       ∙ sym (ap (λ ts. Break (Some place) 2 ∷ walk_pieces names (codes "local") (names.locals f) before.Line count ts) d.types)
-
-  -- A line begins for locals exactly if an entry declares one.
-  pub locals-break : (es : List (Placed LocalEntry)) → has_break (local_pieces names f count es) ≡ is_some (locals_place es)
-  locals-break es = by (locals_place es) refl
-    where
-      by : (o : Option ℕ) → locals_place es ≡ o → has_break (local_pieces names f count es) ≡ is_some o
-      by None h = ap has_break (locals-none es h)
-      by (Some place) h = ap has_break (locals-some es place h)

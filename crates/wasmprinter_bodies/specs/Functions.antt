@@ -1,5 +1,5 @@
 -- The content of the group of a function, with its body and without.
-use Rattle.std.specs.Prelude.{ℕ, List, [], ◌∷◌, ◌++◌, codes, Some}
+use Rattle.std.specs.Prelude.{ℕ, List, [], ◌∷◌, ◌++◌, codes, length, Option, Some, option_map}
 use Rattle.wasmprinter_spec.specs.Grammar.{Placed}
 use Rattle.wasmprinter_spec.specs.Types.{SubType, signature_at}
 use Rattle.wasmprinter_spec.specs.Row as row
@@ -13,6 +13,10 @@ use Rattle.wasmprinter_spec.specs.Layout.Functions.{header_pieces, inner_pieces}
 -- The number of parameters of a type, or 0 if it is not a function type.
 abbrev pub parameter_count_of : List SubType → ℕ → ℕ
 parameter_count_of ts i = parameter_count (signature_at ts i)
+
+-- The number of results of a type, if it is a function type.
+abbrev pub result_count_of : List SubType → ℕ → Option ℕ
+result_count_of ts i = option_map (λ t. length t.results) (signature_at ts i)
 
 -- The header of a function: its declaration and its type use.
 abbrev pub function_header : Scope → PlacedFunction → List Piece

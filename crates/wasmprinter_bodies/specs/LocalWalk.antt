@@ -4,7 +4,7 @@ use Rattle.wasmprinter_spec.specs.Types.{ValType}
 use Rattle.wasmprinter_spec.specs.Labels.{Named}
 use Rattle.wasmprinter_spec.specs.Names.{Names}
 use Rattle.wasmprinter_spec.specs.Piece.{Piece}
-use Rattle.wasmprinter_text.specs.Variables.{before_next, variable_pieces}
+use Rattle.wasmprinter_type_text.specs.Variables.{before_next, variable_pieces}
 use Rattle.wasmprinter_bodies.specs.declared.locals.Position.{Position}
 
 -- The position after the next local.

@@ -1,16 +1,16 @@
 //! Statuses: the numbers of errors, and their descriptions.
 ghost use Rattle.std.specs.Prelude.{◌≡◌, ◌∷◌, []};
 ghost use Rattle.wasmprinter_spec.specs.Call.{Text};
-ghost use Rattle.wasmprinter_print.specs.Emits.{Emits};
+ghost use Rattle.wasmprinter_print.specs.Emits.{EmitsOrFails};
 ghost use Rattle.wasmprinter_c.specs.Copied.{copied_meaning};
 ghost use Rattle.wasmprinter_c.specs.Messages.{message};
 ghost use Rattle.wasmprinter_c.specs.Refused.{number_of, detail_in};
 
 use crate::copier::Copier;
-use std::io;
 use wasmprinter::Error;
-use wasmprinter_print::text;
-use wasmprinter_words::numbers::{write_decimal_between, write_hexadecimal_between};
+use wasmprinter_output::Output;
+use wasmprinter_terms::numbers::{write_decimal_between, write_hexadecimal_between};
+use wasmprinter_terms::values::{Value, write_value};
 
 /// The status after the module was printed.
 pub(crate) const PRINTED: u32 = 0;
@@ -53,49 +53,61 @@ pub(crate) fn detail_of(error: &Error) -> u64
     }
 }
 
+/// A status with its detail.
+#[derive(Drop)]
+struct Description {
+    status: u32,
+    detail: u64,
+}
+
+impl Value for Description {
+    ghost calls = { λ d. Text (message d.status d.detail) ∷ [] };
+
+    fn write<O: Output>(&self, out: &mut O) {
+        write_message(out, self.status, self.detail);
+    }
+}
+
 /// Writes the description of a status with its detail.
-pub(crate) fn describe(copier: &mut Copier<'_>, status: u32, detail: u64) -> io::Result<()>
-    ensures { Emits copied_meaning copier.old copier.new result (Text (message status detail) ∷ []) }
+fn write_message<O: Output>(out: &mut O, status: u32, detail: u64)
+    ensures { O.called out.old out.new (Text (message status detail) ∷ []) }
 {
     match status {
-        PRINTED => text(copier, "success"),
-        1 => write_hexadecimal_between(copier, "malformed module at byte 0x", detail, ""),
-        2 => text(copier, "components are not supported"),
+        PRINTED => out.write_str("success"),
+        1 => write_hexadecimal_between(out, "malformed module at byte 0x", detail, ""),
+        2 => out.write_str("components are not supported"),
         3 => write_hexadecimal_between(
-            copier,
+            out,
             "function at byte 0x",
             detail,
             " has more than 50000 locals",
         ),
-        4 => write_decimal_between(
-            copier,
-            "module has ",
-            detail,
-            " functions, more than 1000000",
-        ),
+        4 => write_decimal_between(out, "module has ", detail, " functions, more than 1000000"),
         5 => write_hexadecimal_between(
-            copier,
+            out,
             "table at byte 0x",
             detail,
             " has an empty initialiser",
         ),
         6 => write_hexadecimal_between(
-            copier,
+            out,
             "legacy exception operator at byte 0x",
             detail,
             " can't be folded",
         ),
-        7 => write_hexadecimal_between(
-            copier,
-            "branch hint at byte 0x",
-            detail,
-            " can't be folded",
-        ),
-        8 => write_decimal_between(copier, "unknown dylink.0 subsection ", detail, ""),
-        9 => text(copier, "the file can't be read"),
-        10 => text(copier, "the text is too long"),
-        11 => text(copier, "out of memory"),
-        BAD_INDENT => text(copier, "the indent is not UTF-8"),
-        _ => text(copier, "unknown status"),
+        7 => write_hexadecimal_between(out, "branch hint at byte 0x", detail, " can't be folded"),
+        8 => write_decimal_between(out, "unknown dylink.0 subsection ", detail, ""),
+        9 => out.write_str("the file can't be read"),
+        10 => out.write_str("the text is too long"),
+        11 => out.write_str("out of memory"),
+        BAD_INDENT => out.write_str("the indent is not UTF-8"),
+        _ => out.write_str("unknown status"),
     }
+}
+
+/// Writes the description of a status with its detail to a buffer.
+pub(crate) fn describe(copier: &mut Copier<'_>, status: u32, detail: u64) -> Result<(), Error>
+    ensures { EmitsOrFails copied_meaning copier.old copier.new result (Text (message status detail) ∷ []) }
+{
+    write_value(copier, &Description { status, detail })
 }

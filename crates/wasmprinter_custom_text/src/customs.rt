@@ -40,7 +40,7 @@ fn write_role<O: Output>(out: &mut O, entry: &CustomEntry<'_>, role: CustomRole<
         CustomRole::Silent => {}
         CustomRole::Producers(fields) => write_producers(out, place, fields),
         CustomRole::Dylink(subsections) => write_dylink(out, place, subsections),
-        CustomRole::Refused(id) => out.refuse_subsection(u32::from(*id)),
+        CustomRole::Refused(id) => out.refuse_subsection(*id),
         CustomRole::Raw => write_raw(out, entry),
         CustomRole::Malformed => write_faulted(out, entry),
     }

@@ -1,33 +1,23 @@
 -- The lines of imports, one after the other, and the number of preceding imports of all kinds.
-use Rattle.std.specs.Prelude.{◌≡◌, ℕ, ◌+◌, ◌<◌, ◌≤◌, drop, length, List, [], ◌∷◌, ◌++◌, codes, Some, refl}
+use Rattle.std.specs.Prelude.{◌≡◌, ℕ, ◌+◌, ◌<◌, ◌≤◌, drop, length, List, [], ◌++◌, refl}
 use Rattle.std.proofs.Common.{sym, ap, ◌∙◌, get_or, arith}
 use Rattle.std.proofs.Math.ListN.{drop_of_length-le}
 use Rattle.std.proofs.lemmas.List.{at_drop_more}
 use Rattle.wasmprinter_spec.specs.Grammar.{Placed}
 use Rattle.wasmprinter_spec.specs.Types.{ExternType, FuncExtern, TableExtern, MemoryExtern, GlobalExtern, TagExtern}
 use Rattle.wasmprinter_spec.specs.Placed.{Import}
-use Rattle.wasmprinter_spec.specs.Piece.{Piece, Break}
+use Rattle.wasmprinter_spec.specs.Piece.{Piece}
 use Rattle.wasmprinter_spec.specs.Layout.Declarations.{Scope}
-use Rattle.wasmprinter_spec.specs.Layout.Imports.{Numbers, number_of, numbers_after, extern_pieces, import_pieces, imports_pieces, extern_parts, import_parts}
+use Rattle.wasmprinter_spec.specs.Layout.Imports.{Numbers, number_of, numbers_after, extern_pieces, import_pieces, imports_pieces, extern_parts}
 use Rattle.wasmprinter_spec.specs.Layout.Exports.{kind_word}
 use Rattle.wasmprinter_spec.specs.Layout.Groups.{line_group_gap}
 use Rattle.wasmprinter_entries.specs.Externs.{kind_of_type}
-use Rattle.wasmprinter_fields.specs.Parts.{field_line}
-use Rattle.wasmprinter_fields.proofs.LineGroups.{one_line}
-use Rattle.wasmprinter_fields.proofs.Unbroken.{import-unbroken}
+use Rattle.wasmprinter_fields.proofs.FieldsOnOneLine.{import_line, import-line}
 
 -- If there are at most k imports, no piece is left after the first k.
 pub imports-none : (s : Scope) (n : Numbers) (k : ℕ) (is : List (Placed Import)) → length is ≤ k → imports_pieces s n (drop k is) ≡ []
 unfolding imports_pieces
 imports-none s n k is le = ap (imports_pieces s n) (drop_of_length-le is le)
-
--- The line of an import, with its number among those of its kind.
-abbrev pub import_line : Scope → ℕ → Placed Import → List Piece
-import_line s = field_line (codes "import") (λ i. i.place) (λ n i. import_parts s n i.value)
-
-import-line : (s : Scope) (n : ℕ) (i : Placed Import) → import_pieces s n i ≡ import_line s n i
-unfolding import_pieces
-import-line s n i = ap (λ (ps : List Piece). Break (Some i.place) 1 ∷ ps) (sym (one_line 1 (codes "import") (import_parts s n i.value) (import-unbroken s n i.value)))
 
 -- The pieces after the first k imports are those of import k and those of the imports after it.
 pub imports-next : (s : Scope) (n : Numbers) (k : ℕ) (is : List (Placed Import)) (i d : Placed Import) → k < length is → i ≡ get_or is k d →

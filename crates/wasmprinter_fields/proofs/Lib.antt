@@ -1,9 +1,6 @@
 pub mod Numbering
 pub mod TypeFields
-pub mod LineGroups
-pub mod Unbroken
 pub mod Constants
 pub mod ImportLines
 pub mod Declared
-pub mod Closing
 pub mod FieldsOnOneLine

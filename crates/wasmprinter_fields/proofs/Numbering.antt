@@ -1,12 +1,10 @@
 -- Lists of fields, each with its number.
-use Rattle.std.specs.Prelude.{◌≡◌, ℕ, suc, ◌+◌, ◌<◌, ◌≤◌, ◌==◌, not, drop, List, [], ◌∷◌, ◌++◌, true, ◌||◌, length, Some, slice_get, refl}
+use Rattle.std.specs.Prelude.{◌≡◌, ℕ, suc, ◌+◌, ◌<◌, ◌≤◌, drop, List, [], ◌∷◌, ◌++◌, length, Some, slice_get}
 use Rattle.std.proofs.Common.{sym, ap, ◌∙◌, add-one, drop-cons, get_or, arith}
-use Rattle.std.proofs.Math.Dec.{eqb-suc-zero}
 use Rattle.std.proofs.lemmas.Option.{slice_get_within, get_or_from_slice_get}
 use Rattle.std.proofs.lemmas.List.{drop_all}
 use Rattle.wasmprinter_spec.specs.Piece.{Piece}
-use Rattle.wasmprinter_spec.specs.Layout.Groups.{has_break, numbered_pieces}
-use Rattle.wasmprinter_lines.proofs.Groups.{has_break-append}
+use Rattle.wasmprinter_spec.specs.Layout.Groups.{numbered_pieces}
 
 module _ {A : Type 0} (f : ℕ → A → List Piece) where
   one : (n : ℕ) (xs rest : List A) (x : A) → xs ≡ x ∷ rest → numbered_pieces f n xs ≡ f n x ++ numbered_pieces f (n + 1) rest
@@ -34,10 +32,3 @@ module _ {A : Type 0} (f : ℕ → A → List Piece) where
   -- If there are at most i items, no piece is left after the first i.
   pub numbered_pieces-none : (n i : ℕ) (xs : List A) → length xs ≤ i → numbered_pieces f n (drop i xs) ≡ []
   numbered_pieces-none n i xs h = nothing n (drop i xs) (drop_all i xs h)
-
-  -- If each field begins a line, the pieces of fields begin a line exactly if there are fields.
-  pub numbered_pieces-break : (n : ℕ) (xs : List A) → ((k : ℕ) (x : A) → has_break (f k x) ≡ true) → has_break (numbered_pieces f n xs) ≡ not (length xs == 0)
-  unfolding numbered_pieces
-  numbered_pieces-break n [] b = refl
-  numbered_pieces-break n (x ∷ xs) b =
-      has_break-append (f n x) (numbered_pieces f (n + 1) xs) ∙ ap (λ y. y || has_break (numbered_pieces f (n + 1) xs)) (b n x) ∙ sym (ap not (eqb-suc-zero (length xs)))

@@ -1,7 +1,6 @@
 -- The lines of groups of types, type by type and group by group.
-use Rattle.std.specs.Prelude.{◌≡◌, ℕ, ◌+◌, ◌<◌, ◌≤◌, ◌==◌, not, drop, List, [], ◌∷◌, ◌++◌, Bool, true, false, length, codes, None, refl}
+use Rattle.std.specs.Prelude.{◌≡◌, ℕ, ◌+◌, ◌<◌, ◌≤◌, drop, List, [], ◌∷◌, ◌++◌, Bool, true, false, length, codes, refl}
 use Rattle.std.proofs.Common.{sym, ap, ◌∙◌, get_or, length-append}
-use Rattle.std.proofs.Math.Dec.{eqb-suc-zero}
 use Rattle.std.proofs.Math.ListN.{drop_of_length-le}
 use Rattle.std.proofs.lemmas.List.{at_drop_more}
 use Rattle.wasmprinter_spec.specs.Grammar.{Placed}
@@ -9,9 +8,9 @@ use Rattle.wasmprinter_spec.specs.Types.{SubType, all_types}
 use Rattle.wasmprinter_spec.specs.Names.{Names}
 use Rattle.wasmprinter_spec.specs.Placed.{TypeGroup}
 use Rattle.wasmprinter_spec.specs.Module.{groups_of}
-use Rattle.wasmprinter_spec.specs.Piece.{Piece, Open}
-use Rattle.wasmprinter_spec.specs.Layout.Groups.{has_break, close, group, numbered_pieces}
-use Rattle.wasmprinter_spec.specs.Layout.Types.{member_pieces, group_pieces_by, type_group_pieces, type_section_pieces}
+use Rattle.wasmprinter_spec.specs.Piece.{Piece}
+use Rattle.wasmprinter_spec.specs.Layout.Groups.{group, numbered_pieces}
+use Rattle.wasmprinter_spec.specs.Layout.Types.{group_pieces_by, type_group_pieces, type_section_pieces}
 use Rattle.wasmprinter_fields.specs.TypeLines.{listed_pieces}
 
 -- ---- The types of a group
@@ -26,17 +25,10 @@ pub types-next : (f : ℕ → SubType → List Piece) (i : ℕ) (ts rest : List 
 unfolding numbered_pieces
 types-next f i ts rest t e = ap (numbered_pieces f i) e
 
--- The types of a `rec` group begin a line exactly if there are types.
-members-break : (names : Names) (place i : ℕ) (ts : List SubType) → has_break (numbered_pieces (member_pieces names place) i ts) ≡ not (length ts == 0)
-unfolding numbered_pieces member_pieces
-members-break names place i [] = refl
-members-break names place i (t ∷ ts) = sym (ap not (eqb-suc-zero (length ts)))
-
--- The pieces of a `rec` group are its opening, those of its types, and its end.
+-- The pieces of a `rec` group are a group of those of its types.
 pub group-written : (names : Names) (written : Bool) (place i : ℕ) (ts : List SubType) → written ≡ true →
-    group_pieces_by names written place i ts ≡ Open (codes "rec") ∷ (numbered_pieces (listed_pieces names written place) i ts ++ close None 1 (not (length ts == 0)))
-unfolding group
-group-written names true place i ts e = ap (λ b. Open (codes "rec") ∷ (numbered_pieces (member_pieces names place) i ts ++ close None 1 b)) (members-break names place i ts)
+    group_pieces_by names written place i ts ≡ group 1 (codes "rec") (numbered_pieces (listed_pieces names written place) i ts)
+group-written names true place i ts e = refl
 group-written names false place i ts e = absurd cc
 
 -- The pieces of a group that is not written as a `rec` group are those of its types.

@@ -2,25 +2,21 @@
 ghost use Rattle.std.specs.Prelude.{◌≡◌, ◌+◌, ◌<◌, ◌^◌, codes, length};
 ghost use Rattle.wasmprinter_spec.specs.Layout.Imports.{number_of, numbers_after, no_numbers};
 ghost use Rattle.wasmprinter_spec.specs.Layout.Imports.{extern_pieces, imports_pieces, extern_parts, import_parts};
-ghost use Rattle.wasmprinter_print.specs.Prints.{PrintsAlways, PrintsOrStops};
 ghost use Rattle.wasmprinter_entries.specs.Externs.{extern_view, HasPage};
-ghost use Rattle.wasmprinter_scope.specs.Scopes.{scope_view, folds_in};
+ghost use Rattle.wasmprinter_scope.specs.Scopes.{scope_view};
 
 use crate::exports::kind_word;
 use crate::fields::{Field, write_field};
 use crate::globals::write_declared_global;
 use crate::memories::write_declared_memory;
 use crate::tables::write_declared_table;
-use std::io;
 use std::marker::Model;
-use wasmprinter_error::Error;
-use wasmprinter_lines::options::PrintOptions;
-use wasmprinter_print::Print;
+use wasmprinter_output::{FoldingOutput, Output};
 use wasmprinter_scope::headers::{write_function_header, write_tag_header};
 use wasmprinter_scope::scope::Scope;
+use wasmprinter_terms::strings::write_string;
+use wasmprinter_terms::words::{open_group_space, write_close_paren, write_space};
 use wasmprinter_wasm::{ExternType, Import};
-use wasmprinter_words::strings::write_string;
-use wasmprinter_words::words::{open_gap, write_close_paren, write_space};
 
 /// The number of preceding imports of each kind.
 #[derive(Drop)]
@@ -89,39 +85,39 @@ impl Numbers {
 }
 
 /// Writes the declaration of an imported item, with its type.
-fn write_extern_parts<P: Print>(
-    p: &mut P,
+fn write_extern_parts<O: Output>(
+    out: &mut O,
     scope: &Scope<'_, '_>,
     number: u64,
     extern_type: ExternType,
-) -> io::Result<()>
+)
     requires { HasPage extern_type }
-    ensures { PrintsAlways P.meaning p.old p.new result
-        (extern_parts (scope_view scope.now) number (extern_view extern_type)) }
+    ensures { O.wrote out.old out.new
+        (extern_parts (scope_view O.chosen scope.now) number (extern_view extern_type)) }
 {
     match extern_type {
-        ExternType::Func(index) => write_function_header(p, scope, number, index),
-        ExternType::Table(table_type) => write_declared_table(p, scope, number, table_type),
-        ExternType::Memory(memory_type) => write_declared_memory(p, scope, number, memory_type),
-        ExternType::Global(global_type) => write_declared_global(p, scope, number, global_type),
-        ExternType::Tag(index) => write_tag_header(p, scope, number, index),
+        ExternType::Func(index) => write_function_header(out, scope, number, index),
+        ExternType::Table(table_type) => write_declared_table(out, scope, number, table_type),
+        ExternType::Memory(memory_type) => write_declared_memory(out, scope, number, memory_type),
+        ExternType::Global(global_type) => write_declared_global(out, scope, number, global_type),
+        ExternType::Tag(index) => write_tag_header(out, scope, number, index),
     }
 }
 
 /// Writes an imported item, with its index, as a group.
-fn write_extern_type<P: Print>(
-    p: &mut P,
+fn write_extern_type<O: Output>(
+    out: &mut O,
     scope: &Scope<'_, '_>,
     number: u64,
     extern_type: ExternType,
-) -> io::Result<()>
+)
     requires { HasPage extern_type }
-    ensures { PrintsAlways P.meaning p.old p.new result
-        (extern_pieces (scope_view scope.now) number (extern_view extern_type)) }
+    ensures { O.wrote out.old out.new
+        (extern_pieces (scope_view O.chosen scope.now) number (extern_view extern_type)) }
 {
-    open_gap(p, kind_word(extern_type.kind()))?;
-    write_extern_parts(p, scope, number, extern_type)?;
-    write_close_paren(p)
+    open_group_space(out, kind_word(extern_type.kind()));
+    write_extern_parts(out, scope, number, extern_type);
+    write_close_paren(out);
 }
 
 impl<'a> Field for Import<'a> {
@@ -139,42 +135,29 @@ impl<'a> Field for Import<'a> {
         self.place()
     }
 
-    fn write_parts<P: Print>(
-        &self,
-        p: &mut P,
-        _options: &PrintOptions,
-        scope: &mut Scope<'_, '_>,
-        number: u64,
-    ) -> Result<bool, Error> {
-        write_string(p, self.module())?;
-        write_space(p)?;
-        write_string(p, self.name())?;
-        write_space(p)?;
-        write_extern_type(p, scope, number, self.ty())?;
-        Ok(false)
+    fn write_parts<O: FoldingOutput>(&self, out: &mut O, scope: &mut Scope<'_, '_>, number: u64) {
+        write_string(out, self.module());
+        write_space(out);
+        write_string(out, self.name());
+        write_space(out);
+        write_extern_type(out, scope, number, self.ty());
     }
 }
 
 /// Writes the imports. Each kind has its own indices.
-///
-/// # Errors
-///
-/// The errors of [`write_each`](crate::fields::write_each).
-pub fn write_imports<P: Print>(
-    p: &mut P,
-    options: &PrintOptions,
+pub fn write_imports<O: FoldingOutput>(
+    out: &mut O,
     scope: &mut Scope<'_, '_>,
     imports: &[Import<'_>],
-) -> Result<(), Error>
+)
     requires { length imports.now < 2 ^ 32 }
-    ensures pieces { PrintsOrStops P.meaning options.now p.old p.new (folds_in (scope_view scope.old)) result
-        (imports_pieces (scope_view scope.old) no_numbers imports.now) }
-    ensures scope { scope_view scope.new ≡ scope_view scope.old }
+    ensures pieces { O.wrote out.old out.new
+        (imports_pieces (scope_view O.chosen scope.old) no_numbers imports.now) }
+    ensures scope { scope_view O.chosen scope.new ≡ scope_view O.chosen scope.old }
 {
     let mut numbers = Numbers::none();
     for import in imports {
-        write_field(p, options, scope, numbers.of(import.ty()), import)?;
+        write_field(out, scope, numbers.of(import.ty()), import);
         numbers.count(import.ty());
     }
-    Ok(())
 }

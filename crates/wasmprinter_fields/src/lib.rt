@@ -1,7 +1,5 @@
 //! Writing the fields of a module, except its functions, as text (section 6.6 of the WebAssembly Core
 //! Specification), to any printer.
-//!
-//! A function that returns `io::Result` fails only if a call on the printer failed, with the error of that call.
 #![tactic(auto)]
 
 mod data_segments;

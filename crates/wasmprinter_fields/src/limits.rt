@@ -1,28 +1,24 @@
 //! Sizes of tables and memories (section 6.4 of the WebAssembly Core Specification, "Limits").
 ghost use Rattle.wasmprinter_spec.specs.Layout.Limits.{wide_pieces, limits_pieces};
-ghost use Rattle.wasmprinter_print.specs.Prints.{PrintsAlways};
 ghost use Rattle.wasmprinter_entries.specs.Externs.{limits_view};
 
-use std::io;
-use wasmprinter_print::Print;
+use wasmprinter_output::Output;
+use wasmprinter_terms::limits::write_limits;
+use wasmprinter_terms::words::write_type_word_space;
 use wasmprinter_wasm::Limits;
-use wasmprinter_words::limits::write_limits;
-use wasmprinter_words::words::type_word_gap;
 
 /// Writes the address type `i64` if addresses have 64 bits.
-pub(crate) fn write_wide<P: Print>(p: &mut P, wide: bool) -> io::Result<()>
-    ensures { PrintsAlways P.meaning p.old p.new result (wide_pieces wide) }
+pub(crate) fn write_wide<O: Output>(out: &mut O, wide: bool)
+    ensures { O.wrote out.old out.new (wide_pieces wide) }
 {
     if wide {
-        type_word_gap(p, "i64")
-    } else {
-        Ok(())
+        write_type_word_space(out, "i64");
     }
 }
 
 /// Writes the minimum size and, if there is one, the maximum size.
-pub(crate) fn write_sizes<P: Print>(p: &mut P, limits: Limits) -> io::Result<()>
-    ensures { PrintsAlways P.meaning p.old p.new result (limits_pieces (limits_view limits)) }
+pub(crate) fn write_sizes<O: Output>(out: &mut O, limits: Limits)
+    ensures { O.wrote out.old out.new (limits_pieces (limits_view limits)) }
 {
-    write_limits(p, limits.min, limits.max)
+    write_limits(out, limits.min, limits.max);
 }

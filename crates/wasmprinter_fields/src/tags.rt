@@ -4,9 +4,7 @@ ghost use Rattle.wasmprinter_spec.specs.Row as row;
 ghost use Rattle.wasmprinter_spec.specs.Layout.Functions.{header_pieces};
 
 use crate::fields::Field;
-use wasmprinter_error::Error;
-use wasmprinter_lines::options::PrintOptions;
-use wasmprinter_print::Print;
+use wasmprinter_output::FoldingOutput;
 use wasmprinter_scope::headers::write_tag_header;
 use wasmprinter_scope::scope::Scope;
 use wasmprinter_wasm::Tag;
@@ -26,14 +24,7 @@ impl Field for Tag {
         self.place()
     }
 
-    fn write_parts<P: Print>(
-        &self,
-        p: &mut P,
-        _options: &PrintOptions,
-        scope: &mut Scope<'_, '_>,
-        number: u64,
-    ) -> Result<bool, Error> {
-        write_tag_header(p, scope, number, self.type_index())?;
-        Ok(false)
+    fn write_parts<O: FoldingOutput>(&self, out: &mut O, scope: &mut Scope<'_, '_>, number: u64) {
+        write_tag_header(out, scope, number, self.type_index());
     }
 }

@@ -1,24 +1,20 @@
 -- The layout of operators, one by one.
-use Rattle.std.specs.Prelude.{◌≡◌, ℕ, ◌+◌, ◌-◌, ◌<◌, ◌^◌, List, [], ◌∷◌, ◌++◌, length, Bool, true, false, Option, Some, None, is_some}
-use Rattle.std.specs.Iterator.{YieldsFirst}
+use Rattle.std.specs.Prelude.{◌≡◌, ℕ, ◌+◌, ◌-◌, ◌<◌, ◌^◌, List, [], ◌∷◌, ◌++◌, length, Bool, true, false}
 use Rattle.std.proofs.Common.{refl, ap, ap₂, ◌∙◌, arith, subst}
 use Rattle.wasmprinter_spec.specs.Grammar.{Placed}
 use Rattle.wasmprinter_spec.specs.Row.{Role}
-use Rattle.wasmprinter_spec.specs.Types.{FuncType}
 use Rattle.wasmprinter_spec.specs.Operator.{Operator}
 use Rattle.wasmprinter_spec.specs.Table.{role_of}
 use Rattle.wasmprinter_spec.specs.Names.{Names}
 use Rattle.wasmprinter_spec.specs.Labels.{Label, labels_after, count_after}
 use Rattle.wasmprinter_spec.specs.Customs.Hints.{Hint, next_hint, hint_after}
 use Rattle.wasmprinter_spec.specs.Piece.{Piece}
-use Rattle.wasmprinter_spec.specs.Layout.Groups.{has_break}
 use Rattle.wasmprinter_spec.specs.Layout.Operators.{Setting, level, before_word, operator_pieces, hint_pieces, operators_pieces}
-use Rattle.wasmprinter_spec.proofs.OneLine.{hint_breaks}
 use Rattle.wasmprinter_output.specs.OutputLaws.{AllThen}
 use Rattle.wasmprinter_ops.specs.Operators.{placed_view, pairs}
 use Rattle.wasmprinter_ops.proofs.Pairs.{first-pair, no-pair}
 use Rattle.wasmprinter_labels.specs.Scan.{Scan, names_of, own_label, at_start_again, after_operator}
-use Rattle.wasmprinter_flat_text.specs.Settings.{word_pieces, over_lines}
+use Rattle.wasmprinter_flat_text.specs.Settings.{word_pieces}
 use Rattle.wasmprinter_flat_text.proofs.Depths.{after-length, after-count}
 
 -- The pieces of an operator are those that start it, at the level of its role, and those of its word and
@@ -132,22 +128,3 @@ module _ {S : Type 0} (wrote : S → S → List Piece → Type 0) {a t : S} {s :
     counted = omega (arith, p.counted, ap length (first-pair os rest x e), after-count (role_of x.1.opcode) l.count);
     nested = omega (arith, p.nested, ap length (first-pair os rest x e), after-length (role_of x.1.opcode) (own_label l) l.labels);
   })
-
--- ---- Whether there is an operator
-
-module _ (signature : ℕ → Option FuncType) (nesting : ℕ) (names : Names) (function body : ℕ) (hints : List (Placed Hint)) where
-  breaks-of : (os rest : List (Placed Operator)) (o : Placed Operator) → os ≡ o ∷ rest →
-      has_break (over_lines signature nesting names function body hints os) ≡ true
-  unfolding operators_pieces operator_pieces
-  breaks-of os rest o e =
-      ap (λ ps. has_break (over_lines signature nesting names function body hints ps)) e ∙ hint_breaks (nesting + 0) (next_hint (o.place - body) hints) _ refl
-
-  breaks-nil : (os : List (Placed Operator)) → os ≡ [] → has_break (over_lines signature nesting names function body hints os) ≡ false
-  unfolding operators_pieces
-  breaks-nil os e = ap (λ ps. has_break (over_lines signature nesting names function body hints ps)) e
-
-  -- Printed one a line, operators contain a line break exactly if an iterator over them yields a first one.
-  pub operators-break : (os rest : List (Placed Operator)) (r : Option (ℕ × Operator)) → YieldsFirst pairs os r rest →
-      has_break (over_lines signature nesting names function body hints os) ≡ is_some r
-  operators-break os rest None y = breaks-nil os (no-pair os y.0)
-  operators-break os rest (Some x) y = breaks-of os rest (placed_view x) (first-pair os rest x y)

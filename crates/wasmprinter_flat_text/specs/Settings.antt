@@ -1,10 +1,8 @@
 -- The settings of the program and of the layout.
-use Rattle.std.specs.Prelude.{ℕ, List, [], ◌∷◌, Option, true}
-use Rattle.wasmprinter_spec.specs.Grammar.{Placed}
+use Rattle.std.specs.Prelude.{ℕ, List, ◌∷◌, Option}
 use Rattle.wasmprinter_spec.specs.Types.{FuncType}
 use Rattle.wasmprinter_spec.specs.Names.{Names}
 use Rattle.wasmprinter_spec.specs.Operator.{Operator}
-use Rattle.wasmprinter_spec.specs.Customs.Hints.{Hint}
 use Rattle.wasmprinter_spec.specs.Piece.{Piece, Word}
 use Rattle.wasmprinter_spec.specs.Row.{Role}
 use Rattle.wasmprinter_spec.specs.Table.{word_of, role_of, shape_of}
@@ -32,11 +30,6 @@ setting_view signature_at s names = setting_of s.form (signature_at s.types.now)
 -- The setting of the definitions, with the identifiers that the state of the labels has.
 abbrev pub setting_among : {S : Type 0} → (S → ℕ → Option FuncType) → Setting S → Scan → layout.Setting
 setting_among signature_at s labels = setting_view signature_at s (names_of labels)
-
--- The pieces of a function's operators, printed one a line, with the hints still to be printed.
-abbrev pub over_lines : (ℕ → Option FuncType) → ℕ → Names → ℕ → ℕ → List (Placed Hint) → List (Placed Operator) → List Piece
-over_lines signature nesting names function body hints os =
-    layout.operators_pieces (setting_of forms.OverLines signature nesting names function body) hints true 0 [] os
 
 -- The pieces of an operator's word and immediates. `xs` are the labels that are open before it, and `own` is that
 -- of the block that it opens, if it opens one.

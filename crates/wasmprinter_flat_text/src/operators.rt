@@ -1,17 +1,13 @@
 //! Operators (section 6.5 of the WebAssembly Core Specification), each on a line of its own or all in one line.
-ghost use Rattle.std.specs.Prelude.{◌≡◌, ◌+◌, ◌-◌, ◌<◌, ◌^◌, [], ℕ, List, length, true, Option, Some};
-ghost use Rattle.wasmprinter_spec.specs.Grammar.{Placed};
+ghost use Rattle.std.specs.Prelude.{◌≡◌, ◌+◌, ◌-◌, ◌<◌, ◌^◌, [], length, true, Some};
 ghost use Rattle.wasmprinter_spec.specs.Table.{shape_of};
-ghost use Rattle.wasmprinter_spec.specs.Types.{FuncType};
-ghost use Rattle.wasmprinter_spec.specs.Names.{Names};
-ghost use Rattle.wasmprinter_spec.specs.Customs.Hints.{Hint as HintValue, next_hint, hint_after};
-ghost use Rattle.wasmprinter_spec.specs.Layout.Groups.{has_break};
+ghost use Rattle.wasmprinter_spec.specs.Customs.Hints.{next_hint, hint_after};
 ghost use Rattle.wasmprinter_spec.specs.Layout.Operators.{pieces_by, level as level_of, before_word};
 ghost use Rattle.wasmprinter_spec.specs.Layout.Operators.{operator_pieces, hint_pieces, operators_pieces};
 ghost use Rattle.wasmprinter_ops.specs.Shapes.{role_view};
 ghost use Rattle.wasmprinter_labels.specs.Scan.{own_label};
 ghost use Rattle.wasmprinter_flat_text.specs.Contexts.{setting_in, labels_around, labels_within, own_in};
-ghost use Rattle.wasmprinter_flat_text.specs.Settings.{form_view, setting_among, over_lines, word_pieces_among};
+ghost use Rattle.wasmprinter_flat_text.specs.Settings.{form_view, setting_among, word_pieces_among};
 
 use crate::context::Context;
 use crate::immediates::write_immediates_by_shape;
@@ -170,14 +166,6 @@ fn write_next_hint<O: Output, S: Signatures>(
     if let Some(hint) = hints.next_at(place.saturating_sub(setting.body)) {
         write_hint(out, setting, blocks, &hint);
     }
-}
-
-/// Reports whether an expression has operators. Exactly then, a line begins if they are printed one a line.
-pub fn has_operators(expression: &Expression<'_>) -> bool
-    ensures { (signature : ℕ → Option FuncType) (nesting : ℕ) (names : Names) (function body : ℕ) (hints : List (Placed HintValue)) →
-        result ≡ has_break (over_lines signature nesting names function body hints expression.now.items) }
-{
-    expression.operators().next().is_some()
 }
 
 /// Writes the operators of an expression, each after its hint if it has one. `labels` is first reset to the start of

@@ -12,7 +12,7 @@ use Rattle.wasmprinter_spec.specs.Folding.Code.{NestedCode}
 use Rattle.wasmprinter_spec.specs.Folding.Tree.{tree}
 use Rattle.wasmprinter_spec.specs.Layout.Operators.{Setting}
 use Rattle.wasmprinter_labels.specs.Scan.{Scan, own_label}
-use Rattle.wasmprinter_flat.specs.Settings.{word_pieces}
+use Rattle.wasmprinter_flat_text.specs.Settings.{word_pieces}
 use Rattle.wasmprinter_nodes.specs.declared.builder.Builder.{Builder}
 use Rattle.wasmprinter_nodes.specs.Building.{Top, StateOf, Step, Plain, Opens, OpensIf, Else, Ends, state_at, step}
 use Rattle.wasmprinter_nodes.specs.Mapping.{map_nodes, map_state}

@@ -1,8 +1,7 @@
 //! The folder, which folds and prints the operators of a module, list by list.
 ghost use Rattle.std.specs.Prelude.{◌≡◌, true, IfOk, OnErr};
 ghost use Rattle.wasmprinter_spec.specs.Layout.Folded.{folded_list};
-ghost use Rattle.wasmprinter_print.specs.Prints.{PrintsOrStops, ReportsLines};
-ghost use Rattle.wasmprinter_flat.specs.Settings.{setting_among};
+ghost use Rattle.wasmprinter_flat_text.specs.Settings.{setting_among};
 ghost use Rattle.wasmprinter_arities.specs.Gathering.{ImportsSome};
 ghost use Rattle.wasmprinter_fold.specs.Views.{folding_view};
 
@@ -11,14 +10,12 @@ use std::alloc::{AllocError, Global};
 use std::marker::Model;
 use wasmprinter_arities::callees::CalleeTypes;
 use wasmprinter_customs::FunctionHints;
-use wasmprinter_error::Error;
-use wasmprinter_flat::operators::Setting;
+use wasmprinter_flat_text::operators::Setting;
 use wasmprinter_labels::OpenLabels;
-use wasmprinter_lines::options::PrintOptions;
 use wasmprinter_node_text::rows::write_nodes;
 use wasmprinter_ops::expression::Expression;
-use wasmprinter_print::Print;
-use wasmprinter_text::signature::Signatures;
+use wasmprinter_output::FoldingOutput;
+use wasmprinter_type_text::signature::Signatures;
 use wasmprinter_wasm::Module;
 
 /// Folds and prints the operators of a module, list by list. Nodes and texts reuse the memory of earlier lists.
@@ -57,55 +54,43 @@ impl<'m, 'a> Folder<'m, 'a> {
         })
     }
 
-    /// Writes the operators of an expression, folded, and returns whether a line began. `own` is the number of results
-    /// of the enclosing function: 0 in a constant expression, `None` if the function's type is unknown. `labels` is
-    /// first reset to the start of the function, so its earlier use does not matter. Its identifiers are those passed
-    /// to `OpenLabels::new`.
+    /// Writes the operators of an expression, folded. `own` is the number of results of the enclosing function: 0 in
+    /// a constant expression, `None` if the function's type is unknown. `labels` is first reset to the start of the
+    /// function, so its earlier use does not matter. Its identifiers are those passed to `OpenLabels::new`.
     ///
-    /// Writes nothing if the list has an operator of legacy exception handling, which cannot be folded.
-    ///
-    /// # Errors
-    ///
-    /// - `Memory` if an allocation fails.
-    /// - `Printer` with the error of the call on the printer that failed.
-    pub fn write<P: Print, S: Signatures>(
+    /// Writes nothing if the list has an operator of legacy exception handling, which cannot be folded. If an
+    /// allocation fails, records in `out` that memory ran out.
+    pub fn write<O: FoldingOutput, S: Signatures>(
         &mut self,
-        p: &mut P,
-        options: &PrintOptions,
+        out: &mut O,
         setting: &Setting<'_, S>,
         labels: &mut OpenLabels<'_, '_>,
         own: Option<u32>,
         hints: FunctionHints<'_>,
         expression: &Expression<'_>,
-    ) -> Result<bool, Error>
-        ensures prints { PrintsOrStops P.meaning options.now p.old p.new true result
-            (folded_list (folding_view self.old) own (setting_among S.signature_at setting.now labels.old) hints.entry
-            expression.now.items) }
-        ensures lines { ReportsLines result
+    )
+        requires { O.chosen.folds ≡ true }
+        ensures writes { O.wrote out.old out.new
             (folded_list (folding_view self.old) own (setting_among S.signature_at setting.now labels.old) hints.entry
             expression.now.items) }
         ensures folder { self.new ≡ self.old }
         ensures named { labels.new.named ≡ labels.old.named }
         ensures synthesizes { labels.new.synthesizes ≡ labels.old.synthesizes }
     {
+        let Ok(folded) = self
+            .tree
+            .fold(&self.callees, setting, labels, own, hints, expression)
+        else {
+            out.run_out_of_memory();
+            return;
+        };
         // A module with an operator of legacy exception handling is refused before anything is printed,
         // so every list that arrives here is folded.
-        if !self
-            .tree
-            .fold(&self.callees, setting, labels, own, hints, expression)?
-        {
-            return Ok(false);
+        if !folded {
+            return;
         }
         let nodes = self.tree.builder.nodes();
         let texts = self.tree.texts.as_str();
-        write_nodes(
-            self.alloc,
-            p,
-            options,
-            setting.form,
-            setting.nesting,
-            nodes,
-            texts,
-        )
+        write_nodes(self.alloc, out, setting.form, setting.nesting, nodes, texts);
     }
 }

@@ -9,7 +9,7 @@ ghost use Rattle.wasmprinter_foldable.specs.Refused.{error_of_first, HasFoldReas
 use crate::hints::check_hints;
 use crate::lists::{check_bodies, check_each};
 use wasmprinter_error::Error;
-use wasmprinter_lines::options::PrintOptions;
+use wasmprinter_output::PrintOptions;
 use wasmprinter_wasm::{Fields, Module};
 
 /// Returns an error for the first operator of legacy exception handling in constant expressions that are printed.

@@ -2,4 +2,3 @@ pub mod RowLaws
 pub mod TaskLaws
 pub mod TextLaws
 pub mod NodeTexts
-pub mod LoopLaws

@@ -1,17 +1,17 @@
 -- The layout of nodes, in terms of the text of each node and of the last node of a row.
-use Rattle.std.proofs.Common.{◌≡◌, ℕ, ◌+◌, ◌&&◌, Bool, true, false, List, [], ◌∷◌, ◌++◌, refl, append_assoc}
+use Rattle.std.proofs.Common.{◌≡◌, ℕ, ◌+◌, ◌&&◌, Bool, true, false, List, [], ◌∷◌, ◌++◌, refl, subst, append_assoc}
 use Rattle.std.specs.Prelude.{Option, Some, None, option_map, cond}
 use Rattle.std.specs.Option.{is_none}
 use Rattle.wasmprinter_spec.specs.Grammar.{Placed}
 use Rattle.wasmprinter_spec.specs.Customs.Hints.{Hint}
 use Rattle.wasmprinter_spec.specs.Options.{defaults}
 use Rattle.wasmprinter_spec.specs.Piece.{Piece, Break, OpenPlain, Shut}
-use Rattle.wasmprinter_spec.specs.Layout.Operators.{Form, OverLines, InLine, before_word}
-use Rattle.wasmprinter_spec.specs.Layout.Groups.{has_break}
+use Rattle.wasmprinter_spec.specs.Layout.Operators.{Form, before_word}
 use Rattle.wasmprinter_spec.specs.Layout.Folded.{head_place, head_hint, head_calls, head_text, text_in_color, has_line_comment, comment_end, node_hint, node_pieces}
 use Rattle.wasmprinter_spec.specs.Folding.Tree.{NodesOf, Nodes, Nil, Snoc, is_nil}
+use Rattle.wasmprinter_nodes.specs.declared.NodeText.{NodeText}
 use Rattle.wasmprinter_nodes.specs.Mapping.{map_nodes}
-use Rattle.wasmprinter_node_text.specs.Shown.{Shown, shown_head, shown_hint, comment_break, node_front, begins_line, row_pieces}
+use Rattle.wasmprinter_node_text.specs.Shown.{Shown, shown_head, shown_of_head, shown_hint, comment_break, node_front, row_pieces}
 
 pub nil_mapped : {H K : Type 0} (v : H → K) (f : NodesOf H) → is_nil (map_nodes v f) ≡ is_nil f
 nil_mapped v Nil = refl
@@ -74,23 +74,12 @@ pub row_none : (form : Form) (first : Bool) (nesting : ℕ) → row_pieces form 
 unfolding row_pieces
 row_none form first nesting = refl
 
--- ---- Lines
+-- ---- The place of a node
 
-break_breaks : (leaf comment : Bool) (place nesting : ℕ) → has_break (comment_break leaf comment place nesting) ≡ (leaf && comment)
-break_breaks true true place nesting = refl
-break_breaks true false place nesting = refl
-break_breaks false comment place nesting = refl
-
-front_by : (form : Form) (leads leaf : Bool) (nesting place : ℕ) (hint : Option Bool) (text : List ℕ) (comment : Bool) →
-    has_break (node_front form leads leaf nesting (record { place = place; hint = hint; text = text; comment = comment })) ≡ begins_line form leaf comment
-front_by OverLines leads leaf nesting place None text comment = refl
-front_by OverLines leads leaf nesting place (Some taken) text comment = refl
-front_by InLine true leaf nesting place None text comment = break_breaks leaf comment place nesting
-front_by InLine false leaf nesting place None text comment = break_breaks leaf comment place nesting
-front_by InLine true leaf nesting place (Some taken) text comment = break_breaks leaf comment place nesting
-front_by InLine false leaf nesting place (Some taken) text comment = break_breaks leaf comment place nesting
-
--- Over lines, a line begins in the front of each node. In one line, a line begins only after the text of a node
--- that holds no nodes and has two consecutive semicolons.
-pub front_breaks : (form : Form) (leads leaf : Bool) (nesting : ℕ) (s : Shown) → has_break (node_front form leads leaf nesting s) ≡ begins_line form leaf s.comment
-front_breaks form leads leaf nesting s = front_by form leads leaf nesting s.place s.hint s.text s.comment
+-- The front of a node may be written with the place of its head.
+pub front_at : {S : Type 0} (wrote : S → S → List Piece → Type 0) {a t : S} (form : Form) (leads leaf : Bool) (nesting : ℕ) (buffer : List ℕ) (l : NodeText) (place : ℕ) →
+    place ≡ l.place →
+    wrote a t (node_front form leads leaf nesting (record { place = place; hint = l.hint; text = (shown_of_head buffer l).text; comment = l.comment })) →
+    wrote a t (node_front form leads leaf nesting (shown_of_head buffer l))
+front_at wrote {a} {t} form leads leaf nesting buffer l place e v =
+    subst (λ (x : ℕ). wrote a t (node_front form leads leaf nesting (record { place = x; hint = l.hint; text = (shown_of_head buffer l).text; comment = l.comment }))) e v

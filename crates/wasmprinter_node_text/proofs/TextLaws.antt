@@ -5,19 +5,19 @@ use Rattle.std.proofs.lemmas.Str.{IsUtf8-append, IsUtf8-nil, IsUtf8-from_ascii}
 use Rattle.std.proofs.lemmas.Str.Ascii.{IsAscii-nil, IsAscii-cons}
 use Rattle.std.proofs.lemmas.Bool.{ltb-true}
 use Rattle.std.specs.Str.{IsAscii}
-use Rattle.std.specs.Prelude.{IsUtf8, Result, Ok, Err, Option, Some, None, is_some}
+use Rattle.std.specs.Prelude.{IsUtf8, Option, Some, None}
 use Rattle.std.specs.Fmt.{digits}
-use Rattle.std.specs.declared.io.Error.{Error as IoError}
 use Rattle.wasmprinter_spec.specs.Call.{Call, Text, Newline, Line, Start, Claim, Style, Literal, Name, Keyword, TypeName, Comment, Reset, call_text, text_of, atoms}
 use Rattle.wasmprinter_spec.specs.Colored.{colored_bytes}
 use Rattle.wasmprinter_spec.specs.Meaning.{Run}
 use Rattle.wasmprinter_spec.specs.Layout.Folded.{text_in_color}
 use Rattle.wasmprinter_spec.proofs.Texts.{alike_texts, alike_colored}
-use Rattle.wasmprinter_print.specs.Emits.{Made, Ending, Through, ending}
-use Rattle.wasmprinter_print.specs.PrintsLaws.{written as written_calls}
-use Rattle.wasmprinter_print.specs.Puts.{Marks, answer_of, end_after}
+use Rattle.wasmprinter_print.specs.Emits.{Made as Calls, Through}
+use Rattle.wasmprinter_output.specs.Made.{State, state, Effect, Ended, Made}
+use Rattle.wasmprinter_output.specs.MadeLaws.{made_end}
+use Rattle.wasmprinter_output.specs.declared.halt.Halt.{Halt}
+use Rattle.wasmprinter_output.specs.declared.halt.Halt.TheVariants.{Printer, Memory, Refused}
 use Rattle.wasmprinter_spec.specs.Options.{defaults}
-use Rattle.wasmprinter_spec.specs.Piece.{Piece, all_calls}
 use Rattle.wasmprinter_node_text.specs.declared.semicolons.Semicolons.{Semicolons}
 use Rattle.wasmprinter_node_text.specs.Buffers.{View, see, see_all, with_text, with_sequences, view_after, IsTextual, texts_meaning, GrowsText}
 
@@ -170,7 +170,7 @@ run_adds s [] t r = subst (λ (u : View). Adds s [] u) r (adds_none s)
 run_adds s (c ∷ cs) t r = adds_first s t c cs r.1.step.1 (run_adds (view_after s c) cs t (subst (λ (u : View). Run texts_meaning u cs t) r.1.step.0 r.2))
 
 -- The calls of a layout that were all made add their text.
-pub made_adds : (s t : View) (layout : List Call) → Made texts_meaning s t Through layout → Adds s layout t
+pub made_adds : (s t : View) (layout : List Call) → Calls texts_meaning s t Through layout → Adds s layout t
 made_adds s t layout m =
     let a = run_adds s m.made.calls t m.made.run in
     let same = colored_alike s.color m.made.calls layout m.made.alike in
@@ -192,30 +192,26 @@ pub record Keeps (old new : View) : Type 0 where
   pub color : new.color ≡ old.color
   pub grows : GrowsText old.bytes new.bytes
 
-adds_keeps : (s t : View) (calls : List Call) → Adds s calls t → Keeps s t
-adds_keeps s t calls a = record { color = a.color; grows = record { more = text_in_color s.color calls; parts = a.bytes; is_text = a.is_text } }
+run_keeps : (s : View) (calls : List Call) (t : View) → Run texts_meaning s calls t → Keeps s t
+run_keeps s calls t r =
+    let a = run_adds s calls t r in
+    record { color = a.color; grows = record { more = text_in_color s.color calls; parts = a.bytes; is_text = a.is_text } }
 
-pub made_keeps : {T : Type 0} (s t : View) (layout : List Call) (r : Result T IoError) → Made texts_meaning s t (ending r) layout → Keeps s t
-made_keeps s t layout (Ok x) m = adds_keeps s t m.made.calls (run_adds s m.made.calls t m.made.run)
-made_keeps s t layout (Err e) m =
-    subst (λ (u : View). Keeps s u) (sym m.made.failed.left.1) (adds_keeps s m.made.before m.made.calls (run_adds s m.made.calls m.made.before m.made.run))
+ended_keeps : (folds : Bool) (a : State View) (t : View) (halt : Option Halt) (begun : Bool) (e : Effect) →
+    Ended texts_meaning folds a t halt begun e → Keeps a.printer t
+ended_keeps folds a t None begun e v = run_keeps a.printer v.0.calls t v.0.run
+ended_keeps folds a t (Some (Printer x)) begun e v =
+    subst (λ (u : View). Keeps a.printer u) (sym v.failed.left.1) (run_keeps a.printer v.calls v.before v.run)
+ended_keeps folds a t (Some Memory) begun e v = run_keeps a.printer v.0.calls t v.0.run
+ended_keeps folds a t (Some (Refused id)) begun e v = run_keeps a.printer v.0.calls t v.0.run
 
--- ---- Pieces, where the first error is recorded and passed along
+-- Calls that started without an error kept the texts, whether or not they succeeded.
+module _ {p q : View} {y x : Option Halt} {b c : Bool} {e : Effect} (old : View) (h : p ≡ old) (f : y ≡ None) (v : Made texts_meaning defaults (state p y b) (state q x c) e) where
+  kept : Keeps old q
+  kept = subst (λ (u : View). Keeps u q) h (ended_keeps defaults.folds (state p y b) q x c e (made_end texts_meaning defaults f v))
 
--- Without an error before, the calls of the pieces were made, up to a call that failed, if one did.
-put_so : (a t : View) (d f : Option IoError) (ps : List Piece) → Marks texts_meaning a d t f ps → d ≡ None → Made texts_meaning a t (end_after f) (all_calls defaults ps)
-put_so a t None f ps v n = written_calls texts_meaning (v.under defaults).marked
-put_so a t (Some x) f ps v n = cc
+  pub made_color : (color : Bool) → color ≡ q.color → color ≡ old.color
+  made_color color g = g ∙ kept.color
 
-ending_of : (f : Option IoError) → end_after f ≡ ending (answer_of f)
-ending_of None = refl
-ending_of (Some x) = refl
-
-pub put_keeps : (a t : View) (d f : Option IoError) (ps : List Piece) → Marks texts_meaning a d t f ps → d ≡ None → Keeps a t
-put_keeps a t d f ps v n =
-    made_keeps a t (all_calls defaults ps) (answer_of f) (subst (λ (e : Ending). Made texts_meaning a t e (all_calls defaults ps)) (ending_of f) (put_so a t d f ps v n))
-
--- Without an error before or after, all calls of the pieces were made.
-pub put_whole : (a t : View) (d f : Option IoError) (ps : List Piece) → Marks texts_meaning a d t f ps → d ≡ None → is_some f ≡ false → Made texts_meaning a t Through (all_calls defaults ps)
-put_whole a t d None ps v n h = put_so a t d None ps v n
-put_whole a t d (Some x) ps v n h = absurd (true≢false h)
+  pub made_grows : (bytes : List ℕ) → bytes ≡ q.bytes → GrowsText old.bytes bytes
+  made_grows bytes g = subst (λ (l : List ℕ). GrowsText old.bytes l) (sym g) kept.grows

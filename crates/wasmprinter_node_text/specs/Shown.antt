@@ -4,7 +4,7 @@ use Rattle.std.specs.Option.{is_none}
 use Rattle.wasmprinter_spec.specs.Call.{Call, text_of}
 use Rattle.wasmprinter_spec.specs.Options.{defaults}
 use Rattle.wasmprinter_spec.specs.Piece.{Piece, Break, Word, OpenPlain, Shut, HintAnnotation, text}
-use Rattle.wasmprinter_spec.specs.Layout.Operators.{Form, OverLines, InLine, before_word}
+use Rattle.wasmprinter_spec.specs.Layout.Operators.{Form, before_word}
 use Rattle.wasmprinter_spec.specs.Layout.Folded.{head_place, head_hint, head_calls, text_in_color, has_line_comment}
 use Rattle.wasmprinter_spec.specs.Folding.Tree.{Head, NodesOf, Nil, Snoc, is_nil}
 use Rattle.wasmprinter_nodes.specs.declared.NodeText.{NodeText}
@@ -68,11 +68,6 @@ abbrev pub node_front : Form → Bool → Bool → ℕ → Shown → List Piece
 node_front form leads leaf nesting s =
     shown_hint form leads s.place nesting s.hint
     ++ (before_word form (leads && is_none s.hint) s.place nesting ++ (OpenPlain s.text ∷ comment_break leaf s.comment s.place nesting))
-
--- Whether a line begins in the pieces of a node before the nodes that it holds.
-abbrev pub begins_line : Form → Bool → Bool → Bool
-begins_line OverLines leaf comment = true
-begins_line InLine leaf comment = leaf && comment
 
 -- The pieces of a row of nodes at a nesting depth. `first` says whether the row is the first of its line.
 unfoldable pub row_pieces : Form → Bool → ℕ → NodesOf Shown → List Piece

@@ -9,13 +9,14 @@ use crate::sequences::{
 };
 use std::alloc::{AllocError, Global};
 use std::io;
-use std::marker::Model;
-use wasmprinter_flat::operators::{Setting, put_operator_word};
+use std::marker::{Brand, Model};
+use wasmprinter_flat_text::operators::{Setting, write_operator_word};
 use wasmprinter_labels::OpenLabels;
 use wasmprinter_nodes::NodeText;
 use wasmprinter_ops::operator::Operator;
-use wasmprinter_print::{FirstError, Print};
-use wasmprinter_text::signature::Signatures;
+use wasmprinter_output::{PrintOptions, Printer};
+use wasmprinter_print::Print;
+use wasmprinter_type_text::signature::Signatures;
 
 /// The texts of nodes, one after another in one buffer, with or without the ANSI escape sequences of their styles.
 ///
@@ -43,7 +44,7 @@ impl Texts {
     ghost use Rattle.wasmprinter_spec.specs.Options.{defaults};
     ghost use Rattle.wasmprinter_spec.specs.Piece.{all_calls};
     ghost use Rattle.wasmprinter_print.specs.Emits.{Made, Through};
-    ghost use Rattle.wasmprinter_flat.specs.Settings.{word_pieces_among};
+    ghost use Rattle.wasmprinter_flat_text.specs.Settings.{word_pieces_among};
     ghost use Rattle.wasmprinter_node_text.specs.Shown.{shown_of_calls, shown_of_head, IsIn};
     ghost use Rattle.wasmprinter_node_text.specs.Buffers.{GrowsText, with_text_begun, with_text, with_sequences};
     ghost use Rattle.wasmprinter_node_text.specs.Buffers.{no_semicolons, texts_meaning};
@@ -120,9 +121,17 @@ impl Texts {
         ensures made { OnOk result (Made texts_meaning self.old self.new Through
             (all_calls defaults (word_pieces_among S.signature_at setting.now labels.now operator.now))) }
     {
-        let mut fault = FirstError::none();
-        put_operator_word(self, &mut fault, setting, labels, operator);
-        if fault.is_some() {
+        let options = PrintOptions::new();
+        let mut out: Printer<'_, '_, Texts, Brand> = Printer::new(self, &options);
+        write_operator_word(&mut out, setting, labels, operator);
+        let Printer {
+            printer: _,
+            options: _,
+            halt,
+            begun: _,
+            of: _,
+        } = out;
+        if halt.is_some() {
             return Err(AllocError);
         }
         Ok(())

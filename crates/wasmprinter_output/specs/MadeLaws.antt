@@ -422,3 +422,18 @@ skipped_by m folds p (Some y) b e q = (refl, refl)
 -- After an error nothing is printed of any layout.
 pub skipped : {P : Type 0} (m : Meaning P) (o : Options) (a : State P) (e : Effect) → is_some a.error ≡ true → Made m o a a e
 skipped m o a e q = record { made = skipped_by m o.folds a.printer a.error a.begun e q }
+
+-- ---- from the start to the end
+
+-- The end of code that started without an error.
+pub made_end : {P : Type 0} (m : Meaning P) (o : Options) {a t : State P} {e : Effect} → a.error ≡ None → Made m o a t e →
+    Ended m o.folds a t.printer t.error t.begun e
+made_end m o {a} {t} {e} q v = subst (λ (x : Option Halt). MadeFrom m o.folds a x t e) q v.made
+
+-- The end of code that started without an error, between known states of the printer.
+pub made_between : {P : Type 0} (m : Meaning P) (o : Options) {p q : P} (old new : P) {y x : Option Halt} (z : Option Halt) {b c : Bool} {e : Effect} →
+    p ≡ old → y ≡ None → new ≡ q → x ≡ z → Made m o (state p y b) (state q x c) e → Ended m o.folds (state old None b) new z c e
+made_between m o {p} {q} old new {y} {x} z {b} {c} {e} h f g i v =
+    subst (λ (r : _). Ended m o.folds (state r None b) new z c e) h
+    (subst (λ (r : _). Ended m o.folds (state p None b) r z c e) (sym g)
+    (subst (λ (r : Option Halt). Ended m o.folds (state p None b) q r c e) i (made_end m o f v)))

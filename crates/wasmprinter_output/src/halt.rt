@@ -1,5 +1,9 @@
 //! Why printing stopped.
+ghost use Rattle.std.specs.Prelude.{◌≡◌};
+ghost use Rattle.wasmprinter_output.specs.Errors.{error_of};
+
 use std::io;
+use wasmprinter_error::Error;
 
 /// Why printing stopped before the end of a layout.
 #[derive(Debug, Drop)]
@@ -9,5 +13,18 @@ pub enum Halt {
     /// An allocation failed while operators were folded.
     Memory,
     /// A custom section `dylink.0` that the printer did not claim has a subsection with this unknown id.
-    Refused(u32),
+    Refused(u8),
+}
+
+impl Halt {
+    /// Returns the error that reports this.
+    pub fn into_error(self) -> Error
+        ensures { result ≡ error_of self }
+    {
+        match self {
+            Halt::Printer(error) => Error::Printer(error),
+            Halt::Memory => Error::Memory,
+            Halt::Refused(id) => Error::DylinkSubsection { id },
+        }
+    }
 }

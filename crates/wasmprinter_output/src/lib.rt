@@ -9,5 +9,5 @@ mod printer;
 
 pub use halt::Halt;
 pub use options::PrintOptions;
-pub use output::Output;
+pub use output::{FoldingOutput, Output};
 pub use printer::{Chosen, Printer};

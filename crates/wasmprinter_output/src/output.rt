@@ -117,13 +117,8 @@ pub trait Output {
     fn leave_group(&mut self, outer: bool)
         ensures { left self.old self.new outer };
 
-    /// Records that an allocation failed while operators are folded. Any pieces may have been due.
-    fn run_out_of_memory(&mut self)
-        requires { chosen.folds ≡ true }
-        ensures { (xs : List Piece) → wrote self.old self.new xs };
-
     /// Ends the layout, since a `dylink.0` section has a subsection with this unknown id.
-    fn refuse_subsection(&mut self, id: u32)
+    fn refuse_subsection(&mut self, id: u8)
         ensures { laid self.old self.new (Stops [] id ∷ []) };
 
     // Each law follows from the law of composition, `made_both`.
@@ -170,4 +165,13 @@ pub trait Output {
     ghost pieces_skipped: { Skipped wrote failed };
 
     ghost parts_skipped: { Skipped laid failed };
+}
+
+/// The output of layout code that may fold operators. Other layout code is generic over [`Output`] alone, so it can't
+/// record that memory ran out.
+pub trait FoldingOutput: Output {
+    /// Records that an allocation failed while operators are folded. Any pieces may have been due.
+    fn run_out_of_memory(&mut self)
+        requires { Self.chosen.folds ≡ true }
+        ensures { (xs : List Piece) → Self.wrote self.old self.new xs };
 }

@@ -1,14 +1,18 @@
 //! The output over a printer.
 ghost use Rattle.std.specs.Prelude.{◌≡◌, None};
-ghost use Rattle.wasmprinter_spec.specs.Options.{Options, in_colors};
+ghost use Rattle.wasmprinter_spec.specs.Options.{Options, defaults, in_colors};
 
-use crate::{Halt, Output, PrintOptions};
-use std::marker::PhantomData;
+use crate::{FoldingOutput, Halt, Output, PrintOptions};
+use std::marker::{Brand, PhantomData};
 use wasmprinter_print::{Print, Style};
 
 /// The options of a layout, as contracts know them. A caller picks them by `Brand`.
 pub trait Chosen {
     ghost options: { Options };
+}
+
+impl Chosen for Brand {
+    ghost options = { defaults };
 }
 
 /// A printer, the options of the layout, the first error, and whether a line has begun in the innermost open group.
@@ -145,7 +149,7 @@ impl<'o, 'p, P: Print, K: Chosen> Output for Printer<'o, 'p, P, K> {
     }
 
     #[inline(always)]
-    #[tactic(auto, using(crate::specs::MadeLaws::call_failed))]
+    #[tactic(auto, using(crate::specs::MadeLaws::call_done, crate::specs::MadeLaws::call_failed))]
     fn write_str(&mut self, s: &str) {
         if self.halt.is_none() {
             if let Err(e) = self.printer.write_str(s) {
@@ -169,7 +173,7 @@ impl<'o, 'p, P: Print, K: Chosen> Output for Printer<'o, 'p, P, K> {
     }
 
     #[inline(always)]
-    #[tactic(auto, using(crate::specs::MadeLaws::call_failed))]
+    #[tactic(auto, using(crate::specs::MadeLaws::call_done, crate::specs::MadeLaws::call_failed))]
     fn end_line(&mut self) {
         if self.halt.is_none() {
             if let Err(e) = self.printer.newline() {
@@ -179,6 +183,7 @@ impl<'o, 'p, P: Print, K: Chosen> Output for Printer<'o, 'p, P, K> {
     }
 
     #[inline(always)]
+    #[tactic(auto, using(crate::specs::MadeLaws::call_done))]
     fn start_line(&mut self, place: Option<u64>) {
         if self.halt.is_none() {
             self.printer.start_line(place);
@@ -186,7 +191,7 @@ impl<'o, 'p, P: Print, K: Chosen> Output for Printer<'o, 'p, P, K> {
     }
 
     #[inline(always)]
-    #[tactic(auto, using(crate::specs::MadeLaws::call_failed))]
+    #[tactic(auto, using(crate::specs::MadeLaws::call_done, crate::specs::MadeLaws::call_failed))]
     fn start(&mut self, style: Style) {
         if self.halt.is_some() {
             return;
@@ -204,7 +209,7 @@ impl<'o, 'p, P: Print, K: Chosen> Output for Printer<'o, 'p, P, K> {
     }
 
     #[inline(always)]
-    #[tactic(auto, using(crate::specs::MadeLaws::call_failed))]
+    #[tactic(auto, using(crate::specs::MadeLaws::call_done, crate::specs::MadeLaws::call_failed))]
     fn reset_color(&mut self) {
         if self.halt.is_none() {
             if let Err(e) = self.printer.reset_color() {
@@ -229,7 +234,7 @@ impl<'o, 'p, P: Print, K: Chosen> Output for Printer<'o, 'p, P, K> {
         }
     }
 
-    #[tactic(auto, using(crate::specs::MadeLaws::call_failed))]
+    #[tactic(auto, using(crate::specs::MadeLaws::call_done, crate::specs::MadeLaws::call_failed))]
     fn print_custom_section(&mut self, name: &str, place: u64, bytes: &[u8]) -> bool {
         if self.halt.is_some() {
             return true;
@@ -265,15 +270,17 @@ impl<'o, 'p, P: Print, K: Chosen> Output for Printer<'o, 'p, P, K> {
         self.begun = outer || self.begun;
     }
 
+    fn refuse_subsection(&mut self, id: u8) {
+        if self.halt.is_none() {
+            self.halt = Some(Halt::Refused(id));
+        }
+    }
+}
+
+impl<'o, 'p, P: Print, K: Chosen> FoldingOutput for Printer<'o, 'p, P, K> {
     fn run_out_of_memory(&mut self) {
         if self.halt.is_none() {
             self.halt = Some(Halt::Memory);
-        }
-    }
-
-    fn refuse_subsection(&mut self, id: u32) {
-        if self.halt.is_none() {
-            self.halt = Some(Halt::Refused(id));
         }
     }
 }

@@ -1,16 +1,19 @@
 //! Tests of the text of custom sections. The bytes and the texts are typed by hand.
-ghost use Rattle.std.specs.Prelude.{None, false};
+ghost use Rattle.std.specs.Prelude.{◌≡◌, None, false};
+ghost use Rattle.wasmprinter_spec.specs.Options.{in_colors};
 
+use crate::printing::finish;
 use std::alloc::Global;
 use std::io;
 use std::io::ErrorKind;
+use std::marker::Brand;
 use std::test::Fail;
-use wasmprinter_annotations::{write_custom, write_customs};
 use wasmprinter_bytes::bytes::Cursor;
+use wasmprinter_custom_text::{write_custom, write_customs};
 use wasmprinter_entries::customs::Custom;
 use wasmprinter_entries::places::{CustomEntry, SectionKind};
 use wasmprinter_error::Error;
-use wasmprinter_lines::options::PrintOptions;
+use wasmprinter_output::{Chosen, PrintOptions, Printer};
 use wasmprinter_print::Print;
 use wasmprinter_samples::expect_text;
 
@@ -49,7 +52,7 @@ impl<'a> Taker<'a> {
         section: &CustomEntry,
         typed: &str,
     ) -> Result<(), Fail> {
-        write_custom(self, options, section)?;
+        print_section(self, options, section)?;
         expect_text(self.text.as_str(), typed)?;
         Ok(())
     }
@@ -61,14 +64,14 @@ impl<'a> Taker<'a> {
 
     /// Reports whether a section is accepted with this question to the printer, and nothing is written.
     fn is_silent_at(&mut self, section: &CustomEntry, asked: &str) -> bool {
-        let result = write_custom(self, &PrintOptions::new(), section);
+        let result = print_section(self, &PrintOptions::new(), section);
         matches!(result, Ok(false)) && self.has(asked, "")
     }
 
     /// Reports whether a section is refused for its subsection 9 with this question to the printer, and nothing is
     /// written.
     fn refuses(&mut self, section: &CustomEntry, asked: &str) -> bool {
-        let result = write_custom(self, &PrintOptions::new(), section);
+        let result = print_section(self, &PrintOptions::new(), section);
         matches!(result, Err(Error::DylinkSubsection { id: 9 })) && self.has(asked, "")
     }
 
@@ -80,19 +83,19 @@ impl<'a> Taker<'a> {
         after: Option<SectionKind>,
         (any, asked, text): (bool, &str, &str),
     ) -> bool {
-        let result = write_customs(self, &PrintOptions::new(), customs, after);
+        let result = print_sections(self, customs, after);
         matches!(result, Ok(found) if found == any) && self.has(asked, text)
     }
 
     /// Reports whether printing the sections at one place is refused for a subsection 9.
     fn refuses_one_of(&mut self, customs: &[CustomEntry], after: Option<SectionKind>) -> bool {
-        let result = write_customs(self, &PrintOptions::new(), customs, after);
+        let result = print_sections(self, customs, after);
         matches!(result, Err(Error::DylinkSubsection { id: 9 }))
     }
 
     /// Reports whether printing the sections before all others fails with the printer's error.
     fn breaks_at(&mut self, customs: &[CustomEntry]) -> bool {
-        let result = write_customs(self, &PrintOptions::new(), customs, None);
+        let result = print_sections(self, customs, None);
         matches!(result, Err(Error::Printer(e)) if e.kind() == ErrorKind::BrokenPipe)
     }
 }
@@ -161,6 +164,40 @@ impl<'a> Print for Taker<'a> {
     fn supports_async_color(&self) -> bool {
         false
     }
+}
+
+/// Prints a section with the options that `K` stands for. Returns whether a line began, or the error.
+fn print_section_by<K: Chosen>(
+    printer: &mut Taker<'_>,
+    options: &PrintOptions,
+    section: &CustomEntry<'_>,
+) -> Result<bool, Error>
+    requires { in_colors options.now K.options.color ≡ K.options }
+{
+    let mut out: Printer<'_, '_, Taker<'_>, K> = Printer::new(printer, options);
+    write_custom(&mut out, section);
+    finish(out)
+}
+
+/// Prints a section. Returns whether a line began, or the error.
+fn print_section(
+    printer: &mut Taker<'_>,
+    options: &PrintOptions,
+    section: &CustomEntry<'_>,
+) -> Result<bool, Error> {
+    print_section_by::<Brand>(printer, options, section)
+}
+
+/// Prints the sections at one place with the default options. Returns whether a line began, or the error.
+fn print_sections(
+    printer: &mut Taker<'_>,
+    customs: &[CustomEntry<'_>],
+    after: Option<SectionKind>,
+) -> Result<bool, Error> {
+    let options = PrintOptions::new();
+    let mut out: Printer<'_, '_, Taker<'_>, Brand> = Printer::new(printer, &options);
+    write_customs(&mut out, customs, after);
+    finish(out)
 }
 
 /// Reads a section from these bytes, which begin with its name.

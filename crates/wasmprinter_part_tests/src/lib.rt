@@ -12,3 +12,5 @@ mod labels;
 mod names;
 #[cfg(test)]
 mod operators;
+#[cfg(test)]
+mod printing;

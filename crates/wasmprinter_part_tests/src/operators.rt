@@ -3,18 +3,20 @@
 ghost use Rattle.std.specs.Prelude.{None};
 
 use crate::names::names_of;
+use crate::printing::finish;
 use std::alloc::Global;
+use std::marker::Brand;
 use std::test::Fail;
 use wasmprinter_bytes::bytes::Cursor;
 use wasmprinter_customs::{FunctionHints, Hints};
-use wasmprinter_flat::operators::{Form, Setting, write_operators};
+use wasmprinter_flat_text::operators::{Form, Setting, write_operators};
 use wasmprinter_labels::OpenLabels;
-use wasmprinter_lines::options::PrintOptions;
 use wasmprinter_names::Identifiers;
 use wasmprinter_ops::expression::Expression;
+use wasmprinter_output::{PrintOptions, Printer};
 use wasmprinter_print::PrintFmtWrite;
 use wasmprinter_samples::expect_text;
-use wasmprinter_text::signature::Signatures;
+use wasmprinter_type_text::signature::Signatures;
 use wasmprinter_types::composite::FuncType;
 
 /// The types of a module without types.
@@ -56,14 +58,13 @@ fn text_of_expression(
 ) -> Result<String, Fail> {
     let mut labels = OpenLabels::new(alloc, identifiers)?;
     let mut printer = PrintFmtWrite(String::new(alloc));
-    write_operators(
+    let options = PrintOptions::new();
+    let mut out: Printer<'_, '_, PrintFmtWrite<String>, Brand> = Printer::new(
         &mut printer,
-        &PrintOptions::new(),
-        setting,
-        &mut labels,
-        hints,
-        expression,
-    )?;
+        &options,
+    );
+    write_operators(&mut out, setting, &mut labels, hints, expression);
+    finish(out)?;
     Ok(printer.0)
 }
 

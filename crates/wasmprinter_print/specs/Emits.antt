@@ -5,7 +5,7 @@ use Rattle.std.specs.declared.io.Error.{Error as IoError}
 use Rattle.wasmprinter_spec.specs.Call.{Call, Claim, atoms}
 use Rattle.wasmprinter_spec.specs.Meaning.{Meaning, Run, Succeeded, Failed}
 use Rattle.wasmprinter_error.specs.declared.error.Error.{Error}
-use Rattle.wasmprinter_error.specs.declared.error.Error.TheVariants.{Malformed, Component, TooManyLocals, TooManyFunctions, EmptyTableInit, FoldLegacy, FoldHint, DylinkSubsection, Unreadable, Printer, Memory}
+use Rattle.wasmprinter_error.specs.declared.error.Error.TheVariants.{Printer}
 
 -- One call with its result.
 abbrev pub Does : {P T : Type 0} → Meaning P → P → Call → P → Result T IoError → Type 0
@@ -59,28 +59,14 @@ abbrev pub at_growth : Bool → Ending
 at_growth true = Stopped
 at_growth false = Never
 
--- The ending that each error means. The flag says whether the function may allocate while it prints.
-abbrev pub halt_of : Bool → Error → Ending
-halt_of keeps (Malformed place) = Never
-halt_of keeps Component = Never
-halt_of keeps (TooManyLocals place) = Never
-halt_of keeps (TooManyFunctions count) = Never
-halt_of keeps (EmptyTableInit place) = Never
-halt_of keeps (FoldLegacy place) = Never
-halt_of keeps (FoldHint place) = Never
-halt_of keeps (DylinkSubsection id) = Never
-halt_of keeps Unreadable = Never
-halt_of keeps (Printer e) = AtCall e
-halt_of keeps Memory = at_growth keeps
+-- The ending of a function that returns an `Error`: it returns only errors of the printer.
+abbrev pub ending_of : Error → Ending
+ending_of (Printer e) = AtCall e
+ending_of _ = Never
 
--- The ending of a function that returns an `Error`.
-abbrev pub halt : {T : Type 0} → Bool → Result T Error → Ending
-halt keeps (Ok x) = Through
-halt keeps (Err e) = halt_of keeps e
-
--- The ending of a function that returns an `Error` and does not allocate.
 abbrev pub outcome : {T : Type 0} → Result T Error → Ending
-outcome r = halt false r
+outcome (Ok x) = Through
+outcome (Err e) = ending_of e
 
 -- The calls that a function with this ending has made.
 abbrev pub Calls : {P : Type 0} → Meaning P → P → P → Ending → List Call → Type 0

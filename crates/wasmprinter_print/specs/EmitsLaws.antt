@@ -1,13 +1,11 @@
 -- Consequences of `Made` and `Owes` for any printer: how the parts of a layout combine.
-use Rattle.std.specs.Prelude.{◌≡◌, ℕ, Bool, true, false, List, [], ◌∷◌, ◌++◌, Result, Ok, Err, IsErrAnd}
+use Rattle.std.specs.Prelude.{◌≡◌, ℕ, List, [], ◌∷◌, ◌++◌, Result, Ok, Err, IsErrAnd}
 use Rattle.std.proofs.Common.{refl, sym, ap, ap₂, ◌∙◌, subst, append_assoc, append-nil}
 use Rattle.std.proofs.lemmas.List.{map-append}
 use Rattle.std.specs.declared.io.Error.{Error as IoError}
 use Rattle.wasmprinter_spec.specs.Call.{Call, Text, calls_of_bytes, atoms}
 use Rattle.wasmprinter_spec.specs.Meaning.{Meaning, Run, Succeeded, Failed}
-use Rattle.wasmprinter_print.specs.Emits.{Does, Emits, EmitsOrFails, Made, Owes, Calls, Ending, Through, AtCall, Stopped, Never, halt_of, Whole, Broken, Begun}
-use Rattle.wasmprinter_error.specs.declared.error.Error.{Error}
-use Rattle.wasmprinter_error.specs.declared.error.Error.TheVariants.{Malformed, Component, TooManyLocals, TooManyFunctions, EmptyTableInit, FoldLegacy, FoldHint, DylinkSubsection, Unreadable, Printer, Memory}
+use Rattle.wasmprinter_print.specs.Emits.{Does, Emits, Made, Owes, Calls, Ending, Through, AtCall, Stopped, Never, Whole, Broken}
 
 -- The atoms of two concatenated lists of calls are the atoms of the first followed by those of the second.
 pub atoms-append : (k l : List Call) → atoms (k ++ l) ≡ atoms k ++ atoms l
@@ -74,52 +72,12 @@ broken_longer m a t e l k v = record {
   alike = longer (v.calls ++ v.call ∷ []) l k v.rest v.alike;
 }
 
-begun_longer : {P : Type 0} (m : Meaning P) (a t : P) (l k : List Call) → Begun m a t l → Begun m a t (l ++ k)
-begun_longer m a t l k v = record {
-  calls = v.calls;
-  rest = v.rest ++ atoms k;
-  run = v.run;
-  alike = longer v.calls l k v.rest v.alike;
-}
-
--- If a function ended in `l` with an error, then it ended in `l ++ k` with that error.
-pub halts : {P : Type 0} (m : Meaning P) {a t : P} (keeps : Bool) (e : Error) (l k : List Call) → Made m a t (halt_of keeps e) l →
-    Made m a t (halt_of keeps e) (l ++ k)
-halts m keeps (Malformed place) l k v = absurd v.made
-halts m keeps Component l k v = absurd v.made
-halts m keeps (TooManyLocals place) l k v = absurd v.made
-halts m keeps (TooManyFunctions count) l k v = absurd v.made
-halts m keeps (EmptyTableInit place) l k v = absurd v.made
-halts m keeps (FoldLegacy place) l k v = absurd v.made
-halts m keeps (FoldHint place) l k v = absurd v.made
-halts m keeps (DylinkSubsection id) l k v = absurd v.made
-halts m keeps Unreadable l k v = absurd v.made
-halts m {a} {t} keeps (Printer e) l k v = record { made = broken_longer m a t e l k v.made }
-halts m {a} {t} true Memory l k v = record { made = begun_longer m a t l k v.made }
-halts m false Memory l k v = absurd v.made
-
--- If an allocation fails before the first call, then the empty prefix of the layout was made.
-pub stops_first : {P : Type 0} (m : Meaning P) (a : P) (l : List Call) → Made m a a Stopped l
-stops_first m a l = record { made = record { calls = []; rest = atoms l; run = refl; alike = refl } }
-
 -- If a call of `l` failed and the function returned its error, then the function has made a prefix of `l ++ k`.
 pub ends : {P U : Type 0} (m : Meaning P) {a t : P} (r : Result U IoError) {e : IoError} {l : List Call} (k : List Call) →
     IsErrAnd r (λ y. y ≡ e) → Made m a t (AtCall e) l → Emits m a t r (l ++ k)
 ends m (Ok x) k f v = absurd f
 ends m {a} {t} (Err y) {e} {l} k f v =
     record { made = broken_longer m a t y l k (subst (λ z. Broken m a t z l) (sym f) v.made) }
-
--- If a call of `l` failed and the function returned its error, then the function has made a prefix of `l`.
-pub fails : {P U : Type 0} (m : Meaning P) {a t : P} (r : Result U IoError) {e : IoError} {l : List Call} →
-    IsErrAnd r (λ y. y ≡ e) → Made m a t (AtCall e) l → Emits m a t r l
-fails m (Ok x) f v = absurd f
-fails m {a} {t} (Err y) {e} {l} f v = record { made = subst (λ z. Broken m a t z l) (sym f) v.made }
-
--- `fails` for a function that returns the printer's error as `Printer`.
-pub hands_on : {P U : Type 0} (m : Meaning P) {a t : P} (r : Result U Error) {e : IoError} {l : List Call} →
-    IsErrAnd r (λ y. y ≡ Printer e) → Made m a t (AtCall e) l → EmitsOrFails m a t r l
-hands_on m (Ok x) f v = absurd f
-hands_on m {a} {t} (Err y) {e} {l} f v = record { made = subst (λ z. Calls m a t (halt_of false z) l) (sym f) v.made }
 
 -- A call that succeeded is a layout of one call.
 pub called : {P : Type 0} (m : Meaning P) {a t : P} {c : Call} → Succeeded m a c t → Made m a t Through (c ∷ [])
@@ -146,10 +104,6 @@ call_fails m {a} {t} (Err y) e {c} f v = record {
 pub does : {P : Type 0} (m : Meaning P) {a t : P} (r : Result (Unit {0}) IoError) (c : Call) → Does m a c t r → Emits m a t r (c ∷ [])
 does m (Ok x) c v = called m v
 does m (Err e) c v = call_fails {U = Unit {0}} m (Err e) e refl v
-
--- Making no call makes the empty layout.
-pub nothing : {P : Type 0} (m : Meaning P) (a : P) → Made m a a Through []
-nothing m a = record { made = record { calls = []; run = refl; alike = refl } }
 
 alike_calls : {P : Type 0} (m : Meaning P) (a t : P) (r : Ending) (l k : List Call) → atoms l ≡ atoms k → Calls m a t r l → Calls m a t r k
 alike_calls m a t Through l k e v = record { calls = v.calls; run = v.run; alike = v.alike ∙ e }
@@ -200,13 +154,3 @@ pub atoms-text : (x y : List ℕ) (k : List Call) → atoms (Text x ∷ Text y �
 atoms-text x y k =
     sym (append_assoc (calls_of_bytes (Text x)) (calls_of_bytes (Text y)) (atoms k))
     ∙ ap (λ b. b ++ atoms k) (sym (map-append (λ b. Text (b ∷ [])) x y))
-
--- If the first part of a text was written, and then the rest, then the whole text was written.
-pub then_text : {P : Type 0} (m : Meaning P) {a s t : P} {r : Ending} {x y : List ℕ} {k : List Call} →
-    Made m a s Through (Text x ∷ []) → Made m s t r (Text y ∷ k) → Made m a t r (Text (x ++ y) ∷ k)
-then_text m {x = x} {y} {k} v w = alike m (Text (x ++ y) ∷ k) (atoms-text x y k) (then m v w)
-
--- If writing the first part of a text failed, then writing the text failed, whatever would follow.
-pub ends_text : {P U : Type 0} (m : Meaning P) {a t : P} (r : Result U IoError) {e : IoError} {x : List ℕ} (y : List ℕ) (k : List Call) →
-    IsErrAnd r (λ z. z ≡ e) → Made m a t (AtCall e) (Text x ∷ []) → Emits m a t r (Text (x ++ y) ∷ k)
-ends_text m r {x = x} y k f v = alike m (Text (x ++ y) ∷ k) (atoms-text x y k) (ends m r (Text y ∷ k) f v)

@@ -1,10 +1,9 @@
 //! Shared code for printing the fields of a module to any printer (section 6.6 of the WebAssembly Core
 //! Specification): the scope, declarations, indices, types and type uses, headers of functions and tags, and
 //! constant expressions.
-//!
-//! A function that returns `io::Result` fails only with the error of the call on the printer that failed.
 #![tactic(auto)]
 
 pub mod expressions;
 pub mod headers;
+pub mod lists;
 pub mod scope;

@@ -6,22 +6,20 @@ ghost use Rattle.wasmprinter_spec.specs.Layout.Declarations.{type_use};
 ghost use Rattle.wasmprinter_spec.specs.Layout.Identifiers.{declaration_pieces, index_pieces};
 ghost use Rattle.wasmprinter_spec.specs.Layout.ValTypes.{ref_pieces, val_pieces};
 ghost use Rattle.wasmprinter_spec.specs.Layout.Types.{type_pieces};
-ghost use Rattle.wasmprinter_print.specs.Prints.{PrintsAlways};
 ghost use Rattle.wasmprinter_names.specs.Shown.{names_of_identifiers};
-ghost use Rattle.wasmprinter_text.specs.Items.{item_of};
+ghost use Rattle.wasmprinter_type_text.specs.Items.{item_of};
 ghost use Rattle.wasmprinter_types.specs.ValTypes.{ref_view, type_view};
 ghost use Rattle.wasmprinter_labels.specs.Scan.{names_of};
 ghost use Rattle.wasmprinter_scope.specs.Scopes.{scope_view, item_in};
 
-use std::io;
 use wasmprinter_fold::Folder;
 use wasmprinter_labels::OpenLabels;
 use wasmprinter_names::{Identifiers, Space};
-use wasmprinter_print::Print;
-use wasmprinter_text::indices::{self, write_declaration_of, write_index_of};
-use wasmprinter_text::signature::{self, Signatures};
-use wasmprinter_text::types;
-use wasmprinter_text::types::composite::type_field;
+use wasmprinter_output::Output;
+use wasmprinter_type_text::indices::{self, write_declaration_of, write_index_of};
+use wasmprinter_type_text::signature::{self, Signatures};
+use wasmprinter_type_text::types;
+use wasmprinter_type_text::types::composite::write_type_field;
 use wasmprinter_types::composite::{FuncType, SubType};
 use wasmprinter_types::{RefType, ValType};
 use wasmprinter_wasm::{Fields, Module};
@@ -71,92 +69,79 @@ impl<'s, 'a> Scope<'s, 'a> {
 }
 
 /// Writes the declaration of an item of the module.
-pub fn write_declaration_in<P: Print>(
-    p: &mut P,
+pub fn write_declaration_in<O: Output>(
+    out: &mut O,
     scope: &Scope<'_, '_>,
     space: Space,
     number: u64,
-) -> io::Result<()>
-    ensures { PrintsAlways P.meaning p.old p.new result
+)
+    ensures { O.wrote out.old out.new
         (declaration_pieces (item_in scope.now.labels space number) number) }
 {
-    write_declaration_of(p, &scope.identifiers(), space, 0, number)
+    write_declaration_of(out, &scope.identifiers(), space, 0, number);
 }
 
 /// Writes an index of an item of the module.
-pub fn write_index_in<P: Print>(
-    p: &mut P,
-    scope: &Scope<'_, '_>,
-    space: Space,
-    index: u32,
-) -> io::Result<()>
-    ensures { PrintsAlways P.meaning p.old p.new result
+pub fn write_index_in<O: Output>(out: &mut O, scope: &Scope<'_, '_>, space: Space, index: u32)
+    ensures { O.wrote out.old out.new
         (index_pieces (item_in scope.now.labels space index) index) }
 {
-    write_index_of(p, &scope.identifiers(), space, 0, u64::from(index))
+    write_index_of(out, &scope.identifiers(), space, 0, u64::from(index));
 }
 
 /// Writes a group of a keyword and an index of an item of the module.
-pub fn write_index_group_in<P: Print>(
-    p: &mut P,
+pub fn write_index_group_in<O: Output>(
+    out: &mut O,
     scope: &Scope<'_, '_>,
     keyword: &str,
     space: Space,
     index: u32,
-) -> io::Result<()>
-    ensures { PrintsAlways P.meaning p.old p.new result
+)
+    ensures { O.wrote out.old out.new
         (line_group_gap keyword.now (index_pieces (item_in scope.now.labels space index) index)) }
 {
-    indices::write_index_group(p, &scope.identifiers(), keyword, space, index)
+    indices::write_index_group(out, &scope.identifiers(), keyword, space, index);
 }
 
 /// Writes a space, the index of a type, and the parameters and results of that type if it is a function type. The
 /// parameters have identifiers only if `owner` is their function.
-pub fn write_type_use_in<P: Print>(
-    p: &mut P,
+pub fn write_type_use_in<O: Output>(
+    out: &mut O,
     scope: &Scope<'_, '_>,
     owner: Option<u64>,
     index: u32,
-) -> io::Result<()>
-    ensures { PrintsAlways P.meaning p.old p.new result
-        (Gap ∷ type_use (scope_view scope.now) owner index) }
+)
+    ensures { O.wrote out.old out.new
+        (Gap ∷ type_use (scope_view O.chosen scope.now) owner index) }
 {
-    signature::write_type_use(p, &scope.identifiers(), owner, &scope.types, index)
+    signature::write_type_use(out, &scope.identifiers(), owner, &scope.types, index);
 }
 
 /// Writes a reference type.
-pub fn write_ref_type_in<P: Print>(
-    p: &mut P,
-    scope: &Scope<'_, '_>,
-    ref_type: RefType,
-) -> io::Result<()>
-    ensures { PrintsAlways P.meaning p.old p.new result
+pub fn write_ref_type_in<O: Output>(out: &mut O, scope: &Scope<'_, '_>, ref_type: RefType)
+    ensures { O.wrote out.old out.new
         (ref_pieces (names_of scope.now.labels) (ref_view ref_type)) }
 {
-    types::write_ref_type(p, &scope.identifiers(), ref_type)
+    types::write_ref_type(out, &scope.identifiers(), ref_type);
 }
 
 /// Writes a value type.
-pub fn write_val_type_in<P: Print>(
-    p: &mut P,
-    scope: &Scope<'_, '_>,
-    value_type: ValType,
-) -> io::Result<()>
-    ensures { PrintsAlways P.meaning p.old p.new result
+pub fn write_val_type_in<O: Output>(out: &mut O, scope: &Scope<'_, '_>, value_type: ValType)
+    ensures { O.wrote out.old out.new
         (val_pieces (names_of scope.now.labels) (type_view value_type)) }
 {
-    types::write_val_type(p, &scope.identifiers(), value_type)
+    types::write_val_type(out, &scope.identifiers(), value_type);
 }
 
 /// Writes the definition of the type with the given number.
-pub fn write_type_in<P: Print>(
-    p: &mut P,
+pub fn write_type_in<O: Output>(
+    out: &mut O,
     scope: &Scope<'_, '_>,
     number: u64,
     sub_type: &SubType<'_>,
-) -> io::Result<()>
-    ensures { PrintsAlways P.meaning p.old p.new result
+)
+    ensures { O.wrote out.old out.new
         (type_pieces (names_of scope.now.labels) number sub_type.now) }
 {
-    type_field(p, &scope.identifiers(), number, sub_type)
+    write_type_field(out, &scope.identifiers(), number, sub_type);
 }

@@ -1,7 +1,6 @@
-pub mod Walking
-pub mod Breaking
-pub mod SectionParts
-pub mod Coloring
-pub mod SectionWalk
+pub mod Joined
+pub mod Folding
 pub mod ModuleParts
+pub mod SectionWalk
+pub mod Walking
 pub mod WholeModule

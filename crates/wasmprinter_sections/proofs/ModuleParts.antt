@@ -1,18 +1,14 @@
 -- The parts of a module are those of its sections, with one function of answers for all custom sections.
-use Rattle.std.specs.Prelude.{◌≡◌, List, [], ◌∷◌, ◌++◌, flat_map, Bool, false, length, Option, Some, None, Result, if◌then◌else◌, refl}
-use Rattle.std.proofs.Common.{sym, ap, ap₂, ◌∙◌}
-use Rattle.wasmprinter_error.specs.declared.error.Error.{Error}
+use Rattle.std.specs.Prelude.{◌≡◌, List, [], ◌∷◌, ◌++◌, flat_map, false, length, Option, Some, None, if◌then◌else◌, refl}
+use Rattle.std.proofs.Common.{sym, ap₂, ◌∙◌}
 use Rattle.wasmprinter_spec.specs.Kinds.{Kind, same_kind}
-use Rattle.wasmprinter_spec.specs.Meaning.{Meaning}
 use Rattle.wasmprinter_spec.specs.Names.{Names}
 use Rattle.wasmprinter_spec.specs.Placed.{PlacedModule}
 use Rattle.wasmprinter_spec.specs.Options.{Options, Answers}
 use Rattle.wasmprinter_spec.specs.Layout.{module_parts, section_pieces, early_scope, section_order}
 use Rattle.wasmprinter_spec.specs.Layout.Declarations.{Scope}
-use Rattle.wasmprinter_spec.specs.Layout.Customs.{Part, Shown, parts_at, laid_parts}
-use Rattle.wasmprinter_annotations.specs.Lines.{PrintsPartLines}
-use Rattle.wasmprinter_annotations.proofs.Parts.{same_part_lines}
-use Rattle.wasmprinter_annotations.proofs.Places.{one_table}
+use Rattle.wasmprinter_spec.specs.Layout.Customs.{Part, Shown, parts_at}
+use Rattle.wasmprinter_custom_text.proofs.Places.{one_table}
 use Rattle.wasmprinter_sections.specs.Sections.{sections_parts}
 
 -- ---- Answers by kinds
@@ -42,21 +38,16 @@ module _ (o : Options) (s : Scope) (m : PlacedModule) where
 
 -- ---- The whole module
 
--- If sections were written one after the other, each with its own answers, the parts of the module were written
--- with one function of answers. Their lines may be printed with other options.
-pub module_walk : {P : Type 0} (n : Meaning P) (p o : Options) (names : Names) (m : PlacedModule) {keeps : Bool} {a t : P} (r : Result Bool Error) →
-    (first : Answers) (several : List Answers) → length several ≡ length section_order →
-    PrintsPartLines n p a t keeps r (parts_at o.skeleton first None 0 m.customs ++ sections_parts o (early_scope o names m) m several section_order) →
-    (answers : Answers) × PrintsPartLines n p a t keeps r (module_parts o answers names m)
+-- The parts of sections, each with its own answers, are the parts of the module with one function of answers.
+pub module_walk : (o : Options) (names : Names) (m : PlacedModule) (first : Answers) (several : List Answers) → length several ≡ length section_order →
+    (answers : Answers) × (parts_at o.skeleton first None 0 m.customs ++ sections_parts o (early_scope o names m) m several section_order ≡ module_parts o answers names m)
 unfolding module_parts
-module_walk n p o names m {keeps} {a} {t} r first several many written =
+module_walk o names m first several many =
     let s : Scope = early_scope o names m in
     let by : Option Kind → List Part = λ place. parts_at o.skeleton (table_of first several place) place 0 m.customs in
     let one = one_table o.skeleton (table_of first several) m.customs in
-    let at : Option Kind → List Part = λ place. parts_at o.skeleton one.0 place 0 m.customs in
-    let same : by None ++ sections_parts o s m several section_order ≡ module_parts o one.0 names m =
-    ap₂ (λ (xs ys : List Part). xs ++ ys) (sym (one.1 None))
-    (sections-table o s m first several many ∙ sections-agree o s m by at (λ place. sym (one.1 place)) section_order) in (
+    let at : Option Kind → List Part = λ place. parts_at o.skeleton one.0 place 0 m.customs in (
       one.0,
-      same_part_lines n (by None ++ sections_parts o s m several section_order) (module_parts o one.0 names m) (ap laid_parts same) written,
+      ap₂ (λ (xs ys : List Part). xs ++ ys) (sym (one.1 None))
+          (sections-table o s m first several many ∙ sections-agree o s m by at (λ place. sym (one.1 place)) section_order),
     )

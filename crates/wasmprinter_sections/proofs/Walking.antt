@@ -1,7 +1,6 @@
 -- Functions one after the other, each with its hints.
-use Rattle.std.specs.Prelude.{◌≡◌, ℕ, suc, ◌+◌, ◌≤◌, ◌==◌, not, drop, List, [], ◌∷◌, ◌++◌, ◌||◌, true, length, Some, slice_get, refl}
-use Rattle.std.proofs.Common.{sym, ap, ◌∙◌, add-one, drop-cons}
-use Rattle.std.proofs.Math.Dec.{eqb-suc-zero}
+use Rattle.std.specs.Prelude.{◌≡◌, ℕ, suc, ◌+◌, ◌≤◌, drop, List, [], ◌∷◌, ◌++◌, length, Some, slice_get}
+use Rattle.std.proofs.Common.{ap, add-one, drop-cons}
 use Rattle.std.proofs.lemmas.Option.{slice_get_within, get_or_from_slice_get}
 use Rattle.std.proofs.lemmas.List.{drop_all}
 use Rattle.wasmprinter_spec.specs.Customs.Hints.{FunctionHints, next_hints, hints_after}
@@ -9,8 +8,6 @@ use Rattle.wasmprinter_spec.specs.Placed.{PlacedFunction}
 use Rattle.wasmprinter_spec.specs.Options.{Options}
 use Rattle.wasmprinter_spec.specs.Layout.Declarations.{Scope}
 use Rattle.wasmprinter_spec.specs.Layout.Functions.{function_pieces, functions_pieces}
-use Rattle.wasmprinter_spec.specs.Layout.Groups.{has_break}
-use Rattle.wasmprinter_lines.proofs.Groups.{has_break-append}
 
 module _ (o : Options) (s : Scope) where
   first_of : (es : List FunctionHints) (n : ℕ) (fs rest : List PlacedFunction) (f : PlacedFunction) → fs ≡ f ∷ rest →
@@ -34,16 +31,3 @@ module _ (o : Options) (s : Scope) where
   -- If no function is left, no piece is left.
   pub functions-none : (es : List FunctionHints) (n i : ℕ) (fs : List PlacedFunction) → length fs ≤ i → functions_pieces o s es n (drop i fs) ≡ []
   functions-none es n i fs h = none_of es n (drop i fs) (drop_all i fs h)
-
-  function-break : (n : ℕ) (es : List FunctionHints) (f : PlacedFunction) → has_break (function_pieces o s n (next_hints n es) f) ≡ true
-  unfolding function_pieces
-  function-break n es f = refl
-
-  -- The pieces of functions begin a line exactly if there are functions.
-  pub functions-break : (es : List FunctionHints) (n : ℕ) (fs : List PlacedFunction) → has_break (functions_pieces o s es n fs) ≡ not (length fs == 0)
-  unfolding functions_pieces
-  functions-break es n [] = refl
-  functions-break es n (f ∷ fs) =
-      has_break-append (function_pieces o s n (next_hints n es) f) (functions_pieces o s (hints_after n es) (n + 1) fs)
-      ∙ ap (λ y. y || has_break (functions_pieces o s (hints_after n es) (n + 1) fs)) (function-break n es f)
-      ∙ sym (ap not (eqb-suc-zero (length fs)))

@@ -2,5 +2,8 @@
 //! the custom sections among them, and the whole module, to any printer.
 #![tactic(auto)]
 
-pub mod modules;
+mod modules;
+mod printing;
 mod sections;
+
+pub use printing::print_module;

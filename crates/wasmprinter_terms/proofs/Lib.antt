@@ -4,3 +4,4 @@ pub mod Runs
 pub mod Plain
 pub mod Formats
 pub mod FractionDigits
+pub mod ValueResults

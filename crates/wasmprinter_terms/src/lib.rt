@@ -13,4 +13,5 @@ pub mod limits;
 pub mod lines;
 pub mod numbers;
 pub mod strings;
+pub mod values;
 pub mod words;

@@ -1,15 +1,11 @@
 use Rattle.std.specs.Prelude.{◌≡◌, ◌+◌, ◌-◌, replicate}
-use Rattle.wasmprinter_spec.specs.Options.{Options}
-use Rattle.wasmprinter_print.specs.Prints.{Lacks}
 use Rattle.wasmprinter_labels.specs.Scan.{names_of}
 use Rattle.wasmprinter_bodies.specs.LocalWalk.{after_all, locals_parts}
 use Rattle.wasmprinter_bodies.proofs.locals.write_entry.Given as goal
 
 abbrev pub invariant-loop : goal.invariant-loop
 invariant-loop g l = record {
-  lacks : (o : Options) → Lacks g.P.Print.meaning o l.fn.p l.p
-      (locals_parts (names_of l.scope.labels) l.function l.fn.start (replicate l.entry.value.count l.entry.value.type))
-      (locals_parts (names_of l.scope.labels) l.function l.position (replicate (l.entry.value.count - l.counter) l.entry.value.type));
+  rest : (t : _) → g.O.Output.wrote l.out t (locals_parts (names_of l.scope.labels) l.function l.position (replicate (l.entry.value.count - l.counter) l.entry.value.type)) → g.O.Output.wrote l.fn.out t (locals_parts (names_of l.scope.labels) l.function l.fn.start (replicate l.entry.value.count l.entry.value.type));
   after : after_all ((names_of l.scope.labels).locals l.function) l.position (replicate (l.entry.value.count - l.counter) l.entry.value.type)
       ≡ after_all ((names_of l.scope.labels).locals l.function) l.fn.start (replicate l.entry.value.count l.entry.value.type);
   number : l.position.number ≡ l.fn.start.number + l.counter;

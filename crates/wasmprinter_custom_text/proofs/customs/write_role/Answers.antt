@@ -17,7 +17,7 @@ returns-in-Dylink g c =
     rw c.in-Dylink.is (rw (c.place-place.ensures, same) at c.write_dylink.ensures)
 
 pub returns-in-Refused : goal.returns-in-Refused
-returns-in-Refused g c = rw c.in-Refused.is (rw c.from.ensures at c.refuse_subsection.ensures)
+returns-in-Refused g c = rw c.in-Refused.is c.refuse_subsection.ensures
 
 pub returns-in-Raw : goal.returns-in-Raw
 returns-in-Raw g c = rw c.in-Raw.is c.write_raw.ensures

@@ -1,7 +1,5 @@
-use Rattle.std.proofs.Common.{◌≡◌, ◌||◌, length, true}
-use Rattle.wasmprinter_spec.specs.Layout.Groups.{has_break}
-use Rattle.wasmprinter_print.specs.Prints.{Lacks}
-use Rattle.wasmprinter_flat.specs.Settings.{form_view}
+use Rattle.std.proofs.Common.{length, true}
+use Rattle.wasmprinter_flat_text.specs.Settings.{form_view}
 use Rattle.wasmprinter_nodes.specs.Mapping.{map_nodes}
 use Rattle.wasmprinter_nodes.specs.Postorder.{forest_of}
 use Rattle.wasmprinter_node_text.specs.Shown.{shown_of_head, row_pieces}
@@ -12,11 +10,8 @@ abbrev pub invariant-loop-task : goal.invariant-loop-task
 invariant-loop-task g l =
     record {
       sound : AllSound l.text (length l.nodes) l.tasks.items;
-      lacks : Lacks g.P.Print.meaning l.options l.fn.p l.p
-          (row_pieces (form_view l.form) true l.nesting (map_nodes (shown_of_head l.text) (forest_of l.nodes)))
-          (pieces_left (form_view l.form) l.nesting l.text l.tasks.items);
-      began : (l.lines || has_break (pieces_left (form_view l.form) l.nesting l.text l.tasks.items))
-          ≡ has_break (row_pieces (form_view l.form) true l.nesting (map_nodes (shown_of_head l.text) (forest_of l.nodes)));
+      wrote : (t : _) → g.O.Output.wrote l.out t (pieces_left (form_view l.form) l.nesting l.text l.tasks.items) →
+          g.O.Output.wrote l.fn.out t (row_pieces (form_view l.form) true l.nesting (map_nodes (shown_of_head l.text) (forest_of l.nodes)));
     }
 
 abbrev pub decreases-loop-task : goal.decreases-loop-task

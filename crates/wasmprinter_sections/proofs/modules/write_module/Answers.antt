@@ -1,21 +1,16 @@
-use Rattle.std.proofs.Common.{false}
 use Rattle.wasmprinter_labels.specs.Scan.{names_of}
-use Rattle.wasmprinter_sections.specs.Sections.{module_laid}
-use Rattle.wasmprinter_sections.proofs.SectionParts.{stops_first}
-use Rattle.wasmprinter_sections.proofs.WholeModule.{by_folder}
+use Rattle.wasmprinter_sections.specs.Sections.{inner_parts}
 use Rattle.wasmprinter_sections.proofs.modules.write_module.Goals as goal
-use Rattle.wasmprinter_spec.specs.Options.{in_colors}
-
-pub returns-in_err-folder : goal.returns-in_err-folder
-returns-in_err-folder g c =
-    let o = c.args.options.now in
-    let refused = c.in_err-folder.ensures.memory in (
-      (λ n. false),
-      stops_first g.P.Print.meaning o c.from_residual.result (module_laid (in_colors o (g.P.Print.colors c.args.p.now)) (λ n. false) (names_of c.args.labels) c.args.module.now) refused.1 refused.0 c.from_residual.ensures.1,
-    )
 
 pub returns : goal.returns
-returns g c =
-    let color = g.P.Print.colors c.args.p.now in
-    by_folder g.P.Print.meaning c.args.options.now color (names_of c.args.labels) c.args.module.now _ c.write_whole.result
-    c.in_ok-folder.ensures.folds (c.write_whole.ensures color c.in_ok-folder.ensures.folds)
+returns g c folds =
+    let o = g.O.Output.chosen in
+    let law = g.met.O.Output in
+    let m = c.args.module.now in
+    let (answers, parts) = c.write_parts.ensures folds in (
+      answers,
+      law.part_then _ _ _ _ _ (law.part_of _ _ _ c.start_first_line.ensures) (law.part_then _ _ _ _ _ (law.part_of _ _ _ c.open_group.ensures)
+          (law.parts_then _ _ _ _ _
+          (law.parts_at_of _ _ _ _ _ m.size 0 (inner_parts o answers (names_of c.args.labels) m) c.enter_group-outer.ensures parts (rw c.size.ensures at c.close_group_at.ensures))
+          (law.part_of _ _ _ c.end_last_line.ensures))),
+    )

@@ -8,7 +8,7 @@ use Rattle.wasmprinter_spec.specs.Types.{MemoryKind, TagKind}
 use Rattle.wasmprinter_entries.specs.Externs.{imported_count}
 use Rattle.wasmprinter_scope.specs.Scopes.{scope_view}
 use Rattle.wasmprinter_fields.proofs.FieldsOnOneLine.{memory-line, tag-line, export-line}
-use Rattle.wasmprinter_sections.proofs.Coloring.{numbered_pieces-agree}
+use Rattle.wasmprinter_sections.proofs.Folding.{numbered_pieces-agree}
 use Rattle.wasmprinter_sections.proofs.sections.write_fields_of.Goals as goal
 
 pub returns-in-Table-clause-pieces : goal.returns-in-Table-clause-pieces
@@ -17,13 +17,13 @@ returns-in-Table-clause-pieces g c = rw c.in-Table.is (rw c.tables.ensures.all a
 
 pub returns-in-Memory-clause-pieces : goal.returns-in-Memory-clause-pieces
 returns-in-Memory-clause-pieces g c =
-    let s = scope_view c.args.scope.now in
+    let s = scope_view g.O.Output.chosen c.args.scope.now in
     let m = c.args.module.now in
     rw (c.in-Memory.is, numbered_pieces-agree (memory_pieces s) _ (memory-line s) (imported_count MemoryKind m.imports) m.memories) (rw c.memories.ensures.all at c.write_defined-in-Memory.ensures.pieces)
 
 pub returns-in-Tag-clause-pieces : goal.returns-in-Tag-clause-pieces
 returns-in-Tag-clause-pieces g c =
-    let s = scope_view c.args.scope.now in
+    let s = scope_view g.O.Output.chosen c.args.scope.now in
     let m = c.args.module.now in
     rw (c.in-Tag.is, numbered_pieces-agree (tag_pieces s) _ (tag-line s) (imported_count TagKind m.imports) m.tags) (rw c.tags.ensures.all at c.write_defined-in-Tag.ensures.pieces)
 
@@ -33,7 +33,7 @@ returns-in-Global-clause-pieces g c = rw c.in-Global.is (rw c.globals.ensures.al
 
 pub returns-in-Export-clause-pieces : goal.returns-in-Export-clause-pieces
 returns-in-Export-clause-pieces g c =
-    let s = scope_view c.args.scope.now in
+    let s = scope_view g.O.Output.chosen c.args.scope.now in
     rw (c.in-Export.is, numbered_pieces-agree (λ i e. export_pieces s e) _ (export-line s) 0 c.args.module.now.exports) (rw c.exports.ensures at c.write_each.ensures.pieces)
 
 pub returns-in-Element-clause-pieces : goal.returns-in-Element-clause-pieces

@@ -1,9 +1,0 @@
-use Rattle.std.specs.Prelude.{◌≡◌, None}
-use Rattle.wasmprinter_flat.specs.Settings.{setting_among}
-use Rattle.wasmprinter_flat.proofs.Walking.{Progress}
-use Rattle.wasmprinter_flat.proofs.operators.write_operators.Given as goal
-
-abbrev pub invariant-loop-place : goal.invariant-loop-place
-invariant-loop-place g l =
-    (l.fault ≡ None)
-    × Progress g.P.Print.meaning l.options l.fn.p l.p (setting_among g.S.Signatures.signature_at l.setting l.fn.labels) l.fn.labels l.fn.hints l.expression.items l.place-iterator l.hints l.first l.labels

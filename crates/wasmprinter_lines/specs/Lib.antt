@@ -1,2 +1,0 @@
--- Definitions for the contracts of lines and options.
-pub mod Indents

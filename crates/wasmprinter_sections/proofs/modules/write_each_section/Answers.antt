@@ -1,0 +1,23 @@
+use Rattle.std.proofs.Common.{ap, sym, length, suc, ◌∷◌, [], ◌∙◌, List}
+use Rattle.wasmprinter_spec.specs.Kinds.{Kind}
+use Rattle.wasmprinter_scope.specs.Scopes.{scope_view}
+use Rattle.wasmprinter_sections.proofs.SectionWalk.{kinds-next, kinds-none, sections-next, sections-none}
+use Rattle.wasmprinter_sections.proofs.modules.write_each_section.Goals as goal
+
+pub loop-kind-preserved : goal.loop-kind-preserved
+loop-kind-preserved g c =
+    let o = g.O.Output.chosen in
+    let i = c.loop-kind.kind-index in
+    let step = kinds-next i c.loop-kind-test.true in
+    let (a, written) = rw c.loop-kind.invariant.scope at c.write_section.ensures.parts in
+    record {
+      left = λ t rest many w. c.loop-kind.invariant.left t (a ∷ rest) (ap suc many ∙ sym (ap (λ (ks : List Kind). length ks) step))
+          (rw (sections-next o (scope_view o c.args.scope.now) c.args.module.now a rest _ _ _ step) (g.met.O.Output.parts_then _ _ _ _ _ written w));
+      scope = c.write_section.ensures.scope ∙ c.loop-kind.invariant.scope;
+    }
+
+pub returns : goal.returns
+returns g c =
+    let o = g.O.Output.chosen in
+    let none = kinds-none c.loop-kind.kind-index c.loop-kind-test.false in
+    c.loop-kind.invariant.left _ [] (sym (ap (λ (ks : List Kind). length ks) none)) (rw (sections-none o (scope_view o c.args.scope.now) c.args.module.now _ none) (g.met.O.Output.no_part _))

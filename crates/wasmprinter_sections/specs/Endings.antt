@@ -1,0 +1,40 @@
+-- The calls that were made for a module, by the result of printing it.
+use Rattle.std.specs.Prelude.{◌≡◌, ℕ, Bool, Option, Some, None, Result, Ok, Err}
+use Rattle.wasmprinter_error.specs.declared.error.Error.{Error}
+use Rattle.wasmprinter_error.specs.declared.error.Error.TheVariants.{DylinkSubsection, Printer, Memory}
+use Rattle.wasmprinter_spec.specs.Meaning.{Meaning}
+use Rattle.wasmprinter_spec.specs.Options.{Options}
+use Rattle.wasmprinter_spec.specs.Piece.{all_calls}
+use Rattle.wasmprinter_spec.specs.Layout.Customs.{Laid}
+use Rattle.wasmprinter_print.specs.Emits.{Made, Ending, Through, AtCall, Never, at_growth}
+
+-- How the calls end that were made before this error. A refusal comes after all calls before it, and the printer's
+-- error at the call that failed. Memory can run out only if operators are folded. No other error is returned.
+abbrev pub stop_of : Bool → Error → Ending
+stop_of folds (DylinkSubsection id) = Through
+stop_of folds (Printer e) = AtCall e
+stop_of folds Memory = at_growth folds
+stop_of folds _ = Never
+
+abbrev pub stop : {T : Type 0} → Bool → Result T Error → Ending
+stop folds (Ok x) = Through
+stop folds (Err e) = stop_of folds e
+
+-- The layout ends at a refusal exactly if the refusal is returned. (A failed call or a failed allocation may come
+-- before a refusal.)
+abbrev pub IsRefusedAs : Error → Option ℕ → Type 0
+IsRefusedAs (DylinkSubsection id) refused = refused ≡ Some id
+IsRefusedAs (Printer e) refused = Unit {0}
+IsRefusedAs Memory refused = Unit {0}
+IsRefusedAs _ refused = ⊥
+
+abbrev pub IsRefused : {T : Type 0} → Result T Error → Option ℕ → Type 0
+IsRefused (Ok x) refused = refused ≡ None
+IsRefused (Err e) refused = IsRefusedAs e refused
+
+-- The calls that were made are those of the layout. They are a prefix if a call failed, whose error is then
+-- returned, or if an allocation failed while operators were folded. A refusal, if there is one, is returned after all
+-- calls. Nothing else is returned as an error.
+pub record PrintsLaid {P T : Type 0} (m : Meaning P) (o : Options) (old new : P) (r : Result T Error) (l : Laid) : Type 0 where
+  pub made : Made m old new (stop o.folds r) (all_calls o l.pieces)
+  pub refused : IsRefused r l.refused

@@ -1,0 +1,103 @@
+//! Printing a module to a printer.
+ghost use Rattle.std.specs.Prelude.{◌≡◌, Bool, true, IfOk, IfErr};
+ghost use Rattle.wasmprinter_error.specs.declared.error.Error.TheVariants.{Memory};
+ghost use Rattle.wasmprinter_spec.specs.Options.{Answers, in_colors};
+ghost use Rattle.wasmprinter_labels.specs.Scan.{names_of};
+ghost use Rattle.wasmprinter_output.specs.Made.{Made, state, of_parts};
+ghost use Rattle.wasmprinter_sections.specs.Endings.{PrintsLaid};
+ghost use Rattle.wasmprinter_sections.specs.Sections.{module_laid, whole_parts, Folds};
+
+use crate::modules::write_module;
+use std::alloc::Global;
+use std::marker::Brand;
+use wasmprinter_error::Error;
+use wasmprinter_fold::Folder;
+use wasmprinter_labels::OpenLabels;
+use wasmprinter_output::{Chosen, PrintOptions, Printer};
+use wasmprinter_print::Print;
+use wasmprinter_wasm::Module;
+
+/// Returns the folder of a module's operators, or `None` if operators are not folded. It writes ANSI escape
+/// sequences if the printer can write colors as text.
+fn folder_of<'s, 'a>(
+    alloc: Global,
+    color: bool,
+    options: &PrintOptions,
+    module: &'s Module<'a>,
+) -> Result<Option<Folder<'s, 'a>>, Error>
+    ensures folds { IfOk result (λ folder. Folds (in_colors options.now color) folder module.now) }
+    ensures memory { IfErr result (λ e. (e ≡ Memory) × (options.now.folds ≡ true)) }
+{
+    if !options.folds {
+        return Ok(None);
+    }
+    Ok(Some(Folder::new(alloc, module, color)?))
+}
+
+/// Writes a module to an output over the printer.
+fn write_to_printer<'o, 'p, 's, 'a, P: Print, K: Chosen>(
+    out: &mut Printer<'o, 'p, P, K>,
+    module: &'s Module<'a>,
+    labels: OpenLabels<'s, 'a>,
+    folder: Option<Folder<'s, 'a>>,
+)
+    requires { Folds K.options folder module.now }
+    ensures same { out.new.printer.ghost_name ≡ out.old.printer.ghost_name }
+    ensures made { (answers : Answers) × Made P.meaning K.options (state out.old.printer.now out.old.halt out.old.begun)
+        (state out.new.printer.now out.new.halt out.new.begun)
+        (of_parts K.options (whole_parts K.options answers (names_of labels.entry) module.now)) }
+{
+    write_module(out, module, labels, folder);
+}
+
+/// Prints a module with the options that `K` stands for.
+fn print_by<'s, 'a, P: Print, K: Chosen>(
+    p: &mut P,
+    options: &PrintOptions,
+    module: &'s Module<'a>,
+    labels: OpenLabels<'s, 'a>,
+    folder: Option<Folder<'s, 'a>>,
+) -> Result<(), Error>
+    requires options { in_colors options.now K.options.color ≡ K.options }
+    requires folder { Folds K.options folder module.now }
+    ensures { (answers : Answers) × PrintsLaid P.meaning K.options p.old p.new result
+        (module_laid K.options answers (names_of labels.entry) module.now) }
+{
+    let mut out: Printer<'_, '_, P, K> = Printer::new(p, options);
+    write_to_printer(&mut out, module, labels, folder);
+    let Printer {
+        printer: _,
+        options: _,
+        halt,
+        begun: _,
+        of: _,
+    } = out;
+    match halt {
+        None => Ok(()),
+        Some(halt) => Err(halt.into_error()),
+    }
+}
+
+/// Prints a module, with the identifiers of the labels. If operators are folded, everything that is printed must be
+/// foldable.
+///
+/// # Errors
+///
+/// - `DylinkSubsection`: a custom section `dylink.0` that the printer does not claim has an unknown subsection.
+///   All text before that section was written.
+/// - `Printer`: a call on the printer failed. It holds the error of that call.
+/// - `Memory`, only if operators are folded: an allocation failed.
+pub fn print_module<'s, 'a, P: Print>(
+    alloc: Global,
+    p: &mut P,
+    options: &PrintOptions,
+    module: &'s Module<'a>,
+    labels: OpenLabels<'s, 'a>,
+) -> Result<(), Error>
+    ensures { (answers : Answers) × PrintsLaid P.meaning (in_colors options.now (P.colors p.old)) p.old p.new result
+        (module_laid (in_colors options.now (P.colors p.old)) answers (names_of labels.entry) module.now) }
+{
+    let color = p.supports_async_color();
+    let folder = folder_of(alloc, color, options, module)?;
+    print_by::<P, Brand>(p, options, module, labels, folder)
+}

@@ -1,6 +1,0 @@
-pub mod Composites
-pub mod Counting
-pub mod Made
-pub mod Signatures
-pub mod TypeLists
-pub mod Walks

@@ -1,5 +1,0 @@
-use Rattle.std.proofs.Common.{sym, ◌∙◌}
-use Rattle.wasmprinter_text.proofs.signature.put_signature_at.Goals as goal
-
-pub returns-in-Some : goal.returns-in-Some
-returns-in-Some g c = rw (sym c.signature.ensures ∙ c.in-Some.is) c.put_signature.ensures

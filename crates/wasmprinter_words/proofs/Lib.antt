@@ -1,4 +1,0 @@
-pub mod Digits
-pub mod Tables
-pub mod Runs
-pub mod Plain
