@@ -14,7 +14,7 @@ use Rattle.wasmprinter_spec.specs.Layout.Functions.{header_pieces, inner_pieces}
 abbrev pub parameter_count_of : List SubType → ℕ → ℕ
 parameter_count_of ts i = parameter_count (signature_at ts i)
 
--- The number of results of a type, if it is a function type.
+-- The number of results of a type, if it is a function type: `result_count` of the layout, from the types alone.
 abbrev pub result_count_of : List SubType → ℕ → Option ℕ
 result_count_of ts i = option_map (λ t. length t.results) (signature_at ts i)
 

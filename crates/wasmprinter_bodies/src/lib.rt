@@ -1,5 +1,5 @@
 //! Writes the functions of a module with their locals and operators (section 6.6 of the WebAssembly Core
-//! Specification, "Functions") to any printer.
+//! Specification, "Functions") to any output.
 #![tactic(auto)]
 
 pub mod functions;

@@ -72,6 +72,9 @@ fn write_exports<O: Output>(out: &mut O, place: u64, exports: &ItemsIn<ExportInf
     ensures { O.wrote out.old out.new (exports_pieces place exports.now) }
 {
     for export in exports.iter() {
+        if out.has_failed() {
+            return;
+        }
         write_export(out, place, &export);
     }
 }
@@ -94,6 +97,9 @@ fn write_imports<O: Output>(out: &mut O, place: u64, imports: &ItemsIn<ImportInf
     ensures { O.wrote out.old out.new (import_infos_pieces place imports.now) }
 {
     for import in imports.iter() {
+        if out.has_failed() {
+            return;
+        }
         write_import(out, place, &import);
     }
 }
@@ -116,6 +122,9 @@ fn write_subsections<O: Output>(out: &mut O, subsections: &Dylink<'_>)
     ensures { O.wrote out.old out.new (subsections_pieces subsections.now) }
 {
     for subsection in subsections.iter() {
+        if out.has_failed() {
+            return;
+        }
         write_content(out, subsection.place(), subsection.content());
     }
 }

@@ -30,6 +30,9 @@ fn write_field<O: Output>(out: &mut O, field: &ProducersField<'_>)
     ensures { O.wrote out.old out.new (values_pieces field.now.name field.now.values) }
 {
     for value in field.values() {
+        if out.has_failed() {
+            return;
+        }
         write_value(out, field.name(), &value);
     }
 }
@@ -39,6 +42,9 @@ fn write_fields<O: Output>(out: &mut O, fields: &Producers<'_>)
     ensures { O.wrote out.old out.new (fields_pieces fields.now) }
 {
     for field in fields.iter() {
+        if out.has_failed() {
+            return;
+        }
         write_field(out, &field);
     }
 }

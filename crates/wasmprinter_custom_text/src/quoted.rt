@@ -25,6 +25,9 @@ pub(crate) fn write_space_strings<O: Output>(out: &mut O, names: &DylinkNames<'_
     ensures { O.wrote out.old out.new (gap_quoted_list names.now) }
 {
     for name in names.iter() {
+        if out.has_failed() {
+            return;
+        }
         write_space_string(out, name);
     }
 }

@@ -1,7 +1,6 @@
 -- Lists of fields, each with its number.
-use Rattle.std.specs.Prelude.{◌≡◌, ℕ, suc, ◌+◌, ◌<◌, ◌≤◌, drop, List, [], ◌∷◌, ◌++◌, length, Some, slice_get}
+use Rattle.std.specs.Prelude.{◌≡◌, ℕ, suc, ◌+◌, ◌<◌, ◌≤◌, drop, List, [], ◌∷◌, ◌++◌, length}
 use Rattle.std.proofs.Common.{sym, ap, ◌∙◌, add-one, drop-cons, get_or, arith}
-use Rattle.std.proofs.lemmas.Option.{slice_get_within, get_or_from_slice_get}
 use Rattle.std.proofs.lemmas.List.{drop_all}
 use Rattle.wasmprinter_spec.specs.Piece.{Piece}
 use Rattle.wasmprinter_spec.specs.Layout.Groups.{numbered_pieces}
@@ -23,11 +22,6 @@ module _ {A : Type 0} (f : ℕ → A → List Piece) where
       let step : drop i xs ≡ x ∷ drop (i + 1) xs = rw (add-one, drop-cons xs i x h) (ap (λ y. y ∷ drop (suc i) xs) (sym e)) in
       let number : (first + i) + 1 ≡ first + (i + 1) = omega (arith) in
       one (first + i) (drop i xs) (drop (i + 1) xs) x step ∙ ap (λ k. f (first + i) x ++ numbered_pieces f k (drop (i + 1) xs)) number
-
-  -- The same for an item that was looked up.
-  pub numbered_pieces-found : (first i : ℕ) (xs : List A) (x : A) → slice_get xs i ≡ Some x →
-      numbered_pieces f (first + i) (drop i xs) ≡ f (first + i) x ++ numbered_pieces f (first + (i + 1)) (drop (i + 1) xs)
-  numbered_pieces-found first i xs x e = numbered_pieces-next first i xs x (slice_get_within xs i x e) (sym (get_or_from_slice_get xs i x x e))
 
   -- If there are at most i items, no piece is left after the first i.
   pub numbered_pieces-none : (n i : ℕ) (xs : List A) → length xs ≤ i → numbered_pieces f n (drop i xs) ≡ []

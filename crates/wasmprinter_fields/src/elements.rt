@@ -73,6 +73,9 @@ fn write_function_items<O: Output>(out: &mut O, scope: &Scope<'_, '_>, functions
     ensures { O.wrote out.old out.new (function_items (scope_view O.chosen scope.now) functions.now) }
 {
     for index in functions.iter() {
+        if out.has_failed() {
+            return;
+        }
         write_function_item(out, scope, index);
     }
 }
@@ -102,6 +105,9 @@ fn write_expression_items<O: FoldingOutput>(
     ensures scope { scope_view O.chosen scope.new ≡ scope_view O.chosen scope.old }
 {
     for expression in expressions {
+        if out.has_failed() {
+            return;
+        }
         write_expression_item(out, scope, expression);
     }
 }

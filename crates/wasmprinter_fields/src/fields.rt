@@ -72,6 +72,9 @@ pub fn write_each<O: FoldingOutput, F: Field>(
     ensures scope { scope_view O.chosen scope.new ≡ scope_view O.chosen scope.old }
 {
     for (index, field) in fields.iter().enumerate() {
+        if out.has_failed() {
+            return;
+        }
         write_field(out, scope, first + index as u64, field);
     }
 }

@@ -157,6 +157,9 @@ pub fn write_imports<O: FoldingOutput>(
 {
     let mut numbers = Numbers::none();
     for import in imports {
+        if out.has_failed() {
+            return;
+        }
         write_field(out, scope, numbers.of(import.ty()), import);
         numbers.count(import.ty());
     }

@@ -1,5 +1,5 @@
 //! Writing the fields of a module, except its functions, as text (section 6.6 of the WebAssembly Core
-//! Specification), to any printer.
+//! Specification), to any output.
 #![tactic(auto)]
 
 mod data_segments;

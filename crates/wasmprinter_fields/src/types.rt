@@ -60,6 +60,9 @@ fn write_types<O: Output>(out: &mut O, scope: &Scope<'_, '_>, group: &TypeGroup<
 {
     let mut number = first;
     for sub_type in group.types() {
+        if out.has_failed() {
+            return;
+        }
         write_listed(out, scope, group, number, &sub_type);
         number += 1;
     }
@@ -114,6 +117,9 @@ pub fn write_type_groups<O: Output>(out: &mut O, scope: &Scope<'_, '_>, groups: 
 {
     let mut number = 0;
     for group in groups {
+        if out.has_failed() {
+            return;
+        }
         write_group(out, scope, group, number);
         number += u64::from(group.types().len());
     }

@@ -46,10 +46,6 @@ shows-step buffer b c x y s i e f h = record {
   shows = step-map (shown_of_head buffer) h.state x ∙ rw (h.shows, e) refl;
 }
 
--- A builder without nodes has no texts.
-pub shows-none : (buffer : List ℕ) (b : Builder) → Stands b start → ShowsIn buffer b start
-shows-none buffer b h = record { state = start; stands = h; inside = (tt, tt); shows = refl }
-
 -- ---- The end of a list
 
 only_top : {H K : Type 0} (v : H → K) (o : OpenNodes H) → map_open v o ≡ Top → o ≡ Top

@@ -77,6 +77,9 @@ impl<'m, 'a> Folder<'m, 'a> {
         ensures named { labels.new.named ≡ labels.old.named }
         ensures synthesizes { labels.new.synthesizes ≡ labels.old.synthesizes }
     {
+        if out.has_failed() {
+            return;
+        }
         let Ok(folded) = self
             .tree
             .fold(&self.callees, setting, labels, own, hints, expression)

@@ -1,4 +1,4 @@
-//! The texts of nodes in one buffer, and a function that writes nodes to any printer without recursion.
+//! The texts of nodes in one buffer, and a function that writes nodes to any output without recursion.
 #![tactic(auto)]
 
 pub mod rows;

@@ -1,4 +1,4 @@
-//! Writing nodes to any printer without recursion.
+//! Writing nodes to any output without recursion.
 ghost use Rattle.std.specs.Prelude.{◌≡◌, ◌+◌, ◌&&◌, [], ◌∷◌, ℕ, true, Some};
 ghost use Rattle.std.specs.Option.{is_none};
 ghost use Rattle.wasmprinter_spec.specs.Options.{defaults};

@@ -75,7 +75,7 @@ fn put_held<'a>(tasks: &mut Vec<Task<'a>>, held: &'a [Node], depth: u64) -> Resu
     }
 }
 
-/// Pushes the rest of a task whose front was written.
+/// Pushes what follows the front of a task.
 ///
 /// # Errors
 ///

@@ -1,4 +1,4 @@
-//! Shared code for printing the fields of a module to any printer (section 6.6 of the WebAssembly Core
+//! Shared code for printing the fields of a module to any output (section 6.6 of the WebAssembly Core
 //! Specification): the scope, declarations, indices, types and type uses, headers of functions and tags, and
 //! constant expressions.
 #![tactic(auto)]

@@ -1,4 +1,4 @@
-use Rattle.std.proofs.Common.{◌∙◌}
+use Rattle.std.proofs.Common.{◌∙◌, sym}
 use Rattle.wasmprinter_scope.specs.Scopes.{scope_view}
 use Rattle.wasmprinter_fields.proofs.Constants.{expressions-none, expressions-next}
 use Rattle.wasmprinter_fields.proofs.elements.write_expression_items.Goals as goal
@@ -12,6 +12,9 @@ loop-expression-preserved g c =
       rest = λ t w. c.loop-expression.invariant.rest t (rw step (g.met.O.Output.pieces_then _ _ _ _ _ wrote w));
       scope = c.write_expression_item.ensures.scope ∙ c.loop-expression.invariant.scope;
     }
+
+pub returns-then-has_failed-clause-pieces : goal.returns-then-has_failed-clause-pieces
+returns-then-has_failed-clause-pieces g c = c.loop-expression.invariant.rest _ (g.met.O.Output.pieces_skipped _ _ (sym c.has_failed.ensures ∙ c.if-has_failed.true))
 
 pub returns : goal.returns
 returns g c =

@@ -1,4 +1,4 @@
-use Rattle.std.proofs.Common.{◌+◌, ◌∙◌}
+use Rattle.std.proofs.Common.{◌+◌, ◌∙◌, sym}
 use Rattle.wasmprinter_scope.specs.Scopes.{scope_view}
 use Rattle.wasmprinter_fields.specs.Parts.{field_line}
 use Rattle.wasmprinter_fields.proofs.Numbering.{numbered_pieces-next, numbered_pieces-none}
@@ -13,6 +13,9 @@ loop-index-preserved g c =
       rest = λ t w. c.loop-index.invariant.rest t (rw step (g.met.O.Output.pieces_then _ _ _ _ _ wrote w));
       scope = c.write_field.ensures.scope ∙ c.loop-index.invariant.scope;
     }
+
+pub returns-then-has_failed-clause-pieces : goal.returns-then-has_failed-clause-pieces
+returns-then-has_failed-clause-pieces g c = c.loop-index.invariant.rest _ (g.met.O.Output.pieces_skipped _ _ (sym c.has_failed.ensures ∙ c.if-has_failed.true))
 
 pub returns : goal.returns
 returns g c =

@@ -1,5 +1,5 @@
 use Rattle.std.specs.Prelude.{◌≡◌, refl}
-use Rattle.std.proofs.Common.{arith, ap, ◌∙◌}
+use Rattle.std.proofs.Common.{arith, ap, ◌∙◌, sym}
 use Rattle.wasmprinter_spec.specs.Layout.Imports.{number_of, numbers_after}
 use Rattle.wasmprinter_entries.specs.Externs.{extern_view}
 use Rattle.wasmprinter_scope.specs.Scopes.{scope_view}
@@ -25,6 +25,9 @@ loop-import-preserved g c =
       scope = c.write_field.ensures.scope ∙ c.loop-import.invariant.scope;
       count = omega (arith, ap total after, total-after item.value.type c.loop-import.numbers, c.loop-import.invariant.count);
     }
+
+pub returns-then-has_failed-clause-pieces : goal.returns-then-has_failed-clause-pieces
+returns-then-has_failed-clause-pieces g c = c.loop-import.invariant.rest _ (g.met.O.Output.pieces_skipped _ _ (sym c.has_failed.ensures ∙ c.if-has_failed.true))
 
 pub returns : goal.returns
 returns g c =

@@ -1,5 +1,5 @@
 use Rattle.std.specs.Prelude.{◌≡◌, length}
-use Rattle.std.proofs.Common.{ap, arith, ◌∙◌}
+use Rattle.std.proofs.Common.{ap, arith, ◌∙◌, sym}
 use Rattle.wasmprinter_labels.specs.Scan.{names_of}
 use Rattle.wasmprinter_fields.proofs.TypeFields.{groups-next, groups-none, after-next}
 use Rattle.wasmprinter_fields.proofs.types.write_type_groups.Goals as goal
@@ -13,6 +13,9 @@ loop-group-preserved g c =
       rest = rw len (λ t w. c.loop-group.invariant.rest t (rw step (g.met.O.Output.pieces_then _ _ _ _ _ c.write_group.ensures w)));
       count = omega (arith, len, c.loop-group.invariant.count, after-next c.loop-group.group-index c.args.groups.now item item c.loop-group-test.true c.group-item.is);
     }
+
+pub returns-then-has_failed : goal.returns-then-has_failed
+returns-then-has_failed g c = c.loop-group.invariant.rest _ (g.met.O.Output.pieces_skipped _ _ (sym c.has_failed.ensures ∙ c.if-has_failed.true))
 
 pub returns : goal.returns
 returns g c =

@@ -1,5 +1,5 @@
 use Rattle.std.specs.Prelude.{length}
-use Rattle.std.proofs.Common.{ap, arith}
+use Rattle.std.proofs.Common.{ap, arith, sym, ◌∙◌}
 use Rattle.wasmprinter_labels.specs.Scan.{names_of}
 use Rattle.wasmprinter_fields.specs.TypeLines.{listed_pieces}
 use Rattle.wasmprinter_fields.proofs.TypeFields.{types-none, types-next}
@@ -13,6 +13,9 @@ loop-sub_type-preserved g c =
       rest = λ t w. c.loop-sub_type.invariant.rest t (rw step (g.met.O.Output.pieces_then _ _ _ _ _ c.write_listed.ensures w));
       count = omega (arith, c.loop-sub_type.invariant.count, ap length c.in-Some.ensures.steps);
     }
+
+pub returns-then-has_failed : goal.returns-then-has_failed
+returns-then-has_failed g c = c.loop-sub_type.invariant.rest _ (g.met.O.Output.pieces_skipped _ _ (sym c.has_failed.ensures ∙ c.if-has_failed.true))
 
 pub returns : goal.returns
 returns g c =

@@ -1,9 +1,12 @@
 use Rattle.std.specs.Prelude.{List}
-use Rattle.std.proofs.Common.{sym, subst}
+use Rattle.std.proofs.Common.{sym, subst, ◌∙◌}
 use Rattle.wasmprinter_spec.specs.Piece.{Piece}
 use Rattle.wasmprinter_flat_text.specs.Settings.{setting_among}
 use Rattle.wasmprinter_fold.proofs.Lists.{nothing_of, texts_there, layout_of}
 use Rattle.wasmprinter_fold.proofs.folder.Folder.write.Goals as goal
+
+pub returns-then-has_failed-clause-writes : goal.returns-then-has_failed-clause-writes
+returns-then-has_failed-clause-writes g c = g.met.O.Output.pieces_skipped _ _ (sym c.has_failed.ensures ∙ c.if-has_failed.true)
 
 pub returns-then-not-folded-clause-writes : goal.returns-then-not-folded-clause-writes
 returns-then-not-folded-clause-writes g c =
