@@ -1,7 +1,7 @@
 -- The outcome of a run that ends with an error.
 use Rattle.std.specs.Prelude.{◌≡◌, ℕ, List, Option, Some, None}
 use Rattle.std.proofs.Common.{sym, ◌∙◌, arith}
-use Rattle.wasmprinter_error.specs.declared.error.Error.{Error}
+use Rattle.wasmprinter_bytes.specs.declared.error.Error.{Error}
 use Rattle.wasmprinter.specs.TextOfFile.{Reading}
 use Rattle.printwasm.specs.Words.{named_file, choice_of}
 use Rattle.printwasm.specs.Outcome.{TextWrite, FailsToWrite, Rendering, ReportsError, HasOutcome}

@@ -3,13 +3,16 @@
 use Rattle.std.specs.Prelude.{◌≡◌, ℕ, ◌≤◌, ◌⊎◌, ◌↔◌, List, [], ◌∷◌, ◌++◌, Bool, true, false, Option, Some, None, Result, Ok, Err, codes}
 use Rattle.std.specs.Fmt.{◌++?◌}
 use Rattle.std.specs.declared.io.Error.{Error as IoError}
-use Rattle.wasmprinter_error.specs.declared.error.Error.{Error}
-use Rattle.wasmprinter_error.specs.declared.error.Error.TheVariants.{Printer}
+use Rattle.std.specs.declared.string.String.{String}
+use Rattle.wasmprinter_bytes.specs.declared.error.Error.{Error}
+use Rattle.wasmprinter_bytes.specs.declared.error.Error.TheVariants.{Printer}
 use Rattle.wasmprinter_spec.specs.Options.{Options}
 use Rattle.wasmprinter.specs.Printed.{IsTextOf}
 use Rattle.wasmprinter.specs.Colored.{HasColoredTextBy}
 use Rattle.wasmprinter.specs.TextOfFile.{Reading, IsRefusedBy}
-use Rattle.printwasm.specs.Words.{Choice, named_file, choice_of}
+use Rattle.printwasm.specs.Words.{Choice, named_file, choice_of, AreWordsOf, WantsWords}
+use Rattle.printwasm.specs.Unread.{words_error}
+use Rattle.printwasm.specs.declared.rendering.WordsError.{WordsError}
 
 -- The possible results of writing a text, with the states of the sink before and after. The text is `None` if no
 -- contract specifies it.
@@ -63,22 +66,43 @@ Rendering X = X → Option (List ℕ) → Type 0
 abbrev pub ReportsError : {V X : Type 0} → TextWrite V → V → V → Rendering X → X → Type 0
 ReportsError reports old new renders error = (text : Option (List ℕ)) × renders error text × Tells reports old new (error_line text)
 
+-- The exit statuses.
+abbrev pub printed_status : ℕ
+printed_status = 0
+
+abbrev pub refused_status : ℕ
+refused_status = 1
+
+abbrev pub misused_status : ℕ
+misused_status = 2
+
 -- The outcome of a run with these words, where errors have the texts that `renders` gives.
--- The status is 2 exactly if the words do not name one file, with only options of the program besides it. Then the
--- output is unchanged, and the usage line was written to the error output.
--- If the status is 0, the text of the module in the named file, in the chosen form, was written completely, and
+-- The status is `misused_status` exactly if the words do not name one file, with only options of the program besides
+-- it. Then the output is unchanged, and the usage line was written to the error output.
+-- If it is `printed_status`, the text of the module in the named file, in the chosen form, was written completely, and
 -- nothing was reported.
--- If the status is 1, the module was not printed, for an error that was reported.
+-- If it is `refused_status`, the module was not printed, for an error that was reported.
 pub record HasOutcome {W V : Type 0} (gives : List ℕ → Reading) (takes : TextWrite W) (reports : TextWrite V) (renders : Rendering Error)
     (words : List (List ℕ)) (out new_out : W) (err new_err : V) (status : ℕ) : Type 0 where
-  pub usage : (status ≡ 2) ↔ (named_file words ≡ None)
-  pub bound : status ≤ 2
-  pub silent : status ≡ 2 → new_out ≡ out
-  pub misused : status ≡ 2 → Tells reports err new_err (Some usage_line)
-  pub printed : status ≡ 0 →
+  pub usage : (status ≡ misused_status) ↔ (named_file words ≡ None)
+  pub bound : status ≤ misused_status
+  pub silent : status ≡ misused_status → new_out ≡ out
+  pub misused : status ≡ misused_status → Tells reports err new_err (Some usage_line)
+  pub printed : status ≡ printed_status →
       (file : List ℕ) × (named_file words ≡ Some file) × WritesModuleText (choice_of words) (gives file) takes out new_out (Ok tt)
-  pub quiet : status ≡ 0 → new_err ≡ err
-  pub refused : status ≡ 1 →
+  pub quiet : status ≡ printed_status → new_err ≡ err
+  pub refused : status ≡ refused_status →
       (file : List ℕ) × (error : Error) × (named_file words ≡ Some file)
       × FailsToWrite (choice_of words) (gives file) takes out new_out error
       × ReportsError reports err new_err renders error
+
+-- The arguments were read as words, and the run with these words has its outcome.
+abbrev pub RunsWithWords : {I A W V : Type 0} → (I → Option (String A) → I → Type 0) → Result I IoError → (List ℕ → Reading) → TextWrite W → TextWrite V →
+    Rendering Error → W → W → V → V → ℕ → Type 0
+RunsWithWords next_gives args gives takes reports renders out new_out err new_err status =
+    (words : List (List ℕ)) × AreWordsOf next_gives args words × HasOutcome gives takes reports renders words out new_out err new_err status
+
+-- The arguments can't be read. The error was reported, the output is unchanged, and the status is `refused_status`.
+abbrev pub RefusesArguments : {I W V : Type 0} → Result I IoError → TextWrite V → Rendering WordsError → W → W → V → V → ℕ → Type 0
+RefusesArguments args reports renders out new_out err new_err status =
+    (error : IoError) × WantsWords args error × ReportsError reports err new_err renders (words_error error) × (new_out ≡ out) × (status ≡ refused_status)

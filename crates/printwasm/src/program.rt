@@ -1,13 +1,11 @@
 //! The program's behavior for its arguments, generic over the source of files, the texts of errors and the two
 //! sinks.
-ghost use Rattle.std.specs.Prelude.{◌≡◌, ◌↔◌, ℕ, ◌⊎◌, List, Ok, map, option_copied, OnOk, IfOk, IfErr, IsErrOf, string_bytes};
+ghost use Rattle.std.specs.Prelude.{◌≡◌, ◌↔◌, ◌⊎◌, Ok, map, option_copied, OnOk, IfOk, IfErr, IsErrOf, string_bytes};
 ghost use Rattle.std.specs.Iterator.{IsFinite};
 ghost use Rattle.std.specs.Process.{exit_status};
-ghost use Rattle.std.specs.declared.io.Error.{Error as IoError};
 ghost use Rattle.wasmprinter_spec.specs.Binary.{IsComponent};
-ghost use Rattle.printwasm.specs.Unread.{words_error};
 ghost use Rattle.printwasm.specs.Words.{AreWordsOf, WantsWords, is_option, is_known, named_file, has, choice_of};
-ghost use Rattle.printwasm.specs.Outcome.{IsTextBy, GivesText, GivesNoText, WritesModuleText, FailsToWrite, ReportsError, HasOutcome};
+ghost use Rattle.printwasm.specs.Outcome.{IsTextBy, GivesText, GivesNoText, WritesModuleText, FailsToWrite, ReportsError, HasOutcome, RunsWithWords, RefusesArguments};
 ghost use Rattle.wasmprinter.specs.Outcome.{HasListedTextCause, IsSoundTextRefusal};
 
 use crate::rendering::{Render, WordsError};
@@ -85,12 +83,10 @@ where
     E: Sink,
     requires can { IfOk args I.can_next }
     requires finite { IfOk args (λ all. IsFinite (I.remaining all)) }
-    ensures { ((words : List (List ℕ)) × AreWordsOf I.next_gives args words
-        × HasOutcome (S.gives source.now) O.takes E.takes (⟦<R as Render<Error>>⟧.renders renderer.now)
-        words out.old out.new err.old err.new (exit_status result))
-        ⊎ ((error : IoError) × WantsWords args error
-        × ReportsError E.takes err.old err.new (⟦<R as Render<WordsError>>⟧.renders renderer.now) (words_error error)
-        × (out.new ≡ out.old) × (exit_status result ≡ 1)) }
+    ensures { RunsWithWords I.next_gives args (S.gives source.now) O.takes E.takes (⟦<R as Render<Error>>⟧.renders renderer.now)
+        out.old out.new err.old err.new (exit_status result)
+        ⊎ RefusesArguments args E.takes (⟦<R as Render<WordsError>>⟧.renders renderer.now)
+        out.old out.new err.old err.new (exit_status result) }
 {
     let status = match words_of(alloc, args) {
         Ok(words) => run(source, renderer, alloc, &words, out, err),

@@ -26,7 +26,7 @@ impl<'a> Comparing<'a> {
     }
 
     /// Returns a printer whose expected text contains every call, in the notation of the recorder of
-    /// `wasmprinter_recorder`: a line that starts at byte N is `[N]`, a line without a place is `[]`, a style is a
+    /// `wasmprinter_samples`: a line that starts at byte N is `[N]`, a line without a place is `[]`, a style is a
     /// letter in braces, and a claim is `{? NAME PLACE BYTES}`.
     pub fn with_calls(text: &'a str) -> Comparing<'a> {
         Comparing {

@@ -508,7 +508,7 @@ pub const FOLDED_OPERANDS_COLORED: &str = "(\x1b[0m\x1b[1m\x1b[38;5;11mmodule\x1
 )
 ";
 
-/// The calls, in the notation of the recorder of `wasmprinter_recorder`.
+/// The calls, in the notation of the recorder of `wasmprinter_samples`.
 pub const FOLDED_OPERANDS_CALLS: &str = "[0x0]({K}module{R}
 [0xb]  ({K}type {R}{N}(;0;){R} ({K}func{R} ({K}param{R} {T}i32{R}) ({K}result{R} {T}i32{R})))
 [0x13]  ({K}import {R}{L}\"\"{R} {L}\"\"{R} ({K}func {R}{N}(;0;){R} \

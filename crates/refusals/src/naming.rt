@@ -8,7 +8,7 @@ use std::fmt::Write;
 use std::io::ErrorKind;
 use wasmprinter::text::{write_bytes, write_quoted};
 use wasmprinter::{Error, Print};
-use wasmprinter_tracker::LineTracker;
+use wasmprinter_writers::LineTracker;
 
 /// The number of characters that each of the first four entries of `LETTERS` has.
 const LETTERS_LEN: usize = 8;

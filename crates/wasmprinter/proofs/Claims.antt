@@ -14,7 +14,7 @@ use Rattle.wasmprinter_spec.specs.Layout.Groups.{close, has_break, group_at}
 use Rattle.wasmprinter_spec.specs.Layout.Identifiers.{leading_id_and_name_pieces}
 use Rattle.wasmprinter_spec.specs.Layout.Customs.{Part, Shown, Stops, Laid, laid_parts, custom_part, same_place, parts_at}
 use Rattle.wasmprinter_spec.proofs.Each.{all_both, all_parts}
-use Rattle.wasmprinter_output.specs.MadeLaws.{all_calls-append}
+use Rattle.wasmprinter_print.specs.EffectLaws.{all_calls-append}
 use Rattle.wasmprinter.specs.Printed.{no_claims}
 
 -- ---- Calls that are alike

@@ -8,8 +8,8 @@ use Rattle.wasmprinter_spec.specs.Colored.{colored_bytes, colored_text}
 use Rattle.wasmprinter_spec.specs.Options.{Options, in_colors}
 use Rattle.wasmprinter_spec.specs.Layout.{layout, refusal}
 use Rattle.wasmprinter_spec.proofs.Texts.{alike_colored}
-use Rattle.wasmprinter_reading.proofs.Main.{prints_plain_text}
-use Rattle.wasmprinter_colors.proofs.Texts.{colored_text_keeps}
+use Rattle.wasmprinter_laws.proofs.Main.{prints_plain_text}
+use Rattle.wasmprinter_laws.proofs.Colored.Texts.{colored_text_keeps}
 use Rattle.wasmprinter.specs.AnsiText.{ansi_text_meaning}
 use Rattle.wasmprinter.specs.Printed.{Printed, no_claims}
 use Rattle.wasmprinter.specs.Colored.{HasColoredTextBy}
@@ -40,7 +40,7 @@ printed_in_colors o bytes old new empty v =
       foldable = v.foldable;
       accepted = own.refusal;
       is = is;
-      bare = λ blank.
+      bare = λ spaces.
           module_text o bytes v.placed v.spelled v.within v.foldable accepted (uncolor new)
-          (ap uncolor is ∙ colored_text_keeps prints_plain_text bytes v.placed by no_claims v.spelled blank);
+          (ap uncolor is ∙ colored_text_keeps prints_plain_text bytes v.placed by no_claims v.spelled spaces);
     }

@@ -15,9 +15,9 @@ use Rattle.wasmprinter_spec.specs.Text.Hints.{text_hints}
 use Rattle.wasmprinter_spec.specs.Read.{read}
 use Rattle.wasmprinter_print.specs.Emits.{Whole}
 use Rattle.wasmprinter_spec.proofs.Texts.{alike_texts}
-use Rattle.wasmprinter_reading.proofs.Main.{reads_back, prints_plain_text}
-use Rattle.wasmprinter_reading.proofs.Hints.Kept.{hints_stay}
-use Rattle.wasmprinter_colors.proofs.Texts.{color_adds_sequences, texts_contain_colors}
+use Rattle.wasmprinter_laws.proofs.Main.{reads_back, prints_plain_text}
+use Rattle.wasmprinter_laws.proofs.Hints.Kept.{hints_stay}
+use Rattle.wasmprinter_laws.proofs.Colored.Texts.{color_adds_sequences, texts_contain_colors}
 use Rattle.wasmprinter.specs.Printed.{Printed, no_claims}
 use Rattle.wasmprinter.proofs.Claims.{alike_unclaimed, unclaimed_layout}
 use Rattle.wasmprinter.proofs.ColorRefusals.{refusal-color}
@@ -35,7 +35,7 @@ printed m colors o bytes placed answers spelled within foldable accepted made =
     let plainly : Options = in_colors o false in
     let same : text_of made.calls ≡ text_of (layout by answers placed) = alike_texts made.calls (layout by answers placed) made.alike in
     let uncolored : IsBlank o.indent → uncolor (text_of made.calls) ≡ text_of (layout plainly answers placed) =
-    λ blank. ap uncolor same ∙ color_adds_sequences prints_plain_text bytes placed by answers spelled blank in
+    λ spaces. ap uncolor same ∙ color_adds_sequences prints_plain_text bytes placed by answers spelled spaces in
     record {
       placed = placed;
       spelled = spelled;
@@ -46,15 +46,15 @@ printed m colors o bytes placed answers spelled within foldable accepted made =
       calls = made.calls;
       run = made.run;
       alike = made.alike;
-      bare = λ blank. texts_contain_colors prints_plain_text bytes placed by answers spelled blank;
+      bare = λ spaces. texts_contain_colors prints_plain_text bytes placed by answers spelled spaces;
       uncolored = uncolored;
-      reads = λ indexed whole blank asked.
+      reads = λ indexed whole spaces asked.
           let own = unclaimed_layout by answers placed accepted (alike_unclaimed made.calls (layout by answers placed) made.alike asked) in
-          ap read (ap uncolor (same ∙ ap text_of own.layout) ∙ color_adds_sequences prints_plain_text bytes placed by no_claims spelled blank)
-          ∙ reads_back bytes placed plainly no_claims spelled indexed within.tables whole refl blank (λ n. refl) (foldable_in o false placed foldable)
+          ap read (ap uncolor (same ∙ ap text_of own.layout) ∙ color_adds_sequences prints_plain_text bytes placed by no_claims spelled spaces)
+          ∙ reads_back bytes placed plainly no_claims spelled indexed within.tables whole refl spaces (λ n. refl) (foldable_in o false placed foldable)
           (refusal-color o false colors no_claims placed ∙ own.refusal);
-      hints = λ hs whole blank given.
-          ap text_hints (uncolored blank)
-          ∙ hints_stay bytes placed plainly answers hs spelled whole refl blank (foldable_in o false placed foldable) (refusal-color o false colors answers placed ∙ accepted) given;
-      plain = λ blank none. subst IsPlainText (sym same) (prints_plain_text bytes placed by answers spelled none blank);
+      hints = λ hs whole spaces given.
+          ap text_hints (uncolored spaces)
+          ∙ hints_stay bytes placed plainly answers hs spelled whole refl spaces (foldable_in o false placed foldable) (refusal-color o false colors answers placed ∙ accepted) given;
+      plain = λ spaces none. subst IsPlainText (sym same) (prints_plain_text bytes placed by answers spelled none spaces);
     }

@@ -11,15 +11,15 @@ use Rattle.wasmprinter_spec.specs.Repeated.{until_end}
 use Rattle.wasmprinter_spec.specs.Binary.{Spells, binary, customs_in, type_indices_in, bodies_in, data_count_in, datas_in, function_pairs, counts_data, module_from}
 use Rattle.wasmprinter_spec.specs.Names.{Naming, names_by}
 use Rattle.wasmprinter_spec.specs.Options.{Options}
-use Rattle.wasmprinter_names.specs.Views.{NamedItem, name_at}
-use Rattle.wasmprinter_labels.specs.Scan.{Scan, names_of}
+use Rattle.wasmprinter_custom.specs.Views.{NamedItem, name_at}
+use Rattle.wasmprinter_flat.specs.OpenLabels.Scan.{Scan, names_of}
 use Rattle.wasmprinter_spec.specs.Names.Section.{Entry}
 use Rattle.wasmprinter_spec.specs.Names.Content.{name_of}
 use Rattle.wasmprinter_spec.specs.ModuleNames.{name_entries, module_names}
 use Rattle.wasmprinter_spec.proofs.Ordered.{picks}
-use Rattle.wasmprinter_entries.specs.Refusals.{HasCustom, KeepsSome}
+use Rattle.wasmprinter_wasm.specs.Refusals.{HasCustom, KeepsSome}
 use Rattle.wasmprinter_wasm.specs.Decoding.{HoldsSome, IsRefusal}
-use Rattle.wasmprinter_error.specs.declared.error.Error.TheVariants.{Memory}
+use Rattle.wasmprinter_bytes.specs.declared.error.Error.TheVariants.{Memory}
 
 -- ---- Identifiers
 

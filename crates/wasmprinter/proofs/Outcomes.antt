@@ -13,21 +13,21 @@ use Rattle.wasmprinter_spec.specs.Piece.{all_calls}
 use Rattle.wasmprinter_spec.specs.Layout.{module_pieces, layout, refusal}
 use Rattle.wasmprinter_spec.specs.Layout.Customs.{Laid}
 use Rattle.wasmprinter_print.specs.Emits.{Made, Broken, Begun, Ending, Through, AtCall, Stopped, Never, at_growth}
-use Rattle.wasmprinter_error.specs.declared.error.Error.{Error}
-use Rattle.wasmprinter_error.specs.declared.error.Error.TheVariants.{Malformed, Component, TooManyLocals, TooManyFunctions, EmptyTableInit, FoldLegacy, FoldHint, DylinkSubsection, Unreadable, Printer, Memory}
+use Rattle.wasmprinter_bytes.specs.declared.error.Error.{Error}
+use Rattle.wasmprinter_bytes.specs.declared.error.Error.TheVariants.{Malformed, Component, TooManyLocals, TooManyFunctions, EmptyTableInit, FoldLegacy, FoldHint, DylinkSubsection, Unreadable, Printer, Memory}
 use Rattle.std.specs.declared.io.Error.{Error as IoError}
 use Rattle.wasmprinter_wasm.specs.Decoding.{IsRefusal}
 use Rattle.wasmprinter_sections.specs.Endings.{PrintsLaid}
 use Rattle.wasmprinter_sections.specs.Sections.{module_laid}
 use Rattle.wasmprinter_spec.specs.Call.{Call}
 use Rattle.wasmprinter_spec.specs.Folding.Refusals.{IsFoldable}
-use Rattle.wasmprinter_foldable.specs.Refused.{HasFoldReason}
+use Rattle.wasmprinter_fold.specs.Refused.{HasFoldReason}
 use Rattle.wasmprinter.specs.Printed.{Printed}
 use Rattle.wasmprinter.specs.Outcome.{HasListedCause, HasListedTextCause, IsSoundRefusal, IsSoundTextRefusal, IsLegacyAt, IsMisplacedAt, AnyIsRefused, MadeUpTo, Leaves, as_growth}
 use Rattle.wasmprinter_spec.specs.Names.Content.{name_of}
 use Rattle.wasmprinter_spec.specs.ModuleNames.{name_entries, module_names}
-use Rattle.wasmprinter_names.specs.Views.{NamedItem, name_at}
-use Rattle.wasmprinter_labels.specs.Scan.{Scan, names_of}
+use Rattle.wasmprinter_custom.specs.Views.{NamedItem, name_at}
+use Rattle.wasmprinter_flat.specs.OpenLabels.Scan.{Scan, names_of}
 use Rattle.wasmprinter.proofs.Headline.{printed}
 use Rattle.wasmprinter.proofs.Named.{shown_names, one_module}
 use Rattle.wasmprinter.proofs.Subsections.{refusal_unknown, refused_unknown, made_refused}
@@ -126,13 +126,13 @@ module _ {P : Type 0} (m : Meaning P) (colors : Bool) (o : Options) (bytes : Lis
   made r v = v
 
   -- The result of printing, with the calls that were made.
-  abbrev Ended : Result (Unit {0}) Error → Type 0
-  Ended r = PrintsLaid m by old new r (own_laid by answers placed)
+  abbrev AsLaid : Result (Unit {0}) Error → Type 0
+  AsLaid r = PrintsLaid m by old new r (own_laid by answers placed)
 
   -- A module that was written with the names of its sections was printed as its own layout says.
   pub own_ended : (r : Result (Unit {0}) Error) (s : Scan) (items : List NamedItem) → s.named ≡ items → s.synthesizes ≡ o.synthesizes →
       ((t outer index : ℕ) → name_at items t outer index ≡ name_of (name_entries placed.customs) t outer index) →
-      PrintsLaid m by old new r (module_laid by answers (names_of s) placed) → Ended r
+      PrintsLaid m by old new r (module_laid by answers (names_of s) placed) → AsLaid r
   own_ended r s items same synthesizes given v = subst (λ (l : Laid). PrintsLaid m by old new r l) (own_layout by answers placed s items same synthesizes given) v
 
   never : Made m old new Never (all_calls by (module_pieces by answers placed)) → ⊥
@@ -143,54 +143,54 @@ module _ {P : Type 0} (m : Meaning P) (colors : Bool) (o : Options) (bytes : Lis
   module _ (r : Result (Unit {0}) Error) where
     with_folds : (Q : Error → Type 0) → ((x : IoError) → Broken m old new x (layout by answers placed) → Q (Printer x)) →
         ((id : ℕ) → MadeUpTo m old new id by placed answers → Q (DylinkSubsection id)) → (o.folds ≡ true → Begun m old new (layout by answers placed) → Q Memory) →
-        Ended r → IfErr r Q
+        AsLaid r → IfErr r Q
     with_folds Q failed refused stopped v = by_result r v
       where
         by_growth : (b : Bool) → o.folds ≡ b → Made m old new (at_growth b) (all_calls by (module_pieces by answers placed)) → Q Memory
         by_growth true k v = stopped k (made Stopped v).made
         by_growth false k v = absurd (never v)
 
-        by_error : (e : Error) → Ended (Err e) → Q e
+        by_error : (e : Error) → AsLaid (Err e) → Q e
         by_error Memory v = by_growth o.folds refl v.made
         by_error (DylinkSubsection id) v = refused id (record { ends = v.refused; made = (made Through v.made).made })
         by_error (Printer x) v = failed x (made (AtCall x) v.made).made
         by_error _ v = absurd (never v.made)
 
-        by_result : (r : Result (Unit {0}) Error) → Ended r → IfErr r Q
+        by_result : (r : Result (Unit {0}) Error) → AsLaid r → IfErr r Q
         by_result (Ok x) v = tt
         by_result (Err e) v = by_error e v
 
     -- Each error of printing has its cause: a failed call, a refused section, or a failed allocation.
-    pub ended_caused : Ended r → IfErr r (HasListedCause m o bytes old new)
+    pub ended_caused : AsLaid r → IfErr r (HasListedCause m o bytes old new)
     ended_caused v =
         with_folds (HasListedCause m o bytes old new) (λ x b other s. record { calls = b.calls; before = b.before; run = b.run; call = b.call; failed = b.failed })
         (λ id u other s. subst (λ (n : PlacedModule). AnyIsRefused m old new id n.customs) (one_module bytes placed other spelled s) (made_refused m old new by id answers placed u))
         (λ folds b other s. inr folds) v
 
     -- Each error of printing is true of the bytes.
-    pub ended_true : Ended r → IfErr r (IsSoundRefusal o bytes)
+    pub ended_true : AsLaid r → IfErr r (IsSoundRefusal o bytes)
     ended_true v =
         with_folds (IsSoundRefusal o bytes) (λ x b. record { placed = placed; spelled = spelled; within = within })
         (λ id u. record { placed = placed; spelled = spelled; within = within; so = refusal_unknown by answers placed id u.ends })
         (λ folds b. inr (folds, record { placed = placed; spelled = spelled; within = within })) v
 
     -- After an error of printing, the calls that were made are those up to the error.
-    pub ended_left : Ended r → IfErr r (Leaves m colors o bytes old new)
+    pub ended_left : AsLaid r → IfErr r (Leaves m colors o bytes old new)
     ended_left v =
         with_folds (Leaves m colors o bytes old new) (λ x b. record { placed = placed; spelled = spelled; within = within; foldable = foldable; answers = answers; left = b })
         (λ id u. record { placed = placed; spelled = spelled; within = within; foldable = foldable; answers = answers; left = u })
         (λ folds b. inr (folds, record { placed = placed; spelled = spelled; within = within; foldable = foldable; answers = answers; left = b })) v
 
   -- If writing succeeds, the module was printed.
-  pub ended_printed : (r : Result (Unit {0}) Error) → Ended r → OnOk r (Printed m colors o bytes old new)
+  pub ended_printed : (r : Result (Unit {0}) Error) → AsLaid r → OnOk r (Printed m colors o bytes old new)
   ended_printed (Ok x) v = printed m colors o bytes placed answers spelled within foldable v.refused (made Through v.made).made
   ended_printed (Err e) v = tt
 
   -- Printing does not return `Component`.
-  not_marked : (r : Result (Unit {0}) Error) → Ended r → r ≡ Err Component → ⊥
-  not_marked r v e = never (subst (λ (q : Result (Unit {0}) Error). Ended q) e v).made
+  not_marked : (r : Result (Unit {0}) Error) → AsLaid r → r ≡ Err Component → ⊥
+  not_marked r v e = never (subst (λ (q : Result (Unit {0}) Error). AsLaid q) e v).made
 
-  pub ended_unmarked : (r : Result (Unit {0}) Error) → Ended r → (r ≡ Err Component) ↔ IsComponent bytes
+  pub ended_unmarked : (r : Result (Unit {0}) Error) → AsLaid r → (r ≡ Err Component) ↔ IsComponent bytes
   ended_unmarked r v = (λ e. absurd (not_marked r v e), λ c. absurd (not_component bytes placed spelled c))
 
 -- If a module can't be folded, the error is not `Component`, and the bytes are not marked as a component.

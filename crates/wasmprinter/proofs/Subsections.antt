@@ -16,7 +16,7 @@ use Rattle.wasmprinter_spec.specs.Layout.{early_scope, section_pieces, section_o
 use Rattle.wasmprinter_spec.specs.Layout.Customs.{Part, Shown, Stops, Laid, laid_parts, role_part, custom_part, same_place, parts_at}
 use Rattle.wasmprinter_print.specs.EmitsLaws.{atoms-append}
 use Rattle.wasmprinter_print.specs.Emits.{Whole}
-use Rattle.wasmprinter_output.specs.MadeLaws.{all_calls-append}
+use Rattle.wasmprinter_print.specs.EffectLaws.{all_calls-append}
 use Rattle.wasmprinter_sections.proofs.Joined.{laid_after, joined-append}
 use Rattle.wasmprinter.specs.Outcome.{AnyIsUnknown, IsRefused, AnyIsRefused, MadeUpTo}
 

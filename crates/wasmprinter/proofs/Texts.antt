@@ -1,7 +1,7 @@
 -- The text that a printer in memory receives.
 use Rattle.std.specs.Prelude.{◌≡◌, ℕ, List, [], ◌∷◌, ◌++◌, Bool, false, None, Result, Ok, Err, IfOk, refl}
 use Rattle.std.specs.List.{AllByRecursion}
-use Rattle.wasmprinter_error.specs.declared.error.Error.{Error}
+use Rattle.wasmprinter_bytes.specs.declared.error.Error.{Error}
 use Rattle.std.proofs.Common.{sym, ap, subst, ◌∙◌, inl}
 use Rattle.wasmprinter_spec.specs.Call.{Call, IsUnclaimed, atoms, text_of}
 use Rattle.wasmprinter_spec.specs.Meaning.{Meaning, Run}
@@ -13,9 +13,9 @@ use Rattle.wasmprinter_spec.specs.Limits.{IsWithinLimits}
 use Rattle.wasmprinter_spec.specs.Layout.{layout, refusal}
 use Rattle.wasmprinter_spec.specs.Folding.Refusals.{IsFoldable}
 use Rattle.wasmprinter_spec.proofs.Texts.{alike_texts}
-use Rattle.wasmprinter_reading.proofs.Main.{reads_back, prints_plain_text}
+use Rattle.wasmprinter_laws.proofs.Main.{reads_back, prints_plain_text}
 use Rattle.wasmprinter_spec.specs.Read.{read}
-use Rattle.wasmprinter_reading.proofs.Hints.Kept.{hints_stay}
+use Rattle.wasmprinter_laws.proofs.Hints.Kept.{hints_stay}
 use Rattle.wasmprinter_spec.specs.Text.Hints.{text_hints}
 use Rattle.wasmprinter_print.specs.TextOnly.{text_only}
 use Rattle.wasmprinter_print.proofs.TextRuns.{takes_none, text_is_gained}
@@ -63,10 +63,10 @@ module_text o bytes placed spelled within foldable accepted text is =
       foldable = foldable;
       accepted = accepted;
       is = is;
-      plain = λ blank. subst IsPlainText (sym is) (prints_plain_text bytes placed by no_claims spelled refl blank);
-      reads = λ indexed whole blank.
-          ap read is ∙ reads_back bytes placed by no_claims spelled indexed within.tables whole refl blank (λ n. refl) can_fold accepted;
-      hints = λ hs whole blank given. ap text_hints is ∙ hints_stay bytes placed by no_claims hs spelled whole refl blank can_fold accepted given;
+      plain = λ spaces. subst IsPlainText (sym is) (prints_plain_text bytes placed by no_claims spelled refl spaces);
+      reads = λ indexed whole spaces.
+          ap read is ∙ reads_back bytes placed by no_claims spelled indexed within.tables whole refl spaces (λ n. refl) can_fold accepted;
+      hints = λ hs whole spaces given. ap text_hints is ∙ hints_stay bytes placed by no_claims hs spelled whole refl spaces can_fold accepted given;
     }
 
 -- If a module was printed to an empty text in memory, the result is the module's text.
@@ -78,8 +78,8 @@ printed_text o bytes old new empty v =
     module_text o bytes v.placed v.spelled v.within v.foldable own.accepted new
     (handed ∙ alike_texts v.calls (layout (in_colors o false) no_claims v.placed) own.alike)
 
-two_blanks : IsBlank defaults.indent
-two_blanks = (inl refl, (inl refl, tt))
+two_spaces : IsBlank defaults.indent
+two_spaces = (inl refl, (inl refl, tt))
 
 -- The same with the default options.
 pub default_text : (bytes text : List ℕ) → IsTextOf defaults bytes text → HasText bytes text
@@ -89,9 +89,9 @@ default_text bytes text v = record {
   within = v.within;
   accepted = v.accepted;
   is = v.is;
-  plain = v.plain two_blanks;
-  reads = λ indexed. v.reads indexed refl two_blanks;
-  hints = λ hs given. v.hints hs refl two_blanks given;
+  plain = v.plain two_spaces;
+  reads = λ indexed. v.reads indexed refl two_spaces;
+  hints = λ hs given. v.hints hs refl two_spaces given;
 }
 
 pub default_if_ok : {T : Type 0} (view : T → List ℕ) (bytes : List ℕ) (r : Result T Error) → IfOk r (λ t. IsTextOf defaults bytes (view t)) → IfOk r (λ t. HasText bytes (view t))

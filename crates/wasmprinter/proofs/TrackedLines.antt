@@ -3,8 +3,8 @@ use Rattle.std.specs.Prelude.{◌≡◌, ℕ, List, [], ◌∷◌, ◌++◌, fal
 use Rattle.std.specs.List.{AllByRecursion}
 use Rattle.std.specs.declared.io.Error.{Error as IoError}
 use Rattle.std.proofs.Common.{sym, ap, ◌∙◌, subst, append-nil, inl, inr}
-use Rattle.wasmprinter_error.specs.declared.error.Error.{Error}
-use Rattle.wasmprinter_error.specs.declared.error.Error.TheVariants.{Malformed, Component, TooManyLocals, TooManyFunctions, EmptyTableInit, FoldLegacy, FoldHint, DylinkSubsection, Printer, Memory}
+use Rattle.wasmprinter_bytes.specs.declared.error.Error.{Error}
+use Rattle.wasmprinter_bytes.specs.declared.error.Error.TheVariants.{Malformed, Component, TooManyLocals, TooManyFunctions, EmptyTableInit, FoldLegacy, FoldHint, DylinkSubsection, Printer, Memory}
 use Rattle.wasmprinter_spec.specs.Placed.{PlacedModule}
 use Rattle.wasmprinter_spec.specs.Call.{Call, IsUnclaimed, text_of, atoms}
 use Rattle.wasmprinter_spec.specs.Meaning.{Run}
@@ -13,13 +13,13 @@ use Rattle.wasmprinter_spec.specs.Layout.{layout}
 use Rattle.wasmprinter_spec.specs.Lines.{TextLine, lines_of, joined_lines, line_places, hint_places, HasFunctionLines}
 use Rattle.wasmprinter_spec.proofs.Texts.{alike_texts, alike_lines}
 use Rattle.wasmprinter_print.specs.Emits.{Broken, Begun}
-use Rattle.wasmprinter_tracker.specs.declared.lines.LineStart.{LineStart}
-use Rattle.wasmprinter_tracker.specs.Cuts.{lines_at_starts}
-use Rattle.wasmprinter_tracker.specs.Tracked.{Tracked, without_lines}
-use Rattle.wasmprinter_tracker.specs.Tracking.{tracked_meaning, Tracks}
-use Rattle.wasmprinter_tracker.proofs.Runs.{claims_never, run_tracks, run_text, broken_text}
-use Rattle.wasmprinter_places.proofs.Starts.{lines_join}
-use Rattle.wasmprinter_places.proofs.FunctionLines.{function_lines}
+use Rattle.wasmprinter_writers.specs.declared.lines.LineStart.{LineStart}
+use Rattle.wasmprinter_writers.specs.Cuts.{lines_at_starts}
+use Rattle.wasmprinter_writers.specs.Tracked.{Tracked, without_lines}
+use Rattle.wasmprinter_writers.specs.Tracking.{tracked_meaning, Tracks}
+use Rattle.wasmprinter_writers.proofs.LineRuns.{claims_never, run_tracks, run_text, broken_text}
+use Rattle.wasmprinter_laws.proofs.Lines.Starts.{lines_join}
+use Rattle.wasmprinter_laws.proofs.Lines.FunctionLines.{function_lines}
 use Rattle.wasmprinter.specs.Printed.{Printed, no_claims}
 use Rattle.wasmprinter.specs.Outcome.{Leaves, LeavesBeginning, IsSoundTextRefusal, as_growth}
 use Rattle.wasmprinter.specs.Lined.{HasLinesBy, GainsPrefix, LeavesStorage}

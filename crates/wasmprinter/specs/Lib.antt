@@ -1,9 +1,10 @@
--- Definitions that the contracts of the library cite: what each printing call promises, and what each error leaves.
+-- The definitions that the contracts of this crate cite.
+pub mod AnsiText
 pub mod Colored
 pub mod Found
+pub mod Gained
 pub mod Lined
-pub mod TextOfFile
 pub mod Outcome
-pub mod AnsiText
 pub mod Plain
 pub mod Printed
+pub mod TextOfFile

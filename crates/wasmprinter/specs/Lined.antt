@@ -1,15 +1,15 @@
 -- Definition of a module's text that is appended to a text, with its lines.
 use Rattle.std.specs.Prelude.{◌≡◌, ◌⊎◌, ◌++◌, ℕ, List, false, Some, slice_get}
 use Rattle.std.specs.List.{AllByRecursion}
-use Rattle.wasmprinter_error.specs.declared.error.Error.{Error}
-use Rattle.wasmprinter_error.specs.declared.error.Error.TheVariants.{DylinkSubsection, Memory}
+use Rattle.wasmprinter_bytes.specs.declared.error.Error.{Error}
+use Rattle.wasmprinter_bytes.specs.declared.error.Error.TheVariants.{DylinkSubsection, Memory}
 use Rattle.wasmprinter_spec.specs.Placed.{PlacedModule, PlacedFunction}
 use Rattle.wasmprinter_spec.specs.Call.{Call, IsUnclaimed, atoms, text_of}
 use Rattle.wasmprinter_spec.specs.Options.{Options, Answers, in_colors}
 use Rattle.wasmprinter_spec.specs.Layout.{layout, refusal}
 use Rattle.wasmprinter_spec.specs.Lines.{TextLine, lines_of, joined_lines, line_places, hint_places, HasFunctionLines}
-use Rattle.wasmprinter_tracker.specs.declared.lines.LineStart.{LineStart}
-use Rattle.wasmprinter_tracker.specs.Cuts.{lines_at_starts}
+use Rattle.wasmprinter_writers.specs.declared.lines.LineStart.{LineStart}
+use Rattle.wasmprinter_writers.specs.Cuts.{lines_at_starts}
 use Rattle.wasmprinter.specs.Printed.{IsTextOf, no_claims}
 use Rattle.wasmprinter.specs.Outcome.{WhilePrinting}
 

@@ -12,11 +12,11 @@ use Rattle.wasmprinter_spec.specs.Options.{Options, Answers, in_colors}
 use Rattle.wasmprinter_spec.specs.Layout.{layout, refusal}
 use Rattle.wasmprinter_spec.specs.Folding.Refusals.{legacy_places, misplaced_hints, IsFoldable}
 use Rattle.wasmprinter_print.specs.Emits.{Whole, Broken, Begun}
-use Rattle.wasmprinter_error.specs.Reasons.{Reasons}
-use Rattle.wasmprinter_error.specs.declared.error.Error.{Error}
-use Rattle.wasmprinter_error.specs.declared.error.Error.TheVariants.{Malformed, Component, TooManyLocals, TooManyFunctions, EmptyTableInit, FoldLegacy, FoldHint, DylinkSubsection, Unreadable, Printer, Memory}
+use Rattle.wasmprinter_bytes.specs.Reasons.{Reasons}
+use Rattle.wasmprinter_bytes.specs.declared.error.Error.{Error}
+use Rattle.wasmprinter_bytes.specs.declared.error.Error.TheVariants.{Malformed, Component, TooManyLocals, TooManyFunctions, EmptyTableInit, FoldLegacy, FoldHint, DylinkSubsection, Unreadable, Printer, Memory}
 use Rattle.wasmprinter_wasm.specs.Modules.{bodies_of}
-use Rattle.wasmprinter_entries.specs.Refusals.{AnyIsOver, FirstIsEmpty}
+use Rattle.wasmprinter_wasm.specs.Refusals.{AnyIsOver, FirstIsEmpty}
 use Rattle.wasmprinter_wasm.specs.Decoding.{HoldsSome, module_reasons}
 
 -- One of these custom sections is a `dylink.0` section whose first unknown subsection has this id. That subsection

@@ -6,27 +6,10 @@ use std::alloc::{AllocError, Global};
 use std::io;
 use std::marker::Model;
 use wasmprinter_print::Print;
-
-// ANSI escape sequences (ECMA-48, "Select Graphic Rendition"). The sequences of each style begin with a reset of
-// all attributes.
-
-/// Numbers and strings: red.
-const LITERAL: &str = "\x1b[0m\x1b[31m";
-
-/// Names and indices of items: magenta.
-const NAME: &str = "\x1b[0m\x1b[35m";
-
-/// Keywords: bold and intense yellow.
-const KEYWORD: &str = "\x1b[0m\x1b[1m\x1b[38;5;11m";
-
-/// Type words: bold and intense green.
-const TYPE: &str = "\x1b[0m\x1b[1m\x1b[38;5;10m";
-
-/// Comments: cyan.
-const COMMENT: &str = "\x1b[0m\x1b[36m";
-
-/// Text without a style: the default color, not bold.
-const RESET: &str = "\x1b[0m";
+use wasmprinter_print::sequences::{
+    comment_sequences, keyword_sequences, literal_sequences, name_sequences, reset_sequences,
+    type_sequences,
+};
 
 /// A printer that keeps its text in memory, with ANSI escape sequences for the styles.
 ///
@@ -114,42 +97,38 @@ impl Print for AnsiText {
     }
 
     #[inline]
-    #[tactic(auto, using(wasmprinter_spec::proofs::Sequences::literal))]
     fn start_literal(&mut self) -> io::Result<()> {
-        self.append(LITERAL)?;
+        self.append(literal_sequences())?;
         Ok(())
     }
 
     #[inline]
-    #[tactic(auto, using(wasmprinter_spec::proofs::Sequences::name))]
     fn start_name(&mut self) -> io::Result<()> {
-        self.append(NAME)?;
+        self.append(name_sequences())?;
         Ok(())
     }
 
     #[inline]
     fn start_keyword(&mut self) -> io::Result<()> {
-        self.append(KEYWORD)?;
+        self.append(keyword_sequences())?;
         Ok(())
     }
 
     #[inline]
     fn start_type(&mut self) -> io::Result<()> {
-        self.append(TYPE)?;
+        self.append(type_sequences())?;
         Ok(())
     }
 
     #[inline]
-    #[tactic(auto, using(wasmprinter_spec::proofs::Sequences::comment))]
     fn start_comment(&mut self) -> io::Result<()> {
-        self.append(COMMENT)?;
+        self.append(comment_sequences())?;
         Ok(())
     }
 
     #[inline]
-    #[tactic(auto, using(wasmprinter_spec::proofs::Sequences::reset))]
     fn reset_color(&mut self) -> io::Result<()> {
-        self.append(RESET)?;
+        self.append(reset_sequences())?;
         Ok(())
     }
 

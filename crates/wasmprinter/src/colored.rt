@@ -8,7 +8,7 @@ use crate::ansi_text::AnsiText;
 use crate::config::Config;
 use crate::in_memory::without_printer;
 use std::alloc::Global;
-use wasmprinter_error::Error;
+use wasmprinter_bytes::Error;
 
 impl Config {
     /// Returns the text of a module in the binary format, with the ANSI escape sequences that

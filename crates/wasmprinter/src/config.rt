@@ -2,7 +2,7 @@
 ghost use Rattle.std.specs.Prelude.{◌≡◌, ◌↔◌, true, OnOk, IfOk, IfErr, IsErrOf, string_bytes};
 ghost use Rattle.wasmprinter_spec.specs.Binary.{IsComponent};
 ghost use Rattle.wasmprinter_spec.specs.Folding.Refusals.{IsFoldable};
-ghost use Rattle.wasmprinter_foldable.specs.Refused.{HasFoldReason};
+ghost use Rattle.wasmprinter_fold.specs.Refused.{HasFoldReason};
 ghost use Rattle.wasmprinter.specs.Printed.{Printed, IsTextOf};
 ghost use Rattle.wasmprinter.specs.Outcome.{HasListedCause, HasListedTextCause, IsSoundRefusal, IsSoundTextRefusal, Leaves};
 
@@ -10,12 +10,11 @@ use crate::in_memory::without_printer;
 use crate::plain::Plain;
 use std::alloc::Global;
 use std::marker::Model;
-use wasmprinter_error::Error;
-use wasmprinter_foldable::check_folding;
-use wasmprinter_labels::OpenLabels;
-use wasmprinter_names::Identifiers;
-use wasmprinter_output::PrintOptions;
-use wasmprinter_print::Print;
+use wasmprinter_bytes::Error;
+use wasmprinter_custom::Identifiers;
+use wasmprinter_flat::open_labels::OpenLabels;
+use wasmprinter_fold::foldable::check_folding;
+use wasmprinter_print::{Print, PrintOptions};
 use wasmprinter_sections::print_module;
 use wasmprinter_wasm::{Module, decode};
 

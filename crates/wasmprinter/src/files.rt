@@ -12,7 +12,7 @@ use std::alloc::Global;
 use std::path::Path;
 use std::rt::Files;
 use std::{fs, io};
-use wasmprinter_error::Error;
+use wasmprinter_bytes::Error;
 
 /// A source from which files are read. The files of the system are one, with `HostRuntime` as its handle.
 pub trait Source {

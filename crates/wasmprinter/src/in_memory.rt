@@ -7,7 +7,7 @@ ghost use Rattle.wasmprinter.specs.Outcome.{as_growth, HasListedTextCause, IsSou
 
 use crate::config::Config;
 use std::alloc::Global;
-use wasmprinter_error::Error;
+use wasmprinter_bytes::Error;
 
 /// Replaces `Printer` by `Memory`, and returns any other error unchanged. A printer that keeps its text in memory
 /// fails only if an allocation fails.

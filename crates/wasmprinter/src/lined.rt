@@ -1,7 +1,7 @@
 //! Printing a module as lines, appended to a string.
 ghost use Rattle.std.specs.Prelude.{◌↔◌, IfOk, IfErr, IsErrOf, string_bytes};
 ghost use Rattle.wasmprinter_spec.specs.Binary.{IsComponent};
-ghost use Rattle.wasmprinter_tracker.specs.Cuts.{IsCuttable};
+ghost use Rattle.wasmprinter_writers.specs.Cuts.{IsCuttable};
 ghost use Rattle.wasmprinter.specs.Lined.{HasLinesBy, HasLinesAt, LeavesStorage};
 ghost use Rattle.wasmprinter.specs.Outcome.{HasListedTextCause, IsSoundTextRefusal};
 
@@ -9,8 +9,8 @@ use crate::config::Config;
 use crate::in_memory::without_printer;
 use std::alloc::Global;
 use std::mem;
-use wasmprinter_error::Error;
-use wasmprinter_tracker::{LineStart, LineTracker, OffsetsAndLines};
+use wasmprinter_bytes::Error;
+use wasmprinter_writers::{LineStart, LineTracker, OffsetsAndLines};
 
 impl Config {
     /// Appends the text of a module in the binary format to `storage`, and returns where its lines begin.

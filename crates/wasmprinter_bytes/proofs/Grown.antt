@@ -3,9 +3,9 @@ use Rattle.std.proofs.Common.{◌≡◌, ℕ, suc, ◌+◌, ◌-◌, ◌<◌, Li
 use Rattle.wasmprinter_spec.specs.Grammar.{Input}
 use Rattle.wasmprinter_spec.specs.Name.{u32}
 use Rattle.wasmprinter_spec.specs.Repeated.{items_at}
-use Rattle.wasmprinter_error.specs.declared.error.Error.{Error}
-use Rattle.wasmprinter_error.specs.Reasons.{HasReason}
-use Rattle.wasmprinter_error.proofs.Reasons.{reason_implied}
+use Rattle.wasmprinter_bytes.specs.declared.error.Error.{Error}
+use Rattle.wasmprinter_bytes.specs.Reasons.{HasReason}
+use Rattle.wasmprinter_bytes.proofs.Reasons.{reason_implied}
 use Rattle.wasmprinter_bytes.specs.Reads.{end_of}
 use Rattle.wasmprinter_bytes.specs.Lists.{CountsItems, reader_reasons, vec_at}
 use Rattle.wasmprinter_bytes.proofs.Fronts.{with_front}

@@ -1,4 +1,5 @@
-pub mod Powers
 pub mod Fronts
-pub mod Items
 pub mod Grown
+pub mod Items
+pub mod Powers
+pub mod Reasons

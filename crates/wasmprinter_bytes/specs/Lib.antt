@@ -1,4 +1,6 @@
--- The definitions that the contracts of the cursor and of lists use.
-pub mod Reads
+-- The definitions that the contracts of this crate cite.
 pub mod Items
 pub mod Lists
+pub mod Messages
+pub mod Reads
+pub mod Reasons

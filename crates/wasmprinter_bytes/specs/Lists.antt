@@ -4,8 +4,8 @@ use Rattle.wasmprinter_spec.specs.Grammar.{Input, ◌>>=◌}
 use Rattle.wasmprinter_spec.specs.Name.{u32}
 use Rattle.wasmprinter_spec.specs.Repeated.{items_at}
 use Rattle.wasmprinter_bytes.specs.Reads.{end_of}
-use Rattle.wasmprinter_error.specs.declared.error.Error.{Error}
-use Rattle.wasmprinter_error.specs.Reasons.{Reasons, HasReason}
+use Rattle.wasmprinter_bytes.specs.declared.error.Error.{Error}
+use Rattle.wasmprinter_bytes.specs.Reasons.{Reasons, HasReason}
 
 -- A count, and that many values.
 abbrev pub count_and_items_at : {A : Type 0} → (Input → Option (A × Input)) → Input → Option ((ℕ × List A) × Input)

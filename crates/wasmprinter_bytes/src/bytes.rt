@@ -9,8 +9,8 @@ ghost use Rattle.wasmprinter_spec.specs.Leb.{unsigned, signed};
 ghost use Rattle.wasmprinter_spec.specs.Name.{u32 as u32_grammar, name};
 ghost use Rattle.wasmprinter_bytes.specs.Reads.{Reads, IsWithin, end_of};
 
+use crate::Malformed;
 use std::marker::Model;
-use wasmprinter_error::Malformed;
 
 /// The number of value bits in one byte of LEB128.
 const BITS: u32 = 7;

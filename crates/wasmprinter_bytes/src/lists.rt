@@ -5,10 +5,10 @@ ghost use Rattle.wasmprinter_bytes.specs.Reads.{Reads, IsWithin, end_of};
 ghost use Rattle.wasmprinter_bytes.specs.Lists.{Takes, CountsItems, BeginsList, vec_at};
 
 use crate::bytes::Cursor;
+use crate::{Error, Malformed};
 use std::alloc::{AllocError, Global};
 use std::fmt;
 use std::marker::{Model, PhantomData};
-use wasmprinter_error::{Error, Malformed};
 
 /// A value that can be read from bytes without allocating, and that borrows nothing.
 pub trait Decode: Drop {

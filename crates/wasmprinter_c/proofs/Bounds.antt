@@ -10,7 +10,7 @@ use Rattle.wasmprinter_spec.specs.Piece.{Piece, all_calls}
 use Rattle.wasmprinter_spec.specs.Layout.{module_parts, module_pieces_of, module_pieces_with, module_pieces, layout}
 use Rattle.wasmprinter_spec.specs.Layout.Customs.{Laid, laid_parts}
 use Rattle.wasmprinter_spec.specs.Layout.Groups.{group_at}
-use Rattle.wasmprinter_places.proofs.Fed.{Fed, layout_fed}
+use Rattle.wasmprinter_laws.proofs.Lines.Fed.{Fed, layout_fed}
 use Rattle.wasmprinter_c.specs.Lines.{entry, entries}
 
 -- The bound on the number of lines for a text of n bytes. It is one more if a line feed is before the calls.

@@ -3,9 +3,9 @@ use Rattle.std.proofs.Common.{◌≡◌, ℕ, ◌+◌, ◌-◌, List, [], ◌∷
 use Rattle.std.specs.Prelude.{Option, Some, None, map}
 use Rattle.wasmprinter_spec.specs.Call.{Call, Text, Newline, Line, Start, Claim, text_of}
 use Rattle.wasmprinter_spec.specs.Lines.{TextLine, lines_of, text_before_line, joined_lines}
-use Rattle.wasmprinter_tracker.specs.Cuts.{lines_at_starts, first_at}
-use Rattle.wasmprinter_tracker.specs.declared.lines.LineStart.{LineStart}
-use Rattle.wasmprinter_tracker.proofs.LineLaws.{joined-lines_of}
+use Rattle.wasmprinter_writers.specs.Cuts.{lines_at_starts, first_at}
+use Rattle.wasmprinter_writers.specs.declared.lines.LineStart.{LineStart}
+use Rattle.wasmprinter_writers.proofs.LineLaws.{joined-lines_of}
 use Rattle.wasmprinter_c.specs.Lines.{entry, entries, line_start}
 
 -- The starts of the lines of these calls, whose text starts at this byte.

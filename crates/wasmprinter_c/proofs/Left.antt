@@ -3,8 +3,8 @@ use Rattle.std.proofs.Common.{◌≡◌, ℕ, ◌≤◌, ◌^◌, List, [], ◌�
 use Rattle.std.specs.List.{AllByRecursion}
 use Rattle.std.specs.Prelude.{false, Result, Ok, Err, IfErr, OnOk}
 use Rattle.std.specs.declared.io.Error.{Error as IoError}
-use Rattle.wasmprinter_error.specs.declared.error.Error.{Error}
-use Rattle.wasmprinter_error.specs.declared.error.Error.TheVariants.{Malformed, Component, TooManyLocals, TooManyFunctions, EmptyTableInit, FoldLegacy, FoldHint, DylinkSubsection, Printer, Memory}
+use Rattle.wasmprinter_bytes.specs.declared.error.Error.{Error}
+use Rattle.wasmprinter_bytes.specs.declared.error.Error.TheVariants.{Malformed, Component, TooManyLocals, TooManyFunctions, EmptyTableInit, FoldLegacy, FoldHint, DylinkSubsection, Printer, Memory}
 use Rattle.wasmprinter_spec.specs.Call.{Call, IsUnclaimed, call_text, text_of, atoms}
 use Rattle.wasmprinter_spec.specs.Meaning.{Run}
 use Rattle.wasmprinter_spec.specs.Options.{Options, in_colors}

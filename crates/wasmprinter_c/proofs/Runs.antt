@@ -1,16 +1,16 @@
 -- The state of a printer over a buffer after calls that succeed.
 use Rattle.std.proofs.Common.{◌≡◌, ℕ, ◌+◌, ◌^◌, ◌≤◌, ◌<◌, List, [], ◌∷◌, ◌++◌, length, map, refl, sym, ap, ◌∙◌, subst, append_assoc, append-nil, length-append, arith}
 use Rattle.std.specs.Prelude.{false, Option, Result, Ok, Err, OnOk}
-use Rattle.wasmprinter_error.specs.declared.error.Error.{Error}
+use Rattle.wasmprinter_bytes.specs.declared.error.Error.{Error}
 use Rattle.wasmprinter_spec.specs.Call.{Call, Text, Newline, Line, Start, Claim, IsUnclaimed, text_of, atoms}
 use Rattle.wasmprinter_spec.specs.Lines.{TextLine, lines_of, joined_lines, line_places, hint_places, HasFunctionLines}
 use Rattle.wasmprinter_spec.specs.Meaning.{Run}
 use Rattle.wasmprinter_spec.specs.Options.{Options, in_colors}
 use Rattle.wasmprinter_spec.specs.Layout.{layout}
 use Rattle.wasmprinter_spec.proofs.Texts.{alike_texts}
-use Rattle.wasmprinter_places.proofs.Starts.{lines_join}
-use Rattle.wasmprinter_places.proofs.FunctionLines.{function_lines}
-use Rattle.wasmprinter_tracker.specs.Cuts.{lines_at_starts}
+use Rattle.wasmprinter_laws.proofs.Lines.Starts.{lines_join}
+use Rattle.wasmprinter_laws.proofs.Lines.FunctionLines.{function_lines}
+use Rattle.wasmprinter_writers.specs.Cuts.{lines_at_starts}
 use Rattle.wasmprinter.specs.Printed.{Printed, no_claims}
 use Rattle.wasmprinter.proofs.Texts.{IsPlainly, plainly_printed, module_text}
 use Rattle.wasmprinter_c.specs.Over.{over, over_from}

@@ -3,11 +3,11 @@ use Rattle.std.proofs.Common.{◌≡◌, ℕ, ◌≤◌, ◌+◌, List, [], ◌�
 use Rattle.std.specs.Prelude.{Bool, true, false, codes, decimal, Result, Ok, Err, if◌then◌else◌, ◌==◌}
 use Rattle.std.specs.Fmt.{digits}
 use Rattle.std.specs.declared.io.Error.{Error as IoError}
-use Rattle.wasmprinter_error.specs.declared.error.Error.{Error}
-use Rattle.wasmprinter_error.specs.declared.error.Error.TheVariants.{Printer}
+use Rattle.wasmprinter_bytes.specs.declared.error.Error.{Error}
+use Rattle.wasmprinter_bytes.specs.declared.error.Error.TheVariants.{Printer}
 use Rattle.wasmprinter_spec.specs.Call.{Text, text_of}
 use Rattle.wasmprinter_spec.proofs.Texts.{alike_texts}
-use Rattle.wasmprinter_terms.proofs.Digits.{digits-length}
+use Rattle.wasmprinter_text.proofs.Digits.{digits-length}
 use Rattle.wasmprinter_print.specs.Emits.{EmitsOrFails, Whole, Broken}
 use Rattle.wasmprinter_c.specs.Over.{over}
 use Rattle.wasmprinter_c.specs.Copied.{copied_meaning}

@@ -6,3 +6,4 @@ pub mod Outcomes
 pub mod Over
 pub mod Printing
 pub mod Refused
+pub mod Statuses

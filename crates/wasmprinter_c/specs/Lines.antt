@@ -1,7 +1,7 @@
 -- The starts of the lines of a text.
 use Rattle.std.specs.Prelude.{ℕ, ◌+◌, ◌==◌, List, [], ◌∷◌, Option, Some, None, if◌then◌else◌, length}
 use Rattle.wasmprinter_spec.specs.Call.{Call, Text, Newline, Line, Start, Claim}
-use Rattle.wasmprinter_tracker.specs.declared.lines.LineStart.{LineStart}
+use Rattle.wasmprinter_writers.specs.declared.lines.LineStart.{LineStart}
 use Rattle.wasmprinter_c.specs.declared.copier.WasmprinterLine.{WasmprinterLine}
 
 -- The entry of a line that starts at this byte of the text.

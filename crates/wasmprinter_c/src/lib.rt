@@ -13,6 +13,7 @@ ghost use Rattle.wasmprinter_c.specs.Messages.{message};
 ghost use Rattle.wasmprinter_c.specs.Printing.{chosen, HasTextOver, HasLinesOver};
 ghost use Rattle.wasmprinter_c.specs.Refused.{number_of, detail_in, IsCopied, HasBufferCause, LeavesBuffer, IsRefusedWith};
 ghost use Rattle.wasmprinter_c.specs.Outcomes.{IsOutcome};
+ghost use Rattle.wasmprinter_c.specs.Statuses.{ok_status, component_status, indent_status, library_version};
 
 mod copier;
 mod status;
@@ -232,12 +233,12 @@ pub extern "C" fn wasmprinter_print(
     length: &mut usize,
     detail: &mut u64,
 ) -> u32
-    ensures printed { result ≡ 0 → HasTextOver (chosen options.now indent.now) wasm.now out.old out.new length.new }
-    ensures refused { ¬ (result ≡ 0) → ¬ (result ≡ 12) →
+    ensures printed { result ≡ ok_status → HasTextOver (chosen options.now indent.now) wasm.now out.old out.new length.new }
+    ensures refused { ¬ (result ≡ ok_status) → ¬ (result ≡ indent_status) →
         IsRefusedWith (chosen options.now indent.now) wasm.now out.old out.new result length.new 0 detail.new }
-    ensures component { result ≡ 2 ↔ IsComponent wasm.now }
-    ensures wrong_indent { result ≡ 12 ↔ ((¬ IsComponent wasm.now) × (¬ IsUtf8 indent.now)) }
-    ensures untouched { result ≡ 12 → (out.new ≡ out.old) × (length.new ≡ 0) }
+    ensures component { result ≡ component_status ↔ IsComponent wasm.now }
+    ensures wrong_indent { result ≡ indent_status ↔ ((¬ IsComponent wasm.now) × (¬ IsUtf8 indent.now)) }
+    ensures untouched { result ≡ indent_status → (out.new ≡ out.old) × (length.new ≡ 0) }
 {
     let outcome = print_by(alloc, wasm, options, indent, out, &mut []);
     *length = outcome.length;
@@ -263,13 +264,13 @@ pub extern "C" fn wasmprinter_print_lines(
     count: &mut usize,
     detail: &mut u64,
 ) -> u32
-    ensures printed { result ≡ 0 →
+    ensures printed { result ≡ ok_status →
         HasLinesOver (chosen options.now indent.now) wasm.now out.old out.new lines.old lines.new length.new count.new }
-    ensures refused { ¬ (result ≡ 0) → ¬ (result ≡ 12) →
+    ensures refused { ¬ (result ≡ ok_status) → ¬ (result ≡ indent_status) →
         IsRefusedWith (chosen options.now indent.now) wasm.now out.old out.new result length.new count.new detail.new }
-    ensures component { result ≡ 2 ↔ IsComponent wasm.now }
-    ensures wrong_indent { result ≡ 12 ↔ ((¬ IsComponent wasm.now) × (¬ IsUtf8 indent.now)) }
-    ensures untouched { result ≡ 12 → (out.new ≡ out.old) × (length.new ≡ 0) × (count.new ≡ 0) }
+    ensures component { result ≡ component_status ↔ IsComponent wasm.now }
+    ensures wrong_indent { result ≡ indent_status ↔ ((¬ IsComponent wasm.now) × (¬ IsUtf8 indent.now)) }
+    ensures untouched { result ≡ indent_status → (out.new ≡ out.old) × (length.new ≡ 0) × (count.new ≡ 0) }
 {
     let outcome = print_by(alloc, wasm, options, indent, out, lines);
     *length = outcome.length;
@@ -309,7 +310,7 @@ pub extern "C" fn wasmprinter_error_text(status: u32, detail: u64, out: &mut [u8
 /// the patch number. Allocates nothing.
 #[unsafe(no_mangle)]
 pub extern "C" fn wasmprinter_version() -> u32
-    ensures { result ≡ 263000 }
+    ensures { result ≡ library_version }
 {
     VERSION
 }

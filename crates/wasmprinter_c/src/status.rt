@@ -8,9 +8,9 @@ ghost use Rattle.wasmprinter_c.specs.Refused.{number_of, detail_in};
 
 use crate::copier::Copier;
 use wasmprinter::Error;
-use wasmprinter_output::Output;
-use wasmprinter_terms::numbers::{write_decimal_between, write_hexadecimal_between};
-use wasmprinter_terms::values::{Value, write_value};
+use wasmprinter_print::Output;
+use wasmprinter_text::numbers::{write_decimal_between, write_hexadecimal_between};
+use wasmprinter_text::values::{Value, write_value};
 
 /// The status after the module was printed.
 pub(crate) const PRINTED: u32 = 0;

@@ -8,21 +8,21 @@ use Rattle.wasmprinter_spec.specs.Folding.Tree.{NodesOf}
 use Rattle.wasmprinter_ops.specs.declared.opcode.Role.{Role as OpsRole}
 use Rattle.wasmprinter_ops.specs.declared.opcode.Role.TheVariants as ops
 use Rattle.wasmprinter_ops.specs.Shapes.{role_view}
-use Rattle.wasmprinter_nodes.specs.declared.NodeText.{NodeText}
-use Rattle.wasmprinter_nodes.specs.declared.Node.{Node}
-use Rattle.wasmprinter_nodes.specs.declared.builder.Builder.{Builder}
-use Rattle.wasmprinter_nodes.specs.Building.{OpenNodes, Top, InBlock, InThen, InElse, StateOf, Step, Ends, start, state_at, step}
-use Rattle.wasmprinter_nodes.specs.Heads.{AllStep}
-use Rattle.wasmprinter_nodes.specs.Mapping.{map_nodes, map_open, map_step}
-use Rattle.wasmprinter_nodes.specs.Frames.{State, Stands}
-use Rattle.wasmprinter_nodes.specs.Postorder.{IsPostorder, forest_of}
-use Rattle.wasmprinter_nodes.proofs.Maps.{step-map}
-use Rattle.wasmprinter_nodes.proofs.AllHeads.{all_step, AllState-weaker, map_state-same}
-use Rattle.wasmprinter_node_text.specs.Shown.{Shown, shown_of_head, IsIn, AreIn}
-use Rattle.wasmprinter_node_text.specs.Buffers.{GrowsText}
+use Rattle.wasmprinter_fold.specs.declared.nodes.NodeText.{NodeText}
+use Rattle.wasmprinter_fold.specs.declared.nodes.Node.{Node}
+use Rattle.wasmprinter_fold.specs.declared.nodes.builder.Builder.{Builder}
+use Rattle.wasmprinter_fold.specs.Building.{OpenNodes, Top, InBlock, InThen, InElse, StateOf, Step, Ends, start, state_at, step}
+use Rattle.wasmprinter_fold.specs.Heads.{AllStep}
+use Rattle.wasmprinter_fold.specs.Mapping.{map_nodes, map_open, map_step}
+use Rattle.wasmprinter_fold.specs.Frames.{State, Stands}
+use Rattle.wasmprinter_fold.specs.Postorder.{IsPostorder, forest_of}
+use Rattle.wasmprinter_fold.proofs.Maps.{step-map}
+use Rattle.wasmprinter_fold.proofs.AllHeads.{all_step, AllState-weaker, map_state-same}
+use Rattle.wasmprinter_fold.specs.Shown.{Shown, shown_of_head, IsIn, AreIn}
+use Rattle.wasmprinter_fold.specs.Buffers.{GrowsText}
 use Rattle.wasmprinter_fold.specs.declared.tree.GrowingTree.{GrowingTree}
 use Rattle.wasmprinter_fold.specs.Growing.{ShowsIn, GrowsByStep, shown_step}
-use Rattle.wasmprinter_node_text.proofs.NodeTexts.{in_grown, shown_grown}
+use Rattle.wasmprinter_fold.proofs.NodeTexts.{in_grown, shown_grown}
 
 -- The printed texts stay the same when the buffer grows.
 pub shows-more : (old new : List ℕ) (b : Builder) (s : StateOf Shown) → GrowsText old new → ShowsIn old b s → ShowsIn new b s

@@ -10,12 +10,12 @@ use Rattle.wasmprinter_spec.specs.Layout.Folded.{items, folded_list}
 use Rattle.wasmprinter_spec.specs.Folding.Arities.{signatures_within}
 use Rattle.wasmprinter_spec.specs.Folding.Code.{nested_code_of}
 use Rattle.wasmprinter_spec.specs.Folding.Tree.{NodesOf}
-use Rattle.wasmprinter_nodes.specs.declared.Node.{Node}
-use Rattle.wasmprinter_nodes.specs.Building.{Top}
-use Rattle.wasmprinter_nodes.specs.Frames.{State, Stands}
-use Rattle.wasmprinter_nodes.specs.Mapping.{map_nodes}
-use Rattle.wasmprinter_nodes.specs.Postorder.{IsPostorder, forest_of}
-use Rattle.wasmprinter_node_text.specs.Shown.{Shown, shown_of_head, AreIn, row_pieces}
+use Rattle.wasmprinter_fold.specs.declared.nodes.Node.{Node}
+use Rattle.wasmprinter_fold.specs.Building.{Top}
+use Rattle.wasmprinter_fold.specs.Frames.{State, Stands}
+use Rattle.wasmprinter_fold.specs.Mapping.{map_nodes}
+use Rattle.wasmprinter_fold.specs.Postorder.{IsPostorder, forest_of}
+use Rattle.wasmprinter_fold.specs.Shown.{Shown, shown_of_head, AreIn, row_pieces}
 use Rattle.wasmprinter_fold.specs.declared.tree.GrowingTree.{GrowingTree}
 use Rattle.wasmprinter_fold.specs.Growing.{IsGrown}
 use Rattle.wasmprinter_fold.specs.Views.{FolderView, folding_view}

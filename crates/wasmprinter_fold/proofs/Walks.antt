@@ -19,18 +19,18 @@ use Rattle.wasmprinter_spec.specs.Folding.Code.{Item, NestedCode, nested_code_of
 use Rattle.wasmprinter_spec.specs.Folding.Tree.{tree}
 use Rattle.wasmprinter_spec.proofs.FoldingCode.{nested_code_of-tree, nested_code_of-nested, nested_code_of-nests}
 use Rattle.wasmprinter_spec.proofs.FoldingItems.{roles-items}
-use Rattle.wasmprinter_flat_text.proofs.Walking.{Fits, own-fits}
+use Rattle.wasmprinter_flat.proofs.Walking.{Fits, own-fits}
 use Rattle.wasmprinter_ops.specs.Operators.{placed_view, pairs}
 use Rattle.wasmprinter_ops.proofs.Pairs.{first-pair, no-pair}
-use Rattle.wasmprinter_labels.specs.Scan.{Scan, names_of, own_label, at_start_again, after_operator}
-use Rattle.wasmprinter_flat_text.proofs.Depths.{after-length, after-count}
-use Rattle.wasmprinter_nodes.specs.Building.{Top, StateOf, Step, start, state_at, step, step_of, steps, run_all}
-use Rattle.wasmprinter_nodes.specs.Mapping.{map_nodes}
-use Rattle.wasmprinter_nodes.proofs.Runs.{run-tree}
-use Rattle.wasmprinter_node_text.specs.Shown.{Shown, shown_head, row_pieces}
+use Rattle.wasmprinter_flat.specs.OpenLabels.Scan.{Scan, names_of, own_label, at_start_again, after_operator}
+use Rattle.wasmprinter_flat.proofs.Depths.{after-length, after-count}
+use Rattle.wasmprinter_fold.specs.Building.{Top, StateOf, Step, start, state_at, step, step_of, steps, run_all}
+use Rattle.wasmprinter_fold.specs.Mapping.{map_nodes}
+use Rattle.wasmprinter_fold.proofs.Runs.{run-tree}
+use Rattle.wasmprinter_fold.specs.Shown.{Shown, shown_head, row_pieces}
 use Rattle.wasmprinter_fold.specs.declared.tree.GrowingTree.{GrowingTree}
 use Rattle.wasmprinter_fold.specs.Growing.{Shows, GrowsByStep, shown_step, shown_operator, shown_keyword, operator_step, IsGrown}
-use Rattle.wasmprinter_node_text.proofs.RowLaws.{rows_shown}
+use Rattle.wasmprinter_fold.proofs.RowLaws.{rows_shown}
 
 -- ---- Places and operators
 

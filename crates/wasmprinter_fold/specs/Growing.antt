@@ -11,14 +11,14 @@ use Rattle.wasmprinter_spec.specs.Folding.Arities.{OperandCounts}
 use Rattle.wasmprinter_spec.specs.Folding.Code.{NestedCode}
 use Rattle.wasmprinter_spec.specs.Folding.Tree.{tree}
 use Rattle.wasmprinter_spec.specs.Layout.Operators.{Setting}
-use Rattle.wasmprinter_labels.specs.Scan.{Scan, own_label}
-use Rattle.wasmprinter_flat_text.specs.Settings.{word_pieces}
-use Rattle.wasmprinter_nodes.specs.declared.builder.Builder.{Builder}
-use Rattle.wasmprinter_nodes.specs.Building.{Top, StateOf, Step, Plain, Opens, OpensIf, Else, Ends, state_at, step}
-use Rattle.wasmprinter_nodes.specs.Mapping.{map_nodes, map_state}
-use Rattle.wasmprinter_nodes.specs.Frames.{State, Stands}
-use Rattle.wasmprinter_nodes.specs.Heads.{AllState}
-use Rattle.wasmprinter_node_text.specs.Shown.{Shown, shown_of_calls, shown_head, shown_of_head, IsIn}
+use Rattle.wasmprinter_flat.specs.OpenLabels.Scan.{Scan, own_label}
+use Rattle.wasmprinter_flat.specs.Settings.{word_pieces}
+use Rattle.wasmprinter_fold.specs.declared.nodes.builder.Builder.{Builder}
+use Rattle.wasmprinter_fold.specs.Building.{Top, StateOf, Step, Plain, Opens, OpensIf, Else, Ends, state_at, step}
+use Rattle.wasmprinter_fold.specs.Mapping.{map_nodes, map_state}
+use Rattle.wasmprinter_fold.specs.Frames.{State, Stands}
+use Rattle.wasmprinter_fold.specs.Heads.{AllState}
+use Rattle.wasmprinter_fold.specs.Shown.{Shown, shown_of_calls, shown_head, shown_of_head, IsIn}
 use Rattle.wasmprinter_fold.specs.declared.tree.GrowingTree.{GrowingTree}
 
 -- The builder has open blocks and nodes whose texts are in the buffer, and `s` has the printed texts of these

@@ -1,21 +1,21 @@
 //! The folder, which folds and prints the operators of a module, list by list.
 ghost use Rattle.std.specs.Prelude.{◌≡◌, true, IfOk, OnErr};
 ghost use Rattle.wasmprinter_spec.specs.Layout.Folded.{folded_list};
-ghost use Rattle.wasmprinter_flat_text.specs.Settings.{setting_among};
-ghost use Rattle.wasmprinter_arities.specs.Gathering.{ImportsSome};
+ghost use Rattle.wasmprinter_flat.specs.Settings.{setting_among};
+ghost use Rattle.wasmprinter_fold.specs.Gathering.{ImportsSome};
 ghost use Rattle.wasmprinter_fold.specs.Views.{folding_view};
 
+use crate::arities::callees::CalleeTypes;
+use crate::node_text::rows::write_nodes;
 use crate::tree::GrowingTree;
 use std::alloc::{AllocError, Global};
 use std::marker::Model;
-use wasmprinter_arities::callees::CalleeTypes;
-use wasmprinter_customs::FunctionHints;
-use wasmprinter_flat_text::operators::Setting;
-use wasmprinter_labels::OpenLabels;
-use wasmprinter_node_text::rows::write_nodes;
+use wasmprinter_custom::FunctionHints;
+use wasmprinter_flat::open_labels::OpenLabels;
+use wasmprinter_flat::operators::Setting;
 use wasmprinter_ops::expression::Expression;
-use wasmprinter_output::FoldingOutput;
-use wasmprinter_type_text::signature::Signatures;
+use wasmprinter_print::FoldingOutput;
+use wasmprinter_text::signature::Signatures;
 use wasmprinter_wasm::Module;
 
 /// Folds and prints the operators of a module, list by list. Nodes and texts reuse the memory of earlier lists.

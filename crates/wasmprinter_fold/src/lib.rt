@@ -1,8 +1,18 @@
-//! Folded operators (section 6.5 of the WebAssembly Core Specification, "Folded Instructions"): each in
-//! parentheses, with its operands.
+//! Folded operators (section 6.5 of the WebAssembly Core Specification, "Folded Instructions"): each in parentheses,
+//! with its operands.
+//!
+//! - `arities`: how many operands an operator takes, and how many results it gives.
+//! - `nodes`: the nodes that operators fold into, as one list.
+//! - `node_text`: their texts in one buffer, and the function that writes them without recursion.
+//! - [`Folder`] folds a list of operators and writes its nodes.
+//! - `foldable`: which modules can be folded.
 #![tactic(auto)]
 
+mod arities;
+pub mod foldable;
 mod folder;
+mod node_text;
+mod nodes;
 mod tree;
 
 pub use folder::Folder;

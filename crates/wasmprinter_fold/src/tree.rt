@@ -6,27 +6,27 @@ ghost use Rattle.wasmprinter_spec.specs.Labels.{labels_after};
 ghost use Rattle.wasmprinter_spec.specs.Folding.Arities.{signatures_within, counts_of, label_of_block};
 ghost use Rattle.wasmprinter_spec.specs.Folding.Code.{nested_code_of};
 ghost use Rattle.wasmprinter_spec.specs.Layout.Folded.{items};
-ghost use Rattle.wasmprinter_nodes.specs.Building.{StateOf, Plain, Opens, OpensIf, Else, Ends, start};
-ghost use Rattle.wasmprinter_flat_text.specs.Settings.{setting_among};
-ghost use Rattle.wasmprinter_arities.specs.Counted.{counts_view};
-ghost use Rattle.wasmprinter_node_text.specs.Shown.{Shown};
+ghost use Rattle.wasmprinter_fold.specs.Building.{StateOf, Plain, Opens, OpensIf, Else, Ends, start};
+ghost use Rattle.wasmprinter_flat.specs.Settings.{setting_among};
+ghost use Rattle.wasmprinter_fold.specs.Counted.{counts_view};
+ghost use Rattle.wasmprinter_fold.specs.Shown.{Shown};
 ghost use Rattle.wasmprinter_fold.specs.Growing.{Shows, GrowsByStep, operator_step, shown_operator, shown_keyword, IsGrown};
 
+use crate::arities::blocks::label_of_block;
+use crate::arities::callees::CalleeTypes;
+use crate::arities::counts::Counts;
+use crate::arities::labels::LabelCounts;
+use crate::arities::operators::counts;
+use crate::node_text::texts::Texts;
+use crate::nodes::Builder;
 use std::alloc::{AllocError, Global};
-use wasmprinter_arities::blocks::label_of_block;
-use wasmprinter_arities::callees::CalleeTypes;
-use wasmprinter_arities::counts::Counts;
-use wasmprinter_arities::labels::LabelCounts;
-use wasmprinter_arities::operators::counts;
-use wasmprinter_customs::FunctionHints;
-use wasmprinter_flat_text::operators::Setting;
-use wasmprinter_labels::OpenLabels;
-use wasmprinter_node_text::texts::Texts;
-use wasmprinter_nodes::Builder;
+use wasmprinter_custom::FunctionHints;
+use wasmprinter_flat::open_labels::OpenLabels;
+use wasmprinter_flat::operators::Setting;
 use wasmprinter_ops::expression::Expression;
 use wasmprinter_ops::opcode::{Listed, Role};
 use wasmprinter_ops::operator::Operator;
-use wasmprinter_type_text::signature::Signatures;
+use wasmprinter_text::signature::Signatures;
 
 /// The nodes of the operators so far, their texts, and the number of values that the labels of the open blocks
 /// expect.

@@ -1,31 +1,42 @@
-//! Laws that follow from several promises of the library together. Each law is the contract of a function with an
-//! empty body.
+//! Laws over the definitions. Each law is the contract of a function with an empty body. The laws contain no code of
+//! the printer: they relate the grammar, the layout and the reader of text.
+//!
+//! - `reading`: printed text reads back as the module that the bytes encode.
+//! - `lexical`: quoted strings, floats, and lists of calls with one text.
+//! - `places`: the lines of a text and their places in the module.
+//! - `folding`: folding and unfolding lists of operators.
+//! - `colors`: colors add only ANSI escape sequences.
 #![tactic(auto)]
 
-ghost use Rattle.std.specs.Prelude.{ℕ, List};
-ghost use Rattle.wasmprinter_spec.specs.Options.{IsBlank};
-ghost use Rattle.wasmprinter_print.specs.TextOnly.{Grows};
-ghost use Rattle.wasmprinter.specs.Printed.{Printed};
-ghost use Rattle.wasmprinter_laws.specs.Gained.{GainAlike, GainsText};
+mod colors;
+mod folding;
+mod lexical;
+mod places;
+mod reading;
 
-use std::io::Write;
-use wasmprinter::print::{Ansi, NoColor};
-use wasmprinter::{Print, PrintTermcolor, PrintText};
-
-/// If a module is printed with the same options through [`Ansi`] and through [`NoColor`], deleting the ANSI escape
-/// sequences from what the first writer gains gives what the second writer gains. Both writers specify the bytes
-/// that they hold, and the indent consists of spaces and tabs. Operators may be folded or flat.
-pub fn colors_add_sequences_alone<V: Write, W: Write>()
-    ensures { (o : _) (bytes : List ℕ) → IsBlank o.indent → (s t : _) (x y : _)
-        → Printed ⟦<PrintTermcolor<Ansi<V>> as Print>⟧.meaning (⟦<PrintTermcolor<Ansi<V>> as Print>⟧.colors s) o bytes s t
-        → Printed ⟦<PrintTermcolor<NoColor<W>> as Print>⟧.meaning (⟦<PrintTermcolor<NoColor<W>> as Print>⟧.colors x) o bytes x y
-        → GainAlike (V.contents s.0.inner) (V.contents t.0.inner) (W.contents x.0.inner) (W.contents y.0.inner) }
-{}
-
-/// If each write that succeeds appends its bytes to a view of a `PrintText`, then printing a module appends the
-/// module's text to it.
-pub fn text_printers_gain_the_text<T: PrintText>()
-    ensures { (view : T → List ℕ) → Grows view T.writes → (o : _) (bytes : List ℕ) (s t : T)
-        → Printed ⟦<T as Print>⟧.meaning (⟦<T as Print>⟧.colors s) o bytes s t
-        → GainsText o bytes (view s) (view t) }
-{}
+pub use colors::{
+    color_adds_sequences, colored_groups_are_nodes, colored_modules_have_trees, colored_text_keeps,
+    colors_keep_text, folded_text_is_by_own_arities, folded_text_reads_as_flat_by_any_arities,
+    texts_contain_colors,
+};
+pub use folding::{
+    folding_loses_nothing, nested_operators_are_folded, nested_operators_have_trees,
+    operands_are_the_shortest_run, trees_say_their_lists,
+};
+pub use lexical::{
+    alike_calls_have_one_text, float_text_reads, floats_are_exact, quoted_bytes_read,
+    quoted_text_reads,
+};
+pub use places::{
+    alike_calls_have_the_same_lines, bodies_lie_apart, finds_lines, finds_places,
+    functions_have_lines, lines_begin_after_feeds, lines_join_to_the_text,
+};
+pub use reading::{
+    bytes_spell_one_module, entries_are_given, folded_groups_are_nodes, folded_modules_have_trees,
+    folded_operators_read_back, folded_text_reads_as_flat, hints_stay, identifiers_are_apart,
+    identifiers_are_named, identifiers_resolve, labels_mean_their_blocks, modules_have_identifiers,
+    name_maps_are_listed, name_sections_give_entries, name_sections_give_one_list,
+    named_operators_read_back, places_and_indent_keep_tokens, plain_text_has_no_color,
+    plain_text_is_utf8, plain_texts_join, printed_operators_read_back, printed_text_is_plain,
+    printed_text_reads_back, reader_takes_nested_operators,
+};

@@ -7,7 +7,7 @@ use Rattle.wasmprinter_spec.specs.Types.{ValType}
 use Rattle.wasmprinter_spec.specs.Binary.ValTypes.{signed_index, val_type_after, val_type, begins_val_type}
 use Rattle.wasmprinter_spec.specs.Operator.{Value, OfType}
 use Rattle.wasmprinter_spec.specs.Instructions.{block_type, block_type_by}
-use Rattle.wasmprinter_types.proofs.FirstBytes.{peeked_is, index_takes_byte, announced_takes_byte}
+use Rattle.wasmprinter_ops.proofs.FirstBytes.{peeked_is, index_takes_byte, announced_takes_byte}
 
 -- If the first byte is not 40 and does not begin a value type, reading the block type reads a type index.
 pub index_read : (at : Input) (first : ℕ) (x : ℕ × Input) → Some first ≡ slice_get at.bytes 0 → first ≢ 0x40 → begins_val_type first ≡ false

@@ -1,10 +1,10 @@
 -- Converting immediates to those of the definitions and back gives the original immediates.
 use Rattle.std.proofs.Common.{◌≡◌, ℕ, zero, suc, ◌<◌, List, [], ◌∷◌, map, refl, ap, ap₂, arith}
-use Rattle.wasmprinter_types.specs.ValTypes.{heap_view, heap_of_view, type_view, type_of_view}
-use Rattle.wasmprinter_types.specs.declared.val_types.HeapType.{HeapType}
-use Rattle.wasmprinter_types.specs.declared.val_types.HeapType.TheVariants as h
-use Rattle.wasmprinter_types.specs.declared.val_types.ValType.{ValType}
-use Rattle.wasmprinter_types.specs.declared.val_types.ValType.TheVariants as t
+use Rattle.wasmprinter_ops.specs.ValTypes.{heap_view, heap_of_view, type_view, type_of_view}
+use Rattle.wasmprinter_ops.specs.declared.val_types.HeapType.{HeapType}
+use Rattle.wasmprinter_ops.specs.declared.val_types.HeapType.TheVariants as h
+use Rattle.wasmprinter_ops.specs.declared.val_types.ValType.{ValType}
+use Rattle.wasmprinter_ops.specs.declared.val_types.ValType.TheVariants as t
 use Rattle.wasmprinter_ops.specs.Blocks.{block_type_view, catch_view, catch_of_view}
 use Rattle.wasmprinter_ops.specs.Immediates.{immediates_view, HasCastFlags}
 use Rattle.wasmprinter_ops.specs.Operands.{source_null, target_null}

@@ -4,7 +4,7 @@ use Rattle.wasmprinter_spec.specs.Grammar.{Input, ◌>>=◌}
 use Rattle.wasmprinter_spec.specs.Operator.{Empty, Value, OfType, One, OneRef, All, AllRef}
 use Rattle.wasmprinter_spec.specs.Operator.{BlockType as DefinedBlockType, Catch as DefinedCatch}
 use Rattle.wasmprinter_spec.specs.Instructions.{catch}
-use Rattle.wasmprinter_types.specs.ValTypes.{type_view}
+use Rattle.wasmprinter_ops.specs.ValTypes.{type_view}
 use Rattle.wasmprinter_ops.specs.declared.blocks.BlockType.{BlockType}
 use Rattle.wasmprinter_ops.specs.declared.blocks.BlockType.TheVariants as block_types
 use Rattle.wasmprinter_ops.specs.declared.blocks.Catch.{Catch}

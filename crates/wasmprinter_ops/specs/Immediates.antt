@@ -7,7 +7,7 @@ use Rattle.wasmprinter_spec.specs.Shapes.{has_shape}
 use Rattle.wasmprinter_spec.specs.Table.{by_opcode}
 use Rattle.wasmprinter_ops.specs.Blocks.{block_type_view, catches_view}
 use Rattle.wasmprinter_ops.specs.Operands.{source_type, target_type}
-use Rattle.wasmprinter_types.specs.ValTypes.{heap_view, types_view}
+use Rattle.wasmprinter_ops.specs.ValTypes.{heap_view, types_view}
 use Rattle.wasmprinter_ops.specs.declared.operator.Immediates.{Immediates}
 use Rattle.wasmprinter_ops.specs.declared.operator.Immediates.TheVariants as i
 

@@ -1,10 +1,12 @@
--- The definitions that the contracts of opcodes and operators use.
+-- The definitions that the contracts of this crate cite.
 pub mod Arities
-pub mod Shapes
-pub mod ByNumber
 pub mod Blocks
-pub mod Operands
+pub mod ByNumber
 pub mod Immediates
-pub mod Nesting
-pub mod Operators
 pub mod Made
+pub mod Nesting
+pub mod Operands
+pub mod Operators
+pub mod Shapes
+pub mod Types
+pub mod ValTypes

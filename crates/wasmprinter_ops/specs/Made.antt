@@ -3,7 +3,7 @@ use Rattle.std.specs.Prelude.{ℕ, Bool, true, false, map}
 use Rattle.wasmprinter_spec.specs.Operator.{NoImmediates, Block, TryTable, Index, Indices, BranchTable, Types, Heap, Cast, Memory, MemoryLane, Lane, I32, I64, F32, F64, Bytes}
 use Rattle.wasmprinter_spec.specs.Operator.{Empty, Value, OfType}
 use Rattle.wasmprinter_spec.specs.Operator.{BlockType as DefinedBlockType, Immediates as DefinedImmediates}
-use Rattle.wasmprinter_types.specs.ValTypes.{heap_of_view, type_of_view}
+use Rattle.wasmprinter_ops.specs.ValTypes.{heap_of_view, type_of_view}
 use Rattle.wasmprinter_ops.specs.Blocks.{catch_of_view}
 use Rattle.wasmprinter_ops.specs.declared.blocks.BlockType.{BlockType}
 use Rattle.wasmprinter_ops.specs.declared.blocks.BlockType.TheVariants as block_types

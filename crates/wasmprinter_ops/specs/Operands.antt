@@ -1,8 +1,8 @@
 -- The reference types of casts, by their flags.
 use Rattle.std.specs.Prelude.{ℕ, Bool, ◌/◌, ◌%◌, ◌==◌}
 use Rattle.wasmprinter_spec.specs.Types.{RefType, ref_type}
-use Rattle.wasmprinter_types.specs.ValTypes.{heap_view}
-use Rattle.wasmprinter_types.specs.declared.val_types.HeapType.{HeapType}
+use Rattle.wasmprinter_ops.specs.ValTypes.{heap_view}
+use Rattle.wasmprinter_ops.specs.declared.val_types.HeapType.{HeapType}
 
 -- Bit 0 of the flags: the first reference type may be null.
 abbrev pub source_null : ℕ → Bool

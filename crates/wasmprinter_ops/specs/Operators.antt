@@ -7,9 +7,9 @@ use Rattle.wasmprinter_spec.specs.Instructions.{opcode_grammar, operator, expres
 use Rattle.wasmprinter_spec.specs.Nesting.{Nests, Sequence, Open, at_start}
 use Rattle.wasmprinter_spec.specs.Table.{role_of}
 use Rattle.wasmprinter_bytes.specs.Lists.{reader_reasons}
-use Rattle.wasmprinter_error.specs.declared.error.Error.{Error}
-use Rattle.wasmprinter_error.specs.Reasons.{HasReason}
-use Rattle.wasmprinter_error.specs.declared.error.Malformed.{Malformed}
+use Rattle.wasmprinter_bytes.specs.declared.error.Error.{Error}
+use Rattle.wasmprinter_bytes.specs.Reasons.{HasReason}
+use Rattle.wasmprinter_bytes.specs.declared.error.Malformed.{Malformed}
 use Rattle.wasmprinter_ops.specs.Nesting.{OpensBlock, open_after}
 use Rattle.wasmprinter_ops.specs.Shapes.{role_view}
 use Rattle.wasmprinter_ops.specs.declared.opcode.Role.{Role}

@@ -5,10 +5,10 @@ ghost use Rattle.wasmprinter_spec.specs.Instructions.{block_type, catch};
 ghost use Rattle.wasmprinter_bytes.specs.Reads.{Reads, IsWithin, end_of};
 ghost use Rattle.wasmprinter_ops.specs.Blocks.{block_type_view, catch_at, catches_view};
 
+use crate::{ValType, begins_type, read_type, read_type_index};
+use wasmprinter_bytes::Malformed;
 use wasmprinter_bytes::bytes::Cursor;
 use wasmprinter_bytes::lists::{Decode, Items, read_items};
-use wasmprinter_error::Malformed;
-use wasmprinter_types::{ValType, begins_type, read_type, read_type_index};
 
 /// The byte that encodes the type of a block without parameters and results.
 const EMPTY: u8 = 0x40;

@@ -11,9 +11,9 @@ use crate::nesting::{Blocks, Step};
 use crate::operator::{Operator, pass_operator, read_placed};
 use std::alloc::Global;
 use std::marker::Model;
+use wasmprinter_bytes::Error;
 use wasmprinter_bytes::bytes::Cursor;
 use wasmprinter_bytes::lists::GrownIn;
-use wasmprinter_error::Error;
 
 /// An iterator over the remaining operators, each with its place.
 #[derive(Drop)]

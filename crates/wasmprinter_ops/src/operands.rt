@@ -5,12 +5,12 @@ ghost use Rattle.wasmprinter_spec.specs.Sized.{take_bytes};
 ghost use Rattle.wasmprinter_spec.specs.Instructions.{mem_arg, float_bits};
 ghost use Rattle.wasmprinter_bytes.specs.Reads.{Reads, IsWithin, end_of};
 ghost use Rattle.wasmprinter_ops.specs.Operands.{source_type, target_type};
-ghost use Rattle.wasmprinter_types.specs.ValTypes.{ref_view};
+ghost use Rattle.wasmprinter_ops.specs.ValTypes.{ref_view};
 
+use crate::{HeapType, RefType};
 use std::marker::Model;
+use wasmprinter_bytes::Malformed;
 use wasmprinter_bytes::bytes::Cursor;
-use wasmprinter_error::Malformed;
-use wasmprinter_types::{HeapType, RefType};
 
 /// A memory operand (section 5.4, "Memory Instructions").
 #[derive(Clone, Copy, Debug, PartialEq, Eq)]

@@ -1,3 +1,4 @@
-pub mod Texts
-pub mod TextRuns
 pub mod Prefixes
+pub mod Repeats
+pub mod TextRuns
+pub mod Texts

@@ -5,7 +5,7 @@ use Rattle.std.proofs.lemmas.List.{map-append}
 use Rattle.std.specs.declared.io.Error.{Error as IoError}
 use Rattle.wasmprinter_spec.specs.Call.{Call, Text, calls_of_bytes, atoms}
 use Rattle.wasmprinter_spec.specs.Meaning.{Meaning, Run, Succeeded, Failed}
-use Rattle.wasmprinter_print.specs.Emits.{Does, Emits, Made, Owes, Calls, Ending, Through, AtCall, Stopped, Never, Whole, Broken}
+use Rattle.wasmprinter_print.specs.Emits.{Does, Emits, Made, Owes, Calls, Ending, Through, AtCall, Stopped, Never, Whole, Broken, Begun}
 
 -- The atoms of two concatenated lists of calls are the atoms of the first followed by those of the second.
 pub atoms-append : (k l : List Call) → atoms (k ++ l) ≡ atoms k ++ atoms l
@@ -30,7 +30,8 @@ longer : (w l k rest : List Call) → atoms w ++ rest ≡ atoms l → atoms w ++
 longer w l k rest p =
     sym (append_assoc (atoms w) rest (atoms k)) ∙ ap (λ x. x ++ atoms k) p ∙ sym (atoms-append l k)
 
-then_calls : {P : Type 0} (m : Meaning P) (a s t : P) (r : Ending) (l k : List Call) →
+-- If all of `l` was made, and then `k` with some ending, then `l ++ k` was made with that ending.
+pub then_calls : {P : Type 0} (m : Meaning P) (a s t : P) (r : Ending) (l k : List Call) →
     Whole m a s l → Calls m s t r k → Calls m a t r (l ++ k)
 then_calls m a s t Through l k w v = record {
   calls = w.calls ++ v.calls;
@@ -56,12 +57,13 @@ then_calls m a s t Stopped l k w v = record {
 }
 then_calls m a s t Never l k w v = v
 
--- If all of `l` was made, and then `k` with some ending, then `l ++ k` was made with that ending.
+-- `then_calls`, of `Made`.
 pub then : {P : Type 0} (m : Meaning P) {a s t : P} {r : Ending} {l k : List Call} →
     Made m a s Through l → Made m s t r k → Made m a t r (l ++ k)
 then m {a} {s} {t} {r} {l} {k} x y = record { made = then_calls m a s t r l k x.made y.made }
 
-broken_longer : {P : Type 0} (m : Meaning P) (a t : P) (e : IoError) (l k : List Call) → Broken m a t e l → Broken m a t e (l ++ k)
+-- Calls that stopped within `l` stopped within `l ++ k`.
+pub broken_longer : {P : Type 0} (m : Meaning P) (a t : P) (e : IoError) (l k : List Call) → Broken m a t e l → Broken m a t e (l ++ k)
 broken_longer m a t e l k v = record {
   calls = v.calls;
   call = v.call;
@@ -70,6 +72,14 @@ broken_longer m a t e l k v = record {
   run = v.run;
   failed = v.failed;
   alike = longer (v.calls ++ v.call ∷ []) l k v.rest v.alike;
+}
+
+pub begun_longer : {P : Type 0} (m : Meaning P) (a t : P) (l k : List Call) → Begun m a t l → Begun m a t (l ++ k)
+begun_longer m a t l k v = record {
+  calls = v.calls;
+  rest = v.rest ++ atoms k;
+  run = v.run;
+  alike = longer v.calls l k v.rest v.alike;
 }
 
 -- If a call of `l` failed and the function returned its error, then the function has made a prefix of `l ++ k`.
@@ -105,7 +115,8 @@ pub does : {P : Type 0} (m : Meaning P) {a t : P} (r : Result (Unit {0}) IoError
 does m (Ok x) c v = called m v
 does m (Err e) c v = call_fails {U = Unit {0}} m (Err e) e refl v
 
-alike_calls : {P : Type 0} (m : Meaning P) (a t : P) (r : Ending) (l k : List Call) → atoms l ≡ atoms k → Calls m a t r l → Calls m a t r k
+-- Layouts that differ only in how text is split into calls: who has made one has made the other.
+pub alike_calls : {P : Type 0} (m : Meaning P) (a t : P) (r : Ending) (l k : List Call) → atoms l ≡ atoms k → Calls m a t r l → Calls m a t r k
 alike_calls m a t Through l k e v = record { calls = v.calls; run = v.run; alike = v.alike ∙ e }
 alike_calls m a t (AtCall x) l k e v = record {
   calls = v.calls;
@@ -119,7 +130,7 @@ alike_calls m a t (AtCall x) l k e v = record {
 alike_calls m a t Stopped l k e v = record { calls = v.calls; rest = v.rest; run = v.run; alike = v.alike ∙ e }
 alike_calls m a t Never l k e v = v
 
--- If two layouts differ only in how text is split into calls, then a function that has made one has made the other.
+-- `alike_calls`, of `Made`.
 pub alike : {P : Type 0} (m : Meaning P) {a t : P} {r : Ending} {l : List Call} (k : List Call) →
     atoms l ≡ atoms k → Made m a t r l → Made m a t r k
 alike m {a} {t} {r} {l} k e v = record { made = alike_calls m a t r l k e v.made }

@@ -1,6 +1,11 @@
--- Definitions and laws for the contracts of printers and of all printing code.
+-- The definitions that the contracts of this crate cite.
+pub mod EffectLaws
+pub mod Effects
 pub mod Emits
 pub mod EmitsLaws
+pub mod Errors
+pub mod Indents
+pub mod OutputLaws
 pub mod Styles
 pub mod TextOnly
 pub mod Writers

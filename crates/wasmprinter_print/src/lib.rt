@@ -1,15 +1,27 @@
-//! The trait [`Print`]: the destination for text, lines and styles.
+//! The trait [`Print`], the destination for text, lines and styles, and the handle through which layout code calls it:
+//! the trait [`Output`], and [`Printer`], which implements it over a [`Print`].
+#![tactic(auto)]
+
 ghost use Rattle.std.specs.Prelude.{◌≡◌, Bool, [], ◌∷◌};
 ghost use Rattle.wasmprinter_spec.specs.Call.{Text, Newline, Line, Start, Literal, Name, Keyword, TypeName, Comment, Reset};
 ghost use Rattle.wasmprinter_spec.specs.Meaning.{Meaning, Succeeded};
 ghost use Rattle.wasmprinter_print.specs.Emits.{Does, Claims, Emits};
 
 mod fmt_write;
+mod halt;
+mod options;
+mod output;
 mod print_text;
+mod printer;
+pub mod sequences;
 mod style;
 
 pub use fmt_write::{PrintFmtWrite, WriteText};
+pub use halt::Halt;
+pub use options::PrintOptions;
+pub use output::{FoldingOutput, Output};
 pub use print_text::{PrintText, text_is_gained};
+pub use printer::{Chosen, Printer};
 use std::io;
 pub use style::Style;
 

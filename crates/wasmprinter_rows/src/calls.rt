@@ -1,5 +1,5 @@
 //! The calls on a printer of some example modules, with folded operators. Folded operators have no styles, since the
-//! printer supports no colors within text. The notation is that of the recorder of `wasmprinter_recorder`.
+//! printer supports no colors within text. The notation is that of the recorder of `wasmprinter_samples`.
 
 /// The calls of `IDENTITY`.
 pub const IDENTITY_FOLDED: &str = r#"[0x0]({K}module{R}

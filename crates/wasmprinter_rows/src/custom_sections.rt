@@ -7,8 +7,7 @@ use crate::modules::customs::{
 };
 use std::test::Fail;
 use wasmprinter::{Config, Error, print_bytes};
-use wasmprinter_recorder::Recorder;
-use wasmprinter_samples::expect_text;
+use wasmprinter_samples::{Recorder, expect_text};
 
 #[test]
 fn prints_the_places_of_custom_sections(rt: HostRuntime) -> Result<(), Fail> {

@@ -1,11 +1,13 @@
-//! Modules that tests print, with their expected texts and calls. Everything is typed by hand: bytes by the binary
-//! format, texts by the text format and the layout.
+//! Modules that tests print, with their expected texts and calls, and a printer that records its calls. Everything is
+//! typed by hand: bytes by the binary format, texts by the text format and the layout.
 #![tactic(auto)]
 
 mod expect;
+mod recorder;
 pub mod sections;
 
 pub use expect::{Different, expect_text};
+pub use recorder::{REFUSED, Recorder};
 
 /// The magic number and the version, which are a whole module.
 pub const PREAMBLE: [u8; 8] = [0x00, 0x61, 0x73, 0x6d, 0x01, 0x00, 0x00, 0x00];

@@ -7,7 +7,7 @@ use Rattle.wasmprinter_spec.specs.Piece.{Piece}
 use Rattle.wasmprinter_spec.specs.Layout.Declarations.{folding_of}
 use Rattle.wasmprinter_spec.specs.Layout.Groups.{numbered_pieces}
 use Rattle.wasmprinter_fold.specs.Views.{FolderView}
-use Rattle.wasmprinter_scope.specs.Scopes.{folding_in}
+use Rattle.wasmprinter_sections.specs.Scopes.{folding_in}
 use Rattle.wasmprinter_sections.specs.Sections.{Folds}
 
 -- The folder of the program represents the one by which the layout folds.

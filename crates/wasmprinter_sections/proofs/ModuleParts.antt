@@ -8,7 +8,7 @@ use Rattle.wasmprinter_spec.specs.Options.{Options, Answers}
 use Rattle.wasmprinter_spec.specs.Layout.{module_parts, section_pieces, early_scope, section_order}
 use Rattle.wasmprinter_spec.specs.Layout.Declarations.{Scope}
 use Rattle.wasmprinter_spec.specs.Layout.Customs.{Part, Shown, parts_at}
-use Rattle.wasmprinter_custom_text.proofs.Places.{one_table}
+use Rattle.wasmprinter_sections.proofs.Places.{one_table}
 use Rattle.wasmprinter_sections.specs.Sections.{sections_parts}
 
 -- ---- Answers by kinds

@@ -1,8 +1,8 @@
 -- The parts of a module are its layout, and how printing it ends.
 use Rattle.std.specs.Prelude.{◌≡◌, ℕ, List, [], ◌∷◌, ◌++◌, ◌||◌, Bool, codes, true, Option, Some, None, Result, Ok, Err, IsErrAnd, refl}
 use Rattle.std.proofs.Common.{sym, ap, ◌∙◌, subst, append_assoc, append-nil}
-use Rattle.wasmprinter_error.specs.declared.error.Error.{Error}
-use Rattle.wasmprinter_error.specs.declared.error.Error.TheVariants.{Memory}
+use Rattle.wasmprinter_bytes.specs.declared.error.Error.{Error}
+use Rattle.wasmprinter_bytes.specs.declared.error.Error.TheVariants.{Memory}
 use Rattle.wasmprinter_spec.specs.Call.{atoms}
 use Rattle.wasmprinter_spec.specs.Meaning.{Meaning}
 use Rattle.wasmprinter_spec.specs.Names.{Names}
@@ -13,12 +13,12 @@ use Rattle.wasmprinter_spec.specs.Layout.{module_parts, module_pieces_of, module
 use Rattle.wasmprinter_spec.specs.Layout.Groups.{close, has_break, group_at}
 use Rattle.wasmprinter_spec.specs.Layout.Identifiers.{leading_id_and_name_pieces}
 use Rattle.wasmprinter_spec.specs.Layout.Customs.{Part, Shown, Laid, before_laid, laid_parts}
-use Rattle.wasmprinter_print.specs.Emits.{Made as MadeCalls, at_growth}
-use Rattle.wasmprinter_output.specs.Made.{state, Ended, Made, of_parts}
-use Rattle.wasmprinter_output.specs.declared.halt.Halt.{Halt}
-use Rattle.wasmprinter_output.specs.declared.halt.Halt.TheVariants as halt
-use Rattle.wasmprinter_output.specs.Errors.{result_of}
-use Rattle.wasmprinter_output.specs.MadeLaws.{made_between}
+use Rattle.wasmprinter_print.specs.Emits.{Made, at_growth}
+use Rattle.wasmprinter_print.specs.Effects.{state, EffectEnds, HasEffect, of_parts}
+use Rattle.wasmprinter_print.specs.declared.halt.Halt.{Halt}
+use Rattle.wasmprinter_print.specs.declared.halt.Halt.TheVariants as halt
+use Rattle.wasmprinter_print.specs.Errors.{result_of}
+use Rattle.wasmprinter_print.specs.EffectLaws.{effect_between}
 use Rattle.wasmprinter_sections.specs.Endings.{PrintsLaid}
 use Rattle.wasmprinter_sections.specs.Sections.{module_laid, inner_parts, last_parts, whole_parts}
 use Rattle.wasmprinter_sections.proofs.Joined.{laid_after, joined-append}
@@ -50,12 +50,12 @@ module-whole o answers names m =
 -- ---- The result of printing a module
 
 module _ {P : Type 0} (m : Meaning P) (o : Options) (old new : P) (b c : Bool) (ps : List Part) where
-  pub ended_laid : (z : Option Halt) → Ended m o.folds (state old None b) new z c (of_parts o ps) →
+  pub ended_laid : (z : Option Halt) → EffectEnds m o.folds (state old None b) new z c (of_parts o ps) →
       PrintsLaid m o old new (result_of z) (laid_parts ps)
   ended_laid None v = record { made = record { made = v.0 }; refused = v.2 }
   ended_laid (Some (halt.Printer e)) v = record { made = record { made = v }; refused = tt }
   ended_laid (Some halt.Memory) v = record {
-    made = subst (λ (f : Bool). MadeCalls m old new (at_growth f) (all_calls o (laid_parts ps).pieces)) (sym v.1) (record { made = v.0 });
+    made = subst (λ (f : Bool). Made m old new (at_growth f) (all_calls o (laid_parts ps).pieces)) (sym v.1) (record { made = v.0 });
     refused = tt;
   }
   ended_laid (Some (halt.Refused id)) v = record { made = record { made = v.0 }; refused = v.1 }
@@ -63,11 +63,11 @@ module _ {P : Type 0} (m : Meaning P) (o : Options) (old new : P) (b c : Bool) (
 -- The result of printing all parts of a module, from a start without an error.
 pub printed : {P : Type 0} (n : Meaning P) (o : Options) {p q old new : P} {y x : Option Halt} (z : Option Halt) {b c : Bool} (answers : Answers)
     (names : Names) (m : PlacedModule) → p ≡ old → y ≡ None → new ≡ q → x ≡ z →
-    Made n o (state p y b) (state q x c) (of_parts o (whole_parts o answers names m)) →
+    HasEffect n o (state p y b) (state q x c) (of_parts o (whole_parts o answers names m)) →
     PrintsLaid n o old new (result_of z) (module_laid o answers names m)
 printed n o {old = old} {new} z {b} {c} answers names m h f g i v =
     subst (λ (l : Laid). PrintsLaid n o old new (result_of z) l) (module-whole o answers names m)
-    (ended_laid n o old new b c (whole_parts o answers names m) z (made_between n o old new z h f g i v))
+    (ended_laid n o old new b c (whole_parts o answers names m) z (effect_between n o old new z h f g i v))
 
 -- If an allocation failed before the first call, then the empty prefix of the layout was made.
 pub stops_first : {P T : Type 0} (m : Meaning P) (o : Options) (a : P) (r : Result T Error) {e : Error} (l : Laid) → o.folds ≡ true → e ≡ Memory →
@@ -75,7 +75,7 @@ pub stops_first : {P T : Type 0} (m : Meaning P) (o : Options) (a : P) (r : Resu
 stops_first m o a (Ok x) l folds s f = absurd f
 stops_first {P} {T} m o a (Err y) l folds s f =
     subst (λ (z : Error). PrintsLaid {T = T} m o a a (Err z) l) (sym (f ∙ s)) (record {
-      made = subst (λ (b : Bool). MadeCalls m a a (at_growth b) (all_calls o l.pieces)) (sym folds)
+      made = subst (λ (b : Bool). Made m a a (at_growth b) (all_calls o l.pieces)) (sym folds)
           (record { made = record { calls = []; rest = atoms (all_calls o l.pieces); run = refl; alike = refl } });
       refused = tt;
     })

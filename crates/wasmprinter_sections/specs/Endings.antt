@@ -1,7 +1,7 @@
 -- The calls that were made for a module, by the result of printing it.
 use Rattle.std.specs.Prelude.{◌≡◌, ℕ, Bool, Option, Some, None, Result, Ok, Err}
-use Rattle.wasmprinter_error.specs.declared.error.Error.{Error}
-use Rattle.wasmprinter_error.specs.declared.error.Error.TheVariants.{DylinkSubsection, Printer, Memory}
+use Rattle.wasmprinter_bytes.specs.declared.error.Error.{Error}
+use Rattle.wasmprinter_bytes.specs.declared.error.Error.TheVariants.{DylinkSubsection, Printer, Memory}
 use Rattle.wasmprinter_spec.specs.Meaning.{Meaning}
 use Rattle.wasmprinter_spec.specs.Options.{Options}
 use Rattle.wasmprinter_spec.specs.Piece.{all_calls}
@@ -10,15 +10,15 @@ use Rattle.wasmprinter_print.specs.Emits.{Made, Ending, Through, AtCall, Never, 
 
 -- How the calls end that were made before this error. A refusal comes after all calls before it, and the printer's
 -- error at the call that failed. Memory can run out only if operators are folded. No other error is returned.
-abbrev pub stop_of : Bool → Error → Ending
-stop_of folds (DylinkSubsection id) = Through
-stop_of folds (Printer e) = AtCall e
-stop_of folds Memory = at_growth folds
-stop_of folds _ = Never
+abbrev pub ending_after : Bool → Error → Ending
+ending_after folds (DylinkSubsection id) = Through
+ending_after folds (Printer e) = AtCall e
+ending_after folds Memory = at_growth folds
+ending_after folds _ = Never
 
-abbrev pub stop : {T : Type 0} → Bool → Result T Error → Ending
-stop folds (Ok x) = Through
-stop folds (Err e) = stop_of folds e
+abbrev pub ending_by : {T : Type 0} → Bool → Result T Error → Ending
+ending_by folds (Ok x) = Through
+ending_by folds (Err e) = ending_after folds e
 
 -- The layout ends at a refusal exactly if the refusal is returned. (A failed call or a failed allocation may come
 -- before a refusal.)
@@ -36,5 +36,5 @@ IsRefused (Err e) refused = IsRefusedAs e refused
 -- returned, or if an allocation failed while operators were folded. A refusal, if there is one, is returned after all
 -- calls. Nothing else is returned as an error.
 pub record PrintsLaid {P T : Type 0} (m : Meaning P) (o : Options) (old new : P) (r : Result T Error) (l : Laid) : Type 0 where
-  pub made : Made m old new (stop o.folds r) (all_calls o l.pieces)
+  pub made : Made m old new (ending_by o.folds r) (all_calls o l.pieces)
   pub refused : IsRefused r l.refused

@@ -1,3 +1,9 @@
--- Definitions that the contracts of this crate cite.
+-- The definitions that the contracts of this crate cite.
 pub mod Endings
+pub mod Functions
+pub mod LocalWalk
+pub mod Parts
+pub mod Scopes
 pub mod Sections
+pub mod TypeLines
+pub mod Unclaimed

@@ -2,22 +2,21 @@
 //! the custom sections at that place.
 ghost use Rattle.std.specs.Prelude.{◌≡◌, ◌++◌, List, None, length};
 ghost use Rattle.wasmprinter_spec.specs.Options.{Answers};
-ghost use Rattle.wasmprinter_spec.specs.Layout.{module_parts, section_order, section_parts};
+ghost use Rattle.wasmprinter_spec.specs.Layout.{section_order};
 ghost use Rattle.wasmprinter_spec.specs.Layout.Customs.{parts_at};
-ghost use Rattle.wasmprinter_entries.specs.Places.{section_kind_view};
-ghost use Rattle.wasmprinter_labels.specs.Scan.{names_of};
-ghost use Rattle.wasmprinter_scope.specs.Scopes.{scope_view};
+ghost use Rattle.wasmprinter_flat.specs.OpenLabels.Scan.{names_of};
+ghost use Rattle.wasmprinter_sections.specs.Scopes.{scope_view};
 ghost use Rattle.wasmprinter_sections.specs.Sections.{sections_parts, inner_parts, whole_parts, Folds};
 
+use crate::scope::{ModuleTypes, Scope};
 use crate::sections::write_fields_of;
-use wasmprinter_custom_text::write_customs;
+use crate::write_customs;
+use wasmprinter_flat::open_labels::OpenLabels;
 use wasmprinter_fold::Folder;
-use wasmprinter_labels::OpenLabels;
-use wasmprinter_output::FoldingOutput;
-use wasmprinter_scope::scope::{ModuleTypes, Scope};
-use wasmprinter_terms::lines::{close_group_at, end_last_line, start_first_line};
-use wasmprinter_terms::words::open_group;
-use wasmprinter_type_text::indices::write_leading_id_and_name;
+use wasmprinter_print::FoldingOutput;
+use wasmprinter_text::indices::write_leading_id_and_name;
+use wasmprinter_text::lines::{close_group_at, end_last_line, start_first_line};
+use wasmprinter_text::words::open_group;
 use wasmprinter_wasm::{ExternKind, Fields, Module, SectionKind};
 
 /// The kinds of sections, in the order in which they are printed.
@@ -36,39 +35,17 @@ const KINDS: [SectionKind; 12] = [
     SectionKind::Data,
 ];
 
-/// Writes the fields of the section of a kind, and the custom sections after it.
-fn write_section<O: FoldingOutput>(
-    out: &mut O,
-    module: &Module<'_>,
-    scope: &mut Scope<'_, '_>,
-    kind: SectionKind,
-)
-    ensures parts { (answers : Answers) × O.laid out.old out.new
-        (section_parts O.chosen (scope_view O.chosen scope.old) module.now answers (section_kind_view kind)) }
-    ensures scope { scope_view O.chosen scope.new ≡ scope_view O.chosen scope.old }
-{
-    write_fields_of(out, module, scope, kind);
-    write_customs(out, module.customs(), Some(kind));
-}
-
-/// Writes the fields of all sections, with the custom sections after each.
-fn write_each_section<O: FoldingOutput>(out: &mut O, module: &Module<'_>, scope: &mut Scope<'_, '_>)
-    ensures { (answers : List Answers) × (length answers ≡ length section_order)
-        × O.laid out.old out.new (sections_parts O.chosen (scope_view O.chosen scope.old) module.now answers section_order) }
-{
-    for kind in &KINDS {
-        write_section(out, module, scope, *kind);
-    }
-}
-
-/// Writes the fields of all sections, with the custom sections at their places among them.
+/// Writes the fields of all sections, with the custom sections before the first and after each.
 fn write_sections<O: FoldingOutput>(out: &mut O, module: &Module<'_>, scope: &mut Scope<'_, '_>)
     ensures { (first : Answers) × (answers : List Answers) × (length answers ≡ length section_order)
         × O.laid out.old out.new (parts_at O.chosen.skeleton first None 0 module.now.customs
         ++ sections_parts O.chosen (scope_view O.chosen scope.old) module.now answers section_order) }
 {
     write_customs(out, module.customs(), None);
-    write_each_section(out, module, scope);
+    for kind in &KINDS {
+        write_fields_of(out, module, scope, *kind);
+        write_customs(out, module.customs(), Some(*kind));
+    }
 }
 
 /// Writes the contents of the module's group: its identifier, if it has one, its fields and its custom sections.

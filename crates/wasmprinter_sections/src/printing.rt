@@ -1,20 +1,19 @@
 //! Printing a module to a printer.
 ghost use Rattle.std.specs.Prelude.{◌≡◌, Bool, true, IfOk, IfErr};
-ghost use Rattle.wasmprinter_error.specs.declared.error.Error.TheVariants.{Memory};
+ghost use Rattle.wasmprinter_bytes.specs.declared.error.Error.TheVariants.{Memory};
 ghost use Rattle.wasmprinter_spec.specs.Options.{Answers, in_colors};
-ghost use Rattle.wasmprinter_labels.specs.Scan.{names_of};
-ghost use Rattle.wasmprinter_output.specs.Made.{Made, state, of_parts};
+ghost use Rattle.wasmprinter_flat.specs.OpenLabels.Scan.{names_of};
+ghost use Rattle.wasmprinter_print.specs.Effects.{HasEffect, state, of_parts};
 ghost use Rattle.wasmprinter_sections.specs.Endings.{PrintsLaid};
 ghost use Rattle.wasmprinter_sections.specs.Sections.{module_laid, whole_parts, Folds};
 
 use crate::modules::write_module;
 use std::alloc::Global;
 use std::marker::Brand;
-use wasmprinter_error::Error;
+use wasmprinter_bytes::Error;
+use wasmprinter_flat::open_labels::OpenLabels;
 use wasmprinter_fold::Folder;
-use wasmprinter_labels::OpenLabels;
-use wasmprinter_output::{Chosen, PrintOptions, Printer};
-use wasmprinter_print::Print;
+use wasmprinter_print::{Chosen, Print, PrintOptions, Printer};
 use wasmprinter_wasm::Module;
 
 /// Returns the folder of a module's operators, or `None` if operators are not folded. It writes ANSI escape
@@ -43,7 +42,7 @@ fn write_to_printer<'o, 'p, 's, 'a, P: Print, K: Chosen>(
 )
     requires { Folds K.options folder module.now }
     ensures same { out.new.printer.ghost_name ≡ out.old.printer.ghost_name }
-    ensures made { (answers : Answers) × Made P.meaning K.options (state out.old.printer.now out.old.halt out.old.begun)
+    ensures made { (answers : Answers) × HasEffect P.meaning K.options (state out.old.printer.now out.old.halt out.old.begun)
         (state out.new.printer.now out.new.halt out.new.begun)
         (of_parts K.options (whole_parts K.options answers (names_of labels.entry) module.now)) }
 {

@@ -6,19 +6,19 @@ ghost use Rattle.wasmprinter_spec.specs.Layout.{section_pieces};
 ghost use Rattle.wasmprinter_spec.specs.Layout.DataSegments.{data_pieces};
 ghost use Rattle.wasmprinter_spec.specs.Layout.Functions.{functions_pieces};
 ghost use Rattle.wasmprinter_spec.specs.Layout.Groups.{numbered_pieces};
-ghost use Rattle.wasmprinter_entries.specs.Externs.{kind_view, imported_count};
-ghost use Rattle.wasmprinter_entries.specs.Places.{section_kind_view};
-ghost use Rattle.wasmprinter_scope.specs.Scopes.{scope_view, function_scope_view};
-ghost use Rattle.wasmprinter_fields.specs.Parts.{field_line};
+ghost use Rattle.wasmprinter_wasm.specs.Externs.{kind_view, imported_count};
+ghost use Rattle.wasmprinter_wasm.specs.Places.{section_kind_view};
+ghost use Rattle.wasmprinter_sections.specs.Scopes.{scope_view, function_scope_view};
+ghost use Rattle.wasmprinter_sections.specs.Parts.{field_line};
 
-use wasmprinter_bodies::functions::write_function;
-use wasmprinter_fields::fields::{Field, write_each};
-use wasmprinter_fields::imports::write_imports;
-use wasmprinter_fields::start::write_start;
-use wasmprinter_fields::types::write_type_groups;
-use wasmprinter_foldable::hints::hints_of;
-use wasmprinter_output::FoldingOutput;
-use wasmprinter_scope::scope::Scope;
+use crate::fields::{Field, write_each};
+use crate::functions::write_function;
+use crate::imports::write_imports;
+use crate::scope::Scope;
+use crate::start::write_start;
+use crate::types::write_type_groups;
+use wasmprinter_fold::foldable::hints::hints_of;
+use wasmprinter_print::FoldingOutput;
 use wasmprinter_wasm::{ExternKind, Fields, Module, SectionKind};
 
 /// Writes the functions that the module defines, with their branch hints. Their indices follow those of the

@@ -167,19 +167,19 @@ unfolding reading
 odd_reads = refl
 
 -- A field name with a space is no word, so the section is printed as raw bytes.
-abbrev blank : List ℕ
-blank = with_producers (0x01 ∷ 0x03 ∷ (codes "a b" ++ (0x01 ∷ 0x01 ∷ (codes "x" ++ (0x01 ∷ codes "1")))))
+abbrev spaced : List ℕ
+spaced = with_producers (0x01 ∷ 0x03 ∷ (codes "a b" ++ (0x01 ∷ 0x01 ∷ (codes "x" ++ (0x01 ∷ codes "1")))))
 
-abbrev blank_text : List ℕ
-blank_text = lines (codes "(module" ∷ codes "  (@custom \"producers\" (before first) \"\\01\\03a b\\01\\01x\\011\")" ∷ codes ")" ∷ [])
+abbrev spaced_text : List ℕ
+spaced_text = lines (codes "(module" ∷ codes "  (@custom \"producers\" (before first) \"\\01\\03a b\\01\\01x\\011\")" ∷ codes ")" ∷ [])
 
-blank_prints : printed blank ≡ Some blank_text
+spaced_prints : printed spaced ≡ Some spaced_text
 unfolding composing reading
-blank_prints = refl
+spaced_prints = refl
 
-blank_reads : read blank_text ≡ decoded blank
+spaced_reads : read spaced_text ≡ decoded spaced
 unfolding reading
-blank_reads = refl
+spaced_reads = refl
 
 -- A section without bytes is malformed. A section with 0 fields is not.
 faulted_producers : printed (with_producers []) ≡ Some (lines (codes "(module" ∷ codes "  ;; failed to parse custom section `producers`" ∷ codes "  (@custom \"producers\" (before first) \"\")" ∷ codes ")" ∷ []))

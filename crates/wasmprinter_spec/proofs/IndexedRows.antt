@@ -246,8 +246,8 @@ mixed_not_indexed i = let (first, (second, _)) = i.exports in omega (arith, seco
 default_indent : IsBlank defaults.indent
 default_indent = (inl refl, (inl refl, tt))
 
-tab_and_blank : IsBlank (codes "\t ")
-tab_and_blank = (inr refl, (inl refl, tt))
+tab_and_space : IsBlank (codes "\t ")
+tab_and_space = (inr refl, (inl refl, tt))
 
 no_indent : IsBlank []
 no_indent = tt

@@ -26,10 +26,10 @@ escape (inl e) = omega arith
 escape (inr (inl e)) = omega arith
 escape (inr (inr h)) = omega (arith, h.0, h.1)
 
-before_blank : IsPlainByte 31 → ⊥
-before_blank (inl e) = omega arith
-before_blank (inr (inl e)) = omega arith
-before_blank (inr (inr h)) = omega (arith, h.0, h.1)
+before_space : IsPlainByte 31 → ⊥
+before_space (inl e) = omega arith
+before_space (inr (inl e)) = omega arith
+before_space (inr (inr h)) = omega (arith, h.0, h.1)
 
 delete : IsPlainByte 127 → ⊥
 delete (inl e) = omega arith

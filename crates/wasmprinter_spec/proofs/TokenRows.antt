@@ -32,9 +32,9 @@ same_name : tokens (codes "$f $\"f\" $\"\\66\" $\"\\u{66}\"") ≡ name (codes "f
 unfolding lex class escape numeral encode_utf8 is_utf8 chars
 same_name = refl
 
-name_with_blank : tokens (codes "$\"a b\" $$ $@") ≡ name (codes "a b") ∷ name (codes "$") ∷ name (codes "@") ∷ []
+name_with_space : tokens (codes "$\"a b\" $$ $@") ≡ name (codes "a b") ∷ name (codes "$") ∷ name (codes "@") ∷ []
 unfolding lex class encode_utf8 is_utf8 chars
-name_with_blank = refl
+name_with_space = refl
 
 -- An identifier is neither empty nor invalid UTF-8. A dollar sign alone is no identifier.
 no_names : tokens (codes "$ $\"\" $\"\\ff\" ($)") ≡ reserved ∷ reserved ∷ reserved ∷ left ∷ reserved ∷ right ∷ []

@@ -1,4 +1,4 @@
--- The laws of these definitions. They are the contracts of functions of the crates above this one. The standard
+-- The laws of these definitions. They are the contracts of functions of the crate `wasmprinter_laws`. The standard
 -- states none of them.
 use Rattle.std.specs.Prelude.{◌≡◌, ℕ, ◌<◌, ◌^◌, List, [], ◌∷◌, ◌++◌, map, false, Some, None, ◌↔◌, chars, IsUtf8}
 use Rattle.std.specs.List.{AllByRecursion}

@@ -61,10 +61,14 @@ repetition_of (suc n) text = text ++ repetition_of n text
 unfoldable pub left_in : ℕ → List ℕ → List ℕ
 left_in width text = text ++ replicate (width - length text) 32
 
--- The comment with a place in hexadecimal, filled with spaces to six digits; the same number of spaces if there is
--- no place.
+-- The width of a place at the start of a line, in hexadecimal digits.
+abbrev pub place_width : ℕ
+place_width = 6
+
+-- The comment with a place in hexadecimal, filled with spaces to that width; the same number of spaces if there is no
+-- place.
 unfoldable pub place_text : Option ℕ → List ℕ
-place_text (Some p) = codes "(;@" ++ (left_in 6 (digits 16 false p) ++ codes ";)")
+place_text (Some p) = codes "(;@" ++ (left_in place_width (digits 16 false p) ++ codes ";)")
 place_text None = replicate 11 32
 
 abbrev pub place_calls : Bool → Option ℕ → List Call
@@ -76,9 +80,9 @@ abbrev pub calls_in_style : Style → List ℕ → List Call
 calls_in_style style s = Start style ∷ (Text s ∷ (Start Reset ∷ []))
 
 -- Words, with a space before each.
-abbrev pub after_blanks : List (List ℕ) → List ℕ
-after_blanks [] = []
-after_blanks (w ∷ ws) = 32 ∷ (w ++ after_blanks ws)
+abbrev pub after_spaces : List (List ℕ) → List ℕ
+after_spaces [] = []
+after_spaces (w ∷ ws) = 32 ∷ (w ++ after_spaces ws)
 
 abbrev pub word_tokens : List (List ℕ) → List Token
 word_tokens ws = map token.word ws
@@ -109,8 +113,8 @@ calls o (TypeWordGap w) = calls_in_style TypeName (w ++ codes " ")
 calls o (GapTypeWord w) = calls_in_style TypeName (32 ∷ w)
 calls o (Number n) = calls_in_style Name (decimal n)
 calls o (Constant z) = calls_in_style Literal (32 ∷ signed_decimal z)
-calls o (Literals w ws) = calls_in_style Literal (w ++ after_blanks ws)
-calls o (GapLiterals ws) = calls_in_style Literal (after_blanks ws)
+calls o (Literals w ws) = calls_in_style Literal (w ++ after_spaces ws)
+calls o (GapLiterals ws) = calls_in_style Literal (after_spaces ws)
 calls o (Float w bits) = float_calls w bits
 calls o (IndexComment n) = Text (codes "(;" ++ (decimal n ++ codes ";)")) ∷ []
 calls o BeginName = Start Name ∷ []

@@ -1,5 +1,5 @@
 -- The laws of lines and of the places with which they begin. They are the contracts of functions of the crate
--- `wasmprinter_places`.
+-- `wasmprinter_laws`.
 use Rattle.std.specs.Prelude.{◌≡◌, ℕ, List, false, Some, None, slice_get}
 use Rattle.wasmprinter_spec.specs.Binary.{Spells}
 use Rattle.wasmprinter_spec.specs.Grammar.{Placed}

@@ -17,18 +17,18 @@ use Rattle.wasmprinter_spec.specs.Binary.{AreBytes, preamble, types_in, imports_
 use Rattle.wasmprinter_spec.specs.Binary.{counts_data, function_pairs, module_from, module_of_sections, binary, Spells}
 use Rattle.wasmprinter_spec.specs.Limits.{HasFewLocals, IsWithinLimits, most_functions}
 use Rattle.wasmprinter_bytes.specs.Reads.{end_of}
-use Rattle.wasmprinter_error.specs.declared.error.Error.{Error}
-use Rattle.wasmprinter_error.specs.declared.error.Error.TheVariants as e
-use Rattle.wasmprinter_error.specs.Reasons.{HasReason}
-use Rattle.wasmprinter_error.proofs.Reasons.{reason_implied, memory_alone}
+use Rattle.wasmprinter_bytes.specs.declared.error.Error.{Error}
+use Rattle.wasmprinter_bytes.specs.declared.error.Error.TheVariants as e
+use Rattle.wasmprinter_bytes.specs.Reasons.{HasReason}
+use Rattle.wasmprinter_bytes.proofs.Reasons.{reason_implied, memory_alone}
 use Rattle.wasmprinter_spec.proofs.Each.{all_parts}
-use Rattle.wasmprinter_entries.specs.Refusals.{AnyIsOver, PlacedTable, FirstIsEmpty}
-use Rattle.wasmprinter_entries.specs.Contents.{HasFew, HasNoEmpty}
+use Rattle.wasmprinter_wasm.specs.Refusals.{AnyIsOver, PlacedTable, FirstIsEmpty}
+use Rattle.wasmprinter_wasm.specs.Contents.{HasFew, HasNoEmpty}
 use Rattle.wasmprinter_wasm.specs.Gathering.{Gathered, IsWhole, sections_at, item_count_in, HoldsSections, sections_reasons}
 use Rattle.wasmprinter_wasm.specs.Modules.{functions_of, bodies_of, IsPaired, HasFewItems}
 use Rattle.wasmprinter_wasm.specs.Decoding.{HoldsSome, HoldsNothing, module_reasons, IsFaultOf, TakesModule}
-use Rattle.wasmprinter_entries.proofs.LaterPlaces.{IsLater, later_none, later_more, many_later, empty_later, section_later, kept_later}
-use Rattle.wasmprinter_segments.proofs.Emptied.{not_empty}
+use Rattle.wasmprinter_wasm.proofs.LaterPlaces.{IsLater, later_none, later_more, many_later, empty_later, section_later, kept_later}
+use Rattle.wasmprinter_wasm.proofs.Emptied.{not_empty}
 use Rattle.wasmprinter_wasm.proofs.Pairing.{Paired, Pairs, paired_of, paired_length, pairs_of}
 use Rattle.wasmprinter_wasm.proofs.OrderedSections.{HoldsFew, few_held}
 use Rattle.wasmprinter_wasm.proofs.Listed.{sections_listed, items_held}

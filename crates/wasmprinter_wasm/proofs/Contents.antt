@@ -6,16 +6,16 @@ use Rattle.wasmprinter_spec.specs.Name.{u32}
 use Rattle.wasmprinter_spec.specs.Sized.{front_at}
 use Rattle.wasmprinter_spec.specs.Sections.{Kind, kind_of, Content, Section, holds, content, section}
 use Rattle.wasmprinter_bytes.specs.Reads.{end_of}
-use Rattle.wasmprinter_error.specs.declared.error.Error.{Error}
-use Rattle.wasmprinter_error.specs.declared.error.Error.TheVariants.{Malformed as AtPlace}
-use Rattle.wasmprinter_error.specs.Reasons.{HasReason}
-use Rattle.wasmprinter_error.proofs.Reasons.{reason_implied}
+use Rattle.wasmprinter_bytes.specs.declared.error.Error.{Error}
+use Rattle.wasmprinter_bytes.specs.declared.error.Error.TheVariants.{Malformed as AtPlace}
+use Rattle.wasmprinter_bytes.specs.Reasons.{HasReason}
+use Rattle.wasmprinter_bytes.proofs.Reasons.{reason_implied}
 use Rattle.wasmprinter_wasm.specs.declared.sections.Section.{Section as SectionRead}
-use Rattle.wasmprinter_entries.specs.Refusals.{BeginsSection}
+use Rattle.wasmprinter_wasm.specs.Refusals.{BeginsSection}
 use Rattle.wasmprinter_wasm.specs.Sections.{section_view, section_reasons, TakesContent, TakesSection}
-use Rattle.wasmprinter_entries.specs.Contents.{HasOver, HasEmpty, HasCount, item_count, CountStands, content_reasons}
-use Rattle.wasmprinter_entries.proofs.Parts.{sized, sized_is, sized_none, sized_some, old_parts, part_within}
-use Rattle.wasmprinter_entries.proofs.LaterPlaces.{many_in_part, IsLater, later_none, later_more, many_later, empty_later, empty_in_part}
+use Rattle.wasmprinter_wasm.specs.Contents.{HasOver, HasEmpty, HasCount, item_count, CountStands, content_reasons}
+use Rattle.wasmprinter_wasm.proofs.Parts.{sized, sized_is, sized_none, sized_some, old_parts, part_within}
+use Rattle.wasmprinter_wasm.proofs.LaterPlaces.{many_in_part, IsLater, later_none, later_more, many_later, empty_later, empty_in_part}
 
 -- An id and a size were read, and that many bytes cut out.
 module _ (old after_id mid part new : Input) (id size : ℕ) (id_read : byte.parse old ≡ Some (id, after_id)) (size_read : u32.parse after_id ≡ Some (size, mid))

@@ -6,14 +6,14 @@ use Rattle.wasmprinter_spec.specs.Sections.{Kind, CustomSection, FunctionSection
 use Rattle.wasmprinter_spec.specs.Binary.{type_indices_in, tables_in, bodies_in}
 use Rattle.wasmprinter_spec.proofs.Ordered.{last_rank, last_rank_push, above_push, above_midst}
 use Rattle.wasmprinter_bytes.specs.Reads.{end_of}
-use Rattle.wasmprinter_error.specs.declared.error.Error.{Error}
-use Rattle.wasmprinter_error.specs.Reasons.{HasReason}
-use Rattle.wasmprinter_error.proofs.Reasons.{reason_implied}
-use Rattle.wasmprinter_entries.specs.Refusals.{AnyIsOver, FirstIsEmpty}
-use Rattle.wasmprinter_entries.specs.Contents.{IsSmall, HasCount, HasOver, HasEmpty, item_count}
+use Rattle.wasmprinter_bytes.specs.declared.error.Error.{Error}
+use Rattle.wasmprinter_bytes.specs.Reasons.{HasReason}
+use Rattle.wasmprinter_bytes.proofs.Reasons.{reason_implied}
+use Rattle.wasmprinter_wasm.specs.Refusals.{AnyIsOver, FirstIsEmpty}
+use Rattle.wasmprinter_wasm.specs.Contents.{IsSmall, HasCount, HasOver, HasEmpty, item_count}
 use Rattle.wasmprinter_wasm.specs.Sections.{section_reasons}
 use Rattle.wasmprinter_wasm.specs.Gathering.{Gathered, none_gathered, Kept, gathered_items, with_section, IsHeld, sections_at, item_count_in, HoldsSections, sections_reasons}
-use Rattle.wasmprinter_entries.proofs.LaterPlaces.{IsLater, later_none, later_more, many_later, empty_later, section_later, kept_later, custom_read}
+use Rattle.wasmprinter_wasm.proofs.LaterPlaces.{IsLater, later_none, later_more, many_later, empty_later, section_later, kept_later, custom_read}
 use Rattle.wasmprinter_wasm.proofs.ItemsToEnd.{in_front, until_item, until_fault, until_done}
 use Rattle.wasmprinter_wasm.proofs.OrderedSections.{custom_kind, last_place, last_place_push, kept_none, kept_with, kept_push, kept_added, some_midst, count_midst, over_midst, empty_midst}
 

@@ -5,7 +5,7 @@ use Rattle.std.proofs.lemmas.List.{at_drop_more}
 use Rattle.wasmprinter_spec.specs.Grammar.{Placed}
 use Rattle.wasmprinter_spec.specs.Types.{ExternKind, FuncKind, TableKind, MemoryKind, GlobalKind, TagKind, ExternType, FuncExtern, TableExtern, MemoryExtern, GlobalExtern, TagExtern}
 use Rattle.wasmprinter_spec.specs.Placed.{Import}
-use Rattle.wasmprinter_entries.specs.Externs.{kind_of_type, imported_count}
+use Rattle.wasmprinter_wasm.specs.Externs.{kind_of_type, imported_count}
 
 -- An import of the kind at the front increases the count by one.
 one_of : (t : ExternType) (x : Placed Import) (xs : List (Placed Import)) → x.value.type ≡ t → imported_count (kind_of_type t) (x ∷ xs) ≡ suc (imported_count (kind_of_type t) xs)

@@ -22,7 +22,7 @@ use Rattle.wasmprinter_spec.specs.Binary.{AreBytes}
 use Rattle.wasmprinter_spec.proofs.Each.{all_parts}
 use Rattle.wasmprinter_spec.proofs.Ordered.{held_each}
 use Rattle.wasmprinter_bytes.proofs.Powers.{joined_fits}
-use Rattle.wasmprinter_entries.specs.Contents.{item_count}
+use Rattle.wasmprinter_wasm.specs.Contents.{item_count}
 use Rattle.wasmprinter_wasm.specs.Modules.{HasFewItems}
 use Rattle.wasmprinter_wasm.specs.Gathering.{Gathered, IsHeld, sections_at}
 

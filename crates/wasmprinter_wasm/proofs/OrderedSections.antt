@@ -11,10 +11,10 @@ use Rattle.wasmprinter_spec.specs.Sections.{Kind, Section, holds, section_kind, 
 use Rattle.wasmprinter_spec.specs.Binary.{type_indices_in, tables_in, bodies_in}
 use Rattle.wasmprinter_spec.specs.Limits.{most_functions}
 use Rattle.wasmprinter_spec.proofs.Ordered.{with_one, held_push, held_each, held_midst, held_picked}
-use Rattle.wasmprinter_entries.specs.Refusals.{AnyIsOver, FirstIsEmpty}
-use Rattle.wasmprinter_entries.specs.Contents.{HasFew, HasNoEmpty, IsSmall, HasCount, HasOver, HasEmpty, item_count}
-use Rattle.wasmprinter_entries.specs.declared.places.SectionKind.{SectionKind}
-use Rattle.wasmprinter_entries.specs.Places.{place_view}
+use Rattle.wasmprinter_wasm.specs.Refusals.{AnyIsOver, FirstIsEmpty}
+use Rattle.wasmprinter_wasm.specs.Contents.{HasFew, HasNoEmpty, IsSmall, HasCount, HasOver, HasEmpty, item_count}
+use Rattle.wasmprinter_wasm.specs.declared.places.SectionKind.{SectionKind}
+use Rattle.wasmprinter_wasm.specs.Places.{place_view}
 use Rattle.wasmprinter_wasm.specs.Gathering.{Gathered, none_gathered, Kept, gathered_items, section_items, with_section, IsHeld, item_count_in}
 
 -- ---- custom sections

@@ -1,5 +1,13 @@
--- Definitions for the contracts of decoding and of a decoded module.
-pub mod Sections
-pub mod Modules
-pub mod Gathering
+-- The definitions that the contracts of this crate cite.
+pub mod Bodies
+pub mod Contents
 pub mod Decoding
+pub mod Externs
+pub mod Gathering
+pub mod Growing
+pub mod Modules
+pub mod Places
+pub mod Refusals
+pub mod Sections
+pub mod Segments
+pub mod Tables

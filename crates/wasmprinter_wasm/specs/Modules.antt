@@ -7,7 +7,7 @@ use Rattle.wasmprinter_spec.specs.Operator.{Operator}
 use Rattle.wasmprinter_spec.specs.Placed.{Import, Global, Body, PlacedFunction}
 use Rattle.wasmprinter_spec.specs.Binary.{function_pairs}
 use Rattle.wasmprinter_spec.specs.Limits.{most_functions}
-use Rattle.wasmprinter_entries.specs.Refusals.{PlacedTable}
+use Rattle.wasmprinter_wasm.specs.Refusals.{PlacedTable}
 
 -- Each type index with its body. The list is empty if there are not as many bodies as type indices.
 abbrev pub functions_of : List ℕ → List (Placed Body) → List PlacedFunction

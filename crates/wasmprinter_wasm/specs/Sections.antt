@@ -6,13 +6,13 @@ use Rattle.wasmprinter_spec.specs.Sections.{ExportSection, StartSection, Element
 use Rattle.wasmprinter_spec.specs.Sections.{Kind, content, holds, section, Section as SectionValue}
 use Rattle.wasmprinter_spec.specs.Limits.{most_functions}
 use Rattle.wasmprinter_bytes.specs.Reads.{end_of}
-use Rattle.wasmprinter_error.specs.declared.error.Error.{Error}
-use Rattle.wasmprinter_error.specs.declared.error.Error.TheVariants.{Malformed as AtPlace}
-use Rattle.wasmprinter_error.specs.Reasons.{Reasons, HasReason}
+use Rattle.wasmprinter_bytes.specs.declared.error.Error.{Error}
+use Rattle.wasmprinter_bytes.specs.declared.error.Error.TheVariants.{Malformed as AtPlace}
+use Rattle.wasmprinter_bytes.specs.Reasons.{Reasons, HasReason}
 use Rattle.wasmprinter_wasm.specs.declared.sections.Section.{Section}
 use Rattle.wasmprinter_wasm.specs.declared.sections.Section.TheVariants as s
-use Rattle.wasmprinter_entries.specs.Contents.{HasOver, HasEmpty, HasCount, IsSmall, item_count, content_reasons}
-use Rattle.wasmprinter_entries.specs.Refusals.{HasManyLocals, HasEmptyInit, BeginsSection, BeginsItems}
+use Rattle.wasmprinter_wasm.specs.Contents.{HasOver, HasEmpty, HasCount, IsSmall, item_count, content_reasons}
+use Rattle.wasmprinter_wasm.specs.Refusals.{HasManyLocals, HasEmptyInit, BeginsSection, BeginsItems}
 
 -- The section as a value of the definitions.
 abbrev pub section_view : Section → SectionValue

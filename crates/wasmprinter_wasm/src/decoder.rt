@@ -9,24 +9,24 @@ ghost use Rattle.wasmprinter_wasm.specs.Sections.{section_view};
 ghost use Rattle.wasmprinter_wasm.specs.Gathering.{none_gathered, with_section, IsWhole, TakesSections};
 ghost use Rattle.wasmprinter_wasm.specs.Decoding.{IsRefusal, HoldsNothing, TakesModule};
 
+use crate::code::Body;
+use crate::data_segments::Data;
+use crate::elements::Element;
+use crate::exports::Export;
+use crate::globals::Global as GlobalVariable;
+use crate::imports::Import;
+use crate::memories::Memory;
 use crate::module::Module;
+use crate::places::{CustomEntry, SectionKind};
 use crate::sections::Section;
+use crate::start::Start;
+use crate::tables::Table;
+use crate::tags::Tag;
+use crate::types::Types;
 use std::alloc::{AllocError, Global};
 use std::marker::Model;
 use wasmprinter_bytes::bytes::Cursor;
-use wasmprinter_entries::exports::Export;
-use wasmprinter_entries::imports::Import;
-use wasmprinter_entries::memories::Memory;
-use wasmprinter_entries::places::{CustomEntry, SectionKind};
-use wasmprinter_entries::start::Start;
-use wasmprinter_entries::tags::Tag;
-use wasmprinter_entries::types::Types;
-use wasmprinter_error::{Error, Malformed};
-use wasmprinter_segments::code::Body;
-use wasmprinter_segments::data_segments::Data;
-use wasmprinter_segments::elements::Element;
-use wasmprinter_segments::globals::Global as GlobalVariable;
-use wasmprinter_segments::tables::Table;
+use wasmprinter_bytes::{Error, Malformed};
 
 /// The preamble: the magic number and the version.
 const PREAMBLE: [u8; 8] = [0x00, 0x61, 0x73, 0x6d, 0x01, 0x00, 0x00, 0x00];
@@ -78,7 +78,7 @@ struct Gathered<'a> {
 }
 
 impl<'a> Model for Gathered<'a> {
-    ghost use Rattle.wasmprinter_entries.specs.Places.{place_view};
+    ghost use Rattle.wasmprinter_wasm.specs.Places.{place_view};
     ghost use Rattle.wasmprinter_wasm.specs.Gathering.{Gathered as GatheredValue};
 
     ghost Value = { GatheredValue };

@@ -1,8 +1,8 @@
 //! Functions that a module defines.
 ghost use Rattle.std.specs.Prelude.{◌≡◌};
 
+use crate::code::Body;
 use std::marker::Model;
-use wasmprinter_segments::code::Body;
 
 /// A defined function.
 #[derive(Drop)]

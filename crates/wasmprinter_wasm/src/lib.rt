@@ -1,30 +1,49 @@
-//! Modules in the binary format (chapter 5 of the WebAssembly Core Specification): `decode`, and the decoded
-//! [`Module`] with its items.
+//! Modules in the binary format (section 5.5 of the WebAssembly Core Specification): the contents of each section,
+//! `decode`, and the decoded [`Module`] with its items.
 #![tactic(auto)]
 
+mod code;
+pub mod customs;
+mod data_segments;
 mod decoder;
+mod elements;
+mod expected;
+mod exports;
+mod flags;
 mod function;
+mod functions;
+mod global_types;
+mod globals;
+mod imports;
+mod limits;
+mod memories;
 mod module;
 mod names;
+pub mod places;
 mod sections;
+mod start;
+mod table_types;
+mod tables;
+mod tags;
+mod types;
 
+pub use code::{Body, BodyParts, LocalEntry, Locals};
+pub use customs::Custom;
+pub use data_segments::{Data, DataMode};
 pub use decoder::decode;
+pub use elements::{Element, ElementItems, ElementMode};
+pub use exports::{Export, ExternKind};
 pub use function::Function;
+pub use global_types::GlobalType;
+pub use globals::Global;
+pub use imports::{ExternType, Import};
+pub use limits::Limits;
+pub use memories::{Memory, MemoryType};
 pub use module::{Fields, Module};
-pub use wasmprinter_entries::customs::Custom;
-pub use wasmprinter_entries::exports::{Export, ExternKind};
-pub use wasmprinter_entries::global_types::GlobalType;
-pub use wasmprinter_entries::imports::{ExternType, Import};
-pub use wasmprinter_entries::limits::Limits;
-pub use wasmprinter_entries::memories::{Memory, MemoryType};
-pub use wasmprinter_entries::places::{CustomEntry, SectionKind};
-pub use wasmprinter_entries::start::Start;
-pub use wasmprinter_entries::table_types::TableType;
-pub use wasmprinter_entries::tags::Tag;
-pub use wasmprinter_entries::types::TypeGroup;
-pub use wasmprinter_names::{Name, NameEntries, Names, Space};
-pub use wasmprinter_segments::code::{Body, BodyParts, LocalEntry, Locals};
-pub use wasmprinter_segments::data_segments::{Data, DataMode};
-pub use wasmprinter_segments::elements::{Element, ElementItems, ElementMode};
-pub use wasmprinter_segments::globals::Global;
-pub use wasmprinter_segments::tables::Table;
+pub use places::{CustomEntry, SectionKind};
+pub use start::Start;
+pub use table_types::TableType;
+pub use tables::Table;
+pub use tags::Tag;
+pub use types::TypeGroup;
+pub use wasmprinter_custom::{Name, NameEntries, Names, Space};

@@ -2,24 +2,24 @@
 ghost use Rattle.std.specs.Prelude.{◌≡◌, ◌<◌, ◌^◌, length, Some, option_map, slice_get};
 ghost use Rattle.wasmprinter_spec.specs.Types.{all_types, signature_at, fields_at};
 ghost use Rattle.wasmprinter_spec.specs.Module.{groups_of};
-ghost use Rattle.wasmprinter_entries.specs.Externs.{kind_view, imported_count};
+ghost use Rattle.wasmprinter_wasm.specs.Externs.{kind_view, imported_count};
 ghost use Rattle.wasmprinter_wasm.specs.Modules.{body_at};
 
+use crate::code::Body;
+use crate::data_segments::Data;
+use crate::elements::Element;
+use crate::exports::{Export, ExternKind};
 use crate::function::Function;
+use crate::globals::Global;
+use crate::imports::Import;
+use crate::memories::Memory;
+use crate::places::CustomEntry;
+use crate::start::Start;
+use crate::tables::Table;
+use crate::tags::Tag;
+use crate::types::{TypeGroup, Types};
 use std::marker::Model;
-use wasmprinter_entries::exports::{Export, ExternKind};
-use wasmprinter_entries::imports::Import;
-use wasmprinter_entries::memories::Memory;
-use wasmprinter_entries::places::CustomEntry;
-use wasmprinter_entries::start::Start;
-use wasmprinter_entries::tags::Tag;
-use wasmprinter_entries::types::{TypeGroup, Types};
-use wasmprinter_segments::code::Body;
-use wasmprinter_segments::data_segments::Data;
-use wasmprinter_segments::elements::Element;
-use wasmprinter_segments::globals::Global;
-use wasmprinter_segments::tables::Table;
-use wasmprinter_types::composite::FuncType;
+use wasmprinter_ops::composite::FuncType;
 
 /// A decoded module. Its names, expressions and data are slices of the bytes that were decoded.
 #[derive(Drop)]

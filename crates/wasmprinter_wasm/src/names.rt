@@ -1,14 +1,14 @@
 //! The names in the name sections of a module.
 ghost use Rattle.std.specs.Prelude.{◌≡◌, ℕ, [], IsOk, IfOk, IfErr};
-ghost use Rattle.wasmprinter_error.specs.declared.error.Error.TheVariants.{Memory};
+ghost use Rattle.wasmprinter_bytes.specs.declared.error.Error.TheVariants.{Memory};
 ghost use Rattle.wasmprinter_spec.specs.Names.Content.{name_of};
 ghost use Rattle.wasmprinter_spec.specs.ModuleNames.{name_entries};
-ghost use Rattle.wasmprinter_names.specs.Views.{name_at};
+ghost use Rattle.wasmprinter_custom.specs.Views.{name_at};
 
 use crate::module::{Fields, Module};
 use std::alloc::Global;
-use wasmprinter_error::Error;
-use wasmprinter_names::{Names, NamesBuilder, read_names};
+use wasmprinter_bytes::Error;
+use wasmprinter_custom::{Names, NamesBuilder, read_names};
 
 impl<'a> Module<'a> {
     /// Returns the names in the module's name sections. If they give several names to an item, the last one counts.

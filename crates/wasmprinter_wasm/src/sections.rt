@@ -2,26 +2,26 @@
 ghost use Rattle.std.specs.Prelude.{◌≡◌, None};
 ghost use Rattle.wasmprinter_spec.specs.Sections.{kind_of, section_kind, rank, place_after};
 ghost use Rattle.wasmprinter_bytes.specs.Reads.{end_of};
-ghost use Rattle.wasmprinter_entries.specs.Places.{place_view};
+ghost use Rattle.wasmprinter_wasm.specs.Places.{place_view};
 ghost use Rattle.wasmprinter_wasm.specs.Sections.{section_view, TakesContent, TakesSection};
 
+use crate::code::{Body, read_code};
+use crate::customs::Custom;
+use crate::data_segments::{Data, read_data, read_data_count};
+use crate::elements::{Element, read_elements};
+use crate::exports::{Export, read_exports};
+use crate::functions::read_functions;
+use crate::globals::{Global as GlobalVariable, read_globals};
+use crate::imports::{Import, read_imports};
+use crate::memories::{Memory, read_memories};
+use crate::places::SectionKind;
+use crate::start::{Start, read_start};
+use crate::tables::{Table, read_tables};
+use crate::tags::{Tag, read_tags};
+use crate::types::Types;
 use std::alloc::Global;
+use wasmprinter_bytes::Error;
 use wasmprinter_bytes::bytes::Cursor;
-use wasmprinter_entries::customs::Custom;
-use wasmprinter_entries::exports::{Export, read_exports};
-use wasmprinter_entries::functions::read_functions;
-use wasmprinter_entries::imports::{Import, read_imports};
-use wasmprinter_entries::memories::{Memory, read_memories};
-use wasmprinter_entries::places::SectionKind;
-use wasmprinter_entries::start::{Start, read_start};
-use wasmprinter_entries::tags::{Tag, read_tags};
-use wasmprinter_entries::types::Types;
-use wasmprinter_error::Error;
-use wasmprinter_segments::code::{Body, read_code};
-use wasmprinter_segments::data_segments::{Data, read_data, read_data_count};
-use wasmprinter_segments::elements::{Element, read_elements};
-use wasmprinter_segments::globals::{Global as GlobalVariable, read_globals};
-use wasmprinter_segments::tables::{Table, read_tables};
 
 /// The id of custom sections.
 const CUSTOM: u8 = 0;

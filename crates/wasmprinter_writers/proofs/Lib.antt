@@ -1,4 +1,7 @@
+pub mod CutLaws
 pub mod Decimals
+pub mod LineLaws
+pub mod LineRuns
+pub mod NoLineLost
 pub mod Runs
-pub mod Uncolored
 pub mod SequenceRows

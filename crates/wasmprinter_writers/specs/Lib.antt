@@ -1,5 +1,9 @@
--- Definitions for the contracts of printers over byte writers.
-pub mod Writing
-pub mod Numbers
+-- The definitions that the contracts of this crate cite.
 pub mod ColorCalls
-pub mod Sequences
+pub mod Cuts
+pub mod Lined
+pub mod NoLineLost
+pub mod Numbers
+pub mod Tracked
+pub mod Tracking
+pub mod Writing

@@ -5,7 +5,6 @@ ghost use Rattle.std.specs.Io.KnownBytes.{Appends};
 ghost use Rattle.wasmprinter_spec.specs.Call.{Call, text_of};
 ghost use Rattle.wasmprinter_spec.specs.Meaning.{Run};
 ghost use Rattle.wasmprinter_spec.specs.Colored.{colored_text};
-ghost use Rattle.wasmprinter_writers.specs.Sequences.{ColorsKeepText};
 
 use crate::{Ansi, NoColor, PrintIoWrite, PrintTermcolor};
 use std::io::Write;
@@ -31,9 +30,4 @@ pub fn ansi_gains_colored_text<W: Write>()
     ensures { (s t : _) (calls : List Call)
         → Run ⟦<PrintTermcolor<Ansi<W>> as Print>⟧.meaning s calls t
         → Appends (W.contents s.0.inner) (W.contents t.0.inner) (colored_text calls) }
-{}
-
-/// If the text is plain, it is what remains of the colored text after the sequences are deleted.
-pub fn colors_keep_text()
-    ensures { ColorsKeepText }
 {}

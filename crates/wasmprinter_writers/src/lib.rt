@@ -1,4 +1,5 @@
-//! Printers over byte writers, with and without colors.
+//! Printers: over byte writers, with colors and without, and a printer that keeps its text and the starts of its lines,
+//! with the law that no line of a module is lost.
 #![tactic(auto)]
 
 mod ansi;
@@ -7,8 +8,11 @@ mod color;
 mod color_spec;
 mod io_write;
 mod laws;
+mod line_laws;
+mod lines;
 mod no_color;
 mod termcolor;
+mod tracker;
 mod write_color;
 
 pub use ansi::Ansi;
@@ -16,9 +20,10 @@ pub use bytes::WriteBytes;
 pub use color::Color;
 pub use color_spec::ColorSpec;
 pub use io_write::PrintIoWrite;
-pub use laws::{
-    ansi_gains_colored_text, colors_keep_text, io_write_gains_text, no_color_gains_text,
-};
+pub use laws::{ansi_gains_colored_text, io_write_gains_text, no_color_gains_text};
+pub use line_laws::no_line_is_lost;
+pub use lines::{LineStart, OffsetsAndLines};
 pub use no_color::NoColor;
 pub use termcolor::PrintTermcolor;
+pub use tracker::LineTracker;
 pub use write_color::WriteColor;

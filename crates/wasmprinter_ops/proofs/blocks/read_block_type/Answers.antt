@@ -1,5 +1,5 @@
 use Rattle.std.proofs.Common.{sym}
-use Rattle.wasmprinter_types.specs.ValTypes.{type_view}
+use Rattle.wasmprinter_ops.specs.ValTypes.{type_view}
 use Rattle.wasmprinter_ops.proofs.BlockTypes.{index_read, value_read}
 use Rattle.wasmprinter_ops.proofs.blocks.read_block_type.Goals as goal
 

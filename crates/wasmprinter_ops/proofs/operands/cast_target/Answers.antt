@@ -1,7 +1,7 @@
 use Rattle.std.proofs.Common.{◌≡◌, ℕ, zero, suc, ◌<◌, ◌*◌, ◌/◌, ◌%◌, Bool, not, eqb, refl, ap, ◌∙◌, arith}
 use Rattle.std.proofs.lemmas.Nat.Bits.{and_pow}
 use Rattle.wasmprinter_spec.specs.Types.{ref_type}
-use Rattle.wasmprinter_types.specs.ValTypes.{heap_view}
+use Rattle.wasmprinter_ops.specs.ValTypes.{heap_view}
 use Rattle.wasmprinter_ops.proofs.operands.cast_target.Goals as goal
 
 -- For a bit b, 2 b is not 0 exactly if b is 1.

@@ -1,4 +1,4 @@
-use Rattle.wasmprinter_labels.specs.Scan.{names_of}
+use Rattle.wasmprinter_flat.specs.OpenLabels.Scan.{names_of}
 use Rattle.wasmprinter_sections.specs.Sections.{inner_parts}
 use Rattle.wasmprinter_sections.proofs.modules.write_module.Goals as goal
 

@@ -1,4 +1,4 @@
-use Rattle.wasmprinter_labels.specs.Scan.{names_of}
+use Rattle.wasmprinter_flat.specs.OpenLabels.Scan.{names_of}
 use Rattle.wasmprinter_sections.proofs.Folding.{folding-of}
 use Rattle.wasmprinter_sections.proofs.ModuleParts.{module_walk}
 use Rattle.wasmprinter_sections.proofs.modules.write_parts.Goals as goal

@@ -5,9 +5,9 @@ use Rattle.wasmprinter_spec.specs.Layout.Globals.{global_pieces}
 use Rattle.wasmprinter_spec.specs.Layout.Exports.{export_pieces}
 use Rattle.wasmprinter_spec.specs.Layout.Elements.{element_pieces}
 use Rattle.wasmprinter_spec.specs.Types.{MemoryKind, TagKind}
-use Rattle.wasmprinter_entries.specs.Externs.{imported_count}
-use Rattle.wasmprinter_scope.specs.Scopes.{scope_view}
-use Rattle.wasmprinter_fields.proofs.FieldsOnOneLine.{memory-line, tag-line, export-line}
+use Rattle.wasmprinter_wasm.specs.Externs.{imported_count}
+use Rattle.wasmprinter_sections.specs.Scopes.{scope_view}
+use Rattle.wasmprinter_sections.proofs.FieldsOnOneLine.{memory-line, tag-line, export-line}
 use Rattle.wasmprinter_sections.proofs.Folding.{numbered_pieces-agree}
 use Rattle.wasmprinter_sections.proofs.sections.write_fields_of.Goals as goal
 

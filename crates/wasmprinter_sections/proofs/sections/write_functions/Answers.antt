@@ -1,7 +1,7 @@
 use Rattle.std.proofs.Common.{◌+◌, ◌≤◌, ◌∙◌, ◌≡◌, length, arith}
 use Rattle.wasmprinter_spec.specs.Types.{FuncKind}
-use Rattle.wasmprinter_entries.specs.Externs.{imported_count}
-use Rattle.wasmprinter_scope.specs.Scopes.{scope_view}
+use Rattle.wasmprinter_wasm.specs.Externs.{imported_count}
+use Rattle.wasmprinter_sections.specs.Scopes.{scope_view}
 use Rattle.wasmprinter_sections.proofs.Walking.{functions-found, functions-none}
 use Rattle.wasmprinter_sections.proofs.sections.write_functions.Goals as goal
 

@@ -2,8 +2,8 @@ use Rattle.std.specs.Prelude.{◌≡◌, ◌+◌, drop}
 use Rattle.wasmprinter_spec.specs.Types.{FuncKind}
 use Rattle.wasmprinter_spec.specs.Customs.Hints.{hints_of}
 use Rattle.wasmprinter_spec.specs.Layout.Functions.{functions_pieces}
-use Rattle.wasmprinter_entries.specs.Externs.{imported_count}
-use Rattle.wasmprinter_scope.specs.Scopes.{scope_view}
+use Rattle.wasmprinter_wasm.specs.Externs.{imported_count}
+use Rattle.wasmprinter_sections.specs.Scopes.{scope_view}
 use Rattle.wasmprinter_sections.proofs.sections.write_functions.Given as goal
 
 abbrev pub invariant-loop-index : goal.invariant-loop-index

@@ -9,8 +9,8 @@ use Rattle.wasmprinter_spec.specs.Placed.{TypeGroup, Import, Global, Export, Ele
 use Rattle.wasmprinter_spec.specs.Binary.{AreBytes, preamble, preamble_bytes}
 use Rattle.wasmprinter_bytes.specs.Reads.{end_of}
 use Rattle.wasmprinter_wasm.specs.Gathering.{Gathered, IsWhole, HoldsSections}
-use Rattle.wasmprinter_entries.specs.Refusals.{PlacedTable}
-use Rattle.wasmprinter_entries.specs.Places.{place_view}
+use Rattle.wasmprinter_wasm.specs.Refusals.{PlacedTable}
+use Rattle.wasmprinter_wasm.specs.Places.{place_view}
 use Rattle.wasmprinter_wasm.proofs.Assembling.{module_fault, module_unpaired, module_kept, module_spelled, module_within}
 use Rattle.wasmprinter_wasm.proofs.decoder.read_module.Goals as goal
 

@@ -1,7 +1,7 @@
 use Rattle.wasmprinter.specs.Outcome.{HasListedCause, IsSoundRefusal, Leaves}
 use Rattle.std.proofs.Common.{ap, ◌∙◌}
 use Rattle.wasmprinter_spec.specs.Names.Section.{label_subsection}
-use Rattle.wasmprinter_error.specs.declared.error.Error.TheVariants.{Memory}
+use Rattle.wasmprinter_bytes.specs.declared.error.Error.TheVariants.{Memory}
 use Rattle.wasmprinter.proofs.Named.{names_refusal, unnamed, not_ok}
 use Rattle.wasmprinter.proofs.Outcomes.{handed_on, refusal_cause, refusal_true, refusal_left, fold_cause, fold_true, fold_left, fold_unmarked, own_ended, ended_printed, ended_caused, ended_true, ended_left, ended_unmarked}
 use Rattle.wasmprinter.proofs.config.Config.print.Goals as goal

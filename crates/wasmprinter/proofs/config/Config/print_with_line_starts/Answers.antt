@@ -1,8 +1,8 @@
 -- The text and the lines that the tracker kept, and the result of `finish`.
 use Rattle.std.proofs.Common.{rules, ◌≡◌, string_bytes, sym, ap, ◌∙◌, subst}
-use Rattle.wasmprinter_tracker.specs.Cuts.{lines_at_starts}
-use Rattle.wasmprinter_tracker.specs.Tracked.{without_lines}
-use Rattle.wasmprinter_error.specs.declared.error.Error.TheVariants.{Memory}
+use Rattle.wasmprinter_writers.specs.Cuts.{lines_at_starts}
+use Rattle.wasmprinter_writers.specs.Tracked.{without_lines}
+use Rattle.wasmprinter_bytes.specs.declared.error.Error.TheVariants.{Memory}
 use Rattle.wasmprinter.specs.Lined.{HasLinesBy, LeavesStorage}
 use Rattle.wasmprinter.specs.Outcome.{HasListedTextCause, IsSoundTextRefusal, as_growth}
 use Rattle.wasmprinter.proofs.Outcomes.{growth_cause, growth_true}

@@ -1,7 +1,7 @@
 use Rattle.std.specs.Prelude.{List}
 use Rattle.std.proofs.Common.{sym, subst, ◌∙◌}
 use Rattle.wasmprinter_spec.specs.Piece.{Piece}
-use Rattle.wasmprinter_flat_text.specs.Settings.{setting_among}
+use Rattle.wasmprinter_flat.specs.Settings.{setting_among}
 use Rattle.wasmprinter_fold.proofs.Lists.{nothing_of, texts_there, layout_of}
 use Rattle.wasmprinter_fold.proofs.folder.Folder.write.Goals as goal
 

@@ -2,8 +2,8 @@ use Rattle.std.proofs.Common.{ap, ◌∙◌, codes}
 use Rattle.wasmprinter_spec.specs.Operator.{Operator}
 use Rattle.wasmprinter_spec.specs.Table.{role_of}
 use Rattle.wasmprinter_ops.specs.Shapes.{role_view}
-use Rattle.wasmprinter_flat_text.specs.Settings.{setting_among}
-use Rattle.wasmprinter_arities.specs.Counted.{counts_view}
+use Rattle.wasmprinter_flat.specs.Settings.{setting_among}
+use Rattle.wasmprinter_fold.specs.Counted.{counts_view}
 use Rattle.wasmprinter_fold.specs.Growing.{shown_operator, shown_keyword}
 use Rattle.wasmprinter_fold.proofs.Growing.{same_step, by_role, ends_role}
 use Rattle.wasmprinter_fold.proofs.tree.GrowingTree.add.Goals as goal

@@ -1,6 +1,6 @@
 use Rattle.std.proofs.Common.{refl}
 use Rattle.std.proofs.lemmas.Result.{on_ok_weaker}
-use Rattle.wasmprinter_nodes.specs.Building.{Ends}
+use Rattle.wasmprinter_fold.specs.Building.{Ends}
 use Rattle.wasmprinter_fold.proofs.Growing.{shows-step}
 use Rattle.wasmprinter_fold.proofs.tree.GrowingTree.end.Goals as goal
 

@@ -1,5 +1,5 @@
 use Rattle.wasmprinter_spec.specs.Folding.Arities.{signatures_within}
-use Rattle.wasmprinter_flat_text.specs.Settings.{setting_among}
+use Rattle.wasmprinter_flat.specs.Settings.{setting_among}
 use Rattle.wasmprinter_fold.proofs.Walks.{Progress}
 use Rattle.wasmprinter_fold.proofs.tree.GrowingTree.fold.Given as goal
 

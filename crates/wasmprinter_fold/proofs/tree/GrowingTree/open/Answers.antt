@@ -1,7 +1,7 @@
 use Rattle.std.proofs.Common.{ap}
 use Rattle.std.proofs.lemmas.Result.{on_ok_weaker}
-use Rattle.wasmprinter_nodes.specs.Building.{Opens}
-use Rattle.wasmprinter_node_text.specs.Shown.{Shown}
+use Rattle.wasmprinter_fold.specs.Building.{Opens}
+use Rattle.wasmprinter_fold.specs.Shown.{Shown}
 use Rattle.wasmprinter_fold.proofs.Growing.{shows-more, shows-step}
 use Rattle.wasmprinter_fold.proofs.tree.GrowingTree.open.Goals as goal
 

@@ -1,9 +1,9 @@
 use Rattle.std.proofs.Common.{ap, ap₂, ◌∙◌, Bool, codes}
 use Rattle.std.proofs.lemmas.Result.{on_ok_weaker}
-use Rattle.wasmprinter_nodes.specs.Building.{OpensIf}
-use Rattle.wasmprinter_node_text.specs.Shown.{Shown}
+use Rattle.wasmprinter_fold.specs.Building.{OpensIf}
+use Rattle.wasmprinter_fold.specs.Shown.{Shown}
 use Rattle.wasmprinter_fold.specs.Growing.{shown_keyword}
-use Rattle.wasmprinter_node_text.proofs.NodeTexts.{in_grown, shown_grown}
+use Rattle.wasmprinter_fold.proofs.NodeTexts.{in_grown, shown_grown}
 use Rattle.wasmprinter_fold.proofs.Growing.{shows-more, shows-step}
 use Rattle.wasmprinter_fold.proofs.tree.GrowingTree.open_if.Goals as goal
 

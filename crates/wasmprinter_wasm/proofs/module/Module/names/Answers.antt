@@ -5,8 +5,8 @@ use Rattle.wasmprinter_spec.specs.Placed.{CustomEntry, custom_entry}
 use Rattle.wasmprinter_spec.specs.Customs.{name_section}
 use Rattle.wasmprinter_spec.specs.ModuleNames.{name_entries}
 use Rattle.wasmprinter_spec.specs.Names.Section.{Entry}
-use Rattle.wasmprinter_entries.specs.Places.{place_view}
-use Rattle.wasmprinter_names.specs.Holds.{Holds}
+use Rattle.wasmprinter_wasm.specs.Places.{place_view}
+use Rattle.wasmprinter_custom.specs.Holds.{Holds}
 use Rattle.wasmprinter_wasm.proofs.Naming.{Naming, naming_none, naming_other, naming_read, naming_nothing, naming_done}
 use Rattle.wasmprinter_wasm.proofs.module.Module.names.Goals.{then-is_name_section+in_ok-read_names, else-is_name_section}
 use Rattle.wasmprinter_wasm.proofs.module.Module.names.Goals as goal

@@ -3,7 +3,7 @@ use Rattle.std.specs.Prelude.{slice_get}
 use Rattle.wasmprinter_spec.specs.Grammar.{Placed}
 use Rattle.wasmprinter_spec.specs.Placed.{Body, PlacedModule}
 use Rattle.wasmprinter_wasm.proofs.Pairing.{length-functions_of}
-use Rattle.wasmprinter_wasm.proofs.Functions.{function-at}
+use Rattle.wasmprinter_wasm.proofs.FunctionLists.{function-at}
 use Rattle.wasmprinter_wasm.proofs.module.ModuleFields.function.Goals as goal
 
 pub index-requires : goal.index-requires

@@ -1,5 +1,5 @@
 use Rattle.std.proofs.Common.{◌≡◌, ◌+◌, ◌≤◌}
-use Rattle.wasmprinter_entries.specs.Externs.{kind_view}
+use Rattle.wasmprinter_wasm.specs.Externs.{kind_view}
 use Rattle.wasmprinter_wasm.proofs.Imported.{count_from}
 use Rattle.wasmprinter_wasm.proofs.module.ModuleFields.imported_count.Given as goal
 

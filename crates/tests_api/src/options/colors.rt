@@ -1,0 +1,104 @@
+//! Texts with ANSI escape sequences for colors. The sequences are typed by hand.
+
+use crate::options::large::{COUNT, large};
+use std::alloc::{AllocError, Global};
+use std::test::Fail;
+use wasmprinter::{Config, Error};
+use wasmprinter_samples::{IDENTITY, PREAMBLE};
+
+/// The text of `IDENTITY` with colors.
+const IDENTITY_COLORED: &str = "(\x1b[0m\x1b[1m\x1b[38;5;11mmodule\x1b[0m
+  (\x1b[0m\x1b[1m\x1b[38;5;11mtype \x1b[0m\x1b[0m\x1b[35m(;0;)\x1b[0m (\x1b[0m\x1b[1m\x1b[38;5;11mfunc\x1b[0m \
+(\x1b[0m\x1b[1m\x1b[38;5;11mparam\x1b[0m \x1b[0m\x1b[1m\x1b[38;5;10mi32\x1b[0m) \
+(\x1b[0m\x1b[1m\x1b[38;5;11mresult\x1b[0m \x1b[0m\x1b[1m\x1b[38;5;10mi32\x1b[0m)))
+  (\x1b[0m\x1b[1m\x1b[38;5;11mexport \x1b[0m\x1b[0m\x1b[31m\"f\"\x1b[0m (\x1b[0m\x1b[1m\x1b[38;5;11mfunc \x1b[0m\x1b[0m\x1b[35m0\x1b[0m))
+  (\x1b[0m\x1b[1m\x1b[38;5;11mfunc \x1b[0m\x1b[0m\x1b[35m(;0;)\x1b[0m \
+(\x1b[0m\x1b[1m\x1b[38;5;11mtype \x1b[0m\x1b[0m\x1b[35m0\x1b[0m) \
+(\x1b[0m\x1b[1m\x1b[38;5;11mparam\x1b[0m \x1b[0m\x1b[1m\x1b[38;5;10mi32\x1b[0m) \
+(\x1b[0m\x1b[1m\x1b[38;5;11mresult\x1b[0m \x1b[0m\x1b[1m\x1b[38;5;10mi32\x1b[0m)
+    local.get \x1b[0m\x1b[35m0\x1b[0m
+  )
+)
+";
+
+/// The text of `IDENTITY` with colors and with places, which are comments.
+const PLACES_COLORED: &str = "(\x1b[0m\x1b[1m\x1b[38;5;11mmodule\x1b[0m
+\x1b[0m\x1b[36m(;@b     ;)\x1b[0m  (\x1b[0m\x1b[1m\x1b[38;5;11mtype \x1b[0m\x1b[0m\x1b[35m(;0;)\x1b[0m \
+(\x1b[0m\x1b[1m\x1b[38;5;11mfunc\x1b[0m \
+(\x1b[0m\x1b[1m\x1b[38;5;11mparam\x1b[0m \x1b[0m\x1b[1m\x1b[38;5;10mi32\x1b[0m) \
+(\x1b[0m\x1b[1m\x1b[38;5;11mresult\x1b[0m \x1b[0m\x1b[1m\x1b[38;5;10mi32\x1b[0m)))
+\x1b[0m\x1b[36m(;@17    ;)\x1b[0m  (\x1b[0m\x1b[1m\x1b[38;5;11mexport \x1b[0m\x1b[0m\x1b[31m\"f\"\x1b[0m \
+(\x1b[0m\x1b[1m\x1b[38;5;11mfunc \x1b[0m\x1b[0m\x1b[35m0\x1b[0m))
+\x1b[0m\x1b[36m(;@1f    ;)\x1b[0m  (\x1b[0m\x1b[1m\x1b[38;5;11mfunc \x1b[0m\x1b[0m\x1b[35m(;0;)\x1b[0m \
+(\x1b[0m\x1b[1m\x1b[38;5;11mtype \x1b[0m\x1b[0m\x1b[35m0\x1b[0m) \
+(\x1b[0m\x1b[1m\x1b[38;5;11mparam\x1b[0m \x1b[0m\x1b[1m\x1b[38;5;10mi32\x1b[0m) \
+(\x1b[0m\x1b[1m\x1b[38;5;11mresult\x1b[0m \x1b[0m\x1b[1m\x1b[38;5;10mi32\x1b[0m)
+\x1b[0m\x1b[36m(;@20    ;)\x1b[0m    local.get \x1b[0m\x1b[35m0\x1b[0m
+\x1b[0m\x1b[36m(;@22    ;)\x1b[0m  )
+\x1b[0m\x1b[36m(;@23    ;)\x1b[0m)
+";
+
+#[test]
+fn prints_in_colors(rt: HostRuntime) -> Result<(), Fail> {
+    let modules: [(&[u8], &str); 2] = [
+        (&PREAMBLE, "(\x1b[0m\x1b[1m\x1b[38;5;11mmodule\x1b[0m)\n"),
+        (&IDENTITY, IDENTITY_COLORED),
+    ];
+    for (wasm, expected) in modules {
+        let text = Config::new().print_to_ansi(rt.alloc(), wasm)?;
+        assert!(rt; text.as_slice() == expected.as_bytes());
+    }
+    Ok(())
+}
+
+#[test]
+fn prints_places_in_colors(rt: HostRuntime) -> Result<(), Fail> {
+    let mut config = Config::new();
+    config.print_offsets(true);
+    let text = config.print_to_ansi(rt.alloc(), &IDENTITY)?;
+    assert!(rt; text.as_slice() == PLACES_COLORED.as_bytes());
+    Ok(())
+}
+
+#[test]
+fn refuses_in_colors_what_it_refuses_without(rt: HostRuntime) -> Result<(), Fail> {
+    let cut = Config::new().print_to_ansi(rt.alloc(), &IDENTITY[..34]);
+    assert!(rt; matches!(cut, Err(Error::Malformed { .. })));
+    let component = [0x00, 0x61, 0x73, 0x6d, 0x0d, 0x00, 0x01, 0x00];
+    let refused = Config::new().print_to_ansi(rt.alloc(), &component);
+    assert!(rt; matches!(refused, Err(Error::Component)));
+    let unknown = Config::new().print_to_ansi(
+        rt.alloc(),
+        b"\0asm\x01\0\0\0\0\x0b\x08dylink.0\x09\0",
+    );
+    assert!(rt; matches!(unknown, Err(Error::DylinkSubsection { id: 9 })));
+    Ok(())
+}
+
+/// Returns the text of the large module with colors.
+fn large_colored(alloc: Global) -> Result<String, AllocError> {
+    let mut text = String::from_str(
+        alloc,
+        "(\x1b[0m\x1b[1m\x1b[38;5;11mmodule\x1b[0m
+  (\x1b[0m\x1b[1m\x1b[38;5;11mtype \x1b[0m\x1b[0m\x1b[35m(;0;)\x1b[0m (\x1b[0m\x1b[1m\x1b[38;5;11mfunc\x1b[0m))
+",
+    )?;
+    for number in 0..COUNT {
+        write!(
+            text,
+            "  (\x1b[0m\x1b[1m\x1b[38;5;11mfunc \x1b[0m\x1b[0m\x1b[35m(;{number};)\x1b[0m \
+(\x1b[0m\x1b[1m\x1b[38;5;11mtype \x1b[0m\x1b[0m\x1b[35m0\x1b[0m))
+"
+        )?;
+    }
+    text.push_str(")\n")?;
+    Ok(text)
+}
+
+#[test]
+fn prints_a_large_module_in_colors(rt: HostRuntime) -> Result<(), Fail> {
+    let wasm = large(rt.alloc())?;
+    let text = Config::new().print_to_ansi(rt.alloc(), &wasm)?;
+    assert!(rt; text.as_slice() == large_colored(rt.alloc())?.as_bytes());
+    Ok(())
+}

@@ -1,0 +1,280 @@
+//! The lines of a text, each with its place. Expected values are typed by hand.
+
+use crate::options::large::{COUNT, FIRST_BODY, LEN, large};
+use std::alloc::{AllocError, Global};
+use std::test::Fail;
+use wasmprinter::{Config, Error, LineStart, OffsetsAndLines};
+use wasmprinter_samples::{IDENTITY, MINUS_ONE, PREAMBLE, expect_text};
+
+/// A line: the place of the item that it begins with, and its text with the line feed.
+type Line = (Option<u64>, &'static str);
+
+/// The lines of `IDENTITY`.
+const IDENTITY_LINES: [Line; 7] = [
+    (Some(0x0), "(module\n"),
+    (
+        Some(0xb),
+        "  (type (;0;) (func (param i32) (result i32)))\n",
+    ),
+    (Some(0x17), "  (export \"f\" (func 0))\n"),
+    (
+        Some(0x1f),
+        "  (func (;0;) (type 0) (param i32) (result i32)\n",
+    ),
+    (Some(0x20), "    local.get 0\n"),
+    (Some(0x22), "  )\n"),
+    (Some(0x23), ")\n"),
+];
+
+/// The lines of `IDENTITY` in a skeleton.
+const OUTLINE: [Line; 5] = [
+    (Some(0x0), "(module\n"),
+    (
+        Some(0xb),
+        "  (type (;0;) (func (param i32) (result i32)))\n",
+    ),
+    (Some(0x17), "  (export \"f\" (func 0))\n"),
+    (
+        Some(0x1f),
+        "  (func (;0;) (type 0) (param i32) (result i32) ...)\n",
+    ),
+    (Some(0x23), ")\n"),
+];
+
+/// The lines of `IDENTITY` in a skeleton with places.
+const PLACED: [Line; 5] = [
+    (Some(0x0), "(module\n"),
+    (
+        Some(0xb),
+        "(;@b     ;)  (type (;0;) (func (param i32) (result i32)))\n",
+    ),
+    (Some(0x17), "(;@17    ;)  (export \"f\" (func 0))\n"),
+    (
+        Some(0x1f),
+        "(;@1f    ;)  (func (;0;) (type 0) (param i32) (result i32) ...)\n",
+    ),
+    (Some(0x23), "(;@23    ;))\n"),
+];
+
+/// The lines of `MINUS_ONE`, whose function has locals.
+const MINUS_ONE_LINES: [Line; 9] = [
+    (Some(0x0), "(module\n"),
+    (Some(0xb), "  (type (;0;) (func (result i64)))\n"),
+    (Some(0x17), "  (func (;0;) (type 0) (result i64)\n"),
+    (Some(0x18), "    (local i64)\n"),
+    (Some(0x1a), "    i64.const -1\n"),
+    (Some(0x1c), "    local.set 0\n"),
+    (Some(0x1e), "    local.get 0\n"),
+    (Some(0x20), "  )\n"),
+    (Some(0x21), ")\n"),
+];
+
+/// A module with a recursive group of one type.
+const GROUP: [u8; 16] = [
+    0x00, 0x61, 0x73, 0x6d, 0x01, 0x00, 0x00, 0x00, // preamble
+    0x01, 0x06, 0x01, 0x4e, 0x01, 0x60, 0x00, 0x00, // types
+];
+
+/// The lines of `GROUP`. The line that closes the group has no place.
+const GROUP_LINES: [Line; 5] = [
+    (Some(0x0), "(module\n"),
+    (Some(0xb), "  (rec\n"),
+    (Some(0xd), "    (type (;0;) (func))\n"),
+    (None, "  )\n"),
+    (Some(0x10), ")\n"),
+];
+
+/// A type, followed by a `dylink.0` section with subsection 9, which is unknown.
+const UNKNOWN: [u8; 27] = [
+    0x00, 0x61, 0x73, 0x6d, 0x01, 0x00, 0x00, 0x00, // preamble
+    0x01, 0x04, 0x01, 0x60, 0x00, 0x00, // types
+    0x00, 0x0b, 0x08, 0x64, 0x79, 0x6c, 0x69, 0x6e, 0x6b, 0x2e, 0x30, // the name
+    0x09, 0x00, // the subsection
+];
+
+/// Reports whether the lines are the expected ones.
+fn are_lines(found: OffsetsAndLines<'_>, expected: &[Line]) -> bool {
+    found.eq(expected.iter().copied())
+}
+
+#[test]
+fn gives_each_line_with_its_place(rt: HostRuntime) -> Result<(), Fail> {
+    let modules: [(&[u8], &[Line]); 4] = [
+        (&PREAMBLE, &[(Some(0x0), "(module)\n")]),
+        (&IDENTITY, &IDENTITY_LINES),
+        (&MINUS_ONE, &MINUS_ONE_LINES),
+        (&GROUP, &GROUP_LINES),
+    ];
+    for (wasm, expected) in modules {
+        let mut storage = String::new(rt.alloc());
+        let lines = Config::new().offsets_and_lines(rt.alloc(), wasm, &mut storage)?;
+        assert!(rt; are_lines(lines, expected));
+    }
+    Ok(())
+}
+
+#[test]
+fn gives_lines_by_options(rt: HostRuntime) -> Result<(), Fail> {
+    let mut config = Config::new();
+    config.print_skeleton(true);
+    let mut storage = String::new(rt.alloc());
+    let lines = config.offsets_and_lines(rt.alloc(), &IDENTITY, &mut storage)?;
+    assert!(rt; are_lines(lines, &OUTLINE));
+    config.print_offsets(true);
+    let mut storage = String::new(rt.alloc());
+    let lines = config.offsets_and_lines(rt.alloc(), &IDENTITY, &mut storage)?;
+    assert!(rt; are_lines(lines, &PLACED));
+    Ok(())
+}
+
+#[test]
+fn appends_to_existing_text(rt: HostRuntime) -> Result<(), Fail> {
+    let mut storage = String::from_str(rt.alloc(), "λ\n")?;
+    let config = Config::new();
+    let lines = config.offsets_and_lines(rt.alloc(), &PREAMBLE, &mut storage)?;
+    assert!(rt; are_lines(lines, &[(Some(0x0), "(module)\n")]));
+    expect_text(storage.as_str(), "λ\n(module)\n")?;
+    let lines = config.offsets_and_lines(rt.alloc(), &PREAMBLE, &mut storage)?;
+    assert!(rt; are_lines(lines, &[(Some(0x0), "(module)\n")]));
+    expect_text(storage.as_str(), "λ\n(module)\n(module)\n")?;
+    Ok(())
+}
+
+/// Returns the error with which the lines of a module are refused, if they are.
+fn refusal(alloc: Global, wasm: &[u8], storage: &mut String) -> Option<Error> {
+    match Config::new().offsets_and_lines(alloc, wasm, storage) {
+        Ok(_) => None,
+        Err(error) => Some(error),
+    }
+}
+
+#[test]
+fn keeps_the_text_after_a_refusal(rt: HostRuntime) -> Result<(), Fail> {
+    let mut storage = String::from_str(rt.alloc(), "old")?;
+    let cut = refusal(rt.alloc(), &IDENTITY[..34], &mut storage);
+    assert!(rt; matches!(cut, Some(Error::Malformed { .. })));
+    expect_text(storage.as_str(), "old")?;
+    let refused = refusal(rt.alloc(), &UNKNOWN, &mut storage);
+    assert!(rt; matches!(refused, Some(Error::DylinkSubsection { id: 9 })));
+    expect_text(storage.as_str(), "old(module\n  (type (;0;) (func))")?;
+    Ok(())
+}
+
+/// A custom section, and a `dylink.0` section in which an unknown subsection follows a known one.
+const UNKNOWN_AFTER_CUSTOM: [u8; 33] = [
+    0x00, 0x61, 0x73, 0x6d, 0x01, 0x00, 0x00, 0x00, // preamble
+    0x00, 0x03, 0x01, 0x61, 0x78, // a custom section
+    0x00, 0x12, 0x08, 0x64, 0x79, 0x6c, 0x69, 0x6e, 0x6b, 0x2e, 0x30, // the name
+    0x01, 0x04, 0x01, 0x00, 0x00, 0x00, // a known subsection
+    0x09, 0x01, 0x00, // an unknown one
+];
+
+#[test]
+fn keeps_custom_sections_before_a_refusal(rt: HostRuntime) -> Result<(), Fail> {
+    let mut storage = String::from_str(rt.alloc(), "old")?;
+    let refused = refusal(rt.alloc(), &UNKNOWN_AFTER_CUSTOM, &mut storage);
+    assert!(rt; matches!(refused, Some(Error::DylinkSubsection { id: 9 })));
+    expect_text(
+        storage.as_str(),
+        "old(module\n  (@custom \"a\" (before first) \"x\")",
+    )?;
+    Ok(())
+}
+
+/// Reports whether the iterator returns the one line of the empty module, and then `None` each time.
+fn walks_to_the_end(alloc: Global) -> Result<bool, Error> {
+    let mut storage = String::new(alloc);
+    let mut lines = Config::new().offsets_and_lines(alloc, &PREAMBLE, &mut storage)?;
+    let first = lines.next();
+    let second = lines.next();
+    let third = lines.next();
+    Ok(first == Some((Some(0), "(module)\n")) && second.is_none() && third.is_none())
+}
+
+#[test]
+fn stays_at_the_end(rt: HostRuntime) -> Result<(), Fail> {
+    assert!(rt; walks_to_the_end(rt.alloc())?);
+    Ok(())
+}
+
+/// The lines of the large module before those of its functions.
+const LARGE_LINES: [Line; 2] = [
+    (Some(0x0), "(module\n"),
+    (Some(0xb), "  (type (;0;) (func))\n"),
+];
+
+/// Returns the place of the body of this function of the large module.
+fn body_place(number: u32) -> u64 {
+    FIRST_BODY.saturating_add(u64::from(number).saturating_mul(3))
+}
+
+/// Reports whether the next lines are those of the functions of the large module.
+fn are_functions(alloc: Global, lines: &mut OffsetsAndLines<'_>) -> Result<bool, AllocError> {
+    for number in 0..COUNT {
+        let line = format!(in alloc; "  (func (;{number};) (type 0))\n")?;
+        if lines.next() != Some((Some(body_place(number)), line.as_str())) {
+            return Ok(false);
+        }
+    }
+    Ok(true)
+}
+
+/// Reports whether the next lines are the expected ones.
+fn go_on_with(lines: &mut OffsetsAndLines<'_>, expected: &[Line]) -> bool {
+    for line in expected {
+        if lines.next() != Some(*line) {
+            return false;
+        }
+    }
+    true
+}
+
+#[test]
+fn gives_all_lines_of_a_large_module(rt: HostRuntime) -> Result<(), Fail> {
+    let wasm = large(rt.alloc())?;
+    let mut storage = String::new(rt.alloc());
+    let mut lines = Config::new().offsets_and_lines(rt.alloc(), &wasm, &mut storage)?;
+    assert!(rt; go_on_with(&mut lines, &LARGE_LINES));
+    assert!(rt; are_functions(rt.alloc(), &mut lines)?);
+    assert!(rt; are_lines(lines, &[(Some(LEN), ")\n")]));
+    Ok(())
+}
+
+/// The line starts of `GROUP` after a text of four bytes: their places, and their byte offsets in the storage.
+const GROUP_STARTS: [(Option<u64>, usize); 5] = [
+    (Some(0x0), 4),
+    (Some(0xb), 12),
+    (Some(0xd), 19),
+    (None, 43),
+    (Some(0x10), 47),
+];
+
+/// Reports whether the line starts are the expected ones.
+fn are_starts(found: &[LineStart], expected: &[(Option<u64>, usize)]) -> bool {
+    found.len() == expected.len()
+        && found.iter().zip(expected).all(|(start, (place, at))| start.place == *place
+            && start.at == *at)
+}
+
+#[test]
+fn returns_where_lines_begin(rt: HostRuntime) -> Result<(), Fail> {
+    let mut storage = String::from_str(rt.alloc(), "old\n")?;
+    let starts = Config::new().print_with_line_starts(rt.alloc(), &GROUP, &mut storage)?;
+    expect_text(
+        storage.as_str(),
+        "old\n(module\n  (rec\n    (type (;0;) (func))\n  )\n)\n",
+    )?;
+    assert!(rt; are_starts(&starts, &GROUP_STARTS));
+    let lines = OffsetsAndLines::new(storage.as_str(), starts);
+    assert!(rt; are_lines(lines, &GROUP_LINES));
+    Ok(())
+}
+
+#[test]
+fn keeps_the_text_if_no_lines_are_returned(rt: HostRuntime) -> Result<(), Fail> {
+    let mut storage = String::from_str(rt.alloc(), "old\n")?;
+    let refused = Config::new().print_with_line_starts(rt.alloc(), &PREAMBLE[..7], &mut storage);
+    assert!(rt; matches!(refused, Err(Error::Malformed { place: 0 })));
+    expect_text(storage.as_str(), "old\n")?;
+    Ok(())
+}

@@ -1,0 +1,433 @@
+//! Tests of decoded modules and of readers over their operators. They use each variant of the types of
+//! `wasmprinter::wasm`.
+
+use crate::surface::expecting::{EMPTY, IDENTITY};
+use std::alloc::{AllocError, Global};
+use std::test::Fail;
+use wasmprinter::wasm::{
+    BlockType, Body, Catch, Catches, HeapType, Immediates, MemArg, Module, Opcode, Operator,
+    OperatorsReader, RefType, Targets, ValType, ValTypes, decode,
+};
+
+/// A module whose function has immediates of each kind. The immediates need not be valid.
+const EVERY_KIND: [u8; 112] = [
+    0x00, 0x61, 0x73, 0x6d, 0x01, 0x00, 0x00, 0x00, // preamble
+    0x01, 0x04, 0x01, 0x60, 0x00, 0x00, // types
+    0x03, 0x02, 0x01, 0x00, // functions
+    0x0a, 0x5c, 0x01, 0x5a, 0x00, // code from 0x12, with the body at 0x16
+    0x01, // at 0x17
+    0x02, 0x7f, 0x0b, // at 0x18 and 0x1a
+    0x1f, 0x40, 0x04, 0x00, 0x02, 0x00, 0x01, 0x03, 0x01, 0x02, 0x00, 0x03, 0x01, 0x0b, // at 0x1b and 0x28
+    0x20, 0x05, // at 0x29
+    0x11, 0x01, 0x02, // at 0x2b
+    0x0e, 0x02, 0x00, 0x01, 0x03, // at 0x2e
+    0x1c, 0x02, 0x7f, 0x70, // at 0x33
+    0xd0, 0x03, // at 0x37
+    0xfb, 0x18, 0x01, 0x00, 0x6e, 0x70, // at 0x39
+    0x28, 0x42, 0x01, 0x10, // at 0x3f
+    0xfd, 0x54, 0x00, 0x08, 0x0f, // at 0x43
+    0xfd, 0x15, 0x07, // at 0x48
+    0x41, 0x7e, // at 0x4b
+    0x42, 0x7d, // at 0x4d
+    0x43, 0x00, 0x00, 0x80, 0x3f, // at 0x4f
+    0x44, 0x00, 0x00, 0x00, 0x00, 0x00, 0x00, 0x00, 0x40, // at 0x54
+    0xfd, 0x0c, 0x00, 0x01, 0x02, 0x03, 0x04, 0x05, 0x06, 0x07, // at 0x5d
+    0x08, 0x09, 0x0a, 0x0b, 0x0c, 0x0d, 0x0e, 0x0f, 0x0b, // its last bytes, and the end at 0x6f
+];
+
+/// An operator: its place, its opcode, its word, and the debug text of its immediates.
+type Row = (u64, (u8, u32), &'static str, &'static str);
+
+/// The operators of `EVERY_KIND`.
+const ROWS: [Row; 19] = [
+    (0x17, (0, 0x01), "nop", "None"),
+    (0x18, (0, 0x02), "block", "Block(Value(I32))"),
+    (0x1a, (0, 0x0b), "end", "None"),
+    (
+        0x1b,
+        (0, 0x1f),
+        "try_table",
+        "TryTable(Empty, [One(2, 0), OneRef(3, 1), All(0), AllRef(1)])",
+    ),
+    (0x28, (0, 0x0b), "end", "None"),
+    (0x29, (0, 0x20), "local.get", "Index(5)"),
+    (0x2b, (0, 0x11), "call_indirect", "Indices(1, 2)"),
+    (0x2e, (0, 0x0e), "br_table", "BrTable([0, 1], 3)"),
+    (
+        0x33,
+        (0, 0x1c),
+        "select",
+        "Types([I32, Ref(RefType { nullable: true, heap: Func })])",
+    ),
+    (0x37, (0, 0xd0), "ref.null", "Heap(Index(3))"),
+    (0x39, (0xfb, 0x18), "br_on_cast", "Cast(1, 0, Any, Func)"),
+    (
+        0x3f,
+        (0, 0x28),
+        "i32.load",
+        "Memory(MemArg { exponent: 2, memory: 1, offset: 16 })",
+    ),
+    (
+        0x43,
+        (0xfd, 0x54),
+        "v128.load8_lane",
+        "MemoryLane(MemArg { exponent: 0, memory: 0, offset: 8 }, 15)",
+    ),
+    (0x48, (0xfd, 0x15), "i8x16.extract_lane_s", "Lane(7)"),
+    (0x4b, (0, 0x41), "i32.const", "I32(-2)"),
+    (0x4d, (0, 0x42), "i64.const", "I64(-3)"),
+    (0x4f, (0, 0x43), "f32.const", "F32(1065353216)"),
+    (0x54, (0, 0x44), "f64.const", "F64(4611686018427387904)"),
+    (
+        0x5d,
+        (0xfd, 0x0c),
+        "v128.const",
+        "Bytes([0, 1, 2, 3, 4, 5, 6, 7, 8, 9, 10, 11, 12, 13, 14, 15])",
+    ),
+];
+
+/// Reports whether the catch clauses are those of the `try_table`.
+fn are_catches(catches: &Catches<'_>) -> bool {
+    let mut clauses = catches.iter();
+    catches.len() == 4
+        && clauses.next() == Some(Catch::One(2, 0))
+        && clauses.next() == Some(Catch::OneRef(3, 1))
+        && clauses.next() == Some(Catch::All(0))
+        && clauses.next() == Some(Catch::AllRef(1))
+        && clauses.next() == None
+}
+
+/// Reports whether the labels are those of the `br_table`.
+fn are_targets(targets: &Targets<'_>) -> bool {
+    let mut labels = targets.iter();
+    targets.len() == 2
+        && labels.next() == Some(0)
+        && labels.next() == Some(1)
+        && labels.next() == None
+}
+
+/// The type of nullable references to functions.
+const FUNC_REF: RefType = RefType {
+    nullable: true,
+    heap: HeapType::Func,
+};
+
+/// Reports whether the types are those of the `select`.
+fn are_types(types: &ValTypes<'_>) -> bool {
+    let mut found = types.iter();
+    types.len() == 2
+        && found.next() == Some(ValType::I32)
+        && found.next() == Some(ValType::Ref(FUNC_REF))
+        && found.next() == None
+}
+
+/// The memory operand of the `i32.load`.
+const LOADED: MemArg = MemArg {
+    exponent: 2,
+    memory: 1,
+    offset: 16,
+};
+
+/// Reports whether the immediates are those of their kind in `EVERY_KIND`.
+fn are_expected(immediates: &Immediates<'_>) -> bool {
+    match immediates {
+        Immediates::None => true,
+        Immediates::Block(block_type) => *block_type == BlockType::Value(ValType::I32),
+        Immediates::TryTable(block_type, catches) => {
+            *block_type == BlockType::Empty && are_catches(catches)
+        }
+        Immediates::Index(index) => *index == 5,
+        Immediates::Indices(first, second) => *first == 1 && *second == 2,
+        Immediates::BrTable(targets, otherwise) => are_targets(targets) && *otherwise == 3,
+        Immediates::Types(types) => are_types(types),
+        Immediates::Heap(heap) => *heap == HeapType::Index(3),
+        Immediates::Cast(flags, label, source, target) => {
+            *flags == 1 && *label == 0 && *source == HeapType::Any && *target == HeapType::Func
+        }
+        Immediates::Memory(operand) => *operand == LOADED,
+        Immediates::MemoryLane(operand, lane) => {
+            operand.exponent == 0 && operand.memory == 0 && operand.offset == 8 && *lane == 15
+        }
+        Immediates::Lane(lane) => *lane == 7,
+        Immediates::I32(number) => *number == -2,
+        Immediates::I64(number) => *number == -3,
+        Immediates::F32(bits) => *bits == 0x3f80_0000,
+        Immediates::F64(bits) => *bits == 0x4000_0000_0000_0000,
+        Immediates::Bytes(bytes) => bytes[0] == 0 && bytes[15] == 15,
+    }
+}
+
+/// Reports whether the immediates of an operator have this debug text, and the clone of the operator equals it.
+fn is_shown_as(alloc: Global, operator: &Operator<'_>, shown: &str) -> Result<bool, AllocError> {
+    let found = format!(in alloc; "{:?}", operator.immediates)?;
+    Ok(found.as_str() == shown && operator.clone()? == *operator)
+}
+
+/// Reports whether an operator at a place is the operator of this row.
+fn is_row(
+    alloc: Global,
+    place: u64,
+    operator: &Operator<'_>,
+    row: &Row,
+) -> Result<bool, AllocError> {
+    let (prefix, number) = row.1;
+    let opcode = Opcode { prefix, number };
+    Ok(
+        place == row.0
+            && operator.opcode == opcode
+            && operator.opcode.word() == row.2
+            && are_expected(&operator.immediates)
+            && is_shown_as(alloc, operator, row.3)?,
+    )
+}
+
+/// Checks that the remaining operators are exactly those of these rows. If not, the error has the word of the
+/// first row that differs, or reports a surplus operator.
+fn expect_rows(alloc: Global, operators: OperatorsReader<'_>, rows: &[Row]) -> Result<(), Fail> {
+    let mut left = operators;
+    for row in rows {
+        let (place, operator) = left.next().ok_or(row.2)?;
+        if !is_row(alloc, place, &operator, row)? {
+            return Err(Fail::from(row.2));
+        }
+    }
+    match left.next() {
+        None => Ok(()),
+        Some(_) => Err(Fail::from("an operator too many")),
+    }
+}
+
+#[test]
+fn walks_over_immediates_of_each_kind(rt: HostRuntime) -> Result<(), Fail> {
+    let module = decode(rt.alloc(), &EVERY_KIND)?;
+    let body = module.body(0).ok_or("no body")?;
+    expect_rows(rt.alloc(), body.operators(), &ROWS)?;
+    expect_rows(rt.alloc(), body.fork().operators(), &ROWS)
+}
+
+#[test]
+fn shows_an_operator(rt: HostRuntime) -> Result<(), Fail> {
+    let module = decode(rt.alloc(), &IDENTITY)?;
+    let body = module.body(0).ok_or("no body")?;
+    let (_, operator) = body.operators().next().ok_or("no operator")?;
+    let shown = format!(in rt.alloc(); "{operator:?}")?;
+    let expected = "Operator { opcode: Opcode { prefix: 0, number: 32 }, immediates: Index(0) }";
+    assert!(rt; shown.as_str() == expected);
+    Ok(())
+}
+
+/// Reports whether the next two operators are unequal, their immediates are unequal, and each equals itself.
+fn differ(operators: OperatorsReader<'_>) -> bool {
+    let mut left = operators;
+    let Some((_, first)) = left.next() else {
+        return false;
+    };
+    let Some((_, second)) = left.next() else {
+        return false;
+    };
+    first != second
+        && first.immediates != second.immediates
+        && first == first
+        && second.immediates == second.immediates
+}
+
+/// A module whose function has operators with lists of value types and of labels. For each, there are two equal
+/// lists, one with another length, and one that differs in its last item.
+const LISTS: [u8; 60] = [
+    0x00, 0x61, 0x73, 0x6d, 0x01, 0x00, 0x00, 0x00, // preamble
+    0x01, 0x04, 0x01, 0x60, 0x00, 0x00, // types
+    0x03, 0x02, 0x01, 0x00, // functions
+    0x0a, 0x28, 0x01, 0x26, 0x00, // code
+    0x1c, 0x02, 0x7f, 0x70, 0x1c, 0x02, 0x7f, 0x70, // two equal lists of types
+    0x1c, 0x03, 0x7f, 0x70, 0x70, 0x1c, 0x02, 0x7f, 0x7e, // a longer one, and one that differs in its last type
+    0x0e, 0x02, 0x00, 0x01, 0x03, 0x0e, 0x02, 0x00, 0x01, 0x03, // two equal lists of labels
+    0x0e, 0x01, 0x00, 0x03, 0x0e, 0x02, 0x00, 0x02, 0x03, // a shorter one, and one that differs in its last label
+    0x0b,
+];
+
+/// Reports whether, of the next four operators, the first two are equal and the other two differ from the first.
+/// Clones are compared too.
+fn are_one_pair(operators: &mut OperatorsReader<'_>) -> Result<bool, AllocError> {
+    let Some((_, first)) = operators.next() else {
+        return Ok(false);
+    };
+    let Some((_, second)) = operators.next() else {
+        return Ok(false);
+    };
+    let Some((_, third)) = operators.next() else {
+        return Ok(false);
+    };
+    let Some((_, fourth)) = operators.next() else {
+        return Ok(false);
+    };
+    let kept = first.clone()?;
+    Ok(
+        first == second
+            && kept == second
+            && first.immediates.clone()? == second.immediates
+            && first != third
+            && third != first
+            && kept != third
+            && first != fourth
+            && kept.immediates != fourth.immediates,
+    )
+}
+
+#[test]
+fn compares_lists(rt: HostRuntime) -> Result<(), Fail> {
+    let module = decode(rt.alloc(), &LISTS)?;
+    let body = module.body(0).ok_or("no body")?;
+    let mut operators = body.operators();
+    assert!(rt; are_one_pair(&mut operators)?);
+    assert!(rt; are_one_pair(&mut operators)?);
+    Ok(())
+}
+
+#[test]
+fn distinguishes_operators(rt: HostRuntime) -> Result<(), Fail> {
+    let module = decode(rt.alloc(), &EVERY_KIND)?;
+    let body = module.body(0).ok_or("no body")?;
+    assert!(rt; differ(body.operators()));
+    Ok(())
+}
+
+/// Reports whether a body has this place and this end.
+fn lies_at(body: &Body<'_>, place: u64, end: u64) -> bool {
+    body.place() == place && body.end() == end
+}
+
+/// Reports whether a module has exactly one body, with this place and this end.
+fn has_body_at(module: &Module<'_>, place: u64, end: u64) -> bool {
+    match module.body(0) {
+        Some(body) => {
+            module.function_count() == 1 && lies_at(&body, place, end) && module.body(1).is_none()
+        }
+        None => false,
+    }
+}
+
+#[test]
+fn returns_the_range_of_bodies(rt: HostRuntime) -> Result<(), Fail> {
+    assert!(rt; has_body_at(&decode(rt.alloc(), &IDENTITY)?, 0x1f, 0x22));
+    assert!(rt; has_body_at(&decode(rt.alloc(), &EVERY_KIND)?, 0x16, 0x6f));
+    let empty = decode(rt.alloc(), &EMPTY)?;
+    assert!(rt; empty.function_count() == 0 && empty.body(0).is_none());
+    Ok(())
+}
+
+/// A module whose function has a `ref.null` of each heap type.
+const EVERY_HEAP_TYPE: [u8; 50] = [
+    0x00, 0x61, 0x73, 0x6d, 0x01, 0x00, 0x00, 0x00, // preamble
+    0x01, 0x04, 0x01, 0x60, 0x00, 0x00, // types
+    0x03, 0x02, 0x01, 0x00, // functions
+    0x0a, 0x1e, 0x01, 0x1c, 0x00, // code
+    0xd0, 0x69, 0xd0, 0x6a, 0xd0, 0x6b, 0xd0, 0x6c, 0xd0, 0x6d, 0xd0, 0x6e, 0xd0, 0x6f, // operators
+    0xd0, 0x70, 0xd0, 0x71, 0xd0, 0x72, 0xd0, 0x73, 0xd0, 0x74, 0xd0, 0x2a, 0x0b,
+];
+
+/// The heap types of `EVERY_HEAP_TYPE`.
+const HEAP_TYPES: [HeapType; 13] = [
+    HeapType::Exn,
+    HeapType::Array,
+    HeapType::Struct,
+    HeapType::I31,
+    HeapType::Eq,
+    HeapType::Any,
+    HeapType::Extern,
+    HeapType::Func,
+    HeapType::NoAny,
+    HeapType::NoExtern,
+    HeapType::NoFunc,
+    HeapType::NoExn,
+    HeapType::Index(42),
+];
+
+/// Returns the heap type of an operator, or `None` if a heap type is not its only immediate.
+fn heap_type_of(operator: &Operator<'_>) -> Option<HeapType> {
+    match operator.immediates {
+        Immediates::Heap(heap) => Some(heap),
+        _ => None,
+    }
+}
+
+/// Reports whether the remaining operators have exactly these heap types.
+fn have_heap_types(operators: OperatorsReader<'_>, heap_types: &[HeapType]) -> bool {
+    let mut left = operators;
+    for heap_type in heap_types {
+        match left.next() {
+            Some((_, operator)) if heap_type_of(&operator) == Some(*heap_type) => {}
+            _ => return false,
+        }
+    }
+    left.next().is_none()
+}
+
+#[test]
+fn gives_each_heap_type(rt: HostRuntime) -> Result<(), Fail> {
+    let module = decode(rt.alloc(), &EVERY_HEAP_TYPE)?;
+    let body = module.body(0).ok_or("no body")?;
+    assert!(rt; have_heap_types(body.operators(), &HEAP_TYPES));
+    Ok(())
+}
+
+/// A module whose function has a `select` of each value type, and blocks of the types that `EVERY_KIND` does not
+/// have.
+const EVERY_TYPE: [u8; 40] = [
+    0x00, 0x61, 0x73, 0x6d, 0x01, 0x00, 0x00, 0x00, // preamble
+    0x01, 0x04, 0x01, 0x60, 0x00, 0x00, // types
+    0x03, 0x02, 0x01, 0x00, // functions
+    0x0a, 0x14, 0x01, 0x12, 0x00, // code
+    0x1c, 0x07, 0x7f, 0x7e, 0x7d, 0x7c, 0x7b, 0x70, 0x64, 0x03, // a `select`
+    0x02, 0x40, 0x0b, // a block
+    0x02, 0x00, 0x0b, // another
+    0x0b,
+];
+
+/// The type of references to values of type 3, not nullable.
+const TYPED_REF: RefType = RefType {
+    nullable: false,
+    heap: HeapType::Index(3),
+};
+
+/// The types of the `select`.
+const VAL_TYPES: [ValType; 7] = [
+    ValType::I32,
+    ValType::I64,
+    ValType::F32,
+    ValType::F64,
+    ValType::V128,
+    ValType::Ref(FUNC_REF),
+    ValType::Ref(TYPED_REF),
+];
+
+/// Reports whether an operator has these value types.
+fn has_types(operator: &Operator<'_>, types: &[ValType]) -> bool {
+    match &operator.immediates {
+        Immediates::Types(found) => found.iter().eq(types.iter().copied()),
+        _ => false,
+    }
+}
+
+/// Reports whether an operator opens a block of this type.
+fn opens(operator: &Operator<'_>, wanted: BlockType) -> bool {
+    match operator.immediates {
+        Immediates::Block(block_type) => block_type == wanted,
+        _ => false,
+    }
+}
+
+#[test]
+fn gives_each_value_type_and_block_type(rt: HostRuntime) -> Result<(), Fail> {
+    let module = decode(rt.alloc(), &EVERY_TYPE)?;
+    let body = module.body(0).ok_or("no body")?;
+    let mut operators = body.operators();
+    let (_, select) = operators.next().ok_or("no select")?;
+    assert!(rt; has_types(&select, &VAL_TYPES));
+    let (_, block) = operators.next().ok_or("no block")?;
+    assert!(rt; opens(&block, BlockType::Empty));
+    let (_, end) = operators.next().ok_or("no end")?;
+    assert!(rt; matches!(end.immediates, Immediates::None));
+    let (_, block) = operators.next().ok_or("no second block")?;
+    assert!(rt; opens(&block, BlockType::Func(0)));
+    Ok(())
+}

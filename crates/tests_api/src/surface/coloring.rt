@@ -1,0 +1,87 @@
+//! Tests of colors: the escape sequences of a color, and writers with and without colors.
+
+use crate::surface::expecting::{EMPTY, EMPTY_TEXT};
+use std::alloc::Global;
+use std::io;
+use std::io::Write;
+use std::test::Fail;
+use wasmprinter::laws::colors_add_sequences_alone;
+use wasmprinter::print::{Ansi, Color, ColorSpec, NoColor, PrintTermcolor, WriteColor};
+use wasmprinter::{Config, Error};
+
+#[test]
+fn keeps_how_text_looks(rt: HostRuntime) {
+    let mut spec = ColorSpec::new();
+    assert!(rt; spec.fg() == None && !spec.bold() && !spec.intense());
+    spec.set_fg(Some(Color::Cyan))
+        .set_bold(true)
+        .set_intense(true);
+    assert!(rt; spec.fg() == Some(Color::Cyan) && spec.bold() && spec.intense());
+}
+
+/// A color, whether it is intense, whether it is bold, and its escape sequences.
+type Row = (Color, bool, bool, &'static [u8]);
+
+/// Each color, with its escape sequences.
+const ROWS: [Row; 6] = [
+    (Color::Red, false, false, b"\x1b[0m\x1b[31m"),
+    (Color::Green, false, false, b"\x1b[0m\x1b[32m"),
+    (Color::Yellow, false, true, b"\x1b[0m\x1b[1m\x1b[33m"),
+    (Color::Magenta, false, false, b"\x1b[0m\x1b[35m"),
+    (Color::Cyan, true, false, b"\x1b[0m\x1b[38;5;14m"),
+    (Color::Red, true, true, b"\x1b[0m\x1b[1m\x1b[38;5;9m"),
+];
+
+/// Returns the bytes that a writer with colors writes for a color.
+fn colored(alloc: Global, color: Color, intense: bool, bold: bool) -> io::Result<Vec<u8>> {
+    let mut spec = ColorSpec::new();
+    spec.set_fg(Some(color)).set_bold(bold).set_intense(intense);
+    let mut writer = Ansi::new(Vec::new(alloc));
+    writer.set_color(&spec)?;
+    Ok(writer.into_inner())
+}
+
+#[test]
+fn sends_a_terminal_each_color(rt: HostRuntime) -> Result<(), Fail> {
+    for (color, intense, bold, sequence) in ROWS {
+        assert!(rt; colored(rt.alloc(), color, intense, bold)?.as_slice() == sequence);
+    }
+    Ok(())
+}
+
+/// Resets the color and writes a text. Returns whether the writer supports colors, and whether it is synchronous.
+fn write_plain<W: WriteColor>(writer: &mut W) -> io::Result<(bool, bool)> {
+    writer.reset()?;
+    writer.write_all(b"a")?;
+    writer.flush()?;
+    Ok((writer.supports_color(), writer.is_synchronous()))
+}
+
+#[test]
+fn writes_with_and_without_colors(rt: HostRuntime) -> Result<(), Fail> {
+    let mut colored = Ansi::new(Vec::new(rt.alloc()));
+    assert!(rt; write_plain(&mut colored)? == (true, false));
+    assert!(rt; colored.into_inner().as_slice() == b"\x1b[0ma".as_slice());
+    let mut plain = NoColor::new(Vec::new(rt.alloc()));
+    assert!(rt; write_plain(&mut plain)? == (false, false));
+    assert!(rt; plain.into_inner().as_slice() == b"a".as_slice());
+    Ok(())
+}
+
+/// Prints a module to a writer that takes colors.
+fn print_to<W: WriteColor + Drop>(alloc: Global, writer: W) -> Result<W, Error> {
+    let mut printer = PrintTermcolor(writer);
+    Config::new().print(alloc, &EMPTY, &mut printer)?;
+    Ok(printer.0)
+}
+
+#[test]
+fn prints_with_and_without_colors(rt: HostRuntime) -> Result<(), Fail> {
+    let colored = print_to(rt.alloc(), Ansi::new(Vec::new(rt.alloc())))?.into_inner();
+    let expected: &[u8] = b"(\x1b[0m\x1b[1m\x1b[38;5;11mmodule\x1b[0m)\n";
+    assert!(rt; colored.as_slice() == expected);
+    let plain = print_to(rt.alloc(), NoColor::new(Vec::new(rt.alloc())))?.into_inner();
+    assert!(rt; plain.as_slice() == EMPTY_TEXT.as_bytes());
+    colors_add_sequences_alone::<Vec<u8>, Vec<u8>>();
+    Ok(())
+}

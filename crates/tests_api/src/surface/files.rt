@@ -1,0 +1,47 @@
+//! Tests of printing files, from the system and from a user-defined source.
+ghost use Rattle.std.specs.Prelude.{⊤};
+
+use crate::surface::expecting::{IDENTITY, IDENTITY_TEXT, expect_text};
+use std::alloc::Global;
+use std::io::ErrorKind;
+use std::path::Path;
+use std::test::Fail;
+use std::{fs, io};
+use wasmprinter::{Error, Source, print_file};
+
+/// A source with one file, `identity.wasm`.
+#[derive(Drop)]
+struct OneFile {
+    alloc: Global,
+}
+
+impl Source for OneFile {
+    ghost gives = { λ _ _ _. ⊤ };
+
+    fn read(&self, path: Path<'_>) -> io::Result<Vec<u8>> {
+        if path == Path::new("identity.wasm") {
+            Ok(IDENTITY.to_vec(self.alloc)?)
+        } else {
+            Err(io::Error::from(ErrorKind::NotFound))
+        }
+    }
+}
+
+#[test]
+fn prints_a_file_of_a_source(rt: HostRuntime) -> Result<(), Fail> {
+    let source = OneFile { alloc: rt.alloc() };
+    let text = print_file(&source, rt.alloc(), Path::new("identity.wasm"))?;
+    expect_text(text.as_str(), IDENTITY_TEXT)?;
+    let missing = print_file(&source, rt.alloc(), Path::new("other.wasm"));
+    assert!(rt; matches!(missing, Err(Error::Unreadable)));
+    Ok(())
+}
+
+#[test]
+fn prints_a_file_of_the_system(rt: HostRuntime) -> Result<(), Fail> {
+    fs::write(&rt, "surface.wasm", &IDENTITY)?;
+    let text = print_file(&rt, rt.alloc(), Path::new("surface.wasm"))?;
+    fs::remove_file(&rt, "surface.wasm")?;
+    expect_text(text.as_str(), IDENTITY_TEXT)?;
+    Ok(())
+}

@@ -1,0 +1,7 @@
+//! Tests of `decode`: the contents of decoded modules, and the places of errors in refused ones.
+
+mod customs;
+mod faults;
+mod modules;
+mod places;
+mod segments;

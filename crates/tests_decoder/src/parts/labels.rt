@@ -1,0 +1,277 @@
+//! Tests of the labels of a few functions. The names and the expected labels are typed by hand.
+ghost use Rattle.std.specs.Prelude.{◌≤◌};
+
+use crate::parts::names::names_of;
+use std::alloc::Global;
+use std::process::Abort;
+use std::test::Fail;
+use wasmprinter_custom::{Identifier, Identifiers, Name, Space};
+use wasmprinter_flat::open_labels::{LabelRef, OpenLabels};
+use wasmprinter_ops::opcode::Role;
+
+/// The name `a`, whose identifier is the name itself.
+const A: Identifier<'static> = Identifier::Given(Name {
+    given: "a",
+    content: "a",
+});
+
+/// The name `b`, whose identifier is the name itself.
+const B: Identifier<'static> = Identifier::Given(Name {
+    given: "b",
+    content: "b",
+});
+
+/// The identifier that is synthesized for a block outside all other blocks.
+const OUTERMOST: Identifier<'static> = Identifier::Synthesized {
+    space: Space::Label,
+    number: 0,
+};
+
+/// The identifier that is synthesized for a block within one other block.
+const INNER: Identifier<'static> = Identifier::Synthesized {
+    space: Space::Label,
+    number: 1,
+};
+
+/// A step of a test: a change of the open labels, or an expected fact about them.
+#[derive(Clone, Copy)]
+enum Step {
+    /// Start an expression of this function.
+    Begin(u64),
+    /// Advance past an operator with this role.
+    Advance(Role),
+    /// Expect this identifier for the block that would be opened next.
+    Own(Option<Identifier<'static>>),
+    /// Expect this number of open blocks.
+    Depth(u64),
+    /// Expect the label to mean this in an operator with this role.
+    Find(Role, u32, LabelRef<'static>),
+}
+
+/// Open labels, with an upper bound on the number of operators that they advanced past.
+#[derive(Drop)]
+struct Walk<'n, 'a> {
+    labels: OpenLabels<'n, 'a>,
+    operators: u32,
+    ghost counted: { labels.count ≤ operators },
+}
+
+impl<'n, 'a> Walk<'n, 'a> {
+    /// Starts an expression of this function.
+    fn begin(&mut self, function: u64) {
+        self.labels.begin(function);
+    }
+
+    /// Advances past an operator with this role. Returns false, and does not advance, if the number of operators would
+    /// exceed 32 bits.
+    fn advance(&mut self, role: Role) -> bool {
+        if self.operators == u32::MAX {
+            return false;
+        }
+        self.operators += 1;
+        self.labels.advance(role);
+        true
+    }
+
+    /// Performs a step. Returns whether the step could be made, or its expected fact holds.
+    fn takes(&mut self, step: &Step) -> bool {
+        match step {
+            Step::Begin(function) => {
+                self.begin(*function);
+                true
+            }
+            Step::Advance(role) => self.advance(*role),
+            Step::Own(own) => self.labels.own() == *own,
+            Step::Depth(depth) => self.labels.depth() == *depth,
+            Step::Find(role, label, meant) => self.labels.find(*role, *label) == *meant,
+        }
+    }
+
+    /// Performs the steps in order. Returns the number of the first that fails, or `None` if none fails.
+    fn first_wrong(&mut self, steps: &[Step]) -> Option<usize> {
+        for (number, step) in steps.iter().enumerate() {
+            if !self.takes(step) {
+                return Some(number);
+            }
+        }
+        None
+    }
+}
+
+/// Asserts that all steps succeed, for labels with the names of this section.
+fn assert_labels(
+    rt: &impl Abort,
+    alloc: Global,
+    section: &[u8],
+    synthesizes: bool,
+    steps: &[Step],
+) -> Result<(), Fail> {
+    let names = names_of(alloc, &[section])?;
+    let identifiers = Identifiers {
+        names: &names,
+        synthesizes,
+    };
+    let labels = OpenLabels::new(alloc, identifiers)?;
+    assert!(rt; labels.identifiers().synthesizes == synthesizes);
+    let mut walk = Walk {
+        labels,
+        operators: 0,
+    };
+    let wrong = walk.first_wrong(steps);
+    assert!(rt; wrong == None, "at step {wrong:?}");
+    Ok(())
+}
+
+/// Three nested blocks: `a`, `b` in it, and another `a` in that.
+const HIDDEN: [Step; 20] = [
+    Step::Begin(0),
+    Step::Own(Some(A)),
+    Step::Advance(Role::Opens),
+    Step::Own(Some(B)),
+    Step::Advance(Role::OpensIf),
+    Step::Advance(Role::Else),
+    Step::Find(Role::Plain, 1, LabelRef::ByName(A)),
+    Step::Own(Some(A)),
+    Step::Advance(Role::OpensTry),
+    Step::Depth(3),
+    Step::Own(None),
+    Step::Find(Role::Plain, 0, LabelRef::ByName(A)),
+    Step::Find(Role::Plain, 1, LabelRef::ByName(B)),
+    // The outer `a`, which the inner one shadows
+    Step::Find(Role::Plain, 2, LabelRef::ByNumber),
+    // The body
+    Step::Find(Role::Plain, 3, LabelRef::ByNumber),
+    Step::Find(Role::Plain, 4, LabelRef::ToNothing),
+    Step::Advance(Role::Ends),
+    Step::Depth(2),
+    Step::Find(Role::Plain, 0, LabelRef::ByName(B)),
+    Step::Find(Role::Plain, 1, LabelRef::ByName(A)),
+];
+
+#[test]
+fn a_label_is_hidden_for_a_while(rt: HostRuntime) -> Result<(), Fail> {
+    // Labels of function 0: 0 `a`, 1 `b`, 2 `a`
+    let section = b"\x03\x0c\x01\x00\x03\x00\x01a\x01\x01b\x02\x01a";
+    assert_labels(&rt, rt.alloc(), section, false, &HIDDEN)
+}
+
+/// Blocks that end in `delegate`, with the labels of all blocks around them.
+const DELEGATED: [Step; 16] = [
+    Step::Begin(0),
+    Step::Find(Role::Delegates, 0, LabelRef::ByNumber),
+    Step::Find(Role::Delegates, 1, LabelRef::ToNothing),
+    Step::Advance(Role::Opens),
+    Step::Advance(Role::OpensTry),
+    // The `try` is `b`
+    Step::Find(Role::Delegates, 0, LabelRef::ByName(A)),
+    Step::Advance(Role::Delegates),
+    Step::Depth(1),
+    Step::Find(Role::Plain, 0, LabelRef::ByName(A)),
+    Step::Advance(Role::OpensTry),
+    // The `try` is `a`, and so shadows the label of the block around it
+    Step::Find(Role::Delegates, 0, LabelRef::ByNumber),
+    Step::Find(Role::Delegates, 1, LabelRef::ByNumber),
+    Step::Find(Role::Delegates, 2, LabelRef::ToNothing),
+    Step::Advance(Role::Catches),
+    Step::Advance(Role::CatchesAll),
+    Step::Depth(2),
+];
+
+#[test]
+fn delegate_leaves_its_block_out(rt: HostRuntime) -> Result<(), Fail> {
+    // Labels of function 0: 0 `a`, 1 `b`, 2 `a`
+    let section = b"\x03\x0c\x01\x00\x03\x00\x01a\x01\x01b\x02\x01a";
+    assert_labels(&rt, rt.alloc(), section, false, &DELEGATED)
+}
+
+/// A block without a name that contains the block `a` and then another block without a name.
+const NAMELESS: [Step; 9] = [
+    Step::Begin(0),
+    Step::Own(None),
+    Step::Advance(Role::Opens),
+    Step::Advance(Role::Opens),
+    Step::Find(Role::Plain, 0, LabelRef::ByName(A)),
+    Step::Find(Role::Plain, 1, LabelRef::ToBlock(1)),
+    Step::Advance(Role::Ends),
+    Step::Advance(Role::Opens),
+    Step::Find(Role::Plain, 0, LabelRef::ToBlock(2)),
+];
+
+#[test]
+fn blocks_without_names_go_by_depth(rt: HostRuntime) -> Result<(), Fail> {
+    // Label 1 of function 0: `a`
+    let section = b"\x03\x06\x01\x00\x01\x01\x01a";
+    assert_labels(&rt, rt.alloc(), section, false, &NAMELESS)
+}
+
+/// The identifier of label 1, whose name is `#q`.
+const SECOND: Identifier<'static> = Identifier::Given(Name {
+    given: "#q",
+    content: "#label1 #q",
+});
+
+/// The identifier of label 2, whose name is empty.
+const THIRD: Identifier<'static> = Identifier::Given(Name {
+    given: "",
+    content: "#label2 ",
+});
+
+/// Blocks whose names are not used as identifiers, and blocks without names, with identifiers synthesized.
+const SYNTHESIZED: [Step; 13] = [
+    Step::Begin(0),
+    Step::Own(Some(OUTERMOST)),
+    Step::Advance(Role::Opens),
+    Step::Own(Some(SECOND)),
+    Step::Advance(Role::Opens),
+    Step::Advance(Role::Ends),
+    Step::Own(Some(THIRD)),
+    Step::Advance(Role::Opens),
+    Step::Advance(Role::Ends),
+    // The third block in the outermost one
+    Step::Own(Some(INNER)),
+    Step::Advance(Role::Opens),
+    Step::Find(Role::Plain, 0, LabelRef::ByName(INNER)),
+    Step::Find(Role::Plain, 1, LabelRef::ByName(OUTERMOST)),
+];
+
+#[test]
+fn identifiers_are_synthesized_by_depth(rt: HostRuntime) -> Result<(), Fail> {
+    // Labels of function 0: 1 `#q`, 2 the empty name
+    let section = b"\x03\x09\x01\x00\x02\x01\x02#q\x02\x00";
+    assert_labels(&rt, rt.alloc(), section, true, &SYNTHESIZED)
+}
+
+/// Blocks of several functions, two of which have a label `a`.
+const FUNCTIONS: [Step; 21] = [
+    Step::Begin(1),
+    Step::Own(Some(A)),
+    Step::Advance(Role::Opens),
+    Step::Advance(Role::Opens),
+    // A new expression starts without open blocks
+    Step::Begin(3),
+    Step::Depth(0),
+    Step::Find(Role::Plain, 1, LabelRef::ToNothing),
+    Step::Own(Some(A)),
+    Step::Advance(Role::Opens),
+    Step::Find(Role::Plain, 0, LabelRef::ByName(A)),
+    // A function may follow one with a greater index
+    Step::Begin(2),
+    Step::Own(None),
+    Step::Begin(1),
+    Step::Own(Some(A)),
+    Step::Begin(0),
+    Step::Own(None),
+    Step::Begin(4),
+    Step::Own(None),
+    // An `end` without an open block changes nothing
+    Step::Begin(1),
+    Step::Advance(Role::Ends),
+    Step::Depth(0),
+];
+
+#[test]
+fn labels_are_those_of_the_function(rt: HostRuntime) -> Result<(), Fail> {
+    // Label 0 of function 1: `a`; label 0 of function 3: `a`
+    let section = b"\x03\x0b\x02\x01\x01\x00\x01a\x03\x01\x00\x01a";
+    assert_labels(&rt, rt.alloc(), section, false, &FUNCTIONS)
+}

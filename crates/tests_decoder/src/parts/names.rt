@@ -1,0 +1,541 @@
+//! Tests of the names of a few name sections. The bytes and the expected identifiers are typed by hand.
+
+use std::alloc::{AllocError, Global};
+use std::process::Abort;
+use std::test::Fail;
+use wasmprinter_bytes::Error;
+use wasmprinter_bytes::bytes::Cursor;
+use wasmprinter_custom::{
+    Identifier, Identifiers, LabelName, Name, NameEntries, Names, NamesBuilder, Space, read_names,
+};
+use wasmprinter_samples::expect_text;
+
+/// Reads the names of these sections in order.
+fn read_sections<'a>(
+    alloc: Global,
+    builder: &mut NamesBuilder<'a>,
+    sections: &[&'a [u8]],
+) -> Result<(), Error> {
+    for section in sections {
+        read_names(alloc, builder, Cursor::new(0, *section))?;
+    }
+    Ok(())
+}
+
+/// Returns the names that these sections give.
+pub(crate) fn names_of<'a>(alloc: Global, sections: &[&'a [u8]]) -> Result<Names<'a>, Error> {
+    let mut builder = NamesBuilder::new(alloc);
+    read_sections(alloc, &mut builder, sections)?;
+    Ok(builder.finish(alloc)?)
+}
+
+/// Reports whether the item was given this name, and this follows the dollar sign of its identifier.
+fn is_named(name: Option<Name<'_>>, given: &str, content: &str) -> bool {
+    matches!(name, Some(name) if name.given == given && name.content == content)
+}
+
+/// An item by its space, its function or type, and its index, with its identifier.
+type Item = (Space, u32, u32, Option<&'static str>);
+
+/// Asserts that these items have these identifiers.
+fn assert_found(rt: &impl Abort, names: &Names<'_>, items: &[Item]) {
+    for (row, (space, outer, index, identifier)) in items.iter().enumerate() {
+        assert!(rt;
+            names.identifier(*space, *outer, *index) == *identifier,
+            "row {row}"
+        );
+    }
+}
+
+/// Asserts that, by the names of these sections, the module and the items have these identifiers.
+fn assert_names(
+    rt: &impl Abort,
+    alloc: Global,
+    sections: &[&[u8]],
+    module: Option<&str>,
+    items: &[Item],
+) -> Result<(), Fail> {
+    let names = names_of(alloc, sections)?;
+    assert!(rt; names.module() == module);
+    assert_found(rt, &names, items);
+    Ok(())
+}
+
+/// Reports whether a function has this name, by the names of this section.
+fn has_name(
+    alloc: Global,
+    section: &[u8],
+    function: u64,
+    wanted: Option<Name>,
+) -> Result<bool, Error> {
+    let names = names_of(alloc, &[section])?;
+    Ok(names.name(Space::Func, 0, function) == wanted)
+}
+
+/// Reports whether the module has this name, by the names of these sections.
+fn module_is_named(
+    alloc: Global,
+    sections: &[&[u8]],
+    given: &str,
+    content: &str,
+) -> Result<bool, Error> {
+    let names = names_of(alloc, sections)?;
+    Ok(is_named(names.module_name(), given, content))
+}
+
+/// The identifiers of functions with the names 0 `b`, 1 `a`, 2 the empty name, 3 `#x` and 4 `a`. `a` was first the
+/// name of function 0.
+const MARKED: [Item; 8] = [
+    (Space::Func, 0, 0, Some("b")),
+    (Space::Func, 0, 1, Some("#func1 a")),
+    (Space::Func, 0, 2, Some("#func2 ")),
+    (Space::Func, 0, 3, Some("#func3 #x")),
+    (Space::Func, 0, 4, Some("#func4 a")),
+    (Space::Func, 0, 5, None),
+    // Functions belong to no outer item, so its index is ignored
+    (Space::Func, 7, 0, Some("b")),
+    (Space::Table, 0, 0, None),
+];
+
+#[test]
+fn names_are_marked(rt: HostRuntime) -> Result<(), Fail> {
+    // Functions: 0 `a`, 1 `a`, 2 the empty name, 3 `#x`, 0 again, now `b`, 4 `a`; a byte is left over
+    let bytes = b"\x01\x14\x06\x00\x01a\x01\x01a\x02\x00\x03\x02#x\x00\x01b\x04\x01a\x07";
+    let second = Name {
+        given: "a",
+        content: "#func1 a",
+    };
+    assert!(rt; has_name(rt.alloc(), bytes, 1, Some(second))?);
+    assert_names(&rt, rt.alloc(), &[bytes], None, &MARKED)
+}
+
+/// Local 0 of function 0, which is `x`, and function 0, which has no name.
+const LOCAL: [Item; 2] = [(Space::Local, 0, 0, Some("x")), (Space::Func, 0, 0, None)];
+
+#[test]
+fn a_local_has_a_name(rt: HostRuntime) -> Result<(), Fail> {
+    let section = b"\x02\x06\x01\x00\x01\x00\x01x";
+    assert_names(&rt, rt.alloc(), &[section], None, &LOCAL)
+}
+
+#[test]
+fn a_cut_name_is_none(rt: HostRuntime) -> Result<(), Fail> {
+    assert!(rt; has_name(rt.alloc(), b"\x01\x04\x01\x00\x05a", 0, None)?);
+    Ok(())
+}
+
+/// The names before an error, and those of the section after it.
+const AROUND_A_FAULT: [Item; 5] = [
+    (Space::Local, 1, 0, Some("x")),
+    (Space::Local, 0, 0, None),
+    (Space::Local, 1, 1, None),
+    (Space::Func, 0, 0, Some("f")),
+    (Space::Func, 0, 1, Some("#func1 f")),
+];
+
+#[test]
+fn reading_stops_at_the_first_fault(rt: HostRuntime) -> Result<(), Fail> {
+    // The module is `m`; an unknown subsection; locals of function 1: 0 `x`, then a truncated name; functions that
+    // are not read
+    let first =
+        b"\x00\x02\x01m\x0c\x01\xff\x02\x09\x01\x01\x02\x00\x01x\x01\x05y\x01\x04\x01\x00\x01z";
+    // A second section: functions 0 `f`, 1 `f`
+    let second = b"\x01\x07\x02\x00\x01f\x01\x01f";
+    assert_names(
+        &rt,
+        rt.alloc(),
+        &[first, second],
+        Some("m"),
+        &AROUND_A_FAULT,
+    )
+}
+
+/// Spaces, the ids of their subsections, and the identifier of item 1 if items 0 and 1 both have the name `a`.
+const SPACES: [(Space, u8, &str); 10] = [
+    (Space::Func, 1, "#func1 a"),
+    (Space::Local, 2, "#local1 a"),
+    (Space::Types, 4, "#type1 a"),
+    (Space::Table, 5, "#table1 a"),
+    (Space::Memory, 6, "#memory1 a"),
+    (Space::Global, 7, "#global1 a"),
+    (Space::Elem, 8, "#elem1 a"),
+    (Space::Data, 9, "#data1 a"),
+    (Space::Field, 10, "#field1 a"),
+    (Space::Tag, 11, "#tag1 a"),
+];
+
+/// Reports whether items 0 and 1 have these identifiers in function or type 5 and, if `is_indirect`, item 0 has
+/// none in another.
+fn are_counted(names: &Names, space: Space, second: &str, is_indirect: bool) -> bool {
+    names.identifier(space, 5, 0) == Some("a")
+        && names.identifier(space, 5, 1) == Some(second)
+        && names.identifier(space, 4, 0).is_none() == is_indirect
+}
+
+/// Reports whether items 0 and 1 of one function or type, both with the name `a`, have the expected identifiers in
+/// this space.
+fn count_in(alloc: Global, space: Space, id: u8, second: &str) -> Result<bool, Error> {
+    let direct = [id, 7, 2, 0, 1, b'a', 1, 1, b'a'];
+    let indirect = [id, 9, 1, 5, 2, 0, 1, b'a', 1, 1, b'a'];
+    let is_indirect = matches!(space, Space::Local | Space::Field);
+    let bytes: &[u8] = if is_indirect { &indirect } else { &direct };
+    let names = names_of(alloc, &[bytes])?;
+    Ok(are_counted(&names, space, second, is_indirect))
+}
+
+/// Returns the id of the subsection of the first space for which this does not hold, or `None` if it holds for
+/// all.
+fn first_uncounted(alloc: Global, spaces: &[(Space, u8, &str)]) -> Result<Option<u8>, Error> {
+    for (space, id, second) in spaces {
+        if !count_in(alloc, *space, *id, second)? {
+            return Ok(Some(*id));
+        }
+    }
+    Ok(None)
+}
+
+#[test]
+fn names_count_in_their_space(rt: HostRuntime) -> Result<(), Fail> {
+    let uncounted = first_uncounted(rt.alloc(), &SPACES)?;
+    assert!(rt; uncounted == None, "subsection {uncounted:?}");
+    Ok(())
+}
+
+/// Labels 0 and 1 of function 0, which are both `a`, and label 2, whose name is empty.
+const LABELS: [Item; 3] = [
+    (Space::Label, 0, 0, Some("a")),
+    (Space::Label, 0, 1, Some("a")),
+    (Space::Label, 0, 2, Some("#label2 ")),
+];
+
+#[test]
+fn names_of_labels_and_the_module_never_count(rt: HostRuntime) -> Result<(), Fail> {
+    let labels = b"\x03\x0b\x01\x00\x03\x00\x01a\x01\x01a\x02\x00";
+    // The module is `m`, and again `m`
+    let module = b"\x00\x02\x01m\x00\x02\x01m";
+    let sections: [&[u8]; 2] = [labels, module];
+    assert_names(&rt, rt.alloc(), &sections, Some("m"), &LABELS)?;
+    assert!(rt; module_is_named(rt.alloc(), &sections, "m", "m")?);
+    assert!(rt; module_is_named(rt.alloc(), &[b"\x00\x01\x00"], "", "#module0 ")?);
+    Ok(())
+}
+
+/// The identifier of an item with the name `f`.
+const NAMED: Identifier<'static> = Identifier::Given(Name {
+    given: "f",
+    content: "f",
+});
+
+/// The identifier that is synthesized for a local whose index exceeds 32 bits.
+const FAR: Identifier<'static> = Identifier::Synthesized {
+    space: Space::Local,
+    number: 5_000_000_000,
+};
+
+/// Whether identifiers are synthesized; an item by its space, its function or type, and its index; and its
+/// identifier.
+type Identified = (bool, Space, u64, u64, Option<Identifier<'static>>);
+
+/// Items of a module whose function 0 has the name `f`.
+const IDENTIFIED: [Identified; 4] = [
+    (false, Space::Func, 0, 0, Some(NAMED)),
+    (false, Space::Func, 0, 1, None),
+    (true, Space::Func, 0, 0, Some(NAMED)),
+    (true, Space::Local, 3, 5_000_000_000, Some(FAR)),
+];
+
+/// Asserts that these items have these identifiers.
+fn assert_identified(rt: &impl Abort, names: &Names, items: &[Identified]) {
+    for (synthesizes, space, outer, index, identifier) in items {
+        let identifiers = Identifiers {
+            names,
+            synthesizes: *synthesizes,
+        };
+        assert!(rt;
+            identifiers.item(*space, *outer, *index) == *identifier,
+            "{synthesizes} {index}"
+        );
+    }
+}
+
+/// The identifier of a module with the name `m`.
+const MODULE: Identifier<'static> = Identifier::Given(Name {
+    given: "m",
+    content: "m",
+});
+
+/// Reports whether this is the identifier of the module.
+fn is_module_identified(names: &Names, synthesizes: bool, wanted: Option<Identifier>) -> bool {
+    Identifiers { names, synthesizes }.module() == wanted
+}
+
+#[test]
+fn identifiers_are_given_or_synthesized(rt: HostRuntime) -> Result<(), Fail> {
+    // The module is `m`; function 0 is `f`
+    let names = names_of(rt.alloc(), &[b"\x00\x02\x01m\x01\x04\x01\x00\x01f"])?;
+    assert_identified(&rt, &names, &IDENTIFIED);
+    assert!(rt; is_module_identified(&names, false, Some(MODULE)));
+    Ok(())
+}
+
+#[test]
+fn spaces_have_words(rt: HostRuntime) -> Result<(), Fail> {
+    expect_text(Space::Types.word(), "type")?;
+    expect_text(Space::Data.word(), "data")?;
+    Ok(())
+}
+
+#[test]
+fn no_identifier_is_synthesized_for_a_module(rt: HostRuntime) -> Result<(), Fail> {
+    let names = names_of(rt.alloc(), &[])?;
+    assert!(rt; is_module_identified(&names, true, None));
+    Ok(())
+}
+
+/// A label: its function, its number and its name.
+type Label = (u64, u64, &'static str);
+
+/// Reports whether these are the labels, each with its name as its identifier.
+fn are_labels(labels: &[LabelName], wanted: &[Label]) -> bool {
+    for (label, (function, number, name)) in labels.iter().zip(wanted) {
+        if label.function != *function
+            || label.number != *number
+            || !is_named(Some(label.name), name, name)
+        {
+            return false;
+        }
+    }
+    labels.len() == wanted.len()
+}
+
+/// Reports whether these are the labels with names.
+fn lists(alloc: Global, names: &Names, wanted: &[Label]) -> Result<bool, AllocError> {
+    let labels = names.labels(alloc)?;
+    Ok(are_labels(&labels, wanted))
+}
+
+/// The labels of functions 0 and 2, sorted by function and number.
+const LISTED: [Label; 3] = [(0, 7, "c"), (2, 0, "a"), (2, 1, "b")];
+
+#[test]
+fn labels_are_listed_by_function_and_number(rt: HostRuntime) -> Result<(), Fail> {
+    // Labels of function 2: 1 `b`, 0 `a`; of function 0: 7 `c`; a local and a function have names too
+    let labels = b"\x03\x0e\x02\x02\x02\x01\x01b\x00\x01a\x00\x01\x07\x01c";
+    let others = b"\x02\x06\x01\x00\x01\x00\x01x\x01\x04\x01\x00\x01f";
+    let names = names_of(rt.alloc(), &[labels, others])?;
+    assert!(rt; lists(rt.alloc(), &names, &LISTED)?);
+    Ok(())
+}
+
+/// Functions 0 `a`, 1 `b` and 2 `c`, locals of function 0: 0 `x`, 1 `y`; of function 1: 0 `z`.
+const WITHOUT_GAPS: [Item; 13] = [
+    (Space::Func, 0, 0, Some("a")),
+    (Space::Func, 0, 1, Some("b")),
+    (Space::Func, 0, 2, Some("c")),
+    (Space::Func, 0, 3, None),
+    (Space::Local, 0, 0, Some("x")),
+    (Space::Local, 0, 1, Some("y")),
+    (Space::Local, 0, 2, None),
+    (Space::Local, 1, 0, Some("z")),
+    (Space::Local, 1, 1, None),
+    (Space::Local, 2, 0, None),
+    // No item has a name in the spaces before that of functions and after that of locals
+    (Space::Label, 0, 0, None),
+    (Space::Label, 1, 0, None),
+    (Space::Tag, 0, 0, None),
+];
+
+#[test]
+fn names_without_gaps_are_found(rt: HostRuntime) -> Result<(), Fail> {
+    let functions = b"\x01\x0a\x03\x00\x01a\x01\x01b\x02\x01c";
+    let locals = b"\x02\x0e\x02\x00\x02\x00\x01x\x01\x01y\x01\x01\x00\x01z";
+    assert_names(&rt, rt.alloc(), &[functions, locals], None, &WITHOUT_GAPS)
+}
+
+/// Functions 2 `a`, 3 `b`, 7 `c` and 9 `d`.
+const GAPS_BETWEEN_INDICES: [Item; 11] = [
+    (Space::Func, 0, 0, None),
+    (Space::Func, 0, 1, None),
+    (Space::Func, 0, 2, Some("a")),
+    (Space::Func, 0, 3, Some("b")),
+    (Space::Func, 0, 4, None),
+    (Space::Func, 0, 6, None),
+    (Space::Func, 0, 7, Some("c")),
+    (Space::Func, 0, 8, None),
+    (Space::Func, 0, 9, Some("d")),
+    (Space::Func, 0, 10, None),
+    (Space::Func, 0, 4_294_967_295, None),
+];
+
+#[test]
+fn names_with_gaps_between_indices_are_found(rt: HostRuntime) -> Result<(), Fail> {
+    let section = b"\x01\x0d\x04\x02\x01a\x03\x01b\x07\x01c\x09\x01d";
+    assert_names(&rt, rt.alloc(), &[section], None, &GAPS_BETWEEN_INDICES)
+}
+
+/// Locals of function 2: 0 `x`, 1 `w`; of function 5: 0 `y`, 1 `z`.
+const GAPS_BETWEEN_FUNCTIONS: [Item; 11] = [
+    (Space::Local, 0, 0, None),
+    (Space::Local, 1, 7, None),
+    (Space::Local, 2, 0, Some("x")),
+    (Space::Local, 2, 1, Some("w")),
+    (Space::Local, 2, 2, None),
+    (Space::Local, 3, 0, None),
+    (Space::Local, 4, 1, None),
+    (Space::Local, 5, 0, Some("y")),
+    (Space::Local, 5, 1, Some("z")),
+    (Space::Local, 5, 2, None),
+    (Space::Local, 6, 0, None),
+];
+
+#[test]
+fn names_with_gaps_between_functions_are_found(rt: HostRuntime) -> Result<(), Fail> {
+    let section = b"\x02\x11\x02\x02\x02\x00\x01x\x01\x01w\x05\x02\x00\x01y\x01\x01z";
+    assert_names(&rt, rt.alloc(), &[section], None, &GAPS_BETWEEN_FUNCTIONS)
+}
+
+/// Locals of function 4294967295: 0 `x`.
+const FAR_BEHIND: [Item; 4] = [
+    (Space::Local, 0, 0, None),
+    (Space::Local, 4_294_967_294, 0, None),
+    (Space::Local, 4_294_967_295, 0, Some("x")),
+    (Space::Local, 4_294_967_295, 1, None),
+];
+
+/// Locals of function 0: 0 `x`; of function 4294967295: 0 `y`.
+const FIRST_AND_FAR_BEHIND: [Item; 6] = [
+    (Space::Local, 0, 0, Some("x")),
+    (Space::Local, 0, 1, None),
+    (Space::Local, 1, 0, None),
+    (Space::Local, 4_294_967_294, 0, None),
+    (Space::Local, 4_294_967_295, 0, Some("y")),
+    (Space::Local, 4_294_967_295, 1, None),
+];
+
+#[test]
+fn names_of_a_function_far_after_are_found(rt: HostRuntime) -> Result<(), Fail> {
+    let alone = b"\x02\x0a\x01\xff\xff\xff\xff\x0f\x01\x00\x01x";
+    assert_names(&rt, rt.alloc(), &[alone], None, &FAR_BEHIND)?;
+    let two = b"\x02\x0f\x02\x00\x01\x00\x01x\xff\xff\xff\xff\x0f\x01\x00\x01y";
+    assert_names(&rt, rt.alloc(), &[two], None, &FIRST_AND_FAR_BEHIND)
+}
+
+/// Globals 0 `g` and 1 `h`; locals of function 0: 0 `x`; of function 1: 0 `y`, 1 `z`; functions 0 `a`, 1 `b`, 2 `c`
+/// and 3 `d`.
+const FROM_THE_LAST: [Item; 15] = [
+    (Space::Global, 0, 0, Some("g")),
+    (Space::Global, 0, 1, Some("h")),
+    (Space::Global, 0, 2, None),
+    (Space::Local, 0, 0, Some("x")),
+    (Space::Local, 0, 1, None),
+    (Space::Local, 1, 0, Some("y")),
+    (Space::Local, 1, 1, Some("z")),
+    (Space::Local, 2, 0, None),
+    (Space::Func, 0, 0, Some("a")),
+    (Space::Func, 0, 1, Some("b")),
+    (Space::Func, 0, 2, Some("c")),
+    (Space::Func, 0, 3, Some("d")),
+    (Space::Func, 0, 4, None),
+    // No item has a name in the spaces between those of locals and of globals
+    (Space::Types, 0, 0, None),
+    (Space::Types, 0, 1, None),
+];
+
+#[test]
+fn names_given_from_the_last_to_the_first_are_found(rt: HostRuntime) -> Result<(), Fail> {
+    let globals = b"\x07\x07\x02\x01\x01h\x00\x01g";
+    let locals = b"\x02\x0e\x02\x01\x02\x01\x01z\x00\x01y\x00\x01\x00\x01x";
+    let functions = b"\x01\x0d\x04\x03\x01d\x02\x01c\x01\x01b\x00\x01a";
+    let sections: [&[u8]; 3] = [globals, locals, functions];
+    assert_names(&rt, rt.alloc(), &sections, None, &FROM_THE_LAST)
+}
+
+/// Returns a number of at most 14 bits, encoded in two bytes.
+fn two_bytes(n: u16) -> [u8; 2] {
+    let [low, high] = n.wrapping_mul(2).to_le_bytes();
+    [low >> 1 | 0x80, high]
+}
+
+/// Returns a name map in which the first `count` items have the name `a`.
+fn map_of(alloc: Global, count: u16) -> Result<Vec<u8>, Error> {
+    let mut map = Vec::from_slice(alloc, &two_bytes(count))?;
+    for index in 0..count {
+        let [low, high] = two_bytes(index);
+        map.extend_from_slice(&[low, high, 0x01, b'a'])?;
+    }
+    Ok(map)
+}
+
+/// Returns an indirect name map with this name map for each of the functions or types 0 to 39.
+fn maps_of(alloc: Global, map: &[u8]) -> Result<Vec<u8>, Error> {
+    let mut maps = Vec::from_slice(alloc, &[40])?;
+    for outer in 0..40 {
+        maps.push(outer)?;
+        maps.extend_from_slice(map)?;
+    }
+    Ok(maps)
+}
+
+/// Returns a subsection with this content.
+fn subsection_of(alloc: Global, id: u8, content: &[u8]) -> Result<Vec<u8>, Error> {
+    let mut subsection = Vec::from_slice(alloc, &[id])?;
+    subsection.extend_from_slice(&two_bytes((content.len() & 0x3fff) as u16))?;
+    subsection.extend_from_slice(content)?;
+    Ok(subsection)
+}
+
+/// A space, the id of its subsection, and the identifier of the last item.
+type Last = (Space, u8, &'static str);
+
+/// The spaces whose items belong to no function or type. 300 items have the name `a`.
+const LAST_OF_300: [Last; 8] = [
+    (Space::Func, 1, "#func299 a"),
+    (Space::Types, 4, "#type299 a"),
+    (Space::Table, 5, "#table299 a"),
+    (Space::Memory, 6, "#memory299 a"),
+    (Space::Global, 7, "#global299 a"),
+    (Space::Elem, 8, "#elem299 a"),
+    (Space::Data, 9, "#data299 a"),
+    (Space::Tag, 11, "#tag299 a"),
+];
+
+#[test]
+fn many_names_are_kept(rt: HostRuntime) -> Result<(), Fail> {
+    let map = map_of(rt.alloc(), 300)?;
+    for (space, id, last) in LAST_OF_300 {
+        let section = subsection_of(rt.alloc(), id, &map)?;
+        let items = [
+            (space, 0, 0, Some("a")),
+            (space, 0, 299, Some(last)),
+            (space, 0, 300, None),
+        ];
+        assert_names(&rt, rt.alloc(), &[&section], None, &items)?;
+    }
+    Ok(())
+}
+
+/// The spaces whose items belong to a function or type. 20 items of each have the name `a`. Labels may share a
+/// name.
+const LAST_OF_20: [Last; 3] = [
+    (Space::Local, 2, "#local19 a"),
+    (Space::Label, 3, "a"),
+    (Space::Field, 10, "#field19 a"),
+];
+
+#[test]
+fn many_names_of_many_functions_are_kept(rt: HostRuntime) -> Result<(), Fail> {
+    let maps = maps_of(rt.alloc(), &map_of(rt.alloc(), 20)?)?;
+    for (space, id, last) in LAST_OF_20 {
+        let section = subsection_of(rt.alloc(), id, &maps)?;
+        let items = [
+            (space, 0, 0, Some("a")),
+            (space, 0, 19, Some(last)),
+            (space, 0, 20, None),
+            (space, 39, 0, Some("a")),
+            (space, 39, 19, Some(last)),
+            (space, 40, 0, None),
+        ];
+        assert_names(&rt, rt.alloc(), &[&section], None, &items)?;
+    }
+    Ok(())
+}

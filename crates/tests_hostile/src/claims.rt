@@ -1,0 +1,122 @@
+//! Printers that claim custom sections: a claimed section is not printed, and everything else is printed as without
+//! the claim.
+
+use crate::examples::HINTED_FLAT;
+use crate::printing::{LAYOUTS, Layout, print_to};
+use std::alloc::Global;
+use std::test::Fail;
+use wasmprinter_rows::calls::HINTED_FOLDED;
+use wasmprinter_rows::{
+    CUSTOMS_AROUND_A_MEMORY, DYLINK_CUT, DYLINK_MEMORY, DYLINK_UNKNOWN, HINTED_IF, RAW_PRODUCERS,
+};
+use wasmprinter_samples::{Recorder, expect_text};
+
+/// A module, and the name of its custom sections that the printer claims.
+#[derive(Clone, Copy)]
+struct Claim {
+    wasm: &'static [u8],
+    name: &'static str,
+    /// All calls if operators are printed flat.
+    flat: &'static str,
+    /// All calls if operators are folded.
+    folded: &'static str,
+}
+
+const FIRST_CLAIMED: &str = r#"[0x0]({K}module{R}{? "a" 0xf [1]}
+[0x13]  ({K}memory {R}{N}(;0;){R} {L}1{R}){? "b" 0x19 []}
+[0x17]  ({K}@custom {R}{L}"b"{R} (after memory) {L}""{R})
+[0x19])
+"#;
+
+const SECOND_CLAIMED: &str = r#"[0x0]({K}module{R}{? "a" 0xf [1]}
+[0xd]  ({K}@custom {R}{L}"a"{R} (before first) {L}"\\01"{R})
+[0x13]  ({K}memory {R}{N}(;0;){R} {L}1{R}){? "b" 0x19 []}
+[0x19])
+"#;
+
+const PRODUCERS_CLAIMED: &str =
+    r#"[0x0]({K}module{R}{? "producers" 0x14 [1, 3, 97, 32, 98, 1, 1, 120, 1, 49]})
+"#;
+
+const MEMORY_CLAIMED: &str = r#"[0x0]({K}module{R}{? "dylink.0" 0x13 [1, 4, 16, 2, 0, 0]})
+"#;
+
+const CUT_CLAIMED: &str = r#"[0x0]({K}module{R}{? "dylink.0" 0x13 [1, 5, 16]})
+"#;
+
+/// A claimed section is not parsed: its unknown subsection is not refused.
+const UNKNOWN_CLAIMED: &str = r#"[0x0]({K}module{R}{? "dylink.0" 0x13 [9, 0]})
+"#;
+
+const CLAIMS: [Claim; 7] = [
+    Claim {
+        wasm: CUSTOMS_AROUND_A_MEMORY,
+        name: "a",
+        flat: FIRST_CLAIMED,
+        folded: FIRST_CLAIMED,
+    },
+    Claim {
+        wasm: CUSTOMS_AROUND_A_MEMORY,
+        name: "b",
+        flat: SECOND_CLAIMED,
+        folded: SECOND_CLAIMED,
+    },
+    Claim {
+        wasm: RAW_PRODUCERS,
+        name: "producers",
+        flat: PRODUCERS_CLAIMED,
+        folded: PRODUCERS_CLAIMED,
+    },
+    Claim {
+        wasm: DYLINK_MEMORY,
+        name: "dylink.0",
+        flat: MEMORY_CLAIMED,
+        folded: MEMORY_CLAIMED,
+    },
+    Claim {
+        wasm: DYLINK_CUT,
+        name: "dylink.0",
+        flat: CUT_CLAIMED,
+        folded: CUT_CLAIMED,
+    },
+    Claim {
+        wasm: DYLINK_UNKNOWN,
+        name: "dylink.0",
+        flat: UNKNOWN_CLAIMED,
+        folded: UNKNOWN_CLAIMED,
+    },
+    // Hints are read before the first call on the printer.
+    Claim {
+        wasm: HINTED_IF,
+        name: "metadata.code.branch_hint",
+        flat: HINTED_FLAT,
+        folded: HINTED_FOLDED,
+    },
+];
+
+impl Claim {
+    /// Checks all calls on a printer that claims the section.
+    fn check(&self, alloc: Global, layout: Layout) -> Result<(), Fail> {
+        let mut recorder = Recorder::with_section_taken(alloc, self.name);
+        print_to(layout, alloc, self.wasm, &mut recorder)?;
+        let wanted = match layout {
+            Layout::Flat => self.flat,
+            Layout::Folded => self.folded,
+        };
+        expect_text(recorder.calls(), wanted)?;
+        if !recorder.is_complete() || recorder.faults() != 0 {
+            return Err("a call is lost or failed")?;
+        }
+        Ok(())
+    }
+}
+
+#[test]
+fn skips_only_the_claimed_section(rt: HostRuntime) -> Result<(), Fail> {
+    for claim in &CLAIMS {
+        for layout in LAYOUTS {
+            claim.check(rt.alloc(), layout)?;
+        }
+    }
+    Ok(())
+}

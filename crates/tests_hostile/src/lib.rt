@@ -1,0 +1,27 @@
+//! Tests of hostile use, through the public paths of the crate `wasmprinter` only: damaged modules, printers and
+//! writers that fail at each of their calls, and files that can't be read. `byte_printers` tests printers over byte
+//! writers, with colors and without. Expected values are typed by hand.
+#![tactic(auto)]
+
+#[cfg(test)]
+mod answers;
+#[cfg(test)]
+mod byte_printers;
+#[cfg(test)]
+mod claims;
+#[cfg(test)]
+mod damage;
+#[cfg(test)]
+mod damaged;
+#[cfg(test)]
+mod examples;
+#[cfg(test)]
+mod failing;
+#[cfg(test)]
+mod files;
+#[cfg(test)]
+mod outcome;
+#[cfg(test)]
+mod printing;
+#[cfg(test)]
+mod writers;

@@ -1,0 +1,29 @@
+//! Laws that follow from several promises of the library together. Each law is the contract of a function with an
+//! empty body.
+
+ghost use Rattle.std.specs.Prelude.{ℕ, List};
+ghost use Rattle.wasmprinter_spec.specs.Options.{IsBlank};
+ghost use Rattle.wasmprinter_print.specs.TextOnly.{Grows};
+ghost use Rattle.wasmprinter.specs.Printed.{Printed};
+ghost use Rattle.wasmprinter.specs.Gained.{GainAlike, GainsText};
+
+use crate::print::{Ansi, NoColor, Print, PrintTermcolor, PrintText};
+use std::io::Write;
+
+/// If a module is printed with the same options through [`Ansi`] and through [`NoColor`], deleting the ANSI escape
+/// sequences from what the first writer gains gives what the second writer gains. Both writers specify the bytes
+/// that they hold, and the indent consists of spaces and tabs. Operators may be folded or flat.
+pub fn colors_add_sequences_alone<V: Write, W: Write>()
+    ensures { (o : _) (bytes : List ℕ) → IsBlank o.indent → (s t : _) (x y : _)
+        → Printed ⟦<PrintTermcolor<Ansi<V>> as Print>⟧.meaning (⟦<PrintTermcolor<Ansi<V>> as Print>⟧.colors s) o bytes s t
+        → Printed ⟦<PrintTermcolor<NoColor<W>> as Print>⟧.meaning (⟦<PrintTermcolor<NoColor<W>> as Print>⟧.colors x) o bytes x y
+        → GainAlike (V.contents s.0.inner) (V.contents t.0.inner) (W.contents x.0.inner) (W.contents y.0.inner) }
+{}
+
+/// If each write that succeeds appends its bytes to a view of a `PrintText`, then printing a module appends the
+/// module's text to it.
+pub fn text_printers_gain_the_text<T: PrintText>()
+    ensures { (view : T → List ℕ) → Grows view T.writes → (o : _) (bytes : List ℕ) (s t : T)
+        → Printed ⟦<T as Print>⟧.meaning (⟦<T as Print>⟧.colors s) o bytes s t
+        → GainsText o bytes (view s) (view t) }
+{}

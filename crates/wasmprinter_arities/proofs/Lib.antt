@@ -1,3 +1,0 @@
-mod LabelsFound
-mod Gathered
-mod BlockLabels

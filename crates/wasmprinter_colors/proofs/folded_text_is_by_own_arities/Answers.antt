@@ -1,5 +1,0 @@
-use Rattle.wasmprinter_colors.proofs.AnyFolding.{folds_by_own_arities}
-use Rattle.wasmprinter_colors.proofs.folded_text_is_by_own_arities.Goals as goal
-
-pub returns : goal.returns
-returns c = folds_by_own_arities

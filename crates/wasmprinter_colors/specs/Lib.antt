@@ -1,4 +1,0 @@
--- Definitions for the laws of colors.
-pub mod PlainLaws
-pub mod NodeLaws
-pub mod AnyFolding

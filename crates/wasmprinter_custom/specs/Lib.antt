@@ -1,0 +1,16 @@
+-- The definitions that the contracts of this crate cite.
+pub mod Adds
+pub mod Contents
+pub mod Entries
+pub mod FlagPieces
+pub mod Flags
+pub mod Holds
+pub mod Judgements
+pub mod LabelViews
+pub mod Labels
+pub mod Lookups
+pub mod Roles
+pub mod Shown
+pub mod Sound
+pub mod Spaces
+pub mod Views

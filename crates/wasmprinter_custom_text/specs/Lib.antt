@@ -1,2 +1,0 @@
--- The definitions that the contracts of custom sections cite.
-pub mod Unclaimed

@@ -1,6 +1,0 @@
-pub mod FlagPieces
-mod FlagRows
-mod FoundSteps
-mod NextEntry
-mod RunBytes
-mod Subsections

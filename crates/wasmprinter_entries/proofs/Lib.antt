@@ -1,6 +1,0 @@
-pub mod Parts
-pub mod LaterPlaces
-pub mod Counting
-pub mod SectionLists
-pub mod GroupPlaces
-pub mod Flattening

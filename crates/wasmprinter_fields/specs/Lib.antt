@@ -1,3 +1,0 @@
--- Definitions that the contracts of this crate cite.
-pub mod Parts
-pub mod TypeLines

@@ -1,0 +1,9 @@
+pub mod Clauses
+pub mod Depths
+pub mod Fitting
+pub mod LabelTexts
+pub mod Lanes
+pub mod OneType
+pub mod OpenLabels
+pub mod Spaces
+pub mod Walking

@@ -1,0 +1,64 @@
+-- The state of the labels between two operators of an expression.
+use Rattle.std.specs.Prelude.{ℕ, suc, List, [], ◌∷◌, length, Bool}
+use Rattle.wasmprinter_spec.specs.Row.{Role}
+use Rattle.wasmprinter_spec.specs.Labels.{Label, labels_after, count_after, labels_outside, labels_inside}
+use Rattle.wasmprinter_spec.specs.Names.{Names, names_by}
+use Rattle.wasmprinter_custom.specs.Views.{NamedItem, name_at}
+use Rattle.wasmprinter_custom.specs.declared.identifiers.Identifiers.{Identifiers}
+use Rattle.wasmprinter_flat.specs.OpenLabels.Found.{Found, found_among}
+
+-- The names of the module and whether identifiers are synthesized; the function, the number of blocks opened in
+-- the expression, and the labels of the open blocks, innermost first.
+pub record Scan : Type 0 where
+  pub named : List NamedItem
+  pub synthesizes : Bool
+  pub function : ℕ
+  pub count : ℕ
+  pub labels : List Label
+
+-- The identifiers of the module.
+abbrev pub names_of : Scan → Names
+names_of s = names_by s.synthesizes (name_at s.named)
+
+-- The identifier of the block that would be opened next.
+abbrev pub own_label : Scan → Label
+own_label s = (names_of s).labels s.function s.count (length s.labels)
+
+-- The state at the start of an expression of function f, with these names.
+abbrev pub scan_from : List NamedItem → Bool → ℕ → Scan
+scan_from named synthesizes f = record { named = named; synthesizes = synthesizes; function = f; count = 0; labels = [] }
+
+-- The state at the start of an expression of function f, with the names of these identifiers.
+abbrev pub at_start : Identifiers → ℕ → Scan
+at_start x f = scan_from x.names.now x.synthesizes f
+
+-- The state at the start of an expression of function f, with the names of a given state.
+abbrev pub at_start_again : ℕ → Scan → Scan
+at_start_again f s = scan_from s.named s.synthesizes f
+
+-- The state after an operator that opens a block.
+abbrev pub after_opening : Scan → Scan
+after_opening s =
+    record { named = s.named; synthesizes = s.synthesizes; function = s.function; count = suc s.count; labels = own_label s ∷ s.labels }
+
+abbrev pub without_first : List Label → List Label
+without_first [] = []
+without_first (x ∷ xs) = xs
+
+-- The state after an operator that closes a block.
+abbrev pub after_closing : Scan → Scan
+after_closing s = record { named = s.named; synthesizes = s.synthesizes; function = s.function; count = s.count; labels = without_first s.labels }
+
+-- The state after an operator with the role.
+abbrev pub after_operator : Role → Scan → Scan
+after_operator role s = record {
+  named = s.named;
+  synthesizes = s.synthesizes;
+  function = s.function;
+  count = count_after role s.count;
+  labels = labels_after role (own_label s) s.labels;
+}
+
+-- The meaning of a label index in an operator with the role.
+abbrev pub found_at : Role → Scan → ℕ → Found
+found_at role s l = found_among (labels_inside role s.labels) (labels_outside role s.labels) l

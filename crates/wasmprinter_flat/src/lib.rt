@@ -1,0 +1,15 @@
+//! Writes operators as flat text (section 6.5 of the WebAssembly Core Specification), with their branch hints and the
+//! labels of open blocks, to any output.
+#![tactic(auto)]
+
+mod blocks;
+mod constants;
+mod context;
+mod immediates;
+mod indices;
+mod labels;
+mod memory;
+pub mod open_labels;
+pub mod operators;
+mod references;
+mod vectors;

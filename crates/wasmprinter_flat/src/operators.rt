@@ -1,0 +1,182 @@
+//! Operators (section 6.5 of the WebAssembly Core Specification), each on a line of its own or all in one line.
+ghost use Rattle.std.specs.Prelude.{◌≡◌, ◌+◌, ◌-◌, ◌<◌, ◌^◌, [], length, true, Some};
+ghost use Rattle.wasmprinter_spec.specs.Customs.Hints.{next_hint, hint_after};
+ghost use Rattle.wasmprinter_spec.specs.Layout.Operators.{level as level_of, before_word};
+ghost use Rattle.wasmprinter_spec.specs.Layout.Operators.{operator_pieces, hint_pieces, operators_pieces};
+ghost use Rattle.wasmprinter_ops.specs.Shapes.{role_view};
+ghost use Rattle.wasmprinter_flat.specs.OpenLabels.Scan.{own_label};
+ghost use Rattle.wasmprinter_flat.specs.Settings.{form_view, setting_among, word_pieces_among};
+
+use crate::context::Context;
+use crate::immediates::write_immediates_by_shape;
+use crate::open_labels::OpenLabels;
+use wasmprinter_custom::{FunctionHints, Hint};
+use wasmprinter_ops::expression::Expression;
+use wasmprinter_ops::opcode::{Listed, Role};
+use wasmprinter_ops::operator::Operator;
+use wasmprinter_print::Output;
+use wasmprinter_text::hints::write_hint_annotation;
+use wasmprinter_text::lines::write_break_inside;
+use wasmprinter_text::signature::Signatures;
+use wasmprinter_text::words::{write_space, write_word};
+
+/// The arrangement of operators.
+#[derive(Clone, Copy, Debug, PartialEq, Eq)]
+pub enum Form {
+    /// Each on a line of its own.
+    OverLines,
+    /// All in one line, separated by spaces.
+    InLine,
+}
+
+/// The settings shared by all operators of a list.
+#[derive(Drop)]
+pub struct Setting<'s, S: Signatures> {
+    /// The arrangement of the operators.
+    pub form: Form,
+    /// The types that block types may refer to.
+    pub types: &'s S,
+    /// The nesting depth of the list.
+    pub nesting: u64,
+    /// The function whose locals and labels the operators use.
+    pub function: u64,
+    /// The place of the body's first byte, from which the offsets of hints count.
+    pub body: u64,
+}
+
+/// Returns the level of an operator at nesting depth `depth`. An operator that ends a block or a part of one is one
+/// level further out.
+fn level(role: Role, depth: u64) -> u64
+    ensures { result ≡ level_of (role_view role) depth }
+{
+    match role {
+        Role::Else | Role::Catches | Role::CatchesAll | Role::Delegates | Role::Ends => {
+            depth.saturating_sub(1)
+        }
+        Role::Plain | Role::Opens | Role::OpensIf | Role::OpensTry => depth,
+    }
+}
+
+/// Starts an operator. Over lines, begins a line at `place`, indented by `nesting + depth` levels. In one line,
+/// writes a space unless the operator is the first of its list.
+pub fn start_operator<O: Output>(
+    out: &mut O,
+    form: Form,
+    first: bool,
+    place: u64,
+    nesting: u64,
+    depth: u64,
+)
+    ensures { O.wrote out.old out.new (before_word (form_view form) first place (nesting + depth)) }
+{
+    match form {
+        Form::OverLines => write_break_inside(out, place, nesting, depth),
+        Form::InLine => {
+            if !first {
+                write_space(out);
+            }
+        }
+    }
+}
+
+/// Writes the word of an operator and its immediates. `labels` are those that are open before it.
+pub fn write_operator_word<O: Output, S: Signatures>(
+    out: &mut O,
+    setting: &Setting<'_, S>,
+    labels: &OpenLabels<'_, '_>,
+    operator: &Operator<'_>,
+)
+    requires { length labels.now.labels + 1 < 2 ^ 64 }
+    ensures { O.wrote out.old out.new (word_pieces_among S.signature_at setting.now labels.now operator.now) }
+{
+    let role = operator.opcode.role();
+    let context = Context {
+        setting,
+        labels,
+        role,
+    };
+    write_word(out, operator.opcode.word());
+    if let Some(shape) = operator.opcode.shape() {
+        write_immediates_by_shape(out, &context, shape, &operator.immediates);
+    }
+}
+
+/// Writes an operator. `labels` are those that are open before it; `first` says whether it is the first of its
+/// list.
+#[inline(never)]
+fn write_operator<O: Output, S: Signatures>(
+    out: &mut O,
+    setting: &Setting<'_, S>,
+    labels: &OpenLabels<'_, '_>,
+    first: bool,
+    place: u64,
+    operator: &Operator<'_>,
+)
+    requires { length labels.now.labels + 1 < 2 ^ 64 }
+    ensures { O.wrote out.old out.new
+        (operator_pieces (setting_among S.signature_at setting.now labels.now) first (own_label labels.now) labels.now.labels
+        (record { place = place; value = operator.now })) }
+{
+    let level = level(operator.opcode.role(), labels.depth());
+    start_operator(out, setting.form, first, place, setting.nesting, level);
+    write_operator_word(out, setting, labels, operator);
+}
+
+/// Writes a hint on a line of its own, indented like the operators of the block.
+fn write_hint<O: Output, S: Signatures>(
+    out: &mut O,
+    setting: &Setting<'_, S>,
+    blocks: u64,
+    hint: &Hint,
+)
+    ensures { O.wrote out.old out.new (hint_pieces (setting.now.nesting + blocks) (Some hint.now)) }
+{
+    write_break_inside(out, hint.place(), setting.nesting, blocks);
+    write_hint_annotation(out, hint.is_taken());
+}
+
+/// Writes the next hint and removes it from `hints` if it is for the operator at `place`. Otherwise writes nothing.
+fn write_next_hint<O: Output, S: Signatures>(
+    out: &mut O,
+    setting: &Setting<'_, S>,
+    blocks: u64,
+    hints: &mut FunctionHints<'_>,
+    place: u64,
+)
+    ensures pieces { O.wrote out.old out.new
+        (hint_pieces (setting.now.nesting + blocks) (next_hint (place - setting.now.body) hints.old)) }
+    ensures after { hints.new ≡ hint_after (place - setting.now.body) hints.old }
+{
+    if let Some(hint) = hints.next_at(place.saturating_sub(setting.body)) {
+        write_hint(out, setting, blocks, &hint);
+    }
+}
+
+/// Writes the operators of an expression, each after its hint if it has one. `labels` is first reset to the start of
+/// `setting.function`, so its earlier use does not matter. Its identifiers are those passed to `OpenLabels::new`.
+pub fn write_operators<O: Output, S: Signatures>(
+    out: &mut O,
+    setting: &Setting<'_, S>,
+    labels: &mut OpenLabels<'_, '_>,
+    hints: FunctionHints<'_>,
+    expression: &Expression<'_>,
+)
+    ensures pieces { O.wrote out.old out.new
+        (operators_pieces (setting_among S.signature_at setting.now labels.old) hints.entry true 0 [] expression.now.items) }
+    ensures named { labels.new.named ≡ labels.old.named }
+    ensures synthesizes { labels.new.synthesizes ≡ labels.old.synthesizes }
+{
+    labels.begin(setting.function);
+    let mut hints = hints;
+    let mut first = true;
+    for (place, operator) in expression.operators() {
+        let depth = labels.depth();
+        write_next_hint(out, setting, depth, &mut hints, place);
+        write_operator(out, setting, labels, first, place, &operator);
+        if out.has_failed() {
+            return;
+        }
+        labels.advance(operator.opcode.role());
+        first = false;
+    }
+}

@@ -1,7 +1,0 @@
-use Rattle.wasmprinter_flat_text.specs.Settings.{setting_among}
-use Rattle.wasmprinter_flat_text.proofs.Walking.{Progress}
-use Rattle.wasmprinter_flat_text.proofs.operators.write_operators.Given as goal
-
-abbrev pub invariant-loop-place : goal.invariant-loop-place
-invariant-loop-place g l =
-    Progress g.O.Output.wrote l.fn.out l.out (setting_among g.S.Signatures.signature_at l.setting l.fn.labels) l.fn.labels l.fn.hints l.expression.items l.place-iterator l.hints l.first l.labels

@@ -1,3 +1,0 @@
--- The definitions that the contracts of flat operators cite.
-pub mod Settings
-pub mod Contexts

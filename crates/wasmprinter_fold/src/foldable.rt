@@ -1,0 +1,9 @@
+//! Checks which modules can be folded: the printed parts must have no operators of legacy exception handling, and
+//! no branch hints on operators whose folded text has no place for them.
+
+mod check;
+pub mod hints;
+mod legacy;
+mod lists;
+
+pub use check::check_folding;

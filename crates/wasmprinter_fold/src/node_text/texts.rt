@@ -1,0 +1,253 @@
+//! The texts of nodes, one after another in one buffer.
+ghost use Rattle.std.specs.Prelude.{◌≡◌, false};
+ghost use Rattle.wasmprinter_fold.specs.Buffers.{texts_meaning};
+
+use crate::node_text::semicolons::{Semicolons, UNSEEN, see_text};
+use crate::nodes::NodeText;
+use std::alloc::{AllocError, Global};
+use std::io;
+use std::marker::{Brand, Model};
+use wasmprinter_flat::open_labels::OpenLabels;
+use wasmprinter_flat::operators::{Setting, write_operator_word};
+use wasmprinter_ops::operator::Operator;
+use wasmprinter_print::sequences::{
+    comment_sequences, keyword_sequences, literal_sequences, name_sequences, reset_sequences,
+    type_sequences,
+};
+use wasmprinter_print::{Print, PrintOptions, Printer};
+use wasmprinter_text::signature::Signatures;
+
+/// The texts of nodes, one after another in one buffer, with or without the ANSI escape sequences of their styles.
+///
+/// As a printer it appends to the last text and claims no custom section. A call fails only if an allocation fails,
+/// and then leaves the buffer as it was.
+#[derive(Drop)]
+pub struct Texts {
+    text: String,
+    color: bool,
+    seen: Semicolons,
+}
+
+impl Model for Texts {
+    ghost use Rattle.std.specs.String.{string_bytes};
+    ghost use Rattle.wasmprinter_fold.specs.Buffers.{View};
+
+    ghost Value = { View };
+
+    ghost view = { λ t. record { bytes = string_bytes t.text; color = t.color; seen = t.seen } };
+}
+
+impl Texts {
+    ghost use Rattle.std.specs.Prelude.{◌≡◌, ◌+◌, ◌<◌, ◌^◌, [], ◌∷◌, length, None, OnOk, OnErr, IfOk};
+    ghost use Rattle.wasmprinter_spec.specs.Call.{Text};
+    ghost use Rattle.wasmprinter_spec.specs.Options.{defaults};
+    ghost use Rattle.wasmprinter_spec.specs.Piece.{all_calls};
+    ghost use Rattle.wasmprinter_print.specs.Emits.{Made, Through};
+    ghost use Rattle.wasmprinter_flat.specs.Settings.{word_pieces_among};
+    ghost use Rattle.wasmprinter_fold.specs.Shown.{shown_of_calls, shown_of_head, IsIn};
+    ghost use Rattle.wasmprinter_fold.specs.Buffers.{GrowsText, with_text_begun, with_text, with_sequences};
+    ghost use Rattle.wasmprinter_fold.specs.Buffers.{no_semicolons, texts_meaning};
+
+    /// Creates an empty buffer. `color` says whether texts contain escape sequences. This allocates no memory.
+    pub fn new(alloc: Global, color: bool) -> Texts
+        ensures { result ≡ record { bytes = []; color = color; seen = no_semicolons } }
+    {
+        Texts {
+            text: String::new(alloc),
+            color,
+            seen: UNSEEN,
+        }
+    }
+
+    /// Removes all texts and keeps the capacity.
+    pub fn clear(&mut self)
+        ensures { self.new ≡ record { bytes = []; color = self.old.color; seen = no_semicolons } }
+    {
+        self.text.clear();
+        self.seen = UNSEEN;
+    }
+
+    /// Returns all texts, joined.
+    pub fn as_str(&self) -> &str
+        ensures { result.now ≡ self.now.bytes }
+    {
+        self.text.as_str()
+    }
+
+    /// Begins the next text and returns the byte offset at which it starts in the buffer.
+    fn begin(&mut self) -> usize
+        ensures buffer { self.new ≡ with_text_begun self.old }
+        ensures start { result ≡ length self.old.bytes }
+    {
+        self.seen = UNSEEN;
+        self.text.len()
+    }
+
+    /// Appends a piece of text.
+    fn push_text(&mut self, piece: &str) -> Result<(), AllocError>
+        ensures ok { OnOk result (self.new ≡ with_text self.old piece.now) }
+        ensures err { OnErr result (self.new ≡ self.old) }
+    {
+        self.text.push_str(piece)?;
+        self.seen = see_text(self.seen, piece);
+        Ok(())
+    }
+
+    /// Returns the head of the last text, which starts at `start`.
+    fn head(&self, start: usize, place: u64, hint: Option<bool>) -> NodeText
+        ensures { result ≡ record
+            { place = place; hint = hint; start = start; stop = length self.now.bytes; comment = self.now.seen.double } }
+    {
+        NodeText {
+            place,
+            hint,
+            start,
+            stop: self.text.len(),
+            comment: self.seen.double,
+        }
+    }
+
+    /// Appends the word of an operator and its immediates.
+    fn push_operator<S: Signatures>(
+        &mut self,
+        setting: &Setting<'_, S>,
+        labels: &OpenLabels<'_, '_>,
+        operator: &Operator<'_>,
+    ) -> Result<(), AllocError>
+        requires { length labels.now.labels + 1 < 2 ^ 64 }
+        ensures color { self.new.color ≡ self.old.color }
+        ensures grows { GrowsText self.old.bytes self.new.bytes }
+        ensures made { OnOk result (Made texts_meaning self.old self.new Through
+            (all_calls defaults (word_pieces_among S.signature_at setting.now labels.now operator.now))) }
+    {
+        let options = PrintOptions::new();
+        let mut out: Printer<'_, '_, Texts, Brand> = Printer::new(self, &options);
+        write_operator_word(&mut out, setting, labels, operator);
+        let Printer {
+            printer: _,
+            options: _,
+            halt,
+            begun: _,
+            of: _,
+        } = out;
+        if halt.is_some() {
+            return Err(AllocError);
+        }
+        Ok(())
+    }
+
+    /// Writes the text of an operator's node, its word and immediates, and returns its head. `labels` are those that
+    /// are open before the operator.
+    ///
+    /// # Errors
+    ///
+    /// Returns an error if an allocation fails. A prefix of the text then follows the other texts.
+    pub fn write_operator<S: Signatures>(
+        &mut self,
+        setting: &Setting<'_, S>,
+        labels: &OpenLabels<'_, '_>,
+        operator: &Operator<'_>,
+        place: u64,
+        hint: Option<bool>,
+    ) -> Result<NodeText, AllocError>
+        requires { length labels.now.labels + 1 < 2 ^ 64 }
+        ensures color { self.new.color ≡ self.old.color }
+        ensures grows { GrowsText self.old.bytes self.new.bytes }
+        ensures inside { IfOk result (λ head. IsIn self.new.bytes head) }
+        ensures shows { IfOk result (λ head. shown_of_head self.new.bytes head ≡ shown_of_calls place hint self.old.color
+            (all_calls defaults (word_pieces_among S.signature_at setting.now labels.now operator.now))) }
+    {
+        let start = self.begin();
+        self.push_operator(setting, labels, operator)?;
+        Ok(self.head(start, place, hint))
+    }
+
+    /// Writes the text of the node of a case of an `if`, which is its keyword, and returns its head.
+    ///
+    /// # Errors
+    ///
+    /// Returns an error if an allocation fails. The texts are then as they were.
+    pub fn write_keyword(&mut self, keyword: &str, place: u64) -> Result<NodeText, AllocError>
+        ensures color { self.new.color ≡ self.old.color }
+        ensures grows { GrowsText self.old.bytes self.new.bytes }
+        ensures inside { IfOk result (λ head. IsIn self.new.bytes head) }
+        ensures shows { IfOk result (λ head. shown_of_head self.new.bytes head
+            ≡ shown_of_calls place None self.old.color (Text keyword.now ∷ [])) }
+    {
+        let start = self.begin();
+        self.push_text(keyword)?;
+        Ok(self.head(start, place, None))
+    }
+
+    /// Appends the sequences of a style if texts contain them.
+    fn push_sequences(&mut self, sequences: &str) -> Result<(), AllocError>
+        ensures ok { OnOk result (self.new ≡ with_sequences self.old.color self.old sequences.now) }
+        ensures err { OnErr result (self.new ≡ self.old) }
+    {
+        if self.color {
+            self.text.push_str(sequences)?;
+        }
+        Ok(())
+    }
+}
+
+impl Print for Texts {
+    ghost meaning = { texts_meaning };
+
+    ghost colors = { λ _. false };
+
+    fn write_str(&mut self, s: &str) -> io::Result<()> {
+        self.push_text(s)?;
+        Ok(())
+    }
+
+    fn newline(&mut self) -> io::Result<()> {
+        self.push_text("\n")?;
+        Ok(())
+    }
+
+    fn start_line(&mut self, _binary_offset: Option<u64>) {}
+
+    fn print_custom_section(
+        &mut self,
+        _name: &str,
+        _binary_offset: u64,
+        _bytes: &[u8],
+    ) -> io::Result<bool> {
+        Ok(false)
+    }
+
+    fn start_literal(&mut self) -> io::Result<()> {
+        self.push_sequences(literal_sequences())?;
+        Ok(())
+    }
+
+    fn start_name(&mut self) -> io::Result<()> {
+        self.push_sequences(name_sequences())?;
+        Ok(())
+    }
+
+    fn start_keyword(&mut self) -> io::Result<()> {
+        self.push_sequences(keyword_sequences())?;
+        Ok(())
+    }
+
+    fn start_type(&mut self) -> io::Result<()> {
+        self.push_sequences(type_sequences())?;
+        Ok(())
+    }
+
+    fn start_comment(&mut self) -> io::Result<()> {
+        self.push_sequences(comment_sequences())?;
+        Ok(())
+    }
+
+    fn reset_color(&mut self) -> io::Result<()> {
+        self.push_sequences(reset_sequences())?;
+        Ok(())
+    }
+
+    fn supports_async_color(&self) -> bool {
+        false
+    }
+}

@@ -1,2 +1,0 @@
--- The definitions that the contracts of the folding check cite.
-pub mod Refused

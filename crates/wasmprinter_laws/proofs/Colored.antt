@@ -1,0 +1,9 @@
+pub mod AnyFolding
+pub mod Calls
+pub mod Fields
+pub mod Groups
+pub mod Modules
+pub mod Nodes
+pub mod Recolored
+pub mod Texts
+pub mod Uncolored

@@ -1,0 +1,16 @@
+pub mod FloatPieces
+pub mod FloatValues
+pub mod Floats
+pub mod Grown
+pub mod Identifiers
+pub mod Noted
+pub mod Notes
+pub mod Numbers
+pub mod Pieces
+pub mod Plain
+pub mod Printed
+pub mod PrintedPieces
+pub mod Quotes
+pub mod Respelled
+pub mod Runs
+pub mod Writes

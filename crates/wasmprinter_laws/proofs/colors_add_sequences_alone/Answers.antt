@@ -1,5 +1,0 @@
-use Rattle.wasmprinter_laws.proofs.Gained.{gained_alike}
-use Rattle.wasmprinter_laws.proofs.colors_add_sequences_alone.Goals as goal
-
-pub returns : goal.returns
-returns g c = gained_alike (λ p. p.0) (λ w. w.inner) g.V.Write.contents (λ p. p.0) (λ w. g.W.Write.contents w.inner)

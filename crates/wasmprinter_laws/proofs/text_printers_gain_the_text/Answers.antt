@@ -1,5 +1,0 @@
-use Rattle.wasmprinter_laws.proofs.Gained.{gains_text}
-use Rattle.wasmprinter_laws.proofs.text_printers_gain_the_text.Goals as goal
-
-pub returns : goal.returns
-returns g c view grows = gains_text view g.T.PrintText.writes grows

@@ -1,0 +1,32 @@
+//! Laws of tokens: quoted strings and the text of floats read back, and lists of calls that are alike have one text.
+//! The proofs, in `proofs/Tokens`, show what the text of any list of pieces lexes to. The proofs of the reading law
+//! cite these lemmas.
+
+ghost use Rattle.wasmprinter_spec.specs.Laws.{AlikeHaveOneText, QuotedTextReads, QuotedBytesRead, FloatTextReads, FloatsAreExact};
+
+/// Two lists of calls that differ only in how text is split into pieces have the same text.
+pub fn alike_calls_have_one_text()
+    ensures { AlikeHaveOneText }
+{}
+
+/// The quoted text of any string is one token: that string (section 6.3 of the standard, "Strings").
+pub fn quoted_text_reads()
+    ensures { QuotedTextReads }
+{}
+
+/// The quoted text of any bytes is one token: the string of these bytes.
+pub fn quoted_bytes_read()
+    ensures { QuotedBytesRead }
+{}
+
+/// The text of each bit pattern of a float is one word that reads as these bits (section 6.3 of the standard,
+/// "Floating-Point").
+pub fn float_text_reads()
+    ensures { FloatTextReads }
+{}
+
+/// A hexadecimal number reads as the bits of the finite float that is equal to it. If no finite float is, it does
+/// not read.
+pub fn floats_are_exact()
+    ensures { FloatsAreExact }
+{}

@@ -1,1 +1,0 @@
--- The laws of this crate are about the definitions alone: its contracts cite those of wasmprinter_spec.

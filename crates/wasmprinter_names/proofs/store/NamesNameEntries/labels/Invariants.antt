@@ -1,8 +1,0 @@
-use Rattle.std.proofs.Common.{◌≡◌, ◌++◌, map, drop}
-use Rattle.wasmprinter_names.specs.Views.{item_view}
-use Rattle.wasmprinter_names.specs.Labels.{labels_in}
-use Rattle.wasmprinter_names.specs.LabelViews.{label_view}
-use Rattle.wasmprinter_names.proofs.store.NamesNameEntries.labels.Given as goal
-
-abbrev pub invariant-loop-place : goal.invariant-loop-place
-invariant-loop-place l = map label_view l.labels.items ++ labels_in (map item_view (drop l.place-index l.place-items)) ≡ labels_in l.self

@@ -1,7 +1,0 @@
--- The label with its name that a value of the program represents.
-use Rattle.wasmprinter_names.specs.Views.{name_view}
-use Rattle.wasmprinter_names.specs.Labels.{NamedLabel}
-use Rattle.wasmprinter_names.specs.declared.store.LabelName.{LabelName}
-
-abbrev pub label_view : LabelName → NamedLabel
-label_view l = record { function = l.function; number = l.number; name = name_view l.name }

@@ -1,4 +1,0 @@
-pub mod RowLaws
-pub mod TaskLaws
-pub mod TextLaws
-pub mod NodeTexts

@@ -1,7 +1,0 @@
-use Rattle.std.proofs.Common.{arith}
-use Rattle.wasmprinter_nodes.proofs.Blocks.{opens_block}
-use Rattle.wasmprinter_nodes.proofs.builder.Builder.open.Goals as goal
-
-pub returns : goal.returns
-returns c =
-    λ s h. opens_block _ _ s h _ _ _ (omega (arith, c.len-start.ensures, c.args.self.now.nodes.ok.0)) _ c.in_ok-push.ensures.items

@@ -1,2 +1,0 @@
--- Definitions that the contracts of the recorder cite.
-pub mod Counting

@@ -1,0 +1,84 @@
+//! Custom sections at their places among the other sections. The printer is first asked whether it claims each one.
+ghost use Rattle.std.specs.Prelude.{◌≡◌, ◌↔◌, Bool, IsTrue, [], ◌∷◌};
+ghost use Rattle.wasmprinter_spec.specs.Options.{Answers};
+ghost use Rattle.wasmprinter_spec.specs.Customs.{custom_role_of};
+ghost use Rattle.wasmprinter_spec.specs.Layout.Customs.{custom_part, parts_at};
+ghost use Rattle.wasmprinter_wasm.specs.Places.{place_view};
+ghost use Rattle.wasmprinter_custom.specs.Roles.{role_view};
+ghost use Rattle.wasmprinter_sections.specs.Unclaimed.{claim_of, WroteUnclaimed};
+
+use crate::dylink::write_dylink;
+use crate::producers::write_producers;
+use crate::raw::{write_faulted, write_raw};
+use wasmprinter_custom::{CustomRole, custom_role};
+use wasmprinter_print::Output;
+use wasmprinter_wasm::customs::Custom;
+use wasmprinter_wasm::places::{CustomEntry, SectionKind};
+
+/// Returns the role of a section in the text.
+fn role_of<'a>(section: &Custom<'a>) -> CustomRole<'a>
+    ensures { role_view result ≡ custom_role_of section.now.value }
+{
+    let content = section.cursor();
+    prove!(content.end() <= u64::MAX);
+    custom_role(section.name(), content.place(), content.rest())
+}
+
+/// Asks the printer whether it claims a section. Returns the answer.
+fn write_claim<O: Output>(out: &mut O, section: &Custom<'_>) -> bool
+    ensures { O.wrote out.old out.new (claim_of section.now.value result ∷ []) }
+{
+    out.print_custom_section(section.name(), section.bytes_place(), section.bytes())
+}
+
+/// Writes a section with the role that the printer does not claim. Ends the layout if the section is refused.
+fn write_role<O: Output>(out: &mut O, entry: &CustomEntry<'_>, role: CustomRole<'_>)
+    ensures { WroteUnclaimed O.wrote O.laid out.old out.new O.chosen.skeleton entry.now (role_view role.entry) }
+{
+    let place = entry.section.place();
+    match &role {
+        CustomRole::Silent => {}
+        CustomRole::Producers(fields) => write_producers(out, place, fields),
+        CustomRole::Dylink(subsections) => write_dylink(out, place, subsections),
+        CustomRole::Refused(id) => out.refuse_subsection(*id),
+        CustomRole::Raw => write_raw(out, entry),
+        CustomRole::Malformed => write_faulted(out, entry),
+    }
+}
+
+/// Asks the printer whether it claims the section, and writes the section if it does not. Ends the layout at a
+/// `dylink.0` section with an unknown subsection, unless the printer claims it.
+pub fn write_custom<O: Output>(out: &mut O, entry: &CustomEntry<'_>)
+    ensures { (answer : Bool) × O.laid out.old out.new (custom_part O.chosen.skeleton answer entry.now ∷ []) }
+{
+    let section = &entry.section;
+    if write_claim(out, section) {
+        return;
+    }
+    write_role(out, entry, role_of(section));
+}
+
+/// Reports whether a section comes after one of the kind or, for `None`, before all others.
+fn stands_at(entry: &CustomEntry<'_>, after: Option<SectionKind>) -> bool
+    ensures { IsTrue result ↔ (entry.now.after ≡ place_view after) }
+{
+    entry.after == after
+}
+
+/// Writes the custom sections that come after a section of the kind or, for `None`, before all others. Ends the
+/// layout at the first section that is refused.
+pub fn write_customs<O: Output>(
+    out: &mut O,
+    customs: &[CustomEntry<'_>],
+    after: Option<SectionKind>,
+)
+    ensures { (answers : Answers) × O.laid out.old out.new
+        (parts_at O.chosen.skeleton answers (place_view after) 0 customs.now) }
+{
+    for entry in customs {
+        if !stands_at(entry, after) {
+            continue;
+        }
+        write_custom(out, entry);
+    }
+}

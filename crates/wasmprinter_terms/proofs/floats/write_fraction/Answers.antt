@@ -1,4 +1,0 @@
-use Rattle.wasmprinter_terms.proofs.floats.write_fraction.Goals as goal
-
-pub returns : goal.returns
-returns g c = rw (c.digit_count.ensures.is, c.filled_fraction.ensures.is) at c.write_digits_after.ensures

@@ -1,7 +1,0 @@
-use Rattle.wasmprinter_terms.proofs.floats.write_normal.Goals as goal
-
-pub returns : goal.returns
-returns g c =
-    let law = g.met.O.Output in
-    law.text_then _ _ _ _ _ _ c.write_str.ensures
-    (law.text_then _ _ _ _ _ _ c.write_after_point.ensures (rw c.bias.ensures.is at c.write_exponent.ensures))

@@ -1,9 +1,0 @@
-use Rattle.std.proofs.Common.{◌-◌, ◌∷◌, []}
-use Rattle.wasmprinter_spec.specs.Call.{Text}
-use Rattle.wasmprinter_spec.specs.Piece.{repetition_of}
-use Rattle.wasmprinter_terms.proofs.lines.write_each_level.Given as goal
-
-abbrev pub invariant-loop : goal.invariant-loop
-invariant-loop g l =
-    (t : _) → g.O.Output.called l.out t (Text (repetition_of (l.levels - l.counter) g.O.Output.chosen.indent) ∷ []) →
-    g.O.Output.called l.fn.out t (Text (repetition_of l.levels g.O.Output.chosen.indent) ∷ [])

@@ -1,2 +1,0 @@
--- Definitions for the contracts of floats.
-pub mod Formats

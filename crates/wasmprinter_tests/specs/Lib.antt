@@ -1,2 +1,0 @@
--- The definitions in the contract of `print_counted`.
-pub mod Faults

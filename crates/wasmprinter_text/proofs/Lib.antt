@@ -1,0 +1,12 @@
+pub mod Composites
+pub mod Counting
+pub mod Digits
+pub mod Formats
+pub mod FractionDigits
+pub mod Made
+pub mod Plain
+pub mod Runs
+pub mod Tables
+pub mod TypeLists
+pub mod ValueResults
+pub mod Walks

@@ -1,0 +1,17 @@
+//! The bytes of data segments and custom sections.
+ghost use Rattle.wasmprinter_spec.specs.Layout.DataSegments.{shown_bytes};
+
+use crate::strings::write_byte_string;
+use crate::words::write_word;
+use wasmprinter_print::Output;
+
+/// Writes bytes as a quoted string, or `...` in a skeleton.
+pub fn write_shown_bytes<O: Output>(out: &mut O, bytes: &[u8])
+    ensures { O.wrote out.old out.new (shown_bytes O.chosen.skeleton bytes.now) }
+{
+    if out.skeleton() {
+        write_word(out, "...");
+    } else {
+        write_byte_string(out, bytes);
+    }
+}

@@ -1,0 +1,104 @@
+//! Identifiers, and the annotations with names (section 6.3 of the WebAssembly Core Specification, "Identifiers",
+//! and the custom annotations proposal).
+ghost use Rattle.std.specs.Prelude.{◌≡◌, [], ◌∷◌, ◌++◌, true, chars, decimal, if◌then◌else◌};
+ghost use Rattle.wasmprinter_spec.specs.Call.{Text};
+ghost use Rattle.wasmprinter_spec.specs.Character.{class};
+ghost use Rattle.wasmprinter_spec.specs.Names.Content.{index_content};
+ghost use Rattle.wasmprinter_spec.specs.Piece.{Identifier, NameAnnotation};
+ghost use Rattle.wasmprinter_spec.specs.Quoted.{is_id_char, all_id_chars, is_id, quoted_text};
+ghost use Rattle.wasmprinter_text.specs.Numbers.{dollar};
+
+use crate::numbers::write_decimal;
+use crate::strings::{write_chars, write_in_quotes};
+use crate::words::write_in_style;
+use wasmprinter_print::{Output, Style};
+
+/// The bytes of identifier characters, each at its own index. All other entries are a full stop.
+static IDENTIFIER_BYTES: [u8; 256] = *b"\
+    ................................\
+    .!.#$%&'..*+.-./0123456789:.<=>?\
+    @ABCDEFGHIJKLMNOPQRSTUVWXYZ.\\.^_\
+    `abcdefghijklmnopqrstuvwxyz.|.~.\
+    ................................\
+    ................................\
+    ................................\
+    ................................";
+
+/// Reports whether a byte is an ASCII character that may occur in an identifier.
+#[inline(always)]
+fn is_identifier_byte(byte: u8) -> bool
+    ensures { result ≡ is_id_char (class byte) }
+{
+    IDENTIFIER_BYTES[usize::from(byte)] == byte
+}
+
+/// Reports whether all characters of a text may occur in an identifier. Only ASCII characters may, so checking its
+/// bytes is enough.
+fn all_id_chars(s: &str) -> bool
+    ensures { result ≡ all_id_chars (chars s.now) }
+{
+    for &byte in s.as_bytes() {
+        if !is_identifier_byte(byte) {
+            return false;
+        }
+    }
+    true
+}
+
+/// Reports whether a text may follow the dollar sign of an identifier without quotes.
+fn is_id(s: &str) -> bool
+    ensures { result ≡ is_id (chars s.now) }
+{
+    !s.is_empty() && all_id_chars(s)
+}
+
+/// Writes the part of an identifier after its dollar sign.
+fn write_content<O: Output>(out: &mut O, content: &str)
+    ensures { O.called out.old out.new
+        (Text (if is_id (chars content.now) then chars content.now else quoted_text (chars content.now)) ∷ []) }
+{
+    if is_id(content) {
+        out.write_str(content);
+    } else {
+        write_in_quotes(out, content);
+    }
+}
+
+/// Writes an identifier, given the part after its dollar sign. It is a quoted string if it is empty or has other
+/// than identifier characters.
+#[tactic(auto, unfolding(wasmprinter_spec::specs::Quoted::identifier_text))]
+pub fn write_identifier<O: Output>(out: &mut O, content: &str)
+    ensures { O.wrote out.old out.new (Identifier (chars content.now) ∷ []) }
+{
+    out.write_str("$");
+    write_content(out, content);
+}
+
+/// Writes a text, a word and a number.
+fn write_numbered<O: Output>(out: &mut O, before: &str, word: &str, number: u64)
+    ensures { O.called out.old out.new (Text (before.now ++ (word.now ++ decimal number)) ∷ []) }
+{
+    out.write_str(before);
+    out.write_str(word);
+    write_decimal(out, number);
+}
+
+/// Writes the synthesized identifier of an item: the sign `#`, the word of its kind, and its number. It is written
+/// without quotes, so the word must consist of identifier characters.
+pub fn write_synthesized_identifier<O: Output>(out: &mut O, group: &str, number: u64)
+    ensures calls { O.called out.old out.new (Text (dollar ∷ index_content group.now number) ∷ []) }
+    ensures pieces { all_id_chars group.now ≡ true
+        → O.wrote out.old out.new (Identifier (chars (index_content group.now number)) ∷ []) }
+{
+    write_numbered(out, "$#", group, number);
+}
+
+/// Writes the annotation with the name of an item.
+pub fn write_name_annotation<O: Output>(out: &mut O, name: &str)
+    ensures { O.wrote out.old out.new (NameAnnotation (chars name.now) ∷ []) }
+{
+    out.write_str("(");
+    write_in_style(out, Style::Keyword, "@name \"");
+    write_chars(out, name);
+    out.write_str("\")");
+}

@@ -1,0 +1,21 @@
+//! Terms of the text format for any output: words, numbers, strings, comments and floats in their styles (sections 6.2
+//! and 6.3 of the WebAssembly Core Specification), lines and groups, types (section 6.4) and indices with their
+//! identifiers.
+#![tactic(auto)]
+
+pub mod annotations;
+pub mod comments;
+pub mod data_strings;
+pub mod floats;
+mod format;
+pub mod hints;
+mod identifiers;
+pub mod indices;
+pub mod limits;
+pub mod lines;
+pub mod numbers;
+pub mod signature;
+pub mod strings;
+pub mod types;
+pub mod values;
+pub mod words;

@@ -1,0 +1,122 @@
+//! Parentheses, spaces and words.
+ghost use Rattle.std.specs.Prelude.{[], ◌∷◌, ◌++◌};
+ghost use Rattle.wasmprinter_spec.specs.Piece.{Gap, Open, OpenUnnamed, OpenGap, OpenPlain, OpenTypeGap, Shut, BeginName, EndStyle};
+ghost use Rattle.wasmprinter_spec.specs.Piece.{Word, TypeWord, TypeWordGap, GapTypeWord, calls_in_style as in_style};
+ghost use Rattle.wasmprinter_print.specs.Styles.{style_of};
+
+use wasmprinter_print::{Output, Style};
+
+/// Writes a piece of text in a style.
+pub(crate) fn write_in_style<O: Output>(out: &mut O, style: Style, s: &str)
+    ensures { O.called out.old out.new (in_style (style_of style) s.now) }
+{
+    out.start(style);
+    out.write_str(s);
+    out.reset_color();
+}
+
+/// Writes two texts in one style.
+pub(crate) fn write_two_in_style<O: Output>(out: &mut O, style: Style, first: &str, second: &str)
+    ensures { O.called out.old out.new (in_style (style_of style) (first.now ++ second.now)) }
+{
+    out.start(style);
+    out.write_str(first);
+    out.write_str(second);
+    out.reset_color();
+}
+
+/// Opens a group: a parenthesis and a keyword.
+pub fn open_group<O: Output>(out: &mut O, keyword: &str)
+    ensures { O.wrote out.old out.new (Open keyword.now ∷ []) }
+{
+    out.write_str("(");
+    write_in_style(out, Style::Keyword, keyword);
+}
+
+/// Opens a group, and writes a space after its keyword.
+pub fn open_group_space<O: Output>(out: &mut O, keyword: &str)
+    ensures { O.wrote out.old out.new (OpenGap keyword.now ∷ []) }
+{
+    out.write_str("(");
+    write_two_in_style(out, Style::Keyword, keyword, " ");
+}
+
+/// Opens a group whose keyword has no style.
+pub fn open_plain<O: Output>(out: &mut O, unstyled: &str)
+    ensures { O.wrote out.old out.new (OpenPlain unstyled.now ∷ []) }
+{
+    out.write_str("(");
+    out.write_str(unstyled);
+}
+
+/// Opens a group whose keyword is the word of a type, and writes a space after it.
+pub fn open_type_space<O: Output>(out: &mut O, keyword: &str)
+    ensures { O.wrote out.old out.new (OpenTypeGap keyword.now ∷ []) }
+{
+    out.write_str("(");
+    write_two_in_style(out, Style::TypeName, keyword, " ");
+}
+
+/// Opens a group without a keyword.
+pub fn open_unnamed<O: Output>(out: &mut O)
+    ensures { O.wrote out.old out.new (OpenUnnamed ∷ []) }
+{
+    out.write_str("(");
+    write_in_style(out, Style::Keyword, "");
+}
+
+/// Closes a group on the current line.
+pub fn write_close_paren<O: Output>(out: &mut O)
+    ensures { O.wrote out.old out.new (Shut ∷ []) }
+{
+    out.write_str(")");
+}
+
+/// Writes a space.
+pub fn write_space<O: Output>(out: &mut O)
+    ensures { O.wrote out.old out.new (Gap ∷ []) }
+{
+    out.write_str(" ");
+}
+
+/// Writes a word without a style.
+pub fn write_word<O: Output>(out: &mut O, word: &str)
+    ensures { O.wrote out.old out.new (Word word.now ∷ []) }
+{
+    out.write_str(word);
+}
+
+/// Writes the word of a type.
+pub fn write_type_word<O: Output>(out: &mut O, word: &str)
+    ensures { O.wrote out.old out.new (TypeWord word.now ∷ []) }
+{
+    write_in_style(out, Style::TypeName, word);
+}
+
+/// Writes the word of a type and a space.
+pub fn write_type_word_space<O: Output>(out: &mut O, word: &str)
+    ensures { O.wrote out.old out.new (TypeWordGap word.now ∷ []) }
+{
+    write_two_in_style(out, Style::TypeName, word, " ");
+}
+
+/// Writes a space and the word of a type.
+pub fn write_space_type_word<O: Output>(out: &mut O, word: &str)
+    ensures { O.wrote out.old out.new (GapTypeWord word.now ∷ []) }
+{
+    write_two_in_style(out, Style::TypeName, " ", word);
+}
+
+/// Starts the style of names.
+pub fn begin_name<O: Output>(out: &mut O)
+    ensures { O.wrote out.old out.new (BeginName ∷ []) }
+{
+    out.start(Style::Name);
+}
+
+/// Ends the current style: the text after it has none.
+pub fn end_style<O: Output>(out: &mut O)
+    ensures { O.wrote out.old out.new (EndStyle ∷ []) }
+{
+    out.reset_color();
+}

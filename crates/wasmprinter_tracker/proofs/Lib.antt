@@ -1,4 +1,0 @@
-pub mod LineLaws
-pub mod CutLaws
-pub mod Runs
-pub mod NoLineLost

@@ -1,6 +1,0 @@
-use Rattle.wasmprinter_print.specs.EmitsLaws.{does}
-use Rattle.wasmprinter_tracker.specs.Tracking.{tracked_meaning}
-use Rattle.wasmprinter_tracker.proofs.tracker.LineTrackerPrint.write_each_char.Goals as goal
-
-pub returns-then-has_room : goal.returns-then-has_room
-returns-then-has_room c = does tracked_meaning c.write_str.result _ c.write_str.ensures

@@ -1,3 +1,0 @@
--- The definitions that the contracts of types, indices and bytes in text cite.
-pub mod Items
-pub mod Variables

@@ -1,3 +1,0 @@
-pub mod Made
-pub mod Seen
-pub mod FirstBytes

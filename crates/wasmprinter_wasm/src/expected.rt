@@ -1,0 +1,43 @@
+//! Checks for a specific byte, and for the end of a section's content.
+ghost use Rattle.std.specs.Prelude.{◌≡◌, ◌≤◌, [], MatchResult};
+ghost use Rattle.wasmprinter_spec.specs.FirstByte.{only};
+ghost use Rattle.wasmprinter_bytes.specs.Reads.{Reads, IsWithin, end_of};
+
+use wasmprinter_bytes::Malformed;
+use wasmprinter_bytes::bytes::Cursor;
+
+/// Checks that no byte remains.
+///
+/// # Errors
+///
+/// `Malformed` if bytes remain, with the place of the first.
+pub fn expect_end(cursor: &Cursor) -> Result<(), Malformed>
+    ensures { MatchResult result (λ _. cursor.now.bytes ≡ []) (λ e. (cursor.now.bytes ≡ [] → ⊥) × (e.place ≤ end_of cursor.now)) }
+{
+    if cursor.is_empty() {
+        Ok(())
+    } else {
+        Err(Malformed {
+            place: cursor.place(),
+        })
+    }
+}
+
+/// Reads a byte that must equal `wanted`.
+///
+/// # Errors
+///
+/// `Malformed` if the byte differs or is missing, with its place.
+pub fn read_only(cursor: &mut Cursor, wanted: u8) -> Result<u8, Malformed>
+    ensures reads { Reads (λ b. b) (only wanted).parse cursor.old result cursor.new }
+    ensures within { IsWithin cursor.old result }
+    ensures end { end_of cursor.new ≡ end_of cursor.old }
+{
+    let place = cursor.place();
+    let byte = cursor.u8()?;
+    if byte == wanted {
+        Ok(byte)
+    } else {
+        Err(Malformed { place })
+    }
+}

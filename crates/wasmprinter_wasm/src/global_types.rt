@@ -1,0 +1,36 @@
+//! Global types (section 5.3, "Global Types").
+ghost use Rattle.std.specs.Prelude.{◌≡◌};
+ghost use Rattle.wasmprinter_spec.specs.Binary.Globals.{global_type as global_type_grammar};
+ghost use Rattle.wasmprinter_bytes.specs.Reads.{Reads, IsWithin, end_of};
+ghost use Rattle.wasmprinter_wasm.specs.Externs.{global_type_view};
+
+use wasmprinter_bytes::Malformed;
+use wasmprinter_bytes::bytes::Cursor;
+use wasmprinter_ops::composite::read_mutability;
+use wasmprinter_ops::{ValType, read_type};
+
+/// The type of a global (section 2.3, "Global Types").
+#[derive(Clone, Copy, Debug, PartialEq, Eq)]
+pub struct GlobalType {
+    /// Whether the global can be changed.
+    pub mutable: bool,
+    /// The type of its value.
+    pub ty: ValType,
+}
+
+impl GlobalType {
+    /// Reads the type of the value, and whether the global can be changed.
+    ///
+    /// # Errors
+    ///
+    /// `Malformed` if the bytes do not encode a global type, with the place of the first unexpected byte or number.
+    pub fn read(cursor: &mut Cursor) -> Result<GlobalType, Malformed>
+        ensures reads { Reads global_type_view global_type_grammar.parse cursor.old result cursor.new }
+        ensures within { IsWithin cursor.old result }
+        ensures end { end_of cursor.new ≡ end_of cursor.old }
+    {
+        let ty = read_type(cursor)?;
+        let mutable = read_mutability(cursor)?;
+        Ok(GlobalType { mutable, ty })
+    }
+}
