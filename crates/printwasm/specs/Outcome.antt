@@ -10,7 +10,7 @@ use Rattle.wasmprinter_spec.specs.Options.{Options}
 use Rattle.wasmprinter.specs.Printed.{IsTextOf}
 use Rattle.wasmprinter.specs.Colored.{HasColoredTextBy}
 use Rattle.wasmprinter.specs.TextOfFile.{Reading, IsRefusedBy}
-use Rattle.printwasm.specs.Words.{Choice, named_file, choice_of, AreWordsOf, WantsWords}
+use Rattle.printwasm.specs.Words.{Choice, named_file, choice_of, AreWordsOf, CannotReadWords}
 use Rattle.printwasm.specs.Unread.{words_error}
 use Rattle.printwasm.specs.declared.rendering.WordsError.{WordsError}
 
@@ -47,8 +47,8 @@ FailsToWrite c gives takes old new error = (GivesNoText c gives error × (new �
     ⊎ ((failure : IoError) × WritesModuleText c gives takes old new (Err failure) × (error ≡ Printer failure))
 
 -- The text was written in one write, whatever the result.
-abbrev pub Tells : {W : Type 0} → TextWrite W → W → W → Option (List ℕ) → Type 0
-Tells takes old new text = (answer : Result (Unit {0}) IoError) × takes old text answer new
+abbrev pub IsWrittenOnce : {W : Type 0} → TextWrite W → W → W → Option (List ℕ) → Type 0
+IsWrittenOnce takes old new text = (answer : Result (Unit {0}) IoError) × takes old text answer new
 
 -- The line that shows the usage of the program.
 abbrev pub usage_line : List ℕ
@@ -64,7 +64,7 @@ Rendering X = X → Option (List ℕ) → Type 0
 
 -- This error was reported: the line with its text was written in one write, whatever the result.
 abbrev pub ReportsError : {V X : Type 0} → TextWrite V → V → V → Rendering X → X → Type 0
-ReportsError reports old new renders error = (text : Option (List ℕ)) × renders error text × Tells reports old new (error_line text)
+ReportsError reports old new renders error = (text : Option (List ℕ)) × renders error text × IsWrittenOnce reports old new (error_line text)
 
 -- The exit statuses.
 abbrev pub printed_status : ℕ
@@ -76,21 +76,26 @@ refused_status = 1
 abbrev pub misused_status : ℕ
 misused_status = 2
 
--- The outcome of a run with these words, where errors have the texts that `renders` gives.
--- The status is `misused_status` exactly if the words do not name one file, with only options of the program besides
--- it. Then the output is unchanged, and the usage line was written to the error output.
--- If it is `printed_status`, the text of the module in the named file, in the chosen form, was written completely, and
--- nothing was reported.
--- If it is `refused_status`, the module was not printed, for an error that was reported.
+-- The outcome of a run with these words, where errors have the texts that `renders` gives. `takes` gives the writes to
+-- the output `out`, and `reports` those to the error output `err`. `new_out` and `new_err` are their states after the
+-- run.
 pub record HasOutcome {W V : Type 0} (gives : List ℕ → Reading) (takes : TextWrite W) (reports : TextWrite V) (renders : Rendering Error)
     (words : List (List ℕ)) (out new_out : W) (err new_err : V) (status : ℕ) : Type 0 where
+  -- The status is `misused_status` if and only if the words do not name one file or contain an unknown option.
   pub usage : (status ≡ misused_status) ↔ (named_file words ≡ None)
+  -- There is no other status than the three.
   pub bound : status ≤ misused_status
+  -- After `misused_status`, the output is unchanged.
   pub silent : status ≡ misused_status → new_out ≡ out
-  pub misused : status ≡ misused_status → Tells reports err new_err (Some usage_line)
+  -- After `misused_status`, the usage line was written to the error output in one write, whatever the result.
+  pub misused : status ≡ misused_status → IsWrittenOnce reports err new_err (Some usage_line)
+  -- After `printed_status`, the text of the module in the named file, in the chosen form, was written in one write,
+  -- which succeeded.
   pub printed : status ≡ printed_status →
       (file : List ℕ) × (named_file words ≡ Some file) × WritesModuleText (choice_of words) (gives file) takes out new_out (Ok tt)
+  -- After `printed_status`, the error output is unchanged.
   pub quiet : status ≡ printed_status → new_err ≡ err
+  -- After `refused_status`, the module in the named file was not printed, for an error that was reported.
   pub refused : status ≡ refused_status →
       (file : List ℕ) × (error : Error) × (named_file words ≡ Some file)
       × FailsToWrite (choice_of words) (gives file) takes out new_out error
@@ -105,4 +110,4 @@ RunsWithWords next_gives args gives takes reports renders out new_out err new_er
 -- The arguments can't be read. The error was reported, the output is unchanged, and the status is `refused_status`.
 abbrev pub RefusesArguments : {I W V : Type 0} → Result I IoError → TextWrite V → Rendering WordsError → W → W → V → V → ℕ → Type 0
 RefusesArguments args reports renders out new_out err new_err status =
-    (error : IoError) × WantsWords args error × ReportsError reports err new_err renders (words_error error) × (new_out ≡ out) × (status ≡ refused_status)
+    (error : IoError) × CannotReadWords args error × ReportsError reports err new_err renders (words_error error) × (new_out ≡ out) × (status ≡ refused_status)

@@ -69,5 +69,5 @@ AreWordsOf next_gives args words = IsOkAnd args (λ all. WholeRun next_gives all
 
 -- The error for which the words can't be read: the system did not return them, and this is its error, or it did,
 -- and an allocation failed.
-abbrev pub WantsWords : {I : Type 0} → Result I IoError → IoError → Type 0
-WantsWords args error = IsErrAnd args (λ e. error ≡ e) ⊎ (IsOk args × (error_kind error ≡ OutOfMemory))
+abbrev pub CannotReadWords : {I : Type 0} → Result I IoError → IoError → Type 0
+CannotReadWords args error = IsErrAnd args (λ e. error ≡ e) ⊎ (IsOk args × (error_kind error ≡ OutOfMemory))

@@ -4,7 +4,7 @@ ghost use Rattle.std.specs.Prelude.{◌≡◌, ◌↔◌, ◌⊎◌, Ok, map, op
 ghost use Rattle.std.specs.Iterator.{IsFinite};
 ghost use Rattle.std.specs.Process.{exit_status};
 ghost use Rattle.wasmprinter_spec.specs.Binary.{IsComponent};
-ghost use Rattle.printwasm.specs.Words.{AreWordsOf, WantsWords, is_option, is_known, named_file, has, choice_of};
+ghost use Rattle.printwasm.specs.Words.{AreWordsOf, CannotReadWords, is_option, is_known, named_file, has, choice_of};
 ghost use Rattle.printwasm.specs.Outcome.{IsTextBy, GivesText, GivesNoText, WritesModuleText, FailsToWrite, ReportsError, HasOutcome, RunsWithWords, RefusesArguments};
 ghost use Rattle.wasmprinter.specs.Outcome.{HasListedTextCause, IsSoundTextRefusal};
 
@@ -103,7 +103,7 @@ fn words_of<I: Iterator<Item = String>>(
     requires can { IfOk args I.can_next }
     requires finite { IfOk args (λ all. IsFinite (I.remaining all)) }
     ensures words { IfOk result (λ words. AreWordsOf I.next_gives args (map string_bytes words.items)) }
-    ensures wanting { IfErr result (WantsWords args) }
+    ensures unread { IfErr result (CannotReadWords args) }
 {
     Ok(args?.skip(1).collect(alloc)?)
 }
@@ -235,7 +235,7 @@ fn text_of(alloc: Global, choice: &Choice, wasm: &[u8]) -> Result<Vec<u8>, Error
 
 /// Writes the line of an error, and returns exit status 1. A failure to write the line is ignored.
 fn refuse<X: Drop, R: Render<X>, E: Sink>(renderer: &R, err: &mut E, error: X) -> u8
-    ensures told { ReportsError E.takes err.old err.new (R.renders renderer.now) error }
+    ensures reported { ReportsError E.takes err.old err.new (R.renders renderer.now) error }
     ensures status { result ≡ 1 }
 {
     let _ = renderer.write_line(err, &error);

@@ -1,5 +1,5 @@
 -- The outcome of a call for each of its results.
-use Rattle.std.proofs.Common.{◌≡◌, ℕ, List, [], length, refl, sym, subst, arith, inl, inr}
+use Rattle.std.proofs.Common.{◌≡◌, ◌⊎◌, ℕ, List, [], length, refl, sym, subst, arith, inl, inr}
 use Rattle.std.specs.Str.{IsUtf8}
 use Rattle.wasmprinter_bytes.specs.declared.error.Error.{Error}
 use Rattle.wasmprinter_bytes.specs.declared.error.Error.TheVariants.{Malformed, Component, TooManyLocals, TooManyFunctions, EmptyTableInit, FoldLegacy, FoldHint, DylinkSubsection, Unreadable, Printer, Memory}
@@ -41,6 +41,11 @@ not_twelve Unreadable h = omega (arith, h)
 not_twelve (Printer x) h = omega (arith, h)
 not_twelve Memory h = omega (arith, h)
 
+-- No error has the status of a printed module or of a wrong indent.
+no_such_error : (e : Error) → (number_of e ≡ 0) ⊎ (number_of e ≡ 12) → ⊥
+no_such_error e (inl z) = not_zero e z
+no_such_error e (inr t) = not_twelve e t
+
 -- An error with the number 2 is true only of a component.
 two_true : (o : Options) (bytes : List ℕ) (e : Error) → IsTrueOrUncopied o bytes e → number_of e ≡ 2 → IsComponent bytes
 two_true o bytes Component (inl h) n = h
@@ -75,6 +80,7 @@ module _ (o : Options) (bytes old : List ℕ) (before : List WasmprinterLine) wh
     component = (two_true o bytes e is_so, two);
     wrong_indent = (λ t. absurd (not_twelve e t), λ w. absurd (w.1 (valid w.0)));
     untouched = λ t. absurd (not_twelve e t);
+    no_detail = λ h. absurd (no_such_error e h);
   }
 
   pub component_outcome : IsComponent bytes → IsOutcome o bytes old old before before (number_of Component) 0 0 (detail_in Component)
@@ -94,6 +100,7 @@ module _ (o : Options) (bytes old : List ℕ) (before : List WasmprinterLine) wh
     component = (λ n. absurd (omega (arith, n)), λ c. absurd (unmarked c));
     wrong_indent = (λ t. (unmarked, wrong), λ w. refl);
     untouched = λ t. (refl, refl, refl);
+    no_detail = λ h. refl;
   }
 
   pub printed_outcome : (new : List ℕ) (after : List WasmprinterLine) (whole count : ℕ) → ¬ IsComponent bytes → IsUtf8 o.indent →
@@ -104,6 +111,7 @@ module _ (o : Options) (bytes old : List ℕ) (before : List WasmprinterLine) wh
     component = (λ n. absurd (omega (arith, n)), λ c. absurd (unmarked c));
     wrong_indent = (λ t. absurd (omega (arith, t)), λ w. absurd (w.1 valid));
     untouched = λ t. absurd (omega (arith, t));
+    no_detail = λ h. refl;
   }
 
 -- ---- The result of the function that prints

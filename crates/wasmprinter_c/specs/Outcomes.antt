@@ -1,5 +1,5 @@
 -- The outcome of a call that prints a module, as one record.
-use Rattle.std.specs.Prelude.{◌≡◌, ◌↔◌, ℕ, List}
+use Rattle.std.specs.Prelude.{◌≡◌, ◌↔◌, ◌⊎◌, ℕ, List}
 use Rattle.std.specs.Str.{IsUtf8}
 use Rattle.wasmprinter_spec.specs.Binary.{IsComponent}
 use Rattle.wasmprinter_spec.specs.Options.{Options}
@@ -21,3 +21,5 @@ pub record IsOutcome (o : Options) (bytes old new : List ℕ) (before after : Li
   pub wrong_indent : (status ≡ indent_status) ↔ ((¬ IsComponent bytes) × (¬ IsUtf8 o.indent))
   -- If the status is `indent_status`, the buffer is unchanged, and the counts of bytes and lines are 0.
   pub untouched : status ≡ indent_status → (new ≡ old) × (whole ≡ 0) × (count ≡ 0)
+  -- If the status is `ok_status` or `indent_status`, the detail is 0.
+  pub no_detail : (status ≡ ok_status) ⊎ (status ≡ indent_status) → detail ≡ 0

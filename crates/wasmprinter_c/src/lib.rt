@@ -4,7 +4,7 @@
 //! No function keeps anything between calls, and none takes a lock.
 #![tactic(auto)]
 
-ghost use Rattle.std.specs.Prelude.{◌≡◌, ◌↔◌, IsTrue, OnOk, OnErr, IfOk, IfErr, IsErrOf, codes, length};
+ghost use Rattle.std.specs.Prelude.{◌≡◌, ◌↔◌, ◌⊎◌, IsTrue, OnOk, OnErr, IfOk, IfErr, IsErrOf, codes, length};
 ghost use Rattle.std.specs.Str.{IsUtf8};
 ghost use Rattle.wasmprinter_spec.specs.Binary.{IsComponent};
 ghost use Rattle.wasmprinter.specs.Outcome.{IsSoundRefusal};
@@ -234,11 +234,13 @@ pub extern "C" fn wasmprinter_print(
     detail: &mut u64,
 ) -> u32
     ensures printed { result ≡ ok_status → HasTextOver (chosen options.now indent.now) wasm.now out.old out.new length.new }
+    // The 0 is the number of lines: this function writes no table of lines.
     ensures refused { ¬ (result ≡ ok_status) → ¬ (result ≡ indent_status) →
         IsRefusedWith (chosen options.now indent.now) wasm.now out.old out.new result length.new 0 detail.new }
     ensures component { result ≡ component_status ↔ IsComponent wasm.now }
     ensures wrong_indent { result ≡ indent_status ↔ ((¬ IsComponent wasm.now) × (¬ IsUtf8 indent.now)) }
     ensures untouched { result ≡ indent_status → (out.new ≡ out.old) × (length.new ≡ 0) }
+    ensures no_detail { (result ≡ ok_status) ⊎ (result ≡ indent_status) → detail.new ≡ 0 }
 {
     let outcome = print_by(alloc, wasm, options, indent, out, &mut []);
     *length = outcome.length;
@@ -271,6 +273,7 @@ pub extern "C" fn wasmprinter_print_lines(
     ensures component { result ≡ component_status ↔ IsComponent wasm.now }
     ensures wrong_indent { result ≡ indent_status ↔ ((¬ IsComponent wasm.now) × (¬ IsUtf8 indent.now)) }
     ensures untouched { result ≡ indent_status → (out.new ≡ out.old) × (length.new ≡ 0) × (count.new ≡ 0) }
+    ensures no_detail { (result ≡ ok_status) ⊎ (result ≡ indent_status) → detail.new ≡ 0 }
 {
     let outcome = print_by(alloc, wasm, options, indent, out, lines);
     *length = outcome.length;
