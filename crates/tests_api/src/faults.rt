@@ -1,4 +1,4 @@
-//! A printer that counts its failed calls. After a module is printed, the count shows whether a call failed.
+//! Prints to a printer that counts its failed calls. After a module is printed, the count shows whether a call failed.
 ghost use Rattle.std.specs.Prelude.{◌≡◌, OnOk, IfErr};
 ghost use Rattle.tests_api.specs.Faults.{faults_after};
 

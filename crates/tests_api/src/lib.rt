@@ -1,30 +1,29 @@
-//! Tests of the whole library. Expected values are typed by hand.
-//!
-//! - At the root: refusals, limits, names, custom sections, branch hints, decoded modules, and calls on printers that
-//!   record them or fail. Parts of a decoded module that the library does not export are read through the traits of
-//!   `wasmprinter_wasm` and `wasmprinter_ops`.
-//! - `options`: each option, files, colors and lines, and the examples of the documents.
-//! - `surface`: every public item of the crate `wasmprinter`, by its path.
+//! Tests of the library's public items: each is used by its path in the crate `wasmprinter`. `faults` prints to a
+//! printer that counts its failed calls, and proves the count. Expected values are typed by hand.
 #![tactic(auto)]
 
 #[cfg(test)]
-mod calls;
+mod bodies;
 #[cfg(test)]
-mod customs;
+mod coloring;
 #[cfg(test)]
-mod decoding;
+mod custom;
+#[cfg(test)]
+mod errors;
+#[cfg(test)]
+mod expecting;
 pub mod faults;
 #[cfg(test)]
-mod hints;
+mod files;
 #[cfg(test)]
-mod limits;
+mod lines;
 #[cfg(test)]
-mod names;
+mod listed;
+#[cfg(test)]
+mod named;
 #[cfg(test)]
 mod options;
 #[cfg(test)]
-mod printing;
+mod printers;
 #[cfg(test)]
-mod refusals;
-#[cfg(test)]
-mod surface;
+mod values;

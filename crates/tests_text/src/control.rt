@@ -5,9 +5,7 @@ use std::alloc::{AllocError, Global};
 use std::test::Fail;
 use wasmprinter::{Error, print_bytes};
 use wasmprinter_samples::PREAMBLE;
-
-/// A type section with one function type, without parameters and results.
-const NO_PARAMS: [u8; 6] = [0x01, 0x04, 0x01, 0x60, 0x00, 0x00];
+use wasmprinter_samples::sections::{NO_PARAMS, with_blocks};
 
 /// A type section with one function type, with one i32 parameter.
 const ONE_PARAM: [u8; 7] = [0x01, 0x05, 0x01, 0x60, 0x01, 0x7f, 0x00];
@@ -243,34 +241,6 @@ fn refuses_what_is_not_nested(rt: HostRuntime) -> Result<(), Fail> {
     assert!(rt; are_malformed(rt.alloc(), &[0x04, 0x40, 0x05, 0x05, 0x0b])?);
     assert!(rt; are_malformed(rt.alloc(), &[0x02, 0x40, 0x07, 0x00, 0x0b])?);
     Ok(())
-}
-
-/// Appends the bytes `times` times.
-fn repeat(wasm: &mut Vec<u8>, times: u32, bytes: &[u8]) -> Result<(), AllocError> {
-    for _ in 0..times {
-        wasm.extend_from_slice(bytes)?;
-    }
-    Ok(())
-}
-
-/// Returns a module whose function opens `depth` nested blocks with the bytes `opens` each, and closes each with
-/// the bytes `closes`. `code` has the bytes from the code section to the first block: the id and size of the
-/// section, the count of bodies, the size of the body, and a count of no locals.
-pub fn with_blocks(
-    alloc: Global,
-    depth: u32,
-    opens: &[u8],
-    closes: &[u8],
-    code: &[u8],
-) -> Result<Vec<u8>, AllocError> {
-    let mut wasm = Vec::from_slice(alloc, &PREAMBLE)?;
-    wasm.extend_from_slice(&NO_PARAMS)?;
-    wasm.extend_from_slice(&[0x03, 0x02, 0x01, 0x00])?;
-    wasm.extend_from_slice(code)?;
-    repeat(&mut wasm, depth, opens)?;
-    repeat(&mut wasm, depth, closes)?;
-    wasm.push(0x0b)?;
-    Ok(wasm)
 }
 
 /// The most levels by which a line is indented.

@@ -1,11 +1,9 @@
-//! Tests of texts: whole modules, each operator, single values, and the fields of each section. They use only
-//! paths of the crate `wasmprinter`. All expected texts and calls are typed by hand.
+//! Tests of texts by section and by operator: the fields of each section, each operator, blocks, and single values.
+//! They use only paths of the crate `wasmprinter`. All expected texts are typed by hand.
 #![tactic(auto)]
 
 #[cfg(test)]
 mod control;
-#[cfg(test)]
-mod cuts;
 #[cfg(test)]
 mod floats;
 #[cfg(test)]
@@ -15,11 +13,7 @@ mod opcode_words;
 #[cfg(test)]
 mod opcodes;
 #[cfg(test)]
-mod pieces;
-#[cfg(test)]
 mod printing;
-#[cfg(test)]
-mod runs;
 #[cfg(test)]
 mod sections;
 #[cfg(test)]

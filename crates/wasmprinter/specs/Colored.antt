@@ -26,5 +26,6 @@ pub record HasColoredTextBy (o : Options) (bytes text : List ℕ) : Type 0 where
   -- The text is that of the layout with the sequences of each style, including those within the text of folded
   -- operators.
   pub is : text ≡ colored_text (layout (in_colors o true) no_claims placed)
-  -- With an indent of spaces and tabs: the text without the sequences is the text of a module that the bytes encode.
+  -- With an indent of spaces and tabs: the text without the sequences is the text of a module that the
+  -- bytes encode, without colors.
   pub bare : IsBlank o.indent → IsTextOf o bytes (uncolor text)

@@ -9,7 +9,7 @@ use Rattle.wasmprinter_spec.specs.Options.{Options}
 use Rattle.wasmprinter_spec.specs.Lines.{TextLine, line_places, IsOnlyLine, operator_at}
 use Rattle.wasmprinter.specs.Lined.{HasLinesBy}
 
--- The lines that the code passes, as places with texts.
+-- The lines, each with its place, if it has one, and with the text that its borrow points to.
 abbrev pub text_lines : List (Option ℕ × Bor (List ℕ)) → List TextLine
 text_lines lines = map (λ line. (line.0, line.1.now)) lines
 

@@ -38,7 +38,8 @@ pub record IsRefused {P : Type 0} (m : Meaning P) (old new : P) (id : ℕ) (c : 
   -- The last call, apart from empty texts, asked whether the printer claims this section, and it returned false.
   pub asked : atoms calls ≡ before ++ Claim c.section.value.name c.section.value.bytes.place c.section.value.bytes.value false ∷ []
 
--- The calls ended in this way at one of these sections.
+-- One of these sections has an unknown subsection with this id. The last call, apart from empty texts, asked whether
+-- the printer claims the section, and returned false.
 abbrev pub AnyIsRefused : {P : Type 0} → Meaning P → P → P → ℕ → List CustomEntry → Type 0
 AnyIsRefused m old new id [] = ⊥
 AnyIsRefused m old new id (c ∷ cs) = IsRefused m old new id c ⊎ AnyIsRefused m old new id cs
@@ -54,7 +55,8 @@ pub record PrintReasons : Type 1 where
   -- At this place is a branch hint that can't be folded.
   pub hint : ℕ → Type 0
 
--- The reason for an error of printing.
+-- The proposition that the error selects. `Printer`, `DylinkSubsection`, `FoldLegacy` and `FoldHint` select one of
+-- `printing`; `Memory` and the errors of decoding select one of `reasons`; `Unreadable` selects the false proposition.
 abbrev pub HasPrintReason : PrintReasons → Reasons → Error → Type 0
 HasPrintReason printing reasons (Malformed place) = reasons.malformed place
 HasPrintReason printing reasons Component = reasons.component
@@ -119,10 +121,10 @@ causes growth placed = record {
 abbrev pub MayGrow : Options → PlacedModule → Type 0
 MayGrow o m = HoldsSome m ⊎ (o.folds ≡ true)
 
--- If the bytes encode a module, the error has one of these causes: a limit or an empty initialiser, as above; an
--- allocation that failed, only if the module holds something that is kept or operators are folded; a subsection of
--- a `dylink.0` section that the printer does not claim; an operator or a hint that can't be folded; a call on the
--- printer that failed with exactly this error.
+-- What the error says of a module. If the bytes encode a module, the error has one of these causes: a limit or an
+-- empty initialiser, as above; an allocation that failed, only if the module holds something that is kept or operators
+-- are folded; a subsection of a `dylink.0` section that the printer does not claim; an operator or a hint that can't be
+-- folded; a call on the printer that failed with exactly this error.
 abbrev pub HasListedCause : {P : Type 0} → Meaning P → Options → List ℕ → P → P → Error → Type 0
 HasListedCause m o bytes old new e =
     (placed : PlacedModule) → Spells bytes placed →
@@ -183,9 +185,10 @@ bytes_reasons o bytes failed = record {
 abbrev pub folding_reasons : Options → List ℕ → Reasons → Reasons
 folding_reasons o bytes decoding = record decoding { memory = decoding.memory ⊎ ((o.folds ≡ true) × ArePrintable bytes) }
 
--- For any bytes, the error has its reason in them. An error of the decoder is true of the bytes. An error of the
--- printer, of a `dylink.0` section or of folding is returned only if the bytes encode a module within the limits.
--- The module then has such a section, or such an operator or hint at the reported place.
+-- What the error says of any bytes, also if they encode no module; `HasListedCause` then says nothing. An error of the
+-- decoder is true of the bytes. An error of the printer, of a `dylink.0` section or of folding is returned only if the
+-- bytes encode a module within the limits. The module then has such a section, or such an operator or hint at the
+-- reported place.
 abbrev pub IsSoundRefusal : Options → List ℕ → Error → Type 0
 IsSoundRefusal o bytes e =
     HasPrintReason (bytes_reasons o bytes (λ x. ArePrintable bytes)) (folding_reasons o bytes (module_reasons bytes (IsComponent bytes))) e
@@ -195,6 +198,8 @@ IsSoundRefusal o bytes e =
 abbrev pub text_reasons : List ℕ → Reasons → Reasons
 text_reasons bytes decoding = record decoding { memory = decoding.memory ⊎ ArePrintable bytes }
 
+-- `IsSoundRefusal` for text that is built in memory: an allocation may also fail while any module within the limits is
+-- printed, and no printer fails.
 abbrev pub IsSoundTextRefusal : Options → List ℕ → Error → Type 0
 IsSoundTextRefusal o bytes e = HasPrintReason (bytes_reasons o bytes (λ x. ⊥)) (text_reasons bytes (module_reasons bytes (IsComponent bytes))) e
 

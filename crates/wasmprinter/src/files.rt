@@ -16,8 +16,8 @@ use wasmprinter_bytes::Error;
 
 /// A source from which files are read. The files of the system are one, with `HostRuntime` as its handle.
 pub trait Source {
-    // The possible results of reading the file at the path with these bytes: the bytes of the file, or `None` if
-    // reading fails.
+    // `gives source path content`: reading the file at this path (a list of bytes) may return the bytes in `content`,
+    // or may fail if `content` is `None`.
     ghost gives: { Self → List ℕ → Option (List ℕ) → Type 0 };
 
     /// Returns the bytes of a file.

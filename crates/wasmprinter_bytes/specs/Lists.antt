@@ -39,8 +39,9 @@ reader_reasons nothing grows at = record {
   memory = grows;
 }
 
--- Reading by `parse` gives the value, and the cursor is after it. On `Malformed`, the bytes do not encode a value; on
--- `Memory`, `Grows` holds at the position where reading started.
+-- `Takes view parse Grows old result new`: if `result` is `Ok x`, `parse` at the position `old` gives `view x` and the
+-- position `new`. If it is `Malformed`, `parse` gives nothing, and the place is not after the end of the bytes. If it
+-- is `Memory`, `Grows old` holds. No other error occurs.
 abbrev pub Takes : {X A : Type 0} → (X → A) → (Input → Option (A × Input)) → (Input → Type 0) → Input → Result X Error → Input → Type 0
 Takes view parse Grows old (Ok x) new = parse old ≡ Some (view x, new)
 Takes view parse Grows old (Err e) new = HasReason (reader_reasons (parse old ≡ None) (Grows old) old) e

@@ -7,7 +7,7 @@ ghost use Rattle.wasmprinter_spec.specs.Grammar.{byte};
 ghost use Rattle.wasmprinter_spec.specs.Sized.{take_bytes};
 ghost use Rattle.wasmprinter_spec.specs.Leb.{unsigned, signed};
 ghost use Rattle.wasmprinter_spec.specs.Name.{u32 as u32_grammar, name};
-ghost use Rattle.wasmprinter_bytes.specs.Reads.{Reads, IsWithin, end_of};
+ghost use Rattle.wasmprinter_bytes.specs.Reads.{Decodes, end_of};
 
 use crate::Malformed;
 use std::marker::Model;
@@ -166,9 +166,7 @@ impl<'a> Cursor<'a> {
     ///
     /// `Malformed` if no byte remains, with the place where the bytes end.
     pub fn u8(&mut self) -> Result<u8, Malformed>
-        ensures reads { Reads (λ b. b) byte.parse self.old result self.new }
-        ensures within { IsWithin self.old result }
-        ensures end { end_of self.new ≡ end_of self.old }
+        ensures { Decodes (λ b. b) byte.parse self.old result self.new }
     {
         match self.rest.split_first() {
             Some((byte, rest)) => {
@@ -185,9 +183,7 @@ impl<'a> Cursor<'a> {
     ///
     /// `Malformed` if fewer bytes remain, with the place of the next byte.
     pub fn take(&mut self, len: usize) -> Result<&'a [u8], Malformed>
-        ensures reads { Reads (λ b. b.now) (take_bytes len).parse self.old result self.new }
-        ensures within { IsWithin self.old result }
-        ensures end { end_of self.new ≡ end_of self.old }
+        ensures { Decodes (λ b. b.now) (take_bytes len).parse self.old result self.new }
     {
         if self.len() < len {
             return Err(Malformed { place: self.place });
@@ -204,10 +200,8 @@ impl<'a> Cursor<'a> {
     ///
     /// `Malformed` if fewer bytes remain, with the place of the next byte.
     pub fn part(&mut self, len: usize) -> Result<Cursor<'a>, Malformed>
-        ensures reads { Reads (λ c. c.bytes) (take_bytes len).parse self.old result self.new }
+        ensures decodes { Decodes (λ c. c.bytes) (take_bytes len).parse self.old result self.new }
         ensures place { IfOk result (λ c. c.place ≡ self.old.place) }
-        ensures within { IsWithin self.old result }
-        ensures end { end_of self.new ≡ end_of self.old }
     {
         let place = self.place;
         let rest = self.take(len)?;
@@ -217,9 +211,7 @@ impl<'a> Cursor<'a> {
     /// Reads an unsigned number of `bits` bits, in at most ceil(`bits` / 7) bytes.
     fn unsigned(&mut self, bits: u32) -> Result<u64, Malformed>
         requires { bits ≤ 64 }
-        ensures reads { Reads (λ n. n) (unsigned bits).parse self.old result self.new }
-        ensures within { IsWithin self.old result }
-        ensures end { end_of self.new ≡ end_of self.old }
+        ensures decodes { Decodes (λ n. n) (unsigned bits).parse self.old result self.new }
         ensures range { IfOk result (λ n. n < 2 ^ bits) }
     {
         let place = self.place;
@@ -242,9 +234,7 @@ impl<'a> Cursor<'a> {
     fn signed(&mut self, bits: u32) -> Result<i64, Malformed>
         requires least { 1 ≤ bits }
         requires most { bits ≤ 64 }
-        ensures reads { Reads (λ n. n) (signed bits).parse self.old result self.new }
-        ensures within { IsWithin self.old result }
-        ensures end { end_of self.new ≡ end_of self.old }
+        ensures decodes { Decodes (λ n. n) (signed bits).parse self.old result self.new }
         ensures above { IfOk result (λ n. neg_ℤ (pos (2 ^ (bits - 1))) ≤ℤ n) }
         ensures below { IfOk result (λ n. n <ℤ pos (2 ^ (bits - 1))) }
     {
@@ -295,9 +285,7 @@ impl<'a> Cursor<'a> {
     /// `Malformed` if the bytes do not encode one, with the place of the first byte that is not
     /// allowed, or of the end of the bytes.
     pub fn u32(&mut self) -> Result<u32, Malformed>
-        ensures reads { Reads (λ n. n) u32_grammar.parse self.old result self.new }
-        ensures within { IsWithin self.old result }
-        ensures end { end_of self.new ≡ end_of self.old }
+        ensures { Decodes (λ n. n) u32_grammar.parse self.old result self.new }
     {
         if let Some(byte) = self.single(MORE) {
             return Ok(u32::from(byte));
@@ -312,9 +300,7 @@ impl<'a> Cursor<'a> {
     ///
     /// As [`Cursor::u32`].
     pub fn u64(&mut self) -> Result<u64, Malformed>
-        ensures reads { Reads (λ n. n) (unsigned 64).parse self.old result self.new }
-        ensures within { IsWithin self.old result }
-        ensures end { end_of self.new ≡ end_of self.old }
+        ensures { Decodes (λ n. n) (unsigned 64).parse self.old result self.new }
     {
         if let Some(byte) = self.single(MORE) {
             return Ok(u64::from(byte));
@@ -328,9 +314,7 @@ impl<'a> Cursor<'a> {
     ///
     /// As [`Cursor::u32`].
     pub fn s32(&mut self) -> Result<i32, Malformed>
-        ensures reads { Reads (λ n. n) (signed 32).parse self.old result self.new }
-        ensures within { IsWithin self.old result }
-        ensures end { end_of self.new ≡ end_of self.old }
+        ensures { Decodes (λ n. n) (signed 32).parse self.old result self.new }
     {
         if let Some(byte) = self.single(SIGN) {
             return Ok(i32::from(byte));
@@ -345,9 +329,7 @@ impl<'a> Cursor<'a> {
     ///
     /// As [`Cursor::u32`].
     pub fn s33(&mut self) -> Result<i64, Malformed>
-        ensures reads { Reads (λ n. n) (signed 33).parse self.old result self.new }
-        ensures within { IsWithin self.old result }
-        ensures end { end_of self.new ≡ end_of self.old }
+        ensures decodes { Decodes (λ n. n) (signed 33).parse self.old result self.new }
         ensures above { IfOk result (λ n. neg_ℤ (pos (2 ^ 32)) ≤ℤ n) }
         ensures below { IfOk result (λ n. n <ℤ pos (2 ^ 32)) }
     {
@@ -360,9 +342,7 @@ impl<'a> Cursor<'a> {
     ///
     /// As [`Cursor::u32`].
     pub fn s64(&mut self) -> Result<i64, Malformed>
-        ensures reads { Reads (λ n. n) (signed 64).parse self.old result self.new }
-        ensures within { IsWithin self.old result }
-        ensures end { end_of self.new ≡ end_of self.old }
+        ensures { Decodes (λ n. n) (signed 64).parse self.old result self.new }
     {
         self.signed(i64::BITS)
     }
@@ -375,9 +355,7 @@ impl<'a> Cursor<'a> {
     /// - `Malformed` if too few bytes follow, with the place after the length.
     /// - `Malformed` if the bytes are not UTF-8, with the place of the length.
     pub fn name(&mut self) -> Result<&'a str, Malformed>
-        ensures reads { Reads (λ s. s.now) name.parse self.old result self.new }
-        ensures within { IsWithin self.old result }
-        ensures end { end_of self.new ≡ end_of self.old }
+        ensures { Decodes (λ s. s.now) name.parse self.old result self.new }
     {
         let place = self.place;
         let len = self.u32()?;

@@ -1,7 +1,7 @@
 //! Lists (section 5.1 of the WebAssembly Core Specification, "Lists"): a count, and that
 //! many items one after the other.
 ghost use Rattle.std.specs.Prelude.{◌≡◌, [], length};
-ghost use Rattle.wasmprinter_bytes.specs.Reads.{Reads, IsWithin, end_of};
+ghost use Rattle.wasmprinter_bytes.specs.Reads.{Decodes, end_of};
 ghost use Rattle.wasmprinter_bytes.specs.Lists.{Takes, CountsItems, BeginsList, vec_at};
 
 use crate::bytes::Cursor;
@@ -20,9 +20,7 @@ pub trait Decode: Drop {
 
     /// Reads the value at the cursor.
     fn read(cursor: &mut Cursor) -> Result<Self, Malformed>
-        ensures reads { Reads (λ x. x) parse cursor.old result cursor.new }
-        ensures within { IsWithin cursor.old result }
-        ensures end { end_of cursor.new ≡ end_of cursor.old };
+        ensures { Decodes (λ x. x) parse cursor.old result cursor.new };
 }
 
 impl Decode for u32 {
@@ -45,9 +43,7 @@ pub trait DecodeIn<'a>: Drop {
 
     /// Reads the value at the cursor.
     fn read(cursor: &mut Cursor<'a>) -> Result<Self, Malformed>
-        ensures reads { Reads (λ x. x) parse cursor.old result cursor.new }
-        ensures within { IsWithin cursor.old result }
-        ensures end { end_of cursor.new ≡ end_of cursor.old };
+        ensures { Decodes (λ x. x) parse cursor.old result cursor.new };
 }
 
 /// Reads a count and that many values, and returns the values in memory.
@@ -148,9 +144,7 @@ pub fn no_items<'a, T: Decode>(cursor: &Cursor<'a>) -> Items<'a, T>
 /// `Malformed` if the bytes do not encode the count or one of the values, with the place of the
 /// first unexpected byte or number.
 pub fn read_items<'a, T: Decode>(cursor: &mut Cursor<'a>) -> Result<Items<'a, T>, Malformed>
-    ensures reads { Reads (λ t. t) (vec_at T.parse) cursor.old result cursor.new }
-    ensures within { IsWithin cursor.old result }
-    ensures end { end_of cursor.new ≡ end_of cursor.old }
+    ensures { Decodes (λ t. t) (vec_at T.parse) cursor.old result cursor.new }
 {
     let count = cursor.u32()?;
     let start = cursor.fork();

@@ -4,7 +4,7 @@ ghost use Rattle.wasmprinter_spec.specs.Grammar.{value_with_place};
 ghost use Rattle.wasmprinter_spec.specs.Customs.Hints.{hint as hint_grammar, flag, function_hints, hint_section, hints_given};
 ghost use Rattle.wasmprinter_spec.specs.Customs.Hints.{next_hints, hints_after, next_hint, hint_after};
 ghost use Rattle.wasmprinter_spec.specs.FirstByte.{only};
-ghost use Rattle.wasmprinter_bytes.specs.Reads.{Reads, IsWithin, end_of};
+ghost use Rattle.wasmprinter_bytes.specs.Reads.{Decodes};
 
 use crate::items::{ItemsIn, ReadFrom};
 use std::marker::Model;
@@ -50,9 +50,7 @@ impl Model for Hint {
 
 /// Reads the size of a hint, which must be 1.
 fn read_size(cursor: &mut Cursor) -> Result<u8, Malformed>
-    ensures reads { Reads (λ b. b) (only 1).parse cursor.old result cursor.new }
-    ensures within { IsWithin cursor.old result }
-    ensures end { end_of cursor.new ≡ end_of cursor.old }
+    ensures { Decodes (λ b. b) (only 1).parse cursor.old result cursor.new }
 {
     let place = cursor.place();
     let size = cursor.u8()?;

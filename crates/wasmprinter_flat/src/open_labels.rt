@@ -1,7 +1,7 @@
 //! The labels of open blocks, and which of them an operator may refer to by name (section 6.5 of the WebAssembly
 //! Core Specification, "Labels").
 
-mod blocks;
+mod named_blocks;
 mod numbers;
 mod open;
 

@@ -1,8 +1,7 @@
 //! Block types, catch clauses and the labels of `br_table` (sections 2.4 and 5.4).
-ghost use Rattle.std.specs.Prelude.{◌≡◌};
 ghost use Rattle.wasmprinter_spec.specs.Name.{vec};
 ghost use Rattle.wasmprinter_spec.specs.Instructions.{block_type, catch};
-ghost use Rattle.wasmprinter_bytes.specs.Reads.{Reads, IsWithin, end_of};
+ghost use Rattle.wasmprinter_bytes.specs.Reads.{Decodes};
 ghost use Rattle.wasmprinter_ops.specs.Blocks.{block_type_view, catch_at, catches_view};
 
 use crate::{ValType, begins_type, read_type, read_type_index};
@@ -69,18 +68,14 @@ impl Decode for Catch {
 
 /// Reads a count and that many catch clauses.
 pub(crate) fn read_catches<'a>(cursor: &mut Cursor<'a>) -> Result<Catches<'a>, Malformed>
-    ensures reads { Reads catches_view (vec catch).parse cursor.old result cursor.new }
-    ensures within { IsWithin cursor.old result }
-    ensures end { end_of cursor.new ≡ end_of cursor.old }
+    ensures { Decodes catches_view (vec catch).parse cursor.old result cursor.new }
 {
     read_items(cursor)
 }
 
 /// Reads a block type: the byte 40, a value type, or a type index.
 pub(crate) fn read_block_type(cursor: &mut Cursor) -> Result<BlockType, Malformed>
-    ensures reads { Reads block_type_view block_type.parse cursor.old result cursor.new }
-    ensures within { IsWithin cursor.old result }
-    ensures end { end_of cursor.new ≡ end_of cursor.old }
+    ensures { Decodes block_type_view block_type.parse cursor.old result cursor.new }
 {
     let place = cursor.place();
     let Some(first) = cursor.peek() else {

@@ -6,7 +6,7 @@ ghost use Rattle.wasmprinter_spec.specs.Repeated.{items_at};
 ghost use Rattle.wasmprinter_spec.specs.Types.{func_type_of};
 ghost use Rattle.wasmprinter_spec.specs.Binary.Types.{packed_type_of, storage_type, mutability, field, signature, composite_after};
 ghost use Rattle.wasmprinter_spec.specs.Binary.Types.{composite as composite_grammar, sub_type_parts, sub_type_after, subtype};
-ghost use Rattle.wasmprinter_bytes.specs.Reads.{Reads, IsWithin, end_of};
+ghost use Rattle.wasmprinter_bytes.specs.Reads.{Decodes, end_of};
 ghost use Rattle.wasmprinter_ops.specs.ValTypes.{types_view};
 ghost use Rattle.wasmprinter_ops.specs.Types.{storage_view, field_view, field_at, fields_view, composite_view};
 
@@ -115,9 +115,7 @@ impl StorageType {
 
     /// Reads a packed type or a value type.
     fn read(cursor: &mut Cursor) -> Result<Self, Malformed>
-        ensures reads { Reads storage_view storage_type.parse cursor.old result cursor.new }
-        ensures within { IsWithin cursor.old result }
-        ensures end { end_of cursor.new ≡ end_of cursor.old }
+        ensures { Decodes storage_view storage_type.parse cursor.old result cursor.new }
     {
         let first = First::read(cursor)?;
         match StorageType::of_byte(first.byte) {
@@ -133,9 +131,7 @@ impl StorageType {
 ///
 /// `Malformed` if the byte is neither 00 nor 01, with its place.
 pub fn read_mutability(cursor: &mut Cursor) -> Result<bool, Malformed>
-    ensures reads { Reads (λ b. b) mutability.parse cursor.old result cursor.new }
-    ensures within { IsWithin cursor.old result }
-    ensures end { end_of cursor.new ≡ end_of cursor.old }
+    ensures { Decodes (λ b. b) mutability.parse cursor.old result cursor.new }
 {
     let place = cursor.place();
     match cursor.u8()? {
@@ -148,9 +144,7 @@ pub fn read_mutability(cursor: &mut Cursor) -> Result<bool, Malformed>
 impl FieldType {
     /// Reads a storage type, and whether the field can be changed.
     fn read_field(cursor: &mut Cursor) -> Result<Self, Malformed>
-        ensures reads { Reads field_view field.parse cursor.old result cursor.new }
-        ensures within { IsWithin cursor.old result }
-        ensures end { end_of cursor.new ≡ end_of cursor.old }
+        ensures { Decodes field_view field.parse cursor.old result cursor.new }
     {
         let storage = StorageType::read(cursor)?;
         let mutable = read_mutability(cursor)?;
@@ -168,9 +162,7 @@ impl Decode for FieldType {
 
 /// Reads a count and that many field types.
 fn read_fields<'a>(cursor: &mut Cursor<'a>) -> Result<FieldTypes<'a>, Malformed>
-    ensures reads { Reads fields_view (vec field).parse cursor.old result cursor.new }
-    ensures within { IsWithin cursor.old result }
-    ensures end { end_of cursor.new ≡ end_of cursor.old }
+    ensures { Decodes fields_view (vec field).parse cursor.old result cursor.new }
 {
     read_items(cursor)
 }
@@ -178,9 +170,7 @@ fn read_fields<'a>(cursor: &mut Cursor<'a>) -> Result<FieldTypes<'a>, Malformed>
 impl<'a> FuncType<'a> {
     /// Reads the parameters and the results.
     fn read(cursor: &mut Cursor<'a>) -> Result<Self, Malformed>
-        ensures reads { Reads (λ t. t) signature.parse cursor.old result cursor.new }
-        ensures within { IsWithin cursor.old result }
-        ensures end { end_of cursor.new ≡ end_of cursor.old }
+        ensures { Decodes (λ t. t) signature.parse cursor.old result cursor.new }
     {
         let params = read_types(cursor)?;
         let results = read_types(cursor)?;
@@ -216,9 +206,7 @@ impl<'a> CompositeType<'a> {
     /// Reads the rest of a composite type, after its first byte.
     fn read_after(first: First, cursor: &mut Cursor<'a>) -> Result<Self, Malformed>
         requires { first.place ≤ end_of cursor.now }
-        ensures reads { Reads composite_view (composite_after first.byte).parse cursor.old result cursor.new }
-        ensures within { IsWithin cursor.old result }
-        ensures end { end_of cursor.new ≡ end_of cursor.old }
+        ensures { Decodes composite_view (composite_after first.byte).parse cursor.old result cursor.new }
     {
         match first.byte {
             ARRAY => Ok(CompositeType::Array(FieldType::read_field(cursor)?)),
@@ -230,9 +218,7 @@ impl<'a> CompositeType<'a> {
 
     /// Reads a composite type.
     fn read(cursor: &mut Cursor<'a>) -> Result<Self, Malformed>
-        ensures reads { Reads composite_view composite_grammar.parse cursor.old result cursor.new }
-        ensures within { IsWithin cursor.old result }
-        ensures end { end_of cursor.new ≡ end_of cursor.old }
+        ensures { Decodes composite_view composite_grammar.parse cursor.old result cursor.new }
     {
         let first = First::read(cursor)?;
         CompositeType::read_after(first, cursor)
@@ -242,9 +228,7 @@ impl<'a> CompositeType<'a> {
 impl<'a> SubType<'a> {
     /// Reads supertypes and a composite type.
     fn read_parts(is_final: bool, cursor: &mut Cursor<'a>) -> Result<Self, Malformed>
-        ensures reads { Reads (λ t. t) (sub_type_parts is_final).parse cursor.old result cursor.new }
-        ensures within { IsWithin cursor.old result }
-        ensures end { end_of cursor.new ≡ end_of cursor.old }
+        ensures { Decodes (λ t. t) (sub_type_parts is_final).parse cursor.old result cursor.new }
     {
         let supertypes = read_items(cursor)?;
         let composite = CompositeType::read(cursor)?;
@@ -258,9 +242,7 @@ impl<'a> SubType<'a> {
     /// Reads the rest of a subtype, after its first byte.
     fn read_after(first: First, cursor: &mut Cursor<'a>) -> Result<Self, Malformed>
         requires { first.place ≤ end_of cursor.now }
-        ensures reads { Reads (λ t. t) (sub_type_after first.byte).parse cursor.old result cursor.new }
-        ensures within { IsWithin cursor.old result }
-        ensures end { end_of cursor.new ≡ end_of cursor.old }
+        ensures { Decodes (λ t. t) (sub_type_after first.byte).parse cursor.old result cursor.new }
     {
         match first.byte {
             SUB => SubType::read_parts(false, cursor),
@@ -338,9 +320,7 @@ impl<'a> Model for SubTypes<'a> {
 impl<'a> SubTypes<'a> {
     /// Reads `count` subtypes.
     fn read_times(cursor: &mut Cursor<'a>, count: u32) -> Result<Self, Malformed>
-        ensures reads { Reads (λ t. t) (items_at subtype.parse count) cursor.old result cursor.new }
-        ensures within { IsWithin cursor.old result }
-        ensures end { end_of cursor.new ≡ end_of cursor.old }
+        ensures { Decodes (λ t. t) (items_at subtype.parse count) cursor.old result cursor.new }
     {
         let start = cursor.fork();
         for _ in 0..count {
@@ -358,9 +338,7 @@ impl<'a> SubTypes<'a> {
     ///
     /// `Malformed` if the bytes do not encode a subtype, with the place of the first unexpected byte or number.
     pub fn read_one(cursor: &mut Cursor<'a>) -> Result<Self, Malformed>
-        ensures reads { Reads (λ t. t) (items_at subtype.parse 1) cursor.old result cursor.new }
-        ensures within { IsWithin cursor.old result }
-        ensures end { end_of cursor.new ≡ end_of cursor.old }
+        ensures { Decodes (λ t. t) (items_at subtype.parse 1) cursor.old result cursor.new }
     {
         SubTypes::read_times(cursor, 1)
     }
@@ -372,9 +350,7 @@ impl<'a> SubTypes<'a> {
     /// `Malformed` if the bytes do not encode the count or one of the types, with the place of the
     /// first unexpected byte or number.
     pub fn read(cursor: &mut Cursor<'a>) -> Result<Self, Malformed>
-        ensures reads { Reads (λ t. t) (vec subtype).parse cursor.old result cursor.new }
-        ensures within { IsWithin cursor.old result }
-        ensures end { end_of cursor.new ≡ end_of cursor.old }
+        ensures { Decodes (λ t. t) (vec subtype).parse cursor.old result cursor.new }
     {
         let count = cursor.u32()?;
         SubTypes::read_times(cursor, count)

@@ -3,7 +3,7 @@
 ghost use Rattle.std.specs.Prelude.{◌≡◌};
 ghost use Rattle.wasmprinter_spec.specs.Sized.{take_bytes};
 ghost use Rattle.wasmprinter_spec.specs.Instructions.{mem_arg, float_bits};
-ghost use Rattle.wasmprinter_bytes.specs.Reads.{Reads, IsWithin, end_of};
+ghost use Rattle.wasmprinter_bytes.specs.Reads.{Decodes};
 ghost use Rattle.wasmprinter_ops.specs.Operands.{source_type, target_type};
 ghost use Rattle.wasmprinter_ops.specs.ValTypes.{ref_view};
 
@@ -46,9 +46,7 @@ impl MemArg {
     /// Reads a memory operand: the exponent of the alignment, for memory 0; or 64 more, and the
     /// memory's index; then an offset.
     pub(crate) fn read(cursor: &mut Cursor) -> Result<Self, Malformed>
-        ensures reads { Reads (λ m. m) mem_arg.parse cursor.old result cursor.new }
-        ensures within { IsWithin cursor.old result }
-        ensures end { end_of cursor.new ≡ end_of cursor.old }
+        ensures { Decodes (λ m. m) mem_arg.parse cursor.old result cursor.new }
     {
         let place = cursor.place();
         let first = cursor.u32()?;
@@ -68,9 +66,7 @@ impl MemArg {
 
 /// Reads `N` bytes.
 pub(crate) fn read_bytes<const N: usize>(cursor: &mut Cursor) -> Result<[u8; N], Malformed>
-    ensures reads { Reads (λ b. b) (take_bytes N).parse cursor.old result cursor.new }
-    ensures within { IsWithin cursor.old result }
-    ensures end { end_of cursor.new ≡ end_of cursor.old }
+    ensures { Decodes (λ b. b) (take_bytes N).parse cursor.old result cursor.new }
 {
     let from = cursor.take(N)?;
     let mut bytes = [0; N];
@@ -80,18 +76,14 @@ pub(crate) fn read_bytes<const N: usize>(cursor: &mut Cursor) -> Result<[u8; N],
 
 /// Reads the bits of a 32-bit floating-point number.
 pub(crate) fn read_f32_bits(cursor: &mut Cursor) -> Result<u32, Malformed>
-    ensures reads { Reads (λ n. n) (float_bits 4).parse cursor.old result cursor.new }
-    ensures within { IsWithin cursor.old result }
-    ensures end { end_of cursor.new ≡ end_of cursor.old }
+    ensures { Decodes (λ n. n) (float_bits 4).parse cursor.old result cursor.new }
 {
     Ok(u32::from_le_bytes(read_bytes(cursor)?))
 }
 
 /// Reads the bits of a 64-bit floating-point number.
 pub(crate) fn read_f64_bits(cursor: &mut Cursor) -> Result<u64, Malformed>
-    ensures reads { Reads (λ n. n) (float_bits 8).parse cursor.old result cursor.new }
-    ensures within { IsWithin cursor.old result }
-    ensures end { end_of cursor.new ≡ end_of cursor.old }
+    ensures { Decodes (λ n. n) (float_bits 8).parse cursor.old result cursor.new }
 {
     Ok(u64::from_le_bytes(read_bytes(cursor)?))
 }

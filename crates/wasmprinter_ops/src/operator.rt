@@ -3,7 +3,7 @@ ghost use Rattle.std.specs.Prelude.{◌≡◌, ◌≤◌, IfOk};
 ghost use Rattle.wasmprinter_spec.specs.Grammar.{value_with_place};
 ghost use Rattle.wasmprinter_spec.specs.Row.{FenceShape, TryTableShape, FieldShape, BranchTableShape, CastShape, MemoryLaneShape};
 ghost use Rattle.wasmprinter_spec.specs.Instructions.{operator, immediates as immediates_grammar, indices, cast};
-ghost use Rattle.wasmprinter_bytes.specs.Reads.{Reads, IsWithin, end_of};
+ghost use Rattle.wasmprinter_bytes.specs.Reads.{Decodes, Reads, IsWithin, end_of};
 ghost use Rattle.wasmprinter_ops.specs.Immediates.{immediates_view, HasShape, HasCastFlags};
 ghost use Rattle.wasmprinter_ops.specs.Operators.{placed_view, AfterOpcode, Passes, PassesOperator};
 ghost use Rattle.wasmprinter_ops.specs.Shapes.{shape_view};
@@ -140,9 +140,7 @@ impl PartialEq for Operator<'_> {
 impl<'a> Immediates<'a> {
     /// Reads immediates of the shape.
     fn read(cursor: &mut Cursor<'a>, shape: Shape) -> Result<Self, Malformed>
-        ensures reads { Reads immediates_view (immediates_grammar (shape_view shape)).parse cursor.old result cursor.new }
-        ensures within { IsWithin cursor.old result }
-        ensures end { end_of cursor.new ≡ end_of cursor.old }
+        ensures decodes { Decodes immediates_view (immediates_grammar (shape_view shape)).parse cursor.old result cursor.new }
         ensures shape { IfOk result (λ i. HasShape (shape_view shape) (immediates_view i)) }
         ensures flags { IfOk result (λ i. HasCastFlags i) }
     {
@@ -233,9 +231,7 @@ pub(crate) fn pass_operator(cursor: &mut Cursor) -> Result<Role, Malformed>
 
 /// Reads the reserved byte 00 of `atomic.fence`.
 fn read_fence<'a>(cursor: &mut Cursor<'a>) -> Result<Immediates<'a>, Malformed>
-    ensures reads { Reads immediates_view (immediates_grammar FenceShape).parse cursor.old result cursor.new }
-    ensures within { IsWithin cursor.old result }
-    ensures end { end_of cursor.new ≡ end_of cursor.old }
+    ensures decodes { Decodes immediates_view (immediates_grammar FenceShape).parse cursor.old result cursor.new }
     ensures shape { IfOk result (λ i. HasShape FenceShape (immediates_view i)) }
     ensures flags { IfOk result (λ i. HasCastFlags i) }
 {
@@ -248,9 +244,7 @@ fn read_fence<'a>(cursor: &mut Cursor<'a>) -> Result<Immediates<'a>, Malformed>
 
 /// Reads a block type and catch clauses.
 fn read_try_table<'a>(cursor: &mut Cursor<'a>) -> Result<Immediates<'a>, Malformed>
-    ensures reads { Reads immediates_view (immediates_grammar TryTableShape).parse cursor.old result cursor.new }
-    ensures within { IsWithin cursor.old result }
-    ensures end { end_of cursor.new ≡ end_of cursor.old }
+    ensures decodes { Decodes immediates_view (immediates_grammar TryTableShape).parse cursor.old result cursor.new }
     ensures shape { IfOk result (λ i. HasShape TryTableShape (immediates_view i)) }
     ensures flags { IfOk result (λ i. HasCastFlags i) }
 {
@@ -260,9 +254,7 @@ fn read_try_table<'a>(cursor: &mut Cursor<'a>) -> Result<Immediates<'a>, Malform
 
 /// Reads two indices, or an index and a number.
 fn read_indices<'a>(cursor: &mut Cursor<'a>) -> Result<Immediates<'a>, Malformed>
-    ensures reads { Reads immediates_view indices.parse cursor.old result cursor.new }
-    ensures within { IsWithin cursor.old result }
-    ensures end { end_of cursor.new ≡ end_of cursor.old }
+    ensures decodes { Decodes immediates_view indices.parse cursor.old result cursor.new }
     ensures shape { IfOk result (λ i. HasShape FieldShape (immediates_view i)) }
     ensures flags { IfOk result (λ i. HasCastFlags i) }
 {
@@ -272,9 +264,7 @@ fn read_indices<'a>(cursor: &mut Cursor<'a>) -> Result<Immediates<'a>, Malformed
 
 /// Reads the labels of a `br_table` and its default label.
 fn read_branch_table<'a>(cursor: &mut Cursor<'a>) -> Result<Immediates<'a>, Malformed>
-    ensures reads { Reads immediates_view (immediates_grammar BranchTableShape).parse cursor.old result cursor.new }
-    ensures within { IsWithin cursor.old result }
-    ensures end { end_of cursor.new ≡ end_of cursor.old }
+    ensures decodes { Decodes immediates_view (immediates_grammar BranchTableShape).parse cursor.old result cursor.new }
     ensures shape { IfOk result (λ i. HasShape BranchTableShape (immediates_view i)) }
     ensures flags { IfOk result (λ i. HasCastFlags i) }
 {
@@ -284,9 +274,7 @@ fn read_branch_table<'a>(cursor: &mut Cursor<'a>) -> Result<Immediates<'a>, Malf
 
 /// Reads flags, a label and two heap types.
 fn read_cast<'a>(cursor: &mut Cursor<'a>) -> Result<Immediates<'a>, Malformed>
-    ensures reads { Reads immediates_view cast.parse cursor.old result cursor.new }
-    ensures within { IsWithin cursor.old result }
-    ensures end { end_of cursor.new ≡ end_of cursor.old }
+    ensures decodes { Decodes immediates_view cast.parse cursor.old result cursor.new }
     ensures shape { IfOk result (λ i. HasShape CastShape (immediates_view i)) }
     ensures flags { IfOk result (λ i. HasCastFlags i) }
 {
@@ -303,9 +291,7 @@ fn read_cast<'a>(cursor: &mut Cursor<'a>) -> Result<Immediates<'a>, Malformed>
 
 /// Reads a memory operand and a lane.
 fn read_memory_lane<'a>(cursor: &mut Cursor<'a>) -> Result<Immediates<'a>, Malformed>
-    ensures reads { Reads immediates_view (immediates_grammar (MemoryLaneShape 0)).parse cursor.old result cursor.new }
-    ensures within { IsWithin cursor.old result }
-    ensures end { end_of cursor.new ≡ end_of cursor.old }
+    ensures decodes { Decodes immediates_view (immediates_grammar (MemoryLaneShape 0)).parse cursor.old result cursor.new }
     ensures shape { IfOk result (λ i. HasShape (MemoryLaneShape 0) (immediates_view i)) }
     ensures flags { IfOk result (λ i. HasCastFlags i) }
 {
@@ -337,9 +323,7 @@ impl<'a> Operator<'a> {
 /// `Malformed`, with the place of the opcode if the table does not list it, and otherwise with the place of the first
 /// unexpected byte or number.
 pub fn read_operator<'a>(cursor: &mut Cursor<'a>) -> Result<Operator<'a>, Malformed>
-    ensures reads { Reads (λ o. o) operator.parse cursor.old result cursor.new }
-    ensures within { IsWithin cursor.old result }
-    ensures end { end_of cursor.new ≡ end_of cursor.old }
+    ensures { Decodes (λ o. o) operator.parse cursor.old result cursor.new }
 {
     let place = cursor.place();
     let byte = cursor.u8()?;
@@ -357,9 +341,7 @@ pub fn read_operator<'a>(cursor: &mut Cursor<'a>) -> Result<Operator<'a>, Malfor
 ///
 /// As [`read_operator`].
 pub fn read_placed<'a>(cursor: &mut Cursor<'a>) -> Result<(u64, Operator<'a>), Malformed>
-    ensures reads { Reads placed_view (value_with_place operator).parse cursor.old result cursor.new }
-    ensures within { IsWithin cursor.old result }
-    ensures end { end_of cursor.new ≡ end_of cursor.old }
+    ensures { Decodes placed_view (value_with_place operator).parse cursor.old result cursor.new }
 {
     let place = cursor.place();
     let operator = read_operator(cursor)?;

@@ -5,7 +5,7 @@ ghost use Rattle.wasmprinter_spec.specs.Grammar.{byte as byte_grammar};
 ghost use Rattle.wasmprinter_spec.specs.Name.{vec};
 ghost use Rattle.wasmprinter_spec.specs.Binary.ValTypes.{abstract_heap_of, number_type_of, non_negative, signed_index, heap_type};
 ghost use Rattle.wasmprinter_spec.specs.Binary.ValTypes.{ref_type_after, reference_type, val_type_after, val_type, begins_val_type};
-ghost use Rattle.wasmprinter_bytes.specs.Reads.{Reads, IsWithin, end_of};
+ghost use Rattle.wasmprinter_bytes.specs.Reads.{Decodes, end_of};
 ghost use Rattle.wasmprinter_ops.specs.ValTypes.{heap_view, ref_view, type_view, types_view, type_at};
 
 use wasmprinter_bytes::Malformed;
@@ -88,9 +88,7 @@ pub(crate) struct First {
 impl First {
     /// Reads a byte.
     pub(crate) fn read(cursor: &mut Cursor) -> Result<Self, Malformed>
-        ensures reads { Reads (λ f. f.byte) byte_grammar.parse cursor.old result cursor.new }
-        ensures within { IsWithin cursor.old result }
-        ensures end { end_of cursor.new ≡ end_of cursor.old }
+        ensures decodes { Decodes (λ f. f.byte) byte_grammar.parse cursor.old result cursor.new }
         ensures place { IfOk result (λ f. f.place ≡ cursor.old.place) }
     {
         let place = cursor.place();
@@ -147,9 +145,7 @@ impl HeapType {
 ///
 /// `Malformed` if the bytes do not encode one, with the place of the first unexpected byte or number.
 pub fn read_type_index(cursor: &mut Cursor) -> Result<u32, Malformed>
-    ensures reads { Reads (λ n. n) signed_index.parse cursor.old result cursor.new }
-    ensures within { IsWithin cursor.old result }
-    ensures end { end_of cursor.new ≡ end_of cursor.old }
+    ensures { Decodes (λ n. n) signed_index.parse cursor.old result cursor.new }
 {
     let place = cursor.place();
     match index_of(cursor.s33()?) {
@@ -164,9 +160,7 @@ pub fn read_type_index(cursor: &mut Cursor) -> Result<u32, Malformed>
 ///
 /// `Malformed` if the bytes do not encode a heap type, with the place of the first unexpected byte or number.
 pub fn read_heap_type(cursor: &mut Cursor) -> Result<HeapType, Malformed>
-    ensures reads { Reads heap_view heap_type.parse cursor.old result cursor.new }
-    ensures within { IsWithin cursor.old result }
-    ensures end { end_of cursor.new ≡ end_of cursor.old }
+    ensures { Decodes heap_view heap_type.parse cursor.old result cursor.new }
 {
     let Some(byte) = cursor.peek() else {
         return Err(Malformed {
@@ -186,9 +180,7 @@ impl RefType {
     /// Reads the rest of a reference type, after its first byte.
     fn read_after(first: First, cursor: &mut Cursor) -> Result<Self, Malformed>
         requires { first.place ≤ end_of cursor.now }
-        ensures reads { Reads ref_view (ref_type_after first.byte).parse cursor.old result cursor.new }
-        ensures within { IsWithin cursor.old result }
-        ensures end { end_of cursor.new ≡ end_of cursor.old }
+        ensures { Decodes ref_view (ref_type_after first.byte).parse cursor.old result cursor.new }
     {
         let (nullable, heap) = match first.byte {
             REF => (false, read_heap_type(cursor)?),
@@ -208,9 +200,7 @@ impl RefType {
 ///
 /// `Malformed` if the bytes do not encode a reference type, with the place of the first unexpected byte or number.
 pub fn read_ref_type(cursor: &mut Cursor) -> Result<RefType, Malformed>
-    ensures reads { Reads ref_view reference_type.parse cursor.old result cursor.new }
-    ensures within { IsWithin cursor.old result }
-    ensures end { end_of cursor.new ≡ end_of cursor.old }
+    ensures { Decodes ref_view reference_type.parse cursor.old result cursor.new }
 {
     let first = First::read(cursor)?;
     RefType::read_after(first, cursor)
@@ -234,9 +224,7 @@ impl ValType {
     /// Reads the rest of a value type, after its first byte.
     pub(crate) fn read_after(first: First, cursor: &mut Cursor) -> Result<Self, Malformed>
         requires { first.place ≤ end_of cursor.now }
-        ensures reads { Reads type_view (val_type_after first.byte).parse cursor.old result cursor.new }
-        ensures within { IsWithin cursor.old result }
-        ensures end { end_of cursor.new ≡ end_of cursor.old }
+        ensures { Decodes type_view (val_type_after first.byte).parse cursor.old result cursor.new }
     {
         match ValType::of_byte(first.byte) {
             Some(val_type) => Ok(val_type),
@@ -261,9 +249,7 @@ pub fn begins_type(byte: u8) -> bool
 ///
 /// `Malformed` if the bytes do not encode a value type, with the place of the first unexpected byte or number.
 pub fn read_type(cursor: &mut Cursor) -> Result<ValType, Malformed>
-    ensures reads { Reads type_view val_type.parse cursor.old result cursor.new }
-    ensures within { IsWithin cursor.old result }
-    ensures end { end_of cursor.new ≡ end_of cursor.old }
+    ensures { Decodes type_view val_type.parse cursor.old result cursor.new }
 {
     let first = First::read(cursor)?;
     ValType::read_after(first, cursor)
@@ -284,9 +270,7 @@ impl Decode for ValType {
 /// `Malformed` if the bytes do not encode the count or one of the types, with the place of the
 /// first unexpected byte or number.
 pub fn read_types<'a>(cursor: &mut Cursor<'a>) -> Result<ValTypes<'a>, Malformed>
-    ensures reads { Reads types_view (vec val_type).parse cursor.old result cursor.new }
-    ensures within { IsWithin cursor.old result }
-    ensures end { end_of cursor.new ≡ end_of cursor.old }
+    ensures { Decodes types_view (vec val_type).parse cursor.old result cursor.new }
 {
     read_items(cursor)
 }

@@ -7,7 +7,8 @@ use Rattle.wasmprinter_spec.specs.Meaning.{Meaning, Run, Succeeded, Failed}
 use Rattle.wasmprinter_bytes.specs.declared.error.Error.{Error}
 use Rattle.wasmprinter_bytes.specs.declared.error.Error.TheVariants.{Printer}
 
--- One call with its result.
+-- `Does m old call new result`: the call was made in the state `old` and left `new`. It succeeded if `result` is `Ok`,
+-- with any value, and otherwise failed with this error.
 abbrev pub Does : {P T : Type 0} → Meaning P → P → Call → P → Result T IoError → Type 0
 Does m old call new (Ok x) = Succeeded m old call new
 Does m old call new (Err e) = Failed m old call e new

@@ -17,7 +17,7 @@ use crate::Style;
 /// these pieces were written, unless an error has occurred. The laws at the end say how such facts compose; they make
 /// most proofs automatic.
 pub trait Output {
-    /// The options of the layout.
+    /// The options that were chosen for the layout.
     ghost chosen: { Options };
 
     /// These calls were made on the printer, or an error has occurred.

@@ -1,5 +1,6 @@
-//! Sections from which tests assemble modules (section 5.5.2 of the standard).
+//! Sections from which tests assemble modules (section 5.5.2 of the standard), and modules of nested blocks.
 
+use crate::PREAMBLE;
 use std::alloc::{AllocError, Global};
 
 /// The id of custom sections.
@@ -58,4 +59,35 @@ pub fn add_custom(
     content.extend_from_slice(name.as_bytes())?;
     content.extend_from_slice(data)?;
     add_section(wasm, CUSTOM, &content)
+}
+
+/// A type section with one function type, without parameters and results.
+pub const NO_PARAMS: [u8; 6] = [0x01, 0x04, 0x01, 0x60, 0x00, 0x00];
+
+/// Appends the bytes `times` times.
+fn repeat(wasm: &mut Vec<u8>, times: u32, bytes: &[u8]) -> Result<(), AllocError> {
+    for _ in 0..times {
+        wasm.extend_from_slice(bytes)?;
+    }
+    Ok(())
+}
+
+/// Returns a module whose function opens `depth` nested blocks with the bytes `opens` each, and closes each with
+/// the bytes `closes`. `code` has the bytes from the code section to the first block: the id and size of the
+/// section, the count of bodies, the size of the body, and a count of no locals.
+pub fn with_blocks(
+    alloc: Global,
+    depth: u32,
+    opens: &[u8],
+    closes: &[u8],
+    code: &[u8],
+) -> Result<Vec<u8>, AllocError> {
+    let mut wasm = Vec::from_slice(alloc, &PREAMBLE)?;
+    wasm.extend_from_slice(&NO_PARAMS)?;
+    wasm.extend_from_slice(&[0x03, 0x02, 0x01, 0x00])?;
+    wasm.extend_from_slice(code)?;
+    repeat(&mut wasm, depth, opens)?;
+    repeat(&mut wasm, depth, closes)?;
+    wasm.push(0x0b)?;
+    Ok(wasm)
 }

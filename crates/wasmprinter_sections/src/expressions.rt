@@ -6,7 +6,7 @@ ghost use Rattle.wasmprinter_spec.specs.Layout.Expressions.{in_line, word_unless
 ghost use Rattle.wasmprinter_spec.specs.Layout.Expressions.{constant_pieces, held_pieces, group_parts, constant_group};
 ghost use Rattle.wasmprinter_sections.specs.Scopes.{scope_view, is_one};
 
-use crate::lists::write_list;
+use crate::operators::write_flat_or_folded;
 use crate::scope::Scope;
 use wasmprinter_custom::FunctionHints;
 use wasmprinter_flat::operators::{Form, Setting, write_operators};
@@ -60,7 +60,7 @@ fn write_nested<O: FoldingOutput>(
         function: scope.function,
         body: 0,
     };
-    write_list(
+    write_flat_or_folded(
         out,
         &setting,
         &mut scope.labels,

@@ -7,8 +7,8 @@ ghost use Rattle.wasmprinter_sections.specs.Scopes.{scope_view, function_scope_v
 ghost use Rattle.wasmprinter_sections.specs.Functions.{parameter_count_of, result_count_of, outline_parts, definition_parts};
 
 use crate::headers::write_function_header;
-use crate::lists::write_list;
 use crate::locals::write_locals;
+use crate::operators::write_flat_or_folded;
 use crate::scope::{FIELD_NESTING, Scope};
 use wasmprinter_custom::FunctionHints;
 use wasmprinter_flat::operators::{Form, Setting};
@@ -21,25 +21,9 @@ use wasmprinter_wasm::{BodyParts, Function};
 /// The nesting depth of the operators of a body.
 const BODY_NESTING: u64 = 2;
 
-/// Writes the content of a function's group in a skeleton: its header and `...`.
-#[tactic(auto, unfolding(wasmprinter_spec::specs::Layout::Functions::header_pieces))]
+/// Writes a function without its body, as a group: its header and `...`.
+#[tactic(auto, unfolding(wasmprinter_spec::specs::Layout::Functions::header_pieces, wasmprinter_spec::specs::Layout::Groups::line_group_gap))]
 fn write_outline<O: Output>(
-    out: &mut O,
-    scope: &Scope<'_, '_>,
-    number: u64,
-    function: &Function<'_>,
-)
-    ensures { O.wrote out.old out.new
-        (outline_parts (function_scope_view O.chosen scope.now number) function.now) }
-{
-    write_function_header(out, scope, number, function.type_index());
-    write_space(out);
-    write_word(out, "...");
-}
-
-/// Writes a function without its body, as a group.
-#[tactic(auto, unfolding(wasmprinter_spec::specs::Layout::Groups::line_group_gap))]
-fn write_outline_group<O: Output>(
     out: &mut O,
     scope: &Scope<'_, '_>,
     number: u64,
@@ -49,7 +33,9 @@ fn write_outline_group<O: Output>(
         (line_group_gap (codes "func") (outline_parts (function_scope_view O.chosen scope.now number) function.now)) }
 {
     open_group_space(out, "func");
-    write_outline(out, scope, number, function);
+    write_function_header(out, scope, number, function.type_index());
+    write_space(out);
+    write_word(out, "...");
     write_close_paren(out);
 }
 
@@ -100,7 +86,7 @@ fn write_definition<O: FoldingOutput>(
         function: number,
         body: body.place(),
     };
-    write_list(
+    write_flat_or_folded(
         out,
         &setting,
         &mut scope.labels,
@@ -148,7 +134,7 @@ pub fn write_function<O: FoldingOutput>(
 {
     write_break(out, Some(function.body().place()), FIELD_NESTING);
     if out.skeleton() {
-        write_outline_group(out, scope, number, function);
+        write_outline(out, scope, number, function);
     } else {
         write_definition_group(out, scope, number, hints, function);
     }

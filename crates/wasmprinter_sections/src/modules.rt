@@ -48,26 +48,6 @@ fn write_sections<O: FoldingOutput>(out: &mut O, module: &Module<'_>, scope: &mu
     }
 }
 
-/// Writes the contents of the module's group: its identifier, if it has one, its fields and its custom sections.
-fn write_parts<'s, 'a, O: FoldingOutput>(
-    out: &mut O,
-    module: &'s Module<'a>,
-    labels: OpenLabels<'s, 'a>,
-    folder: Option<Folder<'s, 'a>>,
-)
-    ensures { Folds O.chosen folder.entry module.now → (answers : Answers)
-        × O.laid out.old out.new (inner_parts O.chosen answers (names_of labels.entry) module.now) }
-{
-    write_leading_id_and_name(out, labels.identifiers().module());
-    let mut scope = Scope {
-        types: ModuleTypes { module },
-        labels,
-        function: module.imported_count(ExternKind::Func),
-        folder,
-    };
-    write_sections(out, module, &mut scope);
-}
-
 /// Writes a whole module, with the identifiers of the labels. If operators are folded, `folder` folds them.
 pub(crate) fn write_module<'s, 'a, O: FoldingOutput>(
     out: &mut O,
@@ -81,7 +61,14 @@ pub(crate) fn write_module<'s, 'a, O: FoldingOutput>(
     start_first_line(out, 0);
     open_group(out, "module");
     let outer = out.enter_group();
-    write_parts(out, module, labels, folder);
+    write_leading_id_and_name(out, labels.identifiers().module());
+    let mut scope = Scope {
+        types: ModuleTypes { module },
+        labels,
+        function: module.imported_count(ExternKind::Func),
+        folder,
+    };
+    write_sections(out, module, &mut scope);
     close_group_at(out, module.size(), 0, outer);
     end_last_line(out);
 }

@@ -25,8 +25,8 @@ pub data Piece : Type 0 where
   OpenAnnotation : List ℕ → Piece  -- a parenthesis, the sign @ and the name of an annotation
   OpenAnnotationGap : List ℕ → Piece  -- the same, and a space
   OpenAnnotationWord : List ℕ → Piece  -- in an annotation: a parenthesis and any run of identifier characters
-  Shut : Piece
-  Word : List ℕ → Piece
+  Shut : Piece  -- a closing parenthesis
+  Word : List ℕ → Piece  -- a word without a style
   TypeWord : List ℕ → Piece  -- the word of a type
   TypeWordGap : List ℕ → Piece  -- the same, and a space
   GapTypeWord : List ℕ → Piece  -- a space and the word of a type

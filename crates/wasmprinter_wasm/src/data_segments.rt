@@ -3,7 +3,7 @@ ghost use Rattle.std.specs.Prelude.{◌≡◌, ◌<◌, Some};
 ghost use Rattle.wasmprinter_spec.specs.Grammar.{value_with_place};
 ghost use Rattle.wasmprinter_spec.specs.Binary.DataSegments.{data_mode, byte_vec, segment, data_count_section};
 ghost use Rattle.wasmprinter_spec.specs.Sections.{DataSection};
-ghost use Rattle.wasmprinter_bytes.specs.Reads.{Reads, IsWithin, end_of};
+ghost use Rattle.wasmprinter_bytes.specs.Reads.{Decodes, end_of};
 ghost use Rattle.wasmprinter_bytes.specs.Lists.{Takes};
 ghost use Rattle.wasmprinter_wasm.specs.Growing.{DataModeGrows, DataGrows};
 ghost use Rattle.wasmprinter_wasm.specs.Contents.{TakesHeld, ReadsAll};
@@ -83,9 +83,7 @@ impl<'a> DataMode<'a> {
 
 /// Reads a count and that many bytes.
 fn read_bytes<'a>(cursor: &mut Cursor<'a>) -> Result<&'a [u8], Malformed>
-    ensures reads { Reads (λ b. b.now) byte_vec.parse cursor.old result cursor.new }
-    ensures within { IsWithin cursor.old result }
-    ensures end { end_of cursor.new ≡ end_of cursor.old }
+    ensures { Decodes (λ b. b.now) byte_vec.parse cursor.old result cursor.new }
 {
     let len = cursor.u32()?;
     cursor.take(len as usize)

@@ -4,7 +4,7 @@ ghost use Rattle.wasmprinter_spec.specs.Placed.{PlacedModule};
 ghost use Rattle.wasmprinter_spec.specs.Binary.{Spells, IsComponent, preamble, preamble_bytes, counts_data};
 ghost use Rattle.wasmprinter_spec.specs.Sections.{CustomSection, section_kind, rank, follows};
 ghost use Rattle.wasmprinter_spec.specs.Limits.{IsWithinLimits};
-ghost use Rattle.wasmprinter_bytes.specs.Reads.{Reads, IsWithin, end_of};
+ghost use Rattle.wasmprinter_bytes.specs.Reads.{Decodes};
 ghost use Rattle.wasmprinter_wasm.specs.Sections.{section_view};
 ghost use Rattle.wasmprinter_wasm.specs.Gathering.{none_gathered, with_section, IsWhole, TakesSections};
 ghost use Rattle.wasmprinter_wasm.specs.Decoding.{IsRefusal, HoldsNothing, TakesModule};
@@ -40,9 +40,7 @@ fn is_component(wasm: &[u8]) -> bool
 
 /// Reads the preamble. Any other bytes are malformed at their first byte.
 fn read_preamble(cursor: &mut Cursor) -> Result<(), Malformed>
-    ensures reads { Reads (λ _. preamble_bytes) preamble.parse cursor.old result cursor.new }
-    ensures within { IsWithin cursor.old result }
-    ensures end { end_of cursor.new ≡ end_of cursor.old }
+    ensures { Decodes (λ _. preamble_bytes) preamble.parse cursor.old result cursor.new }
 {
     let place = cursor.place();
     let bytes = cursor.take(PREAMBLE.len())?;

@@ -3,7 +3,7 @@ ghost use Rattle.std.specs.Prelude.{◌≡◌};
 ghost use Rattle.wasmprinter_spec.specs.Grammar.{value_with_place};
 ghost use Rattle.wasmprinter_spec.specs.Binary.Elements.{element as element_grammar, function_items, expression_items};
 ghost use Rattle.wasmprinter_spec.specs.Sections.{ElementSection};
-ghost use Rattle.wasmprinter_bytes.specs.Reads.{Reads, IsWithin, end_of};
+ghost use Rattle.wasmprinter_bytes.specs.Reads.{Decodes, end_of};
 ghost use Rattle.wasmprinter_bytes.specs.Lists.{Takes, CountsItems};
 ghost use Rattle.wasmprinter_wasm.specs.Growing.{ModeGrows, ItemsGrow, ElementGrows};
 ghost use Rattle.wasmprinter_ops.specs.ValTypes.{ref_view};
@@ -112,9 +112,7 @@ impl<'a> ElementMode<'a> {
 impl<'a> ElementItems<'a> {
     /// Reads a count and that many function indices.
     fn read_functions(cursor: &mut Cursor<'a>) -> Result<Self, Malformed>
-        ensures reads { Reads element_items_view function_items.parse cursor.old result cursor.new }
-        ensures within { IsWithin cursor.old result }
-        ensures end { end_of cursor.new ≡ end_of cursor.old }
+        ensures { Decodes element_items_view function_items.parse cursor.old result cursor.new }
     {
         Ok(ElementItems::Functions(read_items(cursor)?))
     }

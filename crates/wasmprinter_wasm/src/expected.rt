@@ -1,7 +1,7 @@
 //! Checks for a specific byte, and for the end of a section's content.
 ghost use Rattle.std.specs.Prelude.{◌≡◌, ◌≤◌, [], MatchResult};
 ghost use Rattle.wasmprinter_spec.specs.FirstByte.{only};
-ghost use Rattle.wasmprinter_bytes.specs.Reads.{Reads, IsWithin, end_of};
+ghost use Rattle.wasmprinter_bytes.specs.Reads.{Decodes, end_of};
 
 use wasmprinter_bytes::Malformed;
 use wasmprinter_bytes::bytes::Cursor;
@@ -29,9 +29,7 @@ pub fn expect_end(cursor: &Cursor) -> Result<(), Malformed>
 ///
 /// `Malformed` if the byte differs or is missing, with its place.
 pub fn read_only(cursor: &mut Cursor, wanted: u8) -> Result<u8, Malformed>
-    ensures reads { Reads (λ b. b) (only wanted).parse cursor.old result cursor.new }
-    ensures within { IsWithin cursor.old result }
-    ensures end { end_of cursor.new ≡ end_of cursor.old }
+    ensures { Decodes (λ b. b) (only wanted).parse cursor.old result cursor.new }
 {
     let place = cursor.place();
     let byte = cursor.u8()?;

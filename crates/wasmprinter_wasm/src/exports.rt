@@ -3,7 +3,7 @@ ghost use Rattle.std.specs.Prelude.{◌≡◌, option_map};
 ghost use Rattle.wasmprinter_spec.specs.Grammar.{value_with_place};
 ghost use Rattle.wasmprinter_spec.specs.Binary.Exports.{export, extern_kind, extern_kind_of};
 ghost use Rattle.wasmprinter_spec.specs.Sections.{ExportSection};
-ghost use Rattle.wasmprinter_bytes.specs.Reads.{Reads, IsWithin, end_of};
+ghost use Rattle.wasmprinter_bytes.specs.Reads.{Decodes};
 ghost use Rattle.wasmprinter_wasm.specs.Contents.{TakesHeld};
 ghost use Rattle.wasmprinter_wasm.specs.Externs.{kind_view};
 
@@ -46,9 +46,7 @@ impl ExternKind {
 
     /// Reads a kind.
     fn read(cursor: &mut Cursor) -> Result<ExternKind, Malformed>
-        ensures reads { Reads kind_view extern_kind.parse cursor.old result cursor.new }
-        ensures within { IsWithin cursor.old result }
-        ensures end { end_of cursor.new ≡ end_of cursor.old }
+        ensures { Decodes kind_view extern_kind.parse cursor.old result cursor.new }
     {
         let place = cursor.place();
         let byte = cursor.u8()?;

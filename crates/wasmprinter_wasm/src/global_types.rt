@@ -1,7 +1,6 @@
 //! Global types (section 5.3, "Global Types").
-ghost use Rattle.std.specs.Prelude.{◌≡◌};
 ghost use Rattle.wasmprinter_spec.specs.Binary.Globals.{global_type as global_type_grammar};
-ghost use Rattle.wasmprinter_bytes.specs.Reads.{Reads, IsWithin, end_of};
+ghost use Rattle.wasmprinter_bytes.specs.Reads.{Decodes};
 ghost use Rattle.wasmprinter_wasm.specs.Externs.{global_type_view};
 
 use wasmprinter_bytes::Malformed;
@@ -25,9 +24,7 @@ impl GlobalType {
     ///
     /// `Malformed` if the bytes do not encode a global type, with the place of the first unexpected byte or number.
     pub fn read(cursor: &mut Cursor) -> Result<GlobalType, Malformed>
-        ensures reads { Reads global_type_view global_type_grammar.parse cursor.old result cursor.new }
-        ensures within { IsWithin cursor.old result }
-        ensures end { end_of cursor.new ≡ end_of cursor.old }
+        ensures { Decodes global_type_view global_type_grammar.parse cursor.old result cursor.new }
     {
         let ty = read_type(cursor)?;
         let mutable = read_mutability(cursor)?;

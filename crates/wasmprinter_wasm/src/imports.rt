@@ -3,7 +3,7 @@ ghost use Rattle.std.specs.Prelude.{◌≡◌, ◌↔◌, IsTrue, IfOk};
 ghost use Rattle.wasmprinter_spec.specs.Grammar.{value_with_place};
 ghost use Rattle.wasmprinter_spec.specs.Binary.Imports.{extern_type as extern_type_grammar, import as import_grammar};
 ghost use Rattle.wasmprinter_spec.specs.Sections.{ImportSection};
-ghost use Rattle.wasmprinter_bytes.specs.Reads.{Reads, IsWithin, end_of};
+ghost use Rattle.wasmprinter_bytes.specs.Reads.{Decodes};
 ghost use Rattle.wasmprinter_wasm.specs.Contents.{TakesHeld};
 ghost use Rattle.wasmprinter_wasm.specs.Externs.{extern_view, HasPage, kind_view, kind_of_type};
 
@@ -37,9 +37,7 @@ pub enum ExternType {
 impl ExternType {
     /// Reads the byte of a kind, and a type of that kind.
     fn read(cursor: &mut Cursor) -> Result<ExternType, Malformed>
-        ensures reads { Reads extern_view extern_type_grammar.parse cursor.old result cursor.new }
-        ensures within { IsWithin cursor.old result }
-        ensures end { end_of cursor.new ≡ end_of cursor.old }
+        ensures decodes { Decodes extern_view extern_type_grammar.parse cursor.old result cursor.new }
         ensures page { IfOk result HasPage }
     {
         let place = cursor.place();

@@ -1,7 +1,6 @@
 //! The limits of tables and memories (section 5.3, "Limits").
-ghost use Rattle.std.specs.Prelude.{◌≡◌};
 ghost use Rattle.wasmprinter_spec.specs.Binary.Limits.{limits as limits_grammar};
-ghost use Rattle.wasmprinter_bytes.specs.Reads.{Reads, IsWithin, end_of};
+ghost use Rattle.wasmprinter_bytes.specs.Reads.{Decodes};
 ghost use Rattle.wasmprinter_wasm.specs.Externs.{limits_view};
 
 use wasmprinter_bytes::Malformed;
@@ -25,9 +24,7 @@ pub struct Limits {
 impl Limits {
     /// Reads the minimum, and the maximum if `has_max` is true.
     pub(crate) fn read(cursor: &mut Cursor, has_max: bool) -> Result<Limits, Malformed>
-        ensures reads { Reads limits_view (limits_grammar has_max).parse cursor.old result cursor.new }
-        ensures within { IsWithin cursor.old result }
-        ensures end { end_of cursor.new ≡ end_of cursor.old }
+        ensures { Decodes limits_view (limits_grammar has_max).parse cursor.old result cursor.new }
     {
         let min = cursor.u64()?;
         let max = if has_max { Some(cursor.u64()?) } else { None };

@@ -3,7 +3,7 @@ ghost use Rattle.std.specs.Prelude.{◌≡◌, ◌<◌, IfOk};
 ghost use Rattle.wasmprinter_spec.specs.Grammar.{value_with_place};
 ghost use Rattle.wasmprinter_spec.specs.Binary.Memories.{page as page_grammar, memory_type as memory_type_grammar};
 ghost use Rattle.wasmprinter_spec.specs.Sections.{MemorySection};
-ghost use Rattle.wasmprinter_bytes.specs.Reads.{Reads, IsWithin, end_of};
+ghost use Rattle.wasmprinter_bytes.specs.Reads.{Decodes};
 ghost use Rattle.wasmprinter_wasm.specs.Contents.{TakesHeld};
 ghost use Rattle.wasmprinter_wasm.specs.Externs.{memory_type_view, IsPage};
 
@@ -59,9 +59,7 @@ impl Model for Memory {
 
 /// Reads the exponent of the page size, if it is given.
 fn read_page(cursor: &mut Cursor, is_given: bool) -> Result<Option<u32>, Malformed>
-    ensures reads { Reads (λ p. p) (page_grammar is_given).parse cursor.old result cursor.new }
-    ensures within { IsWithin cursor.old result }
-    ensures end { end_of cursor.new ≡ end_of cursor.old }
+    ensures decodes { Decodes (λ p. p) (page_grammar is_given).parse cursor.old result cursor.new }
     ensures fits { IfOk result IsPage }
 {
     if !is_given {
@@ -79,9 +77,7 @@ fn read_page(cursor: &mut Cursor, is_given: bool) -> Result<Option<u32>, Malform
 impl MemoryType {
     /// Reads the flags, the limits and the page size.
     pub(crate) fn read(cursor: &mut Cursor) -> Result<MemoryType, Malformed>
-        ensures reads { Reads memory_type_view memory_type_grammar.parse cursor.old result cursor.new }
-        ensures within { IsWithin cursor.old result }
-        ensures end { end_of cursor.new ≡ end_of cursor.old }
+        ensures decodes { Decodes memory_type_view memory_type_grammar.parse cursor.old result cursor.new }
         ensures fits { IfOk result (λ m. IsPage m.page) }
     {
         let place = cursor.place();

@@ -1,7 +1,6 @@
 //! Table types (section 5.3, "Table Types").
-ghost use Rattle.std.specs.Prelude.{◌≡◌};
 ghost use Rattle.wasmprinter_spec.specs.Binary.Tables.{table_type as table_type_grammar};
-ghost use Rattle.wasmprinter_bytes.specs.Reads.{Reads, IsWithin, end_of};
+ghost use Rattle.wasmprinter_bytes.specs.Reads.{Decodes};
 ghost use Rattle.wasmprinter_wasm.specs.Externs.{table_type_view};
 
 use crate::flags::has_bit;
@@ -40,9 +39,7 @@ impl TableType {
     ///
     /// `Malformed` if the bytes do not encode a table type, with the place of the first unexpected byte or number.
     pub fn read(cursor: &mut Cursor) -> Result<TableType, Malformed>
-        ensures reads { Reads table_type_view table_type_grammar.parse cursor.old result cursor.new }
-        ensures within { IsWithin cursor.old result }
-        ensures end { end_of cursor.new ≡ end_of cursor.old }
+        ensures { Decodes table_type_view table_type_grammar.parse cursor.old result cursor.new }
     {
         let element = read_ref_type(cursor)?;
         let place = cursor.place();

@@ -3,7 +3,7 @@ ghost use Rattle.std.specs.Prelude.{◌≡◌};
 ghost use Rattle.wasmprinter_spec.specs.Grammar.{value_with_place};
 ghost use Rattle.wasmprinter_spec.specs.Binary.Tags.{tag as tag_grammar};
 ghost use Rattle.wasmprinter_spec.specs.Sections.{TagSection};
-ghost use Rattle.wasmprinter_bytes.specs.Reads.{Reads, IsWithin, end_of};
+ghost use Rattle.wasmprinter_bytes.specs.Reads.{Decodes};
 ghost use Rattle.wasmprinter_wasm.specs.Contents.{TakesHeld};
 
 use crate::expected::{expect_end, read_only};
@@ -34,9 +34,7 @@ impl Model for Tag {
 
 /// Reads the byte of exceptions and a type index.
 pub(crate) fn read_tag_type(cursor: &mut Cursor) -> Result<u32, Malformed>
-    ensures reads { Reads (λ n. n) tag_grammar.parse cursor.old result cursor.new }
-    ensures within { IsWithin cursor.old result }
-    ensures end { end_of cursor.new ≡ end_of cursor.old }
+    ensures { Decodes (λ n. n) tag_grammar.parse cursor.old result cursor.new }
 {
     read_only(cursor, EXCEPTION)?;
     cursor.u32()

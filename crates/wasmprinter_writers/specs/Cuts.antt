@@ -1,4 +1,5 @@
--- A text split at the places where its lines start.
+-- A text split where its lines start. Of a `LineStart`, `at` is a byte offset from the start of the
+-- text, and `place` a byte offset from the start of the module.
 use Rattle.std.specs.Prelude.{ℕ, List, [], ◌∷◌, take, drop, length, ◌-◌, ◌≤◌, ⊤}
 use Rattle.std.specs.Str.{IsCharBoundary}
 use Rattle.wasmprinter_spec.specs.Lines.{TextLine}
@@ -9,7 +10,7 @@ abbrev pub first_at : List LineStart → List ℕ → ℕ
 first_at [] text = length text
 first_at (s ∷ starts) text = s.at
 
--- The lines of a text that start at these places.
+-- The lines of a text that start at these offsets: the place of each line, and its text.
 abbrev pub lines_at_starts : List LineStart → List ℕ → List TextLine
 lines_at_starts [] text = []
 lines_at_starts (s ∷ starts) text = (s.place, take (first_at starts text - s.at) (drop s.at text)) ∷ lines_at_starts starts text

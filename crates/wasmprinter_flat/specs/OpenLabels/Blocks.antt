@@ -3,9 +3,9 @@ use Rattle.std.specs.Prelude.{◌≡◌, ◌≢◌, ℕ, ◌<◌, ◌≤◌, ◌
 use Rattle.std.specs.List.{AllByRecursion}
 use Rattle.wasmprinter_custom.specs.Views.{name_view}
 use Rattle.wasmprinter_flat.specs.OpenLabels.Stack.{Block, depths, Descend, StandsAtDepth}
-use Rattle.wasmprinter_flat.specs.declared.open_labels.blocks.NamedBlock.{NamedBlock}
-use Rattle.wasmprinter_flat.specs.declared.open_labels.blocks.NameAt.{NameAt}
-use Rattle.wasmprinter_flat.specs.declared.open_labels.blocks.NameAt.TheVariants.{Shown, Hidden, Unnamed}
+use Rattle.wasmprinter_flat.specs.declared.open_labels.named_blocks.NamedBlock.{NamedBlock}
+use Rattle.wasmprinter_flat.specs.declared.open_labels.named_blocks.NameAt.{NameAt}
+use Rattle.wasmprinter_flat.specs.declared.open_labels.named_blocks.NameAt.TheVariants.{Shown, Hidden, Unnamed}
 
 abbrev pub block_view : NamedBlock → Block
 block_view b = record { depth = b.depth; alike = b.alike; name = name_view b.name }

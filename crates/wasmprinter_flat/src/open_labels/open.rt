@@ -11,7 +11,7 @@ ghost use Rattle.wasmprinter_flat.specs.OpenLabels.Stack.{unnamed_label};
 ghost use Rattle.wasmprinter_flat.specs.OpenLabels.Inside.{label_of};
 ghost use Rattle.wasmprinter_flat.specs.OpenLabels.Views.{found_view};
 
-use crate::open_labels::blocks::{NameAt, NamedBlocks};
+use crate::open_labels::named_blocks::{NameAt, NamedBlocks};
 use crate::open_labels::numbers::{NumberedLabel, numbered_labels};
 use std::alloc::{AllocError, Global};
 use std::marker::Model;

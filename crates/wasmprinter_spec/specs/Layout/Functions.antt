@@ -60,7 +60,8 @@ inner_pieces s hs f =
     local_pieces s.names s.function (parameter_count (signature_at s.types f.type_index)) f.body.value.locals
     ++ body_pieces s f.type_index hs f.body
 
--- A function, without its locals and operators in a skeleton.
+-- A function, without its locals and operators if `skeleton` is on. The two Booleans are the options
+-- `skeleton` and `offsets`.
 unfoldable pub function_group : Bool → Bool → Scope → List (Placed Hint) → PlacedFunction → List Piece
 function_group true offsets s hs f =
     line_group_gap (codes "func") (header_pieces s Func (Some s.function) s.function f.type_index ++ (Gap ∷ (Word (codes "...") ∷ [])))

@@ -1,4 +1,4 @@
-use Rattle.std.proofs.Common.{Some, arith, sym, ◌∙◌, ap}
+use Rattle.std.proofs.Common.{rules, Some, arith, sym, ◌∙◌, ap}
 use Rattle.std.proofs.lemmas.Result.{err_from_is_err_and}
 use Rattle.wasmprinter_spec.specs.Grammar.{Input}
 use Rattle.wasmprinter_bytes.specs.Items.{skip_at}
@@ -16,14 +16,21 @@ invariant_of-result g c =
     HasItems-skip g.T.Decode.parse c.in_ok-count.count c.fork-start.result c.loop.cursor
     (skip_end g.T.Decode.parse c.in_ok-count.count c.loop.counter c.loop.cursor _ (omega arith) c.loop.invariant.rest)
 
-pub returns-clause-reads : goal.returns-clause-reads
-returns-clause-reads g c =
-    vec_some g.T.Decode.parse c.args.cursor.now c.fork-start.result c.loop.cursor c.in_ok-count.count (c.in_ok-count.ensures.reads ∙ ap (λ (at : Input). Some (c.in_ok-count.count, at)) (sym c.fork-start.ensures.same))
-    (skip_end g.T.Decode.parse c.in_ok-count.count c.loop.counter c.loop.cursor _ (omega arith) c.loop.invariant.rest)
+pub returns : goal.returns
+returns g c = record {
+  reads = vec_some g.T.Decode.parse c.args.cursor.now c.fork-start.result c.loop.cursor c.in_ok-count.count (c.in_ok-count.ensures.reads ∙ ap (λ (at : Input). Some (c.in_ok-count.count, at)) (sym c.fork-start.ensures.same))
+      (skip_end g.T.Decode.parse c.in_ok-count.count c.loop.counter c.loop.cursor _ (omega arith) c.loop.invariant.rest);
+  within = search rules;
+  end = search rules;
+}
 
-pub returns-in_err-read-clause-reads : goal.returns-in_err-read-clause-reads
-returns-in_err-read-clause-reads g c =
-    let p = err_from_is_err_and c.from_residual-in_err-read.result c.from_residual-in_err-read.ensures.1 in
-    rw p.1
-    (vec_none g.T.Decode.parse c.args.cursor.now c.fork-start.result c.in_ok-count.count (c.in_ok-count.ensures.reads ∙ ap (λ (at : Input). Some (c.in_ok-count.count, at)) (sym c.fork-start.ensures.same))
-    (skip_none g.T.Decode.parse c.in_ok-count.count c.loop.counter c.loop.cursor (skip_at g.T.Decode.parse c.in_ok-count.count c.fork-start.result) (omega arith) c.in_err-read.ensures.reads c.loop.invariant.rest))
+pub returns-in_err-read : goal.returns-in_err-read
+returns-in_err-read g c = record {
+  reads =
+      let p = err_from_is_err_and c.from_residual-in_err-read.result c.from_residual-in_err-read.ensures.1 in
+      rw p.1
+      (vec_none g.T.Decode.parse c.args.cursor.now c.fork-start.result c.in_ok-count.count (c.in_ok-count.ensures.reads ∙ ap (λ (at : Input). Some (c.in_ok-count.count, at)) (sym c.fork-start.ensures.same))
+      (skip_none g.T.Decode.parse c.in_ok-count.count c.loop.counter c.loop.cursor (skip_at g.T.Decode.parse c.in_ok-count.count c.fork-start.result) (omega arith) c.in_err-read.ensures.reads c.loop.invariant.rest));
+  within = search rules;
+  end = search rules;
+}

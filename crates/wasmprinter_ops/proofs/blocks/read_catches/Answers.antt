@@ -1,4 +1,4 @@
-use Rattle.std.proofs.Common.{◌≡◌, refl}
+use Rattle.std.proofs.Common.{rules, ◌≡◌, refl}
 use Rattle.wasmprinter_spec.specs.Operator.{Catch, One, OneRef, All, AllRef}
 use Rattle.wasmprinter_spec.specs.Instructions.{catch}
 use Rattle.wasmprinter_ops.specs.Blocks.{catch_view, catch_of_view}
@@ -11,5 +11,9 @@ seen_made (OneRef tag label) = refl
 seen_made (All label) = refl
 seen_made (AllRef label) = refl
 
-pub returns-clause-reads : goal.returns-clause-reads
-returns-clause-reads c = reads_made catch_of_view catch_view seen_made catch.parse c.args.cursor.now c.read_items.new.cursor c.read_items.result c.read_items.ensures.reads
+pub returns : goal.returns
+returns c = record {
+  reads = reads_made catch_of_view catch_view seen_made catch.parse c.args.cursor.now c.read_items.new.cursor c.read_items.result c.read_items.ensures.reads;
+  within = search rules;
+  end = search rules;
+}

@@ -1,8 +1,13 @@
+use Rattle.std.proofs.Common.{rules}
 use Rattle.wasmprinter_spec.specs.Binary.Types.{field}
 use Rattle.wasmprinter_ops.specs.Types.{field_view, field_of_view}
 use Rattle.wasmprinter_ops.proofs.Made.{reads_made}
 use Rattle.wasmprinter_ops.proofs.Seen.{field_seen}
 use Rattle.wasmprinter_ops.proofs.composite.read_fields.Goals as goal
 
-pub returns-clause-reads : goal.returns-clause-reads
-returns-clause-reads c = reads_made field_of_view field_view field_seen field.parse c.args.cursor.now c.read_items.new.cursor c.read_items.result c.read_items.ensures.reads
+pub returns : goal.returns
+returns c = record {
+  reads = reads_made field_of_view field_view field_seen field.parse c.args.cursor.now c.read_items.new.cursor c.read_items.result c.read_items.ensures.reads;
+  within = search rules;
+  end = search rules;
+}

@@ -1,4 +1,4 @@
-use Rattle.std.proofs.Common.{arith, sym, ap, ◌∙◌}
+use Rattle.std.proofs.Common.{rules, arith, sym, ap, ◌∙◌}
 use Rattle.std.proofs.lemmas.Result.{err_from_is_err_and}
 use Rattle.wasmprinter_spec.specs.Repeated.{items_at}
 use Rattle.wasmprinter_bytes.specs.Items.{skip_at}
@@ -17,16 +17,23 @@ invariant_of-result c =
     HasItems-skip subtype.parse c.args.count c.fork-start.result c.loop.cursor
     (skip_end subtype.parse c.args.count c.loop.counter c.loop.cursor _ (omega arith) c.loop.invariant.rest)
 
-pub returns-clause-reads : goal.returns-clause-reads
-returns-clause-reads c =
-    ap (items_at subtype.parse c.args.count) (sym c.fork-start.ensures.same)
-    ∙ items_some subtype.parse c.args.count c.fork-start.result c.loop.cursor
-    (skip_end subtype.parse c.args.count c.loop.counter c.loop.cursor _ (omega arith) c.loop.invariant.rest)
+pub returns : goal.returns
+returns c = record {
+  reads = ap (items_at subtype.parse c.args.count) (sym c.fork-start.ensures.same)
+      ∙ items_some subtype.parse c.args.count c.fork-start.result c.loop.cursor
+      (skip_end subtype.parse c.args.count c.loop.counter c.loop.cursor _ (omega arith) c.loop.invariant.rest);
+  within = search rules;
+  end = search rules;
+}
 
-pub returns-in_err-read-clause-reads : goal.returns-in_err-read-clause-reads
-returns-in_err-read-clause-reads c =
-    let p = err_from_is_err_and c.from_residual.result c.from_residual.ensures.1 in
-    rw p.1
-    (ap (items_at subtype.parse c.args.count) (sym c.fork-start.ensures.same)
-    ∙ items_none subtype.parse c.args.count c.fork-start.result
-    (skip_none subtype.parse c.args.count c.loop.counter c.loop.cursor (skip_at subtype.parse c.args.count c.fork-start.result) (omega arith) c.in_err-read.ensures.reads c.loop.invariant.rest))
+pub returns-in_err-read : goal.returns-in_err-read
+returns-in_err-read c = record {
+  reads =
+      let p = err_from_is_err_and c.from_residual.result c.from_residual.ensures.1 in
+      rw p.1
+      (ap (items_at subtype.parse c.args.count) (sym c.fork-start.ensures.same)
+      ∙ items_none subtype.parse c.args.count c.fork-start.result
+      (skip_none subtype.parse c.args.count c.loop.counter c.loop.cursor (skip_at subtype.parse c.args.count c.fork-start.result) (omega arith) c.in_err-read.ensures.reads c.loop.invariant.rest));
+  within = search rules;
+  end = search rules;
+}

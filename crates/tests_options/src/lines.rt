@@ -1,6 +1,6 @@
 //! The lines of a text, each with its place. Expected values are typed by hand.
 
-use crate::options::large::{COUNT, FIRST_BODY, LEN, large};
+use crate::large::{COUNT, FIRST_BODY, LEN, large};
 use std::alloc::{AllocError, Global};
 use std::test::Fail;
 use wasmprinter::{Config, Error, LineStart, OffsetsAndLines};
@@ -97,6 +97,33 @@ fn are_lines(found: OffsetsAndLines<'_>, expected: &[Line]) -> bool {
     found.eq(expected.iter().copied())
 }
 
+/// Reports whether printing a module with these options gives these lines.
+fn has_lines(
+    alloc: Global,
+    config: &Config,
+    wasm: &[u8],
+    expected: &[Line],
+) -> Result<bool, Error> {
+    let mut storage = String::new(alloc);
+    Ok(are_lines(
+        config.offsets_and_lines(alloc, wasm, &mut storage)?,
+        expected,
+    ))
+}
+
+/// Appends the text of a module to the storage, and reports whether these are its lines.
+fn appends_lines(
+    alloc: Global,
+    wasm: &[u8],
+    storage: &mut String,
+    expected: &[Line],
+) -> Result<bool, Error> {
+    Ok(are_lines(
+        Config::new().offsets_and_lines(alloc, wasm, storage)?,
+        expected,
+    ))
+}
+
 #[test]
 fn gives_each_line_with_its_place(rt: HostRuntime) -> Result<(), Fail> {
     let modules: [(&[u8], &[Line]); 4] = [
@@ -106,9 +133,7 @@ fn gives_each_line_with_its_place(rt: HostRuntime) -> Result<(), Fail> {
         (&GROUP, &GROUP_LINES),
     ];
     for (wasm, expected) in modules {
-        let mut storage = String::new(rt.alloc());
-        let lines = Config::new().offsets_and_lines(rt.alloc(), wasm, &mut storage)?;
-        assert!(rt; are_lines(lines, expected));
+        assert!(rt; has_lines(rt.alloc(), &Config::new(), wasm, expected)?);
     }
     Ok(())
 }
@@ -117,25 +142,32 @@ fn gives_each_line_with_its_place(rt: HostRuntime) -> Result<(), Fail> {
 fn gives_lines_by_options(rt: HostRuntime) -> Result<(), Fail> {
     let mut config = Config::new();
     config.print_skeleton(true);
-    let mut storage = String::new(rt.alloc());
-    let lines = config.offsets_and_lines(rt.alloc(), &IDENTITY, &mut storage)?;
-    assert!(rt; are_lines(lines, &OUTLINE));
+    assert!(rt; has_lines(rt.alloc(), &config, &IDENTITY, &OUTLINE)?);
     config.print_offsets(true);
-    let mut storage = String::new(rt.alloc());
-    let lines = config.offsets_and_lines(rt.alloc(), &IDENTITY, &mut storage)?;
-    assert!(rt; are_lines(lines, &PLACED));
+    assert!(rt; has_lines(rt.alloc(), &config, &IDENTITY, &PLACED)?);
     Ok(())
 }
 
 #[test]
 fn appends_to_existing_text(rt: HostRuntime) -> Result<(), Fail> {
     let mut storage = String::from_str(rt.alloc(), "λ\n")?;
-    let config = Config::new();
-    let lines = config.offsets_and_lines(rt.alloc(), &PREAMBLE, &mut storage)?;
-    assert!(rt; are_lines(lines, &[(Some(0x0), "(module)\n")]));
+    assert!(rt;
+        appends_lines(
+            rt.alloc(),
+            &PREAMBLE,
+            &mut storage,
+            &[(Some(0x0), "(module)\n")]
+        )?
+    );
     expect_text(storage.as_str(), "λ\n(module)\n")?;
-    let lines = config.offsets_and_lines(rt.alloc(), &PREAMBLE, &mut storage)?;
-    assert!(rt; are_lines(lines, &[(Some(0x0), "(module)\n")]));
+    assert!(rt;
+        appends_lines(
+            rt.alloc(),
+            &PREAMBLE,
+            &mut storage,
+            &[(Some(0x0), "(module)\n")]
+        )?
+    );
     expect_text(storage.as_str(), "λ\n(module)\n(module)\n")?;
     Ok(())
 }

@@ -1,6 +1,6 @@
 //! Tests of lines with their places, and of finding the line of an operator.
 
-use crate::surface::expecting::{IDENTITY, IDENTITY_TEXT, expect_text};
+use crate::expecting::{IDENTITY, IDENTITY_TEXT, expect_text};
 use std::alloc::Global;
 use std::test::Fail;
 use wasmprinter::wasm::decode;

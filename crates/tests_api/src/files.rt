@@ -1,7 +1,7 @@
 //! Tests of printing files, from the system and from a user-defined source.
 ghost use Rattle.std.specs.Prelude.{⊤};
 
-use crate::surface::expecting::{IDENTITY, IDENTITY_TEXT, expect_text};
+use crate::expecting::{IDENTITY, IDENTITY_TEXT, expect_text};
 use std::alloc::Global;
 use std::io::ErrorKind;
 use std::path::Path;

@@ -1,7 +1,7 @@
 //! Tests of a user-defined printer and of a user-defined writer with colors.
 ghost use Rattle.std.specs.Prelude.{◌≡◌, None, false, true, Ok};
 
-use crate::surface::expecting::{EMPTY, expect_text};
+use crate::expecting::{EMPTY, expect_text};
 use std::io;
 use std::io::Write;
 use std::test::Fail;

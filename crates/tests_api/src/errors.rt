@@ -1,6 +1,6 @@
 //! Tests of each error: short modules that are refused with it, and its text.
 
-use crate::surface::expecting::{EMPTY, expect_text};
+use crate::expecting::{EMPTY, expect_text};
 use std::alloc::Global;
 use std::io;
 use std::io::Write;

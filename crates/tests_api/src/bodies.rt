@@ -1,7 +1,7 @@
 //! Tests of decoded modules and of readers over their operators. They use each variant of the types of
 //! `wasmprinter::wasm`.
 
-use crate::surface::expecting::{EMPTY, IDENTITY};
+use crate::expecting::{EMPTY, IDENTITY};
 use std::alloc::{AllocError, Global};
 use std::test::Fail;
 use wasmprinter::wasm::{

@@ -1,6 +1,7 @@
 //! Options and their setters: texts with places, without bodies, and with several options at once; and options
 //! that are reset.
 
+use std::alloc::Global;
 use std::test::Fail;
 use wasmprinter::Config;
 use wasmprinter_samples::{
@@ -117,6 +118,22 @@ const EVERY_OPTION: &str = "(module $all
 (;@164   ;))
 ";
 
+/// Checks that the text of a module with these options is the typed text.
+///
+/// # Errors
+///
+/// - The module is refused.
+/// - Its text differs.
+fn expect_printed_with(
+    alloc: Global,
+    config: &Config,
+    wasm: &[u8],
+    typed: &str,
+) -> Result<(), Fail> {
+    expect_text(config.print_to_string(alloc, wasm)?.as_str(), typed)?;
+    Ok(())
+}
+
 #[test]
 fn prints_places(rt: HostRuntime) -> Result<(), Fail> {
     let modules: [(&[u8], &str); 3] = [
@@ -127,8 +144,7 @@ fn prints_places(rt: HostRuntime) -> Result<(), Fail> {
     let mut config = Config::new();
     config.print_offsets(true);
     for (wasm, expected) in modules {
-        let text = config.print_to_string(rt.alloc(), wasm)?;
-        expect_text(text.as_str(), expected)?;
+        expect_printed_with(rt.alloc(), &config, wasm, expected)?;
     }
     Ok(())
 }
@@ -137,9 +153,10 @@ fn prints_places(rt: HostRuntime) -> Result<(), Fail> {
 fn leaves_bodies_out(rt: HostRuntime) -> Result<(), Fail> {
     let mut config = Config::new();
     config.print_skeleton(true);
-    let text = config.print_to_string(rt.alloc(), &IDENTITY)?;
-    expect_text(
-        text.as_str(),
+    expect_printed_with(
+        rt.alloc(),
+        &config,
+        &IDENTITY,
         r#"(module
   (type (;0;) (func (param i32) (result i32)))
   (export "f" (func 0))
@@ -154,9 +171,10 @@ fn leaves_bodies_out(rt: HostRuntime) -> Result<(), Fail> {
 fn prints_places_of_fields(rt: HostRuntime) -> Result<(), Fail> {
     let mut config = Config::new();
     config.print_offsets(true);
-    let text = config.print_to_string(rt.alloc(), &FIELDS)?;
-    expect_text(
-        text.as_str(),
+    expect_printed_with(
+        rt.alloc(),
+        &config,
+        &FIELDS,
         r#"(module
 (;@b     ;)  (type (;0;) (func))
 (;@11    ;)  (import "a" "f" (func (;0;) (type 0)))
@@ -182,9 +200,10 @@ fn prints_places_of_fields(rt: HostRuntime) -> Result<(), Fail> {
 fn prints_fields_of_a_skeleton(rt: HostRuntime) -> Result<(), Fail> {
     let mut config = Config::new();
     config.print_skeleton(true);
-    let text = config.print_to_string(rt.alloc(), &FIELDS)?;
-    expect_text(
-        text.as_str(),
+    expect_printed_with(
+        rt.alloc(),
+        &config,
+        &FIELDS,
         r#"(module
   (type (;0;) (func))
   (import "a" "f" (func (;0;) (type 0)))
@@ -214,9 +233,10 @@ fn leaves_room_where_a_line_has_no_place(rt: HostRuntime) -> Result<(), Fail> {
     ];
     let mut config = Config::new();
     config.print_offsets(true);
-    let text = config.print_to_string(rt.alloc(), &group)?;
-    expect_text(
-        text.as_str(),
+    expect_printed_with(
+        rt.alloc(),
+        &config,
+        &group,
         r#"(module
 (;@b     ;)  (rec
 (;@d     ;)    (type (;0;) (func))
@@ -266,8 +286,7 @@ fn indents_by_another_text(rt: HostRuntime) -> Result<(), Fail> {
     for (indent, expected) in INDENTED {
         let mut config = Config::new();
         config.indent_text(String::from_str(rt.alloc(), indent)?);
-        let text = config.print_to_string(rt.alloc(), &IDENTITY)?;
-        expect_text(text.as_str(), expected)?;
+        expect_printed_with(rt.alloc(), &config, &IDENTITY, expected)?;
     }
     Ok(())
 }
@@ -279,9 +298,10 @@ fn indents_after_places(rt: HostRuntime) -> Result<(), Fail> {
     config
         .indent_text(String::from_str(rt.alloc(), "\t")?)
         .print_offsets(true);
-    let text = config.print_to_string(rt.alloc(), &IDENTITY)?;
-    expect_text(
-        text.as_str(),
+    expect_printed_with(
+        rt.alloc(),
+        &config,
+        &IDENTITY,
         "(module\n\
         (;@b     ;)\t(type (;0;) (func (param i32) (result i32)))\n\
         (;@17    ;)\t(export \"f\" (func 0))\n\
@@ -297,8 +317,7 @@ fn indents_after_places(rt: HostRuntime) -> Result<(), Fail> {
 fn chains_setters(rt: HostRuntime) -> Result<(), Fail> {
     let mut config = Config::new();
     config.print_offsets(true).print_skeleton(true);
-    let outline = config.print_to_string(rt.alloc(), &EVERY_SPACE)?;
-    expect_text(outline.as_str(), EVERY_SPACE_OUTLINE)?;
+    expect_printed_with(rt.alloc(), &config, &EVERY_SPACE, EVERY_SPACE_OUTLINE)?;
     let text = Config::new()
         .name_unnamed(true)
         .print_skeleton(true)
@@ -316,8 +335,7 @@ fn prints_by_all_options_at_once(rt: HostRuntime) -> Result<(), Fail> {
         .print_skeleton(true)
         .name_unnamed(true)
         .indent_text(String::from_str(rt.alloc(), "\t")?);
-    let text = config.print_to_string(rt.alloc(), &EVERY_SPACE)?;
-    expect_text(text.as_str(), EVERY_OPTION)?;
+    expect_printed_with(rt.alloc(), &config, &EVERY_SPACE, EVERY_OPTION)?;
     Ok(())
 }
 
@@ -326,14 +344,11 @@ fn takes_options_back(rt: HostRuntime) -> Result<(), Fail> {
     let mut config = Config::new();
     config.print_offsets(true).print_skeleton(true);
     config.name_unnamed(true).name_unnamed(false);
-    let outline = config.print_to_string(rt.alloc(), &IDENTITY)?;
-    expect_text(outline.as_str(), IDENTITY_OUTLINE)?;
+    expect_printed_with(rt.alloc(), &config, &IDENTITY, IDENTITY_OUTLINE)?;
     config.print_skeleton(false);
-    let places = config.print_to_string(rt.alloc(), &IDENTITY)?;
-    expect_text(places.as_str(), IDENTITY_PLACES)?;
+    expect_printed_with(rt.alloc(), &config, &IDENTITY, IDENTITY_PLACES)?;
     config.print_offsets(false);
-    let text = config.print_to_string(rt.alloc(), &IDENTITY)?;
-    expect_text(text.as_str(), IDENTITY_TEXT)?;
+    expect_printed_with(rt.alloc(), &config, &IDENTITY, IDENTITY_TEXT)?;
     Ok(())
 }
 
@@ -346,8 +361,7 @@ fn prints_as_by_default_where_no_option_is_asked_for(rt: HostRuntime) -> Result<
         .name_unnamed(false);
     let modules: [(&[u8], &str); 2] = [(&EVERYTHING, EVERYTHING_TEXT), (&FIELDS, FIELDS_TEXT)];
     for (wasm, expected) in modules {
-        let text = config.print_to_string(rt.alloc(), wasm)?;
-        expect_text(text.as_str(), expected)?;
+        expect_printed_with(rt.alloc(), &config, wasm, expected)?;
     }
     Ok(())
 }

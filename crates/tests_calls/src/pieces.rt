@@ -5,13 +5,13 @@
 mod lists;
 mod module;
 
-use crate::control::with_blocks;
 use crate::cuts::calls::Calls;
 use lists::{FLAT, FOLDED, NAMED, NAMED_FOLDED, TABS};
 use module::MODULE;
 use std::alloc::{AllocError, Global};
 use std::test::Fail;
 use wasmprinter::{Config, Error, Print};
+use wasmprinter_samples::sections::with_blocks;
 use wasmprinter_samples::{IDENTITY, expect_text};
 
 /// Prints to any printer. It has no contract, so that callers need not prove anything about their own printer.

@@ -1,6 +1,6 @@
 //! Tests of the texts of single values.
 
-use crate::surface::expecting::expect_text;
+use crate::expecting::expect_text;
 use std::test::Fail;
 use wasmprinter::PrintFmtWrite;
 use wasmprinter::text::{write_bytes, write_f32, write_f64, write_quoted};

@@ -1,6 +1,6 @@
 //! Tests of colors: the escape sequences of a color, and writers with and without colors.
 
-use crate::surface::expecting::{EMPTY, EMPTY_TEXT};
+use crate::expecting::{EMPTY, EMPTY_TEXT};
 use std::alloc::Global;
 use std::io;
 use std::io::Write;

@@ -1,6 +1,6 @@
 //! Texts with ANSI escape sequences for colors. The sequences are typed by hand.
 
-use crate::options::large::{COUNT, large};
+use crate::large::{COUNT, large};
 use std::alloc::{AllocError, Global};
 use std::test::Fail;
 use wasmprinter::{Config, Error};
@@ -38,6 +38,11 @@ const PLACES_COLORED: &str = "(\x1b[0m\x1b[1m\x1b[38;5;11mmodule\x1b[0m
 \x1b[0m\x1b[36m(;@23    ;)\x1b[0m)
 ";
 
+/// Reports whether the text of a module with these options and with colors is the typed text.
+fn is_colored_as(alloc: Global, config: &Config, wasm: &[u8], typed: &str) -> Result<bool, Error> {
+    Ok(config.print_to_ansi(alloc, wasm)?.as_slice() == typed.as_bytes())
+}
+
 #[test]
 fn prints_in_colors(rt: HostRuntime) -> Result<(), Fail> {
     let modules: [(&[u8], &str); 2] = [
@@ -45,8 +50,7 @@ fn prints_in_colors(rt: HostRuntime) -> Result<(), Fail> {
         (&IDENTITY, IDENTITY_COLORED),
     ];
     for (wasm, expected) in modules {
-        let text = Config::new().print_to_ansi(rt.alloc(), wasm)?;
-        assert!(rt; text.as_slice() == expected.as_bytes());
+        assert!(rt; is_colored_as(rt.alloc(), &Config::new(), wasm, expected)?);
     }
     Ok(())
 }
@@ -55,8 +59,7 @@ fn prints_in_colors(rt: HostRuntime) -> Result<(), Fail> {
 fn prints_places_in_colors(rt: HostRuntime) -> Result<(), Fail> {
     let mut config = Config::new();
     config.print_offsets(true);
-    let text = config.print_to_ansi(rt.alloc(), &IDENTITY)?;
-    assert!(rt; text.as_slice() == PLACES_COLORED.as_bytes());
+    assert!(rt; is_colored_as(rt.alloc(), &config, &IDENTITY, PLACES_COLORED)?);
     Ok(())
 }
 
@@ -98,7 +101,7 @@ fn large_colored(alloc: Global) -> Result<String, AllocError> {
 #[test]
 fn prints_a_large_module_in_colors(rt: HostRuntime) -> Result<(), Fail> {
     let wasm = large(rt.alloc())?;
-    let text = Config::new().print_to_ansi(rt.alloc(), &wasm)?;
-    assert!(rt; text.as_slice() == large_colored(rt.alloc())?.as_bytes());
+    let typed = large_colored(rt.alloc())?;
+    assert!(rt; is_colored_as(rt.alloc(), &Config::new(), &wasm, typed.as_str())?);
     Ok(())
 }

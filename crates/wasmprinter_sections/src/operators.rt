@@ -16,7 +16,7 @@ use wasmprinter_text::signature::Signatures;
 /// it and there is a folder. `results` is the number of results of the enclosing function: 0 in a constant expression,
 /// `None` if the function's type is unknown.
 #[tactic(auto, unfolding(wasmprinter_spec::specs::Layout::Functions::body_by))]
-pub fn write_list<O: FoldingOutput, S: Signatures>(
+pub fn write_flat_or_folded<O: FoldingOutput, S: Signatures>(
     out: &mut O,
     setting: &Setting<'_, S>,
     labels: &mut OpenLabels<'_, '_>,

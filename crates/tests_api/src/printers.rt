@@ -1,6 +1,6 @@
 //! Tests of printers: each call on them, the printers over writers, and a user-defined one.
 
-use crate::surface::expecting::{EMPTY, EMPTY_TEXT, expect_text};
+use crate::expecting::{EMPTY, EMPTY_TEXT, expect_text};
 use std::io;
 use std::test::Fail;
 use wasmprinter::laws::text_printers_gain_the_text;

@@ -1,6 +1,6 @@
 //! Tests of names: those of a module with a name in each space, and the words of the spaces.
 
-use crate::surface::expecting::EMPTY;
+use crate::expecting::EMPTY;
 use std::test::Fail;
 use wasmprinter::wasm::{Names, Space, decode};
 
