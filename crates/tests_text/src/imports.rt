@@ -1,8 +1,11 @@
 //! Tests of imports of each kind, and of the numbers of the items defined after them.
 
-use crate::printing::{expect_printed, is_malformed_section, with_sections};
+use crate::printing::Expected::{Malformed, Text};
+use crate::printing::Part::Section;
+use crate::printing::{Row, expect_rows};
 use std::test::Fail;
 use wasmprinter::wasm::decode;
+use wasmprinter_samples::PREAMBLE;
 use wasmprinter_samples::sections::{IMPORT, TYPE};
 
 /// A module with a function type; imports of two functions, a table, a memory, a global and a tag; and one
@@ -25,12 +28,7 @@ const ALL_KINDS: [u8; 93] = [
     0x0a, 0x04, 0x01, 0x02, 0x00, 0x0b, // bodies
 ];
 
-#[test]
-fn numbers_definitions_after_imports(rt: HostRuntime) -> Result<(), Fail> {
-    expect_printed(
-        rt.alloc(),
-        &ALL_KINDS,
-        r#"(module
+const ALL_KINDS_TEXT: &str = r#"(module
   (type (;0;) (func))
   (import "a" "f" (func (;0;) (type 0)))
   (import "a" "t" (table (;0;) 1 2 funcref))
@@ -44,8 +42,64 @@ fn numbers_definitions_after_imports(rt: HostRuntime) -> Result<(), Fail> {
   (global (;1;) i64 i64.const 5)
   (func (;2;) (type 0))
 )
-"#,
-    )
+"#;
+
+const SIGNATURES_TEXT: &str = r#"(module
+  (type (;0;) (func (param i32) (result i64)))
+  (import "" "" (func (;0;) (type 0) (param i32) (result i64)))
+  (import "" "" (tag (;0;) (type 0) (param i32) (result i64)))
+)
+"#;
+
+/// Modules with imports, each with its text or refusal.
+const ROWS: [Row; 6] = [
+    (
+        "definitions after imports",
+        &ALL_KINDS,
+        &[],
+        Text(ALL_KINDS_TEXT),
+    ),
+    (
+        "signatures of imports",
+        &PREAMBLE,
+        &[
+            Section(TYPE, &[0x01, 0x60, 0x01, 0x7f, 0x01, 0x7e]),
+            Section(
+                IMPORT,
+                &[0x02, 0x00, 0x00, 0x00, 0x00, 0x00, 0x00, 0x04, 0x00, 0x00],
+            ),
+        ],
+        Text(SIGNATURES_TEXT),
+    ),
+    (
+        "an unknown kind of import",
+        &PREAMBLE,
+        &[Section(IMPORT, &[0x01, 0x00, 0x00, 0x05, 0x00])],
+        Malformed,
+    ),
+    (
+        "a tag whose attribute is not 0",
+        &PREAMBLE,
+        &[Section(IMPORT, &[0x01, 0x00, 0x00, 0x04, 0x01, 0x00])],
+        Malformed,
+    ),
+    (
+        "a name that is not UTF-8",
+        &PREAMBLE,
+        &[Section(IMPORT, &[0x01, 0x01, 0xff, 0x00, 0x00, 0x00])],
+        Malformed,
+    ),
+    (
+        "a table whose elements are numbers",
+        &PREAMBLE,
+        &[Section(IMPORT, &[0x01, 0x00, 0x00, 0x01, 0x7f, 0x00, 0x00])],
+        Malformed,
+    ),
+];
+
+#[test]
+fn prints_or_refuses_imports(rt: HostRuntime) -> Result<(), Fail> {
+    expect_rows(rt.alloc(), &ROWS)
 }
 
 #[test]
@@ -53,40 +107,5 @@ fn counts_defined_functions_alone(rt: HostRuntime) -> Result<(), Fail> {
     let module = decode(rt.alloc(), &ALL_KINDS)?;
     assert!(rt; module.function_count() == 1);
     assert!(rt; module.body(0).is_some() && module.body(1).is_none());
-    Ok(())
-}
-
-#[test]
-fn prints_signatures_of_imports(rt: HostRuntime) -> Result<(), Fail> {
-    let types = [0x01, 0x60, 0x01, 0x7f, 0x01, 0x7e];
-    let imports = [0x02, 0x00, 0x00, 0x00, 0x00, 0x00, 0x00, 0x04, 0x00, 0x00];
-    let wasm = with_sections(rt.alloc(), (TYPE, &types), (IMPORT, &imports))?;
-    expect_printed(
-        rt.alloc(),
-        &wasm,
-        r#"(module
-  (type (;0;) (func (param i32) (result i64)))
-  (import "" "" (func (;0;) (type 0) (param i32) (result i64)))
-  (import "" "" (tag (;0;) (type 0) (param i32) (result i64)))
-)
-"#,
-    )
-}
-
-#[test]
-fn refuses_other_imports(rt: HostRuntime) -> Result<(), Fail> {
-    let contents: [&[u8]; 4] = [
-        // An unknown kind of import
-        &[0x01, 0x00, 0x00, 0x05, 0x00],
-        // A tag whose attribute is not 0
-        &[0x01, 0x00, 0x00, 0x04, 0x01, 0x00],
-        // A name that is not UTF-8
-        &[0x01, 0x01, 0xff, 0x00, 0x00, 0x00],
-        // A table whose elements are numbers
-        &[0x01, 0x00, 0x00, 0x01, 0x7f, 0x00, 0x00],
-    ];
-    for content in contents {
-        assert!(rt; is_malformed_section(rt.alloc(), IMPORT, content)?);
-    }
     Ok(())
 }

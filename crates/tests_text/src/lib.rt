@@ -5,8 +5,6 @@
 #[cfg(test)]
 mod control;
 #[cfg(test)]
-mod floats;
-#[cfg(test)]
 mod imports;
 #[cfg(test)]
 mod opcode_words;
@@ -19,10 +17,10 @@ mod sections;
 #[cfg(test)]
 mod segments;
 #[cfg(test)]
-mod strings;
-#[cfg(test)]
 mod tables;
 #[cfg(test)]
 mod texts;
 #[cfg(test)]
 mod types;
+#[cfg(test)]
+mod values;

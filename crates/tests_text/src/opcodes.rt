@@ -1,10 +1,27 @@
 //! Tests of all opcodes: the line of each operator, and the numbers of no operator, which are malformed.
 
-use crate::control::{are_malformed, expect_operators, text_of};
 use crate::opcode_words::{Group, INDICES, LANES, MEMORIES, OTHERS, PLAIN};
+use crate::printing::{Part, build, is_malformed};
 use std::alloc::{AllocError, Global};
 use std::num::ParseIntError;
 use std::test::Fail;
+use wasmprinter::{Error, print_bytes};
+use wasmprinter_samples::PREAMBLE;
+use wasmprinter_samples::sections::NO_PARAMS;
+
+/// Returns a module whose function has no parameters and has these operators, of fewer than 100 bytes.
+fn with_operators(alloc: Global, operators: &[u8]) -> Result<Vec<u8>, AllocError> {
+    build(
+        alloc,
+        &PREAMBLE,
+        &[Part::Bytes(&NO_PARAMS), Part::Function(operators)],
+    )
+}
+
+/// Returns the text of that module.
+fn text_of(alloc: Global, operators: &[u8]) -> Result<String, Error> {
+    print_bytes(alloc, &with_operators(alloc, operators)?)
+}
 
 /// Returns the text of a module whose function has these lines.
 fn text_with_lines(alloc: Global, lines: &[&str]) -> Result<String, AllocError> {
@@ -19,16 +36,6 @@ fn text_with_lines(alloc: Global, lines: &[&str]) -> Result<String, AllocError> 
     }
     text.push_str("  )\n)\n")?;
     Ok(text)
-}
-
-/// Checks that operators are printed on these lines.
-///
-/// # Errors
-///
-/// - The operators are refused, or their lines differ.
-fn expect_lines(alloc: Global, operators: &[u8], lines: &[&str]) -> Result<(), Fail> {
-    let typed = text_with_lines(alloc, lines)?;
-    expect_operators(alloc, operators, typed.as_str())
 }
 
 /// Returns the bytes of an opcode: its number alone if it has no prefix, otherwise the prefix and the number.
@@ -86,6 +93,15 @@ fn number_of(prefix: u8, digits: &str) -> Result<u32, ParseIntError> {
     }
 }
 
+/// All groups, each with the name of its test row.
+const GROUPS: [(&str, &[Group]); 5] = [
+    ("operators without immediates", &PLAIN),
+    ("operators on memories", &MEMORIES),
+    ("operators with lanes", &LANES),
+    ("operators with indices", &INDICES),
+    ("operators with types and numbers", &OTHERS),
+];
+
 /// Returns the printed text of the first operator of these groups that is not printed on its line, or `None` if
 /// there is no such operator.
 fn first_fault(alloc: Global, groups: &[Group]) -> Result<Option<String>, Fail> {
@@ -101,37 +117,17 @@ fn first_fault(alloc: Global, groups: &[Group]) -> Result<Option<String>, Fail> 
 }
 
 #[test]
-fn prints_operators_without_immediates(rt: HostRuntime) -> Result<(), Fail> {
-    assert!(rt; first_fault(rt.alloc(), &PLAIN)? == None);
+fn prints_each_operator(rt: HostRuntime) -> Result<(), Fail> {
+    for (name, groups) in GROUPS {
+        let fault = first_fault(rt.alloc(), groups)?;
+        assert!(rt; fault == None, "{name}: {fault:?}");
+    }
     Ok(())
 }
 
-#[test]
-fn prints_operators_on_memories(rt: HostRuntime) -> Result<(), Fail> {
-    assert!(rt; first_fault(rt.alloc(), &MEMORIES)? == None);
-    Ok(())
-}
-
-#[test]
-fn prints_operators_with_lanes(rt: HostRuntime) -> Result<(), Fail> {
-    assert!(rt; first_fault(rt.alloc(), &LANES)? == None);
-    Ok(())
-}
-
-#[test]
-fn prints_operators_with_indices(rt: HostRuntime) -> Result<(), Fail> {
-    assert!(rt; first_fault(rt.alloc(), &INDICES)? == None);
-    Ok(())
-}
-
-#[test]
-fn prints_operators_with_types_and_numbers(rt: HostRuntime) -> Result<(), Fail> {
-    assert!(rt; first_fault(rt.alloc(), &OTHERS)? == None);
-    Ok(())
-}
-
-/// Operators that open, divide and close blocks, each with the lines on which they are printed.
-const BLOCKS: [(&[u8], &[&str]); 6] = [
+/// Operators, each with the lines on which they are printed. The first ones open, divide and close blocks. The others
+/// have other immediates: those that the text leaves out, those that it does not, and longer encodings than needed.
+const OTHER_LINES: [(&[u8], &[&str]); 26] = [
     (&[0x02, 0x40, 0x0b], &["block ;; label = @1", "end"]),
     (&[0x03, 0x40, 0x0b], &["loop ;; label = @1", "end"]),
     (
@@ -150,64 +146,54 @@ const BLOCKS: [(&[u8], &[&str]); 6] = [
         &[0x1f, 0x40, 0x00, 0x0b],
         &["try_table ;; label = @1", "end"],
     ),
-];
-
-/// The opcodes of these operators.
-const BLOCK_OPCODES: [u32; 10] = [0x02, 0x03, 0x04, 0x05, 0x06, 0x07, 0x0b, 0x18, 0x19, 0x1f];
-
-#[test]
-fn prints_operators_of_blocks(rt: HostRuntime) -> Result<(), Fail> {
-    for (operators, lines) in BLOCKS {
-        expect_lines(rt.alloc(), operators, lines)?;
-    }
-    Ok(())
-}
-
-/// Other immediates: those that the text leaves out, those that it does not, and longer encodings than needed.
-const SPECIAL: [(&[u8], &str); 20] = [
-    (&[0x11, 0x00, 0x00], "call_indirect (type 0)"),
-    (&[0x3f, 0x00], "memory.size"),
-    (&[0x40, 0x00], "memory.grow"),
-    (&[0xfc, 0x0b, 0x00], "memory.fill"),
-    (&[0xfc, 0x08, 0x05, 0x00], "memory.init 5"),
-    (&[0xfc, 0x0c, 0x00, 0x00], "table.init 0"),
-    (&[0xfc, 0x0e, 0x00, 0x00], "table.copy"),
-    (&[0xfc, 0x0e, 0x00, 0x01], "table.copy 0 1"),
-    (&[0xfc, 0x0a, 0x01, 0x00], "memory.copy 1 0"),
-    (&[0x1c, 0x00], "select (result)"),
-    (&[0x1c, 0x02, 0x7f, 0x70], "select (result i32 funcref)"),
-    (&[0x28, 0x41, 0x01, 0x04], "i32.load 1 offset=4 align=2"),
-    (&[0x28, 0x42, 0x00, 0x00], "i32.load"),
+    (&[0x11, 0x00, 0x00], &["call_indirect (type 0)"]),
+    (&[0x3f, 0x00], &["memory.size"]),
+    (&[0x40, 0x00], &["memory.grow"]),
+    (&[0xfc, 0x0b, 0x00], &["memory.fill"]),
+    (&[0xfc, 0x08, 0x05, 0x00], &["memory.init 5"]),
+    (&[0xfc, 0x0c, 0x00, 0x00], &["table.init 0"]),
+    (&[0xfc, 0x0e, 0x00, 0x00], &["table.copy"]),
+    (&[0xfc, 0x0e, 0x00, 0x01], &["table.copy 0 1"]),
+    (&[0xfc, 0x0a, 0x01, 0x00], &["memory.copy 1 0"]),
+    (&[0x1c, 0x00], &["select (result)"]),
+    (&[0x1c, 0x02, 0x7f, 0x70], &["select (result i32 funcref)"]),
+    (&[0x28, 0x41, 0x01, 0x04], &["i32.load 1 offset=4 align=2"]),
+    (&[0x28, 0x42, 0x00, 0x00], &["i32.load"]),
     (
         &[0x28, 0xff, 0x00, 0x02, 0x00],
-        "i32.load 2 align=9223372036854775808",
+        &["i32.load 2 align=9223372036854775808"],
     ),
     (
         &[
             0x36, 0x02, 0xff, 0xff, 0xff, 0xff, 0xff, 0xff, 0xff, 0xff, 0xff, 0x01,
         ],
-        "i32.store offset=18446744073709551615",
+        &["i32.store offset=18446744073709551615"],
     ),
     (
         &[0xfd, 0x54, 0x41, 0x01, 0x02, 0x0f],
-        "v128.load8_lane 1 offset=2 align=2 15",
+        &["v128.load8_lane 1 offset=2 align=2 15"],
     ),
     (
         &[0xfb, 0x18, 0x01, 0x00, 0x6e, 0x00],
-        "br_on_cast 0 anyref (ref 0)",
+        &["br_on_cast 0 anyref (ref 0)"],
     ),
-    (&[0xfb, 0x17, 0x00], "ref.cast (ref null 0)"),
-    (&[0xfd, 0x8e, 0x80, 0x80, 0x80, 0x00], "i8x16.swizzle"),
+    (&[0xfb, 0x17, 0x00], &["ref.cast (ref null 0)"]),
+    (&[0xfd, 0x8e, 0x80, 0x80, 0x80, 0x00], &["i8x16.swizzle"]),
     (
         &[0x43, 0x01, 0x00, 0x80, 0xff],
-        "f32.const -nan:0x1 (;=NaN;)",
+        &["f32.const -nan:0x1 (;=NaN;)"],
     ),
 ];
 
+/// The opcodes that open, divide and close blocks.
+const BLOCK_OPCODES: [u32; 10] = [0x02, 0x03, 0x04, 0x05, 0x06, 0x07, 0x0b, 0x18, 0x19, 0x1f];
+
 #[test]
-fn prints_other_immediates(rt: HostRuntime) -> Result<(), Fail> {
-    for (operator, line) in SPECIAL {
-        expect_lines(rt.alloc(), operator, &[line])?;
+fn prints_blocks_and_other_immediates(rt: HostRuntime) -> Result<(), Fail> {
+    for (operators, lines) in OTHER_LINES {
+        let text = text_of(rt.alloc(), operators)?;
+        let typed = text_with_lines(rt.alloc(), lines)?;
+        assert!(rt; text == typed, "{lines:?} is printed as {text}");
     }
     Ok(())
 }
@@ -223,14 +209,6 @@ const MISSPELLED: [&[u8]; 7] = [
     &[0xd0, 0x7f],
     &[0xfd, 0x54, 0x00, 0x00],
 ];
-
-#[test]
-fn refuses_immediates_of_no_operator(rt: HostRuntime) -> Result<(), Fail> {
-    for operator in MISSPELLED {
-        assert!(rt; are_malformed(rt.alloc(), operator)?);
-    }
-    Ok(())
-}
 
 /// The numbers of no operator, below the bounds of `NUMBERS`: the prefix (0 for none), and the first and last
 /// number of a range.
@@ -275,36 +253,23 @@ const ZEROS: [u8; 20] = [0x00; 20];
 fn is_refused(alloc: Global, prefix: u8, number: u32) -> Result<bool, AllocError> {
     let mut bytes = opcode(alloc, prefix, number)?;
     bytes.extend_from_slice(&ZEROS)?;
-    let is_refused_alone = are_malformed(alloc, &bytes)?;
+    let is_refused_alone = is_malformed(alloc, &with_operators(alloc, &bytes)?);
     bytes.push(0x0b)?;
-    Ok(is_refused_alone && are_malformed(alloc, &bytes)?)
+    Ok(is_refused_alone && is_malformed(alloc, &with_operators(alloc, &bytes)?))
 }
 
 #[test]
-fn refuses_each_other_number(rt: HostRuntime) -> Result<(), Fail> {
+fn refuses_other_numbers_and_immediates(rt: HostRuntime) -> Result<(), Fail> {
+    for operator in MISSPELLED {
+        let wasm = with_operators(rt.alloc(), operator)?;
+        assert!(rt; is_malformed(rt.alloc(), &wasm), "{operator:?}");
+    }
     for (prefix, first, last) in UNLISTED {
         for number in first..=last {
-            assert!(rt; is_refused(rt.alloc(), prefix, number)?);
-        }
-    }
-    Ok(())
-}
-
-/// Adds the opcodes of these groups.
-fn add_groups(opcodes: &mut Vec<Code>, alloc: Global, groups: &[Group]) -> Result<(), Fail> {
-    for group in groups {
-        for sample in &samples_of(alloc, group)? {
-            opcodes.push(sample.code)?;
-        }
-    }
-    Ok(())
-}
-
-/// Adds the opcodes that are refused.
-fn add_refused(opcodes: &mut Vec<Code>) -> Result<(), AllocError> {
-    for (prefix, first, last) in UNLISTED {
-        for number in first..=last {
-            opcodes.push((prefix, number))?;
+            assert!(rt;
+                is_refused(rt.alloc(), prefix, number)?,
+                "{prefix:#x} {number:#x}"
+            );
         }
     }
     Ok(())
@@ -316,12 +281,18 @@ fn tested_opcodes(alloc: Global) -> Result<Vec<Code>, Fail> {
     for number in BLOCK_OPCODES {
         opcodes.push((0, number))?;
     }
-    add_groups(&mut opcodes, alloc, &PLAIN)?;
-    add_groups(&mut opcodes, alloc, &MEMORIES)?;
-    add_groups(&mut opcodes, alloc, &LANES)?;
-    add_groups(&mut opcodes, alloc, &INDICES)?;
-    add_groups(&mut opcodes, alloc, &OTHERS)?;
-    add_refused(&mut opcodes)?;
+    for (_, groups) in GROUPS {
+        for group in groups {
+            for sample in &samples_of(alloc, group)? {
+                opcodes.push(sample.code)?;
+            }
+        }
+    }
+    for (prefix, first, last) in UNLISTED {
+        for number in first..=last {
+            opcodes.push((prefix, number))?;
+        }
+    }
     Ok(opcodes)
 }
 
@@ -332,7 +303,7 @@ fn leaves_out_no_number(rt: HostRuntime) -> Result<(), Fail> {
     for (prefix, end) in NUMBERS {
         for number in 0..end {
             let wanted = (prefix, number);
-            assert!(rt; opcodes.iter().any(|code| *code == wanted), "{wanted:?}");
+            assert!(rt; opcodes.contains(&wanted), "{wanted:?}");
         }
     }
     assert!(rt; opcodes.len() == NUMBERS_LEN);

@@ -1,54 +1,123 @@
-//! Helpers shared by the tests of texts: building modules of one or two sections, and printing them.
+//! Helpers shared by the tests of texts: rows of modules, each with its text or refusal, and the loop that checks them.
+//! A failure shows the name of the row.
 
 use std::alloc::{AllocError, Global};
 use std::test::Fail;
 use wasmprinter::{Error, print_bytes};
+use wasmprinter_samples::expect_text;
 use wasmprinter_samples::sections::add_section;
-use wasmprinter_samples::{PREAMBLE, expect_text};
+
+/// A part of a module.
+#[derive(Drop)]
+pub enum Part<'a> {
+    /// These bytes
+    Bytes(&'a [u8]),
+    /// Some of these bytes: the number of those before them, and the most of them
+    Slice(&'a [u8], usize, usize),
+    /// A section with this id and this content, of fewer than 128 bytes
+    Section(u8, &'a [u8]),
+    /// One function of the first type, which has no locals, these operators, and an `end`. The operators have fewer
+    /// than 100 bytes.
+    Function(&'a [u8]),
+}
+
+/// The expected result of printing a module.
+pub enum Expected {
+    /// This text
+    Text(&'static str),
+    /// A refusal as malformed, at a byte offset within the module or at its end
+    Malformed,
+    /// A refusal for a table with an empty initialiser, at this byte offset
+    EmptyTableInit(u64),
+}
+
+/// A module: the name of the row, the bytes that the module begins with, the parts after them, and the expected
+/// result.
+pub type Row = (
+    &'static str,
+    &'static [u8],
+    &'static [Part<'static>],
+    Expected,
+);
+
+/// Returns a module of these bytes, followed by these parts.
+pub fn build(alloc: Global, start: &[u8], parts: &[Part<'_>]) -> Result<Vec<u8>, AllocError> {
+    let mut wasm = Vec::from_slice(alloc, start)?;
+    for part in parts {
+        match part {
+            Part::Bytes(bytes) => wasm.extend_from_slice(bytes)?,
+            Part::Slice(bytes, first, most) => {
+                for byte in bytes.iter().skip(*first).take(*most) {
+                    wasm.push(*byte)?;
+                }
+            }
+            Part::Section(id, content) => add_section(&mut wasm, *id, content)?,
+            Part::Function(operators) => {
+                let size = operators.len().min(100) as u8 + 2;
+                wasm.extend_from_slice(&[0x03, 0x02, 0x01, 0x00])?;
+                wasm.extend_from_slice(&[0x0a, size + 2, 0x01, size, 0x00])?;
+                wasm.extend_from_slice(operators)?;
+                wasm.push(0x0b)?;
+            }
+        }
+    }
+    Ok(wasm)
+}
+
+/// Checks each row.
+///
+/// # Errors
+///
+/// - A module is refused, or is not refused as expected, or its text differs.
+pub fn expect_rows(alloc: Global, rows: &[Row]) -> Result<(), Fail> {
+    for (name, start, parts, expected) in rows {
+        let wasm = build(alloc, start, parts)?;
+        match expected {
+            Expected::Text(typed) => expect_printed(name, alloc, &wasm, typed)?,
+            Expected::Malformed => {
+                if !is_malformed(alloc, &wasm) {
+                    return Err((*name, "is not malformed"))?;
+                }
+            }
+            Expected::EmptyTableInit(offset) => match print_bytes(alloc, &wasm) {
+                Err(Error::EmptyTableInit { place }) if place == *offset => (),
+                _ => return Err((*name, "has no empty initialiser there"))?,
+            },
+        }
+    }
+    Ok(())
+}
+
+/// Checks that a text equals the typed text.
+///
+/// # Errors
+///
+/// - The text differs.
+pub fn expect_same(name: &'static str, text: &str, typed: &str) -> Result<(), Fail> {
+    match expect_text(text, typed) {
+        Ok(()) => Ok(()),
+        Err(different) => Err((name, different))?,
+    }
+}
 
 /// Checks that a module is printed as the typed text.
 ///
 /// # Errors
 ///
 /// - The module is refused, or its text differs.
-pub fn expect_printed(alloc: Global, wasm: &[u8], typed: &str) -> Result<(), Fail> {
-    expect_text(print_bytes(alloc, wasm)?.as_str(), typed)?;
-    Ok(())
+pub fn expect_printed(
+    name: &'static str,
+    alloc: Global,
+    wasm: &[u8],
+    typed: &str,
+) -> Result<(), Fail> {
+    match print_bytes(alloc, wasm) {
+        Ok(text) => expect_same(name, text.as_str(), typed),
+        Err(error) => Err((name, error))?,
+    }
 }
 
 /// Reports whether a module is refused as malformed, at a byte offset within it or at its end.
 pub fn is_malformed(alloc: Global, wasm: &[u8]) -> bool {
     matches!(print_bytes(alloc, wasm), Err(Error::Malformed { place }) if place <= wasm.len() as u64)
-}
-
-/// Returns a module with one section.
-pub fn with_section(alloc: Global, id: u8, content: &[u8]) -> Result<Vec<u8>, AllocError> {
-    let mut wasm = Vec::from_slice(alloc, &PREAMBLE)?;
-    add_section(&mut wasm, id, content)?;
-    Ok(wasm)
-}
-
-/// Returns a module with two sections.
-pub fn with_sections(
-    alloc: Global,
-    first: (u8, &[u8]),
-    second: (u8, &[u8]),
-) -> Result<Vec<u8>, AllocError> {
-    let mut wasm = with_section(alloc, first.0, first.1)?;
-    add_section(&mut wasm, second.0, second.1)?;
-    Ok(wasm)
-}
-
-/// Checks that a module with one section is printed as the typed text.
-///
-/// # Errors
-///
-/// - The module is refused, or its text differs.
-pub fn expect_section(alloc: Global, id: u8, content: &[u8], typed: &str) -> Result<(), Fail> {
-    expect_printed(alloc, &with_section(alloc, id, content)?, typed)
-}
-
-/// Reports whether a module with one section is refused as malformed.
-pub fn is_malformed_section(alloc: Global, id: u8, content: &[u8]) -> Result<bool, AllocError> {
-    Ok(is_malformed(alloc, &with_section(alloc, id, content)?))
 }

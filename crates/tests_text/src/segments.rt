@@ -1,10 +1,10 @@
 //! Tests of element and data segments: texts of modules with one section, and refusals.
 
-use crate::printing::{
-    expect_printed, expect_section, is_malformed, is_malformed_section, with_sections,
-};
-use std::alloc::{AllocError, Global};
+use crate::printing::Expected::{Malformed, Text};
+use crate::printing::Part::Section;
+use crate::printing::{Row, expect_rows};
 use std::test::Fail;
+use wasmprinter_samples::PREAMBLE;
 use wasmprinter_samples::sections::{DATA, DATA_COUNT, ELEMENT};
 
 /// An element segment for each value of the flags.
@@ -20,13 +20,7 @@ const ELEMENTS: [u8; 58] = [
     0x07, 0x70, 0x02, 0x0b, 0x41, 0x00, 0x1a, 0x0b, // declared, with items of no operator and of two
 ];
 
-#[test]
-fn prints_each_element_segment(rt: HostRuntime) -> Result<(), Fail> {
-    expect_section(
-        rt.alloc(),
-        ELEMENT,
-        &ELEMENTS,
-        r#"(module
+const ELEMENTS_TEXT: &str = r#"(module
   (elem (;0;) (i32.const 1) func 0 1)
   (elem (;1;) func 0)
   (elem (;2;) (table 1) (i32.const 0) func 0)
@@ -36,35 +30,45 @@ fn prints_each_element_segment(rt: HostRuntime) -> Result<(), Fail> {
   (elem (;6;) (table 0) (i32.const 0) externref (ref.null extern))
   (elem (;7;) declare funcref (item ) (item i32.const 0 drop))
 )
-"#,
-    )
-}
+"#;
+
+/// Element sections, each with the text of its module or its refusal.
+const ELEMENT_SECTIONS: [Row; 5] = [
+    (
+        "each kind of element segment",
+        &PREAMBLE,
+        &[Section(ELEMENT, &ELEMENTS)],
+        Text(ELEMENTS_TEXT),
+    ),
+    (
+        "a segment of no functions with its table",
+        &PREAMBLE,
+        &[Section(ELEMENT, &[0x01, 0x02, 0x00, 0x41, 0x00, 0x0b, 0x00, 0x00])],
+        Text("(module\n  (elem (;0;) (table 0) (i32.const 0) func)\n)\n"),
+    ),
+    (
+        "flags above 7",
+        &PREAMBLE,
+        &[Section(ELEMENT, &[0x01, 0x08, 0x00, 0x00])],
+        Malformed,
+    ),
+    (
+        "an element kind that is not 0, that of functions",
+        &PREAMBLE,
+        &[Section(ELEMENT, &[0x01, 0x01, 0x01, 0x00])],
+        Malformed,
+    ),
+    (
+        "elements of a number type",
+        &PREAMBLE,
+        &[Section(ELEMENT, &[0x01, 0x05, 0x7f, 0x00])],
+        Malformed,
+    ),
+];
 
 #[test]
-fn prints_a_segment_of_no_functions_with_its_table(rt: HostRuntime) -> Result<(), Fail> {
-    let content = [0x01, 0x02, 0x00, 0x41, 0x00, 0x0b, 0x00, 0x00];
-    expect_section(
-        rt.alloc(),
-        ELEMENT,
-        &content,
-        "(module\n  (elem (;0;) (table 0) (i32.const 0) func)\n)\n",
-    )
-}
-
-#[test]
-fn refuses_other_element_segments(rt: HostRuntime) -> Result<(), Fail> {
-    let contents: [&[u8]; 3] = [
-        // Flags above 7
-        &[0x01, 0x08, 0x00, 0x00],
-        // An element kind that is not 0, that of functions
-        &[0x01, 0x01, 0x01, 0x00],
-        // Elements of a number type
-        &[0x01, 0x05, 0x7f, 0x00],
-    ];
-    for content in contents {
-        assert!(rt; is_malformed_section(rt.alloc(), ELEMENT, content)?);
-    }
-    Ok(())
+fn prints_or_refuses_element_segments(rt: HostRuntime) -> Result<(), Fail> {
+    expect_rows(rt.alloc(), &ELEMENT_SECTIONS)
 }
 
 /// A data segment for each value of the flags, and three more that are active.
@@ -78,13 +82,7 @@ const DATAS: [u8; 42] = [
     0x00, 0x0b, 0x00, // at an offset without operators
 ];
 
-#[test]
-fn prints_each_data_segment(rt: HostRuntime) -> Result<(), Fail> {
-    expect_section(
-        rt.alloc(),
-        DATA,
-        &DATAS,
-        r#"(module
+const DATAS_TEXT: &str = r#"(module
   (data (;0;) (i32.const 8) "a\22\5c\00\ff")
   (data (;1;) "")
   (data (;2;) (memory 1) (i32.const 0) "~")
@@ -92,41 +90,65 @@ fn prints_each_data_segment(rt: HostRuntime) -> Result<(), Fail> {
   (data (;4;) (offset global.get 0 i32.const 2 i32.add) "\c3\a4\0a ")
   (data (;5;) (offset ) "")
 )
-"#,
-    )
-}
-
-#[test]
-fn refuses_other_data_segments(rt: HostRuntime) -> Result<(), Fail> {
-    let contents: [&[u8]; 2] = [
-        // Flags above 2
-        &[0x01, 0x03, 0x00],
-        // A length that exceeds the section
-        &[0x01, 0x01, 0x02, 0x00],
-    ];
-    for content in contents {
-        assert!(rt; is_malformed_section(rt.alloc(), DATA, content)?);
-    }
-    Ok(())
-}
+"#;
 
 /// A data section with one segment, which is passive and empty.
 const ONE: [u8; 3] = [0x01, 0x01, 0x00];
 
-/// Returns a module with this count of data segments, and one data segment.
-fn with_count(alloc: Global, count: u8) -> Result<Vec<u8>, AllocError> {
-    with_sections(alloc, (DATA_COUNT, &[count]), (DATA, &ONE))
-}
+/// Data sections and counts of data segments, each with the text of its module or its refusal.
+const DATA_SECTIONS: [Row; 8] = [
+    (
+        "each kind of data segment",
+        &PREAMBLE,
+        &[Section(DATA, &DATAS)],
+        Text(DATAS_TEXT),
+    ),
+    (
+        "flags above 2",
+        &PREAMBLE,
+        &[Section(DATA, &[0x01, 0x03, 0x00])],
+        Malformed,
+    ),
+    (
+        "a length that exceeds the section",
+        &PREAMBLE,
+        &[Section(DATA, &[0x01, 0x01, 0x02, 0x00])],
+        Malformed,
+    ),
+    (
+        "a count of 1 for one segment",
+        &PREAMBLE,
+        &[Section(DATA_COUNT, &[1]), Section(DATA, &ONE)],
+        Text("(module\n  (data (;0;) \"\")\n)\n"),
+    ),
+    (
+        "a count of 0 for one segment",
+        &PREAMBLE,
+        &[Section(DATA_COUNT, &[0]), Section(DATA, &ONE)],
+        Malformed,
+    ),
+    (
+        "a count of 2 for one segment",
+        &PREAMBLE,
+        &[Section(DATA_COUNT, &[2]), Section(DATA, &ONE)],
+        Malformed,
+    ),
+    // A count without a data section must be 0.
+    (
+        "a count of 0 without a data section",
+        &PREAMBLE,
+        &[Section(DATA_COUNT, &[0x00])],
+        Text("(module)\n"),
+    ),
+    (
+        "a count of 1 without a data section",
+        &PREAMBLE,
+        &[Section(DATA_COUNT, &[0x01])],
+        Malformed,
+    ),
+];
 
 #[test]
-fn compares_the_count_of_data_segments(rt: HostRuntime) -> Result<(), Fail> {
-    let typed = "(module\n  (data (;0;) \"\")\n)\n";
-    expect_printed(rt.alloc(), &with_count(rt.alloc(), 1)?, typed)?;
-    for count in [0, 2] {
-        assert!(rt; is_malformed(rt.alloc(), &with_count(rt.alloc(), count)?));
-    }
-    // A count without a data section must be 0.
-    expect_section(rt.alloc(), DATA_COUNT, &[0x00], "(module)\n")?;
-    assert!(rt; is_malformed_section(rt.alloc(), DATA_COUNT, &[0x01])?);
-    Ok(())
+fn prints_or_refuses_data_segments(rt: HostRuntime) -> Result<(), Fail> {
+    expect_rows(rt.alloc(), &DATA_SECTIONS)
 }

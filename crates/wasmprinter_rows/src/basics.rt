@@ -1,16 +1,10 @@
-//! Texts of the smallest modules with each option, of their truncated and damaged forms, and of components.
+//! Texts of the smallest modules with each option, and of their prefixes.
 
-use crate::expecting::{
-    expect_folded, expect_printed, expect_printed_by, is_malformed, is_printed_as,
-};
-use crate::modules::whole::{
-    BODY_MISSING, BODY_WITHOUT_END, COMPONENT, EMPTY, IDENTITY, MINUS_ONE, SIZE_IN_SIX_BYTES,
-    SIZE_IN_TWO_BYTES, TOO_MANY_LOCALS,
-};
+use crate::expecting::{Options, Row, Text, expect_rows, is_malformed, is_printed_as};
+use crate::modules::sections::RECURSION_GROUP;
+use crate::modules::whole::{EMPTY, IDENTITY, MINUS_ONE, SIZE_IN_TWO_BYTES};
 use std::alloc::Global;
 use std::test::Fail;
-use wasmprinter::wasm::decode;
-use wasmprinter::{Config, Error, print_bytes};
 
 /// The text of `IDENTITY`.
 const IDENTITY_TEXT: &str = r#"(module
@@ -22,25 +16,40 @@ const IDENTITY_TEXT: &str = r#"(module
 )
 "#;
 
-#[test]
-fn prints_a_module_without_sections(rt: HostRuntime) -> Result<(), Fail> {
-    expect_printed(rt.alloc(), EMPTY, "(module)\n")?;
-    let mut config = Config::new();
-    config.print_offsets(true);
-    expect_printed_by(rt.alloc(), &config, EMPTY, "(module\n(;@8     ;))\n")
-}
+/// The text of `IDENTITY` without its body.
+const SKELETON_TEXT: &str = r#"(module
+  (type (;0;) (func (param i32) (result i32)))
+  (export "f" (func 0))
+  (func (;0;) (type 0) (param i32) (result i32) ...)
+)
+"#;
 
-#[test]
-fn prints_a_function(rt: HostRuntime) -> Result<(), Fail> {
-    expect_printed(rt.alloc(), IDENTITY, IDENTITY_TEXT)
-}
-
-#[test]
-fn prints_a_function_with_a_local(rt: HostRuntime) -> Result<(), Fail> {
-    expect_printed(
-        rt.alloc(),
-        MINUS_ONE,
-        r#"(module
+/// Small modules with default options, and some with each other option.
+const ROWS: [Row; 12] = [
+    Row {
+        name: "a module without sections",
+        options: Options::Default,
+        wasm: EMPTY,
+        text: Text::Whole("(module)\n"),
+    },
+    Row {
+        name: "a module without sections, with offsets",
+        options: Options::Offsets,
+        wasm: EMPTY,
+        text: Text::Whole("(module\n(;@8     ;))\n"),
+    },
+    Row {
+        name: "a function",
+        options: Options::Default,
+        wasm: IDENTITY,
+        text: Text::Whole(IDENTITY_TEXT),
+    },
+    Row {
+        name: "a function with a local",
+        options: Options::Default,
+        wasm: MINUS_ONE,
+        text: Text::Whole(
+            r#"(module
   (type (;0;) (func (result i64)))
   (func (;0;) (type 0) (result i64)
     (local i64)
@@ -50,30 +59,26 @@ fn prints_a_function_with_a_local(rt: HostRuntime) -> Result<(), Fail> {
   )
 )
 "#,
-    )
-}
-
-#[test]
-fn prints_no_body_in_a_skeleton(rt: HostRuntime) -> Result<(), Fail> {
-    let text = r#"(module
-  (type (;0;) (func (param i32) (result i32)))
-  (export "f" (func 0))
-  (func (;0;) (type 0) (param i32) (result i32) ...)
-)
-"#;
-    let mut config = Config::new();
-    config.print_skeleton(true);
-    expect_printed_by(rt.alloc(), &config, IDENTITY, text)?;
-    config.fold_instructions(true);
-    expect_printed_by(rt.alloc(), &config, IDENTITY, text)
-}
-
-#[test]
-fn prints_a_function_folded(rt: HostRuntime) -> Result<(), Fail> {
-    expect_folded(
-        rt.alloc(),
-        IDENTITY,
-        r#"(module
+        ),
+    },
+    Row {
+        name: "no body in a skeleton",
+        options: Options::Skeleton,
+        wasm: IDENTITY,
+        text: Text::Whole(SKELETON_TEXT),
+    },
+    Row {
+        name: "no body in a folded skeleton",
+        options: Options::FoldedSkeleton,
+        wasm: IDENTITY,
+        text: Text::Whole(SKELETON_TEXT),
+    },
+    Row {
+        name: "a function folded",
+        options: Options::Folded,
+        wasm: IDENTITY,
+        text: Text::Whole(
+            r#"(module
   (type (;0;) (func (param i32) (result i32)))
   (export "f" (func 0))
   (func (;0;) (type 0) (param i32) (result i32)
@@ -81,18 +86,14 @@ fn prints_a_function_folded(rt: HostRuntime) -> Result<(), Fail> {
   )
 )
 "#,
-    )
-}
-
-#[test]
-fn prints_offsets_before_lines(rt: HostRuntime) -> Result<(), Fail> {
-    let mut config = Config::new();
-    config.print_offsets(true);
-    expect_printed_by(
-        rt.alloc(),
-        &config,
-        IDENTITY,
-        r#"(module
+        ),
+    },
+    Row {
+        name: "offsets before lines",
+        options: Options::Offsets,
+        wasm: IDENTITY,
+        text: Text::Whole(
+            r#"(module
 (;@b     ;)  (type (;0;) (func (param i32) (result i32)))
 (;@17    ;)  (export "f" (func 0))
 (;@1f    ;)  (func (;0;) (type 0) (param i32) (result i32)
@@ -100,18 +101,14 @@ fn prints_offsets_before_lines(rt: HostRuntime) -> Result<(), Fail> {
 (;@22    ;)  )
 (;@23    ;))
 "#,
-    )
-}
-
-#[test]
-fn prints_synthesized_identifiers(rt: HostRuntime) -> Result<(), Fail> {
-    let mut config = Config::new();
-    config.name_unnamed(true);
-    expect_printed_by(
-        rt.alloc(),
-        &config,
-        IDENTITY,
-        r#"(module
+        ),
+    },
+    Row {
+        name: "synthesized identifiers",
+        options: Options::Synthesized,
+        wasm: IDENTITY,
+        text: Text::Whole(
+            r#"(module
   (type $#type0 (;0;) (func (param i32) (result i32)))
   (export "f" (func $#func0))
   (func $#func0 (;0;) (type $#type0) (param $#local0 i32) (result i32)
@@ -119,18 +116,14 @@ fn prints_synthesized_identifiers(rt: HostRuntime) -> Result<(), Fail> {
   )
 )
 "#,
-    )
-}
-
-#[test]
-fn prints_no_spaces_for_an_empty_indent(rt: HostRuntime) -> Result<(), Fail> {
-    let mut config = Config::new();
-    config.indent_text(String::new(rt.alloc()));
-    expect_printed_by(
-        rt.alloc(),
-        &config,
-        IDENTITY,
-        r#"(module
+        ),
+    },
+    Row {
+        name: "no spaces for an empty indent",
+        options: Options::Unindented,
+        wasm: IDENTITY,
+        text: Text::Whole(
+            r#"(module
 (type (;0;) (func (param i32) (result i32)))
 (export "f" (func 0))
 (func (;0;) (type 0) (param i32) (result i32)
@@ -138,26 +131,43 @@ local.get 0
 )
 )
 "#,
-    )
+        ),
+    },
+    Row {
+        name: "accepts a size in two bytes",
+        options: Options::Default,
+        wasm: SIZE_IN_TWO_BYTES,
+        text: Text::Whole(IDENTITY_TEXT),
+    },
+    Row {
+        name: "spaces for a line without a place",
+        options: Options::Offsets,
+        wasm: RECURSION_GROUP,
+        text: Text::Whole(
+            r#"(module
+(;@b     ;)  (rec
+(;@d     ;)    (type (;0;) (func))
+             )
+(;@10    ;))
+"#,
+        ),
+    },
+];
+
+#[test]
+fn prints_small_modules_with_each_option(rt: HostRuntime) -> Result<(), Fail> {
+    expect_rows(rt.alloc(), &ROWS)
 }
 
 /// The text of the first section of `IDENTITY` alone.
 const TYPE_TEXT: &str = "(module\n  (type (;0;) (func (param i32) (result i32)))\n)\n";
 
-/// Returns the text of the first `len` bytes of `IDENTITY`, or `None` if they do not encode a module.
-fn text_of_prefix(len: usize) -> Option<&'static str> {
-    match len {
-        8 => Some("(module)\n"),
-        16 => Some(TYPE_TEXT),
-        _ => None,
-    }
-}
-
 /// Returns whether a prefix of `IDENTITY` is printed as its text, or is refused as malformed if it has no text.
 fn is_printed_or_refused(alloc: Global, prefix: &[u8]) -> bool {
-    match text_of_prefix(prefix.len()) {
-        Some(text) => is_printed_as(alloc, prefix, text),
-        None => is_malformed(alloc, prefix),
+    match prefix.len() {
+        8 => is_printed_as(alloc, prefix, "(module)\n"),
+        16 => is_printed_as(alloc, prefix, TYPE_TEXT),
+        _ => is_malformed(alloc, prefix),
     }
 }
 
@@ -169,39 +179,4 @@ fn prints_two_prefixes_and_refuses_the_others(rt: HostRuntime) {
             "at length {len}"
         );
     }
-}
-
-#[test]
-fn refuses_a_body_without_end(rt: HostRuntime) {
-    assert!(rt; is_malformed(rt.alloc(), BODY_WITHOUT_END));
-}
-
-#[test]
-fn refuses_components(rt: HostRuntime) {
-    let refused = print_bytes(rt.alloc(), COMPONENT);
-    assert!(rt; matches!(refused, Err(Error::Component)));
-    assert!(rt; is_malformed(rt.alloc(), &EMPTY[..7]));
-}
-
-#[test]
-fn accepts_a_size_in_two_bytes(rt: HostRuntime) -> Result<(), Fail> {
-    expect_printed(rt.alloc(), SIZE_IN_TWO_BYTES, IDENTITY_TEXT)
-}
-
-#[test]
-fn refuses_a_size_in_six_bytes(rt: HostRuntime) {
-    assert!(rt; is_malformed(rt.alloc(), SIZE_IN_SIX_BYTES));
-}
-
-#[test]
-fn refuses_a_function_with_too_many_locals(rt: HostRuntime) {
-    let refused = print_bytes(rt.alloc(), TOO_MANY_LOCALS);
-    assert!(rt; matches!(refused, Err(Error::TooManyLocals { place: 22 })));
-    let refused = decode(rt.alloc(), TOO_MANY_LOCALS);
-    assert!(rt; matches!(refused, Err(Error::TooManyLocals { place: 22 })));
-}
-
-#[test]
-fn refuses_a_function_without_a_body(rt: HostRuntime) {
-    assert!(rt; is_malformed(rt.alloc(), BODY_MISSING));
 }

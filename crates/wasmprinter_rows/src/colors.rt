@@ -1,31 +1,19 @@
 //! Texts with ANSI escape sequences.
 
-use crate::expecting::{folding, print_to};
+use crate::expecting::{Options, print_to};
 use crate::modules::control::EMPTY_BLOCK;
 use crate::modules::operators::DROPPED_CONSTANT;
 use crate::modules::whole::EMPTY;
 use std::alloc::Global;
-use std::test::Fail;
 use wasmprinter::print::Ansi;
-use wasmprinter::{Config, Error, PrintTermcolor};
+use wasmprinter::{Error, PrintTermcolor};
 
-/// Prints a module to a printer that writes ANSI escape sequences.
-fn ansi_text(alloc: Global, config: &Config, wasm: &[u8]) -> Result<Vec<u8>, Error> {
-    let mut printer = PrintTermcolor(Ansi::new(Vec::new(alloc)));
-    print_to(config, alloc, wasm, &mut printer)?;
-    Ok(printer.0.into_inner())
-}
-
-/// Returns whether a module is printed as this text.
-fn is_colored_as(alloc: Global, config: &Config, wasm: &[u8], text: &str) -> Result<bool, Error> {
-    Ok(ansi_text(alloc, config, wasm)?.as_slice() == text.as_bytes())
-}
-
-#[test]
-fn colors_a_keyword(rt: HostRuntime) -> Result<(), Fail> {
-    let text = "(\x1b[0m\x1b[1m\x1b[38;5;11mmodule\x1b[0m)\n";
-    assert!(rt; is_colored_as(rt.alloc(), &Config::new(), EMPTY, text)?);
-    Ok(())
+/// A module with options, and its text with ANSI escape sequences.
+struct Colored {
+    name: &'static str,
+    options: Options,
+    wasm: &'static [u8],
+    text: &'static str,
 }
 
 /// The text of a function with a constant that is dropped.
@@ -39,19 +27,6 @@ const DROPPED_CONSTANT_TEXT: &str = "(\x1b[0m\x1b[1m\x1b[38;5;11mmodule\x1b[0m
 )
 ";
 
-#[test]
-fn colors_the_number_of_a_folded_constant(rt: HostRuntime) -> Result<(), Fail> {
-    assert!(rt;
-        is_colored_as(
-            rt.alloc(),
-            &folding(),
-            DROPPED_CONSTANT,
-            DROPPED_CONSTANT_TEXT
-        )?
-    );
-    Ok(())
-}
-
 /// The text of a function with an empty block.
 const EMPTY_BLOCK_TEXT: &str = "(\x1b[0m\x1b[1m\x1b[38;5;11mmodule\x1b[0m
   (\x1b[0m\x1b[1m\x1b[38;5;11mtype \x1b[0m\x1b[0m\x1b[35m(;0;)\x1b[0m (\x1b[0m\x1b[1m\x1b[38;5;11mfunc\x1b[0m))
@@ -63,8 +38,39 @@ const EMPTY_BLOCK_TEXT: &str = "(\x1b[0m\x1b[1m\x1b[38;5;11mmodule\x1b[0m
 )
 ";
 
+/// Modules of which a keyword, a number and a comment have colors.
+const ROWS: [Colored; 3] = [
+    Colored {
+        name: "a keyword",
+        options: Options::Default,
+        wasm: EMPTY,
+        text: "(\x1b[0m\x1b[1m\x1b[38;5;11mmodule\x1b[0m)\n",
+    },
+    Colored {
+        name: "the number of a folded constant",
+        options: Options::Folded,
+        wasm: DROPPED_CONSTANT,
+        text: DROPPED_CONSTANT_TEXT,
+    },
+    Colored {
+        name: "the label comment of a folded block",
+        options: Options::Folded,
+        wasm: EMPTY_BLOCK,
+        text: EMPTY_BLOCK_TEXT,
+    },
+];
+
+/// Returns whether the module of a row is printed as its text.
+fn is_colored(alloc: Global, row: &Colored) -> Result<bool, Error> {
+    let mut printer = PrintTermcolor(Ansi::new(Vec::new(alloc)));
+    print_to(&row.options.config(alloc), alloc, row.wasm, &mut printer)?;
+    Ok(printer.0.into_inner().as_slice() == row.text.as_bytes())
+}
+
 #[test]
-fn colors_the_label_comment_of_a_folded_block(rt: HostRuntime) -> Result<(), Fail> {
-    assert!(rt; is_colored_as(rt.alloc(), &folding(), EMPTY_BLOCK, EMPTY_BLOCK_TEXT)?);
-    Ok(())
+fn colors_keywords_numbers_and_comments(rt: HostRuntime) {
+    for row in &ROWS {
+        let name = row.name;
+        assert!(rt; matches!(is_colored(rt.alloc(), row), Ok(true)), "{name}");
+    }
 }

@@ -1,11 +1,10 @@
 //! Branch hints: before their operators, flat and folded, and hints that no operator takes.
 
-use crate::expecting::{expect_folded, expect_printed, folding};
+use crate::expecting::{Options, Row, Text, expect_rows};
 use crate::modules::customs::{
-    HINT_OF_NO_OPERATOR, HINT_OF_VALUE_TWO, HINTED_BLOCK, HINTED_IF, HINTS_OUT_OF_ORDER, TWO_HINTS,
+    HINT_OF_NO_OPERATOR, HINT_OF_VALUE_TWO, HINTED_IF, HINTS_OUT_OF_ORDER, TWO_HINTS,
 };
 use std::test::Fail;
-use wasmprinter::Error;
 
 /// The text of a function with a hint before its `if`.
 const LIKELY_TEXT: &str = r#"(module
@@ -30,17 +29,20 @@ const UNHINTED_TEXT: &str = r#"(module
 )
 "#;
 
-#[test]
-fn prints_a_hint_before_its_operator(rt: HostRuntime) -> Result<(), Fail> {
-    expect_printed(rt.alloc(), HINTED_IF, LIKELY_TEXT)
-}
-
-#[test]
-fn prints_a_hint_before_the_group_of_its_operator(rt: HostRuntime) -> Result<(), Fail> {
-    expect_folded(
-        rt.alloc(),
-        HINTED_IF,
-        r#"(module
+/// Functions with branch hints.
+const ROWS: [Row; 6] = [
+    Row {
+        name: "a hint before its operator",
+        options: Options::Default,
+        wasm: HINTED_IF,
+        text: Text::Whole(LIKELY_TEXT),
+    },
+    Row {
+        name: "a hint before the group of its operator",
+        options: Options::Folded,
+        wasm: HINTED_IF,
+        text: Text::Whole(
+            r#"(module
   (type (;0;) (func (param i32)))
   (func (;0;) (type 0) (param i32)
     (@metadata.code.branch_hint "\01")
@@ -50,31 +52,35 @@ fn prints_a_hint_before_the_group_of_its_operator(rt: HostRuntime) -> Result<(),
   )
 )
 "#,
-    )
-}
+        ),
+    },
+    Row {
+        name: "ignores hints if a value is not defined",
+        options: Options::Default,
+        wasm: HINT_OF_VALUE_TWO,
+        text: Text::Whole(UNHINTED_TEXT),
+    },
+    Row {
+        name: "ignores a hint for an earlier operator",
+        options: Options::Default,
+        wasm: HINTS_OUT_OF_ORDER,
+        text: Text::Whole(LIKELY_TEXT),
+    },
+    Row {
+        name: "ignores hints after one for no operator",
+        options: Options::Default,
+        wasm: HINT_OF_NO_OPERATOR,
+        text: Text::Whole(UNHINTED_TEXT),
+    },
+    Row {
+        name: "the first of two hints for an operator",
+        options: Options::Default,
+        wasm: TWO_HINTS,
+        text: Text::Whole(LIKELY_TEXT),
+    },
+];
 
 #[test]
-fn ignores_hints_if_a_value_is_not_defined(rt: HostRuntime) -> Result<(), Fail> {
-    expect_printed(rt.alloc(), HINT_OF_VALUE_TWO, UNHINTED_TEXT)
-}
-
-#[test]
-fn refuses_to_fold_a_hint_of_a_block(rt: HostRuntime) {
-    let refused = folding().print_to_string(rt.alloc(), HINTED_BLOCK);
-    assert!(rt; matches!(refused, Err(Error::FoldHint { place: 49 })));
-}
-
-#[test]
-fn ignores_a_hint_for_an_earlier_operator(rt: HostRuntime) -> Result<(), Fail> {
-    expect_printed(rt.alloc(), HINTS_OUT_OF_ORDER, LIKELY_TEXT)
-}
-
-#[test]
-fn ignores_hints_after_one_for_no_operator(rt: HostRuntime) -> Result<(), Fail> {
-    expect_printed(rt.alloc(), HINT_OF_NO_OPERATOR, UNHINTED_TEXT)
-}
-
-#[test]
-fn prints_the_first_of_two_hints_for_an_operator(rt: HostRuntime) -> Result<(), Fail> {
-    expect_printed(rt.alloc(), TWO_HINTS, LIKELY_TEXT)
+fn prints_hints_of_operators_and_ignores_others(rt: HostRuntime) -> Result<(), Fail> {
+    expect_rows(rt.alloc(), &ROWS)
 }

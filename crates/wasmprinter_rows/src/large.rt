@@ -1,11 +1,10 @@
-//! Large modules: many locals, long chains of operands, deep nesting and many functions. The expected texts are
-//! built line by line.
+//! Large modules: many locals, long chains of operands, deep nesting and many functions. Modules consist of runs of
+//! bytes, and the expected texts of pieces.
 
-use crate::expecting::{expect_folded, expect_printed};
+use crate::expecting::{Options, print_by};
 use crate::modules::whole::MOST_LOCALS;
 use std::alloc::{AllocError, Global};
 use std::test::Fail;
-use wasmprinter::print_bytes;
 use wasmprinter_samples::{PREAMBLE, expect_text};
 
 /// The number of locals of the function of `MOST_LOCALS`.
@@ -13,6 +12,9 @@ const LOCALS: u32 = 50_000;
 
 /// The number of operators or blocks of a body.
 const MANY: u32 = 100_000;
+
+/// The number of blocks around the innermost one.
+const AROUND_INNERMOST: u32 = 99_999;
 
 /// The number of functions of a module.
 const FUNCTIONS: u32 = 20_000;
@@ -29,6 +31,52 @@ const START: &str = "(module\n  (type (;0;) (func))\n  (func (;0;) (type 0)";
 /// The text after the last line of the function.
 const END: &str = "\n  )\n)\n";
 
+/// The exclusive upper bound of the length of a text, in bytes.
+const LIMIT: usize = 500_000_000;
+
+/// Bytes, and the number of their repetitions.
+struct Run {
+    bytes: &'static [u8],
+    count: u32,
+}
+
+/// A part of an expected text.
+enum Piece {
+    /// A text.
+    Text(&'static str),
+    /// A text, and the number of its repetitions.
+    Repeated(&'static str, u32),
+    /// A line, and the number of blocks or operators around it.
+    Line(&'static str, u32),
+    /// The first line of each of many operators, from the outermost to the innermost.
+    Operators(&'static str),
+    /// The first line of each of many blocks, from the outermost to the innermost. Its label follows the word.
+    Blocks(&'static str),
+    /// The last line of each of many blocks, from the innermost to the outermost.
+    Ends,
+    /// The text of each function, whose operators have these lines.
+    Functions(&'static str),
+}
+
+/// A large module with options, and its text.
+struct Large {
+    name: &'static str,
+    options: Options,
+    wasm: &'static [Run],
+    text: &'static [Piece],
+}
+
+/// Returns a module that consists of these runs of bytes.
+fn module_of(alloc: Global, runs: &[Run]) -> Result<Vec<u8>, AllocError> {
+    let mut wasm = Vec::new(alloc);
+    for run in runs {
+        for _ in 0..run.count {
+            wasm.extend_from_slice(run.bytes)?;
+        }
+    }
+    Ok(wasm)
+}
+
 /// Appends a text `count` times.
 fn add_repeated(text: &mut String, piece: &str, count: u32) -> Result<(), AllocError> {
     for _ in 0..count {
@@ -37,68 +85,94 @@ fn add_repeated(text: &mut String, piece: &str, count: u32) -> Result<(), AllocE
     Ok(())
 }
 
-/// Appends a line feed, the indent of a nesting depth, and the text of a line.
-fn add_line(text: &mut String, depth: u32, line: &str) -> Result<(), AllocError> {
+/// Appends a line feed, the indent of a line with `outer` blocks or operators around it, and the text of the line.
+fn add_line(text: &mut String, outer: u32, line: &str) -> Result<(), AllocError> {
+    let depth = BODY_DEPTH.saturating_add(outer);
     text.push_str("\n")?;
     add_repeated(text, "  ", depth.min(MOST_INDENTED))?;
     text.push_str(line)
 }
 
-/// Returns the nesting depth of an operator or block of a body, given the number of blocks and operators around it.
-fn depth_within(outer: u32) -> u32 {
-    BODY_DEPTH.saturating_add(outer)
-}
-
-/// Bytes, and the number of their repetitions.
-struct Run {
-    bytes: &'static [u8],
-    count: u32,
-}
-
-impl Run {
-    /// Adds the bytes to a module.
-    fn add_to(&self, wasm: &mut Vec<u8>) -> Result<(), AllocError> {
-        for _ in 0..self.count {
-            wasm.extend_from_slice(self.bytes)?;
-        }
-        Ok(())
-    }
-}
-
-/// Adds runs of bytes to a module.
-fn add_runs(wasm: &mut Vec<u8>, runs: &[Run]) -> Result<(), AllocError> {
-    for run in runs {
-        run.add_to(wasm)?;
+/// Appends the first line of each operator, from the outermost to the innermost.
+fn add_operators(text: &mut String, line: &str) -> Result<(), AllocError> {
+    for outer in 0..MANY {
+        add_line(text, outer, line)?;
     }
     Ok(())
 }
 
-/// Returns a module that consists of these runs of bytes.
-fn module_of(alloc: Global, runs: &[Run]) -> Result<Vec<u8>, AllocError> {
-    let mut wasm = Vec::new(alloc);
-    add_runs(&mut wasm, runs)?;
-    Ok(wasm)
+/// Appends the first line of each block, from the outermost to the innermost.
+fn add_blocks(text: &mut String, word: &str) -> Result<(), AllocError> {
+    for outer in 0..MANY {
+        add_line(text, outer, word)?;
+        write!(text, " ;; label = @{}", outer.saturating_add(1))?;
+    }
+    Ok(())
 }
 
-// ---- locals
+/// Appends the last line of each block, from the innermost to the outermost.
+fn add_ends(text: &mut String) -> Result<(), AllocError> {
+    for inner in 1..=MANY {
+        add_line(text, MANY.saturating_sub(inner), "end")?;
+    }
+    Ok(())
+}
 
-/// Builds the text of `MOST_LOCALS`.
-fn locals_text(alloc: Global) -> Result<String, AllocError> {
-    let mut text = String::from_str(alloc, START)?;
-    text.push_str("\n    (local")?;
-    add_repeated(&mut text, " i32", LOCALS)?;
-    text.push_str(")")?;
-    text.push_str(END)?;
+/// Appends the text of each function, whose operators have these lines.
+fn add_functions(text: &mut String, lines: &str) -> Result<(), AllocError> {
+    for function in 0..FUNCTIONS {
+        write!(text, "  (func (;{function};) (type 0)\n{lines}  )\n")?;
+    }
+    Ok(())
+}
+
+/// Appends a piece.
+fn add_piece(text: &mut String, piece: &Piece) -> Result<(), AllocError> {
+    match piece {
+        Piece::Text(part) => text.push_str(part),
+        Piece::Repeated(part, count) => add_repeated(text, part, *count),
+        Piece::Line(line, outer) => add_line(text, *outer, line),
+        Piece::Operators(line) => add_operators(text, line),
+        Piece::Blocks(word) => add_blocks(text, word),
+        Piece::Ends => add_ends(text),
+        Piece::Functions(lines) => add_functions(text, lines),
+    }
+}
+
+/// Returns a text that consists of these pieces.
+fn text_of(alloc: Global, pieces: &[Piece]) -> Result<String, AllocError> {
+    let mut text = String::new(alloc);
+    for piece in pieces {
+        add_piece(&mut text, piece)?;
+    }
     Ok(text)
 }
 
-#[test]
-fn prints_the_greatest_number_of_locals(rt: HostRuntime) -> Result<(), Fail> {
-    let text = locals_text(rt.alloc())?;
-    expect_printed(rt.alloc(), MOST_LOCALS, text.as_str())
+/// Checks the text of a module, and that its length is less than `LIMIT`.
+fn expect_large(alloc: Global, row: &Large) -> Result<(), Fail> {
+    let name = row.name;
+    let wasm = module_of(alloc, row.wasm)?;
+    let found = match print_by(alloc, &row.options, &wasm) {
+        Ok(found) => found,
+        Err(error) => return Err(Fail::new(format!(in alloc; "{name}: {error:?}")?)),
+    };
+    if found.len() >= LIMIT {
+        return Err(Fail::new(format!(in alloc; "{name}: {} bytes", found.len())?));
+    }
+    let text = text_of(alloc, row.text)?;
+    if let Err(different) = expect_text(found.as_str(), text.as_str()) {
+        return Err(Fail::new(format!(in alloc; "{name}: {different:?}")?));
+    }
+    Ok(())
 }
 
-// ---- a chain of operands
+// ---- locals and a chain of operands
+
+/// `MOST_LOCALS`, once.
+const LOCALS_ALONE: [Run; 1] = [Run {
+    bytes: MOST_LOCALS,
+    count: 1,
+}];
 
 /// The preamble, a type and a function with that type.
 const BEFORE_CODE: [u8; 18] = [
@@ -130,45 +204,51 @@ const CHAIN: [Run; 4] = [
     },
 ];
 
-/// Builds the flat text of the chain.
-fn flat_chain(alloc: Global) -> Result<String, AllocError> {
-    let mut text = String::from_str(alloc, START)?;
-    text.push_str("\n    i32.const 0")?;
-    add_repeated(&mut text, "\n    i32.eqz", MANY)?;
-    text.push_str(END)?;
-    Ok(text)
-}
+/// A function with the greatest number of locals, and the chain, flat and folded.
+const LOCALS_AND_CHAINS: [Large; 3] = [
+    Large {
+        name: "the greatest number of locals",
+        options: Options::Default,
+        wasm: &LOCALS_ALONE,
+        text: &[
+            Piece::Text(START),
+            Piece::Text("\n    (local"),
+            Piece::Repeated(" i32", LOCALS),
+            Piece::Text(")"),
+            Piece::Text(END),
+        ],
+    },
+    Large {
+        name: "a long chain, flat",
+        options: Options::Default,
+        wasm: &CHAIN,
+        text: &[
+            Piece::Text(START),
+            Piece::Text("\n    i32.const 0"),
+            Piece::Repeated("\n    i32.eqz", MANY),
+            Piece::Text(END),
+        ],
+    },
+    Large {
+        name: "a long chain, folded",
+        options: Options::Folded,
+        wasm: &CHAIN,
+        text: &[
+            Piece::Text(START),
+            Piece::Operators("(i32.eqz"),
+            Piece::Line("(i32.const 0)", MANY),
+            Piece::Repeated(")", MANY),
+            Piece::Text(END),
+        ],
+    },
+];
 
-/// Appends the first line of each `i32.eqz` of the folded chain, from the outermost to the innermost.
-fn add_folded_lines(text: &mut String) -> Result<(), AllocError> {
-    for outer in 0..MANY {
-        add_line(text, depth_within(outer), "(i32.eqz")?;
+#[test]
+fn prints_many_locals_and_a_long_chain(rt: HostRuntime) -> Result<(), Fail> {
+    for row in &LOCALS_AND_CHAINS {
+        expect_large(rt.alloc(), row)?;
     }
     Ok(())
-}
-
-/// Builds the folded text of the chain.
-fn folded_chain(alloc: Global) -> Result<String, AllocError> {
-    let mut text = String::from_str(alloc, START)?;
-    add_folded_lines(&mut text)?;
-    add_line(&mut text, depth_within(MANY), "(i32.const 0)")?;
-    add_repeated(&mut text, ")", MANY)?;
-    text.push_str(END)?;
-    Ok(text)
-}
-
-#[test]
-fn prints_a_long_chain(rt: HostRuntime) -> Result<(), Fail> {
-    let wasm = module_of(rt.alloc(), &CHAIN)?;
-    let text = flat_chain(rt.alloc())?;
-    expect_printed(rt.alloc(), &wasm, text.as_str())
-}
-
-#[test]
-fn folds_a_long_chain(rt: HostRuntime) -> Result<(), Fail> {
-    let wasm = module_of(rt.alloc(), &CHAIN)?;
-    let text = folded_chain(rt.alloc())?;
-    expect_folded(rt.alloc(), &wasm, text.as_str())
 }
 
 // ---- nested blocks
@@ -198,55 +278,41 @@ const NESTED: [Run; 5] = [
     },
 ];
 
-/// Appends the first line of each block, from the outermost to the innermost.
-fn add_blocks(text: &mut String, word: &str) -> Result<(), AllocError> {
-    for outer in 0..MANY {
-        add_line(text, depth_within(outer), word)?;
-        write!(text, " ;; label = @{}", outer.saturating_add(1))?;
-    }
-    Ok(())
-}
+/// The blocks, flat.
+const FLAT_BLOCKS: Large = Large {
+    name: "deep nesting, flat",
+    options: Options::Default,
+    wasm: &NESTED,
+    text: &[
+        Piece::Text(START),
+        Piece::Blocks("block"),
+        Piece::Ends,
+        Piece::Text(END),
+    ],
+};
 
-/// Appends the last line of each block, from the innermost to the outermost.
-fn add_ends(text: &mut String) -> Result<(), AllocError> {
-    for inner in 1..=MANY {
-        add_line(text, depth_within(MANY.saturating_sub(inner)), "end")?;
-    }
-    Ok(())
-}
-
-/// Builds the flat text of the blocks.
-fn flat_blocks(alloc: Global) -> Result<String, AllocError> {
-    let mut text = String::from_str(alloc, START)?;
-    add_blocks(&mut text, "block")?;
-    add_ends(&mut text)?;
-    text.push_str(END)?;
-    Ok(text)
-}
-
-/// Builds the folded text of the blocks. The innermost closes on a line of its own, since its first line ends with a
-/// comment.
-fn folded_blocks(alloc: Global) -> Result<String, AllocError> {
-    let mut text = String::from_str(alloc, START)?;
-    add_blocks(&mut text, "(block")?;
-    add_line(&mut text, depth_within(MANY.saturating_sub(1)), ")")?;
-    add_repeated(&mut text, ")", MANY.saturating_sub(1))?;
-    text.push_str(END)?;
-    Ok(text)
-}
+/// The blocks, folded. The innermost closes on a line of its own, since its first line ends with a comment.
+const FOLDED_BLOCKS: Large = Large {
+    name: "deep nesting, folded",
+    options: Options::Folded,
+    wasm: &NESTED,
+    text: &[
+        Piece::Text(START),
+        Piece::Blocks("(block"),
+        Piece::Line(")", AROUND_INNERMOST),
+        Piece::Repeated(")", AROUND_INNERMOST),
+        Piece::Text(END),
+    ],
+};
 
 #[test]
 fn prints_deep_nesting(rt: HostRuntime) -> Result<(), Fail> {
-    let wasm = module_of(rt.alloc(), &NESTED)?;
-    let text = flat_blocks(rt.alloc())?;
-    expect_printed(rt.alloc(), &wasm, text.as_str())
+    expect_large(rt.alloc(), &FLAT_BLOCKS)
 }
 
 #[test]
 fn folds_deep_nesting(rt: HostRuntime) -> Result<(), Fail> {
-    let wasm = module_of(rt.alloc(), &NESTED)?;
-    let text = folded_blocks(rt.alloc())?;
-    expect_folded(rt.alloc(), &wasm, text.as_str())
+    expect_large(rt.alloc(), &FOLDED_BLOCKS)
 }
 
 // ---- many functions
@@ -301,38 +367,36 @@ const FOLDED_BODY: &str = r#"    (if ;; label = @1
         (i32.const 0)))
 "#;
 
-/// Appends the text of each function, whose operators have these lines.
-fn add_functions(text: &mut String, lines: &str) -> Result<(), AllocError> {
-    for function in 0..FUNCTIONS {
-        write!(text, "  (func (;{function};) (type 0)\n{lines}  )\n")?;
-    }
-    Ok(())
-}
+/// The functions, flat.
+const FLAT_FUNCTIONS: Large = Large {
+    name: "many functions, flat",
+    options: Options::Default,
+    wasm: &BODIES,
+    text: &[
+        Piece::Text("(module\n  (type (;0;) (func))\n"),
+        Piece::Functions(FLAT_BODY),
+        Piece::Text(")\n"),
+    ],
+};
 
-/// Builds the text of the functions.
-fn functions_text(alloc: Global, lines: &str) -> Result<String, AllocError> {
-    let mut text = String::from_str(alloc, "(module\n  (type (;0;) (func))\n")?;
-    add_functions(&mut text, lines)?;
-    text.push_str(")\n")?;
-    Ok(text)
-}
-
-/// The exclusive upper bound of the length of the flat text of the functions, in bytes.
-const FLAT_LIMIT: usize = 500_000_000;
+/// The functions, folded.
+const FOLDED_FUNCTIONS: Large = Large {
+    name: "many functions, folded",
+    options: Options::Folded,
+    wasm: &BODIES,
+    text: &[
+        Piece::Text("(module\n  (type (;0;) (func))\n"),
+        Piece::Functions(FOLDED_BODY),
+        Piece::Text(")\n"),
+    ],
+};
 
 #[test]
 fn prints_many_functions(rt: HostRuntime) -> Result<(), Fail> {
-    let wasm = module_of(rt.alloc(), &BODIES)?;
-    let text = print_bytes(rt.alloc(), &wasm)?;
-    assert!(rt; text.len() < FLAT_LIMIT);
-    let expected = functions_text(rt.alloc(), FLAT_BODY)?;
-    expect_text(text.as_str(), expected.as_str())?;
-    Ok(())
+    expect_large(rt.alloc(), &FLAT_FUNCTIONS)
 }
 
 #[test]
 fn folds_many_functions(rt: HostRuntime) -> Result<(), Fail> {
-    let wasm = module_of(rt.alloc(), &BODIES)?;
-    let text = functions_text(rt.alloc(), FOLDED_BODY)?;
-    expect_folded(rt.alloc(), &wasm, text.as_str())
+    expect_large(rt.alloc(), &FOLDED_FUNCTIONS)
 }

@@ -29,6 +29,8 @@ mod names;
 #[cfg(test)]
 mod opcodes;
 #[cfg(test)]
+mod refusals;
+#[cfg(test)]
 mod values;
 
 pub use modules::MODULES;

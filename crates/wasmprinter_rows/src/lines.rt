@@ -1,6 +1,5 @@
 //! Lines with their places, places of operators, and the lines of operators.
 
-use crate::expecting::expect_printed_by;
 use crate::modules::sections::RECURSION_GROUP;
 use crate::modules::whole::{EMPTY, IDENTITY, MINUS_ONE};
 use std::alloc::Global;
@@ -51,6 +50,21 @@ const GROUP_LINES: [Line; 5] = [
     (Some(0x10), ")\n"),
 ];
 
+/// Modules, and their lines.
+const LINES: [(&str, &[u8], &[Line]); 3] = [
+    ("the lines of a function", IDENTITY, &IDENTITY_LINES),
+    (
+        "the lines of a function with a local",
+        MINUS_ONE,
+        &MINUS_ONE_LINES,
+    ),
+    (
+        "no place for the end of a group",
+        RECURSION_GROUP,
+        &GROUP_LINES,
+    ),
+];
+
 /// Returns whether these are the lines.
 fn are_lines(found: OffsetsAndLines<'_>, lines: &[Line]) -> bool {
     found.eq(lines.iter().copied())
@@ -64,38 +78,13 @@ fn has_lines(alloc: Global, wasm: &[u8], lines: &[Line]) -> Result<bool, Error> 
 }
 
 #[test]
-fn returns_the_lines_of_a_function(rt: HostRuntime) -> Result<(), Fail> {
-    assert!(rt; has_lines(rt.alloc(), IDENTITY, &IDENTITY_LINES)?);
-    Ok(())
-}
-
-#[test]
-fn returns_the_lines_of_a_function_with_a_local(rt: HostRuntime) -> Result<(), Fail> {
-    assert!(rt; has_lines(rt.alloc(), MINUS_ONE, &MINUS_ONE_LINES)?);
-    Ok(())
-}
-
-#[test]
-fn returns_no_place_for_the_end_of_a_group(rt: HostRuntime) -> Result<(), Fail> {
-    assert!(rt; has_lines(rt.alloc(), RECURSION_GROUP, &GROUP_LINES)?);
-    Ok(())
-}
-
-#[test]
-fn prints_spaces_for_a_line_without_a_place(rt: HostRuntime) -> Result<(), Fail> {
-    let mut config = Config::new();
-    config.print_offsets(true);
-    expect_printed_by(
-        rt.alloc(),
-        &config,
-        RECURSION_GROUP,
-        r#"(module
-(;@b     ;)  (rec
-(;@d     ;)    (type (;0;) (func))
-             )
-(;@10    ;))
-"#,
-    )
+fn returns_the_lines_of_modules(rt: HostRuntime) {
+    for (name, wasm, lines) in LINES {
+        assert!(rt;
+            matches!(has_lines(rt.alloc(), wasm, lines), Ok(true)),
+            "{name}"
+        );
+    }
 }
 
 #[test]
@@ -134,6 +123,7 @@ struct Found {
     line: Option<(usize, u64)>,
 }
 
+/// The operators of `IDENTITY`, and two that do not exist.
 const IN_IDENTITY: [Found; 3] = [
     Found {
         function: 0,
@@ -152,6 +142,7 @@ const IN_IDENTITY: [Found; 3] = [
     },
 ];
 
+/// The operators of `MINUS_ONE`.
 const IN_MINUS_ONE: [Found; 3] = [
     Found {
         function: 0,
@@ -170,32 +161,34 @@ const IN_MINUS_ONE: [Found; 3] = [
     },
 ];
 
+/// Modules, and the lines of their operators.
+const OPERATORS: [(&str, &[u8], &[Found]); 2] = [
+    ("the only operator", IDENTITY, &IN_IDENTITY),
+    ("each of three operators", MINUS_ONE, &IN_MINUS_ONE),
+];
+
 /// Returns whether these are the lines of operators among all lines of a module.
 fn are_found(alloc: Global, wasm: &[u8], operators: &[Found]) -> Result<bool, Error> {
     let module = decode(alloc, wasm)?;
     let mut storage = String::new(alloc);
     let all = Config::new().offsets_and_lines(alloc, wasm, &mut storage)?;
     let lines: Vec<(Option<u64>, &str)> = all.collect(alloc)?;
-    Ok(
-        operators.iter().all(|found| place_of(&module, &lines, found.function, found.operator)
-            == found.line),
-    )
+    for found in operators {
+        if place_of(&module, &lines, found.function, found.operator) != found.line {
+            return Ok(false);
+        }
+    }
+    Ok(true)
 }
 
 #[test]
-fn finds_the_only_operator(rt: HostRuntime) -> Result<(), Fail> {
-    assert!(rt; are_found(rt.alloc(), IDENTITY, &IN_IDENTITY)?);
-    Ok(())
-}
-
-#[test]
-fn finds_each_of_three_operators(rt: HostRuntime) -> Result<(), Fail> {
-    assert!(rt; are_found(rt.alloc(), MINUS_ONE, &IN_MINUS_ONE)?);
-    Ok(())
-}
-
-#[test]
-fn finds_no_operator_without_lines(rt: HostRuntime) -> Result<(), Fail> {
+fn finds_the_lines_of_operators(rt: HostRuntime) -> Result<(), Fail> {
+    for (name, wasm, operators) in OPERATORS {
+        assert!(rt;
+            matches!(are_found(rt.alloc(), wasm, operators), Ok(true)),
+            "{name}"
+        );
+    }
     let module = decode(rt.alloc(), IDENTITY)?;
     assert!(rt; place_of(&module, &[], 0, 0) == None);
     Ok(())

@@ -1,138 +1,107 @@
 //! Operators of each group, printed flat: their words, their immediates, and immediates that are left out.
 
-use crate::expecting::{expect_body, is_malformed};
+use crate::expecting::{Options, Row, Text, expect_rows};
 use crate::modules::operators::{
-    ALIGNMENT_TOO_LARGE, ATOMICS, CAST_BRANCH, CAST_FLAG_TOO_LARGE, FENCE_WITH_ONE,
-    FLOAT_CONSTANTS, GREATEST_ALIGNMENT, INDICES_LEFT_OUT, MEMORY_INITS, REFERENCE_TESTS,
-    TABLE_COPIES, TYPED_SELECT, UNKNOWN_OPCODE, VECTOR_CONSTANT, VECTOR_LANE, WIDE_PRODUCT,
+    ATOMICS, CAST_BRANCH, FLOAT_CONSTANTS, GREATEST_ALIGNMENT, INDICES_LEFT_OUT, MEMORY_INITS,
+    REFERENCE_TESTS, TABLE_COPIES, TYPED_SELECT, VECTOR_CONSTANT, VECTOR_LANE, WIDE_PRODUCT,
 };
 use std::test::Fail;
 
-#[test]
-fn prints_a_table_or_memory_unless_it_is_the_first(rt: HostRuntime) -> Result<(), Fail> {
-    expect_body(
-        rt.alloc(),
-        INDICES_LEFT_OUT,
-        r#"    call_indirect 1 (type 0)
+/// Functions with operators of each group.
+const ROWS: [Row; 12] = [
+    Row {
+        name: "a table or memory unless it is the first",
+        options: Options::Default,
+        wasm: INDICES_LEFT_OUT,
+        text: Text::Body(
+            r#"    call_indirect 1 (type 0)
     call_indirect (type 0)
     i32.load 1 offset=4 align=2
 "#,
-    )
-}
-
-#[test]
-fn prints_the_greatest_alignment(rt: HostRuntime) -> Result<(), Fail> {
-    expect_body(
-        rt.alloc(),
-        GREATEST_ALIGNMENT,
-        "    i32.load align=9223372036854775808\n",
-    )
-}
-
-#[test]
-fn refuses_an_alignment_that_is_too_large(rt: HostRuntime) {
-    assert!(rt; is_malformed(rt.alloc(), ALIGNMENT_TOO_LARGE));
-}
-
-#[test]
-fn prints_the_memory_of_an_init_before_its_segment(rt: HostRuntime) -> Result<(), Fail> {
-    expect_body(
-        rt.alloc(),
-        MEMORY_INITS,
-        "    memory.init 1\n    memory.init 2 1\n",
-    )
-}
-
-#[test]
-fn prints_both_tables_of_a_copy_or_none(rt: HostRuntime) -> Result<(), Fail> {
-    expect_body(
-        rt.alloc(),
-        TABLE_COPIES,
-        "    table.copy\n    table.copy 0 1\n",
-    )
-}
-
-#[test]
-fn prints_the_types_of_a_cast_branch(rt: HostRuntime) -> Result<(), Fail> {
-    expect_body(
-        rt.alloc(),
-        CAST_BRANCH,
-        "    br_on_cast 0 anyref (ref eq)\n",
-    )
-}
-
-#[test]
-fn refuses_a_cast_flag_that_is_not_defined(rt: HostRuntime) {
-    assert!(rt; is_malformed(rt.alloc(), CAST_FLAG_TOO_LARGE));
-}
-
-#[test]
-fn prints_types_of_reference_tests_and_lengths_of_arrays(rt: HostRuntime) -> Result<(), Fail> {
-    expect_body(
-        rt.alloc(),
-        REFERENCE_TESTS,
-        r#"    ref.test (ref struct)
+        ),
+    },
+    Row {
+        name: "the greatest alignment",
+        options: Options::Default,
+        wasm: GREATEST_ALIGNMENT,
+        text: Text::Body("    i32.load align=9223372036854775808\n"),
+    },
+    Row {
+        name: "the memory of an init before its segment",
+        options: Options::Default,
+        wasm: MEMORY_INITS,
+        text: Text::Body("    memory.init 1\n    memory.init 2 1\n"),
+    },
+    Row {
+        name: "both tables of a copy or none",
+        options: Options::Default,
+        wasm: TABLE_COPIES,
+        text: Text::Body("    table.copy\n    table.copy 0 1\n"),
+    },
+    Row {
+        name: "the types of a cast branch",
+        options: Options::Default,
+        wasm: CAST_BRANCH,
+        text: Text::Body("    br_on_cast 0 anyref (ref eq)\n"),
+    },
+    Row {
+        name: "types of reference tests and lengths of arrays",
+        options: Options::Default,
+        wasm: REFERENCE_TESTS,
+        text: Text::Body(
+            r#"    ref.test (ref struct)
     ref.test structref
     array.new_fixed 0 3
 "#,
-    )
-}
-
-#[test]
-fn prints_the_lane_of_a_load(rt: HostRuntime) -> Result<(), Fail> {
-    expect_body(
-        rt.alloc(),
-        VECTOR_LANE,
-        "    v128.load8_lane 3\n    i8x16.relaxed_swizzle\n",
-    )
-}
-
-#[test]
-fn prints_atomics_at_their_natural_alignment(rt: HostRuntime) -> Result<(), Fail> {
-    expect_body(
-        rt.alloc(),
-        ATOMICS,
-        "    i32.atomic.load\n    memory.atomic.notify offset=8\n",
-    )
-}
-
-#[test]
-fn refuses_a_fence_with_another_byte_than_zero(rt: HostRuntime) {
-    assert!(rt; is_malformed(rt.alloc(), FENCE_WITH_ONE));
-}
-
-#[test]
-fn prints_the_type_of_a_select(rt: HostRuntime) -> Result<(), Fail> {
-    expect_body(rt.alloc(), TYPED_SELECT, "    select (result i32)\n")
-}
-
-#[test]
-fn prints_float_constants(rt: HostRuntime) -> Result<(), Fail> {
-    expect_body(
-        rt.alloc(),
-        FLOAT_CONSTANTS,
-        r#"    f32.const 0x1.8p+0
+        ),
+    },
+    Row {
+        name: "the lane of a load",
+        options: Options::Default,
+        wasm: VECTOR_LANE,
+        text: Text::Body("    v128.load8_lane 3\n    i8x16.relaxed_swizzle\n"),
+    },
+    Row {
+        name: "atomics at their natural alignment",
+        options: Options::Default,
+        wasm: ATOMICS,
+        text: Text::Body("    i32.atomic.load\n    memory.atomic.notify offset=8\n"),
+    },
+    Row {
+        name: "the type of a select",
+        options: Options::Default,
+        wasm: TYPED_SELECT,
+        text: Text::Body("    select (result i32)\n"),
+    },
+    Row {
+        name: "float constants",
+        options: Options::Default,
+        wasm: FLOAT_CONSTANTS,
+        text: Text::Body(
+            r#"    f32.const 0x1.8p+0
     f32.const -0x0p+0
     f32.const 0x1.p-149
     f32.const nan (;=NaN;)
     f32.const nan:0x1 (;=NaN;)
     f32.const -inf (;=-inf;)
 "#,
-    )
-}
+        ),
+    },
+    Row {
+        name: "a vector as four numbers",
+        options: Options::Default,
+        wasm: VECTOR_CONSTANT,
+        text: Text::Body("    v128.const i32x4 0x03020100 0x07060504 0x0b0a0908 0x0f0e0d0c\n"),
+    },
+    Row {
+        name: "wide arithmetic",
+        options: Options::Default,
+        wasm: WIDE_PRODUCT,
+        text: Text::Body("    i64.mul_wide_u\n"),
+    },
+];
 
 #[test]
-fn prints_a_vector_as_four_numbers(rt: HostRuntime) -> Result<(), Fail> {
-    expect_body(
-        rt.alloc(),
-        VECTOR_CONSTANT,
-        "    v128.const i32x4 0x03020100 0x07060504 0x0b0a0908 0x0f0e0d0c\n",
-    )
-}
-
-#[test]
-fn prints_wide_arithmetic_and_refuses_the_next_opcode(rt: HostRuntime) -> Result<(), Fail> {
-    expect_body(rt.alloc(), WIDE_PRODUCT, "    i64.mul_wide_u\n")?;
-    assert!(rt; is_malformed(rt.alloc(), UNKNOWN_OPCODE));
-    Ok(())
+fn prints_operators(rt: HostRuntime) -> Result<(), Fail> {
+    expect_rows(rt.alloc(), &ROWS)
 }

@@ -7,14 +7,12 @@ use wasmprinter::{Error, PrintFmtWrite};
 use wasmprinter_samples::expect_text;
 
 /// The bits of an f32, and its text.
-#[derive(Clone, Copy)]
 struct Single {
     bits: u32,
     text: &'static str,
 }
 
 /// The bits of an f64, and its text.
-#[derive(Clone, Copy)]
 struct Double {
     bits: u64,
     text: &'static str,
@@ -103,33 +101,23 @@ fn double_text(alloc: Global, bits: u64) -> Result<String, Error> {
 }
 
 #[test]
-fn writes_floats_of_32_bits(rt: HostRuntime) -> Result<(), Fail> {
-    for Single { bits, text } in SINGLES {
-        let found = single_text(rt.alloc(), bits)?;
-        assert!(rt; found.as_str() == text, "bits {bits:#x}");
+fn writes_floats(rt: HostRuntime) -> Result<(), Fail> {
+    for Single { bits, text } in &SINGLES {
+        let found = single_text(rt.alloc(), *bits)?;
+        assert!(rt; found.as_str() == *text, "bits {bits:#x}");
+    }
+    for Double { bits, text } in &DOUBLES {
+        let found = double_text(rt.alloc(), *bits)?;
+        assert!(rt; found.as_str() == *text, "bits {bits:#x}");
     }
     Ok(())
 }
 
 #[test]
-fn writes_floats_of_64_bits(rt: HostRuntime) -> Result<(), Fail> {
-    for Double { bits, text } in DOUBLES {
-        let found = double_text(rt.alloc(), bits)?;
-        assert!(rt; found.as_str() == text, "bits {bits:#x}");
-    }
-    Ok(())
-}
-
-#[test]
-fn escapes_bytes(rt: HostRuntime) -> Result<(), Fail> {
+fn escapes_bytes_and_characters_outside_of_ascii(rt: HostRuntime) -> Result<(), Fail> {
     let mut printer = PrintFmtWrite(String::new(rt.alloc()));
     write_bytes(&mut printer, &[0x41, 0x22, 0x00])?;
     expect_text(printer.0.as_str(), r#""A\22\00""#)?;
-    Ok(())
-}
-
-#[test]
-fn escapes_characters_outside_of_ascii(rt: HostRuntime) -> Result<(), Fail> {
     let mut printer = PrintFmtWrite(String::new(rt.alloc()));
     write_quoted(&mut printer, "\u{1b}\u{e9}")?;
     expect_text(printer.0.as_str(), r#""\u{1b}\u{e9}""#)?;
