@@ -1,11 +1,12 @@
 //! Tests of all opcodes: the line of each operator, and the numbers of no operator, which are malformed.
 
 use crate::opcode_words::{Group, INDICES, LANES, MEMORIES, OTHERS, PLAIN};
-use crate::printing::{Part, build, is_malformed};
+use crate::printing::{Part, build};
 use std::alloc::{AllocError, Global};
 use std::num::ParseIntError;
 use std::test::Fail;
-use wasmprinter::{Error, print_bytes};
+use wasmprinter::Error;
+use wasmprinter_expecting::is_malformed;
 use wasmprinter_samples::PREAMBLE;
 use wasmprinter_samples::sections::NO_PARAMS;
 
@@ -20,7 +21,7 @@ fn with_operators(alloc: Global, operators: &[u8]) -> Result<Vec<u8>, AllocError
 
 /// Returns the text of that module.
 fn text_of(alloc: Global, operators: &[u8]) -> Result<String, Error> {
-    print_bytes(alloc, &with_operators(alloc, operators)?)
+    wasmprinter_expecting::text_of(alloc, &with_operators(alloc, operators)?)
 }
 
 /// Returns the text of a module whose function has these lines.

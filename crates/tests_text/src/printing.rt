@@ -3,8 +3,8 @@
 
 use std::alloc::{AllocError, Global};
 use std::test::Fail;
-use wasmprinter::{Error, print_bytes};
-use wasmprinter_samples::expect_text;
+use wasmprinter::Error;
+use wasmprinter_expecting::{expect_printed, is_malformed, refusal_of};
 use wasmprinter_samples::sections::add_section;
 
 /// A part of a module.
@@ -79,45 +79,11 @@ pub fn expect_rows(alloc: Global, rows: &[Row]) -> Result<(), Fail> {
                     return Err((*name, "is not malformed"))?;
                 }
             }
-            Expected::EmptyTableInit(offset) => match print_bytes(alloc, &wasm) {
-                Err(Error::EmptyTableInit { place }) if place == *offset => (),
+            Expected::EmptyTableInit(offset) => match refusal_of(alloc, &wasm) {
+                Some(Error::EmptyTableInit { place }) if place == *offset => (),
                 _ => return Err((*name, "has no empty initialiser there"))?,
             },
         }
     }
     Ok(())
-}
-
-/// Checks that a text equals the typed text.
-///
-/// # Errors
-///
-/// - The text differs.
-pub fn expect_same(name: &'static str, text: &str, typed: &str) -> Result<(), Fail> {
-    match expect_text(text, typed) {
-        Ok(()) => Ok(()),
-        Err(different) => Err((name, different))?,
-    }
-}
-
-/// Checks that a module is printed as the typed text.
-///
-/// # Errors
-///
-/// - The module is refused, or its text differs.
-pub fn expect_printed(
-    name: &'static str,
-    alloc: Global,
-    wasm: &[u8],
-    typed: &str,
-) -> Result<(), Fail> {
-    match print_bytes(alloc, wasm) {
-        Ok(text) => expect_same(name, text.as_str(), typed),
-        Err(error) => Err((name, error))?,
-    }
-}
-
-/// Reports whether a module is refused as malformed, at a byte offset within it or at its end.
-pub fn is_malformed(alloc: Global, wasm: &[u8]) -> bool {
-    matches!(print_bytes(alloc, wasm), Err(Error::Malformed { place }) if place <= wasm.len() as u64)
 }

@@ -2,9 +2,10 @@
 
 use crate::printing::Expected::Text;
 use crate::printing::Part::Section;
-use crate::printing::{Row, expect_printed, expect_rows};
+use crate::printing::{Row, expect_rows};
 use std::alloc::{AllocError, Global};
 use std::test::Fail;
+use wasmprinter_expecting::expect_printed;
 use wasmprinter_samples::PREAMBLE;
 use wasmprinter_samples::sections::TYPE;
 

@@ -1,12 +1,12 @@
 //! Tests of floats, quoted strings and byte strings, as a caller of the library writes them to its own printer. Each
 //! float is given by its bits.
 
-use crate::printing::expect_same;
 use std::alloc::Global;
 use std::io::ErrorKind;
 use std::test::Fail;
 use wasmprinter::text::{write_bytes, write_f32, write_f64, write_quoted};
 use wasmprinter::{Error, PrintFmtWrite};
+use wasmprinter_expecting::expect_same;
 use wasmprinter_samples::Recorder;
 
 /// Bits of f32, each with its text.

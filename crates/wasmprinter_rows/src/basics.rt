@@ -1,10 +1,11 @@
 //! Texts of the smallest modules with each option, and of their prefixes.
 
-use crate::expecting::{Options, Row, Text, expect_rows, is_malformed, is_printed_as};
+use crate::expecting::{Options, Row, Text, expect_rows};
 use crate::modules::sections::RECURSION_GROUP;
 use crate::modules::whole::{EMPTY, IDENTITY, MINUS_ONE, SIZE_IN_TWO_BYTES};
 use std::alloc::Global;
 use std::test::Fail;
+use wasmprinter_expecting::{is_malformed, is_printed_as};
 
 /// The text of `IDENTITY`.
 const IDENTITY_TEXT: &str = r#"(module

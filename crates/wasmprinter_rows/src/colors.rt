@@ -1,12 +1,12 @@
 //! Texts with ANSI escape sequences.
 
-use crate::expecting::{Options, print_to};
+use crate::expecting::Options;
 use crate::modules::control::EMPTY_BLOCK;
 use crate::modules::operators::DROPPED_CONSTANT;
 use crate::modules::whole::EMPTY;
 use std::alloc::Global;
-use wasmprinter::print::Ansi;
-use wasmprinter::{Error, PrintTermcolor};
+use wasmprinter::Error;
+use wasmprinter_expecting::colored_text_by;
 
 /// A module with options, and its text with ANSI escape sequences.
 struct Colored {
@@ -62,9 +62,8 @@ const ROWS: [Colored; 3] = [
 
 /// Returns whether the module of a row is printed as its text.
 fn is_colored(alloc: Global, row: &Colored) -> Result<bool, Error> {
-    let mut printer = PrintTermcolor(Ansi::new(Vec::new(alloc)));
-    print_to(&row.options.config(alloc), alloc, row.wasm, &mut printer)?;
-    Ok(printer.0.into_inner().as_slice() == row.text.as_bytes())
+    let text = colored_text_by(&row.options.config(alloc), alloc, row.wasm)?;
+    Ok(text.as_slice() == row.text.as_bytes())
 }
 
 #[test]

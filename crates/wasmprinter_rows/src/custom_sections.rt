@@ -1,12 +1,13 @@
 //! Custom sections: raw ones at their places, `producers`, `dylink.0`, and a section that the printer claims.
 
-use crate::expecting::{Options, Row, Text, expect_rows, print_to};
+use crate::expecting::{Options, Row, Text, expect_rows};
 use crate::modules::customs::{
     CUSTOMS_AROUND_A_MEMORY, DYLINK_CUT, DYLINK_EXPORT, DYLINK_MEMORY, PRODUCERS, RAW_PRODUCERS,
 };
 use std::test::Fail;
 use wasmprinter::Config;
-use wasmprinter_samples::{Recorder, expect_text};
+use wasmprinter_expecting::expect_calls;
+use wasmprinter_samples::Recorder;
 
 /// Modules with custom sections.
 const ROWS: [Row; 6] = [
@@ -94,12 +95,12 @@ fn prints_custom_sections(rt: HostRuntime) -> Result<(), Fail> {
 
 #[test]
 fn prints_nothing_of_a_claimed_section(rt: HostRuntime) -> Result<(), Fail> {
-    let mut recorder = Recorder::with_section_taken(rt.alloc(), "dylink.0");
-    print_to(&Config::new(), rt.alloc(), DYLINK_EXPORT, &mut recorder)?;
-    expect_text(
-        recorder.calls(),
+    expect_calls(
+        "a claimed `dylink.0` section",
+        &Config::new(),
+        rt.alloc(),
+        DYLINK_EXPORT,
+        Recorder::with_section_taken(rt.alloc(), "dylink.0"),
         "[0x0]({K}module{R}{? \"dylink.0\" 0x13 [3, 4, 1, 1, 102, 33]})\n",
-    )?;
-    assert!(rt; recorder.is_complete());
-    Ok(())
+    )
 }

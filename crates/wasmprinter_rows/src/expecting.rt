@@ -2,8 +2,8 @@
 
 use std::alloc::{AllocError, Global};
 use std::test::Fail;
-use wasmprinter::{Config, Error, Print, print_bytes};
-use wasmprinter_samples::expect_text;
+use wasmprinter::{Config, Error};
+use wasmprinter_expecting::{expect_same, text_by, text_of};
 
 /// The text before the operators of the only function of a module, without parameters, results and locals.
 const BODY_START: &str = "(module\n  (type (;0;) (func))\n  (func (;0;) (type 0)\n";
@@ -97,49 +97,19 @@ pub struct Row {
 /// Prints a module with these options, and with default options by the function that takes none.
 pub fn print_by(alloc: Global, options: &Options, wasm: &[u8]) -> Result<String, Error> {
     match options {
-        Options::Default => print_bytes(alloc, wasm),
-        _ => options.config(alloc).print_to_string(alloc, wasm),
+        Options::Default => text_of(alloc, wasm),
+        _ => text_by(&options.config(alloc), alloc, wasm),
     }
 }
 
 /// Checks the text of the module of each row.
 pub fn expect_rows(alloc: Global, rows: &[Row]) -> Result<(), Fail> {
     for row in rows {
-        let name = row.name;
         let whole = row.text.whole(alloc)?;
-        let found = match print_by(alloc, &row.options, row.wasm) {
-            Ok(found) => found,
-            Err(error) => return Err(Fail::new(format!(in alloc; "{name}: {error:?}")?)),
-        };
-        if let Err(different) = expect_text(found.as_str(), whole.as_str()) {
-            return Err(Fail::new(format!(in alloc; "{name}: {different:?}")?));
+        match print_by(alloc, &row.options, row.wasm) {
+            Ok(found) => expect_same(row.name, found.as_str(), whole.as_str())?,
+            Err(error) => return Err((row.name, error))?,
         }
     }
     Ok(())
-}
-
-/// Prints to any printer. It has no contract, so that no caller proves anything about its own printer.
-pub fn print_to<P: Print>(
-    config: &Config,
-    alloc: Global,
-    wasm: &[u8],
-    printer: &mut P,
-) -> Result<(), Error> {
-    config.print(alloc, wasm, printer)
-}
-
-/// Returns whether a module has this text with default options.
-pub fn is_printed_as(alloc: Global, wasm: &[u8], text: &str) -> bool {
-    match print_bytes(alloc, wasm) {
-        Ok(found) => found.as_str() == text,
-        Err(_) => false,
-    }
-}
-
-/// Returns whether a module is refused as malformed, with a byte offset that is at most its length.
-pub fn is_malformed(alloc: Global, wasm: &[u8]) -> bool {
-    match print_bytes(alloc, wasm) {
-        Err(Error::Malformed { place }) => place <= wasm.len() as u64,
-        _ => false,
-    }
 }

@@ -5,7 +5,8 @@ use crate::expecting::{Options, print_by};
 use crate::modules::whole::MOST_LOCALS;
 use std::alloc::{AllocError, Global};
 use std::test::Fail;
-use wasmprinter_samples::{PREAMBLE, expect_text};
+use wasmprinter_expecting::expect_same;
+use wasmprinter_samples::PREAMBLE;
 
 /// The number of locals of the function of `MOST_LOCALS`.
 const LOCALS: u32 = 50_000;
@@ -150,20 +151,16 @@ fn text_of(alloc: Global, pieces: &[Piece]) -> Result<String, AllocError> {
 
 /// Checks the text of a module, and that its length is less than `LIMIT`.
 fn expect_large(alloc: Global, row: &Large) -> Result<(), Fail> {
-    let name = row.name;
     let wasm = module_of(alloc, row.wasm)?;
     let found = match print_by(alloc, &row.options, &wasm) {
         Ok(found) => found,
-        Err(error) => return Err(Fail::new(format!(in alloc; "{name}: {error:?}")?)),
+        Err(error) => return Err((row.name, error))?,
     };
     if found.len() >= LIMIT {
-        return Err(Fail::new(format!(in alloc; "{name}: {} bytes", found.len())?));
+        return Err((row.name, found.len()))?;
     }
     let text = text_of(alloc, row.text)?;
-    if let Err(different) = expect_text(found.as_str(), text.as_str()) {
-        return Err(Fail::new(format!(in alloc; "{name}: {different:?}")?));
-    }
-    Ok(())
+    expect_same(row.name, found.as_str(), text.as_str())
 }
 
 // ---- locals and a chain of operands

@@ -1,6 +1,5 @@
 //! Modules that are refused: malformed ones, components, and modules that have no text.
 
-use crate::expecting::is_malformed;
 use crate::modules::control::{CATCH_IN_A_BLOCK, ELSE_WITHOUT_IF, TWO_ELSES};
 use crate::modules::customs::DYLINK_UNKNOWN;
 use crate::modules::operators::{
@@ -10,8 +9,9 @@ use crate::modules::sections::{EMPTY_INITIALIZER, PAGES_TOO_LARGE, UNKNOWN_LIMIT
 use crate::modules::whole::{
     BODY_MISSING, BODY_WITHOUT_END, COMPONENT, EMPTY, SIZE_IN_SIX_BYTES, TOO_MANY_LOCALS,
 };
+use wasmprinter::Error;
 use wasmprinter::wasm::decode;
-use wasmprinter::{Error, print_bytes};
+use wasmprinter_expecting::{is_malformed, refusal_of};
 
 /// Malformed modules, each with the name of its defect.
 const MALFORMED: [(&str, &[u8]); 12] = [
@@ -39,16 +39,16 @@ fn refuses_malformed_modules(rt: HostRuntime) {
 
 #[test]
 fn refuses_components_and_modules_without_a_text(rt: HostRuntime) {
-    let refused = print_bytes(rt.alloc(), COMPONENT);
-    assert!(rt; matches!(refused, Err(Error::Component)));
-    let refused = print_bytes(rt.alloc(), TOO_MANY_LOCALS);
-    assert!(rt; matches!(refused, Err(Error::TooManyLocals { place: 22 })));
+    let refused = refusal_of(rt.alloc(), COMPONENT);
+    assert!(rt; matches!(refused, Some(Error::Component)));
+    let refused = refusal_of(rt.alloc(), TOO_MANY_LOCALS);
+    assert!(rt; matches!(refused, Some(Error::TooManyLocals { place: 22 })));
     let refused = decode(rt.alloc(), TOO_MANY_LOCALS);
     assert!(rt; matches!(refused, Err(Error::TooManyLocals { place: 22 })));
-    let refused = print_bytes(rt.alloc(), EMPTY_INITIALIZER);
-    assert!(rt; matches!(refused, Err(Error::EmptyTableInit { place: 11 })));
+    let refused = refusal_of(rt.alloc(), EMPTY_INITIALIZER);
+    assert!(rt; matches!(refused, Some(Error::EmptyTableInit { place: 11 })));
     let refused = decode(rt.alloc(), EMPTY_INITIALIZER);
     assert!(rt; matches!(refused, Err(Error::EmptyTableInit { place: 11 })));
-    let refused = print_bytes(rt.alloc(), DYLINK_UNKNOWN);
-    assert!(rt; matches!(refused, Err(Error::DylinkSubsection { id: 9 })));
+    let refused = refusal_of(rt.alloc(), DYLINK_UNKNOWN);
+    assert!(rt; matches!(refused, Some(Error::DylinkSubsection { id: 9 })));
 }
