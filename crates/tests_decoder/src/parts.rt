@@ -1,8 +1,4 @@
-//! Tests of names, of known custom sections and their lines, of labels, and of the text of operators.
+//! Tests of the contents of custom sections, and of names.
 
-mod annotations;
 mod customs;
-mod labels;
 mod names;
-mod operators;
-mod printing;

@@ -1,9 +1,8 @@
 //! Tests of the labels of a few functions. The names and the expected labels are typed by hand.
 ghost use Rattle.std.specs.Prelude.{◌≤◌};
 
-use crate::parts::names::names_of;
+use crate::printing::names_of;
 use std::alloc::Global;
-use std::process::Abort;
 use std::test::Fail;
 use wasmprinter_custom::{Identifier, Identifiers, Name, Space};
 use wasmprinter_flat::open_labels::{LabelRef, OpenLabels};
@@ -98,30 +97,6 @@ impl<'n, 'a> Walk<'n, 'a> {
     }
 }
 
-/// Asserts that all steps succeed, for labels with the names of this section.
-fn assert_labels(
-    rt: &impl Abort,
-    alloc: Global,
-    section: &[u8],
-    synthesizes: bool,
-    steps: &[Step],
-) -> Result<(), Fail> {
-    let names = names_of(alloc, &[section])?;
-    let identifiers = Identifiers {
-        names: &names,
-        synthesizes,
-    };
-    let labels = OpenLabels::new(alloc, identifiers)?;
-    assert!(rt; labels.identifiers().synthesizes == synthesizes);
-    let mut walk = Walk {
-        labels,
-        operators: 0,
-    };
-    let wrong = walk.first_wrong(steps);
-    assert!(rt; wrong == None, "at step {wrong:?}");
-    Ok(())
-}
-
 /// Three nested blocks: `a`, `b` in it, and another `a` in that.
 const HIDDEN: [Step; 20] = [
     Step::Begin(0),
@@ -148,13 +123,6 @@ const HIDDEN: [Step; 20] = [
     Step::Find(Role::Plain, 1, LabelRef::ByName(A)),
 ];
 
-#[test]
-fn a_label_is_hidden_for_a_while(rt: HostRuntime) -> Result<(), Fail> {
-    // Labels of function 0: 0 `a`, 1 `b`, 2 `a`
-    let section = b"\x03\x0c\x01\x00\x03\x00\x01a\x01\x01b\x02\x01a";
-    assert_labels(&rt, rt.alloc(), section, false, &HIDDEN)
-}
-
 /// Blocks that end in `delegate`, with the labels of all blocks around them.
 const DELEGATED: [Step; 16] = [
     Step::Begin(0),
@@ -177,13 +145,6 @@ const DELEGATED: [Step; 16] = [
     Step::Depth(2),
 ];
 
-#[test]
-fn delegate_leaves_its_block_out(rt: HostRuntime) -> Result<(), Fail> {
-    // Labels of function 0: 0 `a`, 1 `b`, 2 `a`
-    let section = b"\x03\x0c\x01\x00\x03\x00\x01a\x01\x01b\x02\x01a";
-    assert_labels(&rt, rt.alloc(), section, false, &DELEGATED)
-}
-
 /// A block without a name that contains the block `a` and then another block without a name.
 const NAMELESS: [Step; 9] = [
     Step::Begin(0),
@@ -196,13 +157,6 @@ const NAMELESS: [Step; 9] = [
     Step::Advance(Role::Opens),
     Step::Find(Role::Plain, 0, LabelRef::ToBlock(2)),
 ];
-
-#[test]
-fn blocks_without_names_go_by_depth(rt: HostRuntime) -> Result<(), Fail> {
-    // Label 1 of function 0: `a`
-    let section = b"\x03\x06\x01\x00\x01\x01\x01a";
-    assert_labels(&rt, rt.alloc(), section, false, &NAMELESS)
-}
 
 /// The identifier of label 1, whose name is `#q`.
 const SECOND: Identifier<'static> = Identifier::Given(Name {
@@ -234,13 +188,6 @@ const SYNTHESIZED: [Step; 13] = [
     Step::Find(Role::Plain, 1, LabelRef::ByName(OUTERMOST)),
 ];
 
-#[test]
-fn identifiers_are_synthesized_by_depth(rt: HostRuntime) -> Result<(), Fail> {
-    // Labels of function 0: 1 `#q`, 2 the empty name
-    let section = b"\x03\x09\x01\x00\x02\x01\x02#q\x02\x00";
-    assert_labels(&rt, rt.alloc(), section, true, &SYNTHESIZED)
-}
-
 /// Blocks of several functions, two of which have a label `a`.
 const FUNCTIONS: [Step; 21] = [
     Step::Begin(1),
@@ -269,9 +216,68 @@ const FUNCTIONS: [Step; 21] = [
     Step::Depth(0),
 ];
 
+/// Labels: the name of the row, the content of a section with the names of labels, whether identifiers are
+/// synthesized, and the steps.
+type Row = (&'static str, &'static [u8], bool, &'static [Step]);
+
+/// The labels of function 0: 0 `a`, 1 `b`, 2 `a`.
+const A_B_A: &[u8] = b"\x03\x0c\x01\x00\x03\x00\x01a\x01\x01b\x02\x01a";
+
+const ROWS: [Row; 5] = [
+    ("a label is hidden for a while", A_B_A, false, &HIDDEN),
+    ("`delegate` leaves its block out", A_B_A, false, &DELEGATED),
+    (
+        "blocks without names go by depth",
+        // Label 1 of function 0: `a`
+        b"\x03\x06\x01\x00\x01\x01\x01a",
+        false,
+        &NAMELESS,
+    ),
+    (
+        "identifiers are synthesized by depth",
+        // Labels of function 0: 1 `#q`, 2 the empty name
+        b"\x03\x09\x01\x00\x02\x01\x02#q\x02\x00",
+        true,
+        &SYNTHESIZED,
+    ),
+    (
+        "labels are those of the function",
+        // Label 0 of function 1: `a`; label 0 of function 3: `a`
+        b"\x03\x0b\x02\x01\x01\x00\x01a\x03\x01\x00\x01a",
+        false,
+        &FUNCTIONS,
+    ),
+];
+
+/// Checks that all steps succeed, for labels with the names of this section.
+///
+/// # Errors
+///
+/// - A step fails.
+fn expect_steps(alloc: Global, (name, section, synthesizes, steps): Row) -> Result<(), Fail> {
+    let names = names_of(alloc, section)?;
+    let identifiers = Identifiers {
+        names: &names,
+        synthesizes,
+    };
+    let labels = OpenLabels::new(alloc, identifiers)?;
+    if labels.identifiers().synthesizes != synthesizes {
+        return Err((name, "the identifiers differ"))?;
+    }
+    let mut walk = Walk {
+        labels,
+        operators: 0,
+    };
+    match walk.first_wrong(steps) {
+        None => Ok(()),
+        Some(step) => Err((name, step))?,
+    }
+}
+
 #[test]
-fn labels_are_those_of_the_function(rt: HostRuntime) -> Result<(), Fail> {
-    // Label 0 of function 1: `a`; label 0 of function 3: `a`
-    let section = b"\x03\x0b\x02\x01\x01\x00\x01a\x03\x01\x00\x01a";
-    assert_labels(&rt, rt.alloc(), section, false, &FUNCTIONS)
+fn labels_refer_to_open_blocks(rt: HostRuntime) -> Result<(), Fail> {
+    for row in ROWS {
+        expect_steps(rt.alloc(), row)?;
+    }
+    Ok(())
 }

@@ -2,8 +2,7 @@
 //! by hand.
 ghost use Rattle.std.specs.Prelude.{None};
 
-use crate::parts::names::names_of;
-use crate::parts::printing::finish;
+use crate::printing::{expect_same, finish, names_of};
 use std::alloc::Global;
 use std::marker::Brand;
 use std::test::Fail;
@@ -14,7 +13,6 @@ use wasmprinter_flat::operators::{Form, Setting, write_operators};
 use wasmprinter_ops::composite::FuncType;
 use wasmprinter_ops::expression::Expression;
 use wasmprinter_print::{PrintFmtWrite, PrintOptions, Printer};
-use wasmprinter_samples::expect_text;
 use wasmprinter_text::signature::Signatures;
 
 /// The types of a module without types.
@@ -76,7 +74,7 @@ fn text_of_operators(
     bytes: &[u8],
 ) -> Result<String, Fail> {
     let expression = Expression::read(alloc, &mut Cursor::new(OPERATORS, bytes))?;
-    let names = names_of(alloc, &[section])?;
+    let names = names_of(alloc, section)?;
     let identifiers = Identifiers {
         names: &names,
         synthesizes,
@@ -84,131 +82,131 @@ fn text_of_operators(
     text_of_expression(alloc, identifiers, setting, hints, &expression)
 }
 
-/// Checks that the operators are printed in one line as typed, in a module with the names of this section.
-fn expect_line(
-    alloc: Global,
-    section: &[u8],
-    synthesizes: bool,
-    bytes: &[u8],
-    typed: &str,
-) -> Result<(), Fail> {
-    let setting = setting(Form::InLine, 0);
-    let hints = FunctionHints::none();
-    let text = text_of_operators(alloc, section, synthesizes, &setting, hints, bytes)?;
-    expect_text(text.as_str(), typed)?;
-    Ok(())
-}
+/// Operators in one line: the name of the row, the content of a section with names, whether identifiers are
+/// synthesized, the bytes, and the text.
+type Line = (
+    &'static str,
+    &'static [u8],
+    bool,
+    &'static [u8],
+    &'static str,
+);
 
-/// Checks that the operators are printed in one line as typed, in a module without names.
-fn expect_nameless(alloc: Global, bytes: &[u8], typed: &str) -> Result<(), Fail> {
-    expect_line(alloc, &[], false, bytes, typed)
-}
+/// Names: local 0 of function 0 is `x`, its labels 0 and 1 are `a`; memory 0 is `m`, global 0 is `g`.
+const NAMES: &[u8] =
+    b"\x02\x06\x01\x00\x01\x00\x01x\x03\x09\x01\x00\x02\x00\x01a\x01\x01a\x06\x04\x01\x00\x01m\x07\x04\x01\x00\x01g";
 
-/// Returns the text of the operators over several lines, with the hints of this section.
-fn with_hints(alloc: Global, section: &[u8], bytes: &[u8]) -> Result<String, Fail> {
-    let mut hints = Hints::of_section(0, section);
-    text_of_operators(
-        alloc,
+const LINES: [Line; 9] = [
+    ("no operator", &[], false, &[0x0b], ""),
+    (
+        "one operator",
         &[],
         false,
-        &setting(Form::OverLines, 2),
-        hints.next_function(0),
-        bytes,
-    )
-}
-
-#[test]
-fn separates_operators_by_one_space(rt: HostRuntime) -> Result<(), Fail> {
-    expect_nameless(rt.alloc(), &[0x0b], "")?;
-    expect_nameless(rt.alloc(), &[0x23, 0x02, 0x0b], "global.get 2")?;
-    let sum = &[0x41, 0x01, 0x41, 0x7b, 0x6a, 0x0b];
-    expect_nameless(rt.alloc(), sum, "i32.const 1 i32.const -5 i32.add")
-}
-
-#[test]
-fn prints_blocks_within_the_line(rt: HostRuntime) -> Result<(), Fail> {
-    expect_nameless(
-        rt.alloc(),
+        &[0x23, 0x02, 0x0b],
+        "global.get 2",
+    ),
+    (
+        "one space between operators",
+        &[],
+        false,
+        &[0x41, 0x01, 0x41, 0x7b, 0x6a, 0x0b],
+        "i32.const 1 i32.const -5 i32.add",
+    ),
+    (
+        "a block within the line",
+        &[],
+        false,
         &[0x02, 0x7f, 0x41, 0x07, 0x0c, 0x00, 0x0b, 0x1a, 0x0b],
         "block (result i32)  (; label = @1 ;) i32.const 7 br 0 (;@1;) end drop",
-    )?;
-    expect_nameless(
-        rt.alloc(),
+    ),
+    (
+        "nested blocks within the line",
+        &[],
+        false,
         &[
             0x02, 0x40, 0x41, 0x01, 0x04, 0x40, 0x0c, 0x01, 0x05, 0x0c, 0x00, 0x0b, 0x0b, 0x0b,
         ],
         "block  (; label = @1 ;) i32.const 1 if  (; label = @2 ;) br 1 (;@1;) else br 0 (;@2;) end end",
-    )
-}
-
-#[test]
-fn names_stand_for_indices(rt: HostRuntime) -> Result<(), Fail> {
-    // Local 0 of function 0 is `x`, its labels 0 and 1 are `a`; memory 0 is `m`, global 0 is `g`
-    let section =
-        b"\x02\x06\x01\x00\x01\x00\x01x\x03\x09\x01\x00\x02\x00\x01a\x01\x01a\x06\x04\x01\x00\x01m\x07\x04\x01\x00\x01g";
-    expect_line(
-        rt.alloc(),
-        section,
+    ),
+    (
+        "names in place of indices",
+        NAMES,
         false,
         &[
             0x20, 0x00, 0x20, 0x01, 0x23, 0x00, 0x28, 0x02, 0x00, 0xfc, 0x0a, 0x00, 0x01, 0x0b,
         ],
         "local.get $x local.get 1 global.get $g i32.load memory.copy $m 1",
-    )?;
-    // The inner `a` shadows the outer one, and the third block has no name
-    expect_line(
-        rt.alloc(),
-        section,
+    ),
+    (
+        // The inner `a` shadows the outer one, and the third block has no name
+        "names of labels",
+        NAMES,
         false,
         &[
             0x02, 0x40, 0x02, 0x40, 0x0c, 0x00, 0x0c, 0x01, 0x0c, 0x02, 0x0b, 0x02, 0x40, 0x0c,
             0x00, 0x0c, 0x01, 0x0b, 0x0b, 0x0b,
         ],
         "block $a block $a br $a br 1 br 2 end block  (; label = @2 ;) br 0 (;@2;) br $a end end",
-    )
-}
-
-#[test]
-fn identifiers_are_synthesized(rt: HostRuntime) -> Result<(), Fail> {
-    expect_line(
-        rt.alloc(),
+    ),
+    (
+        "synthesized identifiers",
         &[],
         true,
         &[0x20, 0x02, 0x10, 0x05, 0xfb, 0x02, 0x03, 0x01, 0x0b],
         "local.get $#local2 call $#func5 struct.get $#type3 $#field1",
-    )?;
-    expect_line(
-        rt.alloc(),
+    ),
+    (
+        "synthesized labels",
         &[],
         true,
         &[
             0x02, 0x40, 0x06, 0x40, 0x18, 0x00, 0x0c, 0x00, 0x0c, 0x01, 0x0b, 0x0b,
         ],
         "block $#label0 try $#label1 delegate $#label0 br $#label0 br 1 end",
-    )
+    ),
+];
+
+#[test]
+fn prints_operators_in_one_line(rt: HostRuntime) -> Result<(), Fail> {
+    let in_line = setting(Form::InLine, 0);
+    for (name, section, synthesizes, bytes, typed) in LINES {
+        let text = text_of_operators(
+            rt.alloc(),
+            section,
+            synthesizes,
+            &in_line,
+            FunctionHints::none(),
+            bytes,
+        )?;
+        expect_same(name, text.as_str(), typed)?;
+    }
+    Ok(())
 }
+
+/// The text of two branches with hints, over several lines.
+const HINTED_TEXT: &str = "\n    block ;; label = @1\
+     \n      local.get 0\
+     \n      (@metadata.code.branch_hint \"\\01\")\
+     \n      br_if 0 (;@1;)\
+     \n    end\
+     \n    local.get 0\
+     \n    (@metadata.code.branch_hint \"\\00\")\
+     \n    if ;; label = @1\
+     \n    end";
 
 #[test]
 fn hints_come_before_their_operators(rt: HostRuntime) -> Result<(), Fail> {
     // `br_if` is 5 bytes after the first byte of the body, `if` is 10 bytes after it
-    let text = with_hints(
+    let mut hints = Hints::of_section(0, &[0x01, 0x00, 0x02, 0x05, 0x01, 0x01, 0x0a, 0x01, 0x00]);
+    let text = text_of_operators(
         rt.alloc(),
-        &[0x01, 0x00, 0x02, 0x05, 0x01, 0x01, 0x0a, 0x01, 0x00],
+        &[],
+        false,
+        &setting(Form::OverLines, 2),
+        hints.next_function(0),
         &[
             0x02, 0x40, 0x20, 0x00, 0x0d, 0x00, 0x0b, 0x20, 0x00, 0x04, 0x40, 0x0b, 0x0b,
         ],
     )?;
-    expect_text(
-        text.as_str(),
-        "\n    block ;; label = @1\
-         \n      local.get 0\
-         \n      (@metadata.code.branch_hint \"\\01\")\
-         \n      br_if 0 (;@1;)\
-         \n    end\
-         \n    local.get 0\
-         \n    (@metadata.code.branch_hint \"\\00\")\
-         \n    if ;; label = @1\
-         \n    end",
-    )?;
-    Ok(())
+    expect_same("two hints", text.as_str(), HINTED_TEXT)
 }
