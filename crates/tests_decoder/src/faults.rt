@@ -478,28 +478,25 @@ fn is_spelled(alloc: Global, (shape, role, bytes): Spelled) -> Result<bool, Allo
     )
 }
 
-#[test]
-fn faults_of_control_are_found_where_operators_have_them(rt: HostRuntime) -> Result<(), Fail> {
-    for (row, spelled) in CONTROL.iter().enumerate() {
-        assert!(rt; is_spelled(rt.alloc(), *spelled)?, "row {row}");
+/// Checks that the bytes of each row are an operator with its shape and role, and each proper prefix is refused.
+///
+/// # Errors
+///
+/// - A row does not hold. The error is the name of the table with the number of the row.
+fn expect_spelled(alloc: Global, name: &'static str, rows: &[Spelled]) -> Result<(), Fail> {
+    for (row, spelled) in rows.iter().enumerate() {
+        if !is_spelled(alloc, *spelled)? {
+            return Err((name, row))?;
+        }
     }
     Ok(())
 }
 
 #[test]
-fn faults_of_indices_are_found_where_operators_have_them(rt: HostRuntime) -> Result<(), Fail> {
-    for (row, spelled) in INDICES.iter().enumerate() {
-        assert!(rt; is_spelled(rt.alloc(), *spelled)?, "row {row}");
-    }
-    Ok(())
-}
-
-#[test]
-fn faults_of_numbers_are_found_where_operators_have_them(rt: HostRuntime) -> Result<(), Fail> {
-    for (row, spelled) in NUMBERS.iter().enumerate() {
-        assert!(rt; is_spelled(rt.alloc(), *spelled)?, "row {row}");
-    }
-    Ok(())
+fn operators_are_read_whole_and_refused_if_truncated(rt: HostRuntime) -> Result<(), Fail> {
+    expect_spelled(rt.alloc(), "control", &CONTROL)?;
+    expect_spelled(rt.alloc(), "indices", &INDICES)?;
+    expect_spelled(rt.alloc(), "numbers", &NUMBERS)
 }
 
 #[test]

@@ -4,7 +4,6 @@ mod immediates;
 mod opcodes;
 
 use std::alloc::{AllocError, Global};
-use std::process::Abort;
 use std::test::Fail;
 use wasmprinter_bytes::bytes::Cursor;
 use wasmprinter_bytes::{Error, Malformed};
@@ -12,8 +11,11 @@ use wasmprinter_ops::blocks::{BlockType, Catch, Catches, Targets};
 use wasmprinter_ops::composite::{CompositeType, FieldType, StorageType, SubType, SubTypes};
 use wasmprinter_ops::expression::{Expression, OperatorsReader};
 use wasmprinter_ops::operands::MemArg;
-use wasmprinter_ops::operator::{Immediates, Operator, read_operator};
+use wasmprinter_ops::operator::{Immediates, Operator};
 use wasmprinter_ops::{HeapType, RefType, ValType, ValTypes, read_type, read_types};
+
+/// An expected memory operand: its exponent, its memory and its offset.
+type Operand = (u32, u32, u64);
 
 /// Expected immediates, with lists as slices.
 #[derive(Clone, Copy)]
@@ -27,8 +29,8 @@ enum Wanted {
     Types(&'static [ValType]),
     Heap(HeapType),
     Cast(u8, u32, HeapType, HeapType),
-    Memory(MemArg),
-    MemoryLane(MemArg, u8),
+    Memory(Operand),
+    MemoryLane(Operand, u8),
     Lane(u8),
     I32(i32),
     I64(i64),
@@ -67,6 +69,11 @@ fn are_types(types: &ValTypes, wanted: &[ValType]) -> bool {
     types.len() as usize == wanted.len()
 }
 
+/// Reports whether this is the memory operand.
+fn is_operand(found: MemArg, (exponent, memory, offset): Operand) -> bool {
+    found.exponent == exponent && found.memory == memory && found.offset == offset
+}
+
 /// Reports whether these are the immediates.
 fn are_wanted(immediates: &Immediates, wanted: &Wanted) -> bool {
     match (immediates, wanted) {
@@ -87,9 +94,9 @@ fn are_wanted(immediates: &Immediates, wanted: &Wanted) -> bool {
         (Immediates::Cast(flags, label, from, to), Wanted::Cast(bits, target, source, other)) => {
             flags == bits && label == target && from == source && to == other
         }
-        (Immediates::Memory(found), Wanted::Memory(operand)) => found == operand,
+        (Immediates::Memory(found), Wanted::Memory(operand)) => is_operand(*found, *operand),
         (Immediates::MemoryLane(found, at), Wanted::MemoryLane(operand, lane)) => {
-            found == operand && at == lane
+            is_operand(*found, *operand) && at == lane
         }
         (Immediates::Lane(found), Wanted::Lane(lane)) => found == lane,
         (Immediates::I32(found), Wanted::I32(number)) => found == number,
@@ -122,197 +129,152 @@ fn first_missing(reader: &mut OperatorsReader, wanted: &[Placed]) -> Option<u64>
     None
 }
 
-/// Asserts that the bytes are exactly an expression of these operators. The first byte is at 0x1a.
-fn assert_walk(
-    rt: &impl Abort,
-    alloc: Global,
-    bytes: &[u8],
-    wanted: &[Placed],
-) -> Result<(), Fail> {
-    let mut cursor = Cursor::new(0x1a, bytes);
-    let expression = Expression::read(alloc, &mut cursor)?;
-    assert!(rt; cursor.is_empty() && expression.end() == 0x19 + bytes.len() as u64);
-    let mut reader = expression.operators();
-    let missing = first_missing(&mut reader, wanted);
-    assert!(rt; missing == None, "at {missing:?}");
-    assert!(rt; reader.next().is_none());
-    Ok(())
-}
+/// An expression: the name of the row, its bytes, the first of which is at 0x1a, and its operators.
+type Walk = (&'static str, &'static [u8], &'static [Placed]);
 
-/// Operators without blocks.
-const FLAT: [Placed; 5] = [
-    (0x1a, "i64.const", Wanted::I64(-1)),
-    (0x1c, "local.set", Wanted::Index(0)),
-    (0x1e, "local.get", Wanted::Index(0)),
-    (0x20, "i32.const", Wanted::I32(42)),
-    (0x22, "drop", Wanted::None),
-];
-
-#[test]
-fn flat_operators_are_walked(rt: HostRuntime) -> Result<(), Fail> {
-    assert_walk(
-        &rt,
-        rt.alloc(),
+const WALKS: [Walk; 7] = [
+    (
+        "operators without blocks",
         &[0x42, 0x7f, 0x21, 0x00, 0x20, 0x00, 0x41, 0x2a, 0x1a, 0x0b],
-        &FLAT,
-    )
-}
-
-/// Blocks and loops, nested and in sequence.
-const BLOCKS: [Placed; 8] = [
-    (0x1a, "block", Wanted::Block(BlockType::Empty)),
-    (0x1c, "loop", Wanted::Block(BlockType::Value(ValType::I64))),
-    (0x1e, "br", Wanted::Index(1)),
-    (0x20, "end", Wanted::None),
-    (0x21, "drop", Wanted::None),
-    (0x22, "end", Wanted::None),
-    (0x23, "block", Wanted::Block(BlockType::Func(129))),
-    (0x26, "end", Wanted::None),
-];
-
-#[test]
-fn blocks_and_loops_are_walked(rt: HostRuntime) -> Result<(), Fail> {
-    assert_walk(
-        &rt,
-        rt.alloc(),
+        &[
+            (0x1a, "i64.const", Wanted::I64(-1)),
+            (0x1c, "local.set", Wanted::Index(0)),
+            (0x1e, "local.get", Wanted::Index(0)),
+            (0x20, "i32.const", Wanted::I32(42)),
+            (0x22, "drop", Wanted::None),
+        ],
+    ),
+    (
+        "blocks and loops, nested and in sequence",
         &[
             0x02, 0x40, 0x03, 0x7e, 0x0c, 0x01, 0x0b, 0x1a, 0x0b, 0x02, 0x81, 0x01, 0x0b, 0x0b,
         ],
-        &BLOCKS,
-    )
-}
-
-/// An `if` with `else`, one without, and one with two empty arms.
-const IFS: [Placed; 11] = [
-    (0x1a, "if", Wanted::Block(BlockType::Value(ValType::I32))),
-    (0x1c, "i32.const", Wanted::I32(1)),
-    (0x1e, "else", Wanted::None),
-    (0x1f, "i32.const", Wanted::I32(2)),
-    (0x21, "end", Wanted::None),
-    (0x22, "if", Wanted::Block(BlockType::Empty)),
-    (0x24, "nop", Wanted::None),
-    (0x25, "end", Wanted::None),
-    (0x26, "if", Wanted::Block(BlockType::Empty)),
-    (0x28, "else", Wanted::None),
-    (0x29, "end", Wanted::None),
-];
-
-#[test]
-fn ifs_are_walked(rt: HostRuntime) -> Result<(), Fail> {
-    assert_walk(
-        &rt,
-        rt.alloc(),
+        &[
+            (0x1a, "block", Wanted::Block(BlockType::Empty)),
+            (0x1c, "loop", Wanted::Block(BlockType::Value(ValType::I64))),
+            (0x1e, "br", Wanted::Index(1)),
+            (0x20, "end", Wanted::None),
+            (0x21, "drop", Wanted::None),
+            (0x22, "end", Wanted::None),
+            (0x23, "block", Wanted::Block(BlockType::Func(129))),
+            (0x26, "end", Wanted::None),
+        ],
+    ),
+    (
+        "an `if` with `else`, one without, and one with two empty arms",
         &[
             0x04, 0x7f, 0x41, 0x01, 0x05, 0x41, 0x02, 0x0b, 0x04, 0x40, 0x01, 0x0b, 0x04, 0x40,
             0x05, 0x0b, 0x0b,
         ],
-        &IFS,
-    )
-}
-
-/// A `try` with clauses, and one that ends in `delegate`.
-const TRIES: [Placed; 11] = [
-    (0x1a, "try", Wanted::Block(BlockType::Empty)),
-    (0x1c, "throw", Wanted::Index(3)),
-    (0x1e, "catch", Wanted::Index(3)),
-    (0x20, "rethrow", Wanted::Index(0)),
-    (0x22, "catch", Wanted::Index(4)),
-    (0x24, "catch_all", Wanted::None),
-    (0x25, "end", Wanted::None),
-    (0x26, "try", Wanted::Block(BlockType::Empty)),
-    (0x28, "try", Wanted::Block(BlockType::Empty)),
-    (0x2a, "delegate", Wanted::Index(0)),
-    (0x2c, "end", Wanted::None),
-];
-
-#[test]
-fn tries_are_walked(rt: HostRuntime) -> Result<(), Fail> {
-    assert_walk(
-        &rt,
-        rt.alloc(),
+        &[
+            (0x1a, "if", Wanted::Block(BlockType::Value(ValType::I32))),
+            (0x1c, "i32.const", Wanted::I32(1)),
+            (0x1e, "else", Wanted::None),
+            (0x1f, "i32.const", Wanted::I32(2)),
+            (0x21, "end", Wanted::None),
+            (0x22, "if", Wanted::Block(BlockType::Empty)),
+            (0x24, "nop", Wanted::None),
+            (0x25, "end", Wanted::None),
+            (0x26, "if", Wanted::Block(BlockType::Empty)),
+            (0x28, "else", Wanted::None),
+            (0x29, "end", Wanted::None),
+        ],
+    ),
+    (
+        "a `try` with clauses, and one that ends in `delegate`",
         &[
             0x06, 0x40, 0x08, 0x03, 0x07, 0x03, 0x09, 0x00, 0x07, 0x04, 0x19, 0x0b, 0x06, 0x40,
             0x06, 0x40, 0x18, 0x00, 0x0b, 0x0b,
         ],
-        &TRIES,
-    )
-}
-
-/// A `try_table` with a clause of each kind, and one without clauses.
-const TRY_TABLES: [Placed; 5] = [
-    (
-        0x1a,
-        "try_table",
-        Wanted::TryTable(
-            BlockType::Empty,
-            &[
-                Catch::One(5, 1),
-                Catch::OneRef(6, 2),
-                Catch::All(3),
-                Catch::AllRef(4),
-            ],
-        ),
+        &[
+            (0x1a, "try", Wanted::Block(BlockType::Empty)),
+            (0x1c, "throw", Wanted::Index(3)),
+            (0x1e, "catch", Wanted::Index(3)),
+            (0x20, "rethrow", Wanted::Index(0)),
+            (0x22, "catch", Wanted::Index(4)),
+            (0x24, "catch_all", Wanted::None),
+            (0x25, "end", Wanted::None),
+            (0x26, "try", Wanted::Block(BlockType::Empty)),
+            (0x28, "try", Wanted::Block(BlockType::Empty)),
+            (0x2a, "delegate", Wanted::Index(0)),
+            (0x2c, "end", Wanted::None),
+        ],
     ),
-    (0x27, "throw_ref", Wanted::None),
-    (0x28, "end", Wanted::None),
-    (0x29, "try_table", Wanted::TryTable(BlockType::Func(0), &[])),
-    (0x2c, "end", Wanted::None),
-];
-
-#[test]
-fn catch_clauses_are_walked(rt: HostRuntime) -> Result<(), Fail> {
-    assert_walk(
-        &rt,
-        rt.alloc(),
+    (
+        "a `try_table` with a clause of each kind, and one without clauses",
         &[
             0x1f, 0x40, 0x04, 0x00, 0x05, 0x01, 0x01, 0x06, 0x02, 0x02, 0x03, 0x03, 0x04, 0x0a,
             0x0b, 0x1f, 0x00, 0x00, 0x0b, 0x0b,
         ],
-        &TRY_TABLES,
-    )
-}
-
-/// A `br_table` with labels, and one with only the default label.
-const BRANCH_TABLES: [Placed; 2] = [
-    (0x1a, "br_table", Wanted::BrTable(&[0, 129, 2], 4)),
-    (0x21, "br_table", Wanted::BrTable(&[], 5)),
-];
-
-#[test]
-fn branch_tables_are_walked(rt: HostRuntime) -> Result<(), Fail> {
-    assert_walk(
-        &rt,
-        rt.alloc(),
+        &[
+            (
+                0x1a,
+                "try_table",
+                Wanted::TryTable(
+                    BlockType::Empty,
+                    &[
+                        Catch::One(5, 1),
+                        Catch::OneRef(6, 2),
+                        Catch::All(3),
+                        Catch::AllRef(4),
+                    ],
+                ),
+            ),
+            (0x27, "throw_ref", Wanted::None),
+            (0x28, "end", Wanted::None),
+            (0x29, "try_table", Wanted::TryTable(BlockType::Func(0), &[])),
+            (0x2c, "end", Wanted::None),
+        ],
+    ),
+    (
+        "a `br_table` with labels, and one with only the default label",
         &[
             0x0e, 0x03, 0x00, 0x81, 0x01, 0x02, 0x04, 0x0e, 0x00, 0x05, 0x0b,
         ],
-        &BRANCH_TABLES,
-    )
-}
-
-/// Bytes that encode no operator, each with the place of the error.
-const REFUSED: [(&[u8], u64); 7] = [
-    (&[0xff], 0),
-    (&[0xfc, 0x12], 0),
-    // A block type that is a negative number, or a number of 34 bits
-    (&[0x02, 0x41], 1),
-    (&[0x02, 0x80, 0x80, 0x80, 0x80, 0x10], 5),
-    // An unknown kind of catch clause
-    (&[0x1f, 0x40, 0x01, 0x04, 0x00], 3),
-    // Counts of 2^32 - 1 at the end of the bytes: of labels, and of clauses
-    (&[0x0e, 0xff, 0xff, 0xff, 0xff, 0x0f], 6),
-    (&[0x1f, 0x40, 0xff, 0xff, 0xff, 0xff, 0x0f], 7),
+        &[
+            (0x1a, "br_table", Wanted::BrTable(&[0, 129, 2], 4)),
+            (0x21, "br_table", Wanted::BrTable(&[], 5)),
+        ],
+    ),
+    (
+        "an operator with each prefix",
+        &[0xfb, 26, 0xfc, 7, 0xfd, 0x93, 0x02, 0xfe, 0x03, 0x00, 0x0b],
+        &[
+            (0x1a, "any.convert_extern", Wanted::None),
+            (0x1c, "i64.trunc_sat_f64_u", Wanted::None),
+            (0x1e, "i32x4.relaxed_dot_i8x16_i7x16_add_s", Wanted::None),
+            (0x21, "atomic.fence", Wanted::None),
+        ],
+    ),
 ];
 
-#[test]
-fn other_operators_are_refused(rt: HostRuntime) {
-    for (row, (bytes, place)) in REFUSED.iter().enumerate() {
-        let found = read_operator(&mut Cursor::new(0, *bytes));
-        assert!(rt;
-            matches!(found, Err(fault) if fault.place == *place),
-            "row {row}"
-        );
+/// Checks that the bytes are exactly an expression of these operators.
+///
+/// # Errors
+///
+/// - The bytes are refused, or another byte follows the expression, or an operator differs.
+fn expect_walk(alloc: Global, (name, bytes, wanted): Walk) -> Result<(), Fail> {
+    let mut cursor = Cursor::new(0x1a, bytes);
+    let expression = Expression::read(alloc, &mut cursor)?;
+    if !cursor.is_empty() || expression.end() != 0x19 + bytes.len() as u64 {
+        return Err((name, "ends elsewhere"))?;
     }
+    let mut reader = expression.operators();
+    if let Some(place) = first_missing(&mut reader, wanted) {
+        return Err((name, place))?;
+    }
+    if reader.next().is_some() {
+        return Err((name, "another operator follows"))?;
+    }
+    Ok(())
+}
+
+#[test]
+fn operators_of_expressions_are_walked(rt: HostRuntime) -> Result<(), Fail> {
+    for walk in WALKS {
+        expect_walk(rt.alloc(), walk)?;
+    }
+    Ok(())
 }
 
 /// Returns the place at which the bytes are refused, or `None` if they begin with an expression.
@@ -323,35 +285,54 @@ fn place_of_refusal(alloc: Global, bytes: &[u8]) -> Option<u64> {
     }
 }
 
-/// Bytes that encode operators but no expression, each with the place of the error (section 5.4, "Control
-/// Instructions").
-const NESTINGS: [(&[u8], u64); 13] = [
-    // Without `end`
-    (&[0x41, 0x00], 2),
-    (&[0x02, 0x40, 0x0b], 3),
-    // `else` outside any block, in a block, and after another `else`
-    (&[0x05, 0x0b], 0),
-    (&[0x02, 0x40, 0x05, 0x0b, 0x0b], 2),
-    (&[0x04, 0x40, 0x05, 0x05, 0x0b, 0x0b], 3),
-    // `catch` in a block, in an `if`, and after `catch_all`
-    (&[0x02, 0x40, 0x07, 0x00, 0x0b, 0x0b], 2),
-    (&[0x04, 0x40, 0x07, 0x00, 0x0b, 0x0b], 2),
-    (&[0x06, 0x40, 0x19, 0x07, 0x00, 0x0b, 0x0b], 3),
-    // `catch_all` in a block, and after another `catch_all`
-    (&[0x02, 0x40, 0x19, 0x0b, 0x0b], 2),
-    (&[0x06, 0x40, 0x19, 0x19, 0x0b, 0x0b], 3),
-    // `delegate` outside any block, in a block, and after `catch`
-    (&[0x18, 0x00, 0x0b], 0),
-    (&[0x02, 0x40, 0x18, 0x00, 0x0b], 2),
-    (&[0x06, 0x40, 0x07, 0x00, 0x18, 0x00, 0x0b], 4),
+/// Bytes that encode operators but no expression: the name of the row, the bytes, and the place of the error (section
+/// 5.4, "Control Instructions").
+const NESTINGS: [(&str, &[u8], u64); 13] = [
+    ("no `end`", &[0x41, 0x00], 2),
+    ("one `end` for two", &[0x02, 0x40, 0x0b], 3),
+    ("`else` outside any block", &[0x05, 0x0b], 0),
+    ("`else` in a block", &[0x02, 0x40, 0x05, 0x0b, 0x0b], 2),
+    (
+        "`else` after another one",
+        &[0x04, 0x40, 0x05, 0x05, 0x0b, 0x0b],
+        3,
+    ),
+    (
+        "`catch` in a block",
+        &[0x02, 0x40, 0x07, 0x00, 0x0b, 0x0b],
+        2,
+    ),
+    (
+        "`catch` in an `if`",
+        &[0x04, 0x40, 0x07, 0x00, 0x0b, 0x0b],
+        2,
+    ),
+    (
+        "`catch` after `catch_all`",
+        &[0x06, 0x40, 0x19, 0x07, 0x00, 0x0b, 0x0b],
+        3,
+    ),
+    ("`catch_all` in a block", &[0x02, 0x40, 0x19, 0x0b, 0x0b], 2),
+    (
+        "`catch_all` after another one",
+        &[0x06, 0x40, 0x19, 0x19, 0x0b, 0x0b],
+        3,
+    ),
+    ("`delegate` outside any block", &[0x18, 0x00, 0x0b], 0),
+    ("`delegate` in a block", &[0x02, 0x40, 0x18, 0x00, 0x0b], 2),
+    (
+        "`delegate` after `catch`",
+        &[0x06, 0x40, 0x07, 0x00, 0x18, 0x00, 0x0b],
+        4,
+    ),
 ];
 
 #[test]
 fn other_nesting_is_refused(rt: HostRuntime) {
-    for (row, (bytes, place)) in NESTINGS.iter().enumerate() {
+    for (name, bytes, place) in NESTINGS {
         assert!(rt;
-            place_of_refusal(rt.alloc(), *bytes) == Some(*place),
-            "row {row}"
+            place_of_refusal(rt.alloc(), bytes) == Some(place),
+            "{name}"
         );
     }
 }
@@ -392,23 +373,29 @@ fn blocks_nest_deep(rt: HostRuntime) -> Result<(), Fail> {
     Ok(())
 }
 
-/// Returns the second item of a vector of value types, or `None` if there are fewer.
-fn second(cursor: &mut Cursor) -> Result<Option<ValType>, Malformed> {
-    let mut types = read_types(cursor)?.iter();
-    types.next();
-    Ok(types.next())
+/// An expected value type, or the place of an error.
+#[derive(Clone, Copy)]
+enum Expected {
+    /// This number type or vector type
+    Simple(ValType),
+    /// References to this type, which may be null
+    Nullable(HeapType),
+    /// References to this type, which are not null
+    NonNull(HeapType),
+    /// A refusal with this place
+    Refused(u64),
 }
 
-#[test]
-fn value_types_are_read(rt: HostRuntime) {
-    assert!(rt; second(&mut Cursor::new(0, &[0x02, 0x7f, 0x7e])) == Ok(Some(ValType::I64)));
-    assert!(rt; second(&mut Cursor::new(0, &[0x01, 0x7f])) == Ok(None));
-    assert!(rt; second(&mut Cursor::new(0, &[0x02, 0x7f, 0x40])) == Err(Malformed { place: 2 }));
-}
-
-/// Returns the value type at the start of the bytes.
-fn type_of_bytes(bytes: &[u8]) -> Result<ValType, Malformed> {
-    read_type(&mut Cursor::new(0, bytes))
+impl Expected {
+    /// Returns the type, or the error.
+    fn result(self) -> Result<ValType, Malformed> {
+        match self {
+            Expected::Simple(ty) => Ok(ty),
+            Expected::Nullable(heap) => Ok(reference(true, heap)),
+            Expected::NonNull(heap) => Ok(reference(false, heap)),
+            Expected::Refused(place) => Err(Malformed { place }),
+        }
+    }
 }
 
 /// Returns a reference type.
@@ -416,56 +403,112 @@ fn reference(nullable: bool, heap: HeapType) -> ValType {
     ValType::Ref(RefType { nullable, heap })
 }
 
-#[test]
-fn value_types_have_their_bytes(rt: HostRuntime) {
-    let rows = [
-        (0x7f, ValType::I32),
-        (0x7e, ValType::I64),
-        (0x7d, ValType::F32),
-        (0x7c, ValType::F64),
-        (0x7b, ValType::V128),
-        (0x69, reference(true, HeapType::Exn)),
-        (0x6a, reference(true, HeapType::Array)),
-        (0x6b, reference(true, HeapType::Struct)),
-        (0x6c, reference(true, HeapType::I31)),
-        (0x6d, reference(true, HeapType::Eq)),
-        (0x6e, reference(true, HeapType::Any)),
-        (0x6f, reference(true, HeapType::Extern)),
-        (0x70, reference(true, HeapType::Func)),
-        (0x71, reference(true, HeapType::NoAny)),
-        (0x72, reference(true, HeapType::NoExtern)),
-        (0x73, reference(true, HeapType::NoFunc)),
-        (0x74, reference(true, HeapType::NoExn)),
-    ];
-    for (byte, val_type) in rows {
-        assert!(rt; type_of_bytes(&[byte]) == Ok(val_type));
-    }
-    for byte in [0x40, 0x60, 0x68, 0x75, 0x77, 0x78, 0x79, 0x7a, 0x80] {
-        assert!(rt; type_of_bytes(&[byte]) == Err(Malformed { place: 0 }));
-    }
+/// Value types: the name of the row, the bytes, and the type or the place of the error.
+const VALUE_TYPES: [(&str, &[u8], Expected); 34] = [
+    ("i32", &[0x7f], Expected::Simple(ValType::I32)),
+    ("i64", &[0x7e], Expected::Simple(ValType::I64)),
+    ("f32", &[0x7d], Expected::Simple(ValType::F32)),
+    ("f64", &[0x7c], Expected::Simple(ValType::F64)),
+    ("v128", &[0x7b], Expected::Simple(ValType::V128)),
+    ("nullable exn", &[0x69], Expected::Nullable(HeapType::Exn)),
+    (
+        "nullable array",
+        &[0x6a],
+        Expected::Nullable(HeapType::Array),
+    ),
+    (
+        "nullable struct",
+        &[0x6b],
+        Expected::Nullable(HeapType::Struct),
+    ),
+    ("nullable i31", &[0x6c], Expected::Nullable(HeapType::I31)),
+    ("nullable eq", &[0x6d], Expected::Nullable(HeapType::Eq)),
+    ("nullable any", &[0x6e], Expected::Nullable(HeapType::Any)),
+    (
+        "nullable extern",
+        &[0x6f],
+        Expected::Nullable(HeapType::Extern),
+    ),
+    ("nullable func", &[0x70], Expected::Nullable(HeapType::Func)),
+    (
+        "nullable none",
+        &[0x71],
+        Expected::Nullable(HeapType::NoAny),
+    ),
+    (
+        "nullable noextern",
+        &[0x72],
+        Expected::Nullable(HeapType::NoExtern),
+    ),
+    (
+        "nullable nofunc",
+        &[0x73],
+        Expected::Nullable(HeapType::NoFunc),
+    ),
+    (
+        "nullable noexn",
+        &[0x74],
+        Expected::Nullable(HeapType::NoExn),
+    ),
+    ("byte 40 is no type", &[0x40], Expected::Refused(0)),
+    ("byte 60 is no type", &[0x60], Expected::Refused(0)),
+    ("byte 68 is no type", &[0x68], Expected::Refused(0)),
+    ("byte 75 is no type", &[0x75], Expected::Refused(0)),
+    ("byte 77 is no type", &[0x77], Expected::Refused(0)),
+    ("byte 78 is no type", &[0x78], Expected::Refused(0)),
+    ("byte 79 is no type", &[0x79], Expected::Refused(0)),
+    ("byte 7a is no type", &[0x7a], Expected::Refused(0)),
+    ("byte 80 is no type", &[0x80], Expected::Refused(0)),
+    (
+        "func in two bytes",
+        &[0x64, 0x70],
+        Expected::NonNull(HeapType::Func),
+    ),
+    (
+        "nullable func in two bytes",
+        &[0x63, 0x70],
+        Expected::Nullable(HeapType::Func),
+    ),
+    (
+        "nullable type 0",
+        &[0x63, 0x00],
+        Expected::Nullable(HeapType::Index(0)),
+    ),
+    (
+        "type 128",
+        &[0x64, 0x80, 0x01],
+        Expected::NonNull(HeapType::Index(128)),
+    ),
+    (
+        "the greatest type index",
+        &[0x64, 0xff, 0xff, 0xff, 0xff, 0x0f],
+        Expected::NonNull(HeapType::Index(u32::MAX)),
+    ),
+    ("a negative heap type", &[0x64, 0x40], Expected::Refused(1)),
+    (
+        "a heap type in two bytes",
+        &[0x64, 0xf0, 0x7f],
+        Expected::Refused(1),
+    ),
+    ("no heap type", &[0x63], Expected::Refused(1)),
+];
+
+/// Returns the second item of a vector of value types, or `None` if there are fewer.
+fn second(bytes: &[u8]) -> Result<Option<ValType>, Malformed> {
+    let mut types = read_types(&mut Cursor::new(0, bytes))?.iter();
+    types.next();
+    Ok(types.next())
 }
 
 #[test]
-fn references_say_whether_they_may_be_null(rt: HostRuntime) {
-    let rows: [(&[u8], Result<ValType, Malformed>); 8] = [
-        (&[0x64, 0x70], Ok(reference(false, HeapType::Func))),
-        (&[0x63, 0x70], Ok(reference(true, HeapType::Func))),
-        (&[0x63, 0x00], Ok(reference(true, HeapType::Index(0)))),
-        (
-            &[0x64, 0x80, 0x01],
-            Ok(reference(false, HeapType::Index(128))),
-        ),
-        (
-            &[0x64, 0xff, 0xff, 0xff, 0xff, 0x0f],
-            Ok(reference(false, HeapType::Index(u32::MAX))),
-        ),
-        (&[0x64, 0x40], Err(Malformed { place: 1 })),
-        (&[0x64, 0xf0, 0x7f], Err(Malformed { place: 1 })),
-        (&[0x63], Err(Malformed { place: 1 })),
-    ];
-    for (row, (bytes, wanted)) in rows.iter().enumerate() {
-        assert!(rt; type_of_bytes(*bytes) == *wanted, "row {row}");
+fn value_types_are_read(rt: HostRuntime) {
+    for (name, bytes, expected) in VALUE_TYPES {
+        let found = read_type(&mut Cursor::new(0, bytes));
+        assert!(rt; found == expected.result(), "{name}");
     }
+    assert!(rt; second(&[0x02, 0x7f, 0x7e]) == Ok(Some(ValType::I64)));
+    assert!(rt; second(&[0x01, 0x7f]) == Ok(None));
+    assert!(rt; second(&[0x02, 0x7f, 0x40]) == Err(Malformed { place: 2 }));
 }
 
 /// Returns the number of types in a group, which the bytes encode with the count first.
@@ -510,23 +553,45 @@ fn fields_are_read(rt: HostRuntime) -> Result<(), Fail> {
     Ok(())
 }
 
-/// Groups of types, encoded with the count first, each with the number of types or the place of the error.
-const COUNTED: [(&[u8], Result<u32, Malformed>); 7] = [
-    (&[0x01, 0x5e, 0x77, 0x01], Ok(1)),
-    (&[0x01, 0x5e, 0x79, 0x00], Err(Malformed { place: 2 })),
-    (&[0x01, 0x5e, 0x78, 0x02], Err(Malformed { place: 3 })),
-    (&[0x01, 0x79], Err(Malformed { place: 1 })),
-    (&[0x01, 0x4e, 0x00], Err(Malformed { place: 1 })),
+/// Groups of types: the name of the row, the bytes with the count first, and the number of types or the place of the
+/// error.
+const GROUPS: [(&str, &[u8], Result<u32, Malformed>); 7] = [
+    ("an array type", &[0x01, 0x5e, 0x77, 0x01], Ok(1)),
     (
+        "an unknown storage type",
+        &[0x01, 0x5e, 0x79, 0x00],
+        Err(Malformed { place: 2 }),
+    ),
+    (
+        "an unknown mutability",
+        &[0x01, 0x5e, 0x78, 0x02],
+        Err(Malformed { place: 3 }),
+    ),
+    (
+        "an unknown form of types",
+        &[0x01, 0x79],
+        Err(Malformed { place: 1 }),
+    ),
+    (
+        "a nested group",
+        &[0x01, 0x4e, 0x00],
+        Err(Malformed { place: 1 }),
+    ),
+    (
+        "a subtype in a subtype",
         &[0x01, 0x50, 0x00, 0x50, 0x00, 0x60, 0x00, 0x00],
         Err(Malformed { place: 3 }),
     ),
-    (&[0xff, 0xff, 0xff, 0xff, 0x0f], Err(Malformed { place: 5 })),
+    (
+        "a count without types",
+        &[0xff, 0xff, 0xff, 0xff, 0x0f],
+        Err(Malformed { place: 5 }),
+    ),
 ];
 
 #[test]
-fn other_types_are_refused(rt: HostRuntime) {
-    for (row, (bytes, wanted)) in COUNTED.iter().enumerate() {
-        assert!(rt; count_of(*bytes) == *wanted, "row {row}");
+fn groups_of_types_are_counted(rt: HostRuntime) {
+    for (name, bytes, wanted) in GROUPS {
+        assert!(rt; count_of(bytes) == wanted, "{name}");
     }
 }
