@@ -29,78 +29,101 @@ fn subsections_of<'a>(bytes: &'a [u8]) -> Option<Dylink<'a>> {
     }
 }
 
-/// Returns the place, name and version of the second value of the first field.
-fn second_value(bytes: &[u8]) -> Option<(u64, &str, &str)> {
-    let field = fields_of(bytes)?.next()?;
-    let value = field.values().nth(1)?;
-    Some((value.place(), value.name(), value.version()))
-}
-
-/// Returns the name of the second field.
-fn second_name(bytes: &[u8]) -> Option<&str> {
-    let field = fields_of(bytes)?.nth(1)?;
-    Some(field.name())
-}
-
-#[test]
-fn fields_of_producers_are_read(rt: HostRuntime) {
-    // `language` with `Rust` and `C` "11"; `sdk` without values
-    let bytes = b"\x02\x08language\x02\x04Rust\x00\x01C\x0211\x03sdk\x00";
-    assert!(rt; second_value(bytes) == Some((0x111, "C", "11")));
-    assert!(rt; second_name(bytes) == Some("sdk"));
-}
-
-/// Returns this file's word for the role of a section.
-fn role_word(name: &str, bytes: &[u8]) -> &'static str {
+/// Returns this file's word for the role of a section, and the id of an unknown subsection or 0.
+fn role_of(name: &str, bytes: &[u8]) -> (&'static str, u8) {
     match custom_role(name, 0, bytes) {
-        CustomRole::Silent => "silent",
-        CustomRole::Producers(_) => "producers",
-        CustomRole::Dylink(_) => "dylink",
-        CustomRole::Refused(_) => "refused",
-        CustomRole::Raw => "raw",
-        CustomRole::Malformed => "faulted",
+        CustomRole::Silent => ("silent", 0),
+        CustomRole::Producers(_) => ("producers", 0),
+        CustomRole::Dylink(_) => ("dylink", 0),
+        CustomRole::Refused(id) => ("refused", id),
+        CustomRole::Raw => ("raw", 0),
+        CustomRole::Malformed => ("malformed", 0),
     }
 }
 
-/// Sections by name and bytes, each with the word for its role.
-const ROLES: [(&str, &[u8], &str); 16] = [
-    ("name", b"\xff", "silent"),
-    ("metadata.code.branch_hint", b"\xff", "silent"),
-    ("names", b"", "raw"),
-    ("producers", b"", "faulted"),
-    ("producers", b"\x00", "producers"),
-    ("producers", b"\x00\x00", "faulted"),
-    ("producers", b"\x01\x01$\x00", "producers"),
-    ("producers", b"\x01\x00\x00", "raw"),
-    ("producers", b"\x01\x03a b\x00", "raw"),
-    ("producers", b"\x01\x01\xff\x00", "faulted"),
-    ("dylink.0", b"", "dylink"),
-    ("dylink.0", b"\x01\x05\x10", "faulted"),
-    ("dylink.0", b"\x05\x01\x00\x09\x00", "refused"),
-    ("dylink.0", b"\x09\x01\x00\x01\x05\x10", "refused"),
-    ("dylink.0", b"\x05\x02\x00\x00\x09\x00", "faulted"),
-    ("dylink.0", b"\x00\x01", "faulted"),
+/// Sections: the name of the row, the section's name and bytes, the word for its role, and the id of an unknown
+/// subsection or 0.
+type RoleRow = (
+    &'static str,
+    &'static str,
+    &'static [u8],
+    (&'static str, u8),
+);
+
+const ROLES: [RoleRow; 17] = [
+    ("names", "name", b"\xff", ("silent", 0)),
+    ("hints", "metadata.code.branch_hint", b"\xff", ("silent", 0)),
+    ("an unknown section", "names", b"", ("raw", 0)),
+    ("no count of fields", "producers", b"", ("malformed", 0)),
+    ("no fields", "producers", b"\x00", ("producers", 0)),
+    (
+        "a byte after the fields",
+        "producers",
+        b"\x00\x00",
+        ("malformed", 0),
+    ),
+    (
+        "a field `$`",
+        "producers",
+        b"\x01\x01$\x00",
+        ("producers", 0),
+    ),
+    (
+        "a field with an empty name",
+        "producers",
+        b"\x01\x00\x00",
+        ("raw", 0),
+    ),
+    (
+        "a field with a space",
+        "producers",
+        b"\x01\x03a b\x00",
+        ("raw", 0),
+    ),
+    (
+        "a field that is not UTF-8",
+        "producers",
+        b"\x01\x01\xff\x00",
+        ("malformed", 0),
+    ),
+    ("no subsections", "dylink.0", b"", ("dylink", 0)),
+    (
+        "a truncated subsection",
+        "dylink.0",
+        b"\x01\x05\x10",
+        ("malformed", 0),
+    ),
+    (
+        "unknown subsection 9",
+        "dylink.0",
+        b"\x05\x01\x00\x09\x00",
+        ("refused", 9),
+    ),
+    (
+        "an unknown subsection before a truncated one",
+        "dylink.0",
+        b"\x09\x01\x00\x01\x05\x10",
+        ("refused", 9),
+    ),
+    (
+        "an unknown subsection after a malformed one",
+        "dylink.0",
+        b"\x05\x02\x00\x00\x09\x00",
+        ("malformed", 0),
+    ),
+    (
+        "a subsection without bytes",
+        "dylink.0",
+        b"\x00\x01",
+        ("malformed", 0),
+    ),
+    (
+        "unknown subsection 7",
+        "dylink.0",
+        b"\x07\x00",
+        ("refused", 7),
+    ),
 ];
-
-#[test]
-fn sections_have_roles(rt: HostRuntime) {
-    for (name, bytes, wanted) in &ROLES {
-        assert!(rt; role_word(name, bytes) == *wanted);
-    }
-}
-
-/// Returns the id of the first unknown subsection, or `None` if the section is not refused.
-fn refused_for(bytes: &[u8]) -> Option<u8> {
-    match custom_role("dylink.0", 0, bytes) {
-        CustomRole::Refused(id) => Some(id),
-        _ => None,
-    }
-}
-
-#[test]
-fn reports_unknown_subsections(rt: HostRuntime) {
-    assert!(rt; refused_for(b"\x07\x00") == Some(7));
-}
 
 /// Characters, each with the word for the role of a `producers` section whose only field has this character as its
 /// name.
@@ -123,10 +146,46 @@ const CHARACTERS: [(u8, &str); 15] = [
 ];
 
 #[test]
-fn identifier_characters_are_known(rt: HostRuntime) {
-    for (byte, wanted) in CHARACTERS {
-        assert!(rt; role_word("producers", &[0x01, 0x01, byte, 0x00]) == wanted);
+fn sections_have_roles(rt: HostRuntime) {
+    for (name, section, bytes, wanted) in ROLES {
+        assert!(rt; role_of(section, bytes) == wanted, "{name}");
     }
+    for (byte, wanted) in CHARACTERS {
+        let role = role_of("producers", &[0x01, 0x01, byte, 0x00]);
+        assert!(rt; role == (wanted, 0), "a field named by byte {byte:#x}");
+    }
+}
+
+/// An expected fact about the contents of a section.
+#[derive(Clone, Copy)]
+enum Fact {
+    /// The place, name and version of the second value of the first field
+    SecondValue(u64, &'static str, &'static str),
+    /// The name of the second field
+    SecondField(&'static str),
+    /// The place of the second subsection
+    SecondSubsection(u64),
+    /// The sizes and alignments of the first subsection: those of the memory, then those of the table
+    Sizes([u32; 4]),
+    /// The second name of the first subsection, which has libraries or paths, or `None` if there is one name
+    SecondPath(Option<&'static str>),
+    /// The name and the flags of the first export of the first subsection
+    Export(&'static str, u32),
+    /// The module, the name and the flags of the first import of the first subsection
+    Import(&'static str, &'static str, u32),
+}
+
+/// Returns the place, name and version of the second value of the first field.
+fn second_value(bytes: &[u8]) -> Option<(u64, &str, &str)> {
+    let field = fields_of(bytes)?.next()?;
+    let value = field.values().nth(1)?;
+    Some((value.place(), value.name(), value.version()))
+}
+
+/// Returns the name of the second field.
+fn second_name(bytes: &[u8]) -> Option<&str> {
+    let field = fields_of(bytes)?.nth(1)?;
+    Some(field.name())
 }
 
 /// Returns the place of the second subsection.
@@ -187,18 +246,56 @@ fn import_of(bytes: &[u8]) -> Option<(&str, &str, u32)> {
     }
 }
 
-#[test]
-fn subsections_of_dylink_are_read(rt: HostRuntime) {
-    let sizes = b"\x01\x04\x10\x02\x03\x00\x05\x01\x00";
-    assert!(rt; second_place(sizes) == Some(0x106) && sizes_of(sizes) == Some([16, 2, 3, 0]));
-    assert!(rt; second_path(b"\x02\x05\x02\x01a\x01b") == Some("b"));
-    assert!(rt; second_path(b"\x05\x03\x01\x01a") == None);
+/// Reports whether this is a fact about a section with these bytes.
+fn is_fact(fact: Fact, bytes: &[u8]) -> bool {
+    match fact {
+        Fact::SecondValue(place, name, version) => {
+            second_value(bytes) == Some((place, name, version))
+        }
+        Fact::SecondField(name) => second_name(bytes) == Some(name),
+        Fact::SecondSubsection(place) => second_place(bytes) == Some(place),
+        Fact::Sizes(sizes) => sizes_of(bytes) == Some(sizes),
+        Fact::SecondPath(path) => second_path(bytes) == path,
+        Fact::Export(name, flags) => export_of(bytes) == Some((name, flags)),
+        Fact::Import(source, name, flags) => import_of(bytes) == Some((source, name, flags)),
+    }
 }
 
+/// A `producers` section: `language` with `Rust` and `C` "11"; `sdk` without values.
+const PRODUCERS: &[u8] = b"\x02\x08language\x02\x04Rust\x00\x01C\x0211\x03sdk\x00";
+
+/// A `dylink.0` section with sizes and no paths.
+const SIZES: &[u8] = b"\x01\x04\x10\x02\x03\x00\x05\x01\x00";
+
+/// Sections: the name of the row, the bytes, and a fact.
+const FACTS: [(&str, &[u8], Fact); 8] = [
+    ("a value", PRODUCERS, Fact::SecondValue(0x111, "C", "11")),
+    ("a field", PRODUCERS, Fact::SecondField("sdk")),
+    ("a subsection", SIZES, Fact::SecondSubsection(0x106)),
+    ("sizes", SIZES, Fact::Sizes([16, 2, 3, 0])),
+    (
+        "libraries",
+        b"\x02\x05\x02\x01a\x01b",
+        Fact::SecondPath(Some("b")),
+    ),
+    ("one path", b"\x05\x03\x01\x01a", Fact::SecondPath(None)),
+    (
+        "an export",
+        b"\x03\x04\x01\x01f\x21",
+        Fact::Export("f", 0x21),
+    ),
+    (
+        "an import",
+        b"\x04\x07\x01\x01m\x01g\x88\x08",
+        Fact::Import("m", "g", 0x408),
+    ),
+];
+
 #[test]
-fn symbols_of_dylink_are_read(rt: HostRuntime) {
-    assert!(rt; export_of(b"\x03\x04\x01\x01f\x21") == Some(("f", 0x21)));
-    assert!(rt; import_of(b"\x04\x07\x01\x01m\x01g\x88\x08") == Some(("m", "g", 0x408)));
+fn contents_of_sections_are_read(rt: HostRuntime) {
+    for (name, bytes, fact) in FACTS {
+        assert!(rt; is_fact(fact, bytes), "{name}");
+    }
 }
 
 /// Reports whether flags have exactly these words, in this order, and these other bits.
@@ -284,25 +381,18 @@ fn sections_of_hints_are_known(rt: HostRuntime) {
     assert!(rt; !is_hint_section("metadata.code.branch_hints"));
 }
 
-/// Hint sections with an error in or after the first hint, which is that of function 1 at offset 3.
-const FAULTS: [&[u8]; 4] = [
-    b"\x01\x01\x01\x03\x01\x02",
-    b"\x01\x01\x01\x03\x02\x01",
-    b"\x01\x01\x01\x03\x01\x01\x00",
-    b"\x02\x01\x01\x03\x01\x01",
+/// Hint sections with an error in or after the first hint, which is that of function 1 at offset 3. Each has the name
+/// of its row.
+const FAULTS: [(&str, &[u8]); 4] = [
+    ("an unknown direction", b"\x01\x01\x01\x03\x01\x02"),
+    ("a hint of two bytes", b"\x01\x01\x01\x03\x02\x01"),
+    ("a byte after the hints", b"\x01\x01\x01\x03\x01\x01\x00"),
+    ("a missing function", b"\x02\x01\x01\x03\x01\x01"),
 ];
 
 /// Reports whether the next operator of a function, at this offset, has no hint.
 fn has_no_hint(hints: &mut Hints, function: u64, offset: u64) -> bool {
     hints.next_function(function).next_at(offset).is_none()
-}
-
-#[test]
-fn a_fault_gives_no_hints(rt: HostRuntime) {
-    for bytes in FAULTS {
-        let mut hints = Hints::of_section(0, bytes);
-        assert!(rt; has_no_hint(&mut hints, 1, 3));
-    }
 }
 
 /// Returns a section with `count` hints of function 100,000, all at offset 0. `count_bytes` is the count, encoded
@@ -336,9 +426,13 @@ fn hints_are_read_once(rt: HostRuntime) -> Result<(), Fail> {
 }
 
 #[test]
-fn a_hint_too_many_is_a_fault(rt: HostRuntime) -> Result<(), Fail> {
+fn a_fault_gives_no_hints(rt: HostRuntime) -> Result<(), Fail> {
+    for (name, bytes) in FAULTS {
+        let mut hints = Hints::of_section(0, bytes);
+        assert!(rt; has_no_hint(&mut hints, 1, 3), "{name}");
+    }
     let bytes = many_hints(rt.alloc(), 131_072, [0x80, 0x80, 0x08])?;
     let mut hints = Hints::of_section(0, &bytes);
-    assert!(rt; has_no_hint(&mut hints, 100_000, 0));
+    assert!(rt; has_no_hint(&mut hints, 100_000, 0), "a hint too many");
     Ok(())
 }

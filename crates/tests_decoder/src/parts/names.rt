@@ -1,7 +1,6 @@
 //! Tests of the names of a few name sections. The bytes and the expected identifiers are typed by hand.
 
 use std::alloc::{AllocError, Global};
-use std::process::Abort;
 use std::test::Fail;
 use wasmprinter_bytes::Error;
 use wasmprinter_bytes::bytes::Cursor;
@@ -23,64 +22,45 @@ fn read_sections<'a>(
 }
 
 /// Returns the names that these sections give.
-pub(crate) fn names_of<'a>(alloc: Global, sections: &[&'a [u8]]) -> Result<Names<'a>, Error> {
+fn names_of<'a>(alloc: Global, sections: &[&'a [u8]]) -> Result<Names<'a>, Error> {
     let mut builder = NamesBuilder::new(alloc);
     read_sections(alloc, &mut builder, sections)?;
     Ok(builder.finish(alloc)?)
 }
 
-/// Reports whether the item was given this name, and this follows the dollar sign of its identifier.
-fn is_named(name: Option<Name<'_>>, given: &str, content: &str) -> bool {
-    matches!(name, Some(name) if name.given == given && name.content == content)
-}
-
 /// An item by its space, its function or type, and its index, with its identifier.
 type Item = (Space, u32, u32, Option<&'static str>);
 
-/// Asserts that these items have these identifiers.
-fn assert_found(rt: &impl Abort, names: &Names<'_>, items: &[Item]) {
-    for (row, (space, outer, index, identifier)) in items.iter().enumerate() {
-        assert!(rt;
-            names.identifier(*space, *outer, *index) == *identifier,
-            "row {row}"
-        );
+/// Returns the number of the first of these items whose identifier differs, or `None` if none differs.
+fn first_other(names: &Names<'_>, items: &[Item]) -> Option<usize> {
+    for (number, (space, outer, index, identifier)) in items.iter().enumerate() {
+        if names.identifier(*space, *outer, *index) != *identifier {
+            return Some(number);
+        }
     }
+    None
 }
 
-/// Asserts that, by the names of these sections, the module and the items have these identifiers.
-fn assert_names(
-    rt: &impl Abort,
+/// Checks that, by the names of these sections, the module and the items have these identifiers.
+///
+/// # Errors
+///
+/// - An identifier differs. The error is the name of the row with the number of the item.
+fn expect_names(
+    name: &'static str,
     alloc: Global,
     sections: &[&[u8]],
     module: Option<&str>,
     items: &[Item],
 ) -> Result<(), Fail> {
     let names = names_of(alloc, sections)?;
-    assert!(rt; names.module() == module);
-    assert_found(rt, &names, items);
-    Ok(())
-}
-
-/// Reports whether a function has this name, by the names of this section.
-fn has_name(
-    alloc: Global,
-    section: &[u8],
-    function: u64,
-    wanted: Option<Name>,
-) -> Result<bool, Error> {
-    let names = names_of(alloc, &[section])?;
-    Ok(names.name(Space::Func, 0, function) == wanted)
-}
-
-/// Reports whether the module has this name, by the names of these sections.
-fn module_is_named(
-    alloc: Global,
-    sections: &[&[u8]],
-    given: &str,
-    content: &str,
-) -> Result<bool, Error> {
-    let names = names_of(alloc, sections)?;
-    Ok(is_named(names.module_name(), given, content))
+    if names.module() != module {
+        return Err((name, "the module has another name"))?;
+    }
+    match first_other(&names, items) {
+        None => Ok(()),
+        Some(number) => Err((name, number))?,
+    }
 }
 
 /// The identifiers of functions with the names 0 `b`, 1 `a`, 2 the empty name, 3 `#x` and 4 `a`. `a` was first the
@@ -97,32 +77,8 @@ const MARKED: [Item; 8] = [
     (Space::Table, 0, 0, None),
 ];
 
-#[test]
-fn names_are_marked(rt: HostRuntime) -> Result<(), Fail> {
-    // Functions: 0 `a`, 1 `a`, 2 the empty name, 3 `#x`, 0 again, now `b`, 4 `a`; a byte is left over
-    let bytes = b"\x01\x14\x06\x00\x01a\x01\x01a\x02\x00\x03\x02#x\x00\x01b\x04\x01a\x07";
-    let second = Name {
-        given: "a",
-        content: "#func1 a",
-    };
-    assert!(rt; has_name(rt.alloc(), bytes, 1, Some(second))?);
-    assert_names(&rt, rt.alloc(), &[bytes], None, &MARKED)
-}
-
 /// Local 0 of function 0, which is `x`, and function 0, which has no name.
 const LOCAL: [Item; 2] = [(Space::Local, 0, 0, Some("x")), (Space::Func, 0, 0, None)];
-
-#[test]
-fn a_local_has_a_name(rt: HostRuntime) -> Result<(), Fail> {
-    let section = b"\x02\x06\x01\x00\x01\x00\x01x";
-    assert_names(&rt, rt.alloc(), &[section], None, &LOCAL)
-}
-
-#[test]
-fn a_cut_name_is_none(rt: HostRuntime) -> Result<(), Fail> {
-    assert!(rt; has_name(rt.alloc(), b"\x01\x04\x01\x00\x05a", 0, None)?);
-    Ok(())
-}
 
 /// The names before an error, and those of the section after it.
 const AROUND_A_FAULT: [Item; 5] = [
@@ -133,21 +89,262 @@ const AROUND_A_FAULT: [Item; 5] = [
     (Space::Func, 0, 1, Some("#func1 f")),
 ];
 
-#[test]
-fn reading_stops_at_the_first_fault(rt: HostRuntime) -> Result<(), Fail> {
-    // The module is `m`; an unknown subsection; locals of function 1: 0 `x`, then a truncated name; functions that
-    // are not read
-    let first =
-        b"\x00\x02\x01m\x0c\x01\xff\x02\x09\x01\x01\x02\x00\x01x\x01\x05y\x01\x04\x01\x00\x01z";
-    // A second section: functions 0 `f`, 1 `f`
-    let second = b"\x01\x07\x02\x00\x01f\x01\x01f";
-    assert_names(
-        &rt,
-        rt.alloc(),
-        &[first, second],
+/// Labels 0 and 1 of function 0, which are both `a`, and label 2, whose name is empty.
+const LABELS: [Item; 3] = [
+    (Space::Label, 0, 0, Some("a")),
+    (Space::Label, 0, 1, Some("a")),
+    (Space::Label, 0, 2, Some("#label2 ")),
+];
+
+/// Functions 0 `a`, 1 `b` and 2 `c`, locals of function 0: 0 `x`, 1 `y`; of function 1: 0 `z`.
+const WITHOUT_GAPS: [Item; 13] = [
+    (Space::Func, 0, 0, Some("a")),
+    (Space::Func, 0, 1, Some("b")),
+    (Space::Func, 0, 2, Some("c")),
+    (Space::Func, 0, 3, None),
+    (Space::Local, 0, 0, Some("x")),
+    (Space::Local, 0, 1, Some("y")),
+    (Space::Local, 0, 2, None),
+    (Space::Local, 1, 0, Some("z")),
+    (Space::Local, 1, 1, None),
+    (Space::Local, 2, 0, None),
+    // No item has a name in the spaces before that of functions and after that of locals
+    (Space::Label, 0, 0, None),
+    (Space::Label, 1, 0, None),
+    (Space::Tag, 0, 0, None),
+];
+
+/// Functions 2 `a`, 3 `b`, 7 `c` and 9 `d`.
+const GAPS_BETWEEN_INDICES: [Item; 11] = [
+    (Space::Func, 0, 0, None),
+    (Space::Func, 0, 1, None),
+    (Space::Func, 0, 2, Some("a")),
+    (Space::Func, 0, 3, Some("b")),
+    (Space::Func, 0, 4, None),
+    (Space::Func, 0, 6, None),
+    (Space::Func, 0, 7, Some("c")),
+    (Space::Func, 0, 8, None),
+    (Space::Func, 0, 9, Some("d")),
+    (Space::Func, 0, 10, None),
+    (Space::Func, 0, 4_294_967_295, None),
+];
+
+/// Locals of function 2: 0 `x`, 1 `w`; of function 5: 0 `y`, 1 `z`.
+const GAPS_BETWEEN_FUNCTIONS: [Item; 11] = [
+    (Space::Local, 0, 0, None),
+    (Space::Local, 1, 7, None),
+    (Space::Local, 2, 0, Some("x")),
+    (Space::Local, 2, 1, Some("w")),
+    (Space::Local, 2, 2, None),
+    (Space::Local, 3, 0, None),
+    (Space::Local, 4, 1, None),
+    (Space::Local, 5, 0, Some("y")),
+    (Space::Local, 5, 1, Some("z")),
+    (Space::Local, 5, 2, None),
+    (Space::Local, 6, 0, None),
+];
+
+/// Locals of function 4294967295: 0 `x`.
+const FAR_BEHIND: [Item; 4] = [
+    (Space::Local, 0, 0, None),
+    (Space::Local, 4_294_967_294, 0, None),
+    (Space::Local, 4_294_967_295, 0, Some("x")),
+    (Space::Local, 4_294_967_295, 1, None),
+];
+
+/// Locals of function 0: 0 `x`; of function 4294967295: 0 `y`.
+const FIRST_AND_FAR_BEHIND: [Item; 6] = [
+    (Space::Local, 0, 0, Some("x")),
+    (Space::Local, 0, 1, None),
+    (Space::Local, 1, 0, None),
+    (Space::Local, 4_294_967_294, 0, None),
+    (Space::Local, 4_294_967_295, 0, Some("y")),
+    (Space::Local, 4_294_967_295, 1, None),
+];
+
+/// Globals 0 `g` and 1 `h`; locals of function 0: 0 `x`; of function 1: 0 `y`, 1 `z`; functions 0 `a`, 1 `b`, 2 `c`
+/// and 3 `d`.
+const FROM_THE_LAST: [Item; 15] = [
+    (Space::Global, 0, 0, Some("g")),
+    (Space::Global, 0, 1, Some("h")),
+    (Space::Global, 0, 2, None),
+    (Space::Local, 0, 0, Some("x")),
+    (Space::Local, 0, 1, None),
+    (Space::Local, 1, 0, Some("y")),
+    (Space::Local, 1, 1, Some("z")),
+    (Space::Local, 2, 0, None),
+    (Space::Func, 0, 0, Some("a")),
+    (Space::Func, 0, 1, Some("b")),
+    (Space::Func, 0, 2, Some("c")),
+    (Space::Func, 0, 3, Some("d")),
+    (Space::Func, 0, 4, None),
+    // No item has a name in the spaces between those of locals and of globals
+    (Space::Types, 0, 0, None),
+    (Space::Types, 0, 1, None),
+];
+
+/// Sections with names: the name of the row, the contents of the sections, the name of the module, and items with their
+/// identifiers.
+type Row = (
+    &'static str,
+    &'static [&'static [u8]],
+    Option<&'static str>,
+    &'static [Item],
+);
+
+/// Functions: 0 `a`, 1 `a`, 2 the empty name, 3 `#x`, 0 again, now `b`, 4 `a`; a byte is left over.
+const REPEATED: &[u8] = b"\x01\x14\x06\x00\x01a\x01\x01a\x02\x00\x03\x02#x\x00\x01b\x04\x01a\x07";
+
+/// Labels 0 `a`, 1 `a` and 2 the empty name of function 0; then a module with the name `m`, twice.
+const LABELS_AND_MODULE: [&[u8]; 2] = [
+    b"\x03\x0b\x01\x00\x03\x00\x01a\x01\x01a\x02\x00",
+    b"\x00\x02\x01m\x00\x02\x01m",
+];
+
+const ROWS: [Row; 10] = [
+    (
+        "names that were given before are marked",
+        &[REPEATED],
+        None,
+        &MARKED,
+    ),
+    ("a local", &[b"\x02\x06\x01\x00\x01\x00\x01x"], None, &LOCAL),
+    (
+        "reading stops at the first fault",
+        &[
+            // The module is `m`; an unknown subsection; locals of function 1: 0 `x`, then a truncated name; functions
+            // that are not read
+            b"\x00\x02\x01m\x0c\x01\xff\x02\x09\x01\x01\x02\x00\x01x\x01\x05y\x01\x04\x01\x00\x01z",
+            // Functions 0 `f`, 1 `f`
+            b"\x01\x07\x02\x00\x01f\x01\x01f",
+        ],
         Some("m"),
         &AROUND_A_FAULT,
-    )
+    ),
+    (
+        "names of labels and the module never count",
+        &LABELS_AND_MODULE,
+        Some("m"),
+        &LABELS,
+    ),
+    (
+        "no gaps",
+        &[
+            b"\x01\x0a\x03\x00\x01a\x01\x01b\x02\x01c",
+            b"\x02\x0e\x02\x00\x02\x00\x01x\x01\x01y\x01\x01\x00\x01z",
+        ],
+        None,
+        &WITHOUT_GAPS,
+    ),
+    (
+        "gaps between indices",
+        &[b"\x01\x0d\x04\x02\x01a\x03\x01b\x07\x01c\x09\x01d"],
+        None,
+        &GAPS_BETWEEN_INDICES,
+    ),
+    (
+        "gaps between functions",
+        &[b"\x02\x11\x02\x02\x02\x00\x01x\x01\x01w\x05\x02\x00\x01y\x01\x01z"],
+        None,
+        &GAPS_BETWEEN_FUNCTIONS,
+    ),
+    (
+        "a function far after none",
+        &[b"\x02\x0a\x01\xff\xff\xff\xff\x0f\x01\x00\x01x"],
+        None,
+        &FAR_BEHIND,
+    ),
+    (
+        "a function far after another",
+        &[b"\x02\x0f\x02\x00\x01\x00\x01x\xff\xff\xff\xff\x0f\x01\x00\x01y"],
+        None,
+        &FIRST_AND_FAR_BEHIND,
+    ),
+    (
+        "names from the last to the first",
+        &[
+            b"\x07\x07\x02\x01\x01h\x00\x01g",
+            b"\x02\x0e\x02\x01\x02\x01\x01z\x00\x01y\x00\x01\x00\x01x",
+            b"\x01\x0d\x04\x03\x01d\x02\x01c\x01\x01b\x00\x01a",
+        ],
+        None,
+        &FROM_THE_LAST,
+    ),
+];
+
+#[test]
+fn items_have_identifiers(rt: HostRuntime) -> Result<(), Fail> {
+    for (name, sections, module, items) in ROWS {
+        expect_names(name, rt.alloc(), sections, module, items)?;
+    }
+    Ok(())
+}
+
+/// Names: the name of the row, the contents of the sections, the index of a function or `None` for the module, and its
+/// name.
+type NameRow = (
+    &'static str,
+    &'static [&'static [u8]],
+    Option<u64>,
+    Option<Name<'static>>,
+);
+
+const NAMES: [NameRow; 4] = [
+    (
+        "a name that was given before",
+        &[REPEATED],
+        Some(1),
+        Some(Name {
+            given: "a",
+            content: "#func1 a",
+        }),
+    ),
+    (
+        "a truncated name",
+        &[b"\x01\x04\x01\x00\x05a"],
+        Some(0),
+        None,
+    ),
+    (
+        "a module that is named twice",
+        &LABELS_AND_MODULE,
+        None,
+        Some(Name {
+            given: "m",
+            content: "m",
+        }),
+    ),
+    (
+        "a module with an empty name",
+        &[b"\x00\x01\x00"],
+        None,
+        Some(Name {
+            given: "",
+            content: "#module0 ",
+        }),
+    ),
+];
+
+/// Reports whether a function, or the module for `None`, has this name, by the names of these sections.
+fn has_name(
+    alloc: Global,
+    sections: &[&[u8]],
+    function: Option<u64>,
+    wanted: Option<Name>,
+) -> Result<bool, Error> {
+    let names = names_of(alloc, sections)?;
+    Ok(match function {
+        Some(index) => names.name(Space::Func, 0, index) == wanted,
+        None => names.module_name() == wanted,
+    })
+}
+
+#[test]
+fn names_have_contents(rt: HostRuntime) -> Result<(), Fail> {
+    for (name, sections, function, wanted) in NAMES {
+        assert!(rt; has_name(rt.alloc(), sections, function, wanted)?, "{name}");
+    }
+    Ok(())
 }
 
 /// Spaces, the ids of their subsections, and the identifier of item 1 if items 0 and 1 both have the name `a`.
@@ -201,25 +398,6 @@ fn names_count_in_their_space(rt: HostRuntime) -> Result<(), Fail> {
     Ok(())
 }
 
-/// Labels 0 and 1 of function 0, which are both `a`, and label 2, whose name is empty.
-const LABELS: [Item; 3] = [
-    (Space::Label, 0, 0, Some("a")),
-    (Space::Label, 0, 1, Some("a")),
-    (Space::Label, 0, 2, Some("#label2 ")),
-];
-
-#[test]
-fn names_of_labels_and_the_module_never_count(rt: HostRuntime) -> Result<(), Fail> {
-    let labels = b"\x03\x0b\x01\x00\x03\x00\x01a\x01\x01a\x02\x00";
-    // The module is `m`, and again `m`
-    let module = b"\x00\x02\x01m\x00\x02\x01m";
-    let sections: [&[u8]; 2] = [labels, module];
-    assert_names(&rt, rt.alloc(), &sections, Some("m"), &LABELS)?;
-    assert!(rt; module_is_named(rt.alloc(), &sections, "m", "m")?);
-    assert!(rt; module_is_named(rt.alloc(), &[b"\x00\x01\x00"], "", "#module0 ")?);
-    Ok(())
-}
-
 /// The identifier of an item with the name `f`.
 const NAMED: Identifier<'static> = Identifier::Given(Name {
     given: "f",
@@ -232,49 +410,90 @@ const FAR: Identifier<'static> = Identifier::Synthesized {
     number: 5_000_000_000,
 };
 
-/// Whether identifiers are synthesized; an item by its space, its function or type, and its index; and its
-/// identifier.
-type Identified = (bool, Space, u64, u64, Option<Identifier<'static>>);
-
-/// Items of a module whose function 0 has the name `f`.
-const IDENTIFIED: [Identified; 4] = [
-    (false, Space::Func, 0, 0, Some(NAMED)),
-    (false, Space::Func, 0, 1, None),
-    (true, Space::Func, 0, 0, Some(NAMED)),
-    (true, Space::Local, 3, 5_000_000_000, Some(FAR)),
-];
-
-/// Asserts that these items have these identifiers.
-fn assert_identified(rt: &impl Abort, names: &Names, items: &[Identified]) {
-    for (synthesizes, space, outer, index, identifier) in items {
-        let identifiers = Identifiers {
-            names,
-            synthesizes: *synthesizes,
-        };
-        assert!(rt;
-            identifiers.item(*space, *outer, *index) == *identifier,
-            "{synthesizes} {index}"
-        );
-    }
-}
-
 /// The identifier of a module with the name `m`.
 const MODULE: Identifier<'static> = Identifier::Given(Name {
     given: "m",
     content: "m",
 });
 
-/// Reports whether this is the identifier of the module.
-fn is_module_identified(names: &Names, synthesizes: bool, wanted: Option<Identifier>) -> bool {
-    Identifiers { names, synthesizes }.module() == wanted
+/// The content of a name section: the module is `m`, function 0 is `f`.
+const MODULE_AND_FUNCTION: &[u8] = b"\x00\x02\x01m\x01\x04\x01\x00\x01f";
+
+/// Identifiers: the name of the row, the content of a name section, whether identifiers are synthesized, an item by its
+/// space, its function or type, and its index, or `None` for the module, and its identifier.
+type Identified = (
+    &'static str,
+    &'static [u8],
+    bool,
+    Option<(Space, u64, u64)>,
+    Option<Identifier<'static>>,
+);
+
+const IDENTIFIED: [Identified; 6] = [
+    (
+        "a function with a name",
+        MODULE_AND_FUNCTION,
+        false,
+        Some((Space::Func, 0, 0)),
+        Some(NAMED),
+    ),
+    (
+        "a function without a name",
+        MODULE_AND_FUNCTION,
+        false,
+        Some((Space::Func, 0, 1)),
+        None,
+    ),
+    (
+        "a name comes before a synthesized identifier",
+        MODULE_AND_FUNCTION,
+        true,
+        Some((Space::Func, 0, 0)),
+        Some(NAMED),
+    ),
+    (
+        "a local whose index exceeds 32 bits",
+        MODULE_AND_FUNCTION,
+        true,
+        Some((Space::Local, 3, 5_000_000_000)),
+        Some(FAR),
+    ),
+    (
+        "a module with a name",
+        MODULE_AND_FUNCTION,
+        false,
+        None,
+        Some(MODULE),
+    ),
+    (
+        "no identifier is synthesized for a module",
+        b"",
+        true,
+        None,
+        None,
+    ),
+];
+
+/// Reports whether an item, or the module for `None`, has this identifier.
+fn is_identified(
+    names: &Names,
+    synthesizes: bool,
+    item: Option<(Space, u64, u64)>,
+    wanted: Option<Identifier>,
+) -> bool {
+    let identifiers = Identifiers { names, synthesizes };
+    match item {
+        Some((space, outer, index)) => identifiers.item(space, outer, index) == wanted,
+        None => identifiers.module() == wanted,
+    }
 }
 
 #[test]
 fn identifiers_are_given_or_synthesized(rt: HostRuntime) -> Result<(), Fail> {
-    // The module is `m`; function 0 is `f`
-    let names = names_of(rt.alloc(), &[b"\x00\x02\x01m\x01\x04\x01\x00\x01f"])?;
-    assert_identified(&rt, &names, &IDENTIFIED);
-    assert!(rt; is_module_identified(&names, false, Some(MODULE)));
+    for (name, section, synthesizes, item, wanted) in IDENTIFIED {
+        let names = names_of(rt.alloc(), &[section])?;
+        assert!(rt; is_identified(&names, synthesizes, item, wanted), "{name}");
+    }
     Ok(())
 }
 
@@ -282,13 +501,6 @@ fn identifiers_are_given_or_synthesized(rt: HostRuntime) -> Result<(), Fail> {
 fn spaces_have_words(rt: HostRuntime) -> Result<(), Fail> {
     expect_text(Space::Types.word(), "type")?;
     expect_text(Space::Data.word(), "data")?;
-    Ok(())
-}
-
-#[test]
-fn no_identifier_is_synthesized_for_a_module(rt: HostRuntime) -> Result<(), Fail> {
-    let names = names_of(rt.alloc(), &[])?;
-    assert!(rt; is_module_identified(&names, true, None));
     Ok(())
 }
 
@@ -300,7 +512,8 @@ fn are_labels(labels: &[LabelName], wanted: &[Label]) -> bool {
     for (label, (function, number, name)) in labels.iter().zip(wanted) {
         if label.function != *function
             || label.number != *number
-            || !is_named(Some(label.name), name, name)
+            || label.name.given != *name
+            || label.name.content != *name
         {
             return false;
         }
@@ -325,129 +538,6 @@ fn labels_are_listed_by_function_and_number(rt: HostRuntime) -> Result<(), Fail>
     let names = names_of(rt.alloc(), &[labels, others])?;
     assert!(rt; lists(rt.alloc(), &names, &LISTED)?);
     Ok(())
-}
-
-/// Functions 0 `a`, 1 `b` and 2 `c`, locals of function 0: 0 `x`, 1 `y`; of function 1: 0 `z`.
-const WITHOUT_GAPS: [Item; 13] = [
-    (Space::Func, 0, 0, Some("a")),
-    (Space::Func, 0, 1, Some("b")),
-    (Space::Func, 0, 2, Some("c")),
-    (Space::Func, 0, 3, None),
-    (Space::Local, 0, 0, Some("x")),
-    (Space::Local, 0, 1, Some("y")),
-    (Space::Local, 0, 2, None),
-    (Space::Local, 1, 0, Some("z")),
-    (Space::Local, 1, 1, None),
-    (Space::Local, 2, 0, None),
-    // No item has a name in the spaces before that of functions and after that of locals
-    (Space::Label, 0, 0, None),
-    (Space::Label, 1, 0, None),
-    (Space::Tag, 0, 0, None),
-];
-
-#[test]
-fn names_without_gaps_are_found(rt: HostRuntime) -> Result<(), Fail> {
-    let functions = b"\x01\x0a\x03\x00\x01a\x01\x01b\x02\x01c";
-    let locals = b"\x02\x0e\x02\x00\x02\x00\x01x\x01\x01y\x01\x01\x00\x01z";
-    assert_names(&rt, rt.alloc(), &[functions, locals], None, &WITHOUT_GAPS)
-}
-
-/// Functions 2 `a`, 3 `b`, 7 `c` and 9 `d`.
-const GAPS_BETWEEN_INDICES: [Item; 11] = [
-    (Space::Func, 0, 0, None),
-    (Space::Func, 0, 1, None),
-    (Space::Func, 0, 2, Some("a")),
-    (Space::Func, 0, 3, Some("b")),
-    (Space::Func, 0, 4, None),
-    (Space::Func, 0, 6, None),
-    (Space::Func, 0, 7, Some("c")),
-    (Space::Func, 0, 8, None),
-    (Space::Func, 0, 9, Some("d")),
-    (Space::Func, 0, 10, None),
-    (Space::Func, 0, 4_294_967_295, None),
-];
-
-#[test]
-fn names_with_gaps_between_indices_are_found(rt: HostRuntime) -> Result<(), Fail> {
-    let section = b"\x01\x0d\x04\x02\x01a\x03\x01b\x07\x01c\x09\x01d";
-    assert_names(&rt, rt.alloc(), &[section], None, &GAPS_BETWEEN_INDICES)
-}
-
-/// Locals of function 2: 0 `x`, 1 `w`; of function 5: 0 `y`, 1 `z`.
-const GAPS_BETWEEN_FUNCTIONS: [Item; 11] = [
-    (Space::Local, 0, 0, None),
-    (Space::Local, 1, 7, None),
-    (Space::Local, 2, 0, Some("x")),
-    (Space::Local, 2, 1, Some("w")),
-    (Space::Local, 2, 2, None),
-    (Space::Local, 3, 0, None),
-    (Space::Local, 4, 1, None),
-    (Space::Local, 5, 0, Some("y")),
-    (Space::Local, 5, 1, Some("z")),
-    (Space::Local, 5, 2, None),
-    (Space::Local, 6, 0, None),
-];
-
-#[test]
-fn names_with_gaps_between_functions_are_found(rt: HostRuntime) -> Result<(), Fail> {
-    let section = b"\x02\x11\x02\x02\x02\x00\x01x\x01\x01w\x05\x02\x00\x01y\x01\x01z";
-    assert_names(&rt, rt.alloc(), &[section], None, &GAPS_BETWEEN_FUNCTIONS)
-}
-
-/// Locals of function 4294967295: 0 `x`.
-const FAR_BEHIND: [Item; 4] = [
-    (Space::Local, 0, 0, None),
-    (Space::Local, 4_294_967_294, 0, None),
-    (Space::Local, 4_294_967_295, 0, Some("x")),
-    (Space::Local, 4_294_967_295, 1, None),
-];
-
-/// Locals of function 0: 0 `x`; of function 4294967295: 0 `y`.
-const FIRST_AND_FAR_BEHIND: [Item; 6] = [
-    (Space::Local, 0, 0, Some("x")),
-    (Space::Local, 0, 1, None),
-    (Space::Local, 1, 0, None),
-    (Space::Local, 4_294_967_294, 0, None),
-    (Space::Local, 4_294_967_295, 0, Some("y")),
-    (Space::Local, 4_294_967_295, 1, None),
-];
-
-#[test]
-fn names_of_a_function_far_after_are_found(rt: HostRuntime) -> Result<(), Fail> {
-    let alone = b"\x02\x0a\x01\xff\xff\xff\xff\x0f\x01\x00\x01x";
-    assert_names(&rt, rt.alloc(), &[alone], None, &FAR_BEHIND)?;
-    let two = b"\x02\x0f\x02\x00\x01\x00\x01x\xff\xff\xff\xff\x0f\x01\x00\x01y";
-    assert_names(&rt, rt.alloc(), &[two], None, &FIRST_AND_FAR_BEHIND)
-}
-
-/// Globals 0 `g` and 1 `h`; locals of function 0: 0 `x`; of function 1: 0 `y`, 1 `z`; functions 0 `a`, 1 `b`, 2 `c`
-/// and 3 `d`.
-const FROM_THE_LAST: [Item; 15] = [
-    (Space::Global, 0, 0, Some("g")),
-    (Space::Global, 0, 1, Some("h")),
-    (Space::Global, 0, 2, None),
-    (Space::Local, 0, 0, Some("x")),
-    (Space::Local, 0, 1, None),
-    (Space::Local, 1, 0, Some("y")),
-    (Space::Local, 1, 1, Some("z")),
-    (Space::Local, 2, 0, None),
-    (Space::Func, 0, 0, Some("a")),
-    (Space::Func, 0, 1, Some("b")),
-    (Space::Func, 0, 2, Some("c")),
-    (Space::Func, 0, 3, Some("d")),
-    (Space::Func, 0, 4, None),
-    // No item has a name in the spaces between those of locals and of globals
-    (Space::Types, 0, 0, None),
-    (Space::Types, 0, 1, None),
-];
-
-#[test]
-fn names_given_from_the_last_to_the_first_are_found(rt: HostRuntime) -> Result<(), Fail> {
-    let globals = b"\x07\x07\x02\x01\x01h\x00\x01g";
-    let locals = b"\x02\x0e\x02\x01\x02\x01\x01z\x00\x01y\x00\x01\x00\x01x";
-    let functions = b"\x01\x0d\x04\x03\x01d\x02\x01c\x01\x01b\x00\x01a";
-    let sections: [&[u8]; 3] = [globals, locals, functions];
-    assert_names(&rt, rt.alloc(), &sections, None, &FROM_THE_LAST)
 }
 
 /// Returns a number of at most 14 bits, encoded in two bytes.
@@ -509,7 +599,7 @@ fn many_names_are_kept(rt: HostRuntime) -> Result<(), Fail> {
             (space, 0, 299, Some(last)),
             (space, 0, 300, None),
         ];
-        assert_names(&rt, rt.alloc(), &[&section], None, &items)?;
+        expect_names(last, rt.alloc(), &[&section], None, &items)?;
     }
     Ok(())
 }
@@ -535,7 +625,7 @@ fn many_names_of_many_functions_are_kept(rt: HostRuntime) -> Result<(), Fail> {
             (space, 39, 19, Some(last)),
             (space, 40, 0, None),
         ];
-        assert_names(&rt, rt.alloc(), &[&section], None, &items)?;
+        expect_names(last, rt.alloc(), &[&section], None, &items)?;
     }
     Ok(())
 }
