@@ -502,17 +502,16 @@ fn operators_are_read_whole_and_refused_if_truncated(rt: HostRuntime) -> Result<
 #[test]
 fn faults_have_their_places(rt: HostRuntime) -> Result<(), Fail> {
     for (row, (bytes, place)) in REFUSED.iter().enumerate() {
-        assert!(rt; is_fault_at(rt.alloc(), *bytes, *place)?, "row {row}");
+        assert!(rt;
+            is_fault_at(rt.alloc(), *bytes, *place)?,
+            "row {row} of `REFUSED`"
+        );
     }
-    Ok(())
-}
-
-#[test]
-fn faults_of_later_operators_have_their_places(rt: HostRuntime) {
     for (row, (bytes, place)) in FAULTY.iter().enumerate() {
         assert!(rt;
             outcome_of(rt.alloc(), *bytes) == Outcome::Refused(*place),
-            "row {row}"
+            "row {row} of `FAULTY`"
         );
     }
+    Ok(())
 }

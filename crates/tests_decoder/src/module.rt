@@ -1,7 +1,9 @@
 //! Tests of `decode`: the contents of decoded modules, and the places of errors in refused ones.
 
+mod contents;
 mod customs;
 mod faults;
 mod modules;
 mod places;
-mod segments;
+mod sections;
+mod types;

@@ -145,14 +145,6 @@ fn all_read_pairs(first: u8) -> bool {
     all_read(&[first])
 }
 
-#[test]
-fn inputs_of_up_to_two_bytes_are_read(rt: HostRuntime) {
-    assert!(rt; all_read(&[]));
-    for first in 0..=u8::MAX {
-        assert!(rt; all_read_pairs(first), "at {first:#x}");
-    }
-}
-
 /// The length of the longest inputs. A number of 64 bits has at most ten bytes.
 const LONGEST: usize = 12;
 
@@ -172,18 +164,6 @@ fn all_read_last_bytes(repeated: u8, len: usize) -> bool {
         }
     }
     true
-}
-
-#[test]
-fn last_bytes_are_read(rt: HostRuntime) {
-    for len in 0..LONGEST {
-        for repeated in REPEATED {
-            assert!(rt;
-                all_read_last_bytes(repeated, len),
-                "{repeated:#x}, at {len}"
-            );
-        }
-    }
 }
 
 /// The number of pseudorandom inputs.
@@ -226,7 +206,19 @@ fn first_drawn_that_differs(count: u32) -> Option<u32> {
 }
 
 #[test]
-fn drawn_inputs_are_read(rt: HostRuntime) {
+fn numbers_end_where_their_encoding_ends(rt: HostRuntime) {
+    assert!(rt; all_read(&[]), "no bytes");
+    for first in 0..=u8::MAX {
+        assert!(rt; all_read_pairs(first), "up to two bytes, at {first:#x}");
+    }
+    for len in 0..LONGEST {
+        for repeated in REPEATED {
+            assert!(rt;
+                all_read_last_bytes(repeated, len),
+                "{repeated:#x}, at {len}"
+            );
+        }
+    }
     let differs = first_drawn_that_differs(DRAWN);
     assert!(rt; differs == None, "after {differs:?}");
 }

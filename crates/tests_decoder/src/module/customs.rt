@@ -1,10 +1,9 @@
 //! Tests of custom sections: their names and bytes, errors in them, and the names of a module. All expected values
 //! are typed by hand.
 
-use crate::module::modules::{CODE, FUNCTIONS, TYPES, fault_place, is_accepted, module};
+use crate::module::modules::{CODE, FUNCTIONS, TYPES, fault_place, module};
 use std::alloc::{AllocError, Global};
 use std::test::Fail;
-use wasmprinter_bytes::Error;
 use wasmprinter_custom::{Names, Space};
 use wasmprinter_wasm::{CustomEntry, Fields, decode};
 
@@ -34,44 +33,112 @@ const NONE: &[u8] = &[];
 /// Sections at three places: before all others, among them, and after them.
 type Places = [&'static [u8]; 3];
 
-/// Name sections, each list with the places of their contents.
-const PLACED: &[(Places, &[u64]); 8] = &[
-    ([NONE, NONE, NONE], &[]),
-    ([FIRST_NAMES, NONE, NONE], &[0x0a]),
-    ([NONE, FIRST_NAMES, NONE], &[0x14]),
-    ([NONE, NONE, FIRST_NAMES], &[0x1a]),
-    ([FIRST_NAMES, NONE, SECOND_NAMES], &[0x0a, 0x2b]),
-    ([FIRST_NAMES, SECOND_NAMES, NONE], &[0x0a, 0x25]),
-    ([NO_NAMES, CUT_NAMES, FIRST_NAMES], &[0x0a, 0x1b, 0x31]),
-    ([NO_NAMES, NO_NAMES, NO_NAMES], &[0x0a, 0x1b, 0x28]),
+/// An expected fact about a custom section.
+#[derive(Clone, Copy)]
+enum Fact {
+    /// It is a name section whose content is at this place.
+    Names(u64),
+    /// It has this name and this data, and is not a name section.
+    Other(&'static str, &'static [u8]),
+    /// It has this data at this place.
+    Data(u64, &'static [u8]),
+}
+
+/// Custom sections: the name of the row, the sections at three places, and a fact about each custom section.
+type Row = (&'static str, Places, &'static [Fact]);
+
+const ROWS: [Row; 16] = [
+    ("no custom section", [NONE, NONE, NONE], &[]),
+    (
+        "names before all sections",
+        [FIRST_NAMES, NONE, NONE],
+        &[Fact::Names(0x0a)],
+    ),
+    (
+        "names among sections",
+        [NONE, FIRST_NAMES, NONE],
+        &[Fact::Names(0x14)],
+    ),
+    (
+        "names after all sections",
+        [NONE, NONE, FIRST_NAMES],
+        &[Fact::Names(0x1a)],
+    ),
+    (
+        "names before and after all sections",
+        [FIRST_NAMES, NONE, SECOND_NAMES],
+        &[Fact::Names(0x0a), Fact::Names(0x2b)],
+    ),
+    (
+        "names before and among sections",
+        [FIRST_NAMES, SECOND_NAMES, NONE],
+        &[Fact::Names(0x0a), Fact::Names(0x25)],
+    ),
+    (
+        "no names, truncated ones, and names",
+        [NO_NAMES, CUT_NAMES, FIRST_NAMES],
+        &[Fact::Names(0x0a), Fact::Names(0x1b), Fact::Names(0x31)],
+    ),
+    (
+        "three sections without names",
+        [NO_NAMES, NO_NAMES, NO_NAMES],
+        &[Fact::Names(0x0a), Fact::Names(0x1b), Fact::Names(0x28)],
+    ),
+    (
+        "places of the bytes after the name",
+        [NO_NAMES, FIRST_NAMES, NONE],
+        &[
+            Fact::Data(0x0f, b""),
+            Fact::Data(0x20, b"\x00\x02\x01m\x01\x04\x01\x00\x01a"),
+        ],
+    ),
+    (
+        "places before the name",
+        [NO_NAMES, FIRST_NAMES, NONE],
+        &[Fact::Names(0x0a), Fact::Names(0x1b)],
+    ),
+    (
+        "a longer name",
+        [b"\x00\x06\x05names", NONE, b"\x00\x06\x05names"],
+        &[Fact::Other("names", b""), Fact::Other("names", b"")],
+    ),
+    (
+        "a shorter name",
+        [b"\x00\x04\x03nam", NONE, b"\x00\x04\x03nam"],
+        &[Fact::Other("nam", b""), Fact::Other("nam", b"")],
+    ),
+    (
+        "an empty name",
+        [b"\x00\x01\x00", NONE, b"\x00\x01\x00"],
+        &[Fact::Other("", b""), Fact::Other("", b"")],
+    ),
+    (
+        "a name with a capital letter",
+        [b"\x00\x05\x04Name", NONE, b"\x00\x05\x04Name"],
+        &[Fact::Other("Name", b""), Fact::Other("Name", b"")],
+    ),
+    (
+        "a name outside ASCII",
+        [
+            b"\x00\x05\x02\xc3\xa9\xff\x00",
+            NONE,
+            b"\x00\x05\x02\xc3\xa9\xff\x00",
+        ],
+        &[Fact::Other("é", b"\xff\x00"), Fact::Other("é", b"\xff\x00")],
+    ),
+    (
+        "producers",
+        [
+            b"\x00\x0b\x09producers\x00",
+            NONE,
+            b"\x00\x0b\x09producers\x00",
+        ],
+        &[
+            Fact::Other("producers", b"\x00"),
+            Fact::Other("producers", b"\x00"),
+        ],
+    ),
 ];
-
-/// Reports whether the custom sections are name sections with contents at these places.
-fn are_name_sections_at(customs: &[CustomEntry], places: &[u64]) -> bool {
-    for (custom, place) in customs.iter().zip(places) {
-        let section = &custom.section;
-        if section.place() != *place || section.name() != "name" || !section.is_name_section() {
-            return false;
-        }
-    }
-    customs.len() == places.len()
-}
-
-/// Reports whether the custom sections of the module that these bytes encode are name sections with contents at
-/// these places.
-fn has_name_sections_at(alloc: Global, bytes: &[u8], places: &[u64]) -> Result<bool, Error> {
-    let decoded = decode(alloc, bytes)?;
-    Ok(are_name_sections_at(decoded.customs(), places))
-}
-
-#[test]
-fn name_sections_may_occur_anywhere(rt: HostRuntime) -> Result<(), Fail> {
-    for (sections, places) in PLACED.iter() {
-        let bytes = with_names(rt.alloc(), *sections)?;
-        assert!(rt; has_name_sections_at(rt.alloc(), &bytes, places)?);
-    }
-    Ok(())
-}
 
 /// Reports whether a custom section has this data at this place, and a cursor over its data has the same place and
 /// length.
@@ -83,121 +150,130 @@ fn holds(custom: &CustomEntry, place: u64, bytes: &[u8]) -> bool {
         && cursor.len() == bytes.len()
 }
 
-/// Reports whether there are exactly two custom sections: one without data at 0x0f, and one with the data of
-/// `FIRST_NAMES` at 0x20.
-fn hold_names_after_none(customs: &[CustomEntry]) -> bool {
-    match customs {
-        [first, second] => {
-            second.section.place() == 0x1b
-                && holds(first, 0x0f, b"")
-                && holds(second, 0x20, b"\x00\x02\x01m\x01\x04\x01\x00\x01a")
-        }
-        _ => false,
-    }
-}
-
-#[test]
-fn custom_sections_hold_the_bytes_after_their_name(rt: HostRuntime) -> Result<(), Fail> {
-    let bytes = with_names(rt.alloc(), [NO_NAMES, FIRST_NAMES, NONE])?;
-    let decoded = decode(rt.alloc(), &bytes)?;
-    assert!(rt; hold_names_after_none(decoded.customs()));
-    Ok(())
-}
-
-#[test]
-fn two_name_sections_may_be_adjacent(rt: HostRuntime) -> Result<(), Fail> {
-    let twice = module(rt.alloc(), &[FIRST_NAMES, FIRST_NAMES])?;
-    assert!(rt; is_accepted(rt.alloc(), &twice));
-    let decoded = decode(rt.alloc(), &twice)?;
-    assert!(rt; decoded.customs().len() == 2);
-    Ok(())
-}
-
-/// Custom sections that are not name sections, each with its name and its data.
-const OTHERS: &[(&[u8], &str, &[u8]); 6] = &[
-    (b"\x00\x06\x05names", "names", b""),
-    (b"\x00\x04\x03nam", "nam", b""),
-    (b"\x00\x01\x00", "", b""),
-    (b"\x00\x05\x04Name", "Name", b""),
-    (b"\x00\x05\x02\xc3\xa9\xff\x00", "é", b"\xff\x00"),
-    (b"\x00\x0b\x09producers\x00", "producers", b"\x00"),
-];
-
-/// Reports whether a custom section has this name and this data, and is not a name section.
-fn is_other(custom: &CustomEntry, name: &str, content: &[u8]) -> bool {
+/// Reports whether this is a fact about the custom section.
+fn is_fact(fact: Fact, custom: &CustomEntry) -> bool {
     let section = &custom.section;
-    section.name() == name && section.bytes() == content && !section.is_name_section()
-}
-
-/// Reports whether there are exactly two custom sections, both with this name and this data, and neither is a name
-/// section.
-fn are_others(customs: &[CustomEntry], name: &str, content: &[u8]) -> bool {
-    match customs {
-        [first, second] => is_other(first, name, content) && is_other(second, name, content),
-        _ => false,
+    match fact {
+        Fact::Names(place) => {
+            section.place() == place && section.name() == "name" && section.is_name_section()
+        }
+        Fact::Other(name, bytes) => {
+            section.name() == name && section.bytes() == bytes && !section.is_name_section()
+        }
+        Fact::Data(place, bytes) => holds(custom, place, bytes),
     }
 }
 
-/// Reports whether the module that these bytes encode has two such custom sections.
-fn has_others(alloc: Global, bytes: &[u8], name: &str, content: &[u8]) -> Result<bool, Error> {
-    let decoded = decode(alloc, bytes)?;
-    Ok(are_others(decoded.customs(), name, content))
+/// Reports whether there is one custom section for each fact, about which it holds.
+fn are_facts(customs: &[CustomEntry], facts: &[Fact]) -> bool {
+    for (custom, fact) in customs.iter().zip(facts) {
+        if !is_fact(*fact, custom) {
+            return false;
+        }
+    }
+    customs.len() == facts.len()
 }
 
 #[test]
-fn custom_sections_may_have_any_name(rt: HostRuntime) -> Result<(), Fail> {
-    for (section, name, content) in OTHERS.iter() {
-        let bytes = with_names(rt.alloc(), [section, NONE, section])?;
-        assert!(rt; has_others(rt.alloc(), &bytes, name, content)?);
+fn custom_sections_have_names_places_and_data(rt: HostRuntime) -> Result<(), Fail> {
+    for (name, sections, facts) in ROWS {
+        let bytes = with_names(rt.alloc(), sections)?;
+        let decoded = decode(rt.alloc(), &bytes)?;
+        assert!(rt; are_facts(decoded.customs(), facts), "{name}");
     }
     Ok(())
 }
 
-/// Custom sections that are refused before all other sections and after them, each with the offset of the error
-/// from the first byte of the section.
-const REFUSED: [(&[u8], u64); 6] = [
-    // No name, names that exceed the section, names that are not UTF-8, and a name whose length has six bytes
-    (b"\x00\x00", 2),
-    (b"\x00\x04\x04nam", 3),
-    (b"\x00\x04\x09pro", 3),
-    (b"\x00\x05\x04nam\xff", 2),
-    (b"\x00\x03\x02\xc3n", 2),
-    (b"\x00\x0a\x84\x80\x80\x80\x80\x00name", 6),
+/// Custom sections that are refused before all other sections and after them: the name of the row, the section, and the
+/// offset of the error from its first byte.
+const REFUSED: [(&str, &[u8], u64); 6] = [
+    ("no name", b"\x00\x00", 2),
+    (
+        "a name that exceeds the section by a byte",
+        b"\x00\x04\x04nam",
+        3,
+    ),
+    (
+        "a name that exceeds the section by more",
+        b"\x00\x04\x09pro",
+        3,
+    ),
+    ("a name with the byte ff", b"\x00\x05\x04nam\xff", 2),
+    ("a name with a truncated character", b"\x00\x03\x02\xc3n", 2),
+    (
+        "a length in six bytes",
+        b"\x00\x0a\x84\x80\x80\x80\x80\x00name",
+        6,
+    ),
 ];
 
 #[test]
 fn custom_sections_without_a_whole_name_are_refused(rt: HostRuntime) -> Result<(), Fail> {
-    for (section, offset) in REFUSED {
+    for (name, section, offset) in REFUSED {
         let before = with_names(rt.alloc(), [section, NONE, NONE])?;
-        assert!(rt; fault_place(rt.alloc(), &before) == Some(0x08 + offset));
+        assert!(rt;
+            fault_place(rt.alloc(), &before) == Some(0x08 + offset),
+            "{name}"
+        );
         let after = with_names(rt.alloc(), [NONE, NONE, section])?;
-        assert!(rt; fault_place(rt.alloc(), &after) == Some(0x18 + offset));
+        assert!(rt;
+            fault_place(rt.alloc(), &after) == Some(0x18 + offset),
+            "{name}"
+        );
     }
     Ok(())
 }
 
-/// Name sections, with the names that they give to the module and to functions 0 and 1.
-type Named = (Places, Option<&'static str>, [Option<&'static str>; 2]);
+/// Name sections: the name of the row, the sections at three places, and the names that they give to the module and to
+/// functions 0 and 1.
+type Named = (
+    &'static str,
+    Places,
+    Option<&'static str>,
+    [Option<&'static str>; 2],
+);
 
 const NAMED: [Named; 8] = [
-    ([NONE, NONE, NONE], None, [None, None]),
-    ([NO_NAMES, NONE, NO_NAMES], None, [None, None]),
-    ([OTHER_NAMES, NONE, NONE], None, [None, None]),
-    ([FIRST_NAMES, NONE, NONE], Some("m"), [Some("a"), None]),
-    ([NONE, NONE, SECOND_NAMES], None, [Some("b"), Some("a")]),
+    ("no section", [NONE, NONE, NONE], None, [None, None]),
+    (
+        "sections without names",
+        [NO_NAMES, NONE, NO_NAMES],
+        None,
+        [None, None],
+    ),
+    (
+        "a section with another name",
+        [OTHER_NAMES, NONE, NONE],
+        None,
+        [None, None],
+    ),
+    (
+        "one section",
+        [FIRST_NAMES, NONE, NONE],
+        Some("m"),
+        [Some("a"), None],
+    ),
+    (
+        "another section",
+        [NONE, NONE, SECOND_NAMES],
+        None,
+        [Some("b"), Some("a")],
+    ),
     // A name that was given before is replaced, and the last name of a function counts
     (
+        "two sections",
         [FIRST_NAMES, NONE, SECOND_NAMES],
         Some("m"),
         [Some("b"), Some("#func1 a")],
     ),
     (
+        "two sections the other way round",
         [SECOND_NAMES, FIRST_NAMES, NONE],
         Some("m"),
         [Some("#func0 a"), Some("a")],
     ),
-    // A section after one with an error counts too
     (
+        "a section after one with an error",
         [CUT_NAMES, NO_NAMES, FIRST_NAMES],
         Some("m"),
         [Some("a"), None],
@@ -214,20 +290,23 @@ fn are_given(names: &Names, of_module: Option<&str>, of_functions: [Option<&str>
 
 #[test]
 fn all_name_sections_give_names(rt: HostRuntime) -> Result<(), Fail> {
-    for (sections, of_module, of_functions) in NAMED {
+    for (name, sections, of_module, of_functions) in NAMED {
         let bytes = with_names(rt.alloc(), sections)?;
         let decoded = decode(rt.alloc(), &bytes)?;
         let names = decoded.names(rt.alloc())?;
-        assert!(rt; are_given(&names, of_module, of_functions));
+        assert!(rt; are_given(&names, of_module, of_functions), "{name}");
     }
     Ok(())
 }
 
 #[test]
-fn hundreds_of_custom_sections_are_kept(rt: HostRuntime) -> Result<(), Fail> {
+fn custom_sections_may_be_adjacent(rt: HostRuntime) -> Result<(), Fail> {
+    let twice = module(rt.alloc(), &[FIRST_NAMES, FIRST_NAMES])?;
+    let decoded = decode(rt.alloc(), &twice)?;
+    assert!(rt; decoded.customs().len() == 2);
     let note: &[u8] = b"\x00\x02\x01n";
-    let bytes = module(rt.alloc(), &[note; 300])?;
-    let decoded = decode(rt.alloc(), &bytes)?;
+    let hundreds = module(rt.alloc(), &[note; 300])?;
+    let decoded = decode(rt.alloc(), &hundreds)?;
     assert!(rt; decoded.customs().len() == 300);
     Ok(())
 }

@@ -2,9 +2,7 @@
 //! places are typed by hand.
 
 use crate::module::modules::{CODE, EXPORTS, FUNCTIONS, MEMORIES, START, TAGS, TYPES, module};
-use std::alloc::Global;
 use std::test::Fail;
-use wasmprinter_bytes::Error;
 use wasmprinter_wasm::{CustomEntry, Fields, SectionKind, decode};
 
 /// A custom section named `n`.
@@ -33,11 +31,16 @@ const NO_FUNCTIONS: [u8; 3] = [0x03, 0x01, 0x00];
 
 const NO_CODE: [u8; 3] = [0x0a, 0x01, 0x00];
 
-/// Sections, with the places of the custom sections among them.
-type Row = (&'static [&'static [u8]], &'static [Option<SectionKind>]);
+/// The name of the row, sections, and the places of the custom sections among them.
+type Row = (
+    &'static str,
+    &'static [&'static [u8]],
+    &'static [Option<SectionKind>],
+);
 
 /// A custom section after a section of each kind.
 const ALL: Row = (
+    "sections of all kinds",
     &[
         NOTE,
         &TYPES,
@@ -87,6 +90,7 @@ const ALL: Row = (
 
 /// A custom section after a section of each kind whose count is 0.
 const EMPTY: Row = (
+    "sections of all kinds without items",
     &[
         &[0x01, 0x01, 0x00],
         NOTE,
@@ -118,47 +122,64 @@ const EMPTY: Row = (
 
 /// Modules with custom sections, each with their places.
 const ROWS: &[Row] = &[
-    (&[NOTE], &[None]),
-    (&[NOTE, &TYPES], &[None]),
-    (&[&TYPES, NOTE], &[Some(SectionKind::Type)]),
+    ("a custom section alone", &[NOTE], &[None]),
+    ("before types", &[NOTE, &TYPES], &[None]),
+    ("after types", &[&TYPES, NOTE], &[Some(SectionKind::Type)]),
     (
+        "before, between and after sections",
         &[NOTE, &TYPES, NOTE, &MEMORIES, NOTE],
         &[None, Some(SectionKind::Type), Some(SectionKind::Memory)],
     ),
-    // Two custom sections in a row
-    (&[NOTE, NOTE, &TYPES], &[None, None]),
     (
+        "two in a row before types",
+        &[NOTE, NOTE, &TYPES],
+        &[None, None],
+    ),
+    (
+        "two in a row after types",
         &[&TYPES, NOTE, NOTE, &MEMORIES],
         &[Some(SectionKind::Type), Some(SectionKind::Type)],
     ),
-    // Sections without functions do not count
-    (&[&NO_FUNCTIONS, NOTE], &[None]),
     (
+        "a section without functions does not count",
+        &[&NO_FUNCTIONS, NOTE],
+        &[None],
+    ),
+    (
+        "a section without bodies does not count",
         &[&TYPES, &NO_FUNCTIONS, NOTE, &NO_CODE, NOTE],
         &[Some(SectionKind::Type), Some(SectionKind::Type)],
     ),
-    // A start section always counts
-    (&[&START, NOTE], &[Some(SectionKind::Start)]),
     (
+        "a start section counts",
+        &[&START, NOTE],
+        &[Some(SectionKind::Start)],
+    ),
+    (
+        "a start section counts after exports",
         &[&EXPORTS, NOTE, &START, &NO_CODE, NOTE],
         &[Some(SectionKind::Export), Some(SectionKind::Start)],
     ),
-    // A data count section never counts
-    (&[&DATA_COUNT, NOTE, &DATA], &[None]),
     (
+        "a data count section does not count",
+        &[&DATA_COUNT, NOTE, &DATA],
+        &[None],
+    ),
+    (
+        "a data count section does not count after memories",
         &[&MEMORIES, &DATA_COUNT, NOTE, &DATA],
         &[Some(SectionKind::Memory)],
     ),
-    // Code and data
     (
+        "after code",
         &[&TYPES, &FUNCTIONS, &CODE, NOTE],
         &[Some(SectionKind::Code)],
     ),
     (
+        "before code and after data",
         &[&TYPES, &FUNCTIONS, NOTE, &CODE, &DATA, NOTE],
         &[Some(SectionKind::Function), Some(SectionKind::Data)],
     ),
-    // All kinds of sections, with items and without
     ALL,
     EMPTY,
 ];
@@ -173,21 +194,12 @@ fn stand_after(customs: &[CustomEntry], places: &[Option<SectionKind>]) -> bool 
     customs.len() == places.len()
 }
 
-/// Reports whether the custom sections of the module that these bytes encode have these places.
-fn has_customs_after(
-    alloc: Global,
-    bytes: &[u8],
-    places: &[Option<SectionKind>],
-) -> Result<bool, Error> {
-    let decoded = decode(alloc, bytes)?;
-    Ok(stand_after(decoded.customs(), places))
-}
-
 #[test]
 fn custom_sections_follow_nonempty_sections(rt: HostRuntime) -> Result<(), Fail> {
-    for (sections, places) in ROWS {
+    for (name, sections, places) in ROWS {
         let bytes = module(rt.alloc(), sections)?;
-        assert!(rt; has_customs_after(rt.alloc(), &bytes, places)?);
+        let decoded = decode(rt.alloc(), &bytes)?;
+        assert!(rt; stand_after(decoded.customs(), places), "{name}");
     }
     Ok(())
 }

@@ -154,6 +154,8 @@ fn sections_have_roles(rt: HostRuntime) {
         let role = role_of("producers", &[0x01, 0x01, byte, 0x00]);
         assert!(rt; role == (wanted, 0), "a field named by byte {byte:#x}");
     }
+    assert!(rt; is_hint_section("metadata.code.branch_hint"));
+    assert!(rt; !is_hint_section("metadata.code.branch_hints"));
 }
 
 /// An expected fact about the contents of a section.
@@ -373,12 +375,6 @@ fn hints_are_taken_in_order(rt: HostRuntime) {
     let other = first_other(&mut Hints::of_section(0x50, bytes), &HINTED);
     assert!(rt; other == None, "row {other:?}");
     assert!(rt; are_hints(Hints::none().next_function(1), &[(3, None)]));
-}
-
-#[test]
-fn sections_of_hints_are_known(rt: HostRuntime) {
-    assert!(rt; is_hint_section("metadata.code.branch_hint"));
-    assert!(rt; !is_hint_section("metadata.code.branch_hints"));
 }
 
 /// Hint sections with an error in or after the first hint, which is that of function 1 at offset 3. Each has the name

@@ -419,11 +419,11 @@ const MODULE: Identifier<'static> = Identifier::Given(Name {
 /// The content of a name section: the module is `m`, function 0 is `f`.
 const MODULE_AND_FUNCTION: &[u8] = b"\x00\x02\x01m\x01\x04\x01\x00\x01f";
 
-/// Identifiers: the name of the row, the content of a name section, whether identifiers are synthesized, an item by its
+/// Identifiers: the name of the row, the contents of name sections, whether identifiers are synthesized, an item by its
 /// space, its function or type, and its index, or `None` for the module, and its identifier.
 type Identified = (
     &'static str,
-    &'static [u8],
+    &'static [&'static [u8]],
     bool,
     Option<(Space, u64, u64)>,
     Option<Identifier<'static>>,
@@ -432,42 +432,42 @@ type Identified = (
 const IDENTIFIED: [Identified; 6] = [
     (
         "a function with a name",
-        MODULE_AND_FUNCTION,
+        &[MODULE_AND_FUNCTION],
         false,
         Some((Space::Func, 0, 0)),
         Some(NAMED),
     ),
     (
         "a function without a name",
-        MODULE_AND_FUNCTION,
+        &[MODULE_AND_FUNCTION],
         false,
         Some((Space::Func, 0, 1)),
         None,
     ),
     (
         "a name comes before a synthesized identifier",
-        MODULE_AND_FUNCTION,
+        &[MODULE_AND_FUNCTION],
         true,
         Some((Space::Func, 0, 0)),
         Some(NAMED),
     ),
     (
         "a local whose index exceeds 32 bits",
-        MODULE_AND_FUNCTION,
+        &[MODULE_AND_FUNCTION],
         true,
         Some((Space::Local, 3, 5_000_000_000)),
         Some(FAR),
     ),
     (
         "a module with a name",
-        MODULE_AND_FUNCTION,
+        &[MODULE_AND_FUNCTION],
         false,
         None,
         Some(MODULE),
     ),
     (
         "no identifier is synthesized for a module",
-        b"",
+        &[],
         true,
         None,
         None,
@@ -490,8 +490,8 @@ fn is_identified(
 
 #[test]
 fn identifiers_are_given_or_synthesized(rt: HostRuntime) -> Result<(), Fail> {
-    for (name, section, synthesizes, item, wanted) in IDENTIFIED {
-        let names = names_of(rt.alloc(), &[section])?;
+    for (name, sections, synthesizes, item, wanted) in IDENTIFIED {
+        let names = names_of(rt.alloc(), sections)?;
         assert!(rt; is_identified(&names, synthesizes, item, wanted), "{name}");
     }
     Ok(())
@@ -589,21 +589,6 @@ const LAST_OF_300: [Last; 8] = [
     (Space::Tag, 11, "#tag299 a"),
 ];
 
-#[test]
-fn many_names_are_kept(rt: HostRuntime) -> Result<(), Fail> {
-    let map = map_of(rt.alloc(), 300)?;
-    for (space, id, last) in LAST_OF_300 {
-        let section = subsection_of(rt.alloc(), id, &map)?;
-        let items = [
-            (space, 0, 0, Some("a")),
-            (space, 0, 299, Some(last)),
-            (space, 0, 300, None),
-        ];
-        expect_names(last, rt.alloc(), &[&section], None, &items)?;
-    }
-    Ok(())
-}
-
 /// The spaces whose items belong to a function or type. 20 items of each have the name `a`. Labels may share a
 /// name.
 const LAST_OF_20: [Last; 3] = [
@@ -612,11 +597,27 @@ const LAST_OF_20: [Last; 3] = [
     (Space::Field, 10, "#field19 a"),
 ];
 
-#[test]
-fn many_names_of_many_functions_are_kept(rt: HostRuntime) -> Result<(), Fail> {
-    let maps = maps_of(rt.alloc(), &map_of(rt.alloc(), 20)?)?;
+/// Checks the first and the last of 300 items with the name `a` in each space whose items belong to no function or type.
+fn expect_300(alloc: Global) -> Result<(), Fail> {
+    let map = map_of(alloc, 300)?;
+    for (space, id, last) in LAST_OF_300 {
+        let section = subsection_of(alloc, id, &map)?;
+        let items = [
+            (space, 0, 0, Some("a")),
+            (space, 0, 299, Some(last)),
+            (space, 0, 300, None),
+        ];
+        expect_names(last, alloc, &[&section], None, &items)?;
+    }
+    Ok(())
+}
+
+/// Checks the first and the last of 20 items with the name `a` in the first and the last of 40 functions or types, in each
+/// other space.
+fn expect_40_times_20(alloc: Global) -> Result<(), Fail> {
+    let maps = maps_of(alloc, &map_of(alloc, 20)?)?;
     for (space, id, last) in LAST_OF_20 {
-        let section = subsection_of(rt.alloc(), id, &maps)?;
+        let section = subsection_of(alloc, id, &maps)?;
         let items = [
             (space, 0, 0, Some("a")),
             (space, 0, 19, Some(last)),
@@ -625,7 +626,13 @@ fn many_names_of_many_functions_are_kept(rt: HostRuntime) -> Result<(), Fail> {
             (space, 39, 19, Some(last)),
             (space, 40, 0, None),
         ];
-        expect_names(last, rt.alloc(), &[&section], None, &items)?;
+        expect_names(last, alloc, &[&section], None, &items)?;
     }
     Ok(())
+}
+
+#[test]
+fn many_names_are_kept(rt: HostRuntime) -> Result<(), Fail> {
+    expect_300(rt.alloc())?;
+    expect_40_times_20(rt.alloc())
 }
