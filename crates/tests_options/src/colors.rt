@@ -1,6 +1,7 @@
 //! Texts with ANSI escape sequences for colors. The sequences are typed by hand.
 
 use crate::large::{COUNT, large};
+use crate::setters::{Setter, config_of};
 use std::alloc::{AllocError, Global};
 use std::test::Fail;
 use wasmprinter::{Config, Error};
@@ -43,23 +44,31 @@ fn is_colored_as(alloc: Global, config: &Config, wasm: &[u8], typed: &str) -> Re
     Ok(config.print_to_ansi(alloc, wasm)?.as_slice() == typed.as_bytes())
 }
 
-#[test]
-fn prints_in_colors(rt: HostRuntime) -> Result<(), Fail> {
-    let modules: [(&[u8], &str); 2] = [
-        (&PREAMBLE, "(\x1b[0m\x1b[1m\x1b[38;5;11mmodule\x1b[0m)\n"),
-        (&IDENTITY, IDENTITY_COLORED),
-    ];
-    for (wasm, expected) in modules {
-        assert!(rt; is_colored_as(rt.alloc(), &Config::new(), wasm, expected)?);
-    }
-    Ok(())
-}
+/// A module with options: the name of the row, the setters that are called, the module, and its text with colors.
+type Row = (&'static str, &'static [Setter], &'static [u8], &'static str);
+
+const ROWS: [Row; 3] = [
+    (
+        "a module without fields",
+        &[],
+        &PREAMBLE,
+        "(\x1b[0m\x1b[1m\x1b[38;5;11mmodule\x1b[0m)\n",
+    ),
+    ("a function", &[], &IDENTITY, IDENTITY_COLORED),
+    (
+        "places",
+        &[Setter::Offsets(true)],
+        &IDENTITY,
+        PLACES_COLORED,
+    ),
+];
 
 #[test]
-fn prints_places_in_colors(rt: HostRuntime) -> Result<(), Fail> {
-    let mut config = Config::new();
-    config.print_offsets(true);
-    assert!(rt; is_colored_as(rt.alloc(), &config, &IDENTITY, PLACES_COLORED)?);
+fn prints_in_colors(rt: HostRuntime) -> Result<(), Fail> {
+    for (name, setters, wasm, text) in ROWS {
+        let config = config_of(rt.alloc(), setters)?;
+        assert!(rt; is_colored_as(rt.alloc(), &config, wasm, text)?, "{name}");
+    }
     Ok(())
 }
 

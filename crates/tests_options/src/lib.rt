@@ -16,3 +16,5 @@ mod lines;
 mod options;
 #[cfg(test)]
 mod places;
+#[cfg(test)]
+mod setters;

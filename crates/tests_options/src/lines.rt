@@ -1,9 +1,12 @@
 //! The lines of a text, each with its place. Expected values are typed by hand.
 
 use crate::large::{COUNT, FIRST_BODY, LEN, large};
+use crate::options::GROUP;
+use crate::setters::{Setter, config_of};
 use std::alloc::{AllocError, Global};
 use std::test::Fail;
 use wasmprinter::{Config, Error, LineStart, OffsetsAndLines};
+use wasmprinter_expecting::expect_same;
 use wasmprinter_samples::{IDENTITY, MINUS_ONE, PREAMBLE, expect_text};
 
 /// A line: the place of the item that it begins with, and its text with the line feed.
@@ -69,12 +72,6 @@ const MINUS_ONE_LINES: [Line; 9] = [
     (Some(0x21), ")\n"),
 ];
 
-/// A module with a recursive group of one type.
-const GROUP: [u8; 16] = [
-    0x00, 0x61, 0x73, 0x6d, 0x01, 0x00, 0x00, 0x00, // preamble
-    0x01, 0x06, 0x01, 0x4e, 0x01, 0x60, 0x00, 0x00, // types
-];
-
 /// The lines of `GROUP`. The line that closes the group has no place.
 const GROUP_LINES: [Line; 5] = [
     (Some(0x0), "(module\n"),
@@ -97,98 +94,53 @@ fn are_lines(found: OffsetsAndLines<'_>, expected: &[Line]) -> bool {
     found.eq(expected.iter().copied())
 }
 
-/// Reports whether printing a module with these options gives these lines.
-fn has_lines(
-    alloc: Global,
-    config: &Config,
-    wasm: &[u8],
-    expected: &[Line],
-) -> Result<bool, Error> {
-    let mut storage = String::new(alloc);
-    Ok(are_lines(
-        config.offsets_and_lines(alloc, wasm, &mut storage)?,
-        expected,
-    ))
-}
+/// A module with options: the name of the row, the setters that are called, the module, and its lines.
+type Row = (
+    &'static str,
+    &'static [Setter],
+    &'static [u8],
+    &'static [Line],
+);
 
-/// Appends the text of a module to the storage, and reports whether these are its lines.
-fn appends_lines(
-    alloc: Global,
-    wasm: &[u8],
-    storage: &mut String,
-    expected: &[Line],
-) -> Result<bool, Error> {
-    Ok(are_lines(
-        Config::new().offsets_and_lines(alloc, wasm, storage)?,
-        expected,
-    ))
-}
+/// Modules with default options and with others.
+const ROWS: [Row; 6] = [
+    (
+        "a module without fields",
+        &[],
+        &PREAMBLE,
+        &[(Some(0x0), "(module)\n")],
+    ),
+    ("a function", &[], &IDENTITY, &IDENTITY_LINES),
+    ("locals", &[], &MINUS_ONE, &MINUS_ONE_LINES),
+    ("a line without a place", &[], &GROUP, &GROUP_LINES),
+    ("a skeleton", &[Setter::Skeleton(true)], &IDENTITY, &OUTLINE),
+    (
+        "a skeleton with places",
+        &[Setter::Skeleton(true), Setter::Offsets(true)],
+        &IDENTITY,
+        &PLACED,
+    ),
+];
 
 #[test]
 fn gives_each_line_with_its_place(rt: HostRuntime) -> Result<(), Fail> {
-    let modules: [(&[u8], &[Line]); 4] = [
-        (&PREAMBLE, &[(Some(0x0), "(module)\n")]),
-        (&IDENTITY, &IDENTITY_LINES),
-        (&MINUS_ONE, &MINUS_ONE_LINES),
-        (&GROUP, &GROUP_LINES),
-    ];
-    for (wasm, expected) in modules {
-        assert!(rt; has_lines(rt.alloc(), &Config::new(), wasm, expected)?);
+    for (name, setters, wasm, expected) in ROWS {
+        let config = config_of(rt.alloc(), setters)?;
+        let mut storage = String::new(rt.alloc());
+        let lines = config.offsets_and_lines(rt.alloc(), wasm, &mut storage)?;
+        assert!(rt; are_lines(lines, expected), "{name}");
     }
-    Ok(())
-}
-
-#[test]
-fn gives_lines_by_options(rt: HostRuntime) -> Result<(), Fail> {
-    let mut config = Config::new();
-    config.print_skeleton(true);
-    assert!(rt; has_lines(rt.alloc(), &config, &IDENTITY, &OUTLINE)?);
-    config.print_offsets(true);
-    assert!(rt; has_lines(rt.alloc(), &config, &IDENTITY, &PLACED)?);
     Ok(())
 }
 
 #[test]
 fn appends_to_existing_text(rt: HostRuntime) -> Result<(), Fail> {
     let mut storage = String::from_str(rt.alloc(), "λ\n")?;
-    assert!(rt;
-        appends_lines(
-            rt.alloc(),
-            &PREAMBLE,
-            &mut storage,
-            &[(Some(0x0), "(module)\n")]
-        )?
-    );
-    expect_text(storage.as_str(), "λ\n(module)\n")?;
-    assert!(rt;
-        appends_lines(
-            rt.alloc(),
-            &PREAMBLE,
-            &mut storage,
-            &[(Some(0x0), "(module)\n")]
-        )?
-    );
-    expect_text(storage.as_str(), "λ\n(module)\n(module)\n")?;
-    Ok(())
-}
-
-/// Returns the error with which the lines of a module are refused, if they are.
-fn refusal(alloc: Global, wasm: &[u8], storage: &mut String) -> Option<Error> {
-    match Config::new().offsets_and_lines(alloc, wasm, storage) {
-        Ok(_) => None,
-        Err(error) => Some(error),
+    for expected in ["λ\n(module)\n", "λ\n(module)\n(module)\n"] {
+        let lines = Config::new().offsets_and_lines(rt.alloc(), &PREAMBLE, &mut storage)?;
+        assert!(rt; are_lines(lines, &[(Some(0x0), "(module)\n")]));
+        expect_text(storage.as_str(), expected)?;
     }
-}
-
-#[test]
-fn keeps_the_text_after_a_refusal(rt: HostRuntime) -> Result<(), Fail> {
-    let mut storage = String::from_str(rt.alloc(), "old")?;
-    let cut = refusal(rt.alloc(), &IDENTITY[..34], &mut storage);
-    assert!(rt; matches!(cut, Some(Error::Malformed { .. })));
-    expect_text(storage.as_str(), "old")?;
-    let refused = refusal(rt.alloc(), &UNKNOWN, &mut storage);
-    assert!(rt; matches!(refused, Some(Error::DylinkSubsection { id: 9 })));
-    expect_text(storage.as_str(), "old(module\n  (type (;0;) (func))")?;
     Ok(())
 }
 
@@ -201,31 +153,99 @@ const UNKNOWN_AFTER_CUSTOM: [u8; 33] = [
     0x09, 0x01, 0x00, // an unknown one
 ];
 
-#[test]
-fn keeps_custom_sections_before_a_refusal(rt: HostRuntime) -> Result<(), Fail> {
-    let mut storage = String::from_str(rt.alloc(), "old")?;
-    let refused = refusal(rt.alloc(), &UNKNOWN_AFTER_CUSTOM, &mut storage);
-    assert!(rt; matches!(refused, Some(Error::DylinkSubsection { id: 9 })));
-    expect_text(
-        storage.as_str(),
-        "old(module\n  (@custom \"a\" (before first) \"x\")",
-    )?;
-    Ok(())
+/// How a module is refused.
+#[derive(Drop)]
+enum Refusal {
+    /// As malformed, at any byte offset
+    Malformed,
+    /// As malformed, at this byte offset
+    MalformedAt(u64),
+    /// For an unknown subsection with this id
+    Subsection(u8),
 }
 
-/// Reports whether the iterator returns the one line of the empty module, and then `None` each time.
-fn walks_to_the_end(alloc: Global) -> Result<bool, Error> {
-    let mut storage = String::new(alloc);
-    let mut lines = Config::new().offsets_and_lines(alloc, &PREAMBLE, &mut storage)?;
-    let first = lines.next();
-    let second = lines.next();
-    let third = lines.next();
-    Ok(first == Some((Some(0), "(module)\n")) && second.is_none() && third.is_none())
+/// Reports whether an error is the expected refusal.
+fn is_refusal(error: &Error, expected: &Refusal) -> bool {
+    match (error, expected) {
+        (Error::Malformed { .. }, Refusal::Malformed) => true,
+        (Error::Malformed { place }, Refusal::MalformedAt(offset)) => *place == *offset,
+        (Error::DylinkSubsection { id }, Refusal::Subsection(unknown)) => *id == *unknown,
+        _ => false,
+    }
+}
+
+/// A module that is refused: the name of the row, the bytes, the refusal, the text of the storage before, and the
+/// text after.
+type Refused<'a> = (&'static str, &'a [u8], Refusal, &'static str, &'static str);
+
+/// Checks that printing a module with line starts, or the iterator over its lines, fails with the expected error, and
+/// leaves the expected text in the storage.
+///
+/// # Errors
+///
+/// - The module is printed, the error is another one, or the text differs.
+fn expect_refused(alloc: Global, row: &Refused<'_>) -> Result<(), Fail> {
+    let (name, wasm, refusal, before, after) = row;
+    let mut storage = String::from_str(alloc, before)?;
+    let config = Config::new();
+    match config.offsets_and_lines(alloc, wasm, &mut storage) {
+        Err(error) if is_refusal(&error, refusal) => {}
+        _ => return Err((*name, "the iterator is not refused so"))?,
+    }
+    expect_same(name, storage.as_str(), after)?;
+    let mut storage = String::from_str(alloc, before)?;
+    match config.print_with_line_starts(alloc, wasm, &mut storage) {
+        Err(error) if is_refusal(&error, refusal) => {}
+        _ => return Err((*name, "the starts are not refused so"))?,
+    }
+    expect_same(name, storage.as_str(), after)
+}
+
+#[test]
+fn keeps_the_text_before_a_refusal(rt: HostRuntime) -> Result<(), Fail> {
+    let rows: [Refused<'_>; 4] = [
+        (
+            "a module that is cut",
+            &IDENTITY[..34],
+            Refusal::Malformed,
+            "old",
+            "old",
+        ),
+        (
+            "a preamble that is cut",
+            &PREAMBLE[..7],
+            Refusal::MalformedAt(0),
+            "old\n",
+            "old\n",
+        ),
+        (
+            "an unknown subsection",
+            &UNKNOWN,
+            Refusal::Subsection(9),
+            "old",
+            "old(module\n  (type (;0;) (func))",
+        ),
+        (
+            "an unknown subsection after a custom section",
+            &UNKNOWN_AFTER_CUSTOM,
+            Refusal::Subsection(9),
+            "old",
+            "old(module\n  (@custom \"a\" (before first) \"x\")",
+        ),
+    ];
+    for row in &rows {
+        expect_refused(rt.alloc(), row)?;
+    }
+    Ok(())
 }
 
 #[test]
 fn stays_at_the_end(rt: HostRuntime) -> Result<(), Fail> {
-    assert!(rt; walks_to_the_end(rt.alloc())?);
+    let mut storage = String::new(rt.alloc());
+    let mut lines = Config::new().offsets_and_lines(rt.alloc(), &PREAMBLE, &mut storage)?;
+    assert!(rt; lines.next() == Some((Some(0), "(module)\n")));
+    assert!(rt; lines.next().is_none());
+    assert!(rt; lines.next().is_none());
     Ok(())
 }
 
@@ -299,14 +319,5 @@ fn returns_where_lines_begin(rt: HostRuntime) -> Result<(), Fail> {
     assert!(rt; are_starts(&starts, &GROUP_STARTS));
     let lines = OffsetsAndLines::new(storage.as_str(), starts);
     assert!(rt; are_lines(lines, &GROUP_LINES));
-    Ok(())
-}
-
-#[test]
-fn keeps_the_text_if_no_lines_are_returned(rt: HostRuntime) -> Result<(), Fail> {
-    let mut storage = String::from_str(rt.alloc(), "old\n")?;
-    let refused = Config::new().print_with_line_starts(rt.alloc(), &PREAMBLE[..7], &mut storage);
-    assert!(rt; matches!(refused, Err(Error::Malformed { place: 0 })));
-    expect_text(storage.as_str(), "old\n")?;
     Ok(())
 }

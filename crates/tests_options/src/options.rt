@@ -1,9 +1,10 @@
 //! Options and their setters: texts with places, without bodies, and with several options at once; and options
 //! that are reset.
 
-use std::alloc::Global;
+use crate::setters::{Setter, config_of};
 use std::test::Fail;
 use wasmprinter::Config;
+use wasmprinter_expecting::expect_printed_by;
 use wasmprinter_samples::{
     EVERY_SPACE, EVERYTHING, EVERYTHING_TEXT, FIELDS, FIELDS_TEXT, IDENTITY, IDENTITY_TEXT,
     PREAMBLE, expect_text,
@@ -118,64 +119,16 @@ const EVERY_OPTION: &str = "(module $all
 (;@164   ;))
 ";
 
-/// Checks that the text of a module with these options is the typed text.
-///
-/// # Errors
-///
-/// - The module is refused.
-/// - Its text differs.
-fn expect_printed_with(
-    alloc: Global,
-    config: &Config,
-    wasm: &[u8],
-    typed: &str,
-) -> Result<(), Fail> {
-    expect_text(config.print_to_string(alloc, wasm)?.as_str(), typed)?;
-    Ok(())
-}
-
-#[test]
-fn prints_places(rt: HostRuntime) -> Result<(), Fail> {
-    let modules: [(&[u8], &str); 3] = [
-        (&PREAMBLE, "(module\n(;@8     ;))\n"),
-        (&IDENTITY, IDENTITY_PLACES),
-        (&EVERYTHING, EVERYTHING_PLACES),
-    ];
-    let mut config = Config::new();
-    config.print_offsets(true);
-    for (wasm, expected) in modules {
-        expect_printed_with(rt.alloc(), &config, wasm, expected)?;
-    }
-    Ok(())
-}
-
-#[test]
-fn leaves_bodies_out(rt: HostRuntime) -> Result<(), Fail> {
-    let mut config = Config::new();
-    config.print_skeleton(true);
-    expect_printed_with(
-        rt.alloc(),
-        &config,
-        &IDENTITY,
-        r#"(module
+/// The text of `IDENTITY` without its body.
+const IDENTITY_SKELETON: &str = r#"(module
   (type (;0;) (func (param i32) (result i32)))
   (export "f" (func 0))
   (func (;0;) (type 0) (param i32) (result i32) ...)
 )
-"#,
-    )?;
-    Ok(())
-}
+"#;
 
-#[test]
-fn prints_places_of_fields(rt: HostRuntime) -> Result<(), Fail> {
-    let mut config = Config::new();
-    config.print_offsets(true);
-    expect_printed_with(
-        rt.alloc(),
-        &config,
-        &FIELDS,
-        r#"(module
+/// The text of `FIELDS` with places.
+const FIELDS_PLACES: &str = r#"(module
 (;@b     ;)  (type (;0;) (func))
 (;@11    ;)  (import "a" "f" (func (;0;) (type 0)))
 (;@17    ;)  (import "a" "g" (global (;0;) (mut i32)))
@@ -191,20 +144,10 @@ fn prints_places_of_fields(rt: HostRuntime) -> Result<(), Fail> {
 (;@60    ;)  (data (;0;) (i32.const 0) "hi")
 (;@67    ;)  (data (;1;) "")
 (;@69    ;))
-"#,
-    )?;
-    Ok(())
-}
+"#;
 
-#[test]
-fn prints_fields_of_a_skeleton(rt: HostRuntime) -> Result<(), Fail> {
-    let mut config = Config::new();
-    config.print_skeleton(true);
-    expect_printed_with(
-        rt.alloc(),
-        &config,
-        &FIELDS,
-        r#"(module
+/// The text of `FIELDS` without items of element segments and bytes of data segments.
+const FIELDS_SKELETON: &str = r#"(module
   (type (;0;) (func))
   (import "a" "f" (func (;0;) (type 0)))
   (import "a" "g" (global (;0;) (mut i32)))
@@ -220,96 +163,172 @@ fn prints_fields_of_a_skeleton(rt: HostRuntime) -> Result<(), Fail> {
   (data (;0;) (i32.const 0) ...)
   (data (;1;) ...)
 )
-"#,
-    )?;
-    Ok(())
-}
+"#;
 
-#[test]
-fn leaves_room_where_a_line_has_no_place(rt: HostRuntime) -> Result<(), Fail> {
-    let group = [
-        0x00, 0x61, 0x73, 0x6d, 0x01, 0x00, 0x00, 0x00, 0x01, 0x06, 0x01, 0x4e, 0x01, 0x60, 0x00,
-        0x00,
-    ];
-    let mut config = Config::new();
-    config.print_offsets(true);
-    expect_printed_with(
-        rt.alloc(),
-        &config,
-        &group,
-        r#"(module
+/// A module with a recursive group of one type.
+pub const GROUP: [u8; 16] = [
+    0x00, 0x61, 0x73, 0x6d, 0x01, 0x00, 0x00, 0x00, // preamble
+    0x01, 0x06, 0x01, 0x4e, 0x01, 0x60, 0x00, 0x00, // types
+];
+
+/// The text of `GROUP` with places. The line that closes the group has no place.
+pub const GROUP_PLACES: &str = r#"(module
 (;@b     ;)  (rec
 (;@d     ;)    (type (;0;) (func))
              )
 (;@10    ;))
-"#,
-    )?;
-    Ok(())
-}
+"#;
 
-/// Indents, and the text of `IDENTITY` with each.
-const INDENTED: [(&str, &str); 3] = [
-    (
-        "\t",
-        "(module\n\
+/// The text of `IDENTITY`, indented by a tab.
+const TABBED: &str = "(module\n\
         \t(type (;0;) (func (param i32) (result i32)))\n\
         \t(export \"f\" (func 0))\n\
         \t(func (;0;) (type 0) (param i32) (result i32)\n\
         \t\tlocal.get 0\n\
         \t)\n\
-        )\n",
-    ),
-    (
-        "",
-        "(module\n\
+        )\n";
+
+/// The text of `IDENTITY`, indented by an empty text.
+const UNINDENTED: &str = "(module\n\
         (type (;0;) (func (param i32) (result i32)))\n\
         (export \"f\" (func 0))\n\
         (func (;0;) (type 0) (param i32) (result i32)\n\
         local.get 0\n\
         )\n\
-        )\n",
-    ),
-    (
-        "-λ",
-        "(module\n\
+        )\n";
+
+/// The text of `IDENTITY`, indented by a text of two characters.
+const LETTERED: &str = "(module\n\
         -λ(type (;0;) (func (param i32) (result i32)))\n\
         -λ(export \"f\" (func 0))\n\
         -λ(func (;0;) (type 0) (param i32) (result i32)\n\
         -λ-λlocal.get 0\n\
         -λ)\n\
-        )\n",
-    ),
-];
+        )\n";
 
-#[test]
-fn indents_by_another_text(rt: HostRuntime) -> Result<(), Fail> {
-    for (indent, expected) in INDENTED {
-        let mut config = Config::new();
-        config.indent_text(String::from_str(rt.alloc(), indent)?);
-        expect_printed_with(rt.alloc(), &config, &IDENTITY, expected)?;
-    }
-    Ok(())
-}
-
-#[test]
-fn indents_after_places(rt: HostRuntime) -> Result<(), Fail> {
-    let mut config = Config::new();
-    config.indent_text(String::from_str(rt.alloc(), " ")?);
-    config
-        .indent_text(String::from_str(rt.alloc(), "\t")?)
-        .print_offsets(true);
-    expect_printed_with(
-        rt.alloc(),
-        &config,
-        &IDENTITY,
-        "(module\n\
+/// The text of `IDENTITY` with places, indented by a tab.
+const TABBED_PLACES: &str = "(module\n\
         (;@b     ;)\t(type (;0;) (func (param i32) (result i32)))\n\
         (;@17    ;)\t(export \"f\" (func 0))\n\
         (;@1f    ;)\t(func (;0;) (type 0) (param i32) (result i32)\n\
         (;@20    ;)\t\tlocal.get 0\n\
         (;@22    ;)\t)\n\
-        (;@23    ;))\n",
-    )?;
+        (;@23    ;))\n";
+
+/// A module with options: the name of the row, the setters that are called, the module, and its text.
+type Row = (&'static str, &'static [Setter], &'static [u8], &'static str);
+
+/// Modules with one option, with several, and with options that equal the defaults.
+const ROWS: [Row; 14] = [
+    (
+        "places of a module without fields",
+        &[Setter::Offsets(true)],
+        &PREAMBLE,
+        "(module\n(;@8     ;))\n",
+    ),
+    (
+        "places of a function",
+        &[Setter::Offsets(true)],
+        &IDENTITY,
+        IDENTITY_PLACES,
+    ),
+    (
+        "places of several functions",
+        &[Setter::Offsets(true)],
+        &EVERYTHING,
+        EVERYTHING_PLACES,
+    ),
+    (
+        "places of fields",
+        &[Setter::Offsets(true)],
+        &FIELDS,
+        FIELDS_PLACES,
+    ),
+    (
+        "room for the place of a line without one",
+        &[Setter::Offsets(true)],
+        &GROUP,
+        GROUP_PLACES,
+    ),
+    (
+        "a skeleton of a function",
+        &[Setter::Skeleton(true)],
+        &IDENTITY,
+        IDENTITY_SKELETON,
+    ),
+    (
+        "a skeleton of fields",
+        &[Setter::Skeleton(true)],
+        &FIELDS,
+        FIELDS_SKELETON,
+    ),
+    (
+        "an indent of a tab",
+        &[Setter::Indent("\t")],
+        &IDENTITY,
+        TABBED,
+    ),
+    (
+        "an empty indent",
+        &[Setter::Indent("")],
+        &IDENTITY,
+        UNINDENTED,
+    ),
+    (
+        "an indent of two characters",
+        &[Setter::Indent("-λ")],
+        &IDENTITY,
+        LETTERED,
+    ),
+    (
+        "the last of two indents, after places",
+        &[
+            Setter::Indent(" "),
+            Setter::Indent("\t"),
+            Setter::Offsets(true),
+        ],
+        &IDENTITY,
+        TABBED_PLACES,
+    ),
+    (
+        "all options at once",
+        &[
+            Setter::Offsets(true),
+            Setter::Skeleton(true),
+            Setter::NameUnnamed(true),
+            Setter::Indent("\t"),
+        ],
+        &EVERY_SPACE,
+        EVERY_OPTION,
+    ),
+    (
+        "functions without options",
+        &[
+            Setter::Offsets(false),
+            Setter::Skeleton(false),
+            Setter::NameUnnamed(false),
+        ],
+        &EVERYTHING,
+        EVERYTHING_TEXT,
+    ),
+    (
+        "fields without options",
+        &[
+            Setter::Offsets(false),
+            Setter::Skeleton(false),
+            Setter::NameUnnamed(false),
+        ],
+        &FIELDS,
+        FIELDS_TEXT,
+    ),
+];
+
+#[test]
+fn prints_by_options(rt: HostRuntime) -> Result<(), Fail> {
+    for (name, setters, wasm, text) in ROWS {
+        let config = config_of(rt.alloc(), setters)?;
+        expect_printed_by(name, &config, rt.alloc(), wasm, text)?;
+    }
     Ok(())
 }
 
@@ -317,7 +336,8 @@ fn indents_after_places(rt: HostRuntime) -> Result<(), Fail> {
 fn chains_setters(rt: HostRuntime) -> Result<(), Fail> {
     let mut config = Config::new();
     config.print_offsets(true).print_skeleton(true);
-    expect_printed_with(rt.alloc(), &config, &EVERY_SPACE, EVERY_SPACE_OUTLINE)?;
+    let text = config.print_to_string(rt.alloc(), &EVERY_SPACE)?;
+    expect_text(text.as_str(), EVERY_SPACE_OUTLINE)?;
     let text = Config::new()
         .name_unnamed(true)
         .print_skeleton(true)
@@ -328,42 +348,18 @@ fn chains_setters(rt: HostRuntime) -> Result<(), Fail> {
 }
 
 #[test]
-fn prints_by_all_options_at_once(rt: HostRuntime) -> Result<(), Fail> {
-    let mut config = Config::new();
-    config
-        .print_offsets(true)
-        .print_skeleton(true)
-        .name_unnamed(true)
-        .indent_text(String::from_str(rt.alloc(), "\t")?);
-    expect_printed_with(rt.alloc(), &config, &EVERY_SPACE, EVERY_OPTION)?;
-    Ok(())
-}
-
-#[test]
 fn takes_options_back(rt: HostRuntime) -> Result<(), Fail> {
     let mut config = Config::new();
     config.print_offsets(true).print_skeleton(true);
     config.name_unnamed(true).name_unnamed(false);
-    expect_printed_with(rt.alloc(), &config, &IDENTITY, IDENTITY_OUTLINE)?;
+    let name = "identifiers are taken back";
+    expect_printed_by(name, &config, rt.alloc(), &IDENTITY, IDENTITY_OUTLINE)?;
     config.print_skeleton(false);
-    expect_printed_with(rt.alloc(), &config, &IDENTITY, IDENTITY_PLACES)?;
+    let name = "the skeleton is taken back";
+    expect_printed_by(name, &config, rt.alloc(), &IDENTITY, IDENTITY_PLACES)?;
     config.print_offsets(false);
-    expect_printed_with(rt.alloc(), &config, &IDENTITY, IDENTITY_TEXT)?;
-    Ok(())
-}
-
-#[test]
-fn prints_as_by_default_where_no_option_is_asked_for(rt: HostRuntime) -> Result<(), Fail> {
-    let mut config = Config::new();
-    config
-        .print_offsets(false)
-        .print_skeleton(false)
-        .name_unnamed(false);
-    let modules: [(&[u8], &str); 2] = [(&EVERYTHING, EVERYTHING_TEXT), (&FIELDS, FIELDS_TEXT)];
-    for (wasm, expected) in modules {
-        expect_printed_with(rt.alloc(), &config, wasm, expected)?;
-    }
-    Ok(())
+    let name = "places are taken back";
+    expect_printed_by(name, &config, rt.alloc(), &IDENTITY, IDENTITY_TEXT)
 }
 
 #[test]

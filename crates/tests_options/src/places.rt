@@ -1,9 +1,9 @@
 //! Operators and their lines. Expected values are typed by hand.
 
-use std::alloc::Global;
+use crate::setters::{Setter, config_of};
 use std::test::Fail;
+use wasmprinter::place_of;
 use wasmprinter::wasm::decode;
-use wasmprinter::{Config, Error, place_of};
 use wasmprinter_samples::{IDENTITY, MINUS_ONE};
 
 /// A function with a branch hint for its `if`.
@@ -22,19 +22,6 @@ const HINTED: [u8; 68] = [
 /// its place.
 type Case = (u32, u32, Option<(usize, u64)>);
 
-/// Reports whether the expected lines and places are found in all lines of a module.
-fn are_found(alloc: Global, config: &Config, wasm: &[u8], cases: &[Case]) -> Result<bool, Error> {
-    let module = decode(alloc, wasm)?;
-    let mut storage = String::new(alloc);
-    let all = config.offsets_and_lines(alloc, wasm, &mut storage)?;
-    let lines: Vec<(Option<u64>, &str)> = all.collect(alloc)?;
-    Ok(
-        cases.iter().all(|(function, operator, found)| {
-            place_of(&module, &lines, *function, *operator) == *found
-        }),
-    )
-}
-
 #[test]
 fn walks_over_the_places_of_operators(rt: HostRuntime) -> Result<(), Fail> {
     let module = decode(rt.alloc(), &MINUS_ONE)?;
@@ -48,34 +35,68 @@ fn walks_over_the_places_of_operators(rt: HostRuntime) -> Result<(), Fail> {
     Ok(())
 }
 
-#[test]
-fn finds_operators_in_all_lines(rt: HostRuntime) -> Result<(), Fail> {
-    let identity: [Case; 3] = [(0, 0, Some((4, 0x20))), (0, 1, None), (1, 0, None)];
-    let minus_one: [Case; 5] = [
-        (0, 0, Some((4, 0x1a))),
-        (0, 1, Some((5, 0x1c))),
-        (0, 2, Some((6, 0x1e))),
-        (0, 3, None),
-        (u32::MAX, u32::MAX, None),
-    ];
-    let hinted: [Case; 4] = [
-        (0, 0, Some((3, 0x3a))),
-        (0, 1, Some((5, 0x3c))),
-        (0, 2, Some((6, 0x3e))),
-        (0, 3, None),
-    ];
-    let config = Config::new();
-    assert!(rt; are_found(rt.alloc(), &config, &IDENTITY, &identity)?);
-    assert!(rt; are_found(rt.alloc(), &config, &MINUS_ONE, &minus_one)?);
-    assert!(rt; are_found(rt.alloc(), &config, &HINTED, &hinted)?);
-    Ok(())
-}
+/// A module with options: the name of the row, the setters that are called, the module, and its cases.
+type Row = (
+    &'static str,
+    &'static [Setter],
+    &'static [u8],
+    &'static [Case],
+);
+
+/// Modules with operators, and a skeleton, in which no operator is found.
+const ROWS: [Row; 4] = [
+    (
+        "one operator",
+        &[],
+        &IDENTITY,
+        &[(0, 0, Some((4, 0x20))), (0, 1, None), (1, 0, None)],
+    ),
+    (
+        "three operators",
+        &[],
+        &MINUS_ONE,
+        &[
+            (0, 0, Some((4, 0x1a))),
+            (0, 1, Some((5, 0x1c))),
+            (0, 2, Some((6, 0x1e))),
+            (0, 3, None),
+            (u32::MAX, u32::MAX, None),
+        ],
+    ),
+    (
+        "a branch hint",
+        &[],
+        &HINTED,
+        &[
+            (0, 0, Some((3, 0x3a))),
+            (0, 1, Some((5, 0x3c))),
+            (0, 2, Some((6, 0x3e))),
+            (0, 3, None),
+        ],
+    ),
+    (
+        "a skeleton",
+        &[Setter::Skeleton(true)],
+        &IDENTITY,
+        &[(0, 0, None)],
+    ),
+];
 
 #[test]
-fn finds_no_operator_where_bodies_are_left_out(rt: HostRuntime) -> Result<(), Fail> {
-    let mut config = Config::new();
-    config.print_skeleton(true);
-    assert!(rt; are_found(rt.alloc(), &config, &IDENTITY, &[(0, 0, None)])?);
+fn finds_operators_in_all_lines(rt: HostRuntime) -> Result<(), Fail> {
+    for (name, setters, wasm, cases) in ROWS {
+        let module = decode(rt.alloc(), wasm)?;
+        let mut storage = String::new(rt.alloc());
+        let config = config_of(rt.alloc(), setters)?;
+        let all = config.offsets_and_lines(rt.alloc(), wasm, &mut storage)?;
+        let lines: Vec<(Option<u64>, &str)> = all.collect(rt.alloc())?;
+        for (function, operator, found) in cases {
+            assert!(rt;
+                place_of(&module, &lines, *function, *operator) == *found,
+                "{name}, operator {operator} of function {function}"
+            );
+        }
+    }
     Ok(())
 }
 
