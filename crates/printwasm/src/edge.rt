@@ -5,7 +5,7 @@ ghost use Rattle.std.specs.Prelude.{⊤};
 use crate::program::run;
 use crate::rendering::{ByDisplay, Render};
 use crate::system::Sink;
-use crate::tests::{has_printed, run_with};
+use crate::tests::{has_printed, run_with, strings_of};
 use std::alloc::Global;
 use std::cell::Cell;
 use std::io::ErrorKind;
@@ -13,10 +13,7 @@ use std::path::Path;
 use std::test::Fail;
 use std::{fs, io};
 use wasmprinter::{Error, Source, print_file};
-use wasmprinter_samples::PREAMBLE;
-
-/// The text of the module without fields.
-const EMPTY_TEXT: &str = "(module)\n";
+use wasmprinter_samples::{EMPTY_TEXT, PREAMBLE};
 
 /// Lengths of texts: short ones, and lengths around two buffer sizes.
 const TEXT_LENGTHS: [(usize, usize); 3] = [(0, 300), (65_530, 65_540), (131_066, 131_078)];
@@ -95,66 +92,45 @@ impl Source for Counted<'_> {
     }
 }
 
-/// Returns whether `print_file` reads this path once, and no other path.
-fn is_read_once_by_the_library(alloc: Global, path: &str) -> Result<bool, Fail> {
-    let source = Counted::new(alloc, path, Some(&PREAMBLE));
-    let text = print_file(&source, alloc, Path::new(path))?;
-    Ok(text.as_str() == EMPTY_TEXT && source.was_read_once())
-}
-
-/// Returns the words of the program as strings.
-fn words_of(alloc: Global, words: &[&str]) -> Result<Vec<String>, Fail> {
-    let mut owned = Vec::new(alloc);
-    for word in words {
-        owned.push(String::from_str(alloc, word)?)?;
-    }
-    Ok(owned)
-}
-
 /// Runs the program over a source, and returns its status and what it wrote to standard output.
 fn run_over_source(
     alloc: Global,
     source: &Counted<'_>,
     words: &[&str],
 ) -> Result<(u8, Vec<u8>), Fail> {
-    let words = words_of(alloc, words)?;
+    let words = strings_of(alloc, words)?;
     let mut out = Vec::new(alloc);
     let mut err = Vec::new(alloc);
     let status = run(source, &ByDisplay, alloc, &words, &mut out, &mut err);
     Ok((status, out))
 }
 
-/// Returns whether the program reads this path once, and no other path.
-fn is_read_once_by_the_program(alloc: Global, path: &str) -> Result<bool, Fail> {
+/// Returns whether `print_file` and the program read this path once, and no other path.
+fn is_read_once(alloc: Global, path: &str) -> Result<bool, Fail> {
     let source = Counted::new(alloc, path, Some(&PREAMBLE));
-    let (status, out) = run_over_source(alloc, &source, &[path])?;
-    Ok(status == 0 && out.as_slice() == EMPTY_TEXT.as_bytes() && source.was_read_once())
-}
-
-#[test]
-fn reads_a_path_of_each_length_once(rt: HostRuntime) -> Result<(), Fail> {
-    for len in 1..=100 {
-        let path = text_of(rt.alloc(), len)?;
-        assert!(rt;
-            is_read_once_by_the_library(rt.alloc(), path.as_str())?,
-            "{len}"
-        );
-        assert!(rt;
-            is_read_once_by_the_program(rt.alloc(), path.as_str())?,
-            "{len}"
-        );
-    }
-    Ok(())
+    let text = print_file(&source, alloc, Path::new(path))?;
+    let program_source = Counted::new(alloc, path, Some(&PREAMBLE));
+    let (status, out) = run_over_source(alloc, &program_source, &[path])?;
+    Ok(
+        text.as_str() == EMPTY_TEXT
+            && source.was_read_once()
+            && status == 0
+            && out.as_slice() == EMPTY_TEXT.as_bytes()
+            && program_source.was_read_once(),
+    )
 }
 
 /// Paths with characters that have a meaning in paths and words.
 const PATHS: [&str; 6] = ["/", ".", "-", "-/a.wasm", "../a b.wasm", "/a/./b//c.wasm"];
 
 #[test]
-fn reads_paths_of_other_characters_once(rt: HostRuntime) -> Result<(), Fail> {
+fn reads_each_path_once(rt: HostRuntime) -> Result<(), Fail> {
     for path in PATHS {
-        assert!(rt; is_read_once_by_the_library(rt.alloc(), path)?, "{path}");
-        assert!(rt; is_read_once_by_the_program(rt.alloc(), path)?, "{path}");
+        assert!(rt; is_read_once(rt.alloc(), path)?, "{path}");
+    }
+    for len in 1..=100 {
+        let path = text_of(rt.alloc(), len)?;
+        assert!(rt; is_read_once(rt.alloc(), path.as_str())?, "{len}");
     }
     Ok(())
 }
@@ -295,15 +271,10 @@ fn show_place(alloc: Global, place: u64, digits: &str) -> Result<bool, Fail> {
 }
 
 #[test]
-fn reports_places_of_each_length(rt: HostRuntime) -> Result<(), Fail> {
+fn reports_places(rt: HostRuntime) -> Result<(), Fail> {
     for (place, digits) in PLACES {
         assert!(rt; show_place(rt.alloc(), place, digits)?, "{digits}");
     }
-    Ok(())
-}
-
-#[test]
-fn reports_each_small_place(rt: HostRuntime) -> Result<(), Fail> {
     for place in 0..=300 {
         let digits = format!(in rt.alloc(); "0x{place:x}")?;
         assert!(rt; show_place(rt.alloc(), place, digits.as_str())?, "{place}");
@@ -346,17 +317,6 @@ const COUNTS: [(u32, &str); 10] = [
     ),
 ];
 
-#[test]
-fn reports_counts_of_each_length(rt: HostRuntime) -> Result<(), Fail> {
-    for (count, line) in COUNTS {
-        assert!(rt;
-            reports(rt.alloc(), &Error::TooManyFunctions { count }, line)?,
-            "{count}"
-        );
-    }
-    Ok(())
-}
-
 /// Ids of subsections with each number of digits, with their lines.
 const IDS: [(u8, &str); 4] = [
     (0, "error: unknown dylink.0 subsection 0\n"),
@@ -366,18 +326,15 @@ const IDS: [(u8, &str); 4] = [
 ];
 
 #[test]
-fn reports_ids_of_each_length(rt: HostRuntime) -> Result<(), Fail> {
-    for (id, line) in IDS {
-        assert!(rt;
-            reports(rt.alloc(), &Error::DylinkSubsection { id }, line)?,
-            "{id}"
-        );
+fn reports_errors_without_a_place(rt: HostRuntime) -> Result<(), Fail> {
+    for (count, line) in COUNTS {
+        let error = Error::TooManyFunctions { count };
+        assert!(rt; reports(rt.alloc(), &error, line)?, "{count}");
     }
-    Ok(())
-}
-
-#[test]
-fn reports_errors_without_a_number(rt: HostRuntime) -> Result<(), Fail> {
+    for (id, line) in IDS {
+        let error = Error::DylinkSubsection { id };
+        assert!(rt; reports(rt.alloc(), &error, line)?, "{id}");
+    }
     let failure = io::Error::other("no room");
     let lines = [
         (Error::Component, "error: components are not supported\n"),
