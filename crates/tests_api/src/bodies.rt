@@ -1,13 +1,13 @@
 //! Tests of decoded modules and of readers over their operators. They use each variant of the types of
 //! `wasmprinter::wasm`.
 
-use crate::expecting::{EMPTY, IDENTITY};
 use std::alloc::{AllocError, Global};
 use std::test::Fail;
 use wasmprinter::wasm::{
     BlockType, Body, Catch, Catches, HeapType, Immediates, MemArg, Module, Opcode, Operator,
     OperatorsReader, RefType, Targets, ValType, ValTypes, decode,
 };
+use wasmprinter_samples::{IDENTITY, PREAMBLE};
 
 /// A module whose function has immediates of each kind. The immediates need not be valid.
 const EVERY_KIND: [u8; 112] = [
@@ -157,13 +157,7 @@ fn are_expected(immediates: &Immediates<'_>) -> bool {
     }
 }
 
-/// Reports whether the immediates of an operator have this debug text, and the clone of the operator equals it.
-fn is_shown_as(alloc: Global, operator: &Operator<'_>, shown: &str) -> Result<bool, AllocError> {
-    let found = format!(in alloc; "{:?}", operator.immediates)?;
-    Ok(found.as_str() == shown && operator.clone()? == *operator)
-}
-
-/// Reports whether an operator at a place is the operator of this row.
+/// Reports whether an operator at a place is the operator of this row, and its clone equals it.
 fn is_row(
     alloc: Global,
     place: u64,
@@ -172,12 +166,14 @@ fn is_row(
 ) -> Result<bool, AllocError> {
     let (prefix, number) = row.1;
     let opcode = Opcode { prefix, number };
+    let shown = format!(in alloc; "{:?}", operator.immediates)?;
     Ok(
         place == row.0
             && operator.opcode == opcode
             && operator.opcode.word() == row.2
             && are_expected(&operator.immediates)
-            && is_shown_as(alloc, operator, row.3)?,
+            && shown.as_str() == row.3
+            && operator.clone()? == *operator,
     )
 }
 
@@ -214,21 +210,6 @@ fn shows_an_operator(rt: HostRuntime) -> Result<(), Fail> {
     let expected = "Operator { opcode: Opcode { prefix: 0, number: 32 }, immediates: Index(0) }";
     assert!(rt; shown.as_str() == expected);
     Ok(())
-}
-
-/// Reports whether the next two operators are unequal, their immediates are unequal, and each equals itself.
-fn differ(operators: OperatorsReader<'_>) -> bool {
-    let mut left = operators;
-    let Some((_, first)) = left.next() else {
-        return false;
-    };
-    let Some((_, second)) = left.next() else {
-        return false;
-    };
-    first != second
-        && first.immediates != second.immediates
-        && first == first
-        && second.immediates == second.immediates
 }
 
 /// A module whose function has operators with lists of value types and of labels. For each, there are two equal
@@ -287,30 +268,30 @@ fn compares_lists(rt: HostRuntime) -> Result<(), Fail> {
 fn distinguishes_operators(rt: HostRuntime) -> Result<(), Fail> {
     let module = decode(rt.alloc(), &EVERY_KIND)?;
     let body = module.body(0).ok_or("no body")?;
-    assert!(rt; differ(body.operators()));
+    let mut operators = body.operators();
+    let (_, first) = operators.next().ok_or("no operator")?;
+    let (_, second) = operators.next().ok_or("no second operator")?;
+    assert!(rt; first != second);
+    assert!(rt; first.immediates != second.immediates);
+    assert!(rt; first == first);
+    assert!(rt; second.immediates == second.immediates);
     Ok(())
-}
-
-/// Reports whether a body has this place and this end.
-fn lies_at(body: &Body<'_>, place: u64, end: u64) -> bool {
-    body.place() == place && body.end() == end
-}
-
-/// Reports whether a module has exactly one body, with this place and this end.
-fn has_body_at(module: &Module<'_>, place: u64, end: u64) -> bool {
-    match module.body(0) {
-        Some(body) => {
-            module.function_count() == 1 && lies_at(&body, place, end) && module.body(1).is_none()
-        }
-        None => false,
-    }
 }
 
 #[test]
 fn returns_the_range_of_bodies(rt: HostRuntime) -> Result<(), Fail> {
-    assert!(rt; has_body_at(&decode(rt.alloc(), &IDENTITY)?, 0x1f, 0x22));
-    assert!(rt; has_body_at(&decode(rt.alloc(), &EVERY_KIND)?, 0x16, 0x6f));
-    let empty = decode(rt.alloc(), &EMPTY)?;
+    let rows: [(&'static str, &[u8], u64, u64); 2] = [
+        ("one operator", &IDENTITY, 0x1f, 0x22),
+        ("immediates of each kind", &EVERY_KIND, 0x16, 0x6f),
+    ];
+    for (name, wasm, place, end) in rows {
+        let module: Module<'_> = decode(rt.alloc(), wasm)?;
+        let body: Body<'_> = module.body(0).ok_or(name)?;
+        assert!(rt; body.place() == place && body.end() == end, "{name}");
+        assert!(rt; module.function_count() == 1, "{name}");
+        assert!(rt; module.body(1).is_none(), "{name}");
+    }
+    let empty = decode(rt.alloc(), &PREAMBLE)?;
     assert!(rt; empty.function_count() == 0 && empty.body(0).is_none());
     Ok(())
 }
@@ -342,31 +323,18 @@ const HEAP_TYPES: [HeapType; 13] = [
     HeapType::Index(42),
 ];
 
-/// Returns the heap type of an operator, or `None` if a heap type is not its only immediate.
-fn heap_type_of(operator: &Operator<'_>) -> Option<HeapType> {
-    match operator.immediates {
-        Immediates::Heap(heap) => Some(heap),
-        _ => None,
-    }
-}
-
-/// Reports whether the remaining operators have exactly these heap types.
-fn have_heap_types(operators: OperatorsReader<'_>, heap_types: &[HeapType]) -> bool {
-    let mut left = operators;
-    for heap_type in heap_types {
-        match left.next() {
-            Some((_, operator)) if heap_type_of(&operator) == Some(*heap_type) => {}
-            _ => return false,
-        }
-    }
-    left.next().is_none()
-}
-
 #[test]
 fn gives_each_heap_type(rt: HostRuntime) -> Result<(), Fail> {
     let module = decode(rt.alloc(), &EVERY_HEAP_TYPE)?;
     let body = module.body(0).ok_or("no body")?;
-    assert!(rt; have_heap_types(body.operators(), &HEAP_TYPES));
+    let mut operators = body.operators();
+    for heap_type in HEAP_TYPES {
+        let (_, operator) = operators.next().ok_or("no operator")?;
+        let is_expected =
+            matches!(operator.immediates, Immediates::Heap(heap) if heap == heap_type);
+        assert!(rt; is_expected, "{heap_type:?}");
+    }
+    assert!(rt; operators.next().is_none());
     Ok(())
 }
 
@@ -400,34 +368,20 @@ const VAL_TYPES: [ValType; 7] = [
     ValType::Ref(TYPED_REF),
 ];
 
-/// Reports whether an operator has these value types.
-fn has_types(operator: &Operator<'_>, types: &[ValType]) -> bool {
-    match &operator.immediates {
-        Immediates::Types(found) => found.iter().eq(types.iter().copied()),
-        _ => false,
-    }
-}
-
-/// Reports whether an operator opens a block of this type.
-fn opens(operator: &Operator<'_>, wanted: BlockType) -> bool {
-    match operator.immediates {
-        Immediates::Block(block_type) => block_type == wanted,
-        _ => false,
-    }
-}
-
 #[test]
 fn gives_each_value_type_and_block_type(rt: HostRuntime) -> Result<(), Fail> {
     let module = decode(rt.alloc(), &EVERY_TYPE)?;
     let body = module.body(0).ok_or("no body")?;
     let mut operators = body.operators();
     let (_, select) = operators.next().ok_or("no select")?;
-    assert!(rt; has_types(&select, &VAL_TYPES));
+    assert!(rt;
+        matches!(&select.immediates, Immediates::Types(found) if found.iter().eq(VAL_TYPES.iter().copied()))
+    );
     let (_, block) = operators.next().ok_or("no block")?;
-    assert!(rt; opens(&block, BlockType::Empty));
+    assert!(rt; block.immediates == Immediates::Block(BlockType::Empty));
     let (_, end) = operators.next().ok_or("no end")?;
     assert!(rt; matches!(end.immediates, Immediates::None));
     let (_, block) = operators.next().ok_or("no second block")?;
-    assert!(rt; opens(&block, BlockType::Func(0)));
+    assert!(rt; block.immediates == Immediates::Block(BlockType::Func(0)));
     Ok(())
 }

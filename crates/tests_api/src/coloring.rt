@@ -1,6 +1,5 @@
 //! Tests of colors: the escape sequences of a color, and writers with and without colors.
 
-use crate::expecting::{EMPTY, EMPTY_TEXT};
 use std::alloc::Global;
 use std::io;
 use std::io::Write;
@@ -8,6 +7,7 @@ use std::test::Fail;
 use wasmprinter::laws::colors_add_sequences_alone;
 use wasmprinter::print::{Ansi, Color, ColorSpec, NoColor, PrintTermcolor, WriteColor};
 use wasmprinter::{Config, Error};
+use wasmprinter_samples::{EMPTY_TEXT, PREAMBLE};
 
 #[test]
 fn keeps_how_text_looks(rt: HostRuntime) {
@@ -19,7 +19,7 @@ fn keeps_how_text_looks(rt: HostRuntime) {
     assert!(rt; spec.fg() == Some(Color::Cyan) && spec.bold() && spec.intense());
 }
 
-/// A color, whether it is intense, whether it is bold, and its escape sequences.
+/// A color, whether it is intense, whether it is bold, and the escape sequences that a writer with colors writes.
 type Row = (Color, bool, bool, &'static [u8]);
 
 /// Each color, with its escape sequences.
@@ -32,19 +32,18 @@ const ROWS: [Row; 6] = [
     (Color::Red, true, true, b"\x1b[0m\x1b[1m\x1b[38;5;9m"),
 ];
 
-/// Returns the bytes that a writer with colors writes for a color.
-fn colored(alloc: Global, color: Color, intense: bool, bold: bool) -> io::Result<Vec<u8>> {
-    let mut spec = ColorSpec::new();
-    spec.set_fg(Some(color)).set_bold(bold).set_intense(intense);
-    let mut writer = Ansi::new(Vec::new(alloc));
-    writer.set_color(&spec)?;
-    Ok(writer.into_inner())
-}
-
 #[test]
 fn sends_a_terminal_each_color(rt: HostRuntime) -> Result<(), Fail> {
     for (color, intense, bold, sequence) in ROWS {
-        assert!(rt; colored(rt.alloc(), color, intense, bold)?.as_slice() == sequence);
+        let mut spec = ColorSpec::new();
+        spec.set_fg(Some(color)).set_bold(bold).set_intense(intense);
+        let mut writer = Ansi::new(Vec::new(rt.alloc()));
+        writer.set_color(&spec)?;
+        let written = writer.into_inner();
+        assert!(rt;
+            written.as_slice() == sequence,
+            "{color:?}, {intense}, {bold}"
+        );
     }
     Ok(())
 }
@@ -71,7 +70,7 @@ fn writes_with_and_without_colors(rt: HostRuntime) -> Result<(), Fail> {
 /// Prints a module to a writer that takes colors.
 fn print_to<W: WriteColor + Drop>(alloc: Global, writer: W) -> Result<W, Error> {
     let mut printer = PrintTermcolor(writer);
-    Config::new().print(alloc, &EMPTY, &mut printer)?;
+    Config::new().print(alloc, &PREAMBLE, &mut printer)?;
     Ok(printer.0)
 }
 

@@ -1,12 +1,12 @@
 //! Tests of a user-defined printer and of a user-defined writer with colors.
 ghost use Rattle.std.specs.Prelude.{◌≡◌, None, false, true, Ok};
 
-use crate::expecting::{EMPTY, expect_text};
 use std::io;
 use std::io::Write;
 use std::test::Fail;
 use wasmprinter::Config;
 use wasmprinter::print::{Color, ColorSpec, Print, PrintTermcolor, WriteColor};
+use wasmprinter_samples::{PREAMBLE, expect_text};
 
 /// A printer that writes a letter before each styled text, `.` after it, and `|` for each line feed. It claims the
 /// sections named `mine`.
@@ -141,7 +141,7 @@ impl WriteColor for Marks {
 #[test]
 fn prints_to_a_writer_of_marks(rt: HostRuntime) -> Result<(), Fail> {
     let mut printer = PrintTermcolor(Marks(Vec::new(rt.alloc())));
-    Config::new().print(rt.alloc(), &EMPTY, &mut printer)?;
+    Config::new().print(rt.alloc(), &PREAMBLE, &mut printer)?;
     assert!(rt; printer.0.0.as_slice() == b"(omodule.)\n".as_slice());
     Ok(())
 }

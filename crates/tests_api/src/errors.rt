@@ -1,12 +1,11 @@
 //! Tests of each error: short modules that are refused with it, and its text.
 
-use crate::expecting::{EMPTY, expect_text};
-use std::alloc::Global;
 use std::io;
 use std::io::Write;
 use std::test::Fail;
 use wasmprinter::wasm::decode;
 use wasmprinter::{Config, Error, PrintIoWrite, print_bytes};
+use wasmprinter_samples::{PREAMBLE, expect_text};
 
 /// Returns one error of each kind, with its text.
 fn texts() -> [(Error, &'static str); 11] {
@@ -82,15 +81,11 @@ const UNKNOWN_SUBSECTION: [u8; 21] = [
 ];
 
 #[test]
-fn refuses_what_is_no_module(rt: HostRuntime) {
+fn refuses_modules(rt: HostRuntime) {
     let text = print_bytes(rt.alloc(), b"(module)");
     assert!(rt; matches!(text, Err(Error::Malformed { place: 0 })));
     let text = print_bytes(rt.alloc(), &COMPONENT);
     assert!(rt; matches!(text, Err(Error::Component)));
-}
-
-#[test]
-fn refuses_what_can_not_be_printed(rt: HostRuntime) {
     let module = decode(rt.alloc(), &MANY_LOCALS);
     assert!(rt; matches!(module, Err(Error::TooManyLocals { place: 0x16 })));
     let module = decode(rt.alloc(), &EMPTY_INITIALISER);
@@ -118,27 +113,14 @@ const HINTED: [u8; 61] = [
     0x0a, 0x07, 0x01, 0x05, 0x00, 0x02, 0x40, 0x0b, 0x0b, // code
 ];
 
-/// Returns the folded text of a module.
-fn folded(alloc: Global, wasm: &[u8]) -> Result<String, Error> {
-    let mut config = Config::new();
-    config.fold_instructions(true);
-    config.print_to_string(alloc, wasm)
-}
-
 #[test]
 fn refuses_what_can_not_be_folded(rt: HostRuntime) {
-    assert!(rt;
-        matches!(
-            folded(rt.alloc(), &TRY),
-            Err(Error::FoldLegacy { place: 0x17 })
-        )
-    );
-    assert!(rt;
-        matches!(
-            folded(rt.alloc(), &HINTED),
-            Err(Error::FoldHint { place: 0x31 })
-        )
-    );
+    let mut config = Config::new();
+    config.fold_instructions(true);
+    let text = config.print_to_string(rt.alloc(), &TRY);
+    assert!(rt; matches!(text, Err(Error::FoldLegacy { place: 0x17 })));
+    let text = config.print_to_string(rt.alloc(), &HINTED);
+    assert!(rt; matches!(text, Err(Error::FoldHint { place: 0x31 })));
 }
 
 /// A writer whose every write fails.
@@ -157,6 +139,6 @@ impl Write for Full {
 
 #[test]
 fn hands_on_the_error_of_a_printer(rt: HostRuntime) {
-    let printed = Config::new().print(rt.alloc(), &EMPTY, &mut PrintIoWrite(Full));
+    let printed = Config::new().print(rt.alloc(), &PREAMBLE, &mut PrintIoWrite(Full));
     assert!(rt; matches!(printed, Err(Error::Printer(_))));
 }

@@ -1,13 +1,13 @@
 //! Tests of printing files, from the system and from a user-defined source.
 ghost use Rattle.std.specs.Prelude.{⊤};
 
-use crate::expecting::{IDENTITY, IDENTITY_TEXT, expect_text};
 use std::alloc::Global;
 use std::io::ErrorKind;
 use std::path::Path;
 use std::test::Fail;
 use std::{fs, io};
 use wasmprinter::{Error, Source, print_file};
+use wasmprinter_samples::{IDENTITY, IDENTITY_TEXT, expect_text};
 
 /// A source with one file, `identity.wasm`.
 #[derive(Drop)]

@@ -1,5 +1,6 @@
-//! Tests of the library's public items: each is used by its path in the crate `wasmprinter`. `faults` prints to a
-//! printer that counts its failed calls, and proves the count. Expected values are typed by hand.
+//! Tests of the library's public items: each is used by its path in the crate `wasmprinter`. Shared modules and texts
+//! are those of `wasmprinter_samples`. `faults` prints to a printer that counts its failed calls, and proves the
+//! count. Expected values are typed by hand.
 #![tactic(auto)]
 
 #[cfg(test)]
@@ -10,8 +11,6 @@ mod coloring;
 mod custom;
 #[cfg(test)]
 mod errors;
-#[cfg(test)]
-mod expecting;
 pub mod faults;
 #[cfg(test)]
 mod files;

@@ -1,10 +1,9 @@
 //! Tests of lines with their places, and of finding the line of an operator.
 
-use crate::expecting::{IDENTITY, IDENTITY_TEXT, expect_text};
-use std::alloc::Global;
 use std::test::Fail;
 use wasmprinter::wasm::decode;
-use wasmprinter::{Config, Error, LineStart, OffsetsAndLines, place_of};
+use wasmprinter::{Config, LineStart, OffsetsAndLines, place_of};
+use wasmprinter_samples::{IDENTITY, IDENTITY_TEXT, expect_text};
 
 /// A line: its place and its text.
 type Line = (Option<u64>, &'static str);
@@ -28,14 +27,7 @@ const LINES: [Line; 7] = [
 
 /// Reports whether the remaining lines are exactly these.
 fn are_lines(lines: OffsetsAndLines<'_>, expected: &[Line]) -> bool {
-    let mut left = lines;
-    for (place, text) in expected {
-        match left.next() {
-            Some((found, line)) if found == *place && line == *text => {}
-            _ => return false,
-        }
-    }
-    left.next().is_none()
+    lines.eq(expected.iter().copied())
 }
 
 #[test]
@@ -47,53 +39,36 @@ fn prints_lines_with_places(rt: HostRuntime) -> Result<(), Fail> {
     Ok(())
 }
 
-/// Reports whether the line with this number has this start.
-fn begins_at(starts: &[LineStart], number: usize, start: LineStart) -> bool {
-    starts.get(number) == Some(&start)
-}
+/// The starts of the first two lines of `IDENTITY` after a text of two bytes.
+const STARTS: [LineStart; 2] = [
+    LineStart {
+        place: Some(0),
+        at: 2,
+    },
+    LineStart {
+        place: Some(0xb),
+        at: 10,
+    },
+];
 
 #[test]
 fn prints_a_text_with_the_starts_of_its_lines(rt: HostRuntime) -> Result<(), Fail> {
     let mut storage = "; ".to_string(rt.alloc())?;
     let starts = Config::new().print_with_line_starts(rt.alloc(), &IDENTITY, &mut storage)?;
     assert!(rt; starts.len() == 7);
-    assert!(rt;
-        begins_at(
-            &starts,
-            0,
-            LineStart {
-                place: Some(0),
-                at: 2
-            }
-        )
-    );
-    assert!(rt;
-        begins_at(
-            &starts,
-            1,
-            LineStart {
-                place: Some(0xb),
-                at: 10
-            }
-        )
-    );
+    assert!(rt; starts.starts_with(&STARTS));
     assert!(rt; are_lines(OffsetsAndLines::new(storage.as_str(), starts), &LINES));
     Ok(())
 }
 
-/// Returns the number of the line of an operator, counted from 0, and the place of the operator.
-fn line_of(alloc: Global, function: u32, operator: u32) -> Result<Option<(usize, u64)>, Error> {
-    let mut storage = String::new(alloc);
-    let lines = Config::new().offsets_and_lines(alloc, &IDENTITY, &mut storage)?;
-    let all: Vec<(Option<u64>, &str)> = lines.collect(alloc)?;
-    let module = decode(alloc, &IDENTITY)?;
-    Ok(place_of(&module, &all, function, operator))
-}
-
 #[test]
 fn finds_the_line_of_an_operator(rt: HostRuntime) -> Result<(), Fail> {
-    assert!(rt; line_of(rt.alloc(), 0, 0)? == Some((4, 0x20)));
-    assert!(rt; line_of(rt.alloc(), 0, 1)? == None);
-    assert!(rt; line_of(rt.alloc(), 1, 0)? == None);
+    let mut storage = String::new(rt.alloc());
+    let lines = Config::new().offsets_and_lines(rt.alloc(), &IDENTITY, &mut storage)?;
+    let all: Vec<(Option<u64>, &str)> = lines.collect(rt.alloc())?;
+    let module = decode(rt.alloc(), &IDENTITY)?;
+    assert!(rt; place_of(&module, &all, 0, 0) == Some((4, 0x20)));
+    assert!(rt; place_of(&module, &all, 0, 1) == None);
+    assert!(rt; place_of(&module, &all, 1, 0) == None);
     Ok(())
 }

@@ -1,8 +1,8 @@
 //! Tests of names: those of a module with a name in each space, and the words of the spaces.
 
-use crate::expecting::EMPTY;
 use std::test::Fail;
 use wasmprinter::wasm::{Names, Space, decode};
+use wasmprinter_samples::PREAMBLE;
 
 /// A module with a name section that has one name in each subsection. The named items need not exist.
 const NAMED: [u8; 91] = [
@@ -41,40 +41,27 @@ const ROWS: [Row; 11] = [
     (Space::Tag, "tag", 0, 10, "k"),
 ];
 
-/// Reports whether the items of these rows have their identifiers, and no item with index 11 has one in their
-/// spaces.
-fn have_rows(names: &Names<'_>, rows: &[Row]) -> bool {
-    rows.iter().all(|(space, _, outer, index, identifier)| {
-        names.identifier(*space, *outer, *index) == Some(*identifier)
-            && names.identifier(*space, *outer, 11) == None
-    })
-}
-
-/// Reports whether these are the names of `NAMED`.
-fn are_expected(names: &Names<'_>) -> bool {
-    names.module() == Some("m") && have_rows(names, &ROWS)
-}
-
 #[test]
-fn gives_names_in_each_space(rt: HostRuntime) -> Result<(), Fail> {
+fn gives_names_and_words_of_each_space(rt: HostRuntime) -> Result<(), Fail> {
     let module = decode(rt.alloc(), &NAMED)?;
-    let names = module.names(rt.alloc())?;
-    assert!(rt; are_expected(&names));
+    let names: Names<'_> = module.names(rt.alloc())?;
+    assert!(rt; names.module() == Some("m"));
+    for (space, word, outer, index, identifier) in ROWS {
+        assert!(rt;
+            names.identifier(space, outer, index) == Some(identifier),
+            "{word}"
+        );
+        // No item with index 11 has a name.
+        assert!(rt; names.identifier(space, outer, 11) == None, "{word}");
+        assert!(rt; space.word() == word, "{word}");
+    }
     Ok(())
 }
 
 #[test]
 fn gives_no_names_where_there_are_none(rt: HostRuntime) -> Result<(), Fail> {
-    let module = decode(rt.alloc(), &EMPTY)?;
+    let module = decode(rt.alloc(), &PREAMBLE)?;
     let names = module.names(rt.alloc())?;
     assert!(rt; names.module() == None && names.identifier(Space::Func, 0, 0) == None);
     Ok(())
-}
-
-#[test]
-fn has_a_word_for_each_space(rt: HostRuntime) {
-    assert!(rt;
-        ROWS.iter()
-            .all(|(space, word, _, _, _)| space.word() == *word)
-    );
 }

@@ -1,8 +1,8 @@
 //! Tests of each option of `Config`, and of the calls that print with them.
 
-use crate::expecting::{EMPTY, EMPTY_TEXT, IDENTITY, IDENTITY_TEXT, expect_text};
 use std::test::Fail;
 use wasmprinter::{Config, PrintFmtWrite, print_bytes};
+use wasmprinter_samples::{EMPTY_TEXT, IDENTITY, IDENTITY_TEXT, PREAMBLE, expect_text};
 
 /// The text of `IDENTITY` with places, as a skeleton.
 const OUTLINE_WITH_PLACES: &str = r#"(module
@@ -30,58 +30,44 @@ const FOLDED: &str = r#"(module
 )
 "#;
 
-/// The text of `EMPTY` with ANSI escape sequences.
+/// The text of the empty module with ANSI escape sequences.
 const EMPTY_COLORED: &[u8] = b"(\x1b[0m\x1b[1m\x1b[38;5;11mmodule\x1b[0m)\n";
 
 #[test]
-fn prints_by_the_defaults(rt: HostRuntime) -> Result<(), Fail> {
-    let text = print_bytes(rt.alloc(), &IDENTITY)?;
-    expect_text(text.as_str(), IDENTITY_TEXT)?;
-    let text = Config::default().print_to_string(rt.alloc(), &IDENTITY)?;
-    expect_text(text.as_str(), IDENTITY_TEXT)?;
-    Ok(())
-}
-
-#[test]
-fn prints_places_and_outlines(rt: HostRuntime) -> Result<(), Fail> {
-    let mut config = Config::new();
-    config.print_offsets(true).print_skeleton(true);
-    let text = config.print_to_string(rt.alloc(), &IDENTITY)?;
-    expect_text(text.as_str(), OUTLINE_WITH_PLACES)?;
-    Ok(())
-}
-
-#[test]
-fn prints_identifiers(rt: HostRuntime) -> Result<(), Fail> {
-    let mut config = Config::new();
-    config.print_skeleton(true).name_unnamed(true);
-    let text = config.print_to_string(rt.alloc(), &IDENTITY)?;
-    expect_text(text.as_str(), OUTLINE_WITH_IDENTIFIERS)?;
-    Ok(())
-}
-
-#[test]
-fn prints_folded_operators(rt: HostRuntime) -> Result<(), Fail> {
-    let mut config = Config::new();
-    config
+fn prints_by_options(rt: HostRuntime) -> Result<(), Fail> {
+    let mut outline = Config::new();
+    outline.print_offsets(true).print_skeleton(true);
+    let mut identifiers = Config::new();
+    identifiers.print_skeleton(true).name_unnamed(true);
+    let mut folded = Config::new();
+    folded
         .fold_instructions(true)
         .indent_text(" ".to_string(rt.alloc())?);
-    let text = config.print_to_string(rt.alloc(), &IDENTITY)?;
-    expect_text(text.as_str(), FOLDED)?;
+    let rows = [
+        ("defaults", Config::default(), IDENTITY_TEXT),
+        ("a skeleton with places", outline, OUTLINE_WITH_PLACES),
+        (
+            "synthesized identifiers",
+            identifiers,
+            OUTLINE_WITH_IDENTIFIERS,
+        ),
+        ("folded operators", folded, FOLDED),
+    ];
+    for (name, config, expected) in &rows {
+        let text = config.print_to_string(rt.alloc(), &IDENTITY)?;
+        assert!(rt; text.as_str() == *expected, "{name}");
+    }
     Ok(())
 }
 
 #[test]
-fn prints_to_a_printer(rt: HostRuntime) -> Result<(), Fail> {
+fn prints_by_each_function(rt: HostRuntime) -> Result<(), Fail> {
+    let text = print_bytes(rt.alloc(), &IDENTITY)?;
+    expect_text(text.as_str(), IDENTITY_TEXT)?;
     let mut printer = PrintFmtWrite(String::new(rt.alloc()));
-    Config::new().print(rt.alloc(), &EMPTY, &mut printer)?;
+    Config::new().print(rt.alloc(), &PREAMBLE, &mut printer)?;
     expect_text(printer.0.as_str(), EMPTY_TEXT)?;
-    Ok(())
-}
-
-#[test]
-fn prints_in_colors(rt: HostRuntime) -> Result<(), Fail> {
-    let text = Config::new().print_to_ansi(rt.alloc(), &EMPTY)?;
+    let text = Config::new().print_to_ansi(rt.alloc(), &PREAMBLE)?;
     assert!(rt; text.as_slice() == EMPTY_COLORED);
     Ok(())
 }

@@ -1,11 +1,11 @@
 //! Tests of printers: each call on them, the printers over writers, and a user-defined one.
 
-use crate::expecting::{EMPTY, EMPTY_TEXT, expect_text};
 use std::io;
 use std::test::Fail;
 use wasmprinter::laws::text_printers_gain_the_text;
 use wasmprinter::print::{NoColor, Print, PrintFmtWrite, PrintIoWrite, PrintText, WriteBytes};
 use wasmprinter::{Config, Error};
+use wasmprinter_samples::{EMPTY_TEXT, PREAMBLE, expect_text};
 
 /// A printer that keeps its text, and takes runs of characters.
 #[derive(Drop)]
@@ -44,19 +44,9 @@ fn takes_each_call(rt: HostRuntime) -> Result<(), Fail> {
     let mut text = Text(String::new(rt.alloc()));
     assert!(rt; call_each(&mut text)? == (false, true, false));
     expect_text(text.0.as_str(), "abc\n")?;
-    Ok(())
-}
-
-#[test]
-fn prints_to_writers_of_text(rt: HostRuntime) -> Result<(), Fail> {
     let mut text = PrintFmtWrite(String::new(rt.alloc()));
     assert!(rt; call_each(&mut text)? == (false, false, false));
     expect_text(text.0.as_str(), "abc\n")?;
-    Ok(())
-}
-
-#[test]
-fn prints_to_writers_of_bytes(rt: HostRuntime) -> Result<(), Fail> {
     let mut bytes = PrintIoWrite(Vec::new(rt.alloc()));
     assert!(rt; call_each(&mut bytes)? == (false, false, false));
     assert!(rt; bytes.0.as_slice() == b"abc\n".as_slice());
@@ -75,7 +65,7 @@ fn writes_bytes_whole(rt: HostRuntime) -> Result<(), Fail> {
 /// Prints a module to a `PrintText`.
 fn print_to<T: PrintText + Drop>(config: &Config, rt: &HostRuntime, to: T) -> Result<T, Error> {
     let mut printer = to;
-    config.print(rt.alloc(), &EMPTY, &mut printer)?;
+    config.print(rt.alloc(), &PREAMBLE, &mut printer)?;
     Ok(printer)
 }
 

@@ -1,5 +1,5 @@
-//! Tests of each option, of files, of colors and of lines, and the examples of the documents. They use only paths
-//! of the crate `wasmprinter`. Expected values are typed by hand.
+//! Tests of each option, of files, of colors and of lines, and the examples of the documents. They use the library only
+//! by paths of the crate `wasmprinter`. Expected values are typed by hand.
 #![tactic(auto)]
 
 #[cfg(test)]
