@@ -178,25 +178,25 @@ fn is_refusal(error: &Error, expected: &Refusal) -> bool {
 /// text after.
 type Refused<'a> = (&'static str, &'a [u8], Refusal, &'static str, &'static str);
 
-/// Checks that printing a module with line starts, or the iterator over its lines, fails with the expected error, and
-/// leaves the expected text in the storage.
+/// Checks that `offsets_and_lines` and `print_with_line_starts` fail with the expected error, and leave the expected
+/// text in the storage.
 ///
 /// # Errors
 ///
-/// - The module is printed, the error is another one, or the text differs.
+/// - One of them succeeds, fails with another error, or leaves another text.
 fn expect_refused(alloc: Global, row: &Refused<'_>) -> Result<(), Fail> {
     let (name, wasm, refusal, before, after) = row;
     let mut storage = String::from_str(alloc, before)?;
     let config = Config::new();
     match config.offsets_and_lines(alloc, wasm, &mut storage) {
         Err(error) if is_refusal(&error, refusal) => {}
-        _ => return Err((*name, "the iterator is not refused so"))?,
+        _ => return Err((*name, "offsets_and_lines returns something else"))?,
     }
     expect_same(name, storage.as_str(), after)?;
     let mut storage = String::from_str(alloc, before)?;
     match config.print_with_line_starts(alloc, wasm, &mut storage) {
         Err(error) if is_refusal(&error, refusal) => {}
-        _ => return Err((*name, "the starts are not refused so"))?,
+        _ => return Err((*name, "print_with_line_starts returns something else"))?,
     }
     expect_same(name, storage.as_str(), after)
 }

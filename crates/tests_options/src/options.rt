@@ -344,6 +344,11 @@ fn chains_setters(rt: HostRuntime) -> Result<(), Fail> {
         .print_offsets(true)
         .print_to_string(rt.alloc(), &IDENTITY)?;
     expect_text(text.as_str(), IDENTITY_OUTLINE_SYNTHESIZED)?;
+    let text = Config::new()
+        .indent_text(String::from_str(rt.alloc(), "\t")?)
+        .print_offsets(true)
+        .print_to_string(rt.alloc(), &IDENTITY)?;
+    expect_text(text.as_str(), TABBED_PLACES)?;
     Ok(())
 }
 
