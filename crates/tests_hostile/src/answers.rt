@@ -1,10 +1,11 @@
 //! The results of the calls on one module, and whether they agree.
 
+use crate::layout::Layout;
 use crate::outcome::{Outcome, Refusal};
-use crate::printing::{Layout, print_to_string};
 use std::alloc::{AllocError, Global};
 use wasmprinter::wasm::decode;
-use wasmprinter::{Config, Error, OffsetsAndLines, print_bytes};
+use wasmprinter::{Config, Error, OffsetsAndLines, PrintFmtWrite};
+use wasmprinter_expecting::{print_to, text_of};
 
 /// A disagreement between the calls on a module.
 #[derive(Debug, Drop)]
@@ -60,7 +61,7 @@ impl Answers {
             flat: Outcome::of(print_to_string(Layout::Flat, alloc, wasm))?,
             folded: Outcome::of(print_to_string(Layout::Folded, alloc, wasm))?,
             lines: lines_outcome(alloc, wasm)?,
-            string: Outcome::of(print_bytes(alloc, wasm))?,
+            string: Outcome::of(text_of(alloc, wasm))?,
         })
     }
 
@@ -103,6 +104,13 @@ impl Answers {
             _ => false,
         }
     }
+}
+
+/// Prints a module to a string through `PrintFmtWrite`.
+fn print_to_string(layout: Layout, alloc: Global, wasm: &[u8]) -> Result<String, Error> {
+    let mut printer = PrintFmtWrite(String::new(alloc));
+    print_to(&layout.config(), alloc, wasm, &mut printer)?;
+    Ok(printer.0)
 }
 
 /// Returns the reason why a module is not decoded, or `None` if it is.

@@ -1,8 +1,10 @@
-//! Tests of printers over byte writers: which bytes they write, with colors and without, and what they forward.
+//! Tests of printers over writers of bytes and of text: which bytes they write, with colors and without, what they
+//! forward, and what they return if a write fails.
 
 mod byte_writers;
 mod colors;
 mod passing;
+mod printing;
 mod scripted;
 mod sinks;
 mod writers;

@@ -2,20 +2,24 @@
 //! the claim.
 
 use crate::examples::HINTED_FLAT;
-use crate::printing::{LAYOUTS, Layout, print_to};
+use crate::layout::{LAYOUTS, Layout};
 use std::alloc::Global;
 use std::test::Fail;
+use wasmprinter_expecting::expect_calls;
 use wasmprinter_rows::calls::HINTED_FOLDED;
 use wasmprinter_rows::{
     CUSTOMS_AROUND_A_MEMORY, DYLINK_CUT, DYLINK_MEMORY, DYLINK_UNKNOWN, HINTED_IF, RAW_PRODUCERS,
 };
-use wasmprinter_samples::{Recorder, expect_text};
+use wasmprinter_samples::Recorder;
 
-/// A module, and the name of its custom sections that the printer claims.
+/// A module with custom sections that the printer claims.
 #[derive(Clone, Copy)]
 struct Claim {
-    wasm: &'static [u8],
+    /// The name of the row.
     name: &'static str,
+    wasm: &'static [u8],
+    /// The name of the sections.
+    section: &'static str,
     /// All calls if operators are printed flat.
     flat: &'static str,
     /// All calls if operators are folded.
@@ -48,47 +52,53 @@ const CUT_CLAIMED: &str = r#"[0x0]({K}module{R}{? "dylink.0" 0x13 [1, 5, 16]})
 const UNKNOWN_CLAIMED: &str = r#"[0x0]({K}module{R}{? "dylink.0" 0x13 [9, 0]})
 "#;
 
-const CLAIMS: [Claim; 7] = [
+const CLAIMS: &[Claim] = &[
     Claim {
+        name: "the first of two sections",
         wasm: CUSTOMS_AROUND_A_MEMORY,
-        name: "a",
+        section: "a",
         flat: FIRST_CLAIMED,
         folded: FIRST_CLAIMED,
     },
     Claim {
+        name: "the second of two sections",
         wasm: CUSTOMS_AROUND_A_MEMORY,
-        name: "b",
+        section: "b",
         flat: SECOND_CLAIMED,
         folded: SECOND_CLAIMED,
     },
     Claim {
-        wasm: RAW_PRODUCERS,
         name: "producers",
+        wasm: RAW_PRODUCERS,
+        section: "producers",
         flat: PRODUCERS_CLAIMED,
         folded: PRODUCERS_CLAIMED,
     },
     Claim {
+        name: "dylink.0 with a memory",
         wasm: DYLINK_MEMORY,
-        name: "dylink.0",
+        section: "dylink.0",
         flat: MEMORY_CLAIMED,
         folded: MEMORY_CLAIMED,
     },
     Claim {
+        name: "dylink.0 that is cut",
         wasm: DYLINK_CUT,
-        name: "dylink.0",
+        section: "dylink.0",
         flat: CUT_CLAIMED,
         folded: CUT_CLAIMED,
     },
     Claim {
+        name: "dylink.0 with an unknown subsection",
         wasm: DYLINK_UNKNOWN,
-        name: "dylink.0",
+        section: "dylink.0",
         flat: UNKNOWN_CLAIMED,
         folded: UNKNOWN_CLAIMED,
     },
-    // Hints are read before the first call on the printer.
     Claim {
+        name: "hints, which are read before the first call on the printer",
         wasm: HINTED_IF,
-        name: "metadata.code.branch_hint",
+        section: "metadata.code.branch_hint",
         flat: HINTED_FLAT,
         folded: HINTED_FOLDED,
     },
@@ -97,23 +107,19 @@ const CLAIMS: [Claim; 7] = [
 impl Claim {
     /// Checks all calls on a printer that claims the section.
     fn check(&self, alloc: Global, layout: Layout) -> Result<(), Fail> {
-        let mut recorder = Recorder::with_section_taken(alloc, self.name);
-        print_to(layout, alloc, self.wasm, &mut recorder)?;
+        let recorder = Recorder::with_section_taken(alloc, self.section);
         let wanted = match layout {
             Layout::Flat => self.flat,
             Layout::Folded => self.folded,
         };
-        expect_text(recorder.calls(), wanted)?;
-        if !recorder.is_complete() || recorder.faults() != 0 {
-            return Err("a call is lost or failed")?;
-        }
-        Ok(())
+        let config = layout.config();
+        expect_calls(self.name, &config, alloc, self.wasm, recorder, wanted)
     }
 }
 
 #[test]
 fn skips_only_the_claimed_section(rt: HostRuntime) -> Result<(), Fail> {
-    for claim in &CLAIMS {
+    for claim in CLAIMS {
         for layout in LAYOUTS {
             claim.check(rt.alloc(), layout)?;
         }

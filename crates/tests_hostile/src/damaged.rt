@@ -5,34 +5,18 @@ use crate::answers::{Answers, Disagreement};
 use crate::damage::Damage;
 use std::alloc::Global;
 use std::test::Fail;
-use wasmprinter::print_bytes;
+use wasmprinter_expecting::expect_printed;
 use wasmprinter_rows::{
     CUSTOMS_AROUND_A_MEMORY, DYLINK_CUT, DYLINK_MEMORY, GLOBAL_BLOCK, HINTED_IF, IDENTITY, MODULES,
     RAW_PRODUCERS,
 };
-use wasmprinter_samples::{PREAMBLE, expect_text};
+use wasmprinter_samples::PREAMBLE;
 
 /// The number of damaged modules that were tried, and the number of those that were printed.
 #[derive(Clone, Copy, Debug)]
 struct Tally {
     tried: usize,
     printed: usize,
-}
-
-impl Tally {
-    fn new() -> Tally {
-        Tally {
-            tried: 0,
-            printed: 0,
-        }
-    }
-
-    fn count(&mut self, is_printed: bool) {
-        self.tried = self.tried.saturating_add(1);
-        if is_printed {
-            self.printed = self.printed.saturating_add(1);
-        }
-    }
 }
 
 /// A damaged module on which the calls disagree.
@@ -58,11 +42,19 @@ fn check(alloc: Global, wasm: &[u8], damage: Damage, at: usize) -> Result<bool, 
 
 /// Damages each module at each of its bytes in turn, and checks that the calls agree.
 fn check_all(alloc: Global, damage: Damage) -> Result<Tally, Counterexample> {
-    let mut tally = Tally::new();
+    let mut tally = Tally {
+        tried: 0,
+        printed: 0,
+    };
     for (module, wasm) in MODULES.iter().enumerate() {
         for at in 0..wasm.len() {
             match check(alloc, wasm, damage, at) {
-                Ok(is_printed) => tally.count(is_printed),
+                Ok(is_printed) => {
+                    tally.tried = tally.tried.saturating_add(1);
+                    if is_printed {
+                        tally.printed = tally.printed.saturating_add(1);
+                    }
+                }
                 Err(disagreement) => {
                     return Err(Counterexample {
                         module,
@@ -101,15 +93,17 @@ fn longer_count() -> usize {
 /// A module that is printed although one of its bytes is damaged.
 #[derive(Clone, Copy)]
 struct Survivor {
+    /// What the damaged byte is.
+    name: &'static str,
     wasm: &'static [u8],
     damage: Damage,
     at: usize,
     text: &'static str,
 }
 
-const SURVIVORS: [Survivor; 12] = [
-    // The damaged byte is the index of a local.
+const SURVIVORS: &[Survivor] = &[
     Survivor {
+        name: "the index of a local in `IDENTITY`",
         wasm: IDENTITY,
         damage: Damage::PlusOne,
         at: 33,
@@ -122,8 +116,8 @@ const SURVIVORS: [Survivor; 12] = [
 )
 "#,
     },
-    // The damaged byte is the value of a constant.
     Survivor {
+        name: "the value of a constant",
         wasm: GLOBAL_BLOCK,
         damage: Damage::PlusOne,
         at: 16,
@@ -132,8 +126,8 @@ const SURVIVORS: [Survivor; 12] = [
 )
 "#,
     },
-    // The damaged byte is the index of a local.
     Survivor {
+        name: "the index of a local before a hint",
         wasm: HINTED_IF,
         damage: Damage::PlusOne,
         at: 59,
@@ -148,8 +142,9 @@ const SURVIVORS: [Survivor; 12] = [
 )
 "#,
     },
-    // The damaged byte is the value of a hint, which is then not valid, so that no hint is printed.
+    // The hint is then not valid, so that no hint is printed.
     Survivor {
+        name: "the value of a hint",
         wasm: HINTED_IF,
         damage: Damage::Complement,
         at: 52,
@@ -163,8 +158,8 @@ const SURVIVORS: [Survivor; 12] = [
 )
 "#,
     },
-    // The damaged byte is the minimum size of the memory.
     Survivor {
+        name: "the minimum size of the memory",
         wasm: CUSTOMS_AROUND_A_MEMORY,
         damage: Damage::PlusOne,
         at: 20,
@@ -175,8 +170,8 @@ const SURVIVORS: [Survivor; 12] = [
 )
 "#,
     },
-    // The damaged byte is the content of the first custom section.
     Survivor {
+        name: "the content of the first custom section",
         wasm: CUSTOMS_AROUND_A_MEMORY,
         damage: Damage::Complement,
         at: 15,
@@ -187,8 +182,9 @@ const SURVIVORS: [Survivor; 12] = [
 )
 "#,
     },
-    // The damaged byte is the space in the name of a field, which then consists of identifier characters.
+    // The name of the field then consists of identifier characters.
     Survivor {
+        name: "the space in the name of a field",
         wasm: RAW_PRODUCERS,
         damage: Damage::PlusOne,
         at: 23,
@@ -199,8 +195,9 @@ const SURVIVORS: [Survivor; 12] = [
 )
 "#,
     },
-    // The damaged byte is the version, which is then not UTF-8.
+    // The version is then not UTF-8.
     Survivor {
+        name: "the version of a producer",
         wasm: RAW_PRODUCERS,
         damage: Damage::Complement,
         at: 29,
@@ -210,8 +207,8 @@ const SURVIVORS: [Survivor; 12] = [
 )
 "#,
     },
-    // The damaged byte is the size of the memory.
     Survivor {
+        name: "the size of the memory of dylink.0",
         wasm: DYLINK_MEMORY,
         damage: Damage::PlusOne,
         at: 21,
@@ -222,8 +219,9 @@ const SURVIVORS: [Survivor; 12] = [
 )
 "#,
     },
-    // The damaged byte is the size of the memory, which then takes two bytes, so that a number is missing.
+    // The size then takes two bytes, so that a number is missing.
     Survivor {
+        name: "the size of the memory of dylink.0, inverted",
         wasm: DYLINK_MEMORY,
         damage: Damage::Complement,
         at: 21,
@@ -233,8 +231,8 @@ const SURVIVORS: [Survivor; 12] = [
 )
 "#,
     },
-    // The damaged byte is in a truncated subsection.
     Survivor {
+        name: "a byte of a truncated subsection",
         wasm: DYLINK_CUT,
         damage: Damage::PlusOne,
         at: 21,
@@ -245,6 +243,7 @@ const SURVIVORS: [Survivor; 12] = [
 "#,
     },
     Survivor {
+        name: "a byte of a truncated subsection, inverted",
         wasm: DYLINK_CUT,
         damage: Damage::Complement,
         at: 21,
@@ -256,15 +255,10 @@ const SURVIVORS: [Survivor; 12] = [
     },
 ];
 
-/// Returns whether a module is in `MODULES`.
-fn is_listed(wasm: &[u8]) -> bool {
-    MODULES.iter().any(|module| *module == wasm)
-}
-
 /// Returns the number of survivors that are damaged in this way.
 fn survivor_count(damage: Damage) -> usize {
     let mut count: usize = 0;
-    for survivor in &SURVIVORS {
+    for survivor in SURVIVORS {
         if survivor.damage == damage {
             count = count.saturating_add(1);
         }
@@ -272,38 +266,39 @@ fn survivor_count(damage: Damage) -> usize {
     count
 }
 
-#[test]
-fn prints_survivors(rt: HostRuntime) -> Result<(), Fail> {
-    for survivor in &SURVIVORS {
-        let damaged = survivor
-            .damage
-            .apply(rt.alloc(), survivor.wasm, survivor.at)?;
-        expect_text(print_bytes(rt.alloc(), &damaged)?.as_str(), survivor.text)?;
-        assert!(rt; is_listed(survivor.wasm));
+/// Returns a number of modules that are printed at least if each byte is damaged in this way.
+fn least_printed(damage: Damage) -> usize {
+    match damage {
+        Damage::Cut => longer_count(),
+        Damage::PlusOne | Damage::Complement => survivor_count(damage),
+    }
+}
+
+/// Checks the text of a survivor, and that its module is in `MODULES`.
+fn check_survivor(alloc: Global, survivor: &Survivor) -> Result<(), Fail> {
+    let wasm = survivor.wasm;
+    let damaged = survivor.damage.apply(alloc, wasm, survivor.at)?;
+    expect_printed(survivor.name, alloc, &damaged, survivor.text)?;
+    if !MODULES.contains(&wasm) {
+        return Err((survivor.name, "the module is not listed"))?;
     }
     Ok(())
 }
 
 #[test]
-fn agrees_on_modules_that_are_cut(rt: HostRuntime) -> Result<(), Fail> {
-    let tally = check_all(rt.alloc(), Damage::Cut)?;
-    assert_eq!(rt; tally.tried, byte_count());
-    assert!(rt; tally.printed >= longer_count());
+fn prints_survivors(rt: HostRuntime) -> Result<(), Fail> {
+    for survivor in SURVIVORS {
+        check_survivor(rt.alloc(), survivor)?;
+    }
     Ok(())
 }
 
 #[test]
-fn agrees_on_modules_with_a_byte_plus_one(rt: HostRuntime) -> Result<(), Fail> {
-    let tally = check_all(rt.alloc(), Damage::PlusOne)?;
-    assert_eq!(rt; tally.tried, byte_count());
-    assert!(rt; tally.printed >= survivor_count(Damage::PlusOne));
-    Ok(())
-}
-
-#[test]
-fn agrees_on_modules_with_a_byte_inverted(rt: HostRuntime) -> Result<(), Fail> {
-    let tally = check_all(rt.alloc(), Damage::Complement)?;
-    assert_eq!(rt; tally.tried, byte_count());
-    assert!(rt; tally.printed >= survivor_count(Damage::Complement));
+fn agrees_on_modules_with_a_damaged_byte(rt: HostRuntime) -> Result<(), Fail> {
+    for damage in [Damage::Cut, Damage::PlusOne, Damage::Complement] {
+        let tally = check_all(rt.alloc(), damage)?;
+        assert_eq!(rt; tally.tried, byte_count(), "{damage:?}");
+        assert!(rt; tally.printed >= least_printed(damage), "{damage:?}");
+    }
     Ok(())
 }

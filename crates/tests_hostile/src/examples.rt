@@ -1,7 +1,7 @@
 //! Worked examples with the calls on a printer, flat and folded. Folded operators have no styles, since the printer
 //! supports no colors within text.
 
-use crate::printing::Layout;
+use crate::layout::Layout;
 use wasmprinter::Error;
 use wasmprinter_rows::calls::{
     CUSTOMS_CALLS, CUT_CALLS, GLOBAL_FOLDED, HINTED_FOLDED, IDENTITY_FOLDED, MEMORY_CALLS,
@@ -57,7 +57,7 @@ impl Example {
     }
 }
 
-pub const EXAMPLES: [Example; 8] = [
+pub const EXAMPLES: &[Example] = &[
     Example {
         name: "identity",
         wasm: IDENTITY,

@@ -1,13 +1,14 @@
 //! Printers that fail at each of their calls in turn: the printer's error is returned, no call follows, and the
-//! calls before it are a prefix of those on a printer that does not fail.
+//! calls before it are a prefix of those on a printer that does not fail. Calls that ask for a claim fail too.
 
 use crate::examples::{EXAMPLES, Example};
-use crate::printing::{KINDS, LAYOUTS, Layout, print_to};
+use crate::layout::{KINDS, LAYOUTS, Layout};
 use std::alloc::Global;
 use std::io::ErrorKind;
 use std::test::Fail;
 use wasmprinter::Error;
-use wasmprinter_samples::{REFUSED, Recorder, expect_text};
+use wasmprinter_expecting::{expect_recorded, expect_same, print_to};
+use wasmprinter_samples::{REFUSED, Recorder};
 
 /// The failure of a test at a call of a run.
 #[derive(Debug, Drop)]
@@ -27,16 +28,29 @@ struct Run<'a> {
     layout: Layout,
 }
 
+/// The start of a call that asks whether the printer claims a custom section.
+const CLAIM_START: &str = "{? ";
+
+/// The end of a call that asks for a claim. No other call ends with it.
+const CLAIM_END: &str = "]}";
+
 impl Run<'_> {
+    /// Prints the example to a recorder.
+    fn print(&self, recorder: &mut Recorder) -> Result<(), Error> {
+        let config = self.layout.config();
+        print_to(&config, self.alloc, self.example.wasm, recorder)
+    }
+
     /// Checks all calls on a printer that never fails, and returns the number of calls that can fail.
-    fn check_whole(&self, recorder: &mut Recorder) -> Result<u32, Fail> {
-        let result = print_to(self.layout, self.alloc, self.example.wasm, recorder);
+    fn check_whole(&self, mut recorder: Recorder) -> Result<u32, Fail> {
+        let result = self.print(&mut recorder);
         if !self.example.ending.is_of(&result) {
             return Err(self.fail_at(0, "another ending"));
         }
-        expect_text(recorder.calls(), self.example.calls(self.layout))?;
-        if !recorder.is_complete() || recorder.faults() != 0 {
-            return Err(self.fail_at(0, "a call is lost or failed"));
+        let wanted = self.example.calls(self.layout);
+        expect_recorded(self.example.name, &recorder, wanted)?;
+        if recorder.faults() != 0 {
+            return Err(self.fail_at(0, "a call failed"));
         }
         Ok(recorder.call_count())
     }
@@ -45,7 +59,7 @@ impl Run<'_> {
     /// including that call.
     fn calls_until(&self, call: u32, kind: ErrorKind) -> Result<String, Fail> {
         let mut recorder = Recorder::with_refusal(self.alloc, call, kind);
-        let result = print_to(self.layout, self.alloc, self.example.wasm, &mut recorder);
+        let result = self.print(&mut recorder);
         if !matches!(result, Err(Error::Printer(e)) if e.kind() == kind) {
             return Err(self.fail_at(call, "another result"));
         }
@@ -58,12 +72,34 @@ impl Run<'_> {
         }
     }
 
-    /// Checks that the calls up to the one with this number, which fails, are a prefix of all calls.
-    fn check_until(&self, call: u32, kind: ErrorKind) -> Result<(), Fail> {
+    /// Checks that the calls up to the one with this number, which fails, are a prefix of all calls. Returns whether
+    /// that call asks for a claim.
+    fn check_until(&self, call: u32, kind: ErrorKind) -> Result<bool, Fail> {
         let calls = self.calls_until(call, kind)?;
         if !self.example.calls(self.layout).starts_with(calls.as_str()) {
             return Err(self.fail_at(call, "other calls before it"));
         }
+        Ok(calls.ends_with(CLAIM_END))
+    }
+
+    /// Checks that printing ends at each call that fails, each claim among them, and that it is complete if only a
+    /// call after the last one would fail.
+    fn check_each_call(&self, kind: ErrorKind) -> Result<(), Fail> {
+        let last = self.check_whole(Recorder::new(self.alloc))?;
+        let mut claims: usize = 0;
+        for call in 1..=last {
+            if self.check_until(call, kind)? {
+                claims = claims.saturating_add(1);
+            }
+        }
+        let wanted = self.example.calls(self.layout);
+        if claims != wanted.matches(CLAIM_START).count() {
+            return Err(self.fail_at(0, "another number of claims that fail"));
+        }
+        let whole = self.calls_until(last, kind)?;
+        expect_same(self.example.name, whole.as_str(), wanted)?;
+        let after_last = last.saturating_add(1);
+        self.check_whole(Recorder::with_refusal(self.alloc, after_last, kind))?;
         Ok(())
     }
 
@@ -77,23 +113,9 @@ impl Run<'_> {
     }
 }
 
-/// Checks that a run ends at each call that fails, and that it is complete if only a call after the last one would
-/// fail.
-fn check_each_call(run: &Run<'_>, kind: ErrorKind) -> Result<(), Fail> {
-    let last = run.check_whole(&mut Recorder::new(run.alloc))?;
-    for call in 1..=last {
-        run.check_until(call, kind)?;
-    }
-    let whole = run.calls_until(last, kind)?;
-    expect_text(whole.as_str(), run.example.calls(run.layout))?;
-    let mut recorder = Recorder::with_refusal(run.alloc, last.saturating_add(1), kind);
-    run.check_whole(&mut recorder)?;
-    Ok(())
-}
-
 #[test]
 fn stops_at_the_call_that_fails_and_returns_its_error(rt: HostRuntime) -> Result<(), Fail> {
-    for example in &EXAMPLES {
+    for example in EXAMPLES {
         for layout in LAYOUTS {
             let run = Run {
                 alloc: rt.alloc(),
@@ -101,41 +123,8 @@ fn stops_at_the_call_that_fails_and_returns_its_error(rt: HostRuntime) -> Result
                 layout,
             };
             for kind in KINDS {
-                check_each_call(&run, kind)?;
+                run.check_each_call(kind)?;
             }
-        }
-    }
-    Ok(())
-}
-
-/// The start of a call that asks whether the printer claims a custom section.
-const CLAIM_START: &str = "{? ";
-
-/// The end of a call that asks for a claim. No other call ends with it.
-const CLAIM_END: &str = "]}";
-
-/// Lets each call fail in turn, and returns the number of these calls that ask for a claim.
-fn count_failed_claims(run: &Run<'_>, kind: ErrorKind) -> Result<usize, Fail> {
-    let mut count: usize = 0;
-    for call in 1..=run.check_whole(&mut Recorder::new(run.alloc))? {
-        if run.calls_until(call, kind)?.ends_with(CLAIM_END) {
-            count = count.saturating_add(1);
-        }
-    }
-    Ok(count)
-}
-
-#[test]
-fn returns_the_error_of_each_claim_that_fails(rt: HostRuntime) -> Result<(), Fail> {
-    for example in &EXAMPLES {
-        for layout in LAYOUTS {
-            let run = Run {
-                alloc: rt.alloc(),
-                example,
-                layout,
-            };
-            let claims = example.calls(layout).matches(CLAIM_START).count();
-            assert_eq!(rt; count_failed_claims(&run, ErrorKind::BrokenPipe)?, claims);
         }
     }
     Ok(())

@@ -1,4 +1,4 @@
-//! Files of the system that can't be read
+//! Files of the system that can't be read.
 
 use std::fs;
 use std::fs::Permissions;
@@ -9,47 +9,38 @@ use wasmprinter::{Error, print_file};
 use wasmprinter_rows::IDENTITY;
 use wasmprinter_samples::{IDENTITY_TEXT, expect_text};
 
-/// Returns whether the file at a path can't be read.
-fn is_unreadable(rt: &HostRuntime, path: &str) -> bool {
-    let printed = print_file(rt, rt.alloc(), Path::new(path));
-    matches!(printed, Err(Error::Unreadable))
-}
+/// Paths that can't be read, each with a name. Opening a directory succeeds, and reading it fails.
+const UNREADABLE: &[(&str, &str)] = &[
+    ("an empty path", ""),
+    ("a missing name", "missing.wasm"),
+    ("a missing folder", "missing/missing.wasm"),
+    ("a name with a NUL byte", "missing\0.wasm"),
+    ("a directory", "directory.wasm"),
+    ("a path through a file", "file.wasm/identity.wasm"),
+    ("a link to itself", "loop.wasm"),
+];
 
-/// Paths without a file: an empty path, a missing name, a missing folder, and a name with a NUL byte.
-const MISSING: [&str; 4] = ["", "missing.wasm", "missing/missing.wasm", "missing\0.wasm"];
-
-#[test]
-fn refuses_files_that_are_missing(rt: HostRuntime) {
-    for path in MISSING {
-        assert!(rt; is_unreadable(&rt, path), "{path:?}");
+/// Returns the name of the first of these paths that is not refused as unreadable, or `None` if all are.
+fn first_readable(rt: &HostRuntime) -> Option<&'static str> {
+    for (name, path) in UNREADABLE {
+        let printed = print_file(rt, rt.alloc(), Path::new(*path));
+        if !matches!(printed, Err(Error::Unreadable)) {
+            return Some(*name);
+        }
     }
+    None
 }
 
-/// Opening a directory succeeds, and reading it fails.
 #[test]
-fn refuses_a_directory(rt: HostRuntime) -> Result<(), Fail> {
+fn refuses_paths_that_can_not_be_read(rt: HostRuntime) -> Result<(), Fail> {
     fs::create_dir(&rt, "directory.wasm")?;
-    let is_refused = is_unreadable(&rt, "directory.wasm");
-    fs::remove_dir(&rt, "directory.wasm")?;
-    assert!(rt; is_refused);
-    Ok(())
-}
-
-#[test]
-fn refuses_a_path_through_a_file(rt: HostRuntime) -> Result<(), Fail> {
     fs::write(&rt, "file.wasm", IDENTITY)?;
-    let is_refused = is_unreadable(&rt, "file.wasm/identity.wasm");
-    fs::remove_file(&rt, "file.wasm")?;
-    assert!(rt; is_refused);
-    Ok(())
-}
-
-#[test]
-fn refuses_a_link_to_itself(rt: HostRuntime) -> Result<(), Fail> {
     symlink(&rt, "loop.wasm", "loop.wasm")?;
-    let is_refused = is_unreadable(&rt, "loop.wasm");
+    let readable = first_readable(&rt);
     fs::remove_file(&rt, "loop.wasm")?;
-    assert!(rt; is_refused);
+    fs::remove_file(&rt, "file.wasm")?;
+    fs::remove_dir(&rt, "directory.wasm")?;
+    assert_eq!(rt; readable, None);
     Ok(())
 }
 

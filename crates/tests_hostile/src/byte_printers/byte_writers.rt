@@ -1,106 +1,341 @@
-//! Printers over byte writers that accept few bytes per call, record their calls, or fail at one.
+//! Printers over byte writers that fail at each of their calls in turn: the writer's error is returned, and the bytes
+//! that were written before it are a prefix of the text. One kind of writer accepts one byte in each call, the other
+//! accepts all bytes.
 
-use crate::byte_printers::colors::{EMPTY_COLORED, print_colors_to};
-use crate::byte_printers::scripted::{Scripted, print_to};
-use std::alloc::Global;
-use std::io::{ErrorKind, Write};
+use crate::byte_printers::printing::{make_calls_without_text, print_bytes_to, print_colors_to};
+use crate::byte_printers::scripted::Scripted;
+use crate::layout::{KINDS, LAYOUTS, Layout};
+use std::alloc::{AllocError, Global};
+use std::io::ErrorKind;
 use std::test::Fail;
 use wasmprinter::print::{Ansi, Color, ColorSpec, NoColor, WriteColor};
-use wasmprinter::{Config, Error, Print, PrintIoWrite, PrintTermcolor};
-use wasmprinter_samples::{EMPTY_TEXT, IDENTITY, IDENTITY_TEXT, PREAMBLE};
+use wasmprinter::{Error, Print, PrintIoWrite, PrintTermcolor};
+use wasmprinter_rows::{CUSTOMS_AROUND_A_MEMORY, DYLINK_CUT, GLOBAL_BLOCK, HINTED_IF};
+use wasmprinter_samples::{IDENTITY, PREAMBLE};
 
-/// Prints a module to any byte writer, and returns the writer.
-pub fn print_bytes_to<W: Write + Drop>(alloc: Global, wasm: &[u8], writer: W) -> Result<W, Error> {
-    let mut printer = PrintIoWrite(writer);
-    print_to(&Config::new(), alloc, wasm, &mut printer)?;
-    Ok(printer.0)
-}
-
-/// A printer over a byte writer.
+/// A printer over a writer of bytes.
 #[derive(Clone, Copy, Debug)]
-enum Way {
+enum Printer {
+    /// `PrintIoWrite`.
     Plain,
-    Colored,
+    /// `PrintTermcolor` over `NoColor`.
     Uncolored,
+    /// `PrintTermcolor` over `Ansi`.
+    Colored,
 }
 
-/// A module that is printed to a writer.
+const PRINTERS: [Printer; 3] = [Printer::Plain, Printer::Uncolored, Printer::Colored];
+
+/// A number of bytes that a writer accepts in one call, at most.
+const SINGLE: usize = 1;
+
+const MOSTS: [usize; 2] = [SINGLE, usize::MAX];
+
+/// The markers of styles in typed texts, and their ANSI escape sequences.
+const STYLES: [(&str, &str); 6] = [
+    ("{K}", "\x1b[0m\x1b[1m\x1b[38;5;11m"),
+    ("{N}", "\x1b[0m\x1b[35m"),
+    ("{L}", "\x1b[0m\x1b[31m"),
+    ("{T}", "\x1b[0m\x1b[1m\x1b[38;5;10m"),
+    ("{C}", "\x1b[0m\x1b[36m"),
+    ("{R}", "\x1b[0m"),
+];
+
+/// A module with its texts. They contain the markers of styles.
 #[derive(Clone, Copy)]
-struct Run<'a> {
-    way: Way,
-    wasm: &'a [u8],
-    /// The contents of the writer at the end.
-    wanted: &'a str,
+struct Styled {
+    name: &'static str,
+    wasm: &'static [u8],
+    flat: &'static str,
+    folded: &'static str,
+}
+
+const EMPTY: &str = "({K}module{R})\n";
+
+const IDENTITY_FLAT: &str = r#"({K}module{R}
+  ({K}type {R}{N}(;0;){R} ({K}func{R} ({K}param{R} {T}i32{R}) ({K}result{R} {T}i32{R})))
+  ({K}export {R}{L}"f"{R} ({K}func {R}{N}0{R}))
+  ({K}func {R}{N}(;0;){R} ({K}type {R}{N}0{R}) ({K}param{R} {T}i32{R}) ({K}result{R} {T}i32{R})
+    local.get {N}0{R}
+  )
+)
+"#;
+
+const IDENTITY_FOLDED: &str = r#"({K}module{R}
+  ({K}type {R}{N}(;0;){R} ({K}func{R} ({K}param{R} {T}i32{R}) ({K}result{R} {T}i32{R})))
+  ({K}export {R}{L}"f"{R} ({K}func {R}{N}0{R}))
+  ({K}func {R}{N}(;0;){R} ({K}type {R}{N}0{R}) ({K}param{R} {T}i32{R}) ({K}result{R} {T}i32{R})
+    (local.get {N}0{R})
+  )
+)
+"#;
+
+const GLOBAL_FLAT: &str = "({K}module{R}
+  ({K}global {R}{N}(;0;){R} {T}i32{R} block ({K}result {R}{T}i32{R}) {C} (; label = @1 ;){R} i32.const{L} 1{R} end)
+)
+";
+
+const GLOBAL_FOLDED: &str = "({K}module{R}
+  ({K}global {R}{N}(;0;){R} {T}i32{R} (block ({K}result {R}{T}i32{R}) {C} (; label = @1 ;){R} (i32.const{L} 1{R})))
+)
+";
+
+const HINTED_FLAT: &str = r#"({K}module{R}
+  ({K}type {R}{N}(;0;){R} ({K}func{R} ({K}param{R} {T}i32{R})))
+  ({K}func {R}{N}(;0;){R} ({K}type {R}{N}0{R}) ({K}param{R} {T}i32{R})
+    local.get {N}0{R}
+    {C}(@metadata.code.branch_hint "\01"){R}
+    if {C};; label = @1{R}
+    end
+  )
+)
+"#;
+
+const HINTED_FOLDED: &str = r#"({K}module{R}
+  ({K}type {R}{N}(;0;){R} ({K}func{R} ({K}param{R} {T}i32{R})))
+  ({K}func {R}{N}(;0;){R} ({K}type {R}{N}0{R}) ({K}param{R} {T}i32{R})
+    (@metadata.code.branch_hint "\01")
+    (if {C};; label = @1{R}
+      (local.get {N}0{R})
+      (then))
+  )
+)
+"#;
+
+const CUSTOMS: &str = r#"({K}module{R}
+  ({K}@custom {R}{L}"a"{R} (before first) {L}"\01"{R})
+  ({K}memory {R}{N}(;0;){R} {L}1{R})
+  ({K}@custom {R}{L}"b"{R} (after memory) {L}""{R})
+)
+"#;
+
+const CUT: &str = r#"({K}module{R}
+  ;; failed to parse custom section `dylink.0`
+  ({K}@custom {R}{L}"dylink.0"{R} (before first) {L}"\01\05\10"{R})
+)
+"#;
+
+const MODULES: &[Styled] = &[
+    Styled {
+        name: "no fields",
+        wasm: &PREAMBLE,
+        flat: EMPTY,
+        folded: EMPTY,
+    },
+    Styled {
+        name: "identity",
+        wasm: &IDENTITY,
+        flat: IDENTITY_FLAT,
+        folded: IDENTITY_FOLDED,
+    },
+    Styled {
+        name: "global with a block",
+        wasm: GLOBAL_BLOCK,
+        flat: GLOBAL_FLAT,
+        folded: GLOBAL_FOLDED,
+    },
+    Styled {
+        name: "if with a hint",
+        wasm: HINTED_IF,
+        flat: HINTED_FLAT,
+        folded: HINTED_FOLDED,
+    },
+    Styled {
+        name: "custom sections around a memory",
+        wasm: CUSTOMS_AROUND_A_MEMORY,
+        flat: CUSTOMS,
+        folded: CUSTOMS,
+    },
+    Styled {
+        name: "dylink.0 that is cut",
+        wasm: DYLINK_CUT,
+        flat: CUT,
+        folded: CUT,
+    },
+];
+
+/// A module that is printed in a layout by a printer, to a writer.
+#[derive(Clone, Copy)]
+struct Run {
+    alloc: Global,
+    module: Styled,
+    layout: Layout,
+    printer: Printer,
     /// The maximum number of bytes that the writer accepts in one call.
     most: usize,
 }
 
-impl<'a> Run<'a> {
-    fn new(way: Way, wasm: &'a [u8], wanted: &'a str, most: usize) -> Run<'a> {
-        Run {
-            way,
-            wasm,
-            wanted,
-            most,
-        }
-    }
-
-    fn print(&self, alloc: Global, writer: &mut Scripted) -> Result<(), Error> {
-        match self.way {
-            Way::Plain => {
-                print_bytes_to(alloc, self.wasm, writer)?;
+impl Run {
+    fn print(&self, writer: &mut Scripted) -> Result<(), Error> {
+        let config = self.layout.config();
+        let wasm = self.module.wasm;
+        match self.printer {
+            Printer::Plain => {
+                print_bytes_to(&config, self.alloc, wasm, writer)?;
             }
-            Way::Colored => {
-                print_colors_to(alloc, self.wasm, Ansi::new(writer))?;
+            Printer::Uncolored => {
+                print_colors_to(&config, self.alloc, wasm, NoColor::new(writer))?;
             }
-            Way::Uncolored => {
-                print_colors_to(alloc, self.wasm, NoColor::new(writer))?;
+            Printer::Colored => {
+                print_colors_to(&config, self.alloc, wasm, Ansi::new(writer))?;
             }
         }
         Ok(())
     }
 
-    /// Reports whether printing stops at a write that fails, returns its error, and writes nothing after it.
-    fn stops_at(&self, alloc: Global, write: usize, kind: ErrorKind) -> bool {
-        let mut writer = Scripted::with_failure(alloc, self.most, write, kind);
-        let refused = self.print(alloc, &mut writer);
-        let wanted = self.wanted.as_bytes();
-        matches!(refused, Err(Error::Printer(e)) if e.kind() == kind)
-            && writer.calls.len() == write
-            && wanted.starts_with(writer.bytes.as_slice())
-            && writer.bytes.len() < wanted.len()
+    /// Returns the text, with ANSI escape sequences if the printer writes colors.
+    fn text(&self) -> Result<String, AllocError> {
+        let marked = match self.layout {
+            Layout::Flat => self.module.flat,
+            Layout::Folded => self.module.folded,
+        };
+        let mut text = String::from_str(self.alloc, marked)?;
+        for (mark, sequence) in STYLES {
+            let style = match self.printer {
+                Printer::Colored => sequence,
+                Printer::Plain | Printer::Uncolored => "",
+            };
+            text = text.replace(self.alloc, mark, style)?;
+        }
+        Ok(text)
+    }
+
+    /// Checks that the whole text is written if no call fails, and returns the number of calls.
+    fn check_whole(&self, text: &str) -> Result<usize, Fail> {
+        let mut writer = Scripted::new(self.alloc, self.most);
+        self.print(&mut writer)?;
+        if writer.bytes.as_slice() != text.as_bytes() {
+            return Err(self.fail_at(0, "another text"));
+        }
+        Ok(writer.calls.len())
+    }
+
+    /// Checks that printing ends at the call with this number, which fails, and that the bytes that were written
+    /// before are a proper prefix of the text. Returns their number.
+    fn check_until(&self, text: &str, write: usize, kind: ErrorKind) -> Result<usize, Fail> {
+        let mut writer = Scripted::with_failure(self.alloc, self.most, write, kind);
+        let result = self.print(&mut writer);
+        if !matches!(result, Err(Error::Printer(e)) if e.kind() == kind) {
+            return Err(self.fail_at(write, "another result"));
+        }
+        if writer.calls.len() != write {
+            return Err(self.fail_at(write, "another number of writes"));
+        }
+        let count = writer.bytes.len();
+        if !text.as_bytes().starts_with(&writer.bytes) || count >= text.len() {
+            return Err(self.fail_at(write, "other bytes before it"));
+        }
+        Ok(count)
+    }
+
+    /// Checks that printing ends at each call that fails. If the writer accepts single bytes, there is a call for
+    /// each byte of the text, and exactly the bytes before the failing call are written.
+    fn check_each_write(&self, kind: ErrorKind) -> Result<(), Fail> {
+        let text = self.text()?;
+        let writes = self.check_whole(text.as_str())?;
+        if self.most == SINGLE && writes != text.len() {
+            return Err(self.fail_at(0, "another number of writes"));
+        }
+        for before in 0..writes {
+            let write = before + 1;
+            let count = self.check_until(text.as_str(), write, kind)?;
+            if self.most == SINGLE && count != before {
+                return Err(self.fail_at(write, "another number of bytes before it"));
+            }
+        }
+        Ok(())
+    }
+
+    /// Checks that the last call is made again if it is interrupted.
+    fn check_interrupted(&self) -> Result<(), Fail> {
+        let text = self.text()?;
+        let writes = self.check_whole(text.as_str())?;
+        let kind = ErrorKind::Interrupted;
+        let mut writer = Scripted::with_failure(self.alloc, self.most, writes, kind);
+        self.print(&mut writer)?;
+        if writer.calls.len() != writes.saturating_add(1) {
+            return Err(self.fail_at(writes, "another number of writes"));
+        }
+        if writer.bytes.as_slice() != text.as_bytes() {
+            return Err(self.fail_at(writes, "another text"));
+        }
+        Ok(())
+    }
+
+    /// Checks that printing ends at the first call of a writer that accepts no bytes.
+    fn check_full(&self) -> Result<(), Fail> {
+        let mut writer = Scripted::new(self.alloc, 0);
+        let result = self.print(&mut writer);
+        if !matches!(result, Err(Error::Printer(e)) if e.kind() == ErrorKind::WriteZero) {
+            return Err(self.fail_at(1, "another result"));
+        }
+        if writer.calls.len() != 1 || !writer.bytes.is_empty() {
+            return Err(self.fail_at(1, "another number of writes"));
+        }
+        Ok(())
+    }
+
+    fn fail_at(&self, write: usize, reason: &'static str) -> Fail {
+        Fail::from(Failure {
+            module: self.module.name,
+            layout: self.layout,
+            printer: self.printer,
+            most: self.most,
+            write,
+            reason,
+        })
     }
 }
 
-fn runs() -> [Run<'static>; 6] {
-    [
-        Run::new(Way::Plain, &IDENTITY, IDENTITY_TEXT, usize::MAX),
-        Run::new(Way::Plain, &PREAMBLE, EMPTY_TEXT, 1),
-        Run::new(Way::Uncolored, &IDENTITY, IDENTITY_TEXT, usize::MAX),
-        Run::new(Way::Uncolored, &PREAMBLE, EMPTY_TEXT, 1),
-        Run::new(Way::Colored, &PREAMBLE, EMPTY_COLORED, usize::MAX),
-        Run::new(Way::Colored, &PREAMBLE, EMPTY_COLORED, 1),
-    ]
+/// The failure of a test at a write of a run.
+#[derive(Debug, Drop)]
+struct Failure {
+    module: &'static str,
+    layout: Layout,
+    printer: Printer,
+    most: usize,
+    /// The number of the call of `write` that fails, from 1, or 0 if no call fails.
+    write: usize,
+    reason: &'static str,
+}
+
+/// Adds the runs of a module in a layout, with each printer and writer.
+fn add_runs(
+    runs: &mut Vec<Run>,
+    alloc: Global,
+    module: Styled,
+    layout: Layout,
+) -> Result<(), AllocError> {
+    for printer in PRINTERS {
+        for most in MOSTS {
+            runs.push(Run {
+                alloc,
+                module,
+                layout,
+                printer,
+                most,
+            })?;
+        }
+    }
+    Ok(())
+}
+
+/// Returns the runs of each module, in both layouts, with each printer and writer.
+fn all_runs(alloc: Global) -> Result<Vec<Run>, AllocError> {
+    let mut runs = Vec::new(alloc);
+    for module in MODULES {
+        for layout in LAYOUTS {
+            add_runs(&mut runs, alloc, *module, layout)?;
+        }
+    }
+    Ok(runs)
 }
 
 #[test]
-fn stops_at_the_write_that_fails_and_answers_its_error(rt: HostRuntime) -> Result<(), Fail> {
-    let alloc = rt.alloc();
-    for run in runs() {
-        let mut whole = Scripted::new(alloc, run.most);
-        run.print(alloc, &mut whole)?;
-        assert!(rt; whole.bytes.as_slice() == run.wanted.as_bytes());
-        let one_more = whole.calls.len().saturating_add(1);
-        for write in 1..one_more {
-            let way = run.way;
-            assert!(rt;
-                run.stops_at(alloc, write, ErrorKind::BrokenPipe),
-                "{way:?} at {write}"
-            );
-            assert!(rt;
-                run.stops_at(alloc, write, ErrorKind::StorageFull),
-                "{way:?} at {write}"
-            );
+fn stops_at_each_write_that_fails_and_returns_its_error(rt: HostRuntime) -> Result<(), Fail> {
+    for run in &all_runs(rt.alloc())? {
+        for kind in KINDS {
+            run.check_each_write(kind)?;
         }
     }
     Ok(())
@@ -108,83 +343,71 @@ fn stops_at_the_write_that_fails_and_answers_its_error(rt: HostRuntime) -> Resul
 
 #[test]
 fn tries_a_write_again_that_was_interrupted(rt: HostRuntime) -> Result<(), Fail> {
-    let alloc = rt.alloc();
-    for run in runs() {
-        let mut whole = Scripted::new(alloc, run.most);
-        run.print(alloc, &mut whole)?;
-        let mut writer = Scripted::with_failure(
-            alloc,
-            run.most,
-            whole.calls.len(),
-            ErrorKind::Interrupted,
-        );
-        run.print(alloc, &mut writer)?;
-        assert!(rt; writer.calls.len() == whole.calls.len().saturating_add(1));
-        assert!(rt; writer.bytes.as_slice() == run.wanted.as_bytes());
+    for run in &all_runs(rt.alloc())? {
+        run.check_interrupted()?;
     }
     Ok(())
 }
 
 #[test]
-fn fails_where_a_writer_takes_nothing(rt: HostRuntime) {
-    for run in runs() {
-        let mut writer = Scripted::new(rt.alloc(), 0);
-        let refused = run.print(rt.alloc(), &mut writer);
-        assert!(rt; matches!(refused, Err(Error::Printer(e)) if e.kind() == ErrorKind::WriteZero));
-        assert!(rt; writer.calls.len() == 1);
-        assert!(rt; writer.bytes.is_empty());
+fn fails_where_a_writer_takes_nothing(rt: HostRuntime) -> Result<(), Fail> {
+    for run in &all_runs(rt.alloc())? {
+        run.check_full()?;
     }
+    Ok(())
 }
 
-#[test]
-fn leaves_the_sequences_up_to_the_one_that_failed(rt: HostRuntime) {
+/// The numbers of writes that fail, each with the sequences that are written before. The color has three sequences.
+const LEFT: &[(usize, &str)] = &[
+    (1, ""),
+    (2, "\x1b[0m"),
+    (3, "\x1b[0m\x1b[1m"),
+    (4, "\x1b[0m\x1b[1m\x1b[38;5;10m"),
+];
+
+/// Sets a color of three sequences if the write with this number fails. Returns the kind of the error, or `None` on
+/// success, and the writer.
+fn set_color_until(alloc: Global, write: usize) -> (Option<ErrorKind>, Scripted) {
     let mut spec = ColorSpec::new();
     spec.set_fg(Some(Color::Green))
         .set_bold(true)
         .set_intense(true);
-    for (write, left) in [
-        (1, ""),
-        (2, "\x1b[0m"),
-        (3, "\x1b[0m\x1b[1m"),
-        (4, "\x1b[0m\x1b[1m\x1b[38;5;10m"),
-    ] {
-        let mut writer = Ansi::new(Scripted::with_failure(
-            rt.alloc(),
-            usize::MAX,
-            write,
-            ErrorKind::BrokenPipe,
-        ));
-        let answer = writer.set_color(&spec);
-        let script = writer.into_inner();
+    let script = Scripted::with_failure(alloc, usize::MAX, write, ErrorKind::BrokenPipe);
+    let mut writer = Ansi::new(script);
+    let kind = match writer.set_color(&spec) {
+        Ok(()) => None,
+        Err(error) => Some(error.kind()),
+    };
+    (kind, writer.into_inner())
+}
+
+#[test]
+fn leaves_the_sequences_up_to_the_one_that_failed(rt: HostRuntime) {
+    for (write, left) in LEFT {
+        let (kind, script) = set_color_until(rt.alloc(), *write);
+        let wanted = if *write < 4 {
+            Some(ErrorKind::BrokenPipe)
+        } else {
+            None
+        };
+        assert!(rt; kind == wanted, "at write {write}");
+        assert!(rt; script.calls.len() == (*write).min(3), "at write {write}");
         assert!(rt;
-            answer.map_err(|e| e.kind())
-                == if write < 4 {
-                    Err(ErrorKind::BrokenPipe)
-                } else {
-                    Ok(())
-                }
+            script.bytes.as_slice() == left.as_bytes(),
+            "at write {write}"
         );
-        assert!(rt; script.calls.len() == write.min(3));
-        assert!(rt; script.bytes.as_slice() == left.as_bytes());
     }
+}
+
+/// Returns a writer whose first call fails.
+fn refusing_first(alloc: Global) -> Scripted {
+    Scripted::with_failure(alloc, usize::MAX, 1, ErrorKind::BrokenPipe)
 }
 
 #[test]
 fn fails_only_where_it_writes(rt: HostRuntime) -> Result<(), Fail> {
-    let mut printer = PrintIoWrite(Scripted::with_failure(
-        rt.alloc(),
-        usize::MAX,
-        1,
-        ErrorKind::BrokenPipe,
-    ));
-    printer.start_line(Some(8));
-    printer.start_literal()?;
-    printer.start_name()?;
-    printer.start_keyword()?;
-    printer.start_type()?;
-    printer.start_comment()?;
-    printer.reset_color()?;
-    assert!(rt; !printer.print_custom_section("name", 8, &[0])?);
+    let mut printer = PrintIoWrite(refusing_first(rt.alloc()));
+    assert!(rt; !make_calls_without_text(&mut printer)?);
     assert!(rt; printer.0.calls.len() == 0);
     let refused = printer.newline();
     assert!(rt; matches!(refused, Err(e) if e.kind() == ErrorKind::BrokenPipe));
@@ -196,12 +419,7 @@ fn fails_only_where_it_writes(rt: HostRuntime) -> Result<(), Fail> {
 
 #[test]
 fn fails_at_a_style_where_it_writes_a_sequence(rt: HostRuntime) -> Result<(), Fail> {
-    let mut printer = PrintTermcolor(Ansi::new(Scripted::with_failure(
-        rt.alloc(),
-        usize::MAX,
-        1,
-        ErrorKind::BrokenPipe,
-    )));
+    let mut printer = PrintTermcolor(Ansi::new(refusing_first(rt.alloc())));
     printer.start_line(Some(8));
     assert!(rt; !printer.print_custom_section("name", 8, &[0])?);
     let refused = printer.reset_color();

@@ -1,20 +1,20 @@
-//! Printers with colors. The ANSI escape sequences are typed by hand.
-ghost use Rattle.std.specs.Prelude.{◌≡◌, true, Ok};
-
-use crate::byte_printers::byte_writers::print_bytes_to;
-use crate::byte_printers::scripted::{Scripted, print_to};
+//! Printers and writers with colors. The ANSI escape sequences are typed by hand.
+use crate::byte_printers::printing::{make_calls_without_text, print_bytes_to, print_colors_to};
+use crate::byte_printers::scripted::Scripted;
+use crate::byte_printers::sinks::Sink;
 use std::alloc::Global;
 use std::io;
 use std::io::Write;
 use std::test::Fail;
 use wasmprinter::print::{Ansi, Color, ColorSpec, NoColor, WriteColor};
 use wasmprinter::{Config, Error, Print, PrintIoWrite, PrintTermcolor};
+use wasmprinter_expecting::colored_text_by;
 use wasmprinter_samples::{
     EMPTY_TEXT, EVERYTHING, EVERYTHING_TEXT, IDENTITY, IDENTITY_TEXT, PREAMBLE,
 };
 
 /// The text of the module without fields, with colors.
-pub const EMPTY_COLORED: &str = "(\x1b[0m\x1b[1m\x1b[38;5;11mmodule\x1b[0m)\n";
+const EMPTY_COLORED: &str = "(\x1b[0m\x1b[1m\x1b[38;5;11mmodule\x1b[0m)\n";
 
 /// The text of `IDENTITY` with colors.
 const IDENTITY_COLORED: &str = "(\x1b[0m\x1b[1m\x1b[38;5;11mmodule\x1b[0m
@@ -31,87 +31,57 @@ const IDENTITY_COLORED: &str = "(\x1b[0m\x1b[1m\x1b[38;5;11mmodule\x1b[0m
 )
 ";
 
-/// A console whose colors take effect immediately, and which discards all bytes.
-#[derive(Drop)]
-struct Console;
-
-impl Write for Console {
-    fn write(&mut self, buf: &[u8]) -> io::Result<usize> {
-        Ok(buf.len())
-    }
-
-    fn flush(&mut self) -> io::Result<()> {
-        Ok(())
-    }
-}
-
-impl WriteColor for Console {
-    ghost sets_color = { λ s _ answer t. (answer ≡ Ok tt) × (t ≡ s) };
-
-    ghost is_colored = { λ _. true };
-
-    ghost is_immediate = { λ _. true };
-
-    fn supports_color(&self) -> bool {
-        true
-    }
-
-    fn set_color(&mut self, _spec: &ColorSpec) -> io::Result<()> {
-        Ok(())
-    }
-
-    fn reset(&mut self) -> io::Result<()> {
-        Ok(())
-    }
-
-    fn is_synchronous(&self) -> bool {
-        true
-    }
-}
-
-/// Prints a module to any writer that supports colors, and returns the writer.
-pub fn print_colors_to<W: WriteColor + Drop>(
-    alloc: Global,
-    wasm: &[u8],
-    writer: W,
-) -> Result<W, Error> {
-    let mut printer = PrintTermcolor(writer);
-    print_to(&Config::new(), alloc, wasm, &mut printer)?;
-    Ok(printer.0)
-}
+/// Modules, each with its text with ANSI escape sequences.
+const COLORED: &[(&str, &[u8], &str)] = &[
+    ("no fields", &PREAMBLE, EMPTY_COLORED),
+    ("identity", &IDENTITY, IDENTITY_COLORED),
+];
 
 #[test]
 fn prints_in_colors(rt: HostRuntime) -> Result<(), Fail> {
-    let alloc = rt.alloc();
-    let empty = print_colors_to(alloc, &PREAMBLE, Ansi::new(Vec::new(alloc)))?;
-    assert!(rt; empty.into_inner().as_slice() == EMPTY_COLORED.as_bytes());
-    let identity = print_colors_to(alloc, &IDENTITY, Ansi::new(Vec::new(alloc)))?;
-    assert!(rt; identity.into_inner().as_slice() == IDENTITY_COLORED.as_bytes());
+    for (name, wasm, text) in COLORED {
+        let colored = colored_text_by(&Config::new(), rt.alloc(), *wasm)?;
+        assert!(rt; colored.as_slice() == text.as_bytes(), "{name}");
+    }
     Ok(())
+}
+
+/// Modules, each with its text.
+const PLAIN: &[(&str, &[u8], &str)] = &[
+    ("no fields", &PREAMBLE, EMPTY_TEXT),
+    ("identity", &IDENTITY, IDENTITY_TEXT),
+    ("everything", &EVERYTHING, EVERYTHING_TEXT),
+];
+
+/// Reports whether a module is printed as this text to a vector: as its only content, and after an old content.
+fn is_plain(alloc: Global, wasm: &[u8], text: &str) -> Result<bool, Error> {
+    let config = Config::new();
+    let plain = print_bytes_to(&config, alloc, wasm, Vec::new(alloc))?;
+    let after = print_bytes_to(&config, alloc, wasm, Vec::from_slice(alloc, b"a\n")?)?;
+    Ok(plain.as_slice() == text.as_bytes() && after.strip_prefix(b"a\n") == Some(text.as_bytes()))
 }
 
 #[test]
 fn prints_plain_text_where_there_are_no_colors(rt: HostRuntime) -> Result<(), Fail> {
     let alloc = rt.alloc();
-    let modules: [(&[u8], &str); 3] = [
-        (&PREAMBLE, EMPTY_TEXT),
-        (&IDENTITY, IDENTITY_TEXT),
-        (&EVERYTHING, EVERYTHING_TEXT),
-    ];
-    for (wasm, text) in modules {
-        let uncolored = print_colors_to(alloc, wasm, NoColor::new(Vec::new(alloc)))?;
-        assert!(rt; uncolored.into_inner().as_slice() == text.as_bytes());
-        let plain = print_bytes_to(alloc, wasm, Vec::new(alloc))?;
-        assert!(rt; plain.as_slice() == text.as_bytes());
-        let after = print_bytes_to(alloc, wasm, vec![in alloc; b'a', b'\n']?)?;
-        assert!(rt; after.strip_prefix(b"a\n") == Some(text.as_bytes()));
+    for (name, wasm, text) in PLAIN {
+        let writer = NoColor::new(Vec::new(alloc));
+        let uncolored = print_colors_to(&Config::new(), alloc, *wasm, writer)?;
+        assert!(rt;
+            uncolored.into_inner().as_slice() == text.as_bytes(),
+            "{name}"
+        );
+        assert!(rt; is_plain(alloc, *wasm, *text)?, "{name}");
     }
     Ok(())
 }
 
-#[test]
-fn writes_the_sequences_of_each_style(rt: HostRuntime) -> Result<(), Fail> {
-    let mut printer = PrintTermcolor(Ansi::new(Vec::new(rt.alloc())));
+/// The sequences of each style, with a letter after each.
+const STYLES: &str = "\x1b[0m\x1b[35mn\x1b[0m\x1b[31ml\x1b[0m\x1b[1m\x1b[38;5;11mk\
+\x1b[0m\x1b[1m\x1b[38;5;10mt\x1b[0m\x1b[36mc\x1b[0m\n";
+
+/// Writes a letter in each style, and a line feed. Returns whether the printer claims a custom section.
+fn write_each_style<P: Print>(printer: &mut P) -> io::Result<bool> {
     printer.start_line(Some(8));
     printer.start_name()?;
     printer.write_str("n")?;
@@ -121,29 +91,28 @@ fn writes_the_sequences_of_each_style(rt: HostRuntime) -> Result<(), Fail> {
     printer.write_str("k")?;
     printer.start_type()?;
     printer.write_str("t")?;
-    assert!(rt; !printer.print_custom_section("name", 8, &[0])?);
+    let is_claimed = printer.print_custom_section("name", 8, &[0])?;
     printer.start_comment()?;
     printer.write_str("c")?;
     printer.start_line(None);
     printer.reset_color()?;
     printer.write_str("")?;
     printer.newline()?;
-    let wanted =
-        "\x1b[0m\x1b[35mn\x1b[0m\x1b[31ml\x1b[0m\x1b[1m\x1b[38;5;11mk\x1b[0m\x1b[1m\x1b[38;5;10mt\x1b[0m\x1b[36mc\x1b[0m\n";
-    assert!(rt; printer.0.into_inner().as_slice() == wanted.as_bytes());
+    Ok(is_claimed)
+}
+
+#[test]
+fn writes_the_sequences_of_each_style(rt: HostRuntime) -> Result<(), Fail> {
+    let mut printer = PrintTermcolor(Ansi::new(Vec::new(rt.alloc())));
+    assert!(rt; !write_each_style(&mut printer)?);
+    assert!(rt; printer.0.into_inner().as_slice() == STYLES.as_bytes());
     Ok(())
 }
 
 #[test]
 fn writes_no_sequence_without_colors(rt: HostRuntime) -> Result<(), Fail> {
     let mut printer = PrintTermcolor(NoColor::new(Vec::new(rt.alloc())));
-    printer.start_line(Some(8));
-    printer.start_name()?;
-    printer.start_literal()?;
-    printer.start_keyword()?;
-    printer.start_type()?;
-    printer.start_comment()?;
-    assert!(rt; !printer.print_custom_section("name", 8, &[0])?);
+    assert!(rt; !make_calls_without_text(&mut printer)?);
     printer.write_str("a\u{e9}")?;
     printer.reset_color()?;
     printer.newline()?;
@@ -151,36 +120,52 @@ fn writes_no_sequence_without_colors(rt: HostRuntime) -> Result<(), Fail> {
     Ok(())
 }
 
+/// Looks, each with its sequences: a color, and whether the text is bold and intense.
+const LOOKS: &[(Option<Color>, bool, bool, &str)] = &[
+    (None, false, false, "\x1b[0m"),
+    (None, true, false, "\x1b[0m\x1b[1m"),
+    (None, false, true, "\x1b[0m"),
+    (None, true, true, "\x1b[0m\x1b[1m"),
+    (Some(Color::Red), false, false, "\x1b[0m\x1b[31m"),
+    (Some(Color::Green), false, false, "\x1b[0m\x1b[32m"),
+    (Some(Color::Yellow), false, false, "\x1b[0m\x1b[33m"),
+    (Some(Color::Magenta), false, false, "\x1b[0m\x1b[35m"),
+    (Some(Color::Cyan), false, false, "\x1b[0m\x1b[36m"),
+    (Some(Color::Red), true, false, "\x1b[0m\x1b[1m\x1b[31m"),
+    (Some(Color::Red), false, true, "\x1b[0m\x1b[38;5;9m"),
+    (Some(Color::Green), false, true, "\x1b[0m\x1b[38;5;10m"),
+    (
+        Some(Color::Yellow),
+        true,
+        true,
+        "\x1b[0m\x1b[1m\x1b[38;5;11m",
+    ),
+    (Some(Color::Magenta), false, true, "\x1b[0m\x1b[38;5;13m"),
+    (Some(Color::Cyan), true, true, "\x1b[0m\x1b[1m\x1b[38;5;14m"),
+];
+
+/// Returns the bytes that a writer with colors writes for a look.
+fn sequences_of(
+    alloc: Global,
+    fg: Option<Color>,
+    bold: bool,
+    intense: bool,
+) -> io::Result<Vec<u8>> {
+    let mut spec = ColorSpec::new();
+    spec.set_fg(fg).set_bold(bold).set_intense(intense);
+    let mut writer = Ansi::new(Vec::new(alloc));
+    writer.set_color(&spec)?;
+    Ok(writer.into_inner())
+}
+
 #[test]
 fn writes_the_sequences_of_each_color(rt: HostRuntime) -> Result<(), Fail> {
-    let looks = [
-        (None, false, false, "\x1b[0m"),
-        (None, true, false, "\x1b[0m\x1b[1m"),
-        (None, false, true, "\x1b[0m"),
-        (None, true, true, "\x1b[0m\x1b[1m"),
-        (Some(Color::Red), false, false, "\x1b[0m\x1b[31m"),
-        (Some(Color::Green), false, false, "\x1b[0m\x1b[32m"),
-        (Some(Color::Yellow), false, false, "\x1b[0m\x1b[33m"),
-        (Some(Color::Magenta), false, false, "\x1b[0m\x1b[35m"),
-        (Some(Color::Cyan), false, false, "\x1b[0m\x1b[36m"),
-        (Some(Color::Red), true, false, "\x1b[0m\x1b[1m\x1b[31m"),
-        (Some(Color::Red), false, true, "\x1b[0m\x1b[38;5;9m"),
-        (Some(Color::Green), false, true, "\x1b[0m\x1b[38;5;10m"),
-        (
-            Some(Color::Yellow),
-            true,
-            true,
-            "\x1b[0m\x1b[1m\x1b[38;5;11m",
-        ),
-        (Some(Color::Magenta), false, true, "\x1b[0m\x1b[38;5;13m"),
-        (Some(Color::Cyan), true, true, "\x1b[0m\x1b[1m\x1b[38;5;14m"),
-    ];
-    for (fg, bold, intense, wanted) in looks {
-        let mut spec = ColorSpec::new();
-        spec.set_fg(fg).set_bold(bold).set_intense(intense);
-        let mut writer = Ansi::new(Vec::new(rt.alloc()));
-        writer.set_color(&spec)?;
-        assert!(rt; writer.into_inner().as_slice() == wanted.as_bytes());
+    for (fg, bold, intense, wanted) in LOOKS {
+        let sequences = sequences_of(rt.alloc(), *fg, *bold, *intense)?;
+        assert!(rt;
+            sequences.as_slice() == wanted.as_bytes(),
+            "{fg:?} {bold} {intense}"
+        );
     }
     Ok(())
 }
@@ -202,35 +187,28 @@ fn reports_whether_colors_can_be_written_as_text(rt: HostRuntime) {
     let alloc = rt.alloc();
     assert!(rt; PrintTermcolor(Ansi::new(Vec::new(alloc))).supports_async_color());
     assert!(rt; !PrintTermcolor(NoColor::new(Vec::new(alloc))).supports_async_color());
-    assert!(rt; !PrintTermcolor(Console).supports_async_color());
+    assert!(rt; !PrintTermcolor(Sink::new(alloc)).supports_async_color());
     let bytes: Vec<u8> = Vec::new(alloc);
     assert!(rt; !PrintIoWrite(bytes).supports_async_color());
 }
 
-#[test]
-fn passes_bytes_on_as_they_are(rt: HostRuntime) -> Result<(), Fail> {
-    let alloc = rt.alloc();
-    let mut colored = Ansi::new(Scripted::new(alloc, 2));
-    assert!(rt; colored.write(b"\x1b[0mabc")? == 2);
-    colored.write_all(b"\x00\xff\n")?;
-    colored.flush()?;
-    assert!(rt; colored.into_inner().bytes.as_slice() == b"\x1b[\x00\xff\n".as_slice());
-    let mut plain = NoColor::new(Scripted::new(alloc, 2));
-    assert!(rt; plain.write(b"\x1b[0mabc")? == 2);
-    plain.write_all(b"\x00\xff\n")?;
-    plain.flush()?;
-    assert!(rt; plain.into_inner().bytes.as_slice() == b"\x1b[\x00\xff\n".as_slice());
-    Ok(())
+/// Writes bytes like those of a sequence, at most as many as the writer accepts at once, and other bytes. Returns the
+/// number of bytes that the first call accepted.
+fn write_raw<W: Write>(writer: &mut W) -> io::Result<usize> {
+    let taken = writer.write(b"\x1b[0mabc")?;
+    writer.write_all(b"\x00\xff\n")?;
+    writer.flush()?;
+    Ok(taken)
 }
 
 #[test]
-fn prints_the_same_to_a_writer_that_takes_one_byte(rt: HostRuntime) -> Result<(), Fail> {
-    let alloc = rt.alloc();
-    let colored = print_colors_to(alloc, &PREAMBLE, Ansi::new(Scripted::new(alloc, 1)))?;
-    assert!(rt; colored.into_inner().bytes.as_slice() == EMPTY_COLORED.as_bytes());
-    let uncolored = print_colors_to(alloc, &IDENTITY, NoColor::new(Scripted::new(alloc, 1)))?;
-    assert!(rt; uncolored.into_inner().bytes.as_slice() == IDENTITY_TEXT.as_bytes());
-    let plain = print_bytes_to(alloc, &IDENTITY, Scripted::new(alloc, 1))?;
-    assert!(rt; plain.bytes.as_slice() == IDENTITY_TEXT.as_bytes());
+fn passes_bytes_on_as_they_are(rt: HostRuntime) -> Result<(), Fail> {
+    let wanted = b"\x1b[\x00\xff\n".as_slice();
+    let mut colored = Ansi::new(Scripted::new(rt.alloc(), 2));
+    assert!(rt; write_raw(&mut colored)? == 2);
+    assert!(rt; colored.into_inner().bytes.as_slice() == wanted);
+    let mut plain = NoColor::new(Scripted::new(rt.alloc(), 2));
+    assert!(rt; write_raw(&mut plain)? == 2);
+    assert!(rt; plain.into_inner().bytes.as_slice() == wanted);
     Ok(())
 }

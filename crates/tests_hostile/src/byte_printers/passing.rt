@@ -1,7 +1,8 @@
 //! Writers over other writers. They forward each call once and unchanged, and return its result.
 
 use crate::byte_printers::scripted::{Asked, Scripted};
-use std::alloc::Global;
+use crate::layout::KINDS;
+use std::alloc::{AllocError, Global};
 use std::io;
 use std::io::{ErrorKind, Write};
 use std::test::Fail;
@@ -49,6 +50,55 @@ impl Way {
             Way::Uncolored => NoColor::new(writer).flush(),
         }
     }
+
+    /// Reports whether a whole piece is forwarded in one write, and in none if the piece is empty.
+    fn passes_whole(self, alloc: Global, piece: &[u8]) -> io::Result<bool> {
+        let mut writer = writer_that_takes(alloc);
+        self.write_all(&mut writer, piece)?;
+        Ok(if piece.is_empty() {
+            writer.calls.is_empty()
+        } else {
+            has_taken(&writer, Asked::Write(piece.len()), piece)
+        })
+    }
+
+    /// Reports whether one `write` call forwards a piece once, and returns the number of bytes that the writer
+    /// accepts, which are at most this many.
+    fn passes_part(self, alloc: Global, piece: &[u8], most: usize) -> io::Result<bool> {
+        let mut writer = Scripted::new(alloc, most);
+        let taken = self.write(&mut writer, piece)?;
+        let wanted = piece.len().min(most);
+        Ok(taken == wanted && has_taken(&writer, Asked::Write(piece.len()), &piece[..wanted]))
+    }
+
+    /// Reports whether a whole piece is forwarded once, and the error of the writer is returned.
+    fn refuses_whole(self, alloc: Global, piece: &[u8], kind: ErrorKind) -> bool {
+        let mut writer = writer_that_refuses(alloc, kind);
+        let refused = self.write_all(&mut writer, piece);
+        matches!(refused, Err(e) if e.kind() == kind)
+            && has_taken(&writer, Asked::Write(piece.len()), b"")
+    }
+
+    /// Reports whether one `write` call forwards a piece once, and returns the error of the writer.
+    fn refuses_part(self, alloc: Global, piece: &[u8], kind: ErrorKind) -> bool {
+        let mut writer = writer_that_refuses(alloc, kind);
+        let refused = self.write(&mut writer, piece);
+        matches!(refused, Err(e) if e.kind() == kind)
+            && has_taken(&writer, Asked::Write(piece.len()), b"")
+    }
+
+    /// Reports whether a flush is forwarded once.
+    fn passes_flush(self, alloc: Global) -> bool {
+        let mut writer = writer_that_takes(alloc);
+        self.flush(&mut writer).is_ok() && has_taken(&writer, Asked::Flush, b"")
+    }
+
+    /// Reports whether a flush is forwarded once, and the error of the writer is returned.
+    fn refuses_flush(self, alloc: Global, kind: ErrorKind) -> bool {
+        let mut writer = writer_that_refuses(alloc, kind);
+        let refused = self.flush(&mut writer);
+        matches!(refused, Err(e) if e.kind() == kind) && has_taken(&writer, Asked::Flush, b"")
+    }
 }
 
 /// Reports whether the writer received only this call and holds exactly these bytes.
@@ -67,42 +117,18 @@ fn writer_that_refuses(alloc: Global, kind: ErrorKind) -> Scripted {
 }
 
 #[test]
-fn hands_on_a_piece_of_each_length_whole(rt: HostRuntime) -> Result<(), Fail> {
-    for way in WAYS {
-        for len in 1..=LONGEST {
-            let piece = &PIECES[..len];
-            let mut writer = writer_that_takes(rt.alloc());
-            way.write_all(&mut writer, piece)?;
-            assert!(rt;
-                has_taken(&writer, Asked::Write(len), piece),
-                "{way:?}: {len} bytes"
-            );
-        }
-        let mut writer = writer_that_takes(rt.alloc());
-        way.write_all(&mut writer, b"")?;
-        assert!(rt; writer.calls.is_empty());
-    }
-    Ok(())
-}
-
-#[test]
-fn hands_on_a_part_of_a_piece_of_each_length(rt: HostRuntime) -> Result<(), Fail> {
+fn hands_on_a_piece_of_each_length(rt: HostRuntime) -> Result<(), Fail> {
+    let alloc = rt.alloc();
     for way in WAYS {
         for len in 0..=LONGEST {
             let piece = &PIECES[..len];
-            let mut writer = writer_that_takes(rt.alloc());
-            assert!(rt; way.write(&mut writer, piece)? == len);
-            assert!(rt;
-                has_taken(&writer, Asked::Write(len), piece),
-                "{way:?}: {len} bytes"
-            );
-            let half = len / 2;
-            let mut writer = Scripted::new(rt.alloc(), half);
-            assert!(rt; way.write(&mut writer, piece)? == half);
-            assert!(rt;
-                has_taken(&writer, Asked::Write(len), &piece[..half]),
-                "{way:?}: {len} bytes"
-            );
+            assert!(rt; way.passes_whole(alloc, piece)?, "{way:?}: {len} bytes");
+            for most in [usize::MAX, len / 2] {
+                assert!(rt;
+                    way.passes_part(alloc, piece, most)?,
+                    "{way:?}: {len} bytes"
+                );
+            }
         }
     }
     Ok(())
@@ -110,27 +136,13 @@ fn hands_on_a_part_of_a_piece_of_each_length(rt: HostRuntime) -> Result<(), Fail
 
 #[test]
 fn answers_the_error_of_the_writer_for_a_piece_of_each_length(rt: HostRuntime) {
+    let alloc = rt.alloc();
     for way in WAYS {
         for len in 1..=LONGEST {
-            for kind in [ErrorKind::BrokenPipe, ErrorKind::StorageFull] {
-                let mut writer = writer_that_refuses(rt.alloc(), kind);
-                let refused = way.write_all(&mut writer, &PIECES[..len]);
+            let piece = &PIECES[..len];
+            for kind in KINDS {
                 assert!(rt;
-                    matches!(refused, Err(e) if e.kind() == kind),
-                    "{way:?}: {len} bytes"
-                );
-                assert!(rt;
-                    has_taken(&writer, Asked::Write(len), b""),
-                    "{way:?}: {len} bytes"
-                );
-                let mut writer = writer_that_refuses(rt.alloc(), kind);
-                let refused = way.write(&mut writer, &PIECES[..len]);
-                assert!(rt;
-                    matches!(refused, Err(e) if e.kind() == kind),
-                    "{way:?}: {len} bytes"
-                );
-                assert!(rt;
-                    has_taken(&writer, Asked::Write(len), b""),
+                    way.refuses_whole(alloc, piece, kind) && way.refuses_part(alloc, piece, kind),
                     "{way:?}: {len} bytes"
                 );
             }
@@ -139,42 +151,35 @@ fn answers_the_error_of_the_writer_for_a_piece_of_each_length(rt: HostRuntime) {
 }
 
 #[test]
-fn flushes_the_writer_and_answers_as_it_does(rt: HostRuntime) -> Result<(), Fail> {
+fn flushes_the_writer_and_answers_as_it_does(rt: HostRuntime) {
     for way in WAYS {
-        let mut writer = writer_that_takes(rt.alloc());
-        way.flush(&mut writer)?;
-        assert!(rt; has_taken(&writer, Asked::Flush, b""), "{way:?}");
-        let mut writer = writer_that_refuses(rt.alloc(), ErrorKind::BrokenPipe);
-        let refused = way.flush(&mut writer);
+        assert!(rt; way.passes_flush(rt.alloc()), "{way:?}");
         assert!(rt;
-            matches!(refused, Err(e) if e.kind() == ErrorKind::BrokenPipe),
+            way.refuses_flush(rt.alloc(), ErrorKind::BrokenPipe),
             "{way:?}"
         );
-        assert!(rt; has_taken(&writer, Asked::Flush, b""), "{way:?}");
     }
-    Ok(())
+}
+
+/// Returns a piece of 300,000 bytes.
+fn long_piece(alloc: Global) -> Result<Vec<u8>, AllocError> {
+    let mut piece = Vec::new(alloc);
+    for _ in 0..1_000 {
+        piece.extend_from_slice(&PIECES)?;
+    }
+    Ok(piece)
 }
 
 #[test]
 fn hands_on_a_long_piece_whole(rt: HostRuntime) -> Result<(), Fail> {
-    let mut piece = Vec::new(rt.alloc());
-    for _ in 0..1_000 {
-        piece.extend_from_slice(&PIECES)?;
-    }
+    let piece = long_piece(rt.alloc())?;
     for way in WAYS {
-        let mut writer = writer_that_takes(rt.alloc());
-        way.write_all(&mut writer, &piece)?;
+        assert!(rt; way.passes_whole(rt.alloc(), &piece)?, "{way:?}");
         assert!(rt;
-            has_taken(&writer, Asked::Write(300_000), &piece),
+            way.refuses_whole(rt.alloc(), &piece, ErrorKind::BrokenPipe),
             "{way:?}"
         );
-        let mut writer = writer_that_refuses(rt.alloc(), ErrorKind::BrokenPipe);
-        let refused = way.write_all(&mut writer, &piece);
-        assert!(rt;
-            matches!(refused, Err(e) if e.kind() == ErrorKind::BrokenPipe),
-            "{way:?}"
-        );
-        assert!(rt; has_taken(&writer, Asked::Write(300_000), b""), "{way:?}");
     }
+    assert_eq!(rt; piece.len(), 300_000);
     Ok(())
 }

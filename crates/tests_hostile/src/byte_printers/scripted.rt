@@ -1,20 +1,8 @@
-//! A byte writer that records each call and can be set to fail one; and a function that prints to any printer.
+//! A byte writer that records each call and can be set to fail one.
 
 use std::alloc::Global;
 use std::io;
 use std::io::{ErrorKind, Write};
-use wasmprinter::{Config, Error, Print};
-
-/// Prints a module to any printer. The function has no contract, so the prover need not evaluate the contract of
-/// `print` for each caller's printer.
-pub fn print_to<P: Print>(
-    config: &Config,
-    alloc: Global,
-    wasm: &[u8],
-    printer: &mut P,
-) -> Result<(), Error> {
-    config.print(alloc, wasm, printer)
-}
 
 /// A call on the writer.
 #[derive(Clone, Copy, Debug, PartialEq, Eq)]

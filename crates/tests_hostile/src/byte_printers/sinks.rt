@@ -2,24 +2,25 @@
 //! module. The sinks keep each write separate. No contract specifies how a text is split into writes.
 ghost use Rattle.std.specs.Prelude.{true};
 
-use crate::byte_printers::scripted::print_to;
+use crate::byte_printers::writers::TextWriter;
 use std::alloc::Global;
+use std::io;
 use std::io::Write;
 use std::test::Fail;
-use std::{fmt, io};
 use wasmprinter::print::{Color, ColorSpec, WriteColor};
 use wasmprinter::text::{write_bytes, write_quoted};
 use wasmprinter::{Config, Error, Print, PrintFmtWrite, PrintIoWrite, PrintTermcolor};
+use wasmprinter_expecting::print_to;
 use wasmprinter_samples::IDENTITY;
 
 /// A writer that accepts everything. It records each write with a bar after it, and each color in braces.
 #[derive(Drop)]
-struct Sink {
+pub struct Sink {
     calls: Vec<u8>,
 }
 
 impl Sink {
-    fn new(alloc: Global) -> Sink {
+    pub fn new(alloc: Global) -> Sink {
         Sink {
             calls: Vec::new(alloc),
         }
@@ -35,28 +36,6 @@ impl Write for Sink {
 
     fn flush(&mut self) -> io::Result<()> {
         self.calls.extend_from_slice(b"{flush}")?;
-        Ok(())
-    }
-}
-
-/// A text writer that records each write with a bar after it.
-#[derive(Drop)]
-struct TextSink {
-    calls: String,
-}
-
-impl TextSink {
-    fn new(alloc: Global) -> TextSink {
-        TextSink {
-            calls: String::new(alloc),
-        }
-    }
-}
-
-impl fmt::Write for TextSink {
-    fn write_str(&mut self, s: &str) -> fmt::Result {
-        self.calls.push_str(s)?;
-        self.calls.push('|')?;
         Ok(())
     }
 }
@@ -120,16 +99,37 @@ fn print_input_to<P: Print>(alloc: Global, input: Input, printer: &mut P) -> Res
     }
 }
 
-/// Inputs with the writes of a printer over a byte writer. It makes no write for the empty indent of the last line.
-const IN_BYTES: [(Input, &str); 3] = [
-    (
-        Input::Quoted,
-        r#""|a|b|\u{|e|9|}|\u{|2|2|}|\u{|a|}|\u{|1|f|6|0|0|}|c|"|"#,
-    ),
-    (Input::Bytes, r#""|a|b|\|1|f|\|2|2|\|f|f|c|"|"#),
-    (
-        Input::Module,
-        r#"(|module|
+/// An input, and the writes of each printer.
+struct Row {
+    name: &'static str,
+    input: Input,
+    /// The writes of a printer over a byte writer. It makes no write for the empty indent of the last line.
+    bytes: &'static str,
+    /// The writes of a printer over a text writer. It makes an empty write for the empty indent of the last line.
+    text: &'static str,
+    /// The writes and colors of a printer over a writer that supports colors.
+    colors: &'static str,
+}
+
+const ROWS: &[Row] = &[
+    Row {
+        name: "a quoted string",
+        input: Input::Quoted,
+        bytes: r#""|a|b|\u{|e|9|}|\u{|2|2|}|\u{|a|}|\u{|1|f|6|0|0|}|c|"|"#,
+        text: r#""|a|b|\u{|e|9|}|\u{|2|2|}|\u{|a|}|\u{|1|f|6|0|0|}|c|"|"#,
+        colors: r#"{red}"|a|b|\u{|e|9|}|\u{|2|2|}|\u{|a|}|\u{|1|f|6|0|0|}|c|"|{reset}"#,
+    },
+    Row {
+        name: "bytes",
+        input: Input::Bytes,
+        bytes: r#""|a|b|\|1|f|\|2|2|\|f|f|c|"|"#,
+        text: r#""|a|b|\|1|f|\|2|2|\|f|f|c|"|"#,
+        colors: r#"{red}"|a|b|\|1|f|\|2|2|\|f|f|c|"|{reset}"#,
+    },
+    Row {
+        name: "a module",
+        input: Input::Module,
+        bytes: r#"(|module|
 |  |(|type| |(;|0|;)| |(|func| |(|param| |i32|)| |(|result| |i32|)|)|)|
 |  |(|export| |"|f|"| |(|func| |0|)|)|
 |  |(|func| |(;|0|;)| |(|type| |0|)| |(|param| |i32|)| |(|result| |i32|)|
@@ -137,20 +137,7 @@ const IN_BYTES: [(Input, &str); 3] = [
 |  |)|
 |)|
 |"#,
-    ),
-];
-
-/// Inputs with the writes of a printer over a text writer. It makes an empty write for the empty indent of the
-/// last line.
-const IN_TEXT: [(Input, &str); 3] = [
-    (
-        Input::Quoted,
-        r#""|a|b|\u{|e|9|}|\u{|2|2|}|\u{|a|}|\u{|1|f|6|0|0|}|c|"|"#,
-    ),
-    (Input::Bytes, r#""|a|b|\|1|f|\|2|2|\|f|f|c|"|"#),
-    (
-        Input::Module,
-        r#"(|module|
+        text: r#"(|module|
 |  |(|type| |(;|0|;)| |(|func| |(|param| |i32|)| |(|result| |i32|)|)|)|
 |  |(|export| |"|f|"| |(|func| |0|)|)|
 |  |(|func| |(;|0|;)| |(|type| |0|)| |(|param| |i32|)| |(|result| |i32|)|
@@ -158,72 +145,48 @@ const IN_TEXT: [(Input, &str); 3] = [
 |  |)|
 ||)|
 |"#,
-    ),
-];
-
-/// Inputs with the writes and colors of a printer over a writer that supports colors.
-const IN_COLORS: [(Input, &str); 3] = [
-    (
-        Input::Quoted,
-        r#"{red}"|a|b|\u{|e|9|}|\u{|2|2|}|\u{|a|}|\u{|1|f|6|0|0|}|c|"|{reset}"#,
-    ),
-    (Input::Bytes, r#"{red}"|a|b|\|1|f|\|2|2|\|f|f|c|"|{reset}"#),
-    (
-        Input::Module,
-        "(|{yellow!}module|{reset}\n|  |\
+        colors: "(|{yellow!}module|{reset}\n|  |\
 (|{yellow!}type| |{reset}{magenta}(;|0|;)|{reset} |(|{yellow!}func|{reset} |\
 (|{yellow!}param|{reset} |{green!}i32|{reset})| |(|{yellow!}result|{reset} |{green!}i32|{reset})|)|)|\n|  |\
 (|{yellow!}export| |{reset}{red}\"|f|\"|{reset} |(|{yellow!}func| |{reset}{magenta}0|{reset})|)|\n|  |\
 (|{yellow!}func| |{reset}{magenta}(;|0|;)|{reset} |(|{yellow!}type| |{reset}{magenta}0|{reset})| |\
 (|{yellow!}param|{reset} |{green!}i32|{reset})| |(|{yellow!}result|{reset} |{green!}i32|{reset})|\n|    |\
 local.get| |{magenta}0|{reset}\n|  |)|\n|)|\n|",
-    ),
+    },
 ];
 
-/// Returns the writes on a byte writer.
-fn writes_of_bytes(alloc: Global, input: Input) -> Result<Sink, Error> {
+/// Reports whether a printer over a byte writer makes these writes.
+fn writes_bytes(alloc: Global, input: Input, wanted: &str) -> Result<bool, Error> {
     let mut printer = PrintIoWrite(Sink::new(alloc));
     print_input_to(alloc, input, &mut printer)?;
-    Ok(printer.0)
+    Ok(printer.0.calls.as_slice() == wanted.as_bytes())
 }
 
-/// Returns the writes on a text writer.
-fn writes_of_text(alloc: Global, input: Input) -> Result<TextSink, Error> {
-    let mut printer = PrintFmtWrite(TextSink::new(alloc));
+/// Reports whether a printer over a text writer makes these writes.
+fn writes_text(alloc: Global, input: Input, wanted: &str) -> Result<bool, Error> {
+    let mut printer = PrintFmtWrite(TextWriter::with_bars(alloc));
     print_input_to(alloc, input, &mut printer)?;
-    Ok(printer.0)
+    Ok(printer.0.text.as_str() == wanted)
 }
 
-/// Returns the writes and colors on a writer that supports colors.
-fn writes_with_colors(alloc: Global, input: Input) -> Result<Sink, Error> {
+/// Reports whether a printer over a writer that supports colors makes these writes and sets these colors.
+fn writes_colors(alloc: Global, input: Input, wanted: &str) -> Result<bool, Error> {
     let mut printer = PrintTermcolor(Sink::new(alloc));
     print_input_to(alloc, input, &mut printer)?;
-    Ok(printer.0)
+    Ok(printer.0.calls.as_slice() == wanted.as_bytes())
 }
 
 #[test]
-fn asks_a_writer_of_bytes_for_each_piece(rt: HostRuntime) -> Result<(), Fail> {
-    for (input, wanted) in IN_BYTES {
-        let sink = writes_of_bytes(rt.alloc(), input)?;
-        assert!(rt; sink.calls.as_slice() == wanted.as_bytes(), "{input:?}");
-    }
-    Ok(())
-}
-
-#[test]
-fn asks_a_writer_of_text_for_each_piece(rt: HostRuntime) -> Result<(), Fail> {
-    for (input, wanted) in IN_TEXT {
-        let sink = writes_of_text(rt.alloc(), input)?;
-        assert!(rt; sink.calls.as_str() == wanted, "{input:?}");
-    }
-    Ok(())
-}
-
-#[test]
-fn asks_a_writer_with_colors_for_each_piece_and_color(rt: HostRuntime) -> Result<(), Fail> {
-    for (input, wanted) in IN_COLORS {
-        let sink = writes_with_colors(rt.alloc(), input)?;
-        assert!(rt; sink.calls.as_slice() == wanted.as_bytes(), "{input:?}");
+fn asks_a_writer_for_each_piece_and_color(rt: HostRuntime) -> Result<(), Fail> {
+    let alloc = rt.alloc();
+    for row in ROWS {
+        let name = row.name;
+        assert!(rt; writes_bytes(alloc, row.input, row.bytes)?, "{name}: bytes");
+        assert!(rt; writes_text(alloc, row.input, row.text)?, "{name}: text");
+        assert!(rt;
+            writes_colors(alloc, row.input, row.colors)?,
+            "{name}: colors"
+        );
     }
     Ok(())
 }
