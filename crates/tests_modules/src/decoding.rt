@@ -1,13 +1,14 @@
 //! Tests of decoded modules: functions, bodies, operators, locals, types and exports.
 
-use std::alloc::{AllocError, Global};
+use crate::limits::{MODULE_OF_MOST_FUNCTIONS, MOST_FUNCTIONS};
+use crate::rows::Part::Bytes;
+use crate::rows::{Parts, build};
 use std::test::Fail;
-use wasmprinter::Error;
 use wasmprinter::wasm::{
     BlockType, Body, Catch, Immediates, Module, Opcode, Operator, OperatorsReader, ValType, decode,
 };
 use wasmprinter_ops::opcode::Listed;
-use wasmprinter_samples::{CONTROL, EVERYTHING, PREAMBLE, expect_text};
+use wasmprinter_samples::{CONTROL, EVERYTHING, PREAMBLE};
 use wasmprinter_wasm::{BodyParts, Export, ExternKind, Fields, LocalEntry, TypeGroup};
 
 /// The expected immediates of an operator, with lists as slices.
@@ -138,22 +139,25 @@ fn has_functions(module: &Module<'_>, count: u32) -> bool {
         && module.body(u32::MAX).is_none()
 }
 
-/// Reports whether the bytes are decoded as a module that defines `count` functions.
-pub fn counts_functions(alloc: Global, wasm: &[u8], count: u32) -> Result<bool, Error> {
-    let module = decode(alloc, wasm)?;
-    Ok(has_functions(&module, count))
-}
+/// Modules, each with the number of functions that it defines.
+const COUNTS: [(&str, Parts, u32); 3] = [
+    ("no functions", &[Bytes(&PREAMBLE)], 0),
+    ("two functions", &[Bytes(&EVERYTHING)], 2),
+    (
+        "a million functions",
+        MODULE_OF_MOST_FUNCTIONS,
+        MOST_FUNCTIONS,
+    ),
+];
 
 #[test]
 fn counts_the_functions_that_are_defined(rt: HostRuntime) -> Result<(), Fail> {
-    assert!(rt; counts_functions(rt.alloc(), &PREAMBLE, 0)?);
-    assert!(rt; counts_functions(rt.alloc(), &EVERYTHING, 2)?);
+    for (name, parts, count) in COUNTS {
+        let wasm = build(rt.alloc(), parts)?;
+        let module = decode(rt.alloc(), &wasm)?;
+        assert!(rt; has_functions(&module, count), "{name}");
+    }
     Ok(())
-}
-
-/// Reports whether a fresh reader over a body returns exactly these operators.
-fn has_operators(body: &Body<'_>, rows: &[Row]) -> bool {
-    difference(body.operators(), rows).is_none()
 }
 
 /// Reports whether the first body of `EVERYTHING` has no operators, and each reader over the second starts at the
@@ -165,53 +169,26 @@ fn has_bodies(module: &Module<'_>) -> bool {
     let Some(second) = module.body(1) else {
         return false;
     };
-    has_operators(&first, &[])
-        && has_operators(&second, &OPERATORS)
-        && has_operators(&second, &OPERATORS)
+    difference(first.operators(), &[]).is_none()
+        && difference(second.operators(), &OPERATORS).is_none()
+        && difference(second.operators(), &OPERATORS).is_none()
         && difference(second.operators(), &OPERATORS[..6]) == Some(0x44)
+}
+
+/// Reports whether the body of `CONTROL` has its operators and the right end.
+fn has_blocks(module: &Module<'_>) -> bool {
+    match module.body(0) {
+        Some(body) => difference(body.operators(), &BLOCKS).is_none() && body.end() == 0x54,
+        None => false,
+    }
 }
 
 #[test]
 fn walks_over_operators(rt: HostRuntime) -> Result<(), Fail> {
     let module = decode(rt.alloc(), &EVERYTHING)?;
     assert!(rt; has_bodies(&module));
-    Ok(())
-}
-
-/// Reports whether the body of `CONTROL` has its operators and the right end.
-fn has_blocks(module: &Module<'_>) -> bool {
-    match module.body(0) {
-        Some(body) => has_operators(&body, &BLOCKS) && body.end() == 0x54,
-        None => false,
-    }
-}
-
-#[test]
-fn walks_over_blocks(rt: HostRuntime) -> Result<(), Fail> {
     let module = decode(rt.alloc(), &CONTROL)?;
     assert!(rt; has_blocks(&module));
-    Ok(())
-}
-
-/// Opcodes that are not in the table of operators.
-const NOT_LISTED: [(u8, u32); 10] = [
-    (0, 0x27),
-    (0, 0x100),
-    (0, u32::MAX),
-    (0xfc, 18),
-    (0xfc, 0x100),
-    (0xfb, 31),
-    (0xfd, 154),
-    (0xfd, 0x1_0000),
-    (0xfe, 0x04),
-    (0xff, 0x00),
-];
-
-#[test]
-fn has_no_words_for_opcodes_that_are_not_listed(rt: HostRuntime) -> Result<(), Fail> {
-    for (prefix, number) in NOT_LISTED {
-        expect_text(Opcode { prefix, number }.word(), "")?;
-    }
     Ok(())
 }
 
@@ -242,13 +219,6 @@ fn are_exports(exports: &[Export<'_>]) -> bool {
 /// Reports whether the module has the size, the types and the exports of `EVERYTHING`.
 fn has_types_and_exports(module: &Module<'_>) -> bool {
     module.size() == 70 && are_types(module.types()) && are_exports(module.exports())
-}
-
-#[test]
-fn gives_out_types_and_exports(rt: HostRuntime) -> Result<(), Fail> {
-    let module = decode(rt.alloc(), &EVERYTHING)?;
-    assert!(rt; has_types_and_exports(&module));
-    Ok(())
 }
 
 /// Reports whether there is a group of locals with this place, count and type.
@@ -287,9 +257,35 @@ fn has_first_function(module: &Module<'_>) -> bool {
 }
 
 #[test]
-fn gives_out_what_a_body_holds(rt: HostRuntime) -> Result<(), Fail> {
+fn gives_out_types_exports_and_bodies(rt: HostRuntime) -> Result<(), Fail> {
     let module = decode(rt.alloc(), &EVERYTHING)?;
+    assert!(rt; has_types_and_exports(&module));
     assert!(rt; has_second_body(&module) && has_first_function(&module));
+    Ok(())
+}
+
+// ---- opcodes
+
+/// Opcodes that are not in the table of operators.
+const NOT_LISTED: [(u8, u32); 10] = [
+    (0, 0x27),
+    (0, 0x100),
+    (0, u32::MAX),
+    (0xfc, 18),
+    (0xfc, 0x100),
+    (0xfb, 31),
+    (0xfd, 154),
+    (0xfd, 0x1_0000),
+    (0xfe, 0x04),
+    (0xff, 0x00),
+];
+
+#[test]
+fn gives_no_words_to_opcodes_that_are_not_listed(rt: HostRuntime) -> Result<(), Fail> {
+    for (prefix, number) in NOT_LISTED {
+        let word = Opcode { prefix, number }.word();
+        assert!(rt; word.is_empty(), "{prefix:#x} {number:#x}: {word}");
+    }
     Ok(())
 }
 
@@ -305,17 +301,12 @@ const SHAPES: [(u32, &str); 8] = [
     (0x27, "None"),
 ];
 
-/// Reports whether the shape of an opcode's immediates has this debug text.
-fn shows_shape(alloc: Global, number: u32, shape: &str) -> Result<bool, AllocError> {
-    let found = Opcode { prefix: 0, number }.shape();
-    let shown = format!(in alloc; "{found:?}")?;
-    Ok(shown.as_str() == shape)
-}
-
 #[test]
 fn gives_shapes_to_listed_opcodes(rt: HostRuntime) -> Result<(), Fail> {
     for (number, shape) in SHAPES {
-        assert!(rt; shows_shape(rt.alloc(), number, shape)?, "at {number:#x}");
+        let found = Opcode { prefix: 0, number }.shape();
+        let shown = format!(in rt.alloc(); "{found:?}")?;
+        assert!(rt; shown.as_str() == shape, "at {number:#x}: {shown}");
     }
     Ok(())
 }

@@ -1,57 +1,33 @@
 //! Tests of branch hints (Code Metadata): each is on a line of its own, directly before its operator.
 
-use crate::printing::{expect_calls, expect_printed};
-use std::alloc::{AllocError, Global};
+use crate::rows::Expected::Text;
+use crate::rows::Part::{Bytes, Custom, Section};
+use crate::rows::{CallsRow, Part, Parts, Row, build, expect_calls_of, expect_rows};
 use std::test::Fail;
-use wasmprinter::{Config, print_bytes};
-use wasmprinter_samples::sections::{CODE, add_custom, add_section};
-use wasmprinter_samples::{PREAMBLE, Recorder, expect_text};
+use wasmprinter::Config;
+use wasmprinter_expecting::{expect_printed, expect_printed_by};
+use wasmprinter_samples::PREAMBLE;
+use wasmprinter_samples::sections::{CODE, FUNCTION, IMPORT, TYPE};
 
 /// The name of a hint section.
 const HINTS: &str = "metadata.code.branch_hint";
 
-/// Sections, each with its id.
-type Sections = &'static [(u8, &'static [u8])];
+/// The section of a function type with one parameter.
+const ONE_PARAM: Part<'static> = Section(TYPE, &[0x01, 0x60, 0x01, 0x7f, 0x00]);
 
-/// Adds these sections, then a hint section and a code section.
-fn add_hinted(
-    alloc: Global,
-    wasm: &mut Vec<u8>,
-    sections: Sections,
-    data: &[u8],
-    code: &[u8],
-) -> Result<(), AllocError> {
-    for (id, content) in sections {
-        add_section(wasm, *id, content)?;
-    }
-    add_custom(alloc, wasm, HINTS, data)?;
-    add_section(wasm, CODE, code)
-}
+/// The section of a function type without parameters.
+const NO_PARAMS: Part<'static> = Section(TYPE, &[0x01, 0x60, 0x00, 0x00]);
 
-/// Returns a module of these sections, followed by a hint section and a code section.
-fn hinted(
-    alloc: Global,
-    sections: Sections,
-    data: &[u8],
-    code: &[u8],
-) -> Result<Vec<u8>, AllocError> {
-    let mut wasm = Vec::from_slice(alloc, &PREAMBLE)?;
-    add_hinted(alloc, &mut wasm, sections, data, code)?;
-    Ok(wasm)
-}
+/// The function section of one function.
+const ONE_FUNCTION: Part<'static> = Section(FUNCTION, &[0x01, 0x00]);
 
-/// A function type with one parameter, and a function of that type.
-const ONE_FUNCTION: Sections = &[(1, &[0x01, 0x60, 0x01, 0x7f, 0x00]), (3, &[0x01, 0x00])];
+/// The code section of a body that tests the parameter in an `if`.
+const ONE_BODY: Part<'static> = Section(
+    CODE,
+    &[0x01, 0x07, 0x00, 0x20, 0x00, 0x04, 0x40, 0x0b, 0x0b],
+);
 
-/// A body that tests the parameter in an `if`.
-const ONE_BODY: &[u8] = &[0x01, 0x07, 0x00, 0x20, 0x00, 0x04, 0x40, 0x0b, 0x0b];
-
-/// Returns a module with a function that tests its only parameter in an `if`, and a hint section with this data.
-fn module_with_hints(alloc: Global, data: &[u8]) -> Result<Vec<u8>, AllocError> {
-    hinted(alloc, ONE_FUNCTION, data, ONE_BODY)
-}
-
-/// The text of that module before its `if`.
+/// The text of a module of such a function before its `if`.
 const BEFORE: &str = r#"(module
   (type (;0;) (func (param i32)))
   (func (;0;) (type 0) (param i32)
@@ -59,26 +35,11 @@ const BEFORE: &str = r#"(module
 "#;
 
 /// The text of that module from its `if` on.
-const BEHIND: &str = r#"    if ;; label = @1
+const AFTER: &str = r#"    if ;; label = @1
     end
   )
 )
 "#;
-
-/// Checks that the text of that module has exactly this text before its `if`: the line of a hint, or nothing.
-fn expect_hint(alloc: Global, wasm: &[u8], line: &str) -> Result<(), Fail> {
-    let text = print_bytes(alloc, wasm)?;
-    let after = text.strip_prefix(BEFORE).ok_or("another beginning")?;
-    let found = after.strip_suffix(BEHIND).ok_or("another end")?;
-    expect_text(found, line)?;
-    Ok(())
-}
-
-/// Checks the same of the module whose hint section has this data.
-fn expect_hint_of(alloc: Global, data: &[u8], line: &str) -> Result<(), Fail> {
-    let wasm = module_with_hints(alloc, data)?;
-    expect_hint(alloc, &wasm, line)
-}
 
 /// The line of a hint that the branch is likely taken.
 const TAKEN: &str = "    (@metadata.code.branch_hint \"\\01\")\n";
@@ -86,37 +47,71 @@ const TAKEN: &str = "    (@metadata.code.branch_hint \"\\01\")\n";
 /// The line of a hint that the branch is likely not taken.
 const NOT_TAKEN: &str = "    (@metadata.code.branch_hint \"\\00\")\n";
 
-/// Data of hint sections, each with the line before the `if`. Hints are taken in order; a malformed section gives
-/// no hints.
-const ROWS: [(&[u8], &str); 9] = [
-    (&[0x01, 0x00, 0x01, 0x03, 0x01, 0x01], TAKEN),
-    (&[0x01, 0x00, 0x01, 0x03, 0x01, 0x00], NOT_TAKEN),
-    // A flag that is neither 0 nor 1
-    (&[0x01, 0x00, 0x01, 0x03, 0x01, 0x02], ""),
-    // The second hint has a lower offset than the first
+/// The data of a hint section with one hint: the branch of the `if` is likely taken.
+const LIKELY: [u8; 6] = [0x01, 0x00, 0x01, 0x03, 0x01, 0x01];
+
+/// Data of hint sections, each with the line before the `if`, or no line. Hints are taken in order; a malformed section
+/// gives no hints.
+const ROWS: [(&str, &[u8], &str); 9] = [
+    ("a branch that is likely taken", &LIKELY, TAKEN),
     (
+        "a branch that is likely not taken",
+        &[0x01, 0x00, 0x01, 0x03, 0x01, 0x00],
+        NOT_TAKEN,
+    ),
+    (
+        "a flag that is neither 0 nor 1",
+        &[0x01, 0x00, 0x01, 0x03, 0x01, 0x02],
+        "",
+    ),
+    (
+        "a second hint with a lower offset than the first",
         &[0x01, 0x00, 0x02, 0x03, 0x01, 0x01, 0x01, 0x01, 0x00],
         TAKEN,
     ),
-    // The first hint belongs to no operator, and so blocks the second
-    (&[0x01, 0x00, 0x02, 0x09, 0x01, 0x01, 0x03, 0x01, 0x01], ""),
-    // Two hints for one operator: the first counts
     (
+        "a first hint that belongs to no operator, and so blocks the second",
+        &[0x01, 0x00, 0x02, 0x09, 0x01, 0x01, 0x03, 0x01, 0x01],
+        "",
+    ),
+    (
+        "two hints for one operator: the first counts",
         &[0x01, 0x00, 0x02, 0x03, 0x01, 0x01, 0x03, 0x01, 0x00],
         TAKEN,
     ),
-    // The first hints are those of a function that does not exist
-    (&[0x02, 0x07, 0x00, 0x00, 0x01, 0x03, 0x01, 0x01], ""),
-    // A byte is left over
-    (&[0x01, 0x00, 0x01, 0x03, 0x01, 0x01, 0x00], ""),
-    // A hint for the last `end`, which has no line
-    (&[0x01, 0x00, 0x01, 0x06, 0x01, 0x01], ""),
+    (
+        "first the hints of a function that does not exist",
+        &[0x02, 0x07, 0x00, 0x00, 0x01, 0x03, 0x01, 0x01],
+        "",
+    ),
+    (
+        "a byte that is left over",
+        &[0x01, 0x00, 0x01, 0x03, 0x01, 0x01, 0x00],
+        "",
+    ),
+    (
+        "a hint for the last `end`, which has no line",
+        &[0x01, 0x00, 0x01, 0x06, 0x01, 0x01],
+        "",
+    ),
 ];
 
 #[test]
-fn prints_hints_in_front_of_their_operators(rt: HostRuntime) -> Result<(), Fail> {
-    for (data, line) in ROWS {
-        expect_hint_of(rt.alloc(), data, line)?;
+fn prints_hints_before_their_operators(rt: HostRuntime) -> Result<(), Fail> {
+    let alloc = rt.alloc();
+    for (name, data, line) in ROWS {
+        let wasm = build(
+            alloc,
+            &[
+                Bytes(&PREAMBLE),
+                ONE_PARAM,
+                ONE_FUNCTION,
+                Custom(HINTS, data),
+                ONE_BODY,
+            ],
+        )?;
+        let typed = format!(in alloc; "{BEFORE}{line}{AFTER}")?;
+        expect_printed(name, alloc, &wasm, typed.as_str())?;
     }
     Ok(())
 }
@@ -131,21 +126,45 @@ const NESTED: [u8; 18] = [
     0x09, 0x01, 0x00, // of the block's `end`
 ];
 
-/// A function without parameters.
-const NESTED_FUNCTION: Sections = &[(1, &[0x01, 0x60, 0x00, 0x00]), (3, &[0x01, 0x00])];
-
-/// The body of that function: an `if` with an `else` within a block.
+/// The content of a code section with the body of a function: an `if` with an `else` within a block.
 const NESTED_BODY: &[u8] = &[
     0x01, 0x0b, 0x00, 0x02, 0x40, 0x41, 0x00, 0x04, 0x40, 0x05, 0x0b, 0x0b, 0x0b,
 ];
 
-#[test]
-fn is_nested_as_the_operators_of_its_block(rt: HostRuntime) -> Result<(), Fail> {
-    let wasm = hinted(rt.alloc(), NESTED_FUNCTION, &NESTED, NESTED_BODY)?;
-    expect_printed(
-        rt.alloc(),
-        &wasm,
-        r#"(module
+/// A hint for function 1 (not taken) and one for function 2 (taken).
+const TWO_HINTS: &[u8] = &[
+    0x02, 0x01, 0x01, 0x03, 0x01, 0x00, 0x02, 0x01, 0x03, 0x01, 0x01,
+];
+
+/// The content of a code section with two bodies, each of which tests the parameter in an `if`.
+const TWO_BODIES: &[u8] = &[
+    0x02, 0x07, 0x00, 0x20, 0x00, 0x04, 0x40, 0x0b, 0x0b, 0x07, 0x00, 0x20, 0x00, 0x04, 0x40, 0x0b,
+    0x0b,
+];
+
+/// A module that imports a function and defines two, all of one type, with a hint for the `if` of each defined function.
+const AFTER_AN_IMPORT: Parts = &[
+    Bytes(&PREAMBLE),
+    ONE_PARAM,
+    Section(IMPORT, &[0x01, 0x01, b'a', 0x01, b'f', 0x00, 0x00]),
+    Section(FUNCTION, &[0x02, 0x00, 0x00]),
+    Custom(HINTS, TWO_HINTS),
+    Section(CODE, TWO_BODIES),
+];
+
+/// Modules with hints, each with its text.
+const MODULES: [Row; 3] = [
+    (
+        "hints of nested operators",
+        &[
+            Bytes(&PREAMBLE),
+            NO_PARAMS,
+            ONE_FUNCTION,
+            Custom(HINTS, &NESTED),
+            Section(CODE, NESTED_BODY),
+        ],
+        Text(
+            r#"(module
   (type (;0;) (func))
   (func (;0;) (type 0)
     (@metadata.code.branch_hint "\00")
@@ -162,72 +181,35 @@ fn is_nested_as_the_operators_of_its_block(rt: HostRuntime) -> Result<(), Fail> 
   )
 )
 "#,
-    )
-}
-
-#[test]
-fn takes_the_last_hint_section_alone(rt: HostRuntime) -> Result<(), Fail> {
-    let alloc = rt.alloc();
-    let mut wasm = module_with_hints(alloc, &[0x01, 0x00, 0x01, 0x03, 0x01, 0x01])?;
-    expect_hint(alloc, &wasm, TAKEN)?;
-    // The second hint section is empty, and it alone counts.
-    add_custom(alloc, &mut wasm, HINTS, &[0x00])?;
-    expect_hint(alloc, &wasm, "")
-}
-
-#[test]
-fn makes_the_calls_of_a_hint(rt: HostRuntime) -> Result<(), Fail> {
-    let alloc = rt.alloc();
-    let wasm = module_with_hints(alloc, &[0x01, 0x00, 0x01, 0x03, 0x01, 0x01])?;
-    // The printer is asked for the section after the function section, which has no line. The hints are printed
-    // whether the printer claims the section or not.
-    let calls = r#"[0x0]({K}module{R}
-[0xb]  ({K}type {R}{N}(;0;){R} ({K}func{R} ({K}param{R} {T}i32{R}))){? "metadata.code.branch_hint" 0x2f [1, 0, 1, 3, 1, 1]}
-[0x39]  ({K}func {R}{N}(;0;){R} ({K}type {R}{N}0{R}) ({K}param{R} {T}i32{R})
-[0x3a]    local.get {N}0{R}
-[0x32]    {C}(@metadata.code.branch_hint "\\01"){R}
-[0x3c]    if {C};; label = @1{R}
-[0x3e]    end
-[0x3f]  )
-[0x40])
-"#;
-    for taken in ["", HINTS] {
-        let recorder = Recorder::with_section_taken(alloc, taken);
-        expect_calls(alloc, &wasm, recorder, calls)?;
-    }
-    Ok(())
-}
-
-/// An imported function and two defined functions, all of one type.
-const THREE_FUNCTIONS: Sections = &[
-    (1, &[0x01, 0x60, 0x01, 0x7f, 0x00]),
-    (2, &[0x01, 0x01, b'a', 0x01, b'f', 0x00, 0x00]),
-    (3, &[0x02, 0x00, 0x00]),
-];
-
-/// A hint for function 1 (not taken) and one for function 2 (taken).
-const TWO_HINTS: &[u8] = &[
-    0x02, 0x01, 0x01, 0x03, 0x01, 0x00, 0x02, 0x01, 0x03, 0x01, 0x01,
-];
-
-/// Two bodies, each of which tests the parameter in an `if`.
-const TWO_BODIES: &[u8] = &[
-    0x02, 0x07, 0x00, 0x20, 0x00, 0x04, 0x40, 0x0b, 0x0b, 0x07, 0x00, 0x20, 0x00, 0x04, 0x40, 0x0b,
-    0x0b,
-];
-
-/// Returns a module that imports a function and defines two, with a hint for the `if` of each defined function.
-fn module_with_two_hint_sections(alloc: Global) -> Result<Vec<u8>, AllocError> {
-    hinted(alloc, THREE_FUNCTIONS, TWO_HINTS, TWO_BODIES)
-}
-
-#[test]
-fn numbers_functions_after_the_imported_ones(rt: HostRuntime) -> Result<(), Fail> {
-    let wasm = module_with_two_hint_sections(rt.alloc())?;
-    expect_printed(
-        rt.alloc(),
-        &wasm,
-        r#"(module
+        ),
+    ),
+    (
+        "two hint sections, of which the last is empty and alone counts",
+        &[
+            Bytes(&PREAMBLE),
+            ONE_PARAM,
+            ONE_FUNCTION,
+            Custom(HINTS, &LIKELY),
+            ONE_BODY,
+            Custom(HINTS, &[0x00]),
+        ],
+        Text(
+            r#"(module
+  (type (;0;) (func (param i32)))
+  (func (;0;) (type 0) (param i32)
+    local.get 0
+    if ;; label = @1
+    end
+  )
+)
+"#,
+        ),
+    ),
+    (
+        "functions that are numbered after the imported one",
+        AFTER_AN_IMPORT,
+        Text(
+            r#"(module
   (type (;0;) (func (param i32)))
   (import "a" "f" (func (;0;) (type 0) (param i32)))
   (func (;1;) (type 0) (param i32)
@@ -244,17 +226,25 @@ fn numbers_functions_after_the_imported_ones(rt: HostRuntime) -> Result<(), Fail
   )
 )
 "#,
-    )
+        ),
+    ),
+];
+
+#[test]
+fn finds_the_operators_of_hints(rt: HostRuntime) -> Result<(), Fail> {
+    expect_rows(rt.alloc(), &MODULES)
 }
 
 #[test]
 fn leaves_hints_out_with_bodies(rt: HostRuntime) -> Result<(), Fail> {
-    let wasm = module_with_two_hint_sections(rt.alloc())?;
+    let wasm = build(rt.alloc(), AFTER_AN_IMPORT)?;
     let mut config = Config::new();
     config.print_skeleton(true);
-    let text = config.print_to_string(rt.alloc(), &wasm)?;
-    expect_text(
-        text.as_str(),
+    expect_printed_by(
+        "a skeleton",
+        &config,
+        rt.alloc(),
+        &wasm,
         r#"(module
   (type (;0;) (func (param i32)))
   (import "a" "f" (func (;0;) (type 0) (param i32)))
@@ -262,6 +252,38 @@ fn leaves_hints_out_with_bodies(rt: HostRuntime) -> Result<(), Fail> {
   (func (;2;) (type 0) (param i32) ...)
 )
 "#,
-    )?;
-    Ok(())
+    )
+}
+
+/// A module with a hint for its `if`.
+const LIKELY_TAKEN: Parts = &[
+    Bytes(&PREAMBLE),
+    ONE_PARAM,
+    ONE_FUNCTION,
+    Custom(HINTS, &LIKELY),
+    ONE_BODY,
+];
+
+/// The calls that print that module. The printer is asked for the section after the function section, which has no
+/// line.
+const LIKELY_TAKEN_CALLS: &str = r#"[0x0]({K}module{R}
+[0xb]  ({K}type {R}{N}(;0;){R} ({K}func{R} ({K}param{R} {T}i32{R}))){? "metadata.code.branch_hint" 0x2f [1, 0, 1, 3, 1, 1]}
+[0x39]  ({K}func {R}{N}(;0;){R} ({K}type {R}{N}0{R}) ({K}param{R} {T}i32{R})
+[0x3a]    local.get {N}0{R}
+[0x32]    {C}(@metadata.code.branch_hint "\\01"){R}
+[0x3c]    if {C};; label = @1{R}
+[0x3e]    end
+[0x3f]  )
+[0x40])
+"#;
+
+/// The hints are printed whether the printer claims the section or not.
+const CALLS: [CallsRow; 2] = [
+    ("no claim", LIKELY_TAKEN, "", LIKELY_TAKEN_CALLS),
+    ("a claim", LIKELY_TAKEN, HINTS, LIKELY_TAKEN_CALLS),
+];
+
+#[test]
+fn makes_the_calls_of_a_hint(rt: HostRuntime) -> Result<(), Fail> {
+    expect_calls_of(rt.alloc(), &CALLS)
 }

@@ -16,6 +16,6 @@ mod limits;
 #[cfg(test)]
 mod names;
 #[cfg(test)]
-mod printing;
-#[cfg(test)]
 mod refusals;
+#[cfg(test)]
+mod rows;

@@ -1,218 +1,165 @@
 //! Tests of the limits on locals and functions: the greatest number that is accepted, and the error for one more
 //! (appendix "Implementation Limitations" of the standard).
 
-use crate::decoding::counts_functions;
-use crate::printing::{early_refusal_of, expect_printed, refusal_of};
+use crate::rows::Part::{Bytes, Copies};
+use crate::rows::{Parts, Refusal, RefusedRow, build, expect_refusals};
 use std::alloc::{AllocError, Global};
 use std::test::Fail;
-use wasmprinter::wasm::decode;
-use wasmprinter::{Error, print_bytes};
+use wasmprinter_expecting::expect_printed;
 use wasmprinter_samples::PREAMBLE;
 
-/// Adds a type, a function of that type, and this code section.
-fn add_code(wasm: &mut Vec<u8>, code: &[u8]) -> Result<(), AllocError> {
-    wasm.extend_from_slice(&[0x01, 0x04, 0x01, 0x60, 0x00, 0x00])?;
-    wasm.extend_from_slice(&[0x03, 0x02, 0x01, 0x00])?;
-    wasm.extend_from_slice(code)
+/// A part of a text.
+enum TextPart {
+    /// This text
+    Text(&'static str),
+    /// That many copies of this text
+    TextCopies(u32, &'static str),
+    /// For each number less than this: the first text, the number, and the second text
+    Numbered(u32, &'static str, &'static str),
 }
 
-/// Returns a module of a type, a function of that type, and this code section.
-fn with_code(alloc: Global, code: &[u8]) -> Result<Vec<u8>, AllocError> {
-    let mut wasm = Vec::from_slice(alloc, &PREAMBLE)?;
-    add_code(&mut wasm, code)?;
-    Ok(wasm)
-}
+use TextPart::{Numbered, Text, TextCopies};
 
-/// Returns the text of a module whose only function has `count` locals of type i32 and no operators.
-fn text_with_locals(alloc: Global, count: u32) -> Result<String, AllocError> {
-    let mut text = String::from_str(
-        alloc,
-        "(module\n  (type (;0;) (func))\n  (func (;0;) (type 0)\n    (local",
-    )?;
-    for _ in 0..count {
-        text.push_str(" i32")?;
+/// Returns a text of these parts.
+fn text_of_parts(alloc: Global, parts: &[TextPart]) -> Result<String, AllocError> {
+    let mut text = String::new(alloc);
+    for part in parts {
+        match part {
+            Text(once) => text.push_str(once)?,
+            TextCopies(count, copied) => {
+                for _ in 0..*count {
+                    text.push_str(copied)?;
+                }
+            }
+            Numbered(count, before, after) => {
+                for number in 0..*count {
+                    write!(text, "{before}{number}{after}")?;
+                }
+            }
+        }
     }
-    text.push_str(")\n  )\n)\n")?;
     Ok(text)
 }
 
-#[test]
-fn takes_fifty_thousand_locals_and_no_more(rt: HostRuntime) -> Result<(), Fail> {
-    let alloc = rt.alloc();
-    let most = with_code(
-        alloc,
-        &[0x0a, 0x08, 0x01, 0x06, 0x01, 0xd0, 0x86, 0x03, 0x7f, 0x0b],
-    )?;
-    expect_printed(alloc, &most, text_with_locals(alloc, 50_000)?.as_str())?;
-    let more = with_code(
-        alloc,
-        &[0x0a, 0x08, 0x01, 0x06, 0x01, 0xd1, 0x86, 0x03, 0x7f, 0x0b],
-    )?;
-    let refused = refusal_of(alloc, &more);
-    assert!(rt; matches!(refused, Some(Error::TooManyLocals { place: 22 })));
-    let refused = early_refusal_of(alloc, &more);
-    assert!(rt; matches!(refused, Some(Error::TooManyLocals { place: 22 })));
-    Ok(())
-}
-
-/// Adds `count` copies of an entry.
-fn add_entries(wasm: &mut Vec<u8>, count: u32, entry: &[u8]) -> Result<(), AllocError> {
-    for _ in 0..count {
-        wasm.extend_from_slice(entry)?;
-    }
-    Ok(())
-}
-
-/// Adds one type and `count` functions of that type, without locals and operators. The count, the size of the
-/// function section and that of the code section are also given as encoded in LEB128.
-fn add_functions(
-    wasm: &mut Vec<u8>,
-    count: u32,
-    spelled: &[u8],
-    functions_size: &[u8],
-    code_size: &[u8],
-) -> Result<(), AllocError> {
-    wasm.extend_from_slice(&[0x01, 0x04, 0x01, 0x60, 0x00, 0x00])?;
-    wasm.push(0x03)?;
-    wasm.extend_from_slice(functions_size)?;
-    wasm.extend_from_slice(spelled)?;
-    wasm.resize(wasm.len() + count as usize, 0x00)?;
-    wasm.push(0x0a)?;
-    wasm.extend_from_slice(code_size)?;
-    wasm.extend_from_slice(spelled)?;
-    add_entries(wasm, count, &[0x02, 0x00, 0x0b])
-}
-
-/// Returns a module of what `add_functions` adds.
-fn with_functions(
+/// Checks that the text of a module of these parts is one of those parts.
+///
+/// # Errors
+///
+/// - The module is refused, or its text differs.
+fn expect_text_of_parts(
+    name: &'static str,
     alloc: Global,
-    count: u32,
-    spelled: &[u8],
-    functions_size: &[u8],
-    code_size: &[u8],
-) -> Result<Vec<u8>, AllocError> {
-    let mut wasm = Vec::from_slice(alloc, &PREAMBLE)?;
-    add_functions(&mut wasm, count, spelled, functions_size, code_size)?;
-    Ok(wasm)
+    parts: Parts,
+    typed: &[TextPart],
+) -> Result<(), Fail> {
+    let wasm = build(alloc, parts)?;
+    let text = text_of_parts(alloc, typed)?;
+    expect_printed(name, alloc, &wasm, text.as_str())
 }
 
-/// The most functions that a module may define.
-const MOST: u32 = 1_000_000;
+/// The greatest number of locals of a function.
+const MOST_LOCALS: u32 = 50_000;
 
-/// The length in bytes of the text of a module with `MOST` functions: 30 bytes before the functions, 23 bytes and
-/// the digits of its number for each function, and 2 bytes at the end. The digits add up to 5,888,890: 10 numbers
-/// have one digit, 90 two, .., and 900,000 six.
-const MOST_TEXT: usize = 30 + 23_000_000 + 5_888_890 + 2;
+/// The greatest number of functions that a module may define.
+pub const MOST_FUNCTIONS: u32 = 1_000_000;
 
-fn with_most_functions(alloc: Global) -> Result<Vec<u8>, AllocError> {
-    with_functions(
-        alloc,
-        MOST,
-        &[0xc0, 0x84, 0x3d],
-        &[0xc3, 0x84, 0x3d], // 1,000,003
-        &[0xc3, 0x8d, 0xb7, 0x01], // 3,000,003
-    )
-}
+/// A module with `MOST_FUNCTIONS` functions without locals and operators.
+pub const MODULE_OF_MOST_FUNCTIONS: Parts = &[
+    Bytes(&PREAMBLE),
+    Bytes(&[0x01, 0x04, 0x01, 0x60, 0x00, 0x00]),
+    Bytes(&[0x03, 0xc3, 0x84, 0x3d, 0xc0, 0x84, 0x3d]), // a size of 1,000,003, and the count
+    Copies(MOST_FUNCTIONS, &[0x00]),
+    Bytes(&[0x0a, 0xc3, 0x8d, 0xb7, 0x01, 0xc0, 0x84, 0x3d]), // a size of 3,000,003, and the count
+    Copies(MOST_FUNCTIONS, &[0x02, 0x00, 0x0b]),
+];
+
+/// Modules with one more local and one more function than are accepted, each with the error.
+const ONE_MORE: [RefusedRow; 2] = [
+    (
+        "50,001 locals",
+        &[
+            Bytes(&PREAMBLE),
+            Bytes(&[0x01, 0x04, 0x01, 0x60, 0x00, 0x00]),
+            Bytes(&[0x03, 0x02, 0x01, 0x00]),
+            Bytes(&[0x0a, 0x08, 0x01, 0x06, 0x01, 0xd1, 0x86, 0x03, 0x7f, 0x0b]),
+        ],
+        Refusal::TooManyLocals(22),
+    ),
+    (
+        "1,000,001 functions",
+        &[
+            Bytes(&PREAMBLE),
+            Bytes(&[0x01, 0x04, 0x01, 0x60, 0x00, 0x00]),
+            Bytes(&[0x03, 0xc4, 0x84, 0x3d, 0xc1, 0x84, 0x3d]), // a size of 1,000,004, and the count
+            Copies(1_000_001, &[0x00]),
+            Bytes(&[0x0a, 0xc6, 0x8d, 0xb7, 0x01, 0xc1, 0x84, 0x3d]), // a size of 3,000,006, and the count
+            Copies(1_000_001, &[0x02, 0x00, 0x0b]),
+        ],
+        Refusal::TooManyFunctions(1_000_001),
+    ),
+];
 
 #[test]
-fn takes_a_million_functions(rt: HostRuntime) -> Result<(), Fail> {
-    let wasm = with_most_functions(rt.alloc())?;
-    assert!(rt; counts_functions(rt.alloc(), &wasm, MOST)?);
-    Ok(())
-}
-
-/// Reports whether a line is that of the function with this number.
-fn is_function_line(line: &str, number: u32) -> bool {
-    let Some(rest) = line.strip_prefix("  (func (;") else {
-        return false;
-    };
-    let Some(digits) = rest.strip_suffix(";) (type 0))") else {
-        return false;
-    };
-    matches!(digits.parse::<u32>(), Ok(found) if found == number)
-}
-
-/// Reports whether a text is that of a module with the most functions. Its length excludes signs and leading zeros
-/// in the numbers, which `parse` accepts.
-fn is_most_text(text: &str) -> bool {
-    let mut lines = text.split('\n');
-    if lines.next() != Some("(module") || lines.next() != Some("  (type (;0;) (func))") {
-        return false;
-    }
-    for number in 0..MOST {
-        match lines.next() {
-            Some(line) if is_function_line(line, number) => (),
-            _ => return false,
-        }
-    }
-    text.len() == MOST_TEXT && lines.eq([")", ""])
+fn refuses_one_more_local_or_function_than_the_limit(rt: HostRuntime) -> Result<(), Fail> {
+    expect_refusals(rt.alloc(), &ONE_MORE)
 }
 
 /// Takes one second in the build of `rt test`, and more than the limit of 60 seconds in that of `rt try --test`.
 #[test]
 fn prints_a_million_functions(rt: HostRuntime) -> Result<(), Fail> {
-    let wasm = with_most_functions(rt.alloc())?;
-    let text = print_bytes(rt.alloc(), &wasm)?;
-    assert!(rt; is_most_text(text.as_str()));
-    Ok(())
-}
-
-#[test]
-fn refuses_a_function_more(rt: HostRuntime) -> Result<(), Fail> {
-    let wasm = with_functions(
+    expect_text_of_parts(
+        "a million functions",
         rt.alloc(),
-        1_000_001,
-        &[0xc1, 0x84, 0x3d],
-        &[0xc4, 0x84, 0x3d], // 1,000,004
-        &[0xc6, 0x8d, 0xb7, 0x01], // 3,000,006
-    )?;
-    let refused = refusal_of(rt.alloc(), &wasm);
-    assert!(rt; matches!(refused, Some(Error::TooManyFunctions { count: 1_000_001 })));
-    let decoded = decode(rt.alloc(), &wasm);
-    assert!(rt; matches!(decoded, Err(Error::TooManyFunctions { count: 1_000_001 })));
-    Ok(())
+        MODULE_OF_MOST_FUNCTIONS,
+        &[
+            Text("(module\n  (type (;0;) (func))\n"),
+            Numbered(MOST_FUNCTIONS, "  (func (;", ";) (type 0))\n"),
+            Text(")\n"),
+        ],
+    )
 }
 
-/// The number of types, and of exports, in the module below. The next constants are this count, encoded in LEB128,
-/// and the size of a section of that many entries of three bytes.
+/// The number of types, and of exports, of a module.
 const THOUSANDS: u32 = 3_000;
 
-const THOUSANDS_SPELLED: [u8; 2] = [0xb8, 0x17];
-
-const THOUSANDS_SIZE: [u8; 2] = [0xaa, 0x46];
-
-/// Adds a section of `THOUSANDS` copies of an entry.
-fn add_thousands(wasm: &mut Vec<u8>, id: u8, entry: [u8; 3]) -> Result<(), AllocError> {
-    wasm.push(id)?;
-    wasm.extend_from_slice(&THOUSANDS_SIZE)?;
-    wasm.extend_from_slice(&THOUSANDS_SPELLED)?;
-    add_entries(wasm, THOUSANDS, &entry)
-}
-
-/// Returns a module with `THOUSANDS` function types without parameters and results, and as many exports of
-/// function 0 under the empty name.
-fn with_thousands(alloc: Global) -> Result<Vec<u8>, AllocError> {
-    let mut wasm = Vec::from_slice(alloc, &PREAMBLE)?;
-    add_thousands(&mut wasm, 0x01, [0x60, 0x00, 0x00])?;
-    add_thousands(&mut wasm, 0x07, [0x00, 0x00, 0x00])?;
-    Ok(wasm)
-}
-
-/// Returns the text of that module.
-fn text_of_thousands(alloc: Global) -> Result<String, AllocError> {
-    let mut text = String::from_str(alloc, "(module\n")?;
-    for number in 0..THOUSANDS {
-        write!(text, "  (type (;{number};) (func))\n")?;
-    }
-    for _ in 0..THOUSANDS {
-        text.push_str("  (export \"\" (func 0))\n")?;
-    }
-    text.push_str(")\n")?;
-    Ok(text)
-}
+/// Modules with many items, each with its text.
+const LARGE: [(&str, Parts, &[TextPart]); 2] = [
+    (
+        "50,000 locals of type i32 in a function without operators",
+        &[
+            Bytes(&PREAMBLE),
+            Bytes(&[0x01, 0x04, 0x01, 0x60, 0x00, 0x00]),
+            Bytes(&[0x03, 0x02, 0x01, 0x00]),
+            Bytes(&[0x0a, 0x08, 0x01, 0x06, 0x01, 0xd0, 0x86, 0x03, 0x7f, 0x0b]),
+        ],
+        &[
+            Text("(module\n  (type (;0;) (func))\n  (func (;0;) (type 0)\n    (local"),
+            TextCopies(MOST_LOCALS, " i32"),
+            Text(")\n  )\n)\n"),
+        ],
+    ),
+    (
+        "3,000 types without parameters and results, and exports of function 0 under the empty name",
+        &[
+            Bytes(&PREAMBLE),
+            Bytes(&[0x01, 0xaa, 0x46, 0xb8, 0x17]), // a size of 9,002, and the count
+            Copies(THOUSANDS, &[0x60, 0x00, 0x00]),
+            Bytes(&[0x07, 0xaa, 0x46, 0xb8, 0x17]), // a size of 9,002, and the count
+            Copies(THOUSANDS, &[0x00, 0x00, 0x00]),
+        ],
+        &[
+            Text("(module\n"),
+            Numbered(THOUSANDS, "  (type (;", ";) (func))\n"),
+            TextCopies(THOUSANDS, "  (export \"\" (func 0))\n"),
+            Text(")\n"),
+        ],
+    ),
+];
 
 #[test]
-fn prints_thousands_of_types_and_exports(rt: HostRuntime) -> Result<(), Fail> {
-    let wasm = with_thousands(rt.alloc())?;
-    expect_printed(rt.alloc(), &wasm, text_of_thousands(rt.alloc())?.as_str())
+fn prints_thousands_of_items(rt: HostRuntime) -> Result<(), Fail> {
+    for (name, parts, typed) in &LARGE {
+        expect_text_of_parts(name, rt.alloc(), parts, typed)?;
+    }
+    Ok(())
 }

@@ -1,109 +1,21 @@
 //! Tests of modules with name sections: their texts with the identifiers that the names give, and with identifiers
 //! synthesized for all other items.
 
-use crate::printing::expect_printed;
-use std::alloc::{AllocError, Global};
+use crate::rows::Expected::Text;
+use crate::rows::Part::{Bytes, Custom, Section, Slice};
+use crate::rows::{Part, Parts, Row, build, expect_rows};
 use std::test::Fail;
+use wasmprinter::Config;
 use wasmprinter::wasm::{Names, Space, decode};
-use wasmprinter::{Config, Error, print_bytes};
-use wasmprinter_samples::sections::{CUSTOM, add_section};
-use wasmprinter_samples::{
-    EVERY_SPACE, EVERY_SPACE_NAMES, IDENTITY, IDENTITY_TEXT, PREAMBLE, expect_text,
-};
+use wasmprinter_expecting::expect_printed_by;
+use wasmprinter_samples::sections::{CODE, FUNCTION, TYPE};
+use wasmprinter_samples::{EVERY_SPACE, EVERY_SPACE_NAMES, IDENTITY, IDENTITY_TEXT, PREAMBLE};
 
-/// Returns the text of a module with identifiers synthesized for items without names.
-fn text_with_synthesized(alloc: Global, wasm: &[u8]) -> Result<String, Error> {
-    Config::new()
-        .name_unnamed(true)
-        .print_to_string(alloc, wasm)
-}
-
-/// Checks that this text is the typed text.
-fn expect_synthesized(alloc: Global, wasm: &[u8], typed: &str) -> Result<(), Fail> {
-    let text = text_with_synthesized(alloc, wasm)?;
-    expect_text(text.as_str(), typed)?;
-    Ok(())
-}
-
-/// Adds a name section with these subsections.
-fn add_names(alloc: Global, wasm: &mut Vec<u8>, subsections: &[u8]) -> Result<(), AllocError> {
-    let mut content = Vec::from_slice(alloc, b"\x04name")?;
-    content.extend_from_slice(subsections)?;
-    add_section(wasm, CUSTOM, &content)
-}
-
-/// Returns a module followed by a name section.
-fn with_names(alloc: Global, wasm: &[u8], subsections: &[u8]) -> Result<Vec<u8>, AllocError> {
-    let mut named = Vec::from_slice(alloc, wasm)?;
-    add_names(alloc, &mut named, subsections)?;
-    Ok(named)
-}
-
-/// Returns the content of a code section of one body with these operators, which must have fewer than 90 bytes.
-fn code_of(alloc: Global, operators: &[u8]) -> Result<Vec<u8>, AllocError> {
-    let size = operators.len().min(90) as u8 + 2;
-    let mut code = Vec::from_slice(alloc, &[0x01, size, 0x00])?;
-    code.extend_from_slice(operators)?;
-    code.push(0x0b)?;
-    Ok(code)
-}
-
-/// Adds the type, function and code sections of functions without parameters.
-fn add_functions(wasm: &mut Vec<u8>, functions: &[u8], code: &[u8]) -> Result<(), AllocError> {
-    add_section(wasm, 1, &[0x01, 0x60, 0x00, 0x00])?;
-    add_section(wasm, 3, functions)?;
-    add_section(wasm, 10, code)
-}
-
-/// Returns a module of one function without parameters and with these operators, which must have fewer than 90
-/// bytes.
-fn one_function(alloc: Global, operators: &[u8]) -> Result<Vec<u8>, AllocError> {
-    let code = code_of(alloc, operators)?;
-    let mut wasm = Vec::from_slice(alloc, &PREAMBLE)?;
-    add_functions(&mut wasm, &[0x01, 0x00], &code)?;
-    Ok(wasm)
-}
-
-/// Checks that these are the lines after the header of a function of type 0, in a text with only one such
-/// function.
-fn expect_body(text: &str, typed: &str) -> Result<(), Fail> {
-    let parts = match text.split_once("(type 0)\n") {
-        Some(parts) => Some(parts),
-        None => text.split_once("(type $#type0)\n"),
-    };
-    let (_, body) = parts.ok_or("no function")?;
-    expect_text(body, typed)?;
-    Ok(())
-}
-
-/// Checks that the text of a module, after the header of its only function, is the typed text.
-fn expect_operators(alloc: Global, wasm: &[u8], typed: &str) -> Result<(), Fail> {
-    let text = print_bytes(alloc, wasm)?;
-    expect_body(text.as_str(), typed)
-}
-
-/// Checks the same with identifiers synthesized.
-fn expect_synthesized_operators(alloc: Global, wasm: &[u8], typed: &str) -> Result<(), Fail> {
-    let text = text_with_synthesized(alloc, wasm)?;
-    expect_body(text.as_str(), typed)
-}
-
-#[test]
-fn names_a_parameter(rt: HostRuntime) -> Result<(), Fail> {
-    let wasm = with_names(rt.alloc(), &IDENTITY, b"\x02\x06\x01\x00\x01\x00\x01x")?;
-    expect_printed(
-        rt.alloc(),
-        &wasm,
-        r#"(module
-  (type (;0;) (func (param i32) (result i32)))
-  (export "f" (func 0))
-  (func (;0;) (type 0) (param $x i32) (result i32)
-    local.get $x
-  )
-)
-"#,
-    )
-}
+/// `IDENTITY`, with the name `x` for its parameter.
+const NAMED_PARAMETER: [Part<'static>; 2] = [
+    Bytes(&IDENTITY),
+    Custom("name", b"\x02\x06\x01\x00\x01\x00\x01x"),
+];
 
 /// Reports whether names call local 0 of function 0 `x`, and name neither the function nor the module.
 fn call_a_local_alone(names: &Names) -> bool {
@@ -114,36 +26,20 @@ fn call_a_local_alone(names: &Names) -> bool {
 
 #[test]
 fn gives_out_names(rt: HostRuntime) -> Result<(), Fail> {
-    let wasm = with_names(rt.alloc(), &IDENTITY, b"\x02\x06\x01\x00\x01\x00\x01x")?;
+    let wasm = build(rt.alloc(), &NAMED_PARAMETER)?;
     let module = decode(rt.alloc(), &wasm)?;
     let names = module.names(rt.alloc())?;
     assert!(rt; call_a_local_alone(&names));
     Ok(())
 }
 
-#[test]
-fn passes_over_a_name_that_is_cut(rt: HostRuntime) -> Result<(), Fail> {
-    let wasm = with_names(rt.alloc(), &IDENTITY, b"\x01\x04\x01\x00\x05a")?;
-    expect_printed(rt.alloc(), &wasm, IDENTITY_TEXT)
-}
+/// The section of one function type, without parameters and results.
+const NO_PARAMS: Part<'static> = Section(TYPE, &[0x01, 0x60, 0x00, 0x00]);
 
-#[test]
-fn makes_up_identifiers(rt: HostRuntime) -> Result<(), Fail> {
-    expect_synthesized(
-        rt.alloc(),
-        &IDENTITY,
-        r#"(module
-  (type $#type0 (;0;) (func (param i32) (result i32)))
-  (export "f" (func $#func0))
-  (func $#func0 (;0;) (type $#type0) (param $#local0 i32) (result i32)
-    local.get $#local0
-  )
-)
-"#,
-    )
-}
+/// The function section of one function of that type.
+const ONE_FUNCTION: Part<'static> = Section(FUNCTION, &[0x01, 0x00]);
 
-/// The bodies of five functions.
+/// The content of a code section: the bodies of five functions.
 const FIVE_BODIES: &[u8] = b"\x05\x02\x00\x0b\x02\x00\x0b\x02\x00\x0b\x02\x00\x0b\x02\x00\x0b";
 
 /// Names of functions: `a` for 0 and, in a second subsection, `a` for 1, the empty name for 2, `#x` for 3, and
@@ -151,107 +47,14 @@ const FIVE_BODIES: &[u8] = b"\x05\x02\x00\x0b\x02\x00\x0b\x02\x00\x0b\x02\x00\x0
 const FIVE_NAMES: &[u8] =
     b"\x01\x04\x01\x00\x01a\x01\x0f\x04\x01\x01a\x02\x00\x03\x02#x\x04\x03a b";
 
-/// Returns a module of five functions with these names.
-fn five_functions(alloc: Global) -> Result<Vec<u8>, AllocError> {
-    let mut wasm = Vec::from_slice(alloc, &PREAMBLE)?;
-    add_functions(
-        &mut wasm,
-        &[0x05, 0x00, 0x00, 0x00, 0x00, 0x00],
-        FIVE_BODIES,
-    )?;
-    add_names(alloc, &mut wasm, FIVE_NAMES)?;
-    Ok(wasm)
-}
+/// The content of a code section with a body of two nested blocks, and a branch to each from the inner one.
+const NESTED_BLOCKS: &[u8] = b"\x01\x0c\x00\x02\x40\x02\x40\x0c\x01\x0c\x00\x0b\x0b\x0b";
 
-#[test]
-fn marks_names_that_are_no_identifiers(rt: HostRuntime) -> Result<(), Fail> {
-    let wasm = five_functions(rt.alloc())?;
-    expect_printed(
-        rt.alloc(),
-        &wasm,
-        r##"(module
-  (type (;0;) (func))
-  (func $a (;0;) (type 0))
-  (func $"#func1 a" (@name "a") (;1;) (type 0))
-  (func $"#func2 " (@name "") (;2;) (type 0))
-  (func $"#func3 #x" (@name "#x") (;3;) (type 0))
-  (func $"a b" (;4;) (type 0))
-)
-"##,
-    )
-}
+/// The content of a code section with a body of a `try` that ends with `delegate`, and a block with two branches
+/// after it.
+const AFTER_DELEGATE: &[u8] = b"\x01\x0d\x00\x06\x40\x18\x00\x02\x40\x0c\x00\x0c\x01\x0b\x0b";
 
-#[test]
-fn prints_a_shadowed_label_by_its_number(rt: HostRuntime) -> Result<(), Fail> {
-    let alloc = rt.alloc();
-    let wasm = one_function(alloc, b"\x02\x40\x02\x40\x0c\x01\x0c\x00\x0b\x0b")?;
-    let named = with_names(alloc, &wasm, b"\x03\x09\x01\x00\x02\x00\x01a\x01\x01a")?;
-    expect_operators(
-        alloc,
-        &named,
-        r#"    block $a
-      block $a
-        br 1
-        br $a
-      end
-    end
-  )
-)
-"#,
-    )
-}
-
-#[test]
-fn takes_the_label_off_after_delegate(rt: HostRuntime) -> Result<(), Fail> {
-    let alloc = rt.alloc();
-    let wasm = one_function(alloc, b"\x06\x40\x18\x00\x02\x40\x0c\x00\x0c\x01\x0b")?;
-    let named = with_names(alloc, &wasm, b"\x03\x09\x01\x00\x02\x00\x01t\x01\x01u")?;
-    expect_operators(
-        alloc,
-        &named,
-        r#"    try $t
-    delegate 0
-    block $u
-      br $u
-      br 1
-    end
-  )
-)
-"#,
-    )?;
-    expect_synthesized_operators(
-        alloc,
-        &wasm,
-        r#"    try $#label0
-    delegate 0
-    block $#label0
-      br $#label0
-      br 1
-    end
-  )
-)
-"#,
-    )
-}
-
-#[test]
-fn makes_up_labels(rt: HostRuntime) -> Result<(), Fail> {
-    let alloc = rt.alloc();
-    let wasm = one_function(alloc, b"\x02\x40\x0c\x00\x0c\x01\x0b")?;
-    expect_synthesized_operators(
-        alloc,
-        &wasm,
-        r#"    block $#label0
-      br $#label0
-      br 1
-    end
-  )
-)
-"#,
-    )
-}
-
-/// The text of `EVERY_SPACE` with its names. Items without names are printed by their numbers.
+/// The text of `EVERY_SPACE` with its names.
 const EVERY_SPACE_TEXT: &str = r#"(module $all
   (type $sig (;0;) (func (param i32) (result i32)))
   (type (;1;) (struct (field i32) (field $x (mut i64))))
@@ -389,16 +192,176 @@ const EVERY_SPACE_SYNTHESIZED: &str = r#"(module
 )
 "#;
 
-#[test]
-fn names_an_item_of_each_space(rt: HostRuntime) -> Result<(), Fail> {
-    expect_printed(rt.alloc(), &EVERY_SPACE, EVERY_SPACE_TEXT)
-}
+/// Modules, each with its text. Items without names are printed by their numbers.
+const NAMED: [Row; 6] = [
+    (
+        "a name of a parameter",
+        &NAMED_PARAMETER,
+        Text(
+            r#"(module
+  (type (;0;) (func (param i32) (result i32)))
+  (export "f" (func 0))
+  (func (;0;) (type 0) (param $x i32) (result i32)
+    local.get $x
+  )
+)
+"#,
+        ),
+    ),
+    (
+        "a name that is cut off",
+        &[Bytes(&IDENTITY), Custom("name", b"\x01\x04\x01\x00\x05a")],
+        Text(IDENTITY_TEXT),
+    ),
+    (
+        "names that are no identifiers",
+        &[
+            Bytes(&PREAMBLE),
+            NO_PARAMS,
+            Section(FUNCTION, &[0x05, 0x00, 0x00, 0x00, 0x00, 0x00]),
+            Section(CODE, FIVE_BODIES),
+            Custom("name", FIVE_NAMES),
+        ],
+        Text(
+            r##"(module
+  (type (;0;) (func))
+  (func $a (;0;) (type 0))
+  (func $"#func1 a" (@name "a") (;1;) (type 0))
+  (func $"#func2 " (@name "") (;2;) (type 0))
+  (func $"#func3 #x" (@name "#x") (;3;) (type 0))
+  (func $"a b" (;4;) (type 0))
+)
+"##,
+        ),
+    ),
+    (
+        "a branch to a block whose label is shadowed",
+        &[
+            Bytes(&PREAMBLE),
+            NO_PARAMS,
+            ONE_FUNCTION,
+            Section(CODE, NESTED_BLOCKS),
+            Custom("name", b"\x03\x09\x01\x00\x02\x00\x01a\x01\x01a"),
+        ],
+        Text(
+            r#"(module
+  (type (;0;) (func))
+  (func (;0;) (type 0)
+    block $a
+      block $a
+        br 1
+        br $a
+      end
+    end
+  )
+)
+"#,
+        ),
+    ),
+    (
+        "the label of a block after `delegate`",
+        &[
+            Bytes(&PREAMBLE),
+            NO_PARAMS,
+            ONE_FUNCTION,
+            Section(CODE, AFTER_DELEGATE),
+            Custom("name", b"\x03\x09\x01\x00\x02\x00\x01t\x01\x01u"),
+        ],
+        Text(
+            r#"(module
+  (type (;0;) (func))
+  (func (;0;) (type 0)
+    try $t
+    delegate 0
+    block $u
+      br $u
+      br 1
+    end
+  )
+)
+"#,
+        ),
+    ),
+    (
+        "an item of each index space",
+        &[Bytes(&EVERY_SPACE)],
+        Text(EVERY_SPACE_TEXT),
+    ),
+];
 
 #[test]
-fn makes_up_identifiers_in_each_space(rt: HostRuntime) -> Result<(), Fail> {
-    expect_synthesized(
-        rt.alloc(),
-        &EVERY_SPACE[..EVERY_SPACE_NAMES],
+fn prints_names_of_items(rt: HostRuntime) -> Result<(), Fail> {
+    expect_rows(rt.alloc(), &NAMED)
+}
+
+/// Modules without names, each with its text with identifiers synthesized.
+const SYNTHESIZED: [(&str, Parts, &str); 4] = [
+    (
+        "a function with a parameter",
+        &[Bytes(&IDENTITY)],
+        r#"(module
+  (type $#type0 (;0;) (func (param i32) (result i32)))
+  (export "f" (func $#func0))
+  (func $#func0 (;0;) (type $#type0) (param $#local0 i32) (result i32)
+    local.get $#local0
+  )
+)
+"#,
+    ),
+    (
+        "the label of a block after `delegate`",
+        &[
+            Bytes(&PREAMBLE),
+            NO_PARAMS,
+            ONE_FUNCTION,
+            Section(CODE, AFTER_DELEGATE),
+        ],
+        r#"(module
+  (type $#type0 (;0;) (func))
+  (func $#func0 (;0;) (type $#type0)
+    try $#label0
+    delegate 0
+    block $#label0
+      br $#label0
+      br 1
+    end
+  )
+)
+"#,
+    ),
+    (
+        "the label of a block, and that of the body",
+        &[
+            Bytes(&PREAMBLE),
+            NO_PARAMS,
+            ONE_FUNCTION,
+            Section(CODE, b"\x01\x09\x00\x02\x40\x0c\x00\x0c\x01\x0b\x0b"),
+        ],
+        r#"(module
+  (type $#type0 (;0;) (func))
+  (func $#func0 (;0;) (type $#type0)
+    block $#label0
+      br $#label0
+      br 1
+    end
+  )
+)
+"#,
+    ),
+    (
+        "an item of each index space",
+        &[Slice(&EVERY_SPACE, 0, EVERY_SPACE_NAMES)],
         EVERY_SPACE_SYNTHESIZED,
-    )
+    ),
+];
+
+#[test]
+fn synthesizes_identifiers(rt: HostRuntime) -> Result<(), Fail> {
+    let mut config = Config::new();
+    config.name_unnamed(true);
+    for (name, parts, typed) in &SYNTHESIZED {
+        let wasm = build(rt.alloc(), parts)?;
+        expect_printed_by(name, &config, rt.alloc(), &wasm, typed)?;
+    }
+    Ok(())
 }
