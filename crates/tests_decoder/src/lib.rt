@@ -1,9 +1,9 @@
-//! Tests of the decoder and of single parts of the printer. All expected values are typed by hand.
+//! Tests of the decoder. All expected values are typed by hand.
 //!
 //! - At the root: the texts of errors and the places that they report, the cursor, numbers in LEB128, and the decoders
 //!   of types, opcodes and operators.
 //! - `module`: the contents of decoded modules, and the places of errors in refused ones.
-//! - `parts`: names, known custom sections and their lines, labels, and the text of operators.
+//! - `parts`: names and the contents of known custom sections.
 #![tactic(auto)]
 
 #[cfg(test)]
