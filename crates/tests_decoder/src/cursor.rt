@@ -6,7 +6,7 @@ use wasmprinter_bytes::Malformed;
 use wasmprinter_bytes::bytes::Cursor;
 use wasmprinter_bytes::lists::read_items;
 
-/// An expected number, name or sum, or the place of an error. The variant names the method that reads it.
+/// An expected number or sum, or the place of an error. The variant names the method that reads it.
 #[derive(Clone, Copy)]
 enum Expected {
     U32(Result<u32, Malformed>),

@@ -206,7 +206,7 @@ fn first_drawn_that_differs(count: u32) -> Option<u32> {
 }
 
 #[test]
-fn numbers_end_where_their_encoding_ends(rt: HostRuntime) {
+fn numbers_and_errors_have_their_places(rt: HostRuntime) {
     assert!(rt; all_read(&[]), "no bytes");
     for first in 0..=u8::MAX {
         assert!(rt; all_read_pairs(first), "up to two bytes, at {first:#x}");
@@ -220,5 +220,5 @@ fn numbers_end_where_their_encoding_ends(rt: HostRuntime) {
         }
     }
     let differs = first_drawn_that_differs(DRAWN);
-    assert!(rt; differs == None, "after {differs:?}");
+    assert!(rt; differs == None, "pseudorandom input with seed {differs:?}");
 }

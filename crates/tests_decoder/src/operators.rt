@@ -255,7 +255,10 @@ const WALKS: [Walk; 7] = [
 /// - The bytes are refused, or another byte follows the expression, or an operator differs.
 fn expect_walk(alloc: Global, (name, bytes, wanted): Walk) -> Result<(), Fail> {
     let mut cursor = Cursor::new(0x1a, bytes);
-    let expression = Expression::read(alloc, &mut cursor)?;
+    let expression = match Expression::read(alloc, &mut cursor) {
+        Ok(expression) => expression,
+        Err(error) => return Err((name, error))?,
+    };
     if !cursor.is_empty() || expression.end() != 0x19 + bytes.len() as u64 {
         return Err((name, "ends elsewhere"))?;
     }

@@ -150,7 +150,7 @@ fn print_sections(
 }
 
 /// Reads a section from these bytes, which begin with its name.
-fn entry<'a>(after: Option<SectionKind>, bytes: &'a [u8]) -> Result<CustomEntry<'a>, Fail> {
+fn entry<'a>(after: Option<SectionKind>, bytes: &'a [u8]) -> Result<CustomEntry<'a>, Error> {
     let section = Custom::read(&mut Cursor::new(PLACE, bytes))?;
     Ok(CustomEntry { after, section })
 }
@@ -193,15 +193,20 @@ type Row = (
 /// - A section is refused, or its text differs.
 fn expect_rows(alloc: Global, rows: &[Row]) -> Result<(), Fail> {
     for (name, options, after, bytes, typed) in rows {
-        let section = entry(*after, *bytes)?;
         let mut printer = Taker::new(alloc, &[]);
-        print_section(&mut printer, &options.print_options(), &section)?;
+        let printed = match entry(*after, *bytes) {
+            Ok(section) => print_section(&mut printer, &options.print_options(), &section),
+            Err(error) => Err(error),
+        };
+        if let Err(error) = printed {
+            return Err((*name, error))?;
+        }
         expect_same(*name, printer.text.as_str(), *typed)?;
     }
     Ok(())
 }
 
-/// Sections that are printed byte by byte, also after a section of each kind.
+/// Sections without a form of their own, also after a section of each kind.
 const RAW: [Row; 14] = [
     (
         "escapes",
@@ -570,7 +575,7 @@ const QUESTIONS: [Question; 8] = [
 ];
 
 /// Reads the sections from these bytes.
-fn entries_of(alloc: Global, sections: Sections) -> Result<Vec<CustomEntry<'static>>, Fail> {
+fn entries_of(alloc: Global, sections: Sections) -> Result<Vec<CustomEntry<'static>>, Error> {
     let mut entries = Vec::new(alloc);
     for (after, bytes) in sections {
         entries.push(entry(*after, bytes)?)?;
@@ -587,14 +592,18 @@ fn print_some(
     match (printed, customs) {
         (Printed::At(after), _) => print_sections(printer, customs, after),
         (Printed::First, [first, ..]) => print_section(printer, &PrintOptions::new(), first),
-        (Printed::First, []) => Ok(false),
+        // No row expects this error
+        (Printed::First, []) => Err(Error::Unreadable),
     }
 }
 
 #[test]
 fn a_printer_is_asked_for_each_section(rt: HostRuntime) -> Result<(), Fail> {
     for question in &QUESTIONS {
-        let customs = entries_of(rt.alloc(), question.sections)?;
+        let customs = match entries_of(rt.alloc(), question.sections) {
+            Ok(customs) => customs,
+            Err(error) => return Err((question.name, error))?,
+        };
         let mut printer = Taker::new(rt.alloc(), question.answers);
         printer.failing = question.failing;
         let result = print_some(&mut printer, &customs, question.printed);

@@ -6,6 +6,7 @@ use crate::printing::{expect_same, finish, names_of};
 use std::alloc::Global;
 use std::marker::Brand;
 use std::test::Fail;
+use wasmprinter_bytes::Error;
 use wasmprinter_bytes::bytes::Cursor;
 use wasmprinter_custom::{FunctionHints, Hints, Identifiers};
 use wasmprinter_flat::open_labels::OpenLabels;
@@ -51,7 +52,7 @@ fn text_of_expression(
     setting: &Setting<'_, NoTypes>,
     hints: FunctionHints<'_>,
     expression: &Expression<'_>,
-) -> Result<String, Fail> {
+) -> Result<String, Error> {
     let mut labels = OpenLabels::new(alloc, identifiers)?;
     let mut printer = PrintFmtWrite(String::new(alloc));
     let options = PrintOptions::new();
@@ -72,7 +73,7 @@ fn text_of_operators(
     setting: &Setting<'_, NoTypes>,
     hints: FunctionHints<'_>,
     bytes: &[u8],
-) -> Result<String, Fail> {
+) -> Result<String, Error> {
     let expression = Expression::read(alloc, &mut Cursor::new(OPERATORS, bytes))?;
     let names = names_of(alloc, section)?;
     let identifiers = Identifiers {
@@ -170,15 +171,18 @@ const LINES: [Line; 9] = [
 fn prints_operators_in_one_line(rt: HostRuntime) -> Result<(), Fail> {
     let in_line = setting(Form::InLine, 0);
     for (name, section, synthesizes, bytes, typed) in LINES {
-        let text = text_of_operators(
+        let found = text_of_operators(
             rt.alloc(),
             section,
             synthesizes,
             &in_line,
             FunctionHints::none(),
             bytes,
-        )?;
-        expect_same(name, text.as_str(), typed)?;
+        );
+        match found {
+            Ok(text) => expect_same(name, text.as_str(), typed)?,
+            Err(error) => return Err((name, error))?,
+        }
     }
     Ok(())
 }

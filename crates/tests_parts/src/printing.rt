@@ -1,5 +1,5 @@
-//! Helpers shared by the tests of parts: the names that a section gives, the end of printing, and comparisons. A failure
-//! shows the name of the row.
+//! Helpers shared by the tests of parts: the names that a section gives, the end of printing, and comparisons. A
+//! failure shows the name of the row.
 use std::alloc::Global;
 use std::test::Fail;
 use wasmprinter_bytes::Error;

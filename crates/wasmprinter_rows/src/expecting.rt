@@ -87,7 +87,7 @@ impl Text {
 
 /// A module with options, and the text that is expected.
 pub struct Row {
-    /// What the row checks. It starts the message of a failure.
+    /// What the row checks. A failure shows it.
     pub name: &'static str,
     pub options: Options,
     pub wasm: &'static [u8],

@@ -157,7 +157,7 @@ fn expect_large(alloc: Global, row: &Large) -> Result<(), Fail> {
         Err(error) => return Err((row.name, error))?,
     };
     if found.len() >= LIMIT {
-        return Err((row.name, found.len()))?;
+        return Err((row.name, "bytes of text", found.len()))?;
     }
     let text = text_of(alloc, row.text)?;
     expect_same(row.name, found.as_str(), text.as_str())

@@ -1,6 +1,6 @@
 //! Tests of the items of decoded modules: their places, types and values. All expected values are typed by hand.
 
-use crate::module::modules::{DATA, FUNCTIONS, TYPES, module};
+use crate::module::modules::{DATA, FUNCTIONS, TYPES, decode_row, module};
 use std::test::Fail;
 use wasmprinter_ops::expression::{Expression, OperatorsReader};
 use wasmprinter_ops::{HeapType, RefType, ValType};
@@ -42,7 +42,7 @@ enum Items {
     /// The globals, with an initialiser of one operator: their places and types
     Globals(&'static [(u64, GlobalType)]),
     Exports(&'static [Exported]),
-    /// The imports, one of each kind, from the module `m`. There are no functions.
+    /// The imports, one of each kind, from the module `m`. The module defines no functions.
     Imports(&'static [Imported]),
     /// The place and the index of the start function, or `None` if the module has none
     Start(Option<(u64, u32)>),
@@ -499,7 +499,7 @@ const ROWS: [Row; 22] = [
 fn items_have_their_places_and_values(rt: HostRuntime) -> Result<(), Fail> {
     for (name, sections, items) in ROWS {
         let bytes = module(rt.alloc(), sections)?;
-        let decoded = decode(rt.alloc(), &bytes)?;
+        let decoded = decode_row(name, rt.alloc(), &bytes)?;
         assert!(rt; items.are_in(&decoded), "{name}");
     }
     Ok(())

@@ -1,7 +1,7 @@
 //! Tests of custom sections: their names and bytes, errors in them, and the names of a module. All expected values
 //! are typed by hand.
 
-use crate::module::modules::{CODE, FUNCTIONS, TYPES, fault_place, module};
+use crate::module::modules::{CODE, FUNCTIONS, TYPES, decode_row, fault_place, module};
 use std::alloc::{AllocError, Global};
 use std::test::Fail;
 use wasmprinter_custom::{Names, Space};
@@ -178,7 +178,7 @@ fn are_facts(customs: &[CustomEntry], facts: &[Fact]) -> bool {
 fn custom_sections_have_names_places_and_data(rt: HostRuntime) -> Result<(), Fail> {
     for (name, sections, facts) in ROWS {
         let bytes = with_names(rt.alloc(), sections)?;
-        let decoded = decode(rt.alloc(), &bytes)?;
+        let decoded = decode_row(name, rt.alloc(), &bytes)?;
         assert!(rt; are_facts(decoded.customs(), facts), "{name}");
     }
     Ok(())
@@ -292,7 +292,7 @@ fn are_given(names: &Names, of_module: Option<&str>, of_functions: [Option<&str>
 fn all_name_sections_give_names(rt: HostRuntime) -> Result<(), Fail> {
     for (name, sections, of_module, of_functions) in NAMED {
         let bytes = with_names(rt.alloc(), sections)?;
-        let decoded = decode(rt.alloc(), &bytes)?;
+        let decoded = decode_row(name, rt.alloc(), &bytes)?;
         let names = decoded.names(rt.alloc())?;
         assert!(rt; are_given(&names, of_module, of_functions), "{name}");
     }

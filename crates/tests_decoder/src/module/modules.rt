@@ -4,7 +4,7 @@ use std::alloc::{AllocError, Global};
 use std::test::Fail;
 use wasmprinter_bytes::Error;
 use wasmprinter_samples::{IDENTITY, PREAMBLE};
-use wasmprinter_wasm::{Fields, decode};
+use wasmprinter_wasm::{Fields, Module, decode};
 
 /// A type section with one function type, without parameters and results.
 pub(crate) const TYPES: [u8; 6] = [0x01, 0x04, 0x01, 0x60, 0x00, 0x00];
@@ -94,10 +94,27 @@ impl Verdict {
 fn prefixes_are_accepted_after_sections_alone(rt: HostRuntime) {
     for len in 0..=IDENTITY.len() {
         let verdict = match len {
-            8 | 16 | 35 => Verdict::Accepted,
+            8 | 16 => Verdict::Accepted,
+            _ if len == IDENTITY.len() => Verdict::Accepted,
             _ => Verdict::Malformed,
         };
         assert!(rt; verdict.is_on(rt.alloc(), &IDENTITY[..len]), "at {len}");
+    }
+}
+
+/// Decodes the module of a row.
+///
+/// # Errors
+///
+/// - The module is refused. The failure shows the name of the row.
+pub(crate) fn decode_row<'a>(
+    name: &'static str,
+    alloc: Global,
+    bytes: &'a [u8],
+) -> Result<Module<'a>, Fail> {
+    match decode(alloc, bytes) {
+        Ok(module) => Ok(module),
+        Err(error) => Err((name, error))?,
     }
 }
 
@@ -270,7 +287,7 @@ const MODULES: [Row; 26] = [
         Verdict::Malformed,
     ),
     (
-        "a table section with a byte that is missing",
+        "a table section that is a byte too short",
         &PREAMBLE,
         &[&[
             0x04, 0x0d, 0x02, 0x70, 0x00, 0x01, 0x40, 0x00, 0x70, 0x00, 0x01, 0xd0, 0x70, 0x0b,

@@ -1,9 +1,11 @@
 //! Tests of the places of custom sections: each is the last section before it with a count above 0. The expected
 //! places are typed by hand.
 
-use crate::module::modules::{CODE, EXPORTS, FUNCTIONS, MEMORIES, START, TAGS, TYPES, module};
+use crate::module::modules::{
+    CODE, EXPORTS, FUNCTIONS, MEMORIES, START, TAGS, TYPES, decode_row, module,
+};
 use std::test::Fail;
-use wasmprinter_wasm::{CustomEntry, Fields, SectionKind, decode};
+use wasmprinter_wasm::{CustomEntry, Fields, SectionKind};
 
 /// A custom section named `n`.
 const NOTE: &[u8] = b"\x00\x02\x01n";
@@ -198,7 +200,7 @@ fn stand_after(customs: &[CustomEntry], places: &[Option<SectionKind>]) -> bool 
 fn custom_sections_follow_nonempty_sections(rt: HostRuntime) -> Result<(), Fail> {
     for (name, sections, places) in ROWS {
         let bytes = module(rt.alloc(), sections)?;
-        let decoded = decode(rt.alloc(), &bytes)?;
+        let decoded = decode_row(name, rt.alloc(), &bytes)?;
         assert!(rt; stand_after(decoded.customs(), places), "{name}");
     }
     Ok(())

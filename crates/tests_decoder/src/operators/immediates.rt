@@ -1,5 +1,5 @@
-//! Tests of immediates of each shape, and of bytes that encode no operator. All expected immediates and places are typed
-//! by hand.
+//! Tests of immediates of each shape, and of bytes that encode no operator. All expected immediates and places are
+//! typed by hand.
 
 use super::{Wanted, is_operator};
 use wasmprinter_bytes::Malformed;
@@ -277,7 +277,13 @@ fn flags_of_casts_say_which_types_are_nullable(rt: HostRuntime) {
         (3, true, true),
     ];
     for (flags, source, target) in rows {
-        assert!(rt; cast_source(flags, HeapType::Eq).nullable == source);
-        assert!(rt; cast_target(flags, HeapType::Eq).nullable == target);
+        assert!(rt;
+            cast_source(flags, HeapType::Eq).nullable == source,
+            "flags {flags}"
+        );
+        assert!(rt;
+            cast_target(flags, HeapType::Eq).nullable == target,
+            "flags {flags}"
+        );
     }
 }

@@ -154,8 +154,6 @@ fn sections_have_roles(rt: HostRuntime) {
         let role = role_of("producers", &[0x01, 0x01, byte, 0x00]);
         assert!(rt; role == (wanted, 0), "a field named by byte {byte:#x}");
     }
-    assert!(rt; is_hint_section("metadata.code.branch_hint"));
-    assert!(rt; !is_hint_section("metadata.code.branch_hints"));
 }
 
 /// An expected fact about the contents of a section.
@@ -371,6 +369,8 @@ fn first_other(hints: &mut Hints, rows: &[(u64, Offsets)]) -> Option<usize> {
 
 #[test]
 fn hints_are_taken_in_order(rt: HostRuntime) {
+    assert!(rt; is_hint_section("metadata.code.branch_hint"));
+    assert!(rt; !is_hint_section("metadata.code.branch_hints"));
     let bytes = b"\x02\x01\x02\x03\x01\x01\x07\x01\x00\x04\x01\x02\x01\x01";
     let other = first_other(&mut Hints::of_section(0x50, bytes), &HINTED);
     assert!(rt; other == None, "row {other:?}");

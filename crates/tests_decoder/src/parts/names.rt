@@ -574,49 +574,50 @@ fn subsection_of(alloc: Global, id: u8, content: &[u8]) -> Result<Vec<u8>, Error
     Ok(subsection)
 }
 
-/// A space, the id of its subsection, and the identifier of the last item.
-type Last = (Space, u8, &'static str);
+/// The name of the row, a space, the id of its subsection, and the identifier of the last item.
+type Last = (&'static str, Space, u8, &'static str);
 
 /// The spaces whose items belong to no function or type. 300 items have the name `a`.
 const LAST_OF_300: [Last; 8] = [
-    (Space::Func, 1, "#func299 a"),
-    (Space::Types, 4, "#type299 a"),
-    (Space::Table, 5, "#table299 a"),
-    (Space::Memory, 6, "#memory299 a"),
-    (Space::Global, 7, "#global299 a"),
-    (Space::Elem, 8, "#elem299 a"),
-    (Space::Data, 9, "#data299 a"),
-    (Space::Tag, 11, "#tag299 a"),
+    ("300 functions", Space::Func, 1, "#func299 a"),
+    ("300 types", Space::Types, 4, "#type299 a"),
+    ("300 tables", Space::Table, 5, "#table299 a"),
+    ("300 memories", Space::Memory, 6, "#memory299 a"),
+    ("300 globals", Space::Global, 7, "#global299 a"),
+    ("300 element segments", Space::Elem, 8, "#elem299 a"),
+    ("300 data segments", Space::Data, 9, "#data299 a"),
+    ("300 tags", Space::Tag, 11, "#tag299 a"),
 ];
 
 /// The spaces whose items belong to a function or type. 20 items of each have the name `a`. Labels may share a
 /// name.
 const LAST_OF_20: [Last; 3] = [
-    (Space::Local, 2, "#local19 a"),
-    (Space::Label, 3, "a"),
-    (Space::Field, 10, "#field19 a"),
+    ("20 locals of each function", Space::Local, 2, "#local19 a"),
+    ("20 labels of each function", Space::Label, 3, "a"),
+    ("20 fields of each type", Space::Field, 10, "#field19 a"),
 ];
 
-/// Checks the first and the last of 300 items with the name `a` in each space whose items belong to no function or type.
+/// Checks the first and the last of 300 items with the name `a`, in each space whose items belong to no function or
+/// type.
 fn expect_300(alloc: Global) -> Result<(), Fail> {
     let map = map_of(alloc, 300)?;
-    for (space, id, last) in LAST_OF_300 {
+    for (name, space, id, last) in LAST_OF_300 {
         let section = subsection_of(alloc, id, &map)?;
         let items = [
             (space, 0, 0, Some("a")),
             (space, 0, 299, Some(last)),
             (space, 0, 300, None),
         ];
-        expect_names(last, alloc, &[&section], None, &items)?;
+        expect_names(name, alloc, &[&section], None, &items)?;
     }
     Ok(())
 }
 
-/// Checks the first and the last of 20 items with the name `a` in the first and the last of 40 functions or types, in each
-/// other space.
+/// Checks the first and the last of 20 items with the name `a` in the first and the last of 40 functions or types, in
+/// each other space.
 fn expect_40_times_20(alloc: Global) -> Result<(), Fail> {
     let maps = maps_of(alloc, &map_of(alloc, 20)?)?;
-    for (space, id, last) in LAST_OF_20 {
+    for (name, space, id, last) in LAST_OF_20 {
         let section = subsection_of(alloc, id, &maps)?;
         let items = [
             (space, 0, 0, Some("a")),
@@ -626,7 +627,7 @@ fn expect_40_times_20(alloc: Global) -> Result<(), Fail> {
             (space, 39, 19, Some(last)),
             (space, 40, 0, None),
         ];
-        expect_names(last, alloc, &[&section], None, &items)?;
+        expect_names(name, alloc, &[&section], None, &items)?;
     }
     Ok(())
 }
