@@ -1,4 +1,4 @@
-//! What the crates of tests share: functions that print a module, and compare the result with the expected one. They
+//! Functions that the crates of tests share: they print a module, and compare the result with the expected one. They
 //! have no contracts, so that a proof of a test needs no facts about printing. A failure shows the name of its row.
 #![tactic(auto)]
 
@@ -104,11 +104,11 @@ pub fn expect_printed_by(
 ///
 /// # Errors
 ///
-/// - The calls differ, or one was not written down.
+/// - The calls differ, or one was not recorded.
 pub fn expect_recorded(name: &'static str, recorder: &Recorder, typed: &str) -> Result<(), Fail> {
     expect_same(name, recorder.calls(), typed)?;
     if !recorder.is_complete() {
-        return Err((name, "a call was not written down"))?;
+        return Err((name, "a call was not recorded"))?;
     }
     Ok(())
 }
@@ -117,7 +117,7 @@ pub fn expect_recorded(name: &'static str, recorder: &Recorder, typed: &str) -> 
 ///
 /// # Errors
 ///
-/// - The module is refused, or the calls differ, or one was not written down.
+/// - The module is refused, or the calls differ, or one was not recorded.
 pub fn expect_calls(
     name: &'static str,
     config: &Config,
@@ -142,3 +142,6 @@ pub fn early_refusal_of(alloc: Global, wasm: &[u8]) -> Option<Error> {
         && recorder.is_complete();
     if is_unused { printed.err() } else { None }
 }
+
+#[cfg(test)]
+mod tests;
