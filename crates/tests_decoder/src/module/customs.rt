@@ -5,6 +5,7 @@ use crate::module::modules::{CODE, FUNCTIONS, TYPES, decode_row, fault_place, mo
 use std::alloc::{AllocError, Global};
 use std::test::Fail;
 use wasmprinter_custom::{Names, Space};
+use wasmprinter_wasm::customs::Custom;
 use wasmprinter_wasm::{CustomEntry, Fields, decode};
 
 /// A name section with the names `m` for the module and `a` for function 0.
@@ -142,17 +143,16 @@ const ROWS: [Row; 16] = [
 
 /// Reports whether a custom section has this data at this place, and a cursor over its data has the same place and
 /// length.
-fn holds(custom: &CustomEntry, place: u64, bytes: &[u8]) -> bool {
-    let cursor = custom.section.cursor();
-    custom.section.bytes_place() == place
-        && custom.section.bytes() == bytes
+fn holds(section: &Custom, place: u64, bytes: &[u8]) -> bool {
+    let cursor = section.cursor();
+    section.bytes_place() == place
+        && section.bytes() == bytes
         && cursor.place() == place
         && cursor.len() == bytes.len()
 }
 
 /// Reports whether this is a fact about the custom section.
-fn is_fact(fact: Fact, custom: &CustomEntry) -> bool {
-    let section = &custom.section;
+fn is_fact(fact: Fact, section: &Custom) -> bool {
     match fact {
         Fact::Names(place) => {
             section.place() == place && section.name() == "name" && section.is_name_section()
@@ -160,14 +160,14 @@ fn is_fact(fact: Fact, custom: &CustomEntry) -> bool {
         Fact::Other(name, bytes) => {
             section.name() == name && section.bytes() == bytes && !section.is_name_section()
         }
-        Fact::Data(place, bytes) => holds(custom, place, bytes),
+        Fact::Data(place, bytes) => holds(section, place, bytes),
     }
 }
 
 /// Reports whether there is one custom section for each fact, about which it holds.
 fn are_facts(customs: &[CustomEntry], facts: &[Fact]) -> bool {
     for (custom, fact) in customs.iter().zip(facts) {
-        if !is_fact(*fact, custom) {
+        if !is_fact(*fact, &custom.section) {
             return false;
         }
     }

@@ -507,13 +507,17 @@ fn spaces_have_words(rt: HostRuntime) -> Result<(), Fail> {
 /// A label: its function, its number and its name.
 type Label = (u64, u64, &'static str);
 
+/// Reports whether the item was given this name, and this follows the dollar sign of its identifier.
+fn is_named(name: Option<Name<'_>>, given: &str, content: &str) -> bool {
+    matches!(name, Some(name) if name.given == given && name.content == content)
+}
+
 /// Reports whether these are the labels, each with its name as its identifier.
 fn are_labels(labels: &[LabelName], wanted: &[Label]) -> bool {
     for (label, (function, number, name)) in labels.iter().zip(wanted) {
         if label.function != *function
             || label.number != *number
-            || label.name.given != *name
-            || label.name.content != *name
+            || !is_named(Some(label.name), name, name)
         {
             return false;
         }
