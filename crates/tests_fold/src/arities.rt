@@ -2,14 +2,17 @@
 //! follows six constants and precedes an operator that takes one operand.
 
 use crate::arity_rows::{AGGREGATES, CONTROL, NUMBERS};
-use crate::modules::{Section, expect_body, with_code};
+use crate::modules::Part::{Body, Bytes, Section};
+use crate::modules::{ONE_FUNCTION, Parts, add_parts, build, folding};
 use crate::vector_rows::{ATOMICS, VECTORS};
 use std::alloc::{AllocError, Global};
 use std::test::Fail;
-use wasmprinter_samples::sections::{FUNCTION, IMPORT, TAG, TYPE};
+use wasmprinter_expecting::expect_printed_by;
+use wasmprinter_samples::PREAMBLE;
+use wasmprinter_samples::sections::{IMPORT, TAG, TYPE};
 
 /// An operator: its operand and result counts, its bytes as hexadecimal digits, and its text.
-#[derive(Clone, Copy)]
+#[derive(Drop)]
 struct Row {
     operands: u32,
     results: u32,
@@ -56,13 +59,14 @@ const HEADER: &str = r#"(module
 /// The number of constants before the operator.
 const CONSTANTS: u32 = 6;
 
-/// The sections before the code section: these types, an imported function of type 1, a function of type 0, and a
+/// The parts before the code section: these types, an imported function of type 1, a function of type 0, and a
 /// tag of type 4.
-const SECTIONS: [Section; 4] = [
-    (TYPE, &TYPES),
-    (IMPORT, &[0x01, 0x00, 0x00, 0x00, 0x01]),
-    (FUNCTION, &[0x01, 0x00]),
-    (TAG, &[0x01, 0x00, 0x04]),
+const BEFORE_CODE: Parts = &[
+    Bytes(&PREAMBLE),
+    Section(TYPE, &TYPES),
+    Section(IMPORT, &[0x01, 0x00, 0x00, 0x00, 0x01]),
+    ONE_FUNCTION,
+    Section(TAG, &[0x01, 0x00, 0x04]),
 ];
 
 /// The six constants.
@@ -70,26 +74,16 @@ const SIX: [u8; 12] = [
     0x41, 0x00, 0x41, 0x00, 0x41, 0x00, 0x41, 0x00, 0x41, 0x00, 0x41, 0x00,
 ];
 
-/// Adds the bytes of an operator.
-fn add_operator(operators: &mut Vec<u8>, digits: &str) -> Result<(), Fail> {
+/// Returns a module with a body of an operator after six constants and before `i32.eqz`.
+fn module_of(alloc: Global, digits: &str) -> Result<Vec<u8>, Fail> {
+    let mut operators = Vec::from_slice(alloc, &SIX)?;
     for byte in digits.split_ascii_whitespace() {
         operators.push(u8::from_str_radix(byte, 16)?)?;
     }
-    Ok(())
-}
-
-/// Returns a body with an operator after six constants and before `i32.eqz`.
-fn body_of(alloc: Global, digits: &str) -> Result<Vec<u8>, Fail> {
-    let mut operators = Vec::from_slice(alloc, &SIX)?;
-    add_operator(&mut operators, digits)?;
     operators.push(0x45)?;
-    Ok(operators)
-}
-
-/// Returns a module with these sections and that body.
-fn module_of(alloc: Global, digits: &str) -> Result<Vec<u8>, Fail> {
-    let operators = body_of(alloc, digits)?;
-    Ok(with_code(alloc, &SECTIONS, &operators)?)
+    let mut wasm = build(alloc, BEFORE_CODE)?;
+    add_parts(alloc, &mut wasm, &[Body(&operators)])?;
+    Ok(wasm)
 }
 
 /// Adds `count` constants, each on a line of its own.
@@ -140,56 +134,38 @@ fn add_body(text: &mut String, row: &Row) -> Result<(), AllocError> {
     }
 }
 
-/// Returns the lines of the body with an operator.
-fn lines_of(alloc: Global, row: &Row) -> Result<String, AllocError> {
-    let mut lines = String::new(alloc);
-    add_body(&mut lines, row)?;
-    Ok(lines)
-}
-
-/// Checks that an operator is printed as expected.
-fn expect_row(alloc: Global, row: &Row) -> Result<(), Fail> {
-    let wasm = module_of(alloc, row.digits)?;
-    let lines = lines_of(alloc, row)?;
-    expect_body(alloc, &wasm, HEADER, lines.as_str())
-}
-
 /// Checks that each operator of a table is printed as expected, and returns their number.
-fn judge(alloc: Global, table: &'static str) -> Result<u32, Fail> {
+///
+/// # Errors
+///
+/// - A line of the table has another form, or the text of its module differs.
+fn count_expected(alloc: Global, table: &'static str) -> Result<u32, Fail> {
     let mut count: u32 = 0;
     for line in table.lines() {
-        expect_row(alloc, &row_of(line)?)?;
+        let row = row_of(line)?;
+        let wasm = module_of(alloc, row.digits)?;
+        let mut text = String::from_str(alloc, HEADER)?;
+        add_body(&mut text, &row)?;
+        text.push_str("  )\n)\n")?;
+        expect_printed_by(line, &folding(), alloc, &wasm, text.as_str())?;
         count = count.saturating_add(1);
     }
     Ok(count)
 }
 
-#[test]
-fn knows_arities_of_control_and_references(rt: HostRuntime) -> Result<(), Fail> {
-    assert!(rt; judge(rt.alloc(), CONTROL)? == 45);
-    Ok(())
-}
+/// Tables of operators, each with the number of its lines.
+const TABLES: [(&str, &str, u32); 5] = [
+    ("control and references", CONTROL, 45),
+    ("numbers", NUMBERS, 157),
+    ("structures, arrays and tables", AGGREGATES, 56),
+    ("vectors", VECTORS, 256),
+    ("atomic operators", ATOMICS, 67),
+];
 
 #[test]
-fn knows_arities_of_numbers(rt: HostRuntime) -> Result<(), Fail> {
-    assert!(rt; judge(rt.alloc(), NUMBERS)? == 157);
-    Ok(())
-}
-
-#[test]
-fn knows_arities_of_structures_arrays_and_tables(rt: HostRuntime) -> Result<(), Fail> {
-    assert!(rt; judge(rt.alloc(), AGGREGATES)? == 56);
-    Ok(())
-}
-
-#[test]
-fn knows_arities_of_vectors(rt: HostRuntime) -> Result<(), Fail> {
-    assert!(rt; judge(rt.alloc(), VECTORS)? == 256);
-    Ok(())
-}
-
-#[test]
-fn knows_arities_of_atomic_operators(rt: HostRuntime) -> Result<(), Fail> {
-    assert!(rt; judge(rt.alloc(), ATOMICS)? == 67);
+fn takes_and_gives_as_each_operator(rt: HostRuntime) -> Result<(), Fail> {
+    for (name, table, lines) in TABLES {
+        assert!(rt; count_expected(rt.alloc(), table)? == lines, "{name}");
+    }
     Ok(())
 }

@@ -1,13 +1,20 @@
 //! Tests of folded bodies: blocks, the arms of an `if`, and the operands of branches.
 
-use crate::modules::{expect_body, expect_lines, with_body};
+use crate::modules::Part::{Bytes, Section};
+use crate::modules::{BEFORE_BODY, BodyRow, HEADER, ONE_FUNCTION, expect_bodies};
 use std::test::Fail;
+use wasmprinter_samples::PREAMBLE;
+use wasmprinter_samples::sections::TYPE;
 
 /// Operators of a function without parameters and results, each list with its lines.
-const BLOCKS: [(&[u8], &str); 17] = [
-    // A block without nodes closes on a new line, after the line comment of its label
-    (&[0x02, 0x40, 0x0b], "    (block ;; label = @1\n    )\n"),
+const BLOCKS: [BodyRow; 17] = [
     (
+        "a block without nodes, which closes on a new line after the line comment of its label",
+        &[0x02, 0x40, 0x0b],
+        "    (block ;; label = @1\n    )\n",
+    ),
+    (
+        "a loop in a block",
         &[0x02, 0x40, 0x03, 0x40, 0x0b, 0x0b],
         r#"    (block ;; label = @1
       (loop ;; label = @2
@@ -15,11 +22,12 @@ const BLOCKS: [(&[u8], &str); 17] = [
 "#,
     ),
     (
+        "a `try_table` without nodes",
         &[0x1f, 0x40, 0x01, 0x02, 0x00, 0x0b],
         "    (try_table (catch_all 0) ;; label = @1\n    )\n",
     ),
-    // The labels of catch clauses are those outside the `try_table`
     (
+        "a catch clause, whose label is outside the `try_table`",
         &[
             0x02, 0x40, 0x1f, 0x40, 0x01, 0x02, 0x00, 0x0c, 0x00, 0x0b, 0x0b,
         ],
@@ -28,8 +36,8 @@ const BLOCKS: [(&[u8], &str); 17] = [
         (br 0 (;@2;))))
 "#,
     ),
-    // `br_on_non_null` takes a reference, the only value of its label
     (
+        "`br_on_non_null`, which takes a reference, the only value of its label",
         &[0x02, 0x6e, 0xd0, 0x70, 0xd6, 0x00, 0xd0, 0x6e, 0x0b, 0x1a],
         r#"    (drop
       (block (result anyref) ;; label = @1
@@ -38,22 +46,23 @@ const BLOCKS: [(&[u8], &str); 17] = [
         (ref.null any)))
 "#,
     ),
-    // An `if` without a node before it
     (
+        "an `if` without a node before it",
         &[0x04, 0x40, 0x0b],
         r#"    (if ;; label = @1
       (then))
 "#,
     ),
     (
+        "an `if` with `else`, without a node before it",
         &[0x04, 0x40, 0x05, 0x0b],
         r#"    (if ;; label = @1
       (then)
       (else))
 "#,
     ),
-    // The last node is the condition, even if it has no result
     (
+        "a condition without results, which is the last node",
         &[0x01, 0x04, 0x40, 0x0b],
         r#"    (if ;; label = @1
       (nop)
@@ -61,6 +70,7 @@ const BLOCKS: [(&[u8], &str); 17] = [
 "#,
     ),
     (
+        "a condition without results after an operand, and an `else` with a node",
         &[0x41, 0x00, 0x01, 0x04, 0x40, 0x05, 0x01, 0x0b],
         r#"    (i32.const 0)
     (if ;; label = @1
@@ -70,8 +80,8 @@ const BLOCKS: [(&[u8], &str); 17] = [
         (nop)))
 "#,
     ),
-    // The condition may be a block, which is outside the label of the `if`
     (
+        "a condition that is a block, outside the label of the `if`",
         &[0x02, 0x40, 0x0c, 0x00, 0x0b, 0x04, 0x40, 0x0c, 0x00, 0x0b],
         r#"    (if ;; label = @1
       (block ;; label = @1
@@ -80,16 +90,16 @@ const BLOCKS: [(&[u8], &str); 17] = [
         (br 0 (;@1;))))
 "#,
     ),
-    // A block gives its results
     (
+        "a block that gives its results",
         &[0x02, 0x7f, 0x41, 0x00, 0x0b, 0x1a],
         r#"    (drop
       (block (result i32) ;; label = @1
         (i32.const 0)))
 "#,
     ),
-    // An `if` without `else` gives its results too
     (
+        "an `if` without `else` that gives its results",
         &[0x41, 0x00, 0x04, 0x7f, 0x41, 0x01, 0x0b, 0x1a],
         r#"    (drop
       (if (result i32) ;; label = @1
@@ -98,8 +108,8 @@ const BLOCKS: [(&[u8], &str); 17] = [
           (i32.const 1))))
 "#,
     ),
-    // Both arms, with operands in each
     (
+        "both arms with operands",
         &[
             0x41, 0x00, 0x04, 0x7f, 0x41, 0x01, 0x45, 0x05, 0x41, 0x02, 0x41, 0x03, 0x6a, 0x0b,
             0x45, 0x1a,
@@ -117,8 +127,8 @@ const BLOCKS: [(&[u8], &str); 17] = [
               (i32.const 3))))))
 "#,
     ),
-    // An arm takes no operands from the other arm, nor from before the `if`
     (
+        "arms that take no operands from the other arm, nor from before the `if`",
         &[
             0x41, 0x00, 0x41, 0x01, 0x04, 0x40, 0x1a, 0x41, 0x02, 0x05, 0x1a, 0x0b,
         ],
@@ -132,8 +142,8 @@ const BLOCKS: [(&[u8], &str); 17] = [
         (drop)))
 "#,
     ),
-    // A block without results is taken with the operand before it
     (
+        "a block without results, which is taken with the operand before it",
         &[0x41, 0x00, 0x02, 0x40, 0x0b, 0x1a],
         r#"    (drop
       (i32.const 0)
@@ -141,8 +151,8 @@ const BLOCKS: [(&[u8], &str); 17] = [
       ))
 "#,
     ),
-    // Branches take the value of a block's label
     (
+        "branches that take the value of a block's label",
         &[
             0x02, 0x7f, 0x41, 0x01, 0x41, 0x02, 0x0d, 0x00, 0x0c, 0x00, 0x0b, 0x1a,
         ],
@@ -154,8 +164,8 @@ const BLOCKS: [(&[u8], &str); 17] = [
             (i32.const 2)))))
 "#,
     ),
-    // `br_table` takes the values of its last label, and its index
     (
+        "`br_table`, which takes the values of its last label, and its index",
         &[
             0x02, 0x40, 0x02, 0x7f, 0x41, 0x01, 0x41, 0x02, 0x0e, 0x01, 0x01, 0x00, 0x0b, 0x1a,
             0x0b,
@@ -172,10 +182,7 @@ const BLOCKS: [(&[u8], &str); 17] = [
 
 #[test]
 fn prints_blocks_with_their_contents(rt: HostRuntime) -> Result<(), Fail> {
-    for (operators, lines) in &BLOCKS {
-        expect_lines(rt.alloc(), operators, lines)?;
-    }
-    Ok(())
+    expect_bodies(rt.alloc(), BEFORE_BODY, HEADER, &BLOCKS)
 }
 
 /// Three types: of the function, of functions with a parameter and two results, and of arrays.
@@ -187,9 +194,9 @@ const TYPES: [u8; 13] = [
 ];
 
 /// Operators in blocks of those types, each list with its lines.
-const OF_TYPES: [(&[u8], &str); 6] = [
-    // The values of the label of a loop are its parameters
+const OF_TYPES: [BodyRow; 6] = [
     (
+        "the label of a loop, whose values are its parameters",
         &[0x03, 0x01, 0x41, 0x05, 0x41, 0x06, 0x0c, 0x00, 0x0b],
         r#"    (loop (type 1) (param i32) (result i64 i64) ;; label = @1
       (i32.const 5)
@@ -197,8 +204,8 @@ const OF_TYPES: [(&[u8], &str); 6] = [
         (i32.const 6)))
 "#,
     ),
-    // The values of the label of a block are its results, and the block takes no parameters
     (
+        "the label of a block, whose values are its results, and which takes no parameters",
         &[
             0x41, 0x04, 0x02, 0x01, 0x41, 0x05, 0x41, 0x06, 0x0c, 0x00, 0x0b,
         ],
@@ -209,8 +216,8 @@ const OF_TYPES: [(&[u8], &str); 6] = [
         (i32.const 6)))
 "#,
     ),
-    // A loop gives its results
     (
+        "a loop that gives its results",
         &[0x03, 0x01, 0x0b, 0x7c, 0x1a],
         r#"    (drop
       (i64.add
@@ -218,8 +225,8 @@ const OF_TYPES: [(&[u8], &str); 6] = [
         )))
 "#,
     ),
-    // An `if` takes one node, and gives two results
     (
+        "an `if` that takes one node and gives two results",
         &[0x41, 0x04, 0x41, 0x05, 0x04, 0x01, 0x05, 0x0b, 0x7c],
         r#"    (i32.const 4)
     (i64.add
@@ -229,9 +236,8 @@ const OF_TYPES: [(&[u8], &str); 6] = [
         (else)))
 "#,
     ),
-    // A branch to a block whose type does not exist takes nothing, not even its condition, and the block gives
-    // nothing
     (
+        "a block whose type does not exist: its branch takes nothing, and it gives nothing",
         &[0x41, 0x00, 0x02, 0x05, 0x41, 0x01, 0x0d, 0x00, 0x0b, 0x1a],
         r#"    (drop
       (i32.const 0)
@@ -240,8 +246,8 @@ const OF_TYPES: [(&[u8], &str); 6] = [
         (br_if 0 (;@1;))))
 "#,
     ),
-    // The same if the type of the block is not a function type
     (
+        "a block whose type is no function type",
         &[0x41, 0x00, 0x02, 0x02, 0x41, 0x01, 0x0d, 0x00, 0x0b, 0x1a],
         r#"    (drop
       (i32.const 0)
@@ -262,9 +268,10 @@ const OF_TYPES_HEADER: &str = "(module
 
 #[test]
 fn counts_parameters_and_results_of_block_types(rt: HostRuntime) -> Result<(), Fail> {
-    for (operators, lines) in &OF_TYPES {
-        let wasm = with_body(rt.alloc(), &TYPES, operators)?;
-        expect_body(rt.alloc(), &wasm, OF_TYPES_HEADER, lines)?;
-    }
-    Ok(())
+    expect_bodies(
+        rt.alloc(),
+        &[Bytes(&PREAMBLE), Section(TYPE, &TYPES), ONE_FUNCTION],
+        OF_TYPES_HEADER,
+        &OF_TYPES,
+    )
 }

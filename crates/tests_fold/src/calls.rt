@@ -2,15 +2,15 @@
 //! of them fails. If a printer takes no ANSI escape sequences within a text, operators and the parentheses that
 //! folding adds are text without styles.
 
-use crate::modules::{NO_PARAMS, folding, with_body};
+use crate::modules::Options::{Folded, Places};
+use crate::modules::Part::{Body, Bytes, Custom};
+use crate::modules::{NO_PARAMS, ONE_FUNCTION, Options, Parts, build, folding};
 use std::alloc::Global;
 use std::io::ErrorKind;
 use std::test::Fail;
-use wasmprinter::{Config, Error, Print};
-use wasmprinter_samples::sections::add_custom;
-use wasmprinter_samples::{
-    EMPTY_CALLS, FIELDS, IDENTITY, PREAMBLE, REFUSED, Recorder, expect_text,
-};
+use wasmprinter::Error;
+use wasmprinter_expecting::{expect_calls, print_to};
+use wasmprinter_samples::{EMPTY_CALLS, FIELDS, IDENTITY, PREAMBLE, REFUSED, Recorder};
 
 /// The calls for `IDENTITY`.
 const IDENTITY_FOLDED: &str = r#"[0x0]({K}module{R}
@@ -41,53 +41,6 @@ const FIELDS_FOLDED: &str = r#"[0x0]({K}module{R}
 [0x69])
 "#;
 
-/// Prints to any printer. It has no contract, so that callers need not prove anything about their own printer.
-fn print_to<P: Print>(
-    config: &Config,
-    alloc: Global,
-    wasm: &[u8],
-    printer: &mut P,
-) -> Result<(), Error> {
-    config.print(alloc, wasm, printer)
-}
-
-/// Checks that printing a module to this recorder makes exactly these calls, and that each was recorded.
-fn expect_calls_to(
-    alloc: Global,
-    config: &Config,
-    wasm: &[u8],
-    recorder: &mut Recorder,
-    calls: &str,
-) -> Result<(), Fail> {
-    print_to(config, alloc, wasm, recorder)?;
-    expect_text(recorder.calls(), calls)?;
-    if !recorder.is_complete() {
-        return Err(Fail::new("a call is lost"));
-    }
-    Ok(())
-}
-
-/// Checks that printing a module to a printer that claims no section makes exactly these calls.
-fn expect_calls(alloc: Global, config: &Config, wasm: &[u8], calls: &str) -> Result<(), Fail> {
-    let mut recorder = Recorder::new(alloc);
-    expect_calls_to(alloc, config, wasm, &mut recorder, calls)
-}
-
-/// Modules, each with the calls that print it.
-const MODULES: [(&[u8], &str); 3] = [
-    (&PREAMBLE, EMPTY_CALLS),
-    (&IDENTITY, IDENTITY_FOLDED),
-    (&FIELDS, FIELDS_FOLDED),
-];
-
-#[test]
-fn makes_each_call_in_order(rt: HostRuntime) -> Result<(), Fail> {
-    for (wasm, calls) in &MODULES {
-        expect_calls(rt.alloc(), &folding(), wasm, calls)?;
-    }
-    Ok(())
-}
-
 /// The calls for an empty block and an `if` with both arms, with places. The comments of places have a style,
 /// those of labels have none.
 const PLACED: &str = r#"[0x0]({K}module{R}
@@ -109,13 +62,72 @@ const PLACED_OPERATORS: [u8; 12] = [
     0x02, 0x40, 0x0b, 0x20, 0x80, 0x00, 0x04, 0x40, 0x0c, 0x00, 0x05, 0x0b,
 ];
 
+/// The calls for a body, and for a custom section after it that the printer claims.
+const TAKEN: &str = r#"[0x0]({K}module{R}
+[0xb]  ({K}type {R}{N}(;0;){R} ({K}func{R}))
+[0x16]  ({K}func {R}{N}(;0;){R} ({K}type {R}{N}0{R})
+[0x19]    (drop
+[0x17]      (i32.const 0))
+[0x1a]  ){? "a" 0x1f [1]}
+[0x20])
+"#;
+
+/// A module that is printed to a recorder: the name of the row, the options, the parts, the name of the custom sections
+/// that the recorder claims (none if it is empty), and the calls.
+type Row = (&'static str, Options, Parts, &'static str, &'static str);
+
+const ROWS: [Row; 5] = [
+    ("no sections", Folded, &[Bytes(&PREAMBLE)], "", EMPTY_CALLS),
+    (
+        "a function",
+        Folded,
+        &[Bytes(&IDENTITY)],
+        "",
+        IDENTITY_FOLDED,
+    ),
+    (
+        "initialisers and segments",
+        Folded,
+        &[Bytes(&FIELDS)],
+        "",
+        FIELDS_FOLDED,
+    ),
+    (
+        "places of a block and an `if`",
+        Places,
+        &[
+            Bytes(&PREAMBLE),
+            NO_PARAMS,
+            ONE_FUNCTION,
+            Body(&PLACED_OPERATORS),
+        ],
+        "",
+        PLACED,
+    ),
+    (
+        "a claimed section",
+        Folded,
+        &[
+            Bytes(&PREAMBLE),
+            NO_PARAMS,
+            ONE_FUNCTION,
+            Body(&[0x41, 0x00, 0x1a]),
+            Custom("a", &[0x01]),
+        ],
+        "a",
+        TAKEN,
+    ),
+];
+
 #[test]
-fn makes_calls_for_places(rt: HostRuntime) -> Result<(), Fail> {
+fn makes_each_call_in_order(rt: HostRuntime) -> Result<(), Fail> {
     let alloc = rt.alloc();
-    let wasm = with_body(alloc, &NO_PARAMS, &PLACED_OPERATORS)?;
-    let mut config = folding();
-    config.print_offsets(true);
-    expect_calls(alloc, &config, &wasm, PLACED)
+    for (name, options, parts, claimed, calls) in &ROWS {
+        let wasm = build(alloc, parts)?;
+        let recorder = Recorder::with_section_taken(alloc, claimed);
+        expect_calls(name, &options.config(alloc)?, alloc, &wasm, recorder, calls)?;
+    }
+    Ok(())
 }
 
 /// Recorded calls up to and including a refused one. The refused calls are the first, one in the middle, the line
@@ -133,81 +145,35 @@ const BEGINNINGS: [&str; 4] = [
     IDENTITY_FOLDED,
 ];
 
-/// Returns the number of calls that can fail when `IDENTITY` is printed.
-fn call_count(alloc: Global, config: &Config) -> Result<u32, Error> {
-    let mut whole = Recorder::new(alloc);
-    print_to(config, alloc, &IDENTITY, &mut whole)?;
-    Ok(whole.call_count())
+/// Prints `IDENTITY` folded to a recorder that refuses the call with this number. Returns whether the calls up to that
+/// one are listed in `BEGINNINGS`, or `None` if another error is returned, a call follows the refused one, or a
+/// call differs from those of `IDENTITY_FOLDED`.
+fn stops_at(alloc: Global, call: u32) -> Option<bool> {
+    let mut recorder = Recorder::with_refusal(alloc, call, ErrorKind::BrokenPipe);
+    let refused = print_to(&folding(), alloc, &IDENTITY, &mut recorder);
+    let is_returned =
+        matches!(refused, Err(Error::Printer(e)) if e.kind() == ErrorKind::BrokenPipe);
+    match recorder.calls().strip_suffix(REFUSED) {
+        Some(beginning)
+            if is_returned && recorder.is_complete() && IDENTITY_FOLDED.starts_with(beginning) => {
+            Some(BEGINNINGS.contains(&beginning))
+        }
+        _ => None,
+    }
 }
 
-/// Reports whether printing `IDENTITY` to the recorder returns the error of the refused call, and each call was
-/// recorded.
-fn answers_its_error(alloc: Global, config: &Config, recorder: &mut Recorder) -> bool {
-    let refused = print_to(config, alloc, &IDENTITY, recorder);
-    matches!(refused, Err(Error::Printer(e)) if e.kind() == ErrorKind::BrokenPipe)
-        && recorder.is_complete()
-}
-
-/// Returns the calls up to the refused one, or `None` if a call follows it or they are not the first calls for
-/// `IDENTITY`.
-fn calls_before(calls: &str) -> Option<&str> {
-    let beginning = calls.strip_suffix(REFUSED)?;
-    IDENTITY_FOLDED.starts_with(beginning).then_some(beginning)
-}
-
-/// Returns the number of times that these calls occur in `BEGINNINGS`.
-fn times_reported(calls: &str) -> usize {
-    let mut count: usize = 0;
-    for beginning in &BEGINNINGS {
-        if *beginning == calls {
-            count = count.saturating_add(1);
+#[test]
+fn stops_at_the_call_that_fails_and_returns_its_error(rt: HostRuntime) -> Result<(), Fail> {
+    let mut recorder = Recorder::new(rt.alloc());
+    print_to(&folding(), rt.alloc(), &IDENTITY, &mut recorder)?;
+    let mut seen: usize = 0;
+    for call in 1..=recorder.call_count() {
+        let is_seen = stops_at(rt.alloc(), call);
+        assert!(rt; is_seen.is_some(), "at call {call}");
+        if is_seen == Some(true) {
+            seen = seen.saturating_add(1);
         }
     }
-    count
-}
-
-/// Returns the number of times that the calls up to the refused one, which has this number, occur in `BEGINNINGS`.
-/// Returns `None` if that call is not the last, or its error is not returned.
-fn times_reported_before(alloc: Global, config: &Config, call: u32) -> Option<usize> {
-    let mut recorder = Recorder::with_refusal(alloc, call, ErrorKind::BrokenPipe);
-    if !answers_its_error(alloc, config, &mut recorder) {
-        return None;
-    }
-    let calls = calls_before(recorder.calls())?;
-    Some(times_reported(calls))
-}
-
-/// Returns the sum of these numbers, with each call that can fail refused in turn.
-fn times_reported_in_all(alloc: Global, config: &Config) -> Result<usize, Fail> {
-    let mut count: usize = 0;
-    for call in 1..=call_count(alloc, config)? {
-        let told = times_reported_before(alloc, config, call).ok_or(call)?;
-        count = count.saturating_add(told);
-    }
-    Ok(count)
-}
-
-#[test]
-fn stops_at_the_call_that_fails_and_answers_its_error(rt: HostRuntime) -> Result<(), Fail> {
-    assert!(rt; times_reported_in_all(rt.alloc(), &folding())? == BEGINNINGS.len());
+    assert!(rt; seen == BEGINNINGS.len());
     Ok(())
-}
-
-/// The calls for a body, and for a custom section after it that the printer claims.
-const TAKEN: &str = r#"[0x0]({K}module{R}
-[0xb]  ({K}type {R}{N}(;0;){R} ({K}func{R}))
-[0x16]  ({K}func {R}{N}(;0;){R} ({K}type {R}{N}0{R})
-[0x19]    (drop
-[0x17]      (i32.const 0))
-[0x1a]  ){? "a" 0x1f [1]}
-[0x20])
-"#;
-
-#[test]
-fn folds_beside_a_section_that_is_taken(rt: HostRuntime) -> Result<(), Fail> {
-    let alloc = rt.alloc();
-    let mut wasm = with_body(alloc, &NO_PARAMS, &[0x41, 0x00, 0x1a])?;
-    add_custom(alloc, &mut wasm, "a", &[0x01])?;
-    let mut recorder = Recorder::with_section_taken(alloc, "a");
-    expect_calls_to(alloc, &folding(), &wasm, &mut recorder, TAKEN)
 }

@@ -2,29 +2,65 @@
 //! operator. Hints are refused if their operator has no node of its own, or if folded text has nowhere to put
 //! them.
 
+use crate::modules::Part::{Body, Bytes, Custom, Section};
 use crate::modules::{
-    Refusal, expect_body, expect_folded, expect_printed, expect_refusal, folding, is_text_refused,
-    with_hints,
+    BodyRow, HINTS, ONE_FUNCTION, Part, Refusal, Text, build, folding, is_text_refused,
 };
 use std::alloc::{AllocError, Global};
 use std::test::Fail;
+use wasmprinter_expecting::expect_printed_by;
+use wasmprinter_samples::PREAMBLE;
+use wasmprinter_samples::sections::TYPE;
 
-/// A type section with one function type, with one parameter.
-const ONE_PARAM: [u8; 5] = [0x01, 0x60, 0x01, 0x7f, 0x00];
+/// The type section of one function type, with one parameter.
+pub const ONE_PARAM: Part<'static> = Section(TYPE, &[0x01, 0x60, 0x01, 0x7f, 0x00]);
 
 /// Returns a module with a function of one parameter and these operators, and a hint section with this data, which
 /// starts at byte 0x2f.
 fn module_with_hints(alloc: Global, data: &[u8], operators: &[u8]) -> Result<Vec<u8>, AllocError> {
-    with_hints(alloc, &ONE_PARAM, data, operators)
+    build(
+        alloc,
+        &[
+            Bytes(&PREAMBLE),
+            ONE_PARAM,
+            ONE_FUNCTION,
+            Custom(HINTS, data),
+            Body(operators),
+        ],
+    )
+}
+
+/// The lines before the function's body.
+const ONE_PARAM_HEADER: &str = "(module
+  (type (;0;) (func (param i32)))
+  (func (;0;) (type 0) (param i32)
+";
+
+/// Checks that a function of one parameter and these operators, with this data of hints, is printed folded as these
+/// lines.
+///
+/// # Errors
+///
+/// - The module is refused, or its text differs.
+fn expect_hinted(
+    name: &'static str,
+    alloc: Global,
+    data: &[u8],
+    operators: &[u8],
+    lines: &'static str,
+) -> Result<(), Fail> {
+    let wasm = module_with_hints(alloc, data, operators)?;
+    let text = Text::Body(ONE_PARAM_HEADER, lines).whole(alloc)?;
+    expect_printed_by(name, &folding(), alloc, &wasm, text.as_str())
 }
 
 /// A test of the parameter in an `if`.
-const TESTED: [u8; 5] = [0x20, 0x00, 0x04, 0x40, 0x0b];
+pub const TESTED: [u8; 5] = [0x20, 0x00, 0x04, 0x40, 0x0b];
 
 /// Data of hint sections, each with the lines of `TESTED`.
-const ROWS: [(&[u8], &str); 5] = [
-    // A hint for the `if`
+const ROWS: [BodyRow; 5] = [
     (
+        "a hint for the `if`: likely",
         &[0x01, 0x00, 0x01, 0x03, 0x01, 0x01],
         r#"    (@metadata.code.branch_hint "\01")
     (if ;; label = @1
@@ -33,6 +69,7 @@ const ROWS: [(&[u8], &str); 5] = [
 "#,
     ),
     (
+        "a hint for the `if`: unlikely",
         &[0x01, 0x00, 0x01, 0x03, 0x01, 0x00],
         r#"    (@metadata.code.branch_hint "\00")
     (if ;; label = @1
@@ -40,8 +77,8 @@ const ROWS: [(&[u8], &str); 5] = [
       (then))
 "#,
     ),
-    // A hint for its condition, and for both
     (
+        "a hint for the condition, and one for the `if`",
         &[0x01, 0x00, 0x02, 0x01, 0x01, 0x00, 0x03, 0x01, 0x01],
         r#"    (@metadata.code.branch_hint "\01")
     (if ;; label = @1
@@ -50,16 +87,16 @@ const ROWS: [(&[u8], &str); 5] = [
       (then))
 "#,
     ),
-    // The first hint belongs to no operator, and so blocks that of the `end`
     (
+        "a first hint that belongs to no operator, and so blocks that of the `end`",
         &[0x01, 0x00, 0x02, 0x04, 0x01, 0x01, 0x05, 0x01, 0x01],
         r#"    (if ;; label = @1
       (local.get 0)
       (then))
 "#,
     ),
-    // The last `end` takes no hint
     (
+        "a hint for the last `end`, which takes none",
         &[0x01, 0x00, 0x01, 0x06, 0x01, 0x01],
         r#"    (if ;; label = @1
       (local.get 0)
@@ -68,63 +105,22 @@ const ROWS: [(&[u8], &str); 5] = [
     ),
 ];
 
-/// The lines before the function's body.
-const ONE_PARAM_HEADER: &str = "(module
-  (type (;0;) (func (param i32)))
-  (func (;0;) (type 0) (param i32)
-";
-
-#[test]
-fn prints_hints_in_front_of_nodes(rt: HostRuntime) -> Result<(), Fail> {
-    for (data, lines) in &ROWS {
-        let wasm = module_with_hints(rt.alloc(), data, &TESTED)?;
-        expect_body(rt.alloc(), &wasm, ONE_PARAM_HEADER, lines)?;
-    }
-    Ok(())
-}
-
-/// The line of a hint has the place of its node.
-#[test]
-fn places_hints_as_nodes(rt: HostRuntime) -> Result<(), Fail> {
-    let alloc = rt.alloc();
-    let wasm = module_with_hints(alloc, &[0x01, 0x00, 0x01, 0x03, 0x01, 0x01], &TESTED)?;
-    let mut config = folding();
-    config.print_offsets(true);
-    expect_printed(
-        alloc,
-        &config,
-        &wasm,
-        r#"(module
-(;@b     ;)  (type (;0;) (func (param i32)))
-(;@39    ;)  (func (;0;) (type 0) (param i32)
-(;@3c    ;)    (@metadata.code.branch_hint "\01")
-(;@3c    ;)    (if ;; label = @1
-(;@3a    ;)      (local.get 0)
-(;@3c    ;)      (then))
-(;@3f    ;)  )
-(;@40    ;))
-"#,
-    )
-}
-
 /// A conditional branch whose value is an operand of another operator.
 const OPERANDS: [u8; 11] = [
     0x02, 0x7f, 0x41, 0x01, 0x20, 0x00, 0x0d, 0x00, 0x45, 0x0b, 0x1a,
 ];
 
-/// Hints for a branch, and for the operator that takes its value.
 #[test]
-fn prints_hints_of_operands(rt: HostRuntime) -> Result<(), Fail> {
-    let alloc = rt.alloc();
-    let hints = [0x01, 0x00, 0x02, 0x07, 0x01, 0x01, 0x09, 0x01, 0x00];
-    let wasm = module_with_hints(alloc, &hints, &OPERANDS)?;
-    expect_folded(
-        alloc,
-        &wasm,
-        r#"(module
-  (type (;0;) (func (param i32)))
-  (func (;0;) (type 0) (param i32)
-    (drop
+fn prints_hints_before_nodes(rt: HostRuntime) -> Result<(), Fail> {
+    for (name, data, lines) in ROWS {
+        expect_hinted(name, rt.alloc(), data, &TESTED, lines)?;
+    }
+    expect_hinted(
+        "hints for a branch, and for the operator that takes its value",
+        rt.alloc(),
+        &[0x01, 0x00, 0x02, 0x07, 0x01, 0x01, 0x09, 0x01, 0x00],
+        &OPERANDS,
+        r#"    (drop
       (block (result i32) ;; label = @1
         (@metadata.code.branch_hint "\00")
         (i32.eqz
@@ -132,8 +128,6 @@ fn prints_hints_of_operands(rt: HostRuntime) -> Result<(), Fail> {
           (br_if 0 (;@1;)
             (i32.const 1)
             (local.get 0)))))
-  )
-)
 "#,
     )
 }
@@ -190,86 +184,47 @@ const IF_HINTED: &str = r#"    (block ;; label = @1
 const OF_BLOCKS: [u8; 8] = [1, 3, 4, 6, 7, 10, 15, 16];
 
 /// The offsets of the constant, the `if` and the last `end`, each with the lines for a hint at it.
-const OF_OTHERS: [(u8, &str); 3] = [(11, CONSTANT_HINTED), (13, IF_HINTED), (17, UNHINTED)];
-
-/// Reports whether `EACH_KIND`, with this data of hints, is refused for a hint at this place.
-fn is_hint_refused(alloc: Global, data: &[u8], place: u64) -> Result<bool, AllocError> {
-    let wasm = module_with_hints(alloc, data, &EACH_KIND)?;
-    Ok(is_text_refused(alloc, &folding(), &wasm, Refusal::Hint(place)))
-}
-
-/// Checks that `EACH_KIND`, with this data of hints, is printed as these lines.
-fn expect_kinds(alloc: Global, data: &[u8], lines: &str) -> Result<(), Fail> {
-    let wasm = module_with_hints(alloc, data, &EACH_KIND)?;
-    expect_body(alloc, &wasm, ONE_PARAM_HEADER, lines)
-}
+const OF_OTHERS: [(&str, u8, &str); 3] = [
+    ("a hint for the constant", 11, CONSTANT_HINTED),
+    ("a hint for the `if`", 13, IF_HINTED),
+    ("a hint for the last `end`", 17, UNHINTED),
+];
 
 /// The offset of the constant, whose hint is printed.
 const CONSTANT: u8 = 0x0b;
 
-/// Returns the data of a hint for the operator at this offset, after the count of functions, the function and the
-/// count of its hints.
-fn hint_at(offset: u8) -> [u8; 6] {
-    [0x01, 0x00, 0x01, offset, 0x01, 0x01]
-}
-
-/// Returns the data of a hint for the constant, followed by a hint for the operator at this offset.
-fn hints_at_constant_and(offset: u8) -> [u8; 9] {
-    [0x01, 0x00, 0x02, CONSTANT, 0x01, 0x01, offset, 0x01, 0x01]
-}
-
-/// After the hint for the constant, a hint for an earlier operator is never reached.
+/// The module has the hint for an operator at byte 0x32, or at byte 0x35 after the hint for the constant. After that
+/// hint, a hint for an earlier operator is never reached.
 #[test]
 fn refuses_hints_of_blocks_and_of_their_ends(rt: HostRuntime) -> Result<(), Fail> {
     let alloc = rt.alloc();
     for offset in OF_BLOCKS {
+        let hint = [0x01, 0x00, 0x01, offset, 0x01, 0x01];
+        let wasm = module_with_hints(alloc, &hint, &EACH_KIND)?;
         assert!(rt;
-            is_hint_refused(alloc, &hint_at(offset), 0x32)?,
+            is_text_refused(alloc, &folding(), &wasm, &Refusal::Hint(0x32)),
             "at {offset}"
         );
-        let second = hints_at_constant_and(offset);
+        let hints = [0x01, 0x00, 0x02, CONSTANT, 0x01, 0x01, offset, 0x01, 0x01];
         if offset < CONSTANT {
-            expect_kinds(alloc, &second, CONSTANT_HINTED)?;
+            expect_hinted(
+                "a hint for an earlier operator",
+                alloc,
+                &hints,
+                &EACH_KIND,
+                CONSTANT_HINTED,
+            )?;
         } else {
-            assert!(rt; is_hint_refused(alloc, &second, 0x35)?, "at {offset}");
+            let wasm = module_with_hints(alloc, &hints, &EACH_KIND)?;
+            assert!(rt;
+                is_text_refused(alloc, &folding(), &wasm, &Refusal::Hint(0x35)),
+                "at {offset}, after the constant"
+            );
         }
     }
-    for (offset, lines) in OF_OTHERS {
-        expect_kinds(alloc, &hint_at(offset), lines)?;
+    for (name, offset, lines) in OF_OTHERS {
+        let hint = [0x01, 0x00, 0x01, offset, 0x01, 0x01];
+        expect_hinted(name, alloc, &hint, &EACH_KIND, lines)?;
     }
     Ok(())
-}
-
-/// A module whose function has no parameters, with a hint for its block.
-const BLOCK_HINTED: [u8; 61] = [
-    0x00, 0x61, 0x73, 0x6d, 0x01, 0x00, 0x00, 0x00, // preamble
-    0x01, 0x04, 0x01, 0x60, 0x00, 0x00, // types
-    0x03, 0x02, 0x01, 0x00, // functions
-    0x00, 0x20, 0x19, 0x6d, 0x65, 0x74, 0x61, 0x64, 0x61, 0x74, 0x61, 0x2e, 0x63, 0x6f, 0x64, 0x65,
-    0x2e, 0x62, 0x72, 0x61, 0x6e, 0x63, 0x68, 0x5f, 0x68, 0x69, 0x6e, 0x74, // hints
-    0x01, 0x00, 0x01, 0x01, 0x01, 0x01, // the hint at 49
-    0x0a, 0x07, 0x01, 0x05, 0x00, 0x02, 0x40, 0x0b, 0x0b, // code
-];
-
-/// The text of that module, flat.
-const BLOCK_HINTED_FLAT: &str = r#"(module
-  (type (;0;) (func))
-  (func (;0;) (type 0)
-    (@metadata.code.branch_hint "\01")
-    block ;; label = @1
-    end
-  )
-)
-"#;
-
-/// The hint is not refused in a skeleton, which has no bodies.
-#[test]
-fn returns_the_place_of_the_hint(rt: HostRuntime) -> Result<(), Fail> {
-    expect_refusal(
-        rt.alloc(),
-        &BLOCK_HINTED,
-        Refusal::Hint(49),
-        "(module\n  (type (;0;) (func))\n  (func (;0;) (type 0) ...)\n)\n",
-        BLOCK_HINTED_FLAT,
-    )
 }

@@ -1,99 +1,123 @@
-//! Helpers shared by the tests of folded operators: building modules of a few sections, and checking their folded
-//! texts.
+//! Helpers shared by the tests of folded operators: modules that are assembled from parts, rows of modules with their
+//! texts or refusals, and the loops that check these rows. A failure shows the name of its row.
 
 use std::alloc::{AllocError, Global};
 use std::test::Fail;
 use wasmprinter::{Config, Error};
+use wasmprinter_expecting::{expect_printed_by, text_by};
+use wasmprinter_samples::PREAMBLE;
 use wasmprinter_samples::sections::{FUNCTION, TYPE, add_custom, add_section};
-use wasmprinter_samples::{PREAMBLE, expect_text};
 
-/// The content of a type section with one function type, without parameters and results.
-pub const NO_PARAMS: [u8; 4] = [0x01, 0x60, 0x00, 0x00];
+/// A part of a module.
+#[derive(Drop)]
+pub enum Part<'a> {
+    /// These bytes
+    Bytes(&'a [u8]),
+    /// That many copies of these bytes
+    Copies(u32, &'a [u8]),
+    /// A section with this id and this content, of fewer than 128 bytes
+    Section(u8, &'a [u8]),
+    /// A custom section with this name and this data, of fewer than 127 bytes together
+    Custom(&'a str, &'a [u8]),
+    /// A code section of one body: no locals, these operators, which have fewer than 100 bytes, and an `end`
+    Body(&'a [u8]),
+}
+
+/// The parts of a module of a row.
+pub type Parts = &'static [Part<'static>];
+
+/// The type section of one function type, without parameters and results.
+pub const NO_PARAMS: Part<'static> = Part::Section(TYPE, &[0x01, 0x60, 0x00, 0x00]);
+
+/// The function section of one function of the first type.
+pub const ONE_FUNCTION: Part<'static> = Part::Section(FUNCTION, &[0x01, 0x00]);
+
+/// A function without parameters and results, except its body.
+pub const BEFORE_BODY: Parts = &[Part::Bytes(&PREAMBLE), NO_PARAMS, ONE_FUNCTION];
+
+/// The name of a hint section.
+pub const HINTS: &str = "metadata.code.branch_hint";
 
 /// The lines before the body of the only function of a module, without parameters and results.
 pub const HEADER: &str = "(module\n  (type (;0;) (func))\n  (func (;0;) (type 0)\n";
 
-/// The id of a section, and its content.
-pub type Section = (u8, &'static [u8]);
-
-/// Adds a code section with one body: no locals, these operators, which must have fewer than 100 bytes, and an
-/// `end`.
-pub fn add_code(wasm: &mut Vec<u8>, operators: &[u8]) -> Result<(), AllocError> {
-    let size = operators.len().min(100) as u8 + 2;
-    wasm.extend_from_slice(&[0x0a, size + 2, 0x01, size, 0x00])?;
-    wasm.extend_from_slice(operators)?;
-    wasm.push(0x0b)?;
-    Ok(())
-}
-
-/// Adds these sections in order.
-fn add_sections(wasm: &mut Vec<u8>, sections: &[Section]) -> Result<(), AllocError> {
-    for (id, content) in sections {
-        add_section(wasm, *id, content)?;
+/// Adds these parts to a module.
+pub fn add_parts(alloc: Global, wasm: &mut Vec<u8>, parts: &[Part<'_>]) -> Result<(), AllocError> {
+    for part in parts {
+        match part {
+            Part::Bytes(bytes) => wasm.extend_from_slice(bytes)?,
+            Part::Copies(count, bytes) => {
+                for _ in 0..*count {
+                    wasm.extend_from_slice(bytes)?;
+                }
+            }
+            Part::Section(id, content) => add_section(wasm, *id, content)?,
+            Part::Custom(name, data) => add_custom(alloc, wasm, name, data)?,
+            Part::Body(operators) => {
+                let size = operators.len().min(100) as u8 + 2;
+                wasm.extend_from_slice(&[0x0a, size + 2, 0x01, size, 0x00])?;
+                wasm.extend_from_slice(operators)?;
+                wasm.push(0x0b)?;
+            }
+        }
     }
     Ok(())
 }
 
-/// Adds these types (the content of a type section), and a function of the first type with these operators.
-fn add_function(wasm: &mut Vec<u8>, types: &[u8], operators: &[u8]) -> Result<(), AllocError> {
-    add_section(wasm, TYPE, types)?;
-    add_section(wasm, FUNCTION, &[0x01, 0x00])?;
-    add_code(wasm, operators)
-}
-
-/// Returns a module with these types (the content of a type section), and a function of the first type with these
-/// operators.
-pub fn with_body(alloc: Global, types: &[u8], operators: &[u8]) -> Result<Vec<u8>, AllocError> {
-    let mut wasm = Vec::from_slice(alloc, &PREAMBLE)?;
-    add_function(&mut wasm, types, operators)?;
+/// Returns a module of these parts.
+pub fn build(alloc: Global, parts: &[Part<'_>]) -> Result<Vec<u8>, AllocError> {
+    let mut wasm = Vec::new(alloc);
+    add_parts(alloc, &mut wasm, parts)?;
     Ok(wasm)
 }
 
-/// Returns a module of these sections.
-pub fn with_sections(alloc: Global, sections: &[Section]) -> Result<Vec<u8>, AllocError> {
-    let mut wasm = Vec::from_slice(alloc, &PREAMBLE)?;
-    add_sections(&mut wasm, sections)?;
-    Ok(wasm)
+/// The options of a row.
+pub enum Options {
+    Default,
+    Folded,
+    /// Folding is set, and then taken back.
+    TakenBack,
+    /// Folded, with places.
+    Places,
+    /// Folded, as a skeleton.
+    Skeleton,
+    /// Folded, with identifiers synthesized.
+    Synthesized,
+    /// Folded, with places, with identifiers synthesized, and indented by tabs.
+    Tabs,
+    /// The same as a skeleton.
+    All,
 }
 
-/// Returns a module of these sections, followed by a code section whose body has these operators.
-pub fn with_code(
-    alloc: Global,
-    sections: &[Section],
-    operators: &[u8],
-) -> Result<Vec<u8>, AllocError> {
-    let mut wasm = with_sections(alloc, sections)?;
-    add_code(&mut wasm, operators)?;
-    Ok(wasm)
-}
-
-/// Returns a module of one section.
-pub fn with_section(alloc: Global, id: u8, content: &[u8]) -> Result<Vec<u8>, AllocError> {
-    let mut wasm = Vec::from_slice(alloc, &PREAMBLE)?;
-    add_section(&mut wasm, id, content)?;
-    Ok(wasm)
-}
-
-/// Returns a module with a function of the first of these types and with these operators, and a hint section with
-/// this data.
-pub fn with_hints(
-    alloc: Global,
-    types: &[u8],
-    data: &[u8],
-    operators: &[u8],
-) -> Result<Vec<u8>, AllocError> {
-    let mut wasm = with_section(alloc, TYPE, types)?;
-    add_section(&mut wasm, FUNCTION, &[0x01, 0x00])?;
-    add_custom(alloc, &mut wasm, "metadata.code.branch_hint", data)?;
-    add_code(&mut wasm, operators)?;
-    Ok(wasm)
-}
-
-/// Returns a module of these sections, followed by a name section with this data.
-pub fn with_names(alloc: Global, sections: &[Section], data: &[u8]) -> Result<Vec<u8>, AllocError> {
-    let mut wasm = with_sections(alloc, sections)?;
-    add_custom(alloc, &mut wasm, "name", data)?;
-    Ok(wasm)
+impl Options {
+    /// Returns these options.
+    pub fn config(&self, alloc: Global) -> Result<Config, AllocError> {
+        let mut config = folding();
+        match self {
+            Options::Default => return Ok(Config::new()),
+            Options::Folded => (),
+            Options::TakenBack => {
+                config.fold_instructions(false);
+            }
+            Options::Places => {
+                config.print_offsets(true);
+            }
+            Options::Skeleton => {
+                config.print_skeleton(true);
+            }
+            Options::Synthesized => {
+                config.name_unnamed(true);
+            }
+            Options::Tabs | Options::All => {
+                config
+                    .print_offsets(true)
+                    .name_unnamed(true)
+                    .indent_text(String::from_str(alloc, "\t")?)
+                    .print_skeleton(matches!(self, Options::All));
+            }
+        }
+        Ok(config)
+    }
 }
 
 /// Returns the options that fold operators.
@@ -103,157 +127,112 @@ pub fn folding() -> Config {
     config
 }
 
-/// Returns the folded text of a module.
-pub fn folded_text(alloc: Global, wasm: &[u8]) -> Result<String, Error> {
-    folding().print_to_string(alloc, wasm)
+/// The text of a module, or its part that differs from the texts of other modules.
+#[derive(Drop)]
+pub enum Text {
+    /// The whole text
+    Whole(&'static str),
+    /// The lines before the body of the last function, and the lines of that body
+    Body(&'static str, &'static str),
+    /// The only field
+    Field(&'static str),
 }
 
-/// Checks that a module, printed with these options, has the typed text.
-pub fn expect_printed(
-    alloc: Global,
-    config: &Config,
-    wasm: &[u8],
-    typed: &str,
-) -> Result<(), Fail> {
-    let text = config.print_to_string(alloc, wasm)?;
-    expect_text(text.as_str(), typed)?;
+impl Text {
+    /// Returns the whole text.
+    pub fn whole(&self, alloc: Global) -> Result<String, AllocError> {
+        match self {
+            Text::Whole(text) => String::from_str(alloc, text),
+            Text::Body(header, lines) => format!(in alloc; "{header}{lines}  )\n)\n"),
+            Text::Field(field) => format!(in alloc; "(module\n  {field}\n)\n"),
+        }
+    }
+}
+
+/// A module: the name of the row, the options, the parts, and the text.
+pub type Row = (&'static str, Options, Parts, Text);
+
+/// Checks the text of each row.
+///
+/// # Errors
+///
+/// - A module is refused, or its text differs.
+pub fn expect_rows(alloc: Global, rows: &[Row]) -> Result<(), Fail> {
+    for (name, options, parts, typed) in rows {
+        let wasm = build(alloc, parts)?;
+        let text = typed.whole(alloc)?;
+        expect_printed_by(name, &options.config(alloc)?, alloc, &wasm, text.as_str())?;
+    }
     Ok(())
 }
 
-/// Checks that a module, printed folded, has the typed text.
-pub fn expect_folded(alloc: Global, wasm: &[u8], typed: &str) -> Result<(), Fail> {
-    expect_printed(alloc, &folding(), wasm, typed)
+/// A body: the name of the row, the operators, and the lines of the body.
+pub type BodyRow = (&'static str, &'static [u8], &'static str);
+
+/// Checks the folded body of each row, in a module with these parts before its code section, and with these lines
+/// before the body.
+///
+/// # Errors
+///
+/// - A module is refused, or its text differs.
+pub fn expect_bodies(
+    alloc: Global,
+    before: Parts,
+    header: &'static str,
+    rows: &[BodyRow],
+) -> Result<(), Fail> {
+    for (name, operators, lines) in rows {
+        let mut wasm = build(alloc, before)?;
+        add_parts(alloc, &mut wasm, &[Part::Body(operators)])?;
+        let text = Text::Body(header, lines).whole(alloc)?;
+        expect_printed_by(name, &folding(), alloc, &wasm, text.as_str())?;
+    }
+    Ok(())
 }
 
-/// Checks that a module, printed folded, has these lines before the body of its last function, and these lines of
-/// that body.
-pub fn expect_body(alloc: Global, wasm: &[u8], header: &str, lines: &str) -> Result<(), Fail> {
-    let typed = around(alloc, header, lines)?;
-    expect_folded(alloc, wasm, typed.as_str())
-}
+/// A section of one entry: the name of the row, the id, the content, and the only field of the module.
+pub type FieldRow = (&'static str, u8, &'static [u8], &'static str);
 
-/// Checks that a function without parameters and results and with these operators, printed folded, has these lines
-/// of its body.
-pub fn expect_lines(alloc: Global, operators: &[u8], lines: &str) -> Result<(), Fail> {
-    let wasm = with_body(alloc, &NO_PARAMS, operators)?;
-    expect_body(alloc, &wasm, HEADER, lines)
-}
-
-/// Checks that the only field of a module, printed folded, has the typed text.
-pub fn expect_field(alloc: Global, id: u8, content: &[u8], field: &str) -> Result<(), Fail> {
-    let wasm = with_section(alloc, id, content)?;
-    let typed = around_field(alloc, field)?;
-    expect_folded(alloc, &wasm, typed.as_str())
+/// Checks the folded field of each row.
+///
+/// # Errors
+///
+/// - A module is refused, or its text differs.
+pub fn expect_fields(alloc: Global, rows: &[FieldRow]) -> Result<(), Fail> {
+    for (name, id, content, field) in rows {
+        let wasm = build(
+            alloc,
+            &[Part::Bytes(&PREAMBLE), Part::Section(*id, content)],
+        )?;
+        let text = Text::Field(field).whole(alloc)?;
+        expect_printed_by(name, &folding(), alloc, &wasm, text.as_str())?;
+    }
+    Ok(())
 }
 
 /// The reason why a module cannot be folded, with its place.
-#[derive(Clone, Copy)]
 pub enum Refusal {
     Legacy(u64),
     Hint(u64),
 }
 
-/// Reports whether the error states this reason.
-fn is_reason(refusal: Refusal, error: &Error) -> bool {
-    match (refusal, error) {
-        (Refusal::Legacy(wanted), Error::FoldLegacy { place }) => wanted == *place,
-        (Refusal::Hint(wanted), Error::FoldHint { place }) => wanted == *place,
-        _ => false,
+impl Refusal {
+    /// Reports whether the error states this reason.
+    pub fn is(&self, error: Option<Error>) -> bool {
+        match (self, error) {
+            (Refusal::Legacy(wanted), Some(Error::FoldLegacy { place })) => place == *wanted,
+            (Refusal::Hint(wanted), Some(Error::FoldHint { place })) => place == *wanted,
+            _ => false,
+        }
     }
 }
 
 /// Reports whether the text of a module is refused for this reason.
-pub fn is_text_refused(alloc: Global, config: &Config, wasm: &[u8], refusal: Refusal) -> bool {
-    match config.print_to_string(alloc, wasm) {
-        Ok(_) => false,
-        Err(error) => is_reason(refusal, &error),
-    }
+pub fn is_text_refused(alloc: Global, config: &Config, wasm: &[u8], refusal: &Refusal) -> bool {
+    refusal.is(text_by(config, alloc, wasm).err())
 }
 
-/// Reports whether the text of a module with ANSI escape sequences is refused for this reason.
-fn is_refused_in_colors(alloc: Global, config: &Config, wasm: &[u8], refusal: Refusal) -> bool {
-    match config.print_to_ansi(alloc, wasm) {
-        Ok(_) => false,
-        Err(error) => is_reason(refusal, &error),
-    }
-}
-
-/// Reports whether appending the lines of a module to `storage` is refused for this reason.
-fn are_lines_refused(
-    alloc: Global,
-    config: &Config,
-    wasm: &[u8],
-    storage: &mut String,
-    refusal: Refusal,
-) -> bool {
-    match config.offsets_and_lines(alloc, wasm, storage) {
-        Ok(_) => false,
-        Err(error) => is_reason(refusal, &error),
-    }
-}
-
-/// Reports whether appending the lines of a module is refused for this reason, and the earlier contents of the
-/// storage remain.
-fn are_lines_refused_after_text(
-    alloc: Global,
-    config: &Config,
-    wasm: &[u8],
-    refusal: Refusal,
-) -> Result<bool, AllocError> {
-    let mut storage = String::from_str(alloc, "old")?;
-    Ok(
-        are_lines_refused(alloc, config, wasm, &mut storage, refusal)
-            && storage.as_str().starts_with("old"),
-    )
-}
-
-/// Reports whether a module is refused for this reason by each call: as a text, with ANSI escape sequences, and as
-/// lines.
-fn is_refused_each_way(
-    alloc: Global,
-    config: &Config,
-    wasm: &[u8],
-    refusal: Refusal,
-) -> Result<bool, AllocError> {
-    Ok(
-        is_text_refused(alloc, config, wasm, refusal)
-            && is_refused_in_colors(alloc, config, wasm, refusal)
-            && are_lines_refused_after_text(alloc, config, wasm, refusal)?,
-    )
-}
-
-/// Checks that each call refuses the folded module for this reason, and that the module is printed as typed as a
-/// skeleton (folded) and flat.
-pub fn expect_refusal(
-    alloc: Global,
-    wasm: &[u8],
-    refusal: Refusal,
-    outline: &str,
-    flat: &str,
-) -> Result<(), Fail> {
-    let mut config = folding();
-    if !is_refused_each_way(alloc, &config, wasm, refusal)? {
-        return Err(Fail::new("not refused as it is wanted"));
-    }
-    config.print_skeleton(true);
-    expect_printed(alloc, &config, wasm, outline)?;
-    config.print_skeleton(false).fold_instructions(false);
-    expect_printed(alloc, &config, wasm, flat)
-}
-
-/// Returns the text of a module with these lines before the body of its last function, and these lines of that
-/// body.
-pub fn around(alloc: Global, header: &str, lines: &str) -> Result<String, AllocError> {
-    let mut text = String::from_str(alloc, header)?;
-    text.push_str(lines)?;
-    text.push_str("  )\n)\n")?;
-    Ok(text)
-}
-
-/// Returns the text of a module with this field as its only one.
-fn around_field(alloc: Global, field: &str) -> Result<String, AllocError> {
-    let mut text = String::from_str(alloc, "(module\n  ")?;
-    text.push_str(field)?;
-    text.push_str("\n)\n")?;
-    Ok(text)
+/// Returns the text of a module with ANSI escape sequences.
+pub fn colored_text(config: &Config, alloc: Global, wasm: &[u8]) -> Result<Vec<u8>, Error> {
+    config.print_to_ansi(alloc, wasm)
 }

@@ -1,62 +1,16 @@
 //! Tests of folded operators with names. If the text of a node without children contains two semicolons, which can
 //! start a comment, its closing parenthesis is on a new line. This holds for semicolons in a name too.
 
-use crate::modules::{NO_PARAMS, Section, expect_folded, with_body, with_names};
-use std::alloc::{AllocError, Global};
+use crate::modules::Options::Folded;
+use crate::modules::Part::{Body, Bytes, Custom, Section};
+use crate::modules::Text::Whole;
+use crate::modules::{NO_PARAMS, ONE_FUNCTION, Row, expect_rows};
 use std::test::Fail;
-use wasmprinter_samples::sections::{CODE, DATA, ELEMENT, FUNCTION, GLOBAL, TYPE, add_custom};
-
-/// Two globals, and segments whose offsets start with the first global.
-const GLOBALS_AND_SEGMENTS: [Section; 3] = [
-    (
-        GLOBAL,
-        &[
-            0x02, 0x7f, 0x00, 0x41, 0x00, 0x0b, 0x7f, 0x00, 0x23, 0x00, 0x0b,
-        ],
-    ),
-    (
-        ELEMENT,
-        &[0x01, 0x00, 0x23, 0x00, 0x41, 0x01, 0x6a, 0x0b, 0x00],
-    ),
-    (DATA, &[0x01, 0x00, 0x23, 0x00, 0x0b, 0x00]),
-];
+use wasmprinter_samples::PREAMBLE;
+use wasmprinter_samples::sections::{CODE, DATA, ELEMENT, GLOBAL, TYPE};
 
 /// The name of the first global: `a;;b`.
 const OF_GLOBALS: [u8; 9] = [0x07, 0x07, 0x01, 0x00, 0x04, 0x61, 0x3b, 0x3b, 0x62];
-
-#[test]
-fn begins_a_line_after_a_name_with_semicolons(rt: HostRuntime) -> Result<(), Fail> {
-    let wasm = with_names(rt.alloc(), &GLOBALS_AND_SEGMENTS, &OF_GLOBALS)?;
-    expect_folded(
-        rt.alloc(),
-        &wasm,
-        r#"(module
-  (global $"a;;b" (;0;) i32 (i32.const 0))
-  (global (;1;) i32 (global.get $"a;;b"
-    )
-  )
-  (elem (;0;) (offset (i32.add (global.get $"a;;b"
-        ) (i32.const 1))
-    ) func
-  )
-  (data (;0;) (global.get $"a;;b") "")
-)
-"#,
-    )
-}
-
-/// Returns a module with a function of the first of these types and with these operators, and a name section with
-/// this data.
-fn with_named_body(
-    alloc: Global,
-    types: &[u8],
-    operators: &[u8],
-    names: &[u8],
-) -> Result<Vec<u8>, AllocError> {
-    let mut wasm = with_body(alloc, types, operators)?;
-    add_custom(alloc, &mut wasm, "name", names)?;
-    Ok(wasm)
-}
 
 /// The names of a function's locals and labels.
 const OF_A_BODY: [u8; 36] = [
@@ -81,18 +35,67 @@ const NAMED_OPERATORS: [u8; 35] = [
     0x20, 0x00, 0x04, 0x40, 0x02, 0x40, 0x0b, 0x05, 0x0b, // local.get and if, with a block
 ];
 
-#[test]
-fn prints_names_of_labels_and_locals(rt: HostRuntime) -> Result<(), Fail> {
-    let wasm = with_named_body(
-        rt.alloc(),
-        &[0x01, 0x60, 0x01, 0x7f, 0x00],
-        &NAMED_OPERATORS,
-        &OF_A_BODY,
-    )?;
-    expect_folded(
-        rt.alloc(),
-        &wasm,
-        r##"(module
+/// The name of label 0 of function 0: `x`.
+const CALLED_X: [u8; 8] = [0x03, 0x06, 0x01, 0x00, 0x01, 0x00, 0x01, 0x78];
+
+/// An `if` in a block, with a branch in its condition.
+const WITH_PREDICATE: [u8; 14] = [
+    0x02, 0x40, 0x41, 0x00, 0x0d, 0x00, // block, i32.const and br_if
+    0x04, 0x40, 0x0c, 0x00, 0x0c, 0x01, 0x0b, 0x0b, // if, with two branches
+];
+
+/// The names of labels 0 and 1 of function 0: both `a`.
+const BOTH_CALLED_A: [u8; 11] = [
+    0x03, 0x09, 0x01, 0x00, 0x02, 0x00, 0x01, 0x61, 0x01, 0x01, 0x61,
+];
+
+/// Modules with names, each with its text.
+const ROWS: [Row; 4] = [
+    (
+        "a global whose name has semicolons, read by the second global and by offsets of segments",
+        Folded,
+        &[
+            Bytes(&PREAMBLE),
+            Section(
+                GLOBAL,
+                &[
+                    0x02, 0x7f, 0x00, 0x41, 0x00, 0x0b, 0x7f, 0x00, 0x23, 0x00, 0x0b,
+                ],
+            ),
+            Section(
+                ELEMENT,
+                &[0x01, 0x00, 0x23, 0x00, 0x41, 0x01, 0x6a, 0x0b, 0x00],
+            ),
+            Section(DATA, &[0x01, 0x00, 0x23, 0x00, 0x0b, 0x00]),
+            Custom("name", &OF_GLOBALS),
+        ],
+        Whole(
+            r#"(module
+  (global $"a;;b" (;0;) i32 (i32.const 0))
+  (global (;1;) i32 (global.get $"a;;b"
+    )
+  )
+  (elem (;0;) (offset (i32.add (global.get $"a;;b"
+        ) (i32.const 1))
+    ) func
+  )
+  (data (;0;) (global.get $"a;;b") "")
+)
+"#,
+        ),
+    ),
+    (
+        "locals and labels whose names have semicolons",
+        Folded,
+        &[
+            Bytes(&PREAMBLE),
+            Section(TYPE, &[0x01, 0x60, 0x01, 0x7f, 0x00]),
+            ONE_FUNCTION,
+            Body(&NAMED_OPERATORS),
+            Custom("name", &OF_A_BODY),
+        ],
+        Whole(
+            r##"(module
   (type (;0;) (func (param i32)))
   (func (;0;) (type 0) (param $"a;;b" i32)
     (drop
@@ -118,36 +121,30 @@ fn prints_names_of_labels_and_locals(rt: HostRuntime) -> Result<(), Fail> {
   )
 )
 "##,
-    )
-}
-
-/// A global, a function and a data segment, each with a block.
-const WITH_LABELS: [Section; 5] = [
-    (TYPE, &NO_PARAMS),
-    (FUNCTION, &[0x01, 0x00]),
-    (
-        GLOBAL,
-        &[0x01, 0x7f, 0x00, 0x02, 0x7f, 0x41, 0x01, 0x0b, 0x0b],
+        ),
     ),
-    (CODE, &[0x01, 0x05, 0x00, 0x02, 0x40, 0x0b, 0x0b]),
+    // Labels in initialisers and other expressions before the bodies have the names of function 0. Labels in
+    // expressions after the body of function 0 have none.
     (
-        DATA,
-        &[0x01, 0x00, 0x02, 0x7f, 0x41, 0x01, 0x0b, 0x0b, 0x00],
-    ),
-];
-
-/// The name of label 0 of function 0: `x`.
-const CALLED_X: [u8; 8] = [0x03, 0x06, 0x01, 0x00, 0x01, 0x00, 0x01, 0x78];
-
-/// Labels in initialisers and other expressions before the bodies have the names of function 0. Labels in
-/// expressions after the body of function 0 have none.
-#[test]
-fn prints_names_of_labels_in_expressions(rt: HostRuntime) -> Result<(), Fail> {
-    let wasm = with_names(rt.alloc(), &WITH_LABELS, &CALLED_X)?;
-    expect_folded(
-        rt.alloc(),
-        &wasm,
-        r#"(module
+        "labels of blocks in a global, a function and a data segment",
+        Folded,
+        &[
+            Bytes(&PREAMBLE),
+            NO_PARAMS,
+            ONE_FUNCTION,
+            Section(
+                GLOBAL,
+                &[0x01, 0x7f, 0x00, 0x02, 0x7f, 0x41, 0x01, 0x0b, 0x0b],
+            ),
+            Section(CODE, &[0x01, 0x05, 0x00, 0x02, 0x40, 0x0b, 0x0b]),
+            Section(
+                DATA,
+                &[0x01, 0x00, 0x02, 0x7f, 0x41, 0x01, 0x0b, 0x0b, 0x00],
+            ),
+            Custom("name", &CALLED_X),
+        ],
+        Whole(
+            r#"(module
   (type (;0;) (func))
   (global (;0;) i32 (block $x (result i32) (i32.const 1)))
   (func (;0;) (type 0)
@@ -156,29 +153,22 @@ fn prints_names_of_labels_in_expressions(rt: HostRuntime) -> Result<(), Fail> {
   (data (;0;) (offset (block (result i32)  (; label = @1 ;) (i32.const 1))) "")
 )
 "#,
-    )
-}
-
-/// An `if` in a block, with a branch in its condition.
-const WITH_PREDICATE: [u8; 14] = [
-    0x02, 0x40, 0x41, 0x00, 0x0d, 0x00, // block, i32.const and br_if
-    0x04, 0x40, 0x0c, 0x00, 0x0c, 0x01, 0x0b, 0x0b, // if, with two branches
-];
-
-/// The names of labels 0 and 1 of function 0: both `a`.
-const BOTH_CALLED_A: [u8; 11] = [
-    0x03, 0x09, 0x01, 0x00, 0x02, 0x00, 0x01, 0x61, 0x01, 0x01, 0x61,
-];
-
-/// The condition is inside the group of its `if`, but outside its block, so that the name means the outer block
-/// there.
-#[test]
-fn prints_names_of_labels_in_a_predicate(rt: HostRuntime) -> Result<(), Fail> {
-    let wasm = with_named_body(rt.alloc(), &NO_PARAMS, &WITH_PREDICATE, &BOTH_CALLED_A)?;
-    expect_folded(
-        rt.alloc(),
-        &wasm,
-        r#"(module
+        ),
+    ),
+    // The condition is inside the group of its `if`, but outside its block, so that the name means the outer block
+    // there.
+    (
+        "labels with the same name, and a branch in a condition",
+        Folded,
+        &[
+            Bytes(&PREAMBLE),
+            NO_PARAMS,
+            ONE_FUNCTION,
+            Body(&WITH_PREDICATE),
+            Custom("name", &BOTH_CALLED_A),
+        ],
+        Whole(
+            r#"(module
   (type (;0;) (func))
   (func (;0;) (type 0)
     (block $a
@@ -191,5 +181,11 @@ fn prints_names_of_labels_in_a_predicate(rt: HostRuntime) -> Result<(), Fail> {
   )
 )
 "#,
-    )
+        ),
+    ),
+];
+
+#[test]
+fn prints_names_of_globals_locals_and_labels(rt: HostRuntime) -> Result<(), Fail> {
+    expect_rows(rt.alloc(), &ROWS)
 }

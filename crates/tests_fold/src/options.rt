@@ -1,12 +1,18 @@
 //! Tests of folded operators together with the other options, in each place where a module has operators, and of
 //! the lines of folded texts.
 
-use crate::modules::{Section, expect_folded, expect_printed, folding, with_names};
-use std::alloc::Global;
+use crate::hints::{ONE_PARAM, TESTED};
+use crate::modules::Options::{
+    All, Default, Folded, Places, Skeleton, Synthesized, Tabs, TakenBack,
+};
+use crate::modules::Part::{Body, Bytes, Custom, Section};
+use crate::modules::Text::Whole;
+use crate::modules::{HINTS, ONE_FUNCTION, Part, Parts, Row, build, expect_rows, folding};
 use std::test::Fail;
-use wasmprinter::{Config, Error, OffsetsAndLines};
+use wasmprinter::OffsetsAndLines;
+use wasmprinter_expecting::expect_same;
 use wasmprinter_samples::sections::GLOBAL;
-use wasmprinter_samples::{EMPTY_TEXT, EVERYTHING, EVERYTHING_TEXT, PREAMBLE, expect_text};
+use wasmprinter_samples::{EMPTY_TEXT, EVERYTHING, EVERYTHING_TEXT, PREAMBLE};
 
 /// A module with a table with an initialiser, a global, element and data segments with offsets and items, and a
 /// function with an `if`.
@@ -74,22 +80,6 @@ const SAMPLE_FLAT: &str = r#"(module
 )
 "#;
 
-#[test]
-fn folds_each_list_and_takes_it_back(rt: HostRuntime) -> Result<(), Fail> {
-    let alloc = rt.alloc();
-    let mut config = folding();
-    expect_printed(alloc, &config, &SAMPLE, SAMPLE_FOLDED)?;
-    config.fold_instructions(false);
-    expect_printed(alloc, &config, &SAMPLE, SAMPLE_FLAT)?;
-    expect_printed(alloc, &Config::new(), &SAMPLE, SAMPLE_FLAT)
-}
-
-/// The text of a module without operators is the same, folded or flat.
-#[test]
-fn folds_an_empty_module(rt: HostRuntime) -> Result<(), Fail> {
-    expect_folded(rt.alloc(), &PREAMBLE, EMPTY_TEXT)
-}
-
 /// The text of `SAMPLE` with places. A block and its first arm have the place of the opening operator, and `else`
 /// has its own.
 const SAMPLE_PLACES: &str = r#"(module
@@ -113,68 +103,6 @@ const SAMPLE_PLACES: &str = r#"(module
 (;@65    ;)  (data (;0;) (offset (i32.add (global.get 0) (i32.const 4))) "hi")
 (;@6f    ;))
 "#;
-
-#[test]
-fn folds_with_places(rt: HostRuntime) -> Result<(), Fail> {
-    let mut config = Config::new();
-    config.print_offsets(true).fold_instructions(true);
-    expect_printed(rt.alloc(), &config, &SAMPLE, SAMPLE_PLACES)
-}
-
-#[test]
-fn folds_what_an_outline_prints(rt: HostRuntime) -> Result<(), Fail> {
-    let mut config = Config::new();
-    config.print_skeleton(true).fold_instructions(true);
-    expect_printed(
-        rt.alloc(),
-        &config,
-        &SAMPLE,
-        r#"(module
-  (type (;0;) (func (param i32) (result i32)))
-  (table (;0;) 1 funcref (table.get 0 (i32.const 0)))
-  (memory (;0;) 1)
-  (global (;0;) i32 (i32.add (i32.const 1) (i32.const 2)))
-  (export "f" (func 0))
-  (elem (;0;) (offset (i32.sub (i32.const 1) (i32.const 2))) ...)
-  (elem (;1;) ...)
-  (func (;0;) (type 0) (param i32) (result i32) ...)
-  (data (;0;) (offset (i32.add (global.get 0) (i32.const 4))) ...)
-)
-"#,
-    )
-}
-
-#[test]
-fn folds_with_synthesized_identifiers(rt: HostRuntime) -> Result<(), Fail> {
-    let mut config = Config::new();
-    config.name_unnamed(true).fold_instructions(true);
-    expect_printed(
-        rt.alloc(),
-        &config,
-        &SAMPLE,
-        r#"(module
-  (type $#type0 (;0;) (func (param i32) (result i32)))
-  (table $#table0 (;0;) 1 funcref (table.get $#table0 (i32.const 0)))
-  (memory $#memory0 (;0;) 1)
-  (global $#global0 (;0;) i32 (i32.add (i32.const 1) (i32.const 2)))
-  (export "f" (func $#func0))
-  (elem $#elem0 (;0;) (offset (i32.sub (i32.const 1) (i32.const 2))) func $#func0)
-  (elem $#elem1 (;1;) funcref (ref.null func) (item (table.get $#table0 (i32.const 0))))
-  (func $#func0 (;0;) (type $#type0) (param $#local0 i32) (result i32)
-    (if $#label0 (result i32)
-      (local.get $#local0)
-      (then
-        (i32.const 5))
-      (else
-        (i32.add
-          (local.get $#local0)
-          (i32.const 6))))
-  )
-  (data $#data0 (;0;) (offset (i32.add (global.get $#global0) (i32.const 4))) "hi")
-)
-"#,
-    )
-}
 
 /// The text of `SAMPLE` with places, with identifiers synthesized, and indented by tabs.
 const SAMPLE_BY_TABS: &str = "(module
@@ -213,28 +141,103 @@ const SAMPLE_BY_ALL: &str = "(module
 (;@6f    ;))
 ";
 
-#[test]
-fn folds_by_all_options_at_once(rt: HostRuntime) -> Result<(), Fail> {
-    let alloc = rt.alloc();
-    let mut config = Config::new();
-    config
-        .fold_instructions(true)
-        .print_offsets(true)
-        .name_unnamed(true)
-        .indent_text(String::from_str(alloc, "\t")?);
-    expect_printed(alloc, &config, &SAMPLE, SAMPLE_BY_TABS)?;
-    config.print_skeleton(true);
-    expect_printed(alloc, &config, &SAMPLE, SAMPLE_BY_ALL)
-}
+/// The section of two globals. The initialiser of the second reads the first.
+const GLOBALS: Part<'static> = Section(
+    GLOBAL,
+    &[
+        0x02, 0x7f, 0x00, 0x41, 0x00, 0x0b, 0x7f, 0x00, 0x23, 0x00, 0x0b,
+    ],
+);
 
-/// Locals are on a line of their own, before the nodes. A function without operators has no nodes.
-#[test]
-fn folds_after_locals(rt: HostRuntime) -> Result<(), Fail> {
-    let alloc = rt.alloc();
-    expect_folded(
-        alloc,
-        &EVERYTHING,
-        r#"(module
+/// The name of the first global: `a;;b`.
+const OF_GLOBALS: [u8; 9] = [0x07, 0x07, 0x01, 0x00, 0x04, 0x61, 0x3b, 0x3b, 0x62];
+
+/// A module of these globals, with that name.
+const SEMICOLONS: Parts = &[Bytes(&PREAMBLE), GLOBALS, Custom("name", &OF_GLOBALS)];
+
+/// Modules with options, each with its text.
+const ROWS: [Row; 13] = [
+    ("folded", Folded, &[Bytes(&SAMPLE)], Whole(SAMPLE_FOLDED)),
+    (
+        "folding that is taken back",
+        TakenBack,
+        &[Bytes(&SAMPLE)],
+        Whole(SAMPLE_FLAT),
+    ),
+    (
+        "default options",
+        Default,
+        &[Bytes(&SAMPLE)],
+        Whole(SAMPLE_FLAT),
+    ),
+    (
+        "a module without operators, which has the same text folded or flat",
+        Folded,
+        &[Bytes(&PREAMBLE)],
+        Whole(EMPTY_TEXT),
+    ),
+    ("places", Places, &[Bytes(&SAMPLE)], Whole(SAMPLE_PLACES)),
+    (
+        "a skeleton",
+        Skeleton,
+        &[Bytes(&SAMPLE)],
+        Whole(
+            r#"(module
+  (type (;0;) (func (param i32) (result i32)))
+  (table (;0;) 1 funcref (table.get 0 (i32.const 0)))
+  (memory (;0;) 1)
+  (global (;0;) i32 (i32.add (i32.const 1) (i32.const 2)))
+  (export "f" (func 0))
+  (elem (;0;) (offset (i32.sub (i32.const 1) (i32.const 2))) ...)
+  (elem (;1;) ...)
+  (func (;0;) (type 0) (param i32) (result i32) ...)
+  (data (;0;) (offset (i32.add (global.get 0) (i32.const 4))) ...)
+)
+"#,
+        ),
+    ),
+    (
+        "synthesized identifiers",
+        Synthesized,
+        &[Bytes(&SAMPLE)],
+        Whole(
+            r#"(module
+  (type $#type0 (;0;) (func (param i32) (result i32)))
+  (table $#table0 (;0;) 1 funcref (table.get $#table0 (i32.const 0)))
+  (memory $#memory0 (;0;) 1)
+  (global $#global0 (;0;) i32 (i32.add (i32.const 1) (i32.const 2)))
+  (export "f" (func $#func0))
+  (elem $#elem0 (;0;) (offset (i32.sub (i32.const 1) (i32.const 2))) func $#func0)
+  (elem $#elem1 (;1;) funcref (ref.null func) (item (table.get $#table0 (i32.const 0))))
+  (func $#func0 (;0;) (type $#type0) (param $#local0 i32) (result i32)
+    (if $#label0 (result i32)
+      (local.get $#local0)
+      (then
+        (i32.const 5))
+      (else
+        (i32.add
+          (local.get $#local0)
+          (i32.const 6))))
+  )
+  (data $#data0 (;0;) (offset (i32.add (global.get $#global0) (i32.const 4))) "hi")
+)
+"#,
+        ),
+    ),
+    (
+        "places, synthesized identifiers and tabs",
+        Tabs,
+        &[Bytes(&SAMPLE)],
+        Whole(SAMPLE_BY_TABS),
+    ),
+    ("all options", All, &[Bytes(&SAMPLE)], Whole(SAMPLE_BY_ALL)),
+    // Locals are on a line of their own, before the nodes. A function without operators has no nodes.
+    (
+        "locals",
+        Folded,
+        &[Bytes(&EVERYTHING)],
+        Whole(
+            r#"(module
   (type (;0;) (func))
   (type (;1;) (func (param i32) (result i64)))
   (export "go" (func 1))
@@ -252,10 +255,56 @@ fn folds_after_locals(rt: HostRuntime) -> Result<(), Fail> {
   )
 )
 "#,
-    )?;
-    let mut config = Config::new();
-    config.fold_instructions(true).fold_instructions(false);
-    expect_printed(alloc, &config, &EVERYTHING, EVERYTHING_TEXT)
+        ),
+    ),
+    (
+        "locals, with folding that is taken back",
+        TakenBack,
+        &[Bytes(&EVERYTHING)],
+        Whole(EVERYTHING_TEXT),
+    ),
+    (
+        "places in an initialiser of several lines",
+        Places,
+        SEMICOLONS,
+        Whole(
+            r#"(module
+(;@b     ;)  (global $"a;;b" (;0;) i32 (i32.const 0))
+(;@10    ;)  (global (;1;) i32 (global.get $"a;;b"
+(;@12    ;)    )
+             )
+(;@25    ;))
+"#,
+        ),
+    ),
+    (
+        "a hint, whose line has the place of its node",
+        Places,
+        &[
+            Bytes(&PREAMBLE),
+            ONE_PARAM,
+            ONE_FUNCTION,
+            Custom(HINTS, &[0x01, 0x00, 0x01, 0x03, 0x01, 0x01]),
+            Body(&TESTED),
+        ],
+        Whole(
+            r#"(module
+(;@b     ;)  (type (;0;) (func (param i32)))
+(;@39    ;)  (func (;0;) (type 0) (param i32)
+(;@3c    ;)    (@metadata.code.branch_hint "\01")
+(;@3c    ;)    (if ;; label = @1
+(;@3a    ;)      (local.get 0)
+(;@3c    ;)      (then))
+(;@3f    ;)  )
+(;@40    ;))
+"#,
+        ),
+    ),
+];
+
+#[test]
+fn folds_with_each_option(rt: HostRuntime) -> Result<(), Fail> {
+    expect_rows(rt.alloc(), &ROWS)
 }
 
 // ---- lines
@@ -308,43 +357,6 @@ const SAMPLE_LINES: [Line; 20] = [
     (Some(0x6f), ")\n"),
 ];
 
-/// Reports whether these are the lines.
-fn are_lines(found: OffsetsAndLines<'_>, expected: &[Line]) -> bool {
-    found.eq(expected.iter().copied())
-}
-
-/// Reports whether a module has these lines. Its text is written to `storage`.
-fn has_lines(
-    alloc: Global,
-    config: &Config,
-    wasm: &[u8],
-    storage: &mut String,
-    expected: &[Line],
-) -> Result<bool, Error> {
-    let lines = config.offsets_and_lines(alloc, wasm, storage)?;
-    Ok(are_lines(lines, expected))
-}
-
-#[test]
-fn gives_each_folded_line_with_its_place(rt: HostRuntime) -> Result<(), Fail> {
-    let alloc = rt.alloc();
-    let mut storage = String::new(alloc);
-    assert!(rt; has_lines(alloc, &folding(), &SAMPLE, &mut storage, &SAMPLE_LINES)?);
-    expect_text(storage.as_str(), SAMPLE_FOLDED)?;
-    Ok(())
-}
-
-/// Two globals. The initialiser of the second reads the first.
-const GLOBALS: [Section; 1] = [(
-    GLOBAL,
-    &[
-        0x02, 0x7f, 0x00, 0x41, 0x00, 0x0b, 0x7f, 0x00, 0x23, 0x00, 0x0b,
-    ],
-)];
-
-/// The name of the first global: `a;;b`.
-const OF_GLOBALS: [u8; 9] = [0x07, 0x07, 0x01, 0x00, 0x04, 0x61, 0x3b, 0x3b, 0x62];
-
 /// The lines of that module. The line that starts within the initialiser has the place of its operator.
 const SEMICOLON_LINES: [Line; 6] = [
     (Some(0x0), "(module\n"),
@@ -355,24 +367,45 @@ const SEMICOLON_LINES: [Line; 6] = [
     (Some(0x25), ")\n"),
 ];
 
-#[test]
-fn gives_lines_within_an_initialiser(rt: HostRuntime) -> Result<(), Fail> {
-    let alloc = rt.alloc();
-    let wasm = with_names(alloc, &GLOBALS, &OF_GLOBALS)?;
-    let mut config = folding();
-    let mut storage = String::new(alloc);
-    assert!(rt; has_lines(alloc, &config, &wasm, &mut storage, &SEMICOLON_LINES)?);
-    config.print_offsets(true);
-    expect_printed(
-        alloc,
-        &config,
-        &wasm,
-        r#"(module
-(;@b     ;)  (global $"a;;b" (;0;) i32 (i32.const 0))
-(;@10    ;)  (global (;1;) i32 (global.get $"a;;b"
-(;@12    ;)    )
-             )
-(;@25    ;))
-"#,
+/// The text of these lines.
+const SEMICOLON_TEXT: &str = r#"(module
+  (global $"a;;b" (;0;) i32 (i32.const 0))
+  (global (;1;) i32 (global.get $"a;;b"
     )
+  )
+)
+"#;
+
+/// Modules, each with its lines and with its text.
+const LINES: [(&str, Parts, &[Line], &str); 2] = [
+    (
+        "each list of operators",
+        &[Bytes(&SAMPLE)],
+        &SAMPLE_LINES,
+        SAMPLE_FOLDED,
+    ),
+    (
+        "lines within an initialiser",
+        SEMICOLONS,
+        &SEMICOLON_LINES,
+        SEMICOLON_TEXT,
+    ),
+];
+
+/// Reports whether these are the lines.
+fn are_lines(found: OffsetsAndLines<'_>, expected: &[Line]) -> bool {
+    found.eq(expected.iter().copied())
+}
+
+#[test]
+fn gives_each_folded_line_with_its_place(rt: HostRuntime) -> Result<(), Fail> {
+    let alloc = rt.alloc();
+    for (name, parts, lines, text) in LINES {
+        let wasm = build(alloc, parts)?;
+        let mut storage = String::new(alloc);
+        let found = folding().offsets_and_lines(alloc, &wasm, &mut storage)?;
+        assert!(rt; are_lines(found, lines), "{name}");
+        expect_same(name, storage.as_str(), text)?;
+    }
+    Ok(())
 }

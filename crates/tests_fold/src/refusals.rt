@@ -1,12 +1,13 @@
-//! Tests of legacy exception handling, which cannot be folded. It is refused in each kind of expression and in
-//! bodies, but not in expressions and bodies that a skeleton leaves out.
+//! Tests of refusals. Legacy exception handling cannot be folded: it is refused in each kind of expression and in
+//! bodies, but not in expressions and bodies that a skeleton leaves out. The same holds for a hint of a block.
 
-use crate::modules::{
-    Refusal, expect_printed, expect_refusal, folding, is_text_refused, with_section,
-};
-use std::alloc::Global;
+use crate::modules::Part::{Bytes, Section};
+use crate::modules::{Parts, Refusal, build, colored_text, folding, is_text_refused};
+use std::alloc::{AllocError, Global};
 use std::test::Fail;
 use wasmprinter::Config;
+use wasmprinter_expecting::expect_printed_by;
+use wasmprinter_samples::PREAMBLE;
 use wasmprinter_samples::sections::{DATA, ELEMENT, GLOBAL, TABLE};
 
 /// A module whose function has a `try` at byte 23, with a `catch_all` in it.
@@ -28,90 +29,173 @@ const CAUGHT_FLAT: &str = r#"(module
 )
 "#;
 
-#[test]
-fn refuses_legacy_operators_in_bodies(rt: HostRuntime) -> Result<(), Fail> {
-    expect_refusal(
-        rt.alloc(),
-        &CAUGHT,
-        Refusal::Legacy(23),
-        "(module\n  (type (;0;) (func))\n  (func (;0;) (type 0) ...)\n)\n",
-        CAUGHT_FLAT,
-    )
-}
+/// A module whose function has no parameters, with a hint for its block.
+const BLOCK_HINTED: [u8; 61] = [
+    0x00, 0x61, 0x73, 0x6d, 0x01, 0x00, 0x00, 0x00, // preamble
+    0x01, 0x04, 0x01, 0x60, 0x00, 0x00, // types
+    0x03, 0x02, 0x01, 0x00, // functions
+    0x00, 0x20, 0x19, 0x6d, 0x65, 0x74, 0x61, 0x64, 0x61, 0x74, 0x61, 0x2e, 0x63, 0x6f, 0x64, 0x65,
+    0x2e, 0x62, 0x72, 0x61, 0x6e, 0x63, 0x68, 0x5f, 0x68, 0x69, 0x6e, 0x74, // hints
+    0x01, 0x00, 0x01, 0x01, 0x01, 0x01, // the hint at 49
+    0x0a, 0x07, 0x01, 0x05, 0x00, 0x02, 0x40, 0x0b, 0x0b, // code
+];
 
-/// Sections with one `try` in an initialiser or an offset, each with the place of the `try` and the flat text of a
-/// module with that section.
-const PRINTED_IN_A_SKELETON: [(u8, &[u8], u64, &str); 4] = [
+/// The text of that module, flat.
+const BLOCK_HINTED_FLAT: &str = r#"(module
+  (type (;0;) (func))
+  (func (;0;) (type 0)
+    (@metadata.code.branch_hint "\01")
+    block ;; label = @1
+    end
+  )
+)
+"#;
+
+/// The text of both modules as a skeleton.
+const BODY_OUTLINE: &str = "(module\n  (type (;0;) (func))\n  (func (;0;) (type 0) ...)\n)\n";
+
+/// A module that cannot be folded: the name of the row, the parts, the reason, the text as a skeleton (`None` if the
+/// skeleton is refused for the same reason), and the text that is not folded.
+type Row = (
+    &'static str,
+    Parts,
+    Refusal,
+    Option<&'static str>,
+    &'static str,
+);
+
+const ROWS: [Row; 7] = [
     (
-        GLOBAL,
-        &[0x01, 0x7f, 0x00, 0x06, 0x40, 0x19, 0x0b, 0x0b],
-        13,
+        "legacy operators in a body",
+        &[Bytes(&CAUGHT)],
+        Refusal::Legacy(23),
+        Some(BODY_OUTLINE),
+        CAUGHT_FLAT,
+    ),
+    (
+        "a hint of a block",
+        &[Bytes(&BLOCK_HINTED)],
+        Refusal::Hint(49),
+        Some(BODY_OUTLINE),
+        BLOCK_HINTED_FLAT,
+    ),
+    (
+        "a `try` in an initialiser of a global",
+        &[
+            Bytes(&PREAMBLE),
+            Section(GLOBAL, &[0x01, 0x7f, 0x00, 0x06, 0x40, 0x19, 0x0b, 0x0b]),
+        ],
+        Refusal::Legacy(13),
+        None,
         "(module\n  (global (;0;) i32 try  (; label = @1 ;) catch_all end)\n)\n",
     ),
     (
-        TABLE,
+        "a `try` in an initialiser of a table",
         &[
-            0x01, 0x40, 0x00, 0x70, 0x00, 0x01, 0x06, 0x40, 0x18, 0x00, 0x0b,
+            Bytes(&PREAMBLE),
+            Section(
+                TABLE,
+                &[
+                    0x01, 0x40, 0x00, 0x70, 0x00, 0x01, 0x06, 0x40, 0x18, 0x00, 0x0b,
+                ],
+            ),
         ],
-        16,
+        Refusal::Legacy(16),
+        None,
         "(module\n  (table (;0;) 1 funcref try  (; label = @1 ;) delegate 0)\n)\n",
     ),
     (
-        ELEMENT,
-        &[0x01, 0x00, 0x06, 0x40, 0x18, 0x00, 0x0b, 0x00],
-        12,
+        "a `try` in an offset of an element segment",
+        &[
+            Bytes(&PREAMBLE),
+            Section(ELEMENT, &[0x01, 0x00, 0x06, 0x40, 0x18, 0x00, 0x0b, 0x00]),
+        ],
+        Refusal::Legacy(12),
+        None,
         "(module\n  (elem (;0;) (offset try  (; label = @1 ;) delegate 0) func)\n)\n",
     ),
-    // A `try` within a block
     (
-        DATA,
+        "a `try` within a block in an offset of a data segment",
         &[
-            0x01, 0x00, 0x02, 0x40, 0x06, 0x40, 0x07, 0x00, 0x0b, 0x0b, 0x0b, 0x00,
+            Bytes(&PREAMBLE),
+            Section(
+                DATA,
+                &[
+                    0x01, 0x00, 0x02, 0x40, 0x06, 0x40, 0x07, 0x00, 0x0b, 0x0b, 0x0b, 0x00,
+                ],
+            ),
         ],
-        14,
+        Refusal::Legacy(14),
+        None,
         "(module\n  (data (;0;) (offset block  (; label = @1 ;) try  (; label = @2 ;) catch 0 end end) \"\")\n)\n",
+    ),
+    (
+        "a `try` in an item",
+        &[
+            Bytes(&PREAMBLE),
+            Section(
+                ELEMENT,
+                &[0x01, 0x05, 0x70, 0x01, 0x06, 0x40, 0x18, 0x00, 0x0b],
+            ),
+        ],
+        Refusal::Legacy(14),
+        Some("(module\n  (elem (;0;) ...)\n)\n"),
+        "(module\n  (elem (;0;) funcref (item try  (; label = @1 ;) delegate 0))\n)\n",
     ),
 ];
 
-/// Returns options that fold operators and print a skeleton, without bodies, items and bytes.
-fn folding_outlines() -> Config {
-    let mut config = folding();
-    config.print_skeleton(true);
-    config
+/// Reports whether appending the lines of a module is refused for this reason, and the earlier contents of the
+/// storage remain.
+fn are_lines_refused(
+    alloc: Global,
+    config: &Config,
+    wasm: &[u8],
+    refusal: &Refusal,
+) -> Result<bool, AllocError> {
+    let mut storage = String::from_str(alloc, "old")?;
+    let error = config.offsets_and_lines(alloc, wasm, &mut storage).err();
+    Ok(refusal.is(error) && storage.as_str().starts_with("old"))
 }
 
-/// Reports whether a module is refused for this reason if it is folded, also as a skeleton.
-fn is_refused_where_folded(alloc: Global, wasm: &[u8], refusal: Refusal) -> bool {
-    is_text_refused(alloc, &folding(), wasm, refusal)
-        && is_text_refused(alloc, &folding_outlines(), wasm, refusal)
-}
-
-#[test]
-fn refuses_legacy_operators_in_initialisers_and_offsets(rt: HostRuntime) -> Result<(), Fail> {
-    let alloc = rt.alloc();
-    for (id, content, place, flat) in PRINTED_IN_A_SKELETON {
-        let wasm = with_section(alloc, id, content)?;
-        assert!(rt;
-            is_refused_where_folded(alloc, &wasm, Refusal::Legacy(place)),
-            "in section {id}"
-        );
-        expect_printed(alloc, &Config::new(), &wasm, flat)?;
+/// Checks that a module is refused for this reason by each function: as a text, with ANSI escape sequences, and as
+/// lines.
+///
+/// # Errors
+///
+/// - A function does not refuse the module for this reason.
+fn expect_refused_each_way(
+    name: &'static str,
+    config: &Config,
+    alloc: Global,
+    wasm: &[u8],
+    refusal: &Refusal,
+) -> Result<(), Fail> {
+    if !is_text_refused(alloc, config, wasm, refusal) {
+        return Err((name, "is not refused as a text"))?;
+    }
+    if !refusal.is(colored_text(config, alloc, wasm).err()) {
+        return Err((name, "is not refused with ANSI escape sequences"))?;
+    }
+    if !are_lines_refused(alloc, config, wasm, refusal)? {
+        return Err((name, "is not refused as lines"))?;
     }
     Ok(())
 }
 
-/// An element section with a `try` at byte 14, in an item.
-const LEGACY_ITEM: [u8; 9] = [0x01, 0x05, 0x70, 0x01, 0x06, 0x40, 0x18, 0x00, 0x0b];
-
 #[test]
-fn refuses_legacy_operators_in_items(rt: HostRuntime) -> Result<(), Fail> {
+fn refuses_legacy_operators_and_hints_of_blocks(rt: HostRuntime) -> Result<(), Fail> {
     let alloc = rt.alloc();
-    let wasm = with_section(alloc, ELEMENT, &LEGACY_ITEM)?;
-    assert!(rt; is_text_refused(alloc, &folding(), &wasm, Refusal::Legacy(14)));
-    expect_printed(
-        alloc,
-        &folding_outlines(),
-        &wasm,
-        "(module\n  (elem (;0;) ...)\n)\n",
-    )
+    for (name, parts, refusal, outline, flat) in &ROWS {
+        let wasm = build(alloc, parts)?;
+        let mut config = folding();
+        expect_refused_each_way(name, &config, alloc, &wasm, refusal)?;
+        config.print_skeleton(true);
+        match outline {
+            Some(typed) => expect_printed_by(name, &config, alloc, &wasm, typed)?,
+            None => expect_refused_each_way(name, &config, alloc, &wasm, refusal)?,
+        }
+        config.print_skeleton(false).fold_instructions(false);
+        expect_printed_by(name, &config, alloc, &wasm, flat)?;
+    }
+    Ok(())
 }
