@@ -163,7 +163,7 @@ const TABLES: [(&str, &str, u32); 5] = [
 ];
 
 #[test]
-fn takes_and_gives_as_each_operator(rt: HostRuntime) -> Result<(), Fail> {
+fn knows_the_arity_of_each_operator(rt: HostRuntime) -> Result<(), Fail> {
     for (name, table, lines) in TABLES {
         assert!(rt; count_expected(rt.alloc(), table)? == lines, "{name}");
     }
