@@ -53,8 +53,14 @@ const FOUR_IMPORTS_TEXT: &str = r#"(module
 const LABELS: u32 = 101;
 
 /// The lines of the body with that `br_table`.
-const LABELS_LINES: &str =
-    "    (br_table 0 0 0 0 0 0 0 0 0 0 0 0 0 0 0 0 0 0 0 0 0 0 0 0 0 0 0 0 0 0 0 0 0 0 0 0 0 0 0 0 0 0 0 0 0 0 0 0 0 0 0 0 0 0 0 0 0 0 0 0 0 0 0 0 0 0 0 0 0 0 0 0 0 0 0 0 0 0 0 0 0 0 0 0 0 0 0 0 0 0 0 0 0 0 0 0 0 0 0 0 0\n      (i32.const 0))\n";
+const LABELS_LINES: &str = "    (br_table \
+0 0 0 0 0 0 0 0 0 0 0 0 0 0 0 0 0 0 0 0 0 0 0 0 0 \
+0 0 0 0 0 0 0 0 0 0 0 0 0 0 0 0 0 0 0 0 0 0 0 0 0 \
+0 0 0 0 0 0 0 0 0 0 0 0 0 0 0 0 0 0 0 0 0 0 0 0 0 \
+0 0 0 0 0 0 0 0 0 0 0 0 0 0 0 0 0 0 0 0 0 0 0 0 0 \
+0
+      (i32.const 0))
+";
 
 /// Modules for which buffers grow, each with its text.
 const ROWS: [Row; 7] = [

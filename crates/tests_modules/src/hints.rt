@@ -142,7 +142,8 @@ const TWO_BODIES: &[u8] = &[
     0x0b,
 ];
 
-/// A module that imports a function and defines two, all of one type, with a hint for the `if` of each defined function.
+/// A module that imports a function and defines two, all of one type. It has a hint for the `if` of each defined
+/// function.
 const AFTER_AN_IMPORT: Parts = &[
     Bytes(&PREAMBLE),
     ONE_PARAM,
