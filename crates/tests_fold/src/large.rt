@@ -98,50 +98,6 @@ const CONSTANT: [u8; 11] = [
     0x0a, 0xa8, 0x8d, 0x06, 0x01, 0xa4, 0x8d, 0x06, 0x00, 0x41, 0x00,
 ];
 
-/// The number of bodies of a module. The next constant is this number, encoded in LEB128.
-const BODIES: u32 = 20_000;
-
-const BODIES_SPELLED: [u8; 3] = [0xa0, 0x9c, 0x01];
-
-/// The size of a body and its bytes: an `if` with both arms, with a constant before it and one in each arm.
-const BODY: [u8; 13] = [
-    0x0c, 0x00, 0x41, 0x00, 0x04, 0x40, 0x41, 0x00, 0x05, 0x41, 0x00, 0x0b, 0x0b,
-];
-
-/// A module of `BODIES` functions.
-const MANY_BODIES: Parts = &[
-    Bytes(&PREAMBLE),
-    Bytes(&[0x01, 0x04, 0x01, 0x60, 0x00, 0x00]),
-    Bytes(&[0x03, 0xa3, 0x9c, 0x01]), // a function section of 20,003 bytes
-    Bytes(&BODIES_SPELLED),
-    Copies(BODIES, &[0x00]),
-    Bytes(&[0x0a, 0xa3, 0xef, 0x0f]), // a code section of 260,003 bytes
-    Bytes(&BODIES_SPELLED),
-    Copies(BODIES, &BODY),
-];
-
-/// The text of each body after its number, folded.
-const BODY_FOLDED: &str = r#";) (type 0)
-    (if ;; label = @1
-      (i32.const 0)
-      (then
-        (i32.const 0))
-      (else
-        (i32.const 0)))
-  )
-"#;
-
-/// The text of each body after its number, flat.
-const BODY_FLAT: &str = r#";) (type 0)
-    i32.const 0
-    if ;; label = @1
-      i32.const 0
-    else
-      i32.const 0
-    end
-  )
-"#;
-
 /// A large module: the name of the row, the options, the parts, and the text.
 type Row = (&'static str, Options, Parts, &'static [TextPart]);
 
@@ -209,25 +165,74 @@ fn folds_deep_nesting(rt: HostRuntime) -> Result<(), Fail> {
     expect_large(rt.alloc(), &NESTED)
 }
 
-/// Modules with many siblings: nodes of a body, or functions.
-const SIBLINGS: [Row; 3] = [
-    (
-        "a constant, operators without operands and results, and an operator that takes the constant",
-        Folded,
-        &[
-            Bytes(&WITHOUT_CODE),
-            Bytes(&CONSTANT),
-            Copies(MANY - 1, &[0x01]),
-            Bytes(&[0x1a, 0x0b]),
-        ],
-        &[
-            Text(UP_TO_BODY),
-            Text("\n    (drop\n      (i32.const 0)"),
-            TextCopies(MANY - 1, "\n      (nop)"),
-            Text(")"),
-            Text(AFTER_BODY),
-        ],
-    ),
+const SIBLINGS: [Row; 1] = [(
+    "a constant, operators without operands and results, and an operator that takes the constant",
+    Folded,
+    &[
+        Bytes(&WITHOUT_CODE),
+        Bytes(&CONSTANT),
+        Copies(MANY - 1, &[0x01]),
+        Bytes(&[0x1a, 0x0b]),
+    ],
+    &[
+        Text(UP_TO_BODY),
+        Text("\n    (drop\n      (i32.const 0)"),
+        TextCopies(MANY - 1, "\n      (nop)"),
+        Text(")"),
+        Text(AFTER_BODY),
+    ],
+)];
+
+#[test]
+fn folds_many_siblings(rt: HostRuntime) -> Result<(), Fail> {
+    expect_large(rt.alloc(), &SIBLINGS)
+}
+
+/// The number of bodies of a module. The next constant is this number, encoded in LEB128.
+const BODIES: u32 = 20_000;
+
+const BODIES_SPELLED: [u8; 3] = [0xa0, 0x9c, 0x01];
+
+/// The size of a body and its bytes: an `if` with both arms, with a constant before it and one in each arm.
+const BODY: [u8; 13] = [
+    0x0c, 0x00, 0x41, 0x00, 0x04, 0x40, 0x41, 0x00, 0x05, 0x41, 0x00, 0x0b, 0x0b,
+];
+
+/// A module of `BODIES` functions.
+const MANY_BODIES: Parts = &[
+    Bytes(&PREAMBLE),
+    Bytes(&[0x01, 0x04, 0x01, 0x60, 0x00, 0x00]),
+    Bytes(&[0x03, 0xa3, 0x9c, 0x01]), // a function section of 20,003 bytes
+    Bytes(&BODIES_SPELLED),
+    Copies(BODIES, &[0x00]),
+    Bytes(&[0x0a, 0xa3, 0xef, 0x0f]), // a code section of 260,003 bytes
+    Bytes(&BODIES_SPELLED),
+    Copies(BODIES, &BODY),
+];
+
+/// The text of each body after its number, folded.
+const BODY_FOLDED: &str = r#";) (type 0)
+    (if ;; label = @1
+      (i32.const 0)
+      (then
+        (i32.const 0))
+      (else
+        (i32.const 0)))
+  )
+"#;
+
+/// The text of each body after its number, flat.
+const BODY_FLAT: &str = r#";) (type 0)
+    i32.const 0
+    if ;; label = @1
+      i32.const 0
+    else
+      i32.const 0
+    end
+  )
+"#;
+
+const MANY_BODIES_ROWS: [Row; 2] = [
     (
         "many bodies, folded",
         Folded,
@@ -251,6 +256,6 @@ const SIBLINGS: [Row; 3] = [
 ];
 
 #[test]
-fn prints_many_siblings(rt: HostRuntime) -> Result<(), Fail> {
-    expect_large(rt.alloc(), &SIBLINGS)
+fn prints_many_bodies(rt: HostRuntime) -> Result<(), Fail> {
+    expect_large(rt.alloc(), &MANY_BODIES_ROWS)
 }
