@@ -6,7 +6,7 @@
 pub mod calls;
 mod samples;
 
-use calls::{Calls, Ending, shown_calls};
+use calls::{Calls, Ending, expect_calls, shown_calls};
 use samples::{
     ACUTE, GREATEST, Letter, QUOTE, SPACE, Sample, letters, letters_but, mixed, repeated,
 };
@@ -14,17 +14,18 @@ use std::alloc::{AllocError, Global};
 use std::test::Fail;
 use wasmprinter::text::{write_bytes, write_quoted};
 use wasmprinter::{Config, Error, Print};
-use wasmprinter_samples::{PREAMBLE, expect_text};
+use wasmprinter_expecting::{expect_same, print_to};
+use wasmprinter_samples::PREAMBLE;
 
 /// The content of a quoted string.
 #[derive(Clone, Copy)]
-enum Input<'a> {
+pub enum Input<'a> {
     Bytes(&'a [u8]),
     Text(&'a str),
 }
 
 /// Writes the input. It has no contract, so that callers need not prove anything about their own printer.
-fn write_input<P: Print>(p: &mut P, input: Input) -> Result<(), Error> {
+pub fn write_input<P: Print>(p: &mut P, input: Input) -> Result<(), Error> {
     match input {
         Input::Bytes(bytes) => write_bytes(p, bytes),
         Input::Text(text) => write_quoted(p, text),
@@ -137,14 +138,14 @@ fn is_split_with(alloc: Global, len: usize, letter: Letter) -> Result<bool, Allo
     is_split_at_places(alloc, len, (len.saturating_sub(5), len), letter)
 }
 
-#[test]
-fn splits_letters(rt: HostRuntime) -> Result<(), Fail> {
-    for (from, to) in LENGTHS {
-        for len in from..=to {
-            assert!(rt;
-                is_split(rt.alloc(), &letters(rt.alloc(), len)?)?,
-                "at {len}"
-            );
+/// Checks that letters of this length are split into the expected calls, also with one escaped character.
+fn check_letters(alloc: Global, len: usize) -> Result<(), Fail> {
+    if !is_split(alloc, &letters(alloc, len)?)? {
+        return Err(("letters", len))?;
+    }
+    for letter in ESCAPED {
+        if !is_split_with(alloc, len, letter)? {
+            return Err(("letters and an escape", len))?;
         }
     }
     Ok(())
@@ -154,35 +155,33 @@ fn splits_letters(rt: HostRuntime) -> Result<(), Fail> {
 fn splits_letters_and_an_escape(rt: HostRuntime) -> Result<(), Fail> {
     for (from, to) in LENGTHS {
         for len in from..=to {
-            for letter in ESCAPED {
-                assert!(rt; is_split_with(rt.alloc(), len, letter)?, "at {len}");
-            }
+            check_letters(rt.alloc(), len)?;
+        }
+    }
+    Ok(())
+}
+
+/// Checks that texts of this length with many escapes are split into the expected calls: escaped characters alone, and
+/// pseudorandom texts.
+fn check_escapes(alloc: Global, len: usize) -> Result<(), Fail> {
+    for letter in ESCAPED {
+        if !is_split(alloc, &repeated(alloc, len, letter)?)? {
+            return Err(("escapes alone", len))?;
+        }
+    }
+    for mix in MIXES {
+        if !is_split(alloc, &mixed(alloc, len, mix)?)? {
+            return Err(("a mixed text", len))?;
         }
     }
     Ok(())
 }
 
 #[test]
-fn splits_escapes_alone(rt: HostRuntime) -> Result<(), Fail> {
+fn splits_escapes_and_mixed_texts(rt: HostRuntime) -> Result<(), Fail> {
     for (from, to) in LENGTHS {
         for len in from..=to {
-            for letter in ESCAPED {
-                let sample = repeated(rt.alloc(), len, letter)?;
-                assert!(rt; is_split(rt.alloc(), &sample)?, "at {len}");
-            }
-        }
-    }
-    Ok(())
-}
-
-#[test]
-fn splits_mixed_texts(rt: HostRuntime) -> Result<(), Fail> {
-    for (from, to) in LENGTHS {
-        for len in from..=to {
-            for mix in MIXES {
-                let sample = mixed(rt.alloc(), len, mix)?;
-                assert!(rt; is_split(rt.alloc(), &sample)?, "at {len}");
-            }
+            check_escapes(rt.alloc(), len)?;
         }
     }
     Ok(())
@@ -221,7 +220,7 @@ const BYTES: [&str; 16] = [
 ];
 
 /// Checks that writing the input makes the calls of these rows, between quotes.
-fn expect_rows(alloc: Global, input: Input, rows: &[&str]) -> Result<(), Fail> {
+fn expect_rows(name: &'static str, alloc: Global, input: Input, rows: &[&str]) -> Result<(), Fail> {
     let mut calls = Calls::new(alloc, 0);
     write_input(&mut calls, input)?;
     let mut wanted = String::from_str(alloc, "{L}\"|")?;
@@ -229,8 +228,7 @@ fn expect_rows(alloc: Global, input: Input, rows: &[&str]) -> Result<(), Fail> {
         wanted.push_str(row)?;
     }
     wanted.push_str("\"|{R}")?;
-    expect_text(calls.shown(alloc)?.as_str(), wanted.as_str())?;
-    Ok(())
+    expect_same(name, calls.shown(alloc)?.as_str(), wanted.as_str())
 }
 
 #[test]
@@ -239,7 +237,8 @@ fn splits_each_character_below_128(rt: HostRuntime) -> Result<(), Fail> {
     for byte in 0..128 {
         text.push(char::from(byte))?;
     }
-    expect_rows(rt.alloc(), Input::Text(text.as_str()), &CHARACTERS)
+    let input = Input::Text(text.as_str());
+    expect_rows("characters", rt.alloc(), input, &CHARACTERS)
 }
 
 #[test]
@@ -248,19 +247,38 @@ fn splits_each_byte(rt: HostRuntime) -> Result<(), Fail> {
     for byte in 0..=u8::MAX {
         bytes.push(byte)?;
     }
-    expect_rows(rt.alloc(), Input::Bytes(bytes.as_slice()), &BYTES)
+    let input = Input::Bytes(bytes.as_slice());
+    expect_rows("bytes", rt.alloc(), input, &BYTES)
 }
+
+/// The number of a call in the middle of an escape that follows one character.
+const INNER_CALL: usize = 5;
+
+/// Contents with an escape, and all calls if that call is refused.
+const INNER: &[(&str, Input, &[u8])] = &[
+    (
+        "a character",
+        Input::Text("a\u{e9}"),
+        b"\xfe\"\xffa\xff\\u{\xffe\xff",
+    ),
+    (
+        "a byte",
+        Input::Bytes(b"a\x1fb"),
+        b"\xfe\"\xffa\xff\\\xff1\xff",
+    ),
+];
 
 #[test]
 fn stops_in_the_middle_of_an_escape(rt: HostRuntime) {
-    let mut calls = Calls::new(rt.alloc(), 5);
-    let ending = Ending::of(write_input(&mut calls, Input::Text("a\u{e9}")));
-    assert!(rt; ending == Ending::Refused && calls.count() == 5);
-    assert!(rt; calls.are(b"\xfe\"\xffa\xff\\u{\xffe\xff"));
-    let mut calls = Calls::new(rt.alloc(), 5);
-    let ending = Ending::of(write_input(&mut calls, Input::Bytes(b"a\x1fb")));
-    assert!(rt; ending == Ending::Refused && calls.count() == 5);
-    assert!(rt; calls.are(b"\xfe\"\xffa\xff\\\xff1\xff"));
+    for (name, input, wanted) in INNER {
+        let mut calls = Calls::new(rt.alloc(), INNER_CALL);
+        let ending = Ending::of(write_input(&mut calls, *input));
+        assert!(rt;
+            ending == Ending::Refused && calls.count() == INNER_CALL,
+            "{name}"
+        );
+        assert!(rt; calls.are(*wanted), "{name}");
+    }
 }
 
 /// Lengths of the texts for which each call is refused in turn.
@@ -269,22 +287,28 @@ const REFUSED_LENGTHS: [usize; 6] = [0, 1, 3, 86, 254, 257];
 /// The seeds and masks of these texts.
 const REFUSED_MIXES: [(u32, u32); 2] = [(1, 1), (11, 63)];
 
-#[test]
-fn stops_at_each_call_of_letters(rt: HostRuntime) -> Result<(), Fail> {
-    for len in REFUSED_LENGTHS {
-        let sample = letters_but(rt.alloc(), len, 253, QUOTE)?;
-        assert!(rt; is_split_up_to_each_call(rt.alloc(), &sample)?, "at {len}");
+/// The position of the escaped character in these letters. It is in the first run.
+const REFUSED_PLACE: usize = 253;
+
+/// Checks that writing texts of this length stops at each call that fails: letters and an escaped character, and
+/// pseudorandom texts.
+fn check_refused_length(alloc: Global, len: usize) -> Result<(), Fail> {
+    let sample = letters_but(alloc, len, REFUSED_PLACE, QUOTE)?;
+    if !is_split_up_to_each_call(alloc, &sample)? {
+        return Err(("letters and an escape", len))?;
+    }
+    for mix in REFUSED_MIXES {
+        if !is_split_up_to_each_call(alloc, &mixed(alloc, len, mix)?)? {
+            return Err(("a mixed text", len))?;
+        }
     }
     Ok(())
 }
 
 #[test]
-fn stops_at_each_call_of_mixed_texts(rt: HostRuntime) -> Result<(), Fail> {
+fn stops_at_each_call_of_a_quoted_string(rt: HostRuntime) -> Result<(), Fail> {
     for len in REFUSED_LENGTHS {
-        for mix in REFUSED_MIXES {
-            let sample = mixed(rt.alloc(), len, mix)?;
-            assert!(rt; is_split_up_to_each_call(rt.alloc(), &sample)?, "at {len}");
-        }
+        check_refused_length(rt.alloc(), len)?;
     }
     Ok(())
 }
@@ -370,24 +394,11 @@ fn named_calls(alloc: Global, sample: &Sample) -> Result<String, AllocError> {
     Ok(calls)
 }
 
-/// Prints a module to any printer. It has no contract, so that callers need not prove anything about their own
-/// printer.
-fn print_to<P: Print>(alloc: Global, wasm: &[u8], p: &mut P) -> Result<(), Error> {
-    Config::new().print(alloc, wasm, p)
-}
-
 /// Checks that a module of two functions with this name makes the expected calls.
-fn expect_named(alloc: Global, sample: &Sample) -> Result<(), Fail> {
-    let mut calls = Calls::new(alloc, 0);
-    print_to(alloc, &with_name(alloc, sample.text.as_str())?, &mut calls)?;
-    if !calls.is_complete() {
-        return Err(Fail::new("a call is lost"));
-    }
-    expect_text(
-        calls.shown(alloc)?.as_str(),
-        named_calls(alloc, sample)?.as_str(),
-    )?;
-    Ok(())
+fn expect_named(name: &'static str, alloc: Global, sample: &Sample) -> Result<(), Fail> {
+    let wasm = with_name(alloc, sample.text.as_str())?;
+    let typed = named_calls(alloc, sample)?;
+    expect_calls(name, &Config::new(), alloc, &wasm, typed.as_str())
 }
 
 /// Lengths of names that are not empty, as ranges.
@@ -400,16 +411,23 @@ const NAME_LENGTHS: [(usize, usize); 6] = [
     (1_020, 1_030),
 ];
 
+/// The seed and the mask of pseudorandom names.
+const NAME_MIX: (u32, u32) = (7, 7);
+
+/// Checks that identifiers and annotations of this length are split into the expected calls.
+fn check_names(alloc: Global, len: usize) -> Result<(), Fail> {
+    expect_named("letters", alloc, &letters(alloc, len)?)?;
+    expect_named("a space", alloc, &letters_but(alloc, len, 0, SPACE)?)?;
+    expect_named("a quote", alloc, &letters_but(alloc, len, len / 2, QUOTE)?)?;
+    expect_named("escapes", alloc, &repeated(alloc, len, ACUTE)?)?;
+    expect_named("a mixed text", alloc, &mixed(alloc, len, NAME_MIX)?)
+}
+
 #[test]
 fn splits_identifiers_and_annotations(rt: HostRuntime) -> Result<(), Fail> {
-    let alloc = rt.alloc();
     for (from, to) in NAME_LENGTHS {
         for len in from..=to {
-            expect_named(alloc, &letters(alloc, len)?)?;
-            expect_named(alloc, &letters_but(alloc, len, 0, SPACE)?)?;
-            expect_named(alloc, &letters_but(alloc, len, len / 2, QUOTE)?)?;
-            expect_named(alloc, &repeated(alloc, len, ACUTE)?)?;
-            expect_named(alloc, &mixed(alloc, len, (7, 7))?)?;
+            check_names(rt.alloc(), len)?;
         }
     }
     Ok(())
@@ -425,17 +443,21 @@ const WITHOUT_A_NAME: &str = r##"[0x0](|{K}module|{R}
 
 #[test]
 fn splits_the_annotation_of_an_empty_name(rt: HostRuntime) -> Result<(), Fail> {
-    let mut calls = Calls::new(rt.alloc(), 0);
-    print_to(rt.alloc(), &with_name(rt.alloc(), "")?, &mut calls)?;
-    expect_text(calls.shown(rt.alloc())?.as_str(), WITHOUT_A_NAME)?;
-    Ok(())
+    let wasm = with_name(rt.alloc(), "")?;
+    expect_calls(
+        "an empty name",
+        &Config::new(),
+        rt.alloc(),
+        &wasm,
+        WITHOUT_A_NAME,
+    )
 }
 
 /// Reports whether printing a module stops at the call with this number if that call fails, and all calls up to it
 /// are the first of `wanted`.
 fn prints_up_to(alloc: Global, wasm: &[u8], wanted: &str, refused: usize) -> Result<bool, Fail> {
     let mut found = Calls::new(alloc, refused);
-    let ending = Ending::of(print_to(alloc, wasm, &mut found));
+    let ending = Ending::of(print_to(&Config::new(), alloc, wasm, &mut found));
     Ok(
         ending == Ending::Refused
             && found.is_complete()
@@ -444,21 +466,28 @@ fn prints_up_to(alloc: Global, wasm: &[u8], wanted: &str, refused: usize) -> Res
     )
 }
 
+/// Lengths of the names for which each call is refused in turn.
+const REFUSED_NAME_LENGTHS: [usize; 3] = [3, 86, 257];
+
+/// Checks that printing a module with a pseudorandom name of this length stops at each call that fails.
+fn check_refused_names(alloc: Global, len: usize) -> Result<(), Fail> {
+    let sample = mixed(alloc, len, NAME_MIX)?;
+    let wasm = with_name(alloc, sample.text.as_str())?;
+    let wanted = named_calls(alloc, &sample)?;
+    let mut whole = Calls::new(alloc, 0);
+    print_to(&Config::new(), alloc, &wasm, &mut whole)?;
+    for refused in 1..=whole.count() {
+        if !prints_up_to(alloc, &wasm, wanted.as_str(), refused)? {
+            return Err(("a mixed name", (len, refused)))?;
+        }
+    }
+    Ok(())
+}
+
 #[test]
 fn stops_at_each_call_of_identifiers(rt: HostRuntime) -> Result<(), Fail> {
-    let alloc = rt.alloc();
-    for len in [3, 86, 257] {
-        let sample = mixed(alloc, len, (7, 7))?;
-        let wasm = with_name(alloc, sample.text.as_str())?;
-        let wanted = named_calls(alloc, &sample)?;
-        let mut whole = Calls::new(alloc, 0);
-        print_to(alloc, &wasm, &mut whole)?;
-        for refused in 1..=whole.count() {
-            assert!(rt;
-                prints_up_to(alloc, &wasm, wanted.as_str(), refused)?,
-                "{len} at {refused}"
-            );
-        }
+    for len in REFUSED_NAME_LENGTHS {
+        check_refused_names(rt.alloc(), len)?;
     }
     Ok(())
 }

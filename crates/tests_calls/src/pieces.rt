@@ -5,79 +5,81 @@
 mod lists;
 mod module;
 
-use crate::cuts::calls::Calls;
+use crate::cuts::calls::{Calls, expect_calls};
 use lists::{FLAT, FOLDED, NAMED, NAMED_FOLDED, TABS};
 use module::MODULE;
 use std::alloc::{AllocError, Global};
 use std::test::Fail;
-use wasmprinter::{Config, Error, Print};
+use wasmprinter::Config;
+use wasmprinter_expecting::print_to;
+use wasmprinter_samples::IDENTITY;
 use wasmprinter_samples::sections::with_blocks;
-use wasmprinter_samples::{IDENTITY, expect_text};
 
-/// Prints to any printer. It has no contract, so that callers need not prove anything about their own printer.
-fn print_to<P: Print>(
-    config: &Config,
-    alloc: Global,
-    wasm: &[u8],
-    printer: &mut P,
-) -> Result<(), Error> {
-    config.print(alloc, wasm, printer)
+/// Options, and the calls for the module that is printed with them.
+struct Row {
+    name: &'static str,
+    /// Whether places are printed.
+    offsets: bool,
+    /// Whether identifiers are synthesized.
+    identifiers: bool,
+    /// Whether operators are folded.
+    folded: bool,
+    calls: &'static str,
 }
 
-/// Checks that printing a module makes exactly these calls.
-fn expect_calls(alloc: Global, config: &Config, wasm: &[u8], wanted: &str) -> Result<(), Fail> {
-    let mut calls = Calls::new(alloc, 0);
-    print_to(config, alloc, wasm, &mut calls)?;
-    if !calls.is_complete() {
-        return Err(Fail::new("a call is lost"));
+const ROWS: &[Row] = &[
+    Row {
+        name: "flat, with places",
+        offsets: true,
+        identifiers: false,
+        folded: false,
+        calls: FLAT,
+    },
+    Row {
+        name: "folded, with places",
+        offsets: true,
+        identifiers: false,
+        folded: true,
+        calls: FOLDED,
+    },
+    Row {
+        name: "flat, with identifiers",
+        offsets: false,
+        identifiers: true,
+        folded: false,
+        calls: NAMED,
+    },
+    Row {
+        name: "folded, with identifiers",
+        offsets: false,
+        identifiers: true,
+        folded: true,
+        calls: NAMED_FOLDED,
+    },
+];
+
+/// Checks the calls for the module that is printed with the options of a row.
+fn check(alloc: Global, row: &Row) -> Result<(), Fail> {
+    let mut config = Config::new();
+    config.print_offsets(row.offsets);
+    config.name_unnamed(row.identifiers);
+    config.fold_instructions(row.folded);
+    expect_calls(row.name, &config, alloc, &MODULE, row.calls)
+}
+
+#[test]
+fn splits_a_module_with_these_options(rt: HostRuntime) -> Result<(), Fail> {
+    for row in ROWS {
+        check(rt.alloc(), row)?;
     }
-    expect_text(calls.shown(alloc)?.as_str(), wanted)?;
     Ok(())
-}
-
-/// Returns the options that print places.
-fn with_places() -> Config {
-    let mut config = Config::new();
-    config.print_offsets(true);
-    config
-}
-
-/// Returns the options that synthesize identifiers.
-fn with_identifiers() -> Config {
-    let mut config = Config::new();
-    config.name_unnamed(true);
-    config
-}
-
-#[test]
-fn splits_a_module_with_places(rt: HostRuntime) -> Result<(), Fail> {
-    expect_calls(rt.alloc(), &with_places(), &MODULE, FLAT)
-}
-
-#[test]
-fn splits_a_folded_module_with_places(rt: HostRuntime) -> Result<(), Fail> {
-    let mut config = with_places();
-    config.fold_instructions(true);
-    expect_calls(rt.alloc(), &config, &MODULE, FOLDED)
-}
-
-#[test]
-fn splits_a_module_with_identifiers(rt: HostRuntime) -> Result<(), Fail> {
-    expect_calls(rt.alloc(), &with_identifiers(), &MODULE, NAMED)
-}
-
-#[test]
-fn splits_a_folded_module_with_identifiers(rt: HostRuntime) -> Result<(), Fail> {
-    let mut config = with_identifiers();
-    config.fold_instructions(true);
-    expect_calls(rt.alloc(), &config, &MODULE, NAMED_FOLDED)
 }
 
 #[test]
 fn splits_an_indent_text_by_levels(rt: HostRuntime) -> Result<(), Fail> {
     let mut config = Config::new();
     config.indent_text(String::from_str(rt.alloc(), "\t")?);
-    expect_calls(rt.alloc(), &config, &IDENTITY, TABS)
+    expect_calls("tabs", &config, rt.alloc(), &IDENTITY, TABS)
 }
 
 /// Returns the end of a line with an `end` that is indented by `level` levels: the two spaces of each level are

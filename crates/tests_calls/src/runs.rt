@@ -3,12 +3,12 @@
 ghost use Rattle.std.specs.Prelude.{None, false};
 
 use crate::cuts::calls::Calls;
+use crate::cuts::{Input, write_input};
 use std::alloc::{AllocError, Global};
 use std::io;
 use std::test::Fail;
-use wasmprinter::text::{write_bytes, write_quoted};
-use wasmprinter::{Error, Print, PrintText};
-use wasmprinter_samples::expect_text;
+use wasmprinter::{Print, PrintText};
+use wasmprinter_expecting::expect_same;
 
 /// The pieces of text so far. One from `write_str` has a bar after it, one from `write_each_char` has angle
 /// brackets around it.
@@ -38,82 +38,23 @@ impl Pieces {
     }
 }
 
-/// A printer that takes runs.
+/// A printer that implements `write_each_char`, and may take runs.
 #[derive(Drop)]
-struct WithRuns(Pieces);
+struct RunPrinter {
+    pieces: Pieces,
+    takes_runs: bool,
+}
 
-impl Print for WithRuns {
-    ghost meaning = { record {
-      after = λ _ _ _. Unit {0};
-      may_fail = λ _ _. Unit {0};
-      partly = λ _ _ _ _. Unit {0};
-      faults = λ _. None;
-    } };
-
-    ghost colors = { λ _. false };
-
-    fn write_str(&mut self, s: &str) -> io::Result<()> {
-        self.0.put_piece(s)
-    }
-
-    #[tactic(auto, using(wasmprinter_print::specs::EmitsLaws::does))]
-    fn write_each_char(&mut self, s: &str) -> io::Result<()> {
-        self.0.put_run(s)
-    }
-
-    fn takes_runs(&self) -> bool {
-        true
-    }
-
-    fn newline(&mut self) -> io::Result<()> {
-        Ok(())
-    }
-
-    fn start_line(&mut self, _binary_offset: Option<u64>) {}
-
-    fn print_custom_section(
-        &mut self,
-        _name: &str,
-        _binary_offset: u64,
-        _bytes: &[u8],
-    ) -> io::Result<bool> {
-        Ok(false)
-    }
-
-    fn start_literal(&mut self) -> io::Result<()> {
-        Ok(())
-    }
-
-    fn start_name(&mut self) -> io::Result<()> {
-        Ok(())
-    }
-
-    fn start_keyword(&mut self) -> io::Result<()> {
-        Ok(())
-    }
-
-    fn start_type(&mut self) -> io::Result<()> {
-        Ok(())
-    }
-
-    fn start_comment(&mut self) -> io::Result<()> {
-        Ok(())
-    }
-
-    fn reset_color(&mut self) -> io::Result<()> {
-        Ok(())
-    }
-
-    fn supports_async_color(&self) -> bool {
-        false
+impl RunPrinter {
+    fn new(alloc: Global, takes_runs: bool) -> RunPrinter {
+        RunPrinter {
+            pieces: Pieces::new(alloc),
+            takes_runs,
+        }
     }
 }
 
-/// A printer that implements `write_each_char`, but keeps the trait's default of `takes_runs`.
-#[derive(Drop)]
-struct WithoutRuns(Pieces);
-
-impl Print for WithoutRuns {
+impl Print for RunPrinter {
     ghost meaning = { record {
       after = λ _ _ _. Unit {0};
       may_fail = λ _ _. Unit {0};
@@ -124,12 +65,16 @@ impl Print for WithoutRuns {
     ghost colors = { λ _. false };
 
     fn write_str(&mut self, s: &str) -> io::Result<()> {
-        self.0.put_piece(s)
+        self.pieces.put_piece(s)
     }
 
     #[tactic(auto, using(wasmprinter_print::specs::EmitsLaws::does))]
     fn write_each_char(&mut self, s: &str) -> io::Result<()> {
-        self.0.put_run(s)
+        self.pieces.put_run(s)
+    }
+
+    fn takes_runs(&self) -> bool {
+        self.takes_runs
     }
 
     fn newline(&mut self) -> io::Result<()> {
@@ -200,17 +145,8 @@ impl PrintText for PlainlyInRuns {
     }
 }
 
-/// Writes a quoted string. It has no contract, so that callers need not prove anything about their own printer.
-fn quote<P: Print>(p: &mut P, text: &str) -> Result<(), Error> {
-    write_quoted(p, text)
-}
-
-/// Writes a byte string.
-fn quote_bytes<P: Print>(p: &mut P, bytes: &[u8]) -> Result<(), Error> {
-    write_bytes(p, bytes)
-}
-
-/// Writes a text with the printer's `write_each_char`.
+/// Writes a text with the printer's `write_each_char`. It has no contract, so that callers need not prove anything about
+/// their own printer.
 fn write_each<P: Print>(p: &mut P, text: &str) -> io::Result<()> {
     p.write_each_char(text)
 }
@@ -231,64 +167,64 @@ fn repeated(
     Ok(text)
 }
 
-/// Checks the pieces of a quoted string that a printer receives if it takes runs.
-fn expect_runs(alloc: Global, text: &str, wanted: &str) -> Result<(), Fail> {
-    let mut printer = WithRuns(Pieces::new(alloc));
-    quote(&mut printer, text)?;
-    expect_text(printer.0.text.as_str(), wanted)?;
-    Ok(())
+/// Checks the pieces of a content that a printer receives if it takes runs.
+fn expect_runs(name: &'static str, alloc: Global, input: Input, wanted: &str) -> Result<(), Fail> {
+    let mut printer = RunPrinter::new(alloc, true);
+    write_input(&mut printer, input)?;
+    expect_same(name, printer.pieces.text.as_str(), wanted)
 }
 
-/// Checks the pieces of a byte string that a printer receives if it takes runs.
-fn expect_byte_runs(alloc: Global, bytes: &[u8], wanted: &str) -> Result<(), Fail> {
-    let mut printer = WithRuns(Pieces::new(alloc));
-    quote_bytes(&mut printer, bytes)?;
-    expect_text(printer.0.text.as_str(), wanted)?;
-    Ok(())
-}
-
-#[test]
-fn writes_plain_characters_in_runs(rt: HostRuntime) -> Result<(), Fail> {
-    expect_runs(rt.alloc(), "", "\"|\"|")?;
-    expect_runs(rt.alloc(), "memory", "\"|<memory>\"|")?;
-    expect_runs(
-        rt.alloc(),
-        "ab\"céd",
+/// Contents, each with its pieces if the printer takes runs.
+const RUNS: &[(&str, Input, &str)] = &[
+    ("no characters", Input::Text(""), "\"|\"|"),
+    ("a word", Input::Text("memory"), "\"|<memory>\"|"),
+    (
+        "characters and escapes",
+        Input::Text("ab\"céd"),
         "\"|<ab>\\u{|2|2|}|<c>\\u{|e|9|}|<d>\"|",
-    )
-}
+    ),
+    ("no bytes", Input::Bytes(&[]), "\"|\"|"),
+    (
+        "bytes and escapes",
+        Input::Bytes(b"a\"\0b\xff"),
+        "\"|<a\\22\\00b\\ff>\"|",
+    ),
+];
 
 #[test]
-fn writes_byte_strings_in_runs(rt: HostRuntime) -> Result<(), Fail> {
-    expect_byte_runs(rt.alloc(), &[], "\"|\"|")?;
-    expect_byte_runs(rt.alloc(), b"a\"\0b\xff", "\"|<a\\22\\00b\\ff>\"|")
+fn writes_quoted_strings_in_runs(rt: HostRuntime) -> Result<(), Fail> {
+    for (name, input, wanted) in RUNS {
+        expect_runs(*name, rt.alloc(), *input, *wanted)?;
+    }
+    Ok(())
 }
 
-/// A run has at most 256 plain characters.
+/// A run has at most 256 plain characters. A run of a byte string covers at most 85 bytes, which are at most 255
+/// characters.
 #[test]
-fn ends_a_run_at_256_characters(rt: HostRuntime) -> Result<(), Fail> {
-    let text = repeated(rt.alloc(), "", "x", 256, "y")?;
-    let wanted = repeated(rt.alloc(), "\"|<", "x", 256, "><y>\"|")?;
-    expect_runs(rt.alloc(), text.as_str(), wanted.as_str())
+fn ends_a_run_at_its_greatest_length(rt: HostRuntime) -> Result<(), Fail> {
+    let alloc = rt.alloc();
+    let text = repeated(alloc, "", "x", 256, "y")?;
+    let wanted = repeated(alloc, "\"|<", "x", 256, "><y>\"|")?;
+    let input = Input::Text(text.as_str());
+    expect_runs("256 characters", alloc, input, wanted.as_str())?;
+    let wanted = repeated(alloc, "\"|<", "\\00", 85, "><\\00>\"|")?;
+    let input = Input::Bytes(&[0; 86]);
+    expect_runs("85 bytes", alloc, input, wanted.as_str())
 }
 
-/// A run of a byte string covers at most 85 bytes, which are at most 255 characters.
-#[test]
-fn ends_a_run_at_85_bytes(rt: HostRuntime) -> Result<(), Fail> {
-    let wanted = repeated(rt.alloc(), "\"|<", "\\00", 85, "><\\00>\"|")?;
-    expect_byte_runs(rt.alloc(), &[0; 86], wanted.as_str())
-}
-
+/// By default, a printer takes no runs.
 #[test]
 fn writes_no_run_to_a_printer_that_takes_none(rt: HostRuntime) -> Result<(), Fail> {
-    let mut printer = WithoutRuns(Pieces::new(rt.alloc()));
-    quote(&mut printer, "ab\"")?;
-    quote_bytes(&mut printer, b"a\0")?;
-    expect_text(
-        printer.0.text.as_str(),
+    assert!(rt; !Calls::new(rt.alloc(), 0).takes_runs());
+    let mut printer = RunPrinter::new(rt.alloc(), false);
+    write_input(&mut printer, Input::Text("ab\""))?;
+    write_input(&mut printer, Input::Bytes(b"a\0"))?;
+    expect_same(
+        "two strings",
+        printer.pieces.text.as_str(),
         "\"|a|b|\\u{|2|2|}|\"|\"|a|\\|0|0|\"|",
-    )?;
-    Ok(())
+    )
 }
 
 /// The trait's `write_each_char` makes a call for each character.
@@ -296,18 +232,21 @@ fn writes_no_run_to_a_printer_that_takes_none(rt: HostRuntime) -> Result<(), Fai
 fn writes_each_character_by_a_call(rt: HostRuntime) -> Result<(), Fail> {
     let mut calls = Calls::new(rt.alloc(), 0);
     write_each(&mut calls, "ab\"c")?;
-    expect_text(calls.shown(rt.alloc())?.as_str(), "a|b|\"|c|")?;
-    Ok(())
+    expect_same(
+        "four characters",
+        calls.shown(rt.alloc())?.as_str(),
+        "a|b|\"|c|",
+    )
 }
 
 #[test]
 fn writes_pieces_to_printers_of_text_alone(rt: HostRuntime) -> Result<(), Fail> {
     let mut printer = Plainly(Pieces::new(rt.alloc()));
-    quote(&mut printer, "ab\"")?;
-    expect_text(printer.0.text.as_str(), "\"|a|b|\\u{|2|2|}|\"|")?;
+    write_input(&mut printer, Input::Text("ab\""))?;
+    let wanted = "\"|a|b|\\u{|2|2|}|\"|";
+    expect_same("no runs", printer.0.text.as_str(), wanted)?;
     let mut printer = PlainlyInRuns(Pieces::new(rt.alloc()));
-    quote(&mut printer, "ab")?;
+    write_input(&mut printer, Input::Text("ab"))?;
     write_each(&mut printer, "cd")?;
-    expect_text(printer.0.text.as_str(), "\"|ab|\"|cd|")?;
-    Ok(())
+    expect_same("runs", printer.0.text.as_str(), "\"|ab|\"|cd|")
 }

@@ -1,10 +1,13 @@
-//! A printer for tests of how a text is split into calls. It keeps the calls separate, and can refuse one.
+//! A printer for tests of how a text is split into calls. It keeps the calls separate, and can refuse one. The calls
+//! for a module are compared with typed ones.
 ghost use Rattle.std.specs.Prelude.{None, false};
 
 use std::alloc::{AllocError, Global};
 use std::io;
 use std::io::{ErrorKind, Write};
-use wasmprinter::{Error, Print};
+use std::test::Fail;
+use wasmprinter::{Config, Error, Print};
+use wasmprinter_expecting::{expect_same, print_to};
 
 /// How a function that makes the calls ended.
 #[derive(Clone, Copy, Debug, PartialEq, Eq)]
@@ -127,6 +130,22 @@ impl Calls {
         self.keep_byte(0xf6)?;
         without_cause(write!(self.list, "{{? {name} {place:#x} {len}}}"))
     }
+}
+
+/// Checks that printing a module with these options makes exactly these calls, in the form of `Calls::shown`.
+pub fn expect_calls(
+    name: &'static str,
+    config: &Config,
+    alloc: Global,
+    wasm: &[u8],
+    typed: &str,
+) -> Result<(), Fail> {
+    let mut calls = Calls::new(alloc, 0);
+    print_to(config, alloc, wasm, &mut calls)?;
+    if !calls.is_complete() {
+        return Err((name, "a call is lost"))?;
+    }
+    expect_same(name, calls.shown(alloc)?.as_str(), typed)
 }
 
 /// Converts the result of a write into memory, which fails only if an allocation fails.
