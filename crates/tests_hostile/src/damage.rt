@@ -3,7 +3,7 @@
 use std::alloc::{AllocError, Global};
 
 /// A way to damage a module at a byte.
-#[derive(Clone, Copy, Debug, PartialEq, Eq)]
+#[derive(Clone, Copy, Debug, PartialEq)]
 pub enum Damage {
     /// The module is truncated before the byte.
     Cut,

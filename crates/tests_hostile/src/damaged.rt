@@ -13,7 +13,7 @@ use wasmprinter_rows::{
 use wasmprinter_samples::PREAMBLE;
 
 /// The number of damaged modules that were tried, and the number of those that were printed.
-#[derive(Clone, Copy, Debug)]
+#[derive(Clone, Copy)]
 struct Tally {
     tried: usize,
     printed: usize,

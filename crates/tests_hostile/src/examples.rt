@@ -14,7 +14,7 @@ use wasmprinter_rows::{
 use wasmprinter_samples::IDENTITY_CALLS;
 
 /// The result of printing an example.
-#[derive(Clone, Copy, Debug)]
+#[derive(Clone, Copy)]
 pub enum Ending {
     /// The whole module is printed.
     Printed,

@@ -3,7 +3,7 @@
 use wasmprinter::Error;
 
 /// The reasons why a module is refused: the errors that depend only on its bytes and on the options.
-#[derive(Clone, Copy, Debug, PartialEq, Eq)]
+#[derive(Clone, Copy, PartialEq)]
 pub enum Refusal {
     Malformed { place: u64 },
     Component,
@@ -42,7 +42,7 @@ impl Refusal {
 }
 
 /// The result of a call.
-#[derive(Debug, PartialEq, Eq, Drop)]
+#[derive(PartialEq, Drop)]
 pub enum Outcome {
     Text(String),
     Refused(Refusal),

@@ -10,7 +10,7 @@ use wasmprinter::{Config, Error, Print};
 use wasmprinter_expecting::{expect_same, print_to};
 
 /// How a function that makes the calls ended.
-#[derive(Clone, Copy, Debug, PartialEq, Eq)]
+#[derive(Clone, Copy, PartialEq)]
 pub enum Ending {
     /// No call failed.
     Whole,

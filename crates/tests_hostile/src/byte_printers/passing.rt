@@ -24,96 +24,86 @@ enum Way {
 
 const WAYS: [Way; 3] = [Way::Itself, Way::Colored, Way::Uncolored];
 
+/// A call on a writer.
+#[derive(Clone, Copy)]
+enum Call {
+    /// A write of a whole piece.
+    All,
+    /// A write that may accept a part of a piece.
+    Part,
+    /// A flush.
+    Flush,
+}
+
+/// Makes a call with a piece, and returns the number of bytes that were accepted.
+fn make<W: Write>(writer: &mut W, call: Call, piece: &[u8]) -> io::Result<usize> {
+    match call {
+        Call::All => {
+            writer.write_all(piece)?;
+            Ok(piece.len())
+        }
+        Call::Part => writer.write(piece),
+        Call::Flush => {
+            writer.flush()?;
+            Ok(0)
+        }
+    }
+}
+
+impl Call {
+    /// Returns the call that the underlying writer receives, given the length of the piece. A whole piece that is empty
+    /// needs no call.
+    fn received(self, len: usize) -> Option<Asked> {
+        match self {
+            Call::All if len == 0 => None,
+            Call::All | Call::Part => Some(Asked::Write(len)),
+            Call::Flush => Some(Asked::Flush),
+        }
+    }
+}
+
 impl Way {
-    /// Forwards a whole piece.
-    fn write_all(self, writer: &mut Scripted, piece: &[u8]) -> io::Result<()> {
+    /// Makes a call with a piece, and returns the number of bytes that were accepted.
+    fn call(self, writer: &mut Scripted, call: Call, piece: &[u8]) -> io::Result<usize> {
         match self {
-            Way::Itself => writer.write_bytes(piece),
-            Way::Colored => Ansi::new(writer).write_all(piece),
-            Way::Uncolored => NoColor::new(writer).write_all(piece),
+            Way::Itself => match call {
+                Call::All => {
+                    writer.write_bytes(piece)?;
+                    Ok(piece.len())
+                }
+                Call::Part | Call::Flush => make(writer, call, piece),
+            },
+            Way::Colored => make(&mut Ansi::new(writer), call, piece),
+            Way::Uncolored => make(&mut NoColor::new(writer), call, piece),
         }
     }
 
-    /// Forwards a piece with one `write` call, and returns the number of bytes that were accepted.
-    fn write(self, writer: &mut Scripted, piece: &[u8]) -> io::Result<usize> {
-        match self {
-            Way::Itself => writer.write(piece),
-            Way::Colored => Ansi::new(writer).write(piece),
-            Way::Uncolored => NoColor::new(writer).write(piece),
-        }
-    }
-
-    fn flush(self, writer: &mut Scripted) -> io::Result<()> {
-        match self {
-            Way::Itself => writer.flush(),
-            Way::Colored => Ansi::new(writer).flush(),
-            Way::Uncolored => NoColor::new(writer).flush(),
-        }
-    }
-
-    /// Reports whether a whole piece is forwarded in one write, and in none if the piece is empty.
-    fn passes_whole(self, alloc: Global, piece: &[u8]) -> io::Result<bool> {
-        let mut writer = writer_that_takes(alloc);
-        self.write_all(&mut writer, piece)?;
-        Ok(if piece.is_empty() {
-            writer.calls.is_empty()
-        } else {
-            has_taken(&writer, Asked::Write(piece.len()), piece)
-        })
-    }
-
-    /// Reports whether one `write` call forwards a piece once, and returns the number of bytes that the writer
-    /// accepts, which are at most this many.
-    fn passes_part(self, alloc: Global, piece: &[u8], most: usize) -> io::Result<bool> {
+    /// Reports whether a call is forwarded once, or not at all if none is needed, and returns the number of bytes that
+    /// the writer accepts. The writer accepts at most this many.
+    fn passes(self, alloc: Global, call: Call, piece: &[u8], most: usize) -> io::Result<bool> {
         let mut writer = Scripted::new(alloc, most);
-        let taken = self.write(&mut writer, piece)?;
+        let taken = self.call(&mut writer, call, piece)?;
         let wanted = piece.len().min(most);
-        Ok(taken == wanted && has_taken(&writer, Asked::Write(piece.len()), &piece[..wanted]))
+        let received = call.received(piece.len());
+        Ok(taken == wanted && has_taken(&writer, received, &piece[..wanted]))
     }
 
-    /// Reports whether a whole piece is forwarded once, and the error of the writer is returned.
-    fn refuses_whole(self, alloc: Global, piece: &[u8], kind: ErrorKind) -> bool {
-        let mut writer = writer_that_refuses(alloc, kind);
-        let refused = self.write_all(&mut writer, piece);
+    /// Reports whether a call is forwarded once, and the error of the writer is returned.
+    fn refuses(self, alloc: Global, call: Call, piece: &[u8], kind: ErrorKind) -> bool {
+        let mut writer = Scripted::with_failure(alloc, usize::MAX, 1, kind);
+        let refused = self.call(&mut writer, call, piece);
         matches!(refused, Err(e) if e.kind() == kind)
-            && has_taken(&writer, Asked::Write(piece.len()), b"")
-    }
-
-    /// Reports whether one `write` call forwards a piece once, and returns the error of the writer.
-    fn refuses_part(self, alloc: Global, piece: &[u8], kind: ErrorKind) -> bool {
-        let mut writer = writer_that_refuses(alloc, kind);
-        let refused = self.write(&mut writer, piece);
-        matches!(refused, Err(e) if e.kind() == kind)
-            && has_taken(&writer, Asked::Write(piece.len()), b"")
-    }
-
-    /// Reports whether a flush is forwarded once.
-    fn passes_flush(self, alloc: Global) -> bool {
-        let mut writer = writer_that_takes(alloc);
-        self.flush(&mut writer).is_ok() && has_taken(&writer, Asked::Flush, b"")
-    }
-
-    /// Reports whether a flush is forwarded once, and the error of the writer is returned.
-    fn refuses_flush(self, alloc: Global, kind: ErrorKind) -> bool {
-        let mut writer = writer_that_refuses(alloc, kind);
-        let refused = self.flush(&mut writer);
-        matches!(refused, Err(e) if e.kind() == kind) && has_taken(&writer, Asked::Flush, b"")
+            && has_taken(&writer, call.received(piece.len()), b"")
     }
 }
 
-/// Reports whether the writer received only this call and holds exactly these bytes.
-fn has_taken(writer: &Scripted, call: Asked, bytes: &[u8]) -> bool {
-    writer.calls.as_slice() == [call].as_slice() && writer.bytes.as_slice() == bytes
-}
-
-/// Returns a writer that accepts any number of bytes at once.
-fn writer_that_takes(alloc: Global) -> Scripted {
-    Scripted::new(alloc, usize::MAX)
-}
-
-/// Returns a writer whose first call fails.
-fn writer_that_refuses(alloc: Global, kind: ErrorKind) -> Scripted {
-    Scripted::with_failure(alloc, usize::MAX, 1, kind)
+/// Reports whether the writer received only this call, or none, and holds exactly these bytes.
+fn has_taken(writer: &Scripted, call: Option<Asked>, bytes: &[u8]) -> bool {
+    let is_called = match call {
+        Some(call) => writer.calls.as_slice() == [call].as_slice(),
+        None => writer.calls.is_empty(),
+    };
+    is_called && writer.bytes.as_slice() == bytes
 }
 
 #[test]
@@ -122,10 +112,13 @@ fn hands_on_a_piece_of_each_length(rt: HostRuntime) -> Result<(), Fail> {
     for way in WAYS {
         for len in 0..=LONGEST {
             let piece = &PIECES[..len];
-            assert!(rt; way.passes_whole(alloc, piece)?, "{way:?}: {len} bytes");
+            assert!(rt;
+                way.passes(alloc, Call::All, piece, usize::MAX)?,
+                "{way:?}: {len} bytes"
+            );
             for most in [usize::MAX, len / 2] {
                 assert!(rt;
-                    way.passes_part(alloc, piece, most)?,
+                    way.passes(alloc, Call::Part, piece, most)?,
                     "{way:?}: {len} bytes"
                 );
             }
@@ -141,24 +134,26 @@ fn answers_the_error_of_the_writer_for_a_piece_of_each_length(rt: HostRuntime) {
         for len in 1..=LONGEST {
             let piece = &PIECES[..len];
             for kind in KINDS {
-                assert!(rt;
-                    way.refuses_whole(alloc, piece, kind) && way.refuses_part(alloc, piece, kind),
-                    "{way:?}: {len} bytes"
-                );
+                for call in [Call::All, Call::Part] {
+                    assert!(rt;
+                        way.refuses(alloc, call, piece, kind),
+                        "{way:?}: {len} bytes"
+                    );
+                }
             }
         }
     }
 }
 
 #[test]
-fn flushes_the_writer_and_answers_as_it_does(rt: HostRuntime) {
+fn flushes_the_writer_and_answers_as_it_does(rt: HostRuntime) -> Result<(), Fail> {
+    let alloc = rt.alloc();
+    let kind = ErrorKind::BrokenPipe;
     for way in WAYS {
-        assert!(rt; way.passes_flush(rt.alloc()), "{way:?}");
-        assert!(rt;
-            way.refuses_flush(rt.alloc(), ErrorKind::BrokenPipe),
-            "{way:?}"
-        );
+        assert!(rt; way.passes(alloc, Call::Flush, b"", usize::MAX)?, "{way:?}");
+        assert!(rt; way.refuses(alloc, Call::Flush, b"", kind), "{way:?}");
     }
+    Ok(())
 }
 
 /// Returns a piece of 300,000 bytes.
@@ -172,13 +167,15 @@ fn long_piece(alloc: Global) -> Result<Vec<u8>, AllocError> {
 
 #[test]
 fn hands_on_a_long_piece_whole(rt: HostRuntime) -> Result<(), Fail> {
-    let piece = long_piece(rt.alloc())?;
+    let alloc = rt.alloc();
+    let kind = ErrorKind::BrokenPipe;
+    let piece = long_piece(alloc)?;
     for way in WAYS {
-        assert!(rt; way.passes_whole(rt.alloc(), &piece)?, "{way:?}");
         assert!(rt;
-            way.refuses_whole(rt.alloc(), &piece, ErrorKind::BrokenPipe),
+            way.passes(alloc, Call::All, &piece, usize::MAX)?,
             "{way:?}"
         );
+        assert!(rt; way.refuses(alloc, Call::All, &piece, kind), "{way:?}");
     }
     assert_eq!(rt; piece.len(), 300_000);
     Ok(())

@@ -5,7 +5,7 @@ use std::io;
 use std::io::{ErrorKind, Write};
 
 /// A call on the writer.
-#[derive(Clone, Copy, Debug, PartialEq, Eq)]
+#[derive(Clone, Copy, PartialEq)]
 pub enum Asked {
     /// A write of this many bytes, of which the writer may accept fewer.
     Write(usize),

@@ -79,7 +79,7 @@ impl WriteColor for Sink {
 }
 
 /// An input that is printed.
-#[derive(Clone, Copy, Debug)]
+#[derive(Clone, Copy)]
 enum Input {
     /// A quoted string of characters that are written as they are and characters that are escaped.
     Quoted,
