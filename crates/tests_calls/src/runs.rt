@@ -145,8 +145,8 @@ impl PrintText for PlainlyInRuns {
     }
 }
 
-/// Writes a text with the printer's `write_each_char`. It has no contract, so that callers need not prove anything about
-/// their own printer.
+/// Writes a text with the printer's `write_each_char`. It has no contract, so that callers need not prove anything
+/// about their own printer.
 fn write_each<P: Print>(p: &mut P, text: &str) -> io::Result<()> {
     p.write_each_char(text)
 }
