@@ -293,20 +293,28 @@ fn gives_all_lines_of_a_large_module(rt: HostRuntime) -> Result<(), Fail> {
 }
 
 /// The line starts of `GROUP` after a text of four bytes: their places, and their byte offsets in the storage.
-const GROUP_STARTS: [(Option<u64>, usize); 5] = [
-    (Some(0x0), 4),
-    (Some(0xb), 12),
-    (Some(0xd), 19),
-    (None, 43),
-    (Some(0x10), 47),
+const GROUP_STARTS: [LineStart; 5] = [
+    LineStart {
+        place: Some(0x0),
+        at: 4,
+    },
+    LineStart {
+        place: Some(0xb),
+        at: 12,
+    },
+    LineStart {
+        place: Some(0xd),
+        at: 19,
+    },
+    LineStart {
+        place: None,
+        at: 43,
+    },
+    LineStart {
+        place: Some(0x10),
+        at: 47,
+    },
 ];
-
-/// Reports whether the line starts are the expected ones.
-fn are_starts(found: &[LineStart], expected: &[(Option<u64>, usize)]) -> bool {
-    found.len() == expected.len()
-        && found.iter().zip(expected).all(|(start, (place, at))| start.place == *place
-            && start.at == *at)
-}
 
 #[test]
 fn returns_where_lines_begin(rt: HostRuntime) -> Result<(), Fail> {
@@ -316,7 +324,7 @@ fn returns_where_lines_begin(rt: HostRuntime) -> Result<(), Fail> {
         storage.as_str(),
         "old\n(module\n  (rec\n    (type (;0;) (func))\n  )\n)\n",
     )?;
-    assert!(rt; are_starts(&starts, &GROUP_STARTS));
+    assert!(rt; starts.as_slice() == GROUP_STARTS.as_slice());
     let lines = OffsetsAndLines::new(storage.as_str(), starts);
     assert!(rt; are_lines(lines, &GROUP_LINES));
     Ok(())
