@@ -329,11 +329,11 @@ const IDS: [(u8, &str); 4] = [
 fn reports_errors_without_a_place(rt: HostRuntime) -> Result<(), Fail> {
     for (count, line) in COUNTS {
         let error = Error::TooManyFunctions { count };
-        assert!(rt; reports(rt.alloc(), &error, line)?, "{count}");
+        assert!(rt; reports(rt.alloc(), &error, line)?, "count {count}");
     }
     for (id, line) in IDS {
         let error = Error::DylinkSubsection { id };
-        assert!(rt; reports(rt.alloc(), &error, line)?, "{id}");
+        assert!(rt; reports(rt.alloc(), &error, line)?, "id {id}");
     }
     let failure = io::Error::other("no room");
     let lines = [

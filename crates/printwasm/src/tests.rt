@@ -161,7 +161,8 @@ const OLDER_TRY_OUTLINE: &str = r#"(module
 "#;
 
 /// A run over a file: the name of the row, the bytes of the file, the words, and the text of standard output, or of
-/// standard error if the module is refused. The words name the file `table.wasm`.
+/// standard error if the module is refused. The words of each row name the file,
+/// except in the row of a missing file.
 type Row = (
     &'static str,
     &'static [u8],
@@ -174,40 +175,40 @@ const PRINTED: [Row; 13] = [
     (
         "a module without fields",
         &PREAMBLE,
-        &["table.wasm"],
+        &["printed.wasm"],
         EMPTY_TEXT,
     ),
-    ("a function", &IDENTITY, &["table.wasm"], IDENTITY_TEXT),
-    ("places", &IDENTITY, &["--offsets", "table.wasm"], OFFSETS),
+    ("a function", &IDENTITY, &["printed.wasm"], IDENTITY_TEXT),
+    ("places", &IDENTITY, &["--offsets", "printed.wasm"], OFFSETS),
     (
         "a skeleton",
         &IDENTITY,
-        &["--skeleton", "table.wasm"],
+        &["--skeleton", "printed.wasm"],
         SKELETON,
     ),
     (
         "identifiers",
         &IDENTITY,
-        &["--name-unnamed", "table.wasm"],
+        &["--name-unnamed", "printed.wasm"],
         NAME_UNNAMED,
     ),
     (
         "folded operators",
         &IDENTITY,
-        &["--fold", "table.wasm"],
+        &["--fold", "printed.wasm"],
         FOLDED,
     ),
-    ("colors", &IDENTITY, &["--color", "table.wasm"], COLORED),
+    ("colors", &IDENTITY, &["--color", "printed.wasm"], COLORED),
     (
         "three options before the file",
         &IDENTITY,
-        &["--offsets", "--skeleton", "--name-unnamed", "table.wasm"],
+        &["--offsets", "--skeleton", "--name-unnamed", "printed.wasm"],
         WITH_OPTIONS,
     ),
     (
         "three options after the file",
         &IDENTITY,
-        &["table.wasm", "--name-unnamed", "--skeleton", "--offsets"],
+        &["printed.wasm", "--name-unnamed", "--skeleton", "--offsets"],
         WITH_OPTIONS,
     ),
     (
@@ -217,7 +218,7 @@ const PRINTED: [Row; 13] = [
             "--skeleton",
             "--offsets",
             "--skeleton",
-            "table.wasm",
+            "printed.wasm",
             "--name-unnamed",
         ],
         WITH_OPTIONS,
@@ -225,14 +226,14 @@ const PRINTED: [Row; 13] = [
     (
         "colors with other options before the file",
         &IDENTITY,
-        &["--color", "--offsets", "--skeleton", "table.wasm"],
+        &["--color", "--offsets", "--skeleton", "printed.wasm"],
         OUTLINE_COLORED,
     ),
     (
         "colors that are repeated",
         &IDENTITY,
         &[
-            "table.wasm",
+            "printed.wasm",
             "--skeleton",
             "--color",
             "--offsets",
@@ -244,23 +245,26 @@ const PRINTED: [Row; 13] = [
     (
         "a skeleton of a body that can't be folded",
         &OLDER_TRY,
-        &["--fold", "--skeleton", "table.wasm"],
+        &["--fold", "--skeleton", "printed.wasm"],
         OLDER_TRY_OUTLINE,
     ),
 ];
 
 /// Returns the outcome of a run over the file of a row.
-fn run_row(rt: &HostRuntime, bytes: &[u8], words: &[&str]) -> Result<Outcome, Fail> {
-    fs::write(rt, "table.wasm", bytes)?;
+fn run_row(rt: &HostRuntime, file: &str, bytes: &[u8], words: &[&str]) -> Result<Outcome, Fail> {
+    fs::write(rt, file, bytes)?;
     let outcome = run_with(rt, words)?;
-    fs::remove_file(rt, "table.wasm")?;
+    fs::remove_file(rt, file)?;
     Ok(outcome)
 }
 
 #[test]
 fn prints_modules_by_options(rt: HostRuntime) -> Result<(), Fail> {
     for (name, bytes, words, text) in PRINTED {
-        assert!(rt; has_printed(&run_row(&rt, bytes, words)?, text), "{name}");
+        assert!(rt;
+            has_printed(&run_row(&rt, "printed.wasm", bytes, words)?, text),
+            "{name}"
+        );
     }
     Ok(())
 }
@@ -283,37 +287,37 @@ const REFUSED: [Row; 7] = [
     (
         "a module that is cut",
         &CUT,
-        &["table.wasm"],
+        &["refused.wasm"],
         "error: malformed module at byte 0x0\n",
     ),
     (
         "too many locals",
         &MANY_LOCALS,
-        &["table.wasm"],
+        &["refused.wasm"],
         "error: function at byte 0x16 has more than 50000 locals\n",
     ),
     (
         "an operator that can't be folded",
         &OLDER_TRY,
-        &["--fold", "table.wasm"],
+        &["--fold", "refused.wasm"],
         UNFOLDED,
     ),
     (
         "an operator that can't be folded, in colors",
         &OLDER_TRY,
-        &["--color", "--fold", "table.wasm"],
+        &["--color", "--fold", "refused.wasm"],
         UNFOLDED,
     ),
     (
         "an unknown subsection",
         UNKNOWN_SUBSECTION,
-        &["table.wasm"],
+        &["refused.wasm"],
         "error: unknown dylink.0 subsection 9\n",
     ),
     (
         "a component",
         &COMPONENT,
-        &["table.wasm"],
+        &["refused.wasm"],
         "error: components are not supported\n",
     ),
     ("a missing file", &PREAMBLE, &["no such file"], UNREADABLE),
@@ -323,7 +327,7 @@ const REFUSED: [Row; 7] = [
 fn refuses_files(rt: HostRuntime) -> Result<(), Fail> {
     for (name, bytes, words, line) in REFUSED {
         assert!(rt;
-            has_reported(&run_row(&rt, bytes, words)?, 1, line),
+            has_reported(&run_row(&rt, "refused.wasm", bytes, words)?, 1, line),
             "{name}"
         );
     }

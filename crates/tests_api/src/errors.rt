@@ -81,7 +81,7 @@ const UNKNOWN_SUBSECTION: [u8; 21] = [
 ];
 
 #[test]
-fn refuses_modules(rt: HostRuntime) {
+fn refuses_modules_with_the_error_of_each_fault(rt: HostRuntime) {
     let text = print_bytes(rt.alloc(), b"(module)");
     assert!(rt; matches!(text, Err(Error::Malformed { place: 0 })));
     let text = print_bytes(rt.alloc(), &COMPONENT);
@@ -138,7 +138,7 @@ impl Write for Full {
 }
 
 #[test]
-fn hands_on_the_error_of_a_printer(rt: HostRuntime) {
+fn returns_the_error_of_a_printer(rt: HostRuntime) {
     let printed = Config::new().print(rt.alloc(), &PREAMBLE, &mut PrintIoWrite(Full));
     assert!(rt; matches!(printed, Err(Error::Printer(_))));
 }

@@ -93,13 +93,16 @@ fn longer_count() -> usize {
 /// A module that is printed although one of its bytes is damaged.
 #[derive(Clone, Copy)]
 struct Survivor {
-    /// What the damaged byte is.
+    /// The part of the module that the damaged byte encodes.
     name: &'static str,
     wasm: &'static [u8],
     damage: Damage,
     at: usize,
     text: &'static str,
 }
+
+/// The number of survivors.
+const SURVIVOR_COUNT: usize = 12;
 
 const SURVIVORS: &[Survivor] = &[
     Survivor {
@@ -266,7 +269,7 @@ fn survivor_count(damage: Damage) -> usize {
     count
 }
 
-/// Returns a number of modules that are printed at least if each byte is damaged in this way.
+/// Returns a lower bound of the number of modules that are printed after this damage of each byte.
 fn least_printed(damage: Damage) -> usize {
     match damage {
         Damage::Cut => longer_count(),
@@ -287,6 +290,7 @@ fn check_survivor(alloc: Global, survivor: &Survivor) -> Result<(), Fail> {
 
 #[test]
 fn prints_survivors(rt: HostRuntime) -> Result<(), Fail> {
+    assert_eq!(rt; SURVIVORS.len(), SURVIVOR_COUNT);
     for survivor in SURVIVORS {
         check_survivor(rt.alloc(), survivor)?;
     }

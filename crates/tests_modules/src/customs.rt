@@ -399,7 +399,7 @@ const DYLINK: [Row; 12] = [
 ];
 
 #[test]
-fn prints_dylink(rt: HostRuntime) -> Result<(), Fail> {
+fn prints_or_refuses_dylink(rt: HostRuntime) -> Result<(), Fail> {
     expect_rows(rt.alloc(), &DYLINK)
 }
 

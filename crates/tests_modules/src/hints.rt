@@ -2,7 +2,9 @@
 
 use crate::rows::Expected::Text;
 use crate::rows::Part::{Bytes, Custom, Section};
-use crate::rows::{CallsRow, Part, Parts, Row, build, expect_calls_of, expect_rows};
+use crate::rows::{
+    CallsRow, NO_PARAMS, ONE_FUNCTION, Part, Parts, Row, build, expect_calls_of, expect_rows,
+};
 use std::test::Fail;
 use wasmprinter::Config;
 use wasmprinter_expecting::{expect_printed, expect_printed_by};
@@ -15,19 +17,13 @@ const HINTS: &str = "metadata.code.branch_hint";
 /// The section of a function type with one parameter.
 const ONE_PARAM: Part<'static> = Section(TYPE, &[0x01, 0x60, 0x01, 0x7f, 0x00]);
 
-/// The section of a function type without parameters.
-const NO_PARAMS: Part<'static> = Section(TYPE, &[0x01, 0x60, 0x00, 0x00]);
-
-/// The function section of one function.
-const ONE_FUNCTION: Part<'static> = Section(FUNCTION, &[0x01, 0x00]);
-
 /// The code section of a body that tests the parameter in an `if`.
 const ONE_BODY: Part<'static> = Section(
     CODE,
     &[0x01, 0x07, 0x00, 0x20, 0x00, 0x04, 0x40, 0x0b, 0x0b],
 );
 
-/// The text of a module of such a function before its `if`.
+/// The text of a module whose only function has this body, before its `if`.
 const BEFORE: &str = r#"(module
   (type (;0;) (func (param i32)))
   (func (;0;) (type 0) (param i32)
@@ -80,7 +76,7 @@ const ROWS: [(&str, &[u8], &str); 9] = [
         TAKEN,
     ),
     (
-        "first the hints of a function that does not exist",
+        "hints of a function that does not exist come first",
         &[0x02, 0x07, 0x00, 0x00, 0x01, 0x03, 0x01, 0x01],
         "",
     ),
@@ -232,7 +228,7 @@ const MODULES: [Row; 3] = [
 ];
 
 #[test]
-fn finds_the_operators_of_hints(rt: HostRuntime) -> Result<(), Fail> {
+fn prints_modules_with_hints(rt: HostRuntime) -> Result<(), Fail> {
     expect_rows(rt.alloc(), &MODULES)
 }
 

@@ -41,7 +41,7 @@ fn text_of_parts(alloc: Global, parts: &[TextPart]) -> Result<String, AllocError
     Ok(text)
 }
 
-/// Checks that the text of a module of these parts is one of those parts.
+/// Checks that the module that consists of `parts` has the text that consists of `typed`.
 ///
 /// # Errors
 ///
@@ -157,7 +157,7 @@ const LARGE: [(&str, Parts, &[TextPart]); 2] = [
 ];
 
 #[test]
-fn prints_thousands_of_items(rt: HostRuntime) -> Result<(), Fail> {
+fn prints_as_many_locals_as_the_limit_and_thousands_of_items(rt: HostRuntime) -> Result<(), Fail> {
     for (name, parts, typed) in &LARGE {
         expect_text_of_parts(name, rt.alloc(), parts, typed)?;
     }

@@ -3,12 +3,12 @@
 
 use crate::rows::Expected::Text;
 use crate::rows::Part::{Bytes, Custom, Section, Slice};
-use crate::rows::{Part, Parts, Row, build, expect_rows};
+use crate::rows::{NO_PARAMS, ONE_FUNCTION, Part, Parts, Row, build, expect_rows};
 use std::test::Fail;
 use wasmprinter::Config;
 use wasmprinter::wasm::{Names, Space, decode};
 use wasmprinter_expecting::expect_printed_by;
-use wasmprinter_samples::sections::{CODE, FUNCTION, TYPE};
+use wasmprinter_samples::sections::{CODE, FUNCTION};
 use wasmprinter_samples::{EVERY_SPACE, EVERY_SPACE_NAMES, IDENTITY, IDENTITY_TEXT, PREAMBLE};
 
 /// `IDENTITY`, with the name `x` for its parameter.
@@ -32,12 +32,6 @@ fn gives_out_names(rt: HostRuntime) -> Result<(), Fail> {
     assert!(rt; call_a_local_alone(&names));
     Ok(())
 }
-
-/// The section of one function type, without parameters and results.
-const NO_PARAMS: Part<'static> = Section(TYPE, &[0x01, 0x60, 0x00, 0x00]);
-
-/// The function section of one function of that type.
-const ONE_FUNCTION: Part<'static> = Section(FUNCTION, &[0x01, 0x00]);
 
 /// The content of a code section: the bodies of five functions.
 const FIVE_BODIES: &[u8] = b"\x05\x02\x00\x0b\x02\x00\x0b\x02\x00\x0b\x02\x00\x0b\x02\x00\x0b";
@@ -214,7 +208,7 @@ const NAMED: [Row; 6] = [
         Text(IDENTITY_TEXT),
     ),
     (
-        "names that are no identifiers",
+        "names that are not identifiers",
         &[
             Bytes(&PREAMBLE),
             NO_PARAMS,

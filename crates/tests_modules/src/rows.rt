@@ -9,14 +9,14 @@ use wasmprinter_expecting::{
     early_refusal_of, expect_calls, expect_printed, is_malformed, refusal_of,
 };
 use wasmprinter_samples::Recorder;
-use wasmprinter_samples::sections::{add_custom, add_section};
+use wasmprinter_samples::sections::{FUNCTION, TYPE, add_custom, add_section};
 
 /// A part of a module.
 #[derive(Drop)]
 pub enum Part<'a> {
     /// These bytes
     Bytes(&'a [u8]),
-    /// Some of these bytes: the number of those before them, and the most of them
+    /// Part of these bytes: the number of bytes to skip, and the greatest number of bytes to take
     Slice(&'a [u8], usize, usize),
     /// That many copies of these bytes
     Copies(u32, &'a [u8]),
@@ -25,6 +25,12 @@ pub enum Part<'a> {
     /// A custom section with this name and this data, of fewer than 127 bytes together
     Custom(&'a str, &'a [u8]),
 }
+
+/// The section of one function type, without parameters and results.
+pub const NO_PARAMS: Part<'static> = Part::Section(TYPE, &[0x01, 0x60, 0x00, 0x00]);
+
+/// The function section of one function of that type.
+pub const ONE_FUNCTION: Part<'static> = Part::Section(FUNCTION, &[0x01, 0x00]);
 
 /// The parts of a module of a row.
 pub type Parts = &'static [Part<'static>];

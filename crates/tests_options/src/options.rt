@@ -172,7 +172,7 @@ pub const GROUP: [u8; 16] = [
 ];
 
 /// The text of `GROUP` with places. The line that closes the group has no place.
-pub const GROUP_PLACES: &str = r#"(module
+const GROUP_PLACES: &str = r#"(module
 (;@b     ;)  (rec
 (;@d     ;)    (type (;0;) (func))
              )
@@ -302,7 +302,7 @@ const ROWS: [Row; 14] = [
         EVERY_OPTION,
     ),
     (
-        "functions without options",
+        "functions with each option set to false",
         &[
             Setter::Offsets(false),
             Setter::Skeleton(false),
@@ -312,7 +312,7 @@ const ROWS: [Row; 14] = [
         EVERYTHING_TEXT,
     ),
     (
-        "fields without options",
+        "fields with each option set to false",
         &[
             Setter::Offsets(false),
             Setter::Skeleton(false),

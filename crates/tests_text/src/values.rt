@@ -150,7 +150,7 @@ fn is_refused_at(alloc: Global, call: u32) -> bool {
 }
 
 #[test]
-fn answers_the_error_of_the_printer(rt: HostRuntime) -> Result<(), Fail> {
+fn returns_the_error_of_the_printer(rt: HostRuntime) -> Result<(), Fail> {
     let mut whole = Recorder::new(rt.alloc());
     write_f64(&mut whole, 0xfff0_0000_0000_0001)?;
     for call in 1..=whole.call_count() {

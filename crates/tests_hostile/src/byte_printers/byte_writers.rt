@@ -1,6 +1,7 @@
 //! Printers over byte writers that fail at each of their calls in turn: the writer's error is returned, and the bytes
 //! that were written before it are a prefix of the text. One kind of writer accepts one byte in each call, the other
-//! accepts all bytes.
+//! accepts all bytes. Other tests have writers whose calls are interrupted, writers that accept no bytes, and styles
+//! that fail.
 
 use crate::byte_printers::printing::{make_calls_without_text, print_bytes_to, print_colors_to};
 use crate::byte_printers::scripted::Scripted;
@@ -26,10 +27,11 @@ enum Printer {
 
 const PRINTERS: [Printer; 3] = [Printer::Plain, Printer::Uncolored, Printer::Colored];
 
-/// A number of bytes that a writer accepts in one call, at most.
+/// The greatest number of bytes that a writer of the first kind accepts in one call.
 const SINGLE: usize = 1;
 
-const MOSTS: [usize; 2] = [SINGLE, usize::MAX];
+/// The greatest numbers of bytes that writers accept in one call.
+const ACCEPTED_AT_ONCE: [usize; 2] = [SINGLE, usize::MAX];
 
 /// The markers of styles in typed texts, and their ANSI escape sequences.
 const STYLES: [(&str, &str); 6] = [
@@ -307,7 +309,7 @@ fn add_runs(
     layout: Layout,
 ) -> Result<(), AllocError> {
     for printer in PRINTERS {
-        for most in MOSTS {
+        for most in ACCEPTED_AT_ONCE {
             runs.push(Run {
                 alloc,
                 module,

@@ -1,4 +1,5 @@
 //! Printers and writers with colors. The ANSI escape sequences are typed by hand.
+
 use crate::byte_printers::printing::{make_calls_without_text, print_bytes_to, print_colors_to};
 use crate::byte_printers::scripted::Scripted;
 use crate::byte_printers::sinks::Sink;
@@ -53,7 +54,7 @@ const PLAIN: &[(&str, &[u8], &str)] = &[
     ("everything", &EVERYTHING, EVERYTHING_TEXT),
 ];
 
-/// Reports whether a module is printed as this text to a vector: as its only content, and after an old content.
+/// Reports whether a module prints this text to an empty vector, and appends it to a vector with bytes.
 fn is_plain(alloc: Global, wasm: &[u8], text: &str) -> Result<bool, Error> {
     let config = Config::new();
     let plain = print_bytes_to(&config, alloc, wasm, Vec::new(alloc))?;
@@ -192,8 +193,8 @@ fn reports_whether_colors_can_be_written_as_text(rt: HostRuntime) {
     assert!(rt; !PrintIoWrite(bytes).supports_async_color());
 }
 
-/// Writes bytes like those of a sequence, at most as many as the writer accepts at once, and other bytes. Returns the
-/// number of bytes that the first call accepted.
+/// Writes bytes that begin as an ANSI escape sequence does with one `write`, then other bytes with `write_all`. Returns
+/// the number of bytes that the first call accepted.
 fn write_raw<W: Write>(writer: &mut W) -> io::Result<usize> {
     let taken = writer.write(b"\x1b[0mabc")?;
     writer.write_all(b"\x00\xff\n")?;

@@ -107,7 +107,7 @@ fn has_taken(writer: &Scripted, call: Option<Asked>, bytes: &[u8]) -> bool {
 }
 
 #[test]
-fn hands_on_a_piece_of_each_length(rt: HostRuntime) -> Result<(), Fail> {
+fn forwards_a_piece_of_each_length(rt: HostRuntime) -> Result<(), Fail> {
     let alloc = rt.alloc();
     for way in WAYS {
         for len in 0..=LONGEST {
@@ -128,7 +128,7 @@ fn hands_on_a_piece_of_each_length(rt: HostRuntime) -> Result<(), Fail> {
 }
 
 #[test]
-fn answers_the_error_of_the_writer_for_a_piece_of_each_length(rt: HostRuntime) {
+fn returns_the_error_of_the_writer_for_a_piece_of_each_length(rt: HostRuntime) {
     let alloc = rt.alloc();
     for way in WAYS {
         for len in 1..=LONGEST {
@@ -146,7 +146,7 @@ fn answers_the_error_of_the_writer_for_a_piece_of_each_length(rt: HostRuntime) {
 }
 
 #[test]
-fn flushes_the_writer_and_answers_as_it_does(rt: HostRuntime) -> Result<(), Fail> {
+fn flushes_the_writer_and_returns_its_result(rt: HostRuntime) -> Result<(), Fail> {
     let alloc = rt.alloc();
     let kind = ErrorKind::BrokenPipe;
     for way in WAYS {
@@ -166,7 +166,7 @@ fn long_piece(alloc: Global) -> Result<Vec<u8>, AllocError> {
 }
 
 #[test]
-fn hands_on_a_long_piece_whole(rt: HostRuntime) -> Result<(), Fail> {
+fn forwards_a_long_piece_whole(rt: HostRuntime) -> Result<(), Fail> {
     let alloc = rt.alloc();
     let kind = ErrorKind::BrokenPipe;
     let piece = long_piece(alloc)?;
