@@ -210,11 +210,20 @@ const OPERATORS: [Row; 31] = [
     ),
 ];
 
+/// Returns the name of the first row whose bytes are not its operator, or `None` if there is no such row.
+fn first_other(rows: &[Row]) -> Option<&'static str> {
+    for (name, bytes, word, wanted) in rows {
+        if !are_operator(bytes, word, wanted) {
+            return Some(*name);
+        }
+    }
+    None
+}
+
 #[test]
 fn immediates_are_read(rt: HostRuntime) {
-    for (name, bytes, word, wanted) in &OPERATORS {
-        assert!(rt; are_operator(bytes, word, wanted), "{name}");
-    }
+    let other = first_other(&OPERATORS);
+    assert!(rt; other == None, "{other:?}");
 }
 
 /// Bytes that encode no operator: the name of the row, the bytes, and the place of the error.
