@@ -17,7 +17,11 @@ pub const ONE_PARAM: Part<'static> = Section(TYPE, &[0x01, 0x60, 0x01, 0x7f, 0x0
 
 /// Returns a module with a function of one parameter and these operators, and a hint section with this data, which
 /// starts at byte 0x2f.
-fn module_with_hints(alloc: Global, data: &[u8], operators: &[u8]) -> Result<Vec<u8>, AllocError> {
+fn module_with_hints<'a>(
+    alloc: Global,
+    data: &'a [u8],
+    operators: &'a [u8],
+) -> Result<Vec<u8>, AllocError> {
     build(
         alloc,
         &[
