@@ -1,9 +1,10 @@
 //! Operators and their lines. Expected values are typed by hand.
 
 use crate::setters::{Setter, config_of};
+use std::alloc::Global;
 use std::test::Fail;
-use wasmprinter::place_of;
 use wasmprinter::wasm::decode;
+use wasmprinter::{Config, Error, place_of};
 use wasmprinter_samples::{IDENTITY, MINUS_ONE};
 
 /// A function with a branch hint for its `if`.
@@ -82,22 +83,39 @@ const ROWS: [Row; 4] = [
     ),
 ];
 
-#[test]
-fn finds_operators_in_all_lines(rt: HostRuntime) -> Result<(), Fail> {
-    for (name, setters, wasm, cases) in ROWS {
-        let module = decode(rt.alloc(), wasm)?;
-        let mut storage = String::new(rt.alloc());
-        let config = config_of(rt.alloc(), setters)?;
-        let all = config.offsets_and_lines(rt.alloc(), wasm, &mut storage)?;
-        let lines: Vec<(Option<u64>, &str)> = all.collect(rt.alloc())?;
-        for (function, operator, found) in cases {
-            assert!(rt;
-                place_of(&module, &lines, *function, *operator) == *found,
-                "{name}, operator {operator} of function {function}"
-            );
+/// Reports whether the expected lines and places are found in all lines of a module.
+fn are_found(alloc: Global, config: &Config, wasm: &[u8], cases: &[Case]) -> Result<bool, Error> {
+    let module = decode(alloc, wasm)?;
+    let mut storage = String::new(alloc);
+    let all = config.offsets_and_lines(alloc, wasm, &mut storage)?;
+    let lines: Vec<(Option<u64>, &str)> = all.collect(alloc)?;
+    Ok(
+        cases.iter().all(|(function, operator, found)| {
+            place_of(&module, &lines, *function, *operator) == *found
+        }),
+    )
+}
+
+/// Checks the cases of each row.
+///
+/// # Errors
+///
+/// - A module is refused, or another line or place is found for a case.
+fn expect_rows(alloc: Global, rows: &[Row]) -> Result<(), Fail> {
+    for (name, setters, wasm, cases) in rows {
+        let config = config_of(alloc, setters)?;
+        match are_found(alloc, &config, wasm, cases) {
+            Ok(true) => (),
+            Ok(false) => return Err((*name, "another line or place"))?,
+            Err(error) => return Err((*name, error))?,
         }
     }
     Ok(())
+}
+
+#[test]
+fn finds_operators_in_all_lines(rt: HostRuntime) -> Result<(), Fail> {
+    expect_rows(rt.alloc(), &ROWS)
 }
 
 #[test]
