@@ -115,7 +115,7 @@ impl<'a> Print for Taker<'a> {
     }
 }
 
-/// Prints a section with the options that `K` stands for. Returns whether a line began, or the error.
+/// Prints a section with the options of `K`. Returns whether a line began, or the error.
 fn print_section_by<K: Chosen>(
     printer: &mut Taker<'_>,
     options: &PrintOptions,
