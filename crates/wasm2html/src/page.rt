@@ -9,7 +9,7 @@ use wasmprinter::Print;
 
 /// The part of the page before the first line.
 const TOP: &[u8] =
-    b"<!DOCTYPE html>\n<meta charset=\"utf-8\">\n<style>\ndiv, summary { font-family: monospace; white-space: pre }\n.literal { color: brown } .name { color: purple } .keyword { color: blue } .type { color: green } .comment { color: gray }\n</style>\n";
+    b"<!DOCTYPE html>\n<meta charset=\"utf-8\">\n<style>\nbody { margin-left: 2em } div, summary { font-family: monospace; white-space: pre } summary { list-style-position: outside }\n.literal { color: brown } .name { color: purple } .keyword { color: blue } .type { color: green } .comment { color: gray }\n</style>\n";
 
 /// The start of a function's header.
 const HEADER: &[u8] = b"  (<span class=\"keyword\">func";
