@@ -1,15 +1,43 @@
 #!/bin/sh
 # Builds the library for C: libwasmprinter.a and libwasmprinter.so, with everything that they need except the C library. The machine's `cc`
-# and `ar` make both files from crates/wasmprinter_c/out/libwasmprinter_c.a. If that archive is missing or older than a source of a crate,
-# `rt lib` proves the crate and makes the archive.
+# and `ar` make both files from the archive that `rt lib` makes when it has proved the crate `wasmprinter_c`.
+#
+# `rt lib` proves the library and the crates below it, in half an hour. So the archive is kept in ~/.cache/wasmprinter (or in XDG_CACHE_HOME),
+# under a checksum of the kit's version and of all files of these crates. It is made anew only if one of them has changed.
 #
 # tools/library.sh FOLDER: writes both files to the folder.
 set -eu
 folder=$1
 root=$(cd "$(dirname "$0")/.." && pwd)
-printer=$root/crates/wasmprinter_c/out/libwasmprinter_c.a
-if [ ! -e "$printer" ] || [ -n "$(find "$root/crates" -name out -prune -o -type f -newer "$printer" -print | head -n 1)" ]; then
+kept=${XDG_CACHE_HOME:-$HOME/.cache}/wasmprinter
+
+# crates: prints the lines of crates.txt of `wasmprinter_c` and of the crates below it.
+crates() {
+    awk 'function visit(name, words, count, i) {
+            if (!(name in line) || seen[name]++) return
+            print line[name]
+            count = split(line[name], words, /[: ]+/)
+            for (i = 2; i <= count; i++) visit(words[i])
+        }
+        { name = $1; sub(/:$/, "", name); line[name] = $0 }
+        END { visit("wasmprinter_c") }' crates.txt
+}
+
+# inputs: prints what the archive depends on.
+inputs() {
+    rt version
+    crates
+    for crate in $(crates | sed 's/[: ].*//'); do
+        find "crates/$crate" \( -name out -o -name must-fail -o -name wrong-bodies \) -prune -o -type f -print | LC_ALL=C sort | xargs sha256sum
+    done
+}
+printer=$kept/$(cd "$root" && inputs | sha256sum | cut -d ' ' -f 1).a
+if [ ! -e "$printer" ]; then
     (cd "$root/crates/wasmprinter_c" && rt lib)
+    mkdir -p "$kept"
+    # a rename, so that an interrupted copy is not taken for the archive
+    cp "$root/crates/wasmprinter_c/out/libwasmprinter_c.a" "$printer.$$"
+    mv "$printer.$$" "$printer"
 fi
 mkdir -p "$folder"
 # one archive: the printer, and the functions of the toolchain that call malloc and free
