@@ -11,7 +11,7 @@ use std::{env, fs, io};
 use wasmprinter_samples::{EMPTY_TEXT, IDENTITY, IDENTITY_TEXT, PREAMBLE};
 
 /// A function with 50001 locals of type i32, whose body begins at byte 22.
-const MANY_LOCALS: [u8; 28] = [
+const MANY_LOCALS: &[u8] = &[
     0x00, 0x61, 0x73, 0x6d, 0x01, 0x00, 0x00, 0x00, 0x01, 0x04, 0x01, 0x60, 0x00, 0x00, 0x03, 0x02,
     0x01, 0x00, 0x0a, 0x08, 0x01, 0x06, 0x01, 0xd1, 0x86, 0x03, 0x7f, 0x0b,
 ];
@@ -148,7 +148,7 @@ const OUTLINE_COLORED: &str = "(\x1b[0m\x1b[1m\x1b[38;5;11mmodule\x1b[0m
 ";
 
 /// A function with a legacy `try` at byte 23.
-const OLDER_TRY: [u8; 28] = [
+const OLDER_TRY: &[u8] = &[
     0x00, 0x61, 0x73, 0x6d, 0x01, 0x00, 0x00, 0x00, 0x01, 0x04, 0x01, 0x60, 0x00, 0x00, 0x03, 0x02,
     0x01, 0x00, 0x0a, 0x08, 0x01, 0x06, 0x00, 0x06, 0x40, 0x19, 0x0b, 0x0b,
 ];
@@ -160,60 +160,58 @@ const OLDER_TRY_OUTLINE: &str = r#"(module
 )
 "#;
 
+/// The words of a run.
+pub type Words = &'static [&'static str];
+
 /// A run over a file: the name of the row, the bytes of the file, the words, and the text of standard output, or of
 /// standard error if the module is refused. The words of each row name the file,
 /// except in the row of a missing file.
-type Row = (
-    &'static str,
-    &'static [u8],
-    &'static [&'static str],
-    &'static str,
-);
+type Row = (&'static str, &'static [u8], Words, &'static str);
 
 /// Modules that are printed, with the options of the words.
-const PRINTED: [Row; 13] = [
+const PRINTED: &[Row] = &[
     (
         "a module without fields",
-        &PREAMBLE,
+        PREAMBLE,
         &["printed.wasm"],
         EMPTY_TEXT,
     ),
-    ("a function", &IDENTITY, &["printed.wasm"], IDENTITY_TEXT),
-    ("places", &IDENTITY, &["--offsets", "printed.wasm"], OFFSETS),
+    ("a function", IDENTITY, &["printed.wasm"], IDENTITY_TEXT),
+    ("places", IDENTITY, &["--offsets", "printed.wasm"], OFFSETS),
     (
         "a skeleton",
-        &IDENTITY,
+        IDENTITY,
         &["--skeleton", "printed.wasm"],
         SKELETON,
     ),
     (
         "identifiers",
-        &IDENTITY,
+        IDENTITY,
         &["--name-unnamed", "printed.wasm"],
         NAME_UNNAMED,
     ),
     (
         "folded operators",
-        &IDENTITY,
+        IDENTITY,
         &["--fold", "printed.wasm"],
         FOLDED,
     ),
-    ("colors", &IDENTITY, &["--color", "printed.wasm"], COLORED),
+    ("colors", IDENTITY, &["--color", "printed.wasm"], COLORED),
     (
         "three options before the file",
-        &IDENTITY,
+        IDENTITY,
         &["--offsets", "--skeleton", "--name-unnamed", "printed.wasm"],
         WITH_OPTIONS,
     ),
     (
         "three options after the file",
-        &IDENTITY,
+        IDENTITY,
         &["printed.wasm", "--name-unnamed", "--skeleton", "--offsets"],
         WITH_OPTIONS,
     ),
     (
         "an option that is repeated",
-        &IDENTITY,
+        IDENTITY,
         &[
             "--skeleton",
             "--offsets",
@@ -225,13 +223,13 @@ const PRINTED: [Row; 13] = [
     ),
     (
         "colors with other options before the file",
-        &IDENTITY,
+        IDENTITY,
         &["--color", "--offsets", "--skeleton", "printed.wasm"],
         OUTLINE_COLORED,
     ),
     (
         "colors that are repeated",
-        &IDENTITY,
+        IDENTITY,
         &[
             "printed.wasm",
             "--skeleton",
@@ -244,28 +242,51 @@ const PRINTED: [Row; 13] = [
     // A skeleton has no bodies.
     (
         "a skeleton of a body that can't be folded",
-        &OLDER_TRY,
+        OLDER_TRY,
         &["--fold", "--skeleton", "printed.wasm"],
         OLDER_TRY_OUTLINE,
     ),
 ];
 
-/// Returns the outcome of a run over the file of a row.
-fn run_row(rt: &HostRuntime, file: &str, bytes: &[u8], words: &[&str]) -> Result<Outcome, Fail> {
-    fs::write(rt, file, bytes)?;
+/// Returns whether a run ended with this status: with status 0 it printed this text and reported nothing, with any
+/// other it printed nothing and reported this text.
+fn ends_as(outcome: &Outcome, status: u8, text: &str) -> bool {
+    if status == 0 {
+        has_printed(outcome, text)
+    } else {
+        has_reported(outcome, status, text)
+    }
+}
+
+/// Returns whether a run over a file with the bytes of this row ends with this status, and with the text of the row.
+fn is_row(rt: &HostRuntime, file: &str, row: &Row, status: u8) -> Result<bool, Fail> {
+    let (_, bytes, words, text) = row;
+    fs::write(rt, file, *bytes)?;
     let outcome = run_with(rt, words)?;
     fs::remove_file(rt, file)?;
-    Ok(outcome)
+    Ok(ends_as(&outcome, status, text))
+}
+
+/// Returns the name of the first row whose run does not end with this status and with its text, or `None` if there
+/// is no such row.
+fn first_other_row(
+    rt: &HostRuntime,
+    file: &str,
+    rows: &[Row],
+    status: u8,
+) -> Result<Option<&'static str>, Fail> {
+    for row in rows {
+        if !is_row(rt, file, row, status)? {
+            return Ok(Some(row.0));
+        }
+    }
+    Ok(None)
 }
 
 #[test]
 fn prints_modules_by_options(rt: HostRuntime) -> Result<(), Fail> {
-    for (name, bytes, words, text) in PRINTED {
-        assert!(rt;
-            has_printed(&run_row(&rt, "printed.wasm", bytes, words)?, text),
-            "{name}"
-        );
-    }
+    let other = first_other_row(&rt, "printed.wasm", PRINTED, 0)?;
+    assert!(rt; other == None, "{other:?}");
     Ok(())
 }
 
@@ -273,38 +294,38 @@ fn prints_modules_by_options(rt: HostRuntime) -> Result<(), Fail> {
 const UNKNOWN_SUBSECTION: &[u8] = b"\0asm\x01\0\0\0\0\x0b\x08dylink.0\x09\0";
 
 /// The preamble of a component.
-const COMPONENT: [u8; 8] = [0x00, 0x61, 0x73, 0x6d, 0x0d, 0x00, 0x01, 0x00];
+const COMPONENT: &[u8] = &[0x00, 0x61, 0x73, 0x6d, 0x0d, 0x00, 0x01, 0x00];
 
 /// The preamble without its last byte.
-const CUT: [u8; 7] = [0x00, 0x61, 0x73, 0x6d, 0x01, 0x00, 0x00];
+const CUT: &[u8] = &[0x00, 0x61, 0x73, 0x6d, 0x01, 0x00, 0x00];
 
 /// The line for an operator that can't be folded.
 const UNFOLDED: &str = "error: legacy exception operator at byte 0x17 can't be folded\n";
 
 /// Files that are refused, with the reported lines.
-const REFUSED: [Row; 7] = [
+const REFUSED: &[Row] = &[
     // The reported place of a malformed preamble is its start.
     (
         "a module that is cut",
-        &CUT,
+        CUT,
         &["refused.wasm"],
         "error: malformed module at byte 0x0\n",
     ),
     (
         "too many locals",
-        &MANY_LOCALS,
+        MANY_LOCALS,
         &["refused.wasm"],
         "error: function at byte 0x16 has more than 50000 locals\n",
     ),
     (
         "an operator that can't be folded",
-        &OLDER_TRY,
+        OLDER_TRY,
         &["--fold", "refused.wasm"],
         UNFOLDED,
     ),
     (
         "an operator that can't be folded, in colors",
-        &OLDER_TRY,
+        OLDER_TRY,
         &["--color", "--fold", "refused.wasm"],
         UNFOLDED,
     ),
@@ -316,39 +337,45 @@ const REFUSED: [Row; 7] = [
     ),
     (
         "a component",
-        &COMPONENT,
+        COMPONENT,
         &["refused.wasm"],
         "error: components are not supported\n",
     ),
-    ("a missing file", &PREAMBLE, &["no such file"], UNREADABLE),
+    ("a missing file", PREAMBLE, &["no such file"], UNREADABLE),
 ];
 
 #[test]
 fn refuses_files(rt: HostRuntime) -> Result<(), Fail> {
-    for (name, bytes, words, line) in REFUSED {
-        assert!(rt;
-            has_reported(&run_row(&rt, "refused.wasm", bytes, words)?, 1, line),
-            "{name}"
-        );
-    }
+    let other = first_other_row(&rt, "refused.wasm", REFUSED, 1)?;
+    assert!(rt; other == None, "{other:?}");
     Ok(())
+}
+
+/// Returns whether a run with these words prints this text.
+fn prints(rt: &HostRuntime, words: &[&str], text: &str) -> Result<bool, Fail> {
+    let outcome = run_with(rt, words)?;
+    Ok(has_printed(&outcome, text))
+}
+
+/// Returns whether a run with these words ends with status 1, and prints nothing.
+fn prints_nothing(rt: &HostRuntime, words: &[&str]) -> Result<bool, Fail> {
+    let outcome = run_with(rt, words)?;
+    Ok(outcome.status == 1 && outcome.out.is_empty())
 }
 
 #[test]
 fn reads_the_file_of_that_very_name(rt: HostRuntime) -> Result<(), Fail> {
-    fs::write(&rt, "named.wasm", &PREAMBLE)?;
+    fs::write(&rt, "named.wasm", PREAMBLE)?;
     fs::write(&rt, "named.wasm ", &IDENTITY[..9])?;
-    let refused = run_with(&rt, &["named.wasm "])?;
+    assert!(rt; prints_nothing(&rt, &["named.wasm "])?);
     fs::remove_file(&rt, "named.wasm ")?;
-    assert!(rt; refused.status == 1 && refused.out.is_empty());
-    let printed = run_with(&rt, &["named.wasm"])?;
-    assert!(rt; has_printed(&printed, EMPTY_TEXT));
+    assert!(rt; prints(&rt, &["named.wasm"], EMPTY_TEXT)?);
     fs::remove_file(&rt, "named.wasm")?;
     Ok(())
 }
 
 /// Words that name no file, that name two files, or that contain an unknown option.
-const MISUSES: [&[&str]; 10] = [
+const MISUSES: &[Words] = &[
     &[],
     &["a.wasm", "b.wasm"],
     &["a.wasm", "b.wasm", "c.wasm"],
@@ -361,11 +388,26 @@ const MISUSES: [&[&str]; 10] = [
     &["--colors", "a.wasm"],
 ];
 
+/// Returns whether the program with these words reports its usage.
+fn reports_usage(rt: &HostRuntime, words: &[&str]) -> Result<bool, Fail> {
+    let outcome = run_with(rt, words)?;
+    Ok(has_reported(&outcome, 2, USAGE))
+}
+
+/// Returns the first words with which the usage is not reported, or `None` if there are no such words.
+fn first_without_usage(rt: &HostRuntime, rows: &[Words]) -> Result<Option<Words>, Fail> {
+    for words in rows {
+        if !reports_usage(rt, words)? {
+            return Ok(Some(*words));
+        }
+    }
+    Ok(None)
+}
+
 #[test]
 fn prints_its_usage(rt: HostRuntime) -> Result<(), Fail> {
-    for words in MISUSES {
-        assert!(rt; has_reported(&run_with(&rt, words)?, 2, USAGE), "{words:?}");
-    }
+    let other = first_without_usage(&rt, MISUSES)?;
+    assert!(rt; other == None, "{other:?}");
     Ok(())
 }
 
@@ -417,10 +459,12 @@ fn fills(rt: &HostRuntime, words: &[&str], text: &str, room: usize) -> Result<bo
 
 #[test]
 fn reports_that_the_text_could_not_be_written(rt: HostRuntime) -> Result<(), Fail> {
-    fs::write(&rt, "narrow.wasm", &PREAMBLE)?;
-    for room in [0, 5] {
-        assert!(rt; fills(&rt, &["narrow.wasm"], EMPTY_TEXT, room)?, "{room}");
-    }
+    fs::write(&rt, "narrow.wasm", PREAMBLE)?;
+    assert!(rt; fills(&rt, &["narrow.wasm"], EMPTY_TEXT, 0)?, "no room");
+    assert!(rt;
+        fills(&rt, &["narrow.wasm"], EMPTY_TEXT, 5)?,
+        "room for 5 bytes"
+    );
     fs::remove_file(&rt, "narrow.wasm")?;
     Ok(())
 }
@@ -435,15 +479,23 @@ fn keeps_status(rt: &HostRuntime, words: &[&str], room: usize, status: u8) -> Re
 }
 
 /// Words for which nothing is printed, with the exit status.
-const UNMET: [(&[&str], u8); 2] = [(&["no such file"], 1), (&[], 2)];
+const UNMET: &[(Words, u8)] = &[(&["no such file"], 1), (&[], 2)];
+
+/// Returns the first words with which the program does not keep its status for a sink that is full from the start
+/// or after five bytes, or `None` if there are no such words.
+fn first_other_status(rt: &HostRuntime, rows: &[(Words, u8)]) -> Result<Option<Words>, Fail> {
+    for (words, status) in rows {
+        if !keeps_status(rt, words, 0, *status)? || !keeps_status(rt, words, 5, *status)? {
+            return Ok(Some(*words));
+        }
+    }
+    Ok(None)
+}
 
 #[test]
 fn keeps_its_status_if_errors_can_not_be_written(rt: HostRuntime) -> Result<(), Fail> {
-    for (words, status) in UNMET {
-        for room in [0, 5] {
-            assert!(rt; keeps_status(&rt, words, room, status)?, "{words:?}");
-        }
-    }
+    let other = first_other_status(&rt, UNMET)?;
+    assert!(rt; other == None, "{other:?}");
     Ok(())
 }
 
@@ -458,7 +510,10 @@ fn starts(rt: &HostRuntime, words: &[&str], status: u8, text: &str) -> Result<bo
 }
 
 /// Arguments of the program, of which the first is its own name, with the exit status and the reported text.
-const STARTS: [(&[&str], u8, &str); 6] = [
+type Start = (Words, u8, &'static str);
+
+/// Starts of the program after which nothing is printed.
+const STARTS: &[Start] = &[
     (&[], 2, USAGE),
     (&["printwasm"], 2, USAGE),
     (&["printwasm", "no such file"], 1, UNREADABLE),
@@ -471,11 +526,20 @@ const STARTS: [(&[&str], u8, &str); 6] = [
     (&["printwasm", "a", "b", "c", "d", "e", "f", "g"], 2, USAGE),
 ];
 
+/// Returns the first arguments with which the program ends differently, or `None` if there are no such arguments.
+fn first_other_start(rt: &HostRuntime, rows: &[Start]) -> Result<Option<Words>, Fail> {
+    for (words, status, told) in rows {
+        if !starts(rt, words, *status, told)? {
+            return Ok(Some(*words));
+        }
+    }
+    Ok(None)
+}
+
 #[test]
 fn starts_with_all_words_but_its_name(rt: HostRuntime) -> Result<(), Fail> {
-    for (words, status, told) in STARTS {
-        assert!(rt; starts(&rt, words, status, told)?, "{words:?}");
-    }
+    let other = first_other_start(&rt, STARTS)?;
+    assert!(rt; other == None, "{other:?}");
     Ok(())
 }
 
@@ -491,34 +555,26 @@ fn refuses_to_start(rt: &HostRuntime, error: io::Error, text: &str) -> bool {
 
 #[test]
 fn reports_that_its_words_can_not_be_read(rt: HostRuntime) {
-    let rows = [
-        (io::Error::from(AllocError), "error: out of memory\n"),
-        (
-            io::Error::from(ErrorKind::InvalidData),
-            "error: a word is not UTF-8\n",
-        ),
-        (
-            io::Error::other("no words"),
-            "error: the words can't be read\n",
-        ),
-    ];
-    for (error, line) in rows {
-        assert!(rt; refuses_to_start(&rt, error, line), "{line}");
-    }
+    let error = io::Error::from(AllocError);
+    assert!(rt; refuses_to_start(&rt, error, "error: out of memory\n"));
+    let error = io::Error::from(ErrorKind::InvalidData);
+    assert!(rt; refuses_to_start(&rt, error, "error: a word is not UTF-8\n"));
+    let error = io::Error::other("no words");
+    assert!(rt; refuses_to_start(&rt, error, "error: the words can't be read\n"));
 }
 
 /// The number of functions of the large module.
 const MANY: u32 = 30_000;
 
 /// Its type section, and the start of a function section of 30,003 bytes, up to the count.
-const LARGE_TYPES: [u8; 13] = [
+const LARGE_TYPES: &[u8] = &[
     0x01, 0x04, 0x01, 0x60, 0x00, 0x00, // types
     0x03, 0xb3, 0xea, 0x01, // functions
     0xb0, 0xea, 0x01, // the count
 ];
 
 /// The start of its code section of 90,003 bytes, up to the count.
-const LARGE_CODE: [u8; 7] = [
+const LARGE_CODE: &[u8] = &[
     0x0a, 0x93, 0xbf, 0x05, // code
     0xb0, 0xea, 0x01, // the count
 ];
@@ -533,33 +589,46 @@ fn extend_many(wasm: &mut Vec<u8>, item: &[u8]) -> Result<(), AllocError> {
 
 /// Appends the large module.
 fn extend_large(wasm: &mut Vec<u8>) -> Result<(), AllocError> {
-    wasm.extend_from_slice(&PREAMBLE)?;
-    wasm.extend_from_slice(&LARGE_TYPES)?;
+    wasm.extend_from_slice(PREAMBLE)?;
+    wasm.extend_from_slice(LARGE_TYPES)?;
     // Type 0 for each function.
     extend_many(wasm, &[0x00])?;
-    wasm.extend_from_slice(&LARGE_CODE)?;
+    wasm.extend_from_slice(LARGE_CODE)?;
     // A body without locals and operators for each function.
     extend_many(wasm, &[0x02, 0x00, 0x0b])
 }
 
-/// Returns the text of the large module.
-fn large_text(rt: &HostRuntime) -> Result<String, AllocError> {
-    let mut text = String::from_str(rt.alloc(), "(module\n  (type (;0;) (func))\n")?;
+/// Writes a file with the large module.
+fn write_large(rt: &HostRuntime, file: &str) -> Result<(), Fail> {
+    let mut wasm = Vec::new(rt.alloc());
+    extend_large(&mut wasm)?;
+    fs::write(rt, file, &wasm)?;
+    Ok(())
+}
+
+/// Appends the lines of the functions of the large module.
+fn write_functions(text: &mut String) -> Result<(), AllocError> {
     for number in 0..MANY {
         write!(text, "  (func (;{number};) (type 0))\n")?;
     }
+    Ok(())
+}
+
+/// Returns the text of the large module.
+fn large_text(alloc: Global) -> Result<String, AllocError> {
+    let mut text = String::from_str(alloc, "(module\n  (type (;0;) (func))\n")?;
+    write_functions(&mut text)?;
     text.push_str(")\n")?;
     Ok(text)
 }
 
 #[test]
 fn prints_a_large_file_to_its_end(rt: HostRuntime) -> Result<(), Fail> {
-    let mut wasm = Vec::new(rt.alloc());
-    extend_large(&mut wasm)?;
-    fs::write(&rt, "large.wasm", &wasm)?;
-    let printed = run_with(&rt, &["large.wasm"])?;
+    write_large(&rt, "large.wasm")?;
+    let text = large_text(rt.alloc())?;
+    let is_printed = prints(&rt, &["large.wasm"], text.as_str())?;
     fs::remove_file(&rt, "large.wasm")?;
-    assert!(rt; has_printed(&printed, large_text(&rt)?.as_str()));
+    assert!(rt; is_printed);
     Ok(())
 }
 
@@ -599,7 +668,7 @@ fn stops_after_a_failed_write(rt: &HostRuntime, words: &[&str]) -> Result<bool, 
 
 #[test]
 fn writes_nothing_after_a_failed_write(rt: HostRuntime) -> Result<(), Fail> {
-    fs::write(&rt, "late.wasm", &PREAMBLE)?;
+    fs::write(&rt, "late.wasm", PREAMBLE)?;
     assert!(rt; stops_after_a_failed_write(&rt, &["late.wasm"])?);
     fs::remove_file(&rt, "late.wasm")?;
     Ok(())

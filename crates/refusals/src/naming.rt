@@ -14,7 +14,7 @@ use wasmprinter_writers::LineTracker;
 const LETTERS_LEN: usize = 8;
 
 /// Characters of one, two, three and four bytes, and again characters of one byte, some of which are escaped.
-const LETTERS: [&str; 5] = [
+const LETTERS: &[&str] = &[
     "aB~z 0x-",
     "\u{80}éßñλж\u{7ff}æ",
     "\u{800}中文字あ€\u{ffff}ह",

@@ -9,7 +9,7 @@ use wasmprinter::wasm::{Body, Catch, Immediates, Module, Names, Operator, Space,
 use wasmprinter::{Config, Error, OffsetsAndLines, place_of};
 
 /// The operators of the function: the place and the word of each.
-const OPERATORS: [(u64, &str); 4] = [
+const OPERATORS: &[(u64, &str)] = &[
     (23, "try_table"),
     (28, "end"),
     (29, "br_table"),

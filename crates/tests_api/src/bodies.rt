@@ -3,6 +3,7 @@
 
 use std::alloc::{AllocError, Global};
 use std::test::Fail;
+use wasmprinter::Error;
 use wasmprinter::wasm::{
     BlockType, Body, Catch, Catches, HeapType, Immediates, MemArg, Module, Opcode, Operator,
     OperatorsReader, RefType, Targets, ValType, ValTypes, decode,
@@ -10,7 +11,7 @@ use wasmprinter::wasm::{
 use wasmprinter_samples::{IDENTITY, PREAMBLE};
 
 /// A module whose function has immediates of each kind. The immediates need not be valid.
-const EVERY_KIND: [u8; 112] = [
+const EVERY_KIND: &[u8] = &[
     0x00, 0x61, 0x73, 0x6d, 0x01, 0x00, 0x00, 0x00, // preamble
     0x01, 0x04, 0x01, 0x60, 0x00, 0x00, // types
     0x03, 0x02, 0x01, 0x00, // functions
@@ -39,7 +40,7 @@ const EVERY_KIND: [u8; 112] = [
 type Row = (u64, (u8, u32), &'static str, &'static str);
 
 /// The operators of `EVERY_KIND`.
-const ROWS: [Row; 19] = [
+const ROWS: &[Row] = &[
     (0x17, (0, 0x01), "nop", "None"),
     (0x18, (0, 0x02), "block", "Block(Value(I32))"),
     (0x1a, (0, 0x0b), "end", "None"),
@@ -177,34 +178,60 @@ fn is_row(
     )
 }
 
-/// Checks that the remaining operators are exactly those of these rows. If not, the error has the word of the
-/// first row that differs, or reports a surplus operator.
-fn expect_rows(alloc: Global, operators: OperatorsReader<'_>, rows: &[Row]) -> Result<(), Fail> {
+/// Reports whether the next operator is the operator of this row.
+fn is_next(
+    alloc: Global,
+    operators: &mut OperatorsReader<'_>,
+    row: &Row,
+) -> Result<bool, AllocError> {
+    match operators.next() {
+        Some((place, operator)) => is_row(alloc, place, &operator, row),
+        None => Ok(false),
+    }
+}
+
+/// Returns the word of the first of these rows that the remaining operators, taken in order, do not have, or reports
+/// a surplus operator. Returns `None` if the operators are exactly those of the rows.
+fn first_other(
+    alloc: Global,
+    operators: OperatorsReader<'_>,
+    rows: &[Row],
+) -> Result<Option<&'static str>, AllocError> {
     let mut left = operators;
     for row in rows {
-        let (place, operator) = left.next().ok_or(row.2)?;
-        if !is_row(alloc, place, &operator, row)? {
-            return Err(Fail::from(row.2));
+        if !is_next(alloc, &mut left, row)? {
+            return Ok(Some(row.2));
         }
     }
     match left.next() {
-        None => Ok(()),
-        Some(_) => Err(Fail::from("an operator too many")),
+        None => Ok(None),
+        Some(_) => Ok(Some("an operator too many")),
     }
+}
+
+/// Decodes a module, and returns the body of its first function.
+///
+/// # Errors
+///
+/// - The module is refused, or has no function.
+pub fn body_of<'a>(alloc: Global, wasm: &'a [u8]) -> Result<Body<'a>, Fail> {
+    let module: Module<'a> = decode(alloc, wasm)?;
+    Ok(module.body(0).ok_or("no body")?)
 }
 
 #[test]
 fn walks_over_immediates_of_each_kind(rt: HostRuntime) -> Result<(), Fail> {
-    let module = decode(rt.alloc(), &EVERY_KIND)?;
-    let body = module.body(0).ok_or("no body")?;
-    expect_rows(rt.alloc(), body.operators(), &ROWS)?;
-    expect_rows(rt.alloc(), body.fork().operators(), &ROWS)
+    let body = body_of(rt.alloc(), EVERY_KIND)?;
+    let other = first_other(rt.alloc(), body.operators(), ROWS)?;
+    assert!(rt; other == None, "{other:?}");
+    let other = first_other(rt.alloc(), body.fork().operators(), ROWS)?;
+    assert!(rt; other == None, "{other:?}");
+    Ok(())
 }
 
 #[test]
 fn shows_an_operator(rt: HostRuntime) -> Result<(), Fail> {
-    let module = decode(rt.alloc(), &IDENTITY)?;
-    let body = module.body(0).ok_or("no body")?;
+    let body = body_of(rt.alloc(), IDENTITY)?;
     let (_, operator) = body.operators().next().ok_or("no operator")?;
     let shown = format!(in rt.alloc(); "{operator:?}")?;
     let expected = "Operator { opcode: Opcode { prefix: 0, number: 32 }, immediates: Index(0) }";
@@ -214,7 +241,7 @@ fn shows_an_operator(rt: HostRuntime) -> Result<(), Fail> {
 
 /// A module whose function has operators with lists of value types and of labels. For each, there are two equal
 /// lists, one with another length, and one that differs in its last item.
-const LISTS: [u8; 60] = [
+const LISTS: &[u8] = &[
     0x00, 0x61, 0x73, 0x6d, 0x01, 0x00, 0x00, 0x00, // preamble
     0x01, 0x04, 0x01, 0x60, 0x00, 0x00, // types
     0x03, 0x02, 0x01, 0x00, // functions
@@ -226,78 +253,121 @@ const LISTS: [u8; 60] = [
     0x0b,
 ];
 
-/// Reports whether, of the next four operators, the first two are equal and the other two differ from the first.
-/// Clones are compared too.
-fn are_one_pair(operators: &mut OperatorsReader<'_>) -> Result<bool, AllocError> {
-    let Some((_, first)) = operators.next() else {
-        return Ok(false);
-    };
-    let Some((_, second)) = operators.next() else {
-        return Ok(false);
-    };
-    let Some((_, third)) = operators.next() else {
-        return Ok(false);
-    };
-    let Some((_, fourth)) = operators.next() else {
-        return Ok(false);
-    };
+/// Reports whether an operator equals the second, and differs from the other two. Clones are compared too.
+fn equals_the_second_alone(
+    first: &Operator<'_>,
+    second: &Operator<'_>,
+    third: &Operator<'_>,
+    fourth: &Operator<'_>,
+) -> Result<bool, AllocError> {
     let kept = first.clone()?;
     Ok(
         first == second
-            && kept == second
+            && kept == *second
             && first.immediates.clone()? == second.immediates
             && first != third
             && third != first
-            && kept != third
+            && kept != *third
             && first != fourth
             && kept.immediates != fourth.immediates,
     )
 }
 
+/// Reports whether, of the next four operators, the first two are equal and the other two differ from the first.
+fn are_one_pair(operators: &mut OperatorsReader<'_>) -> Result<bool, AllocError> {
+    match (
+        operators.next(),
+        operators.next(),
+        operators.next(),
+        operators.next(),
+    ) {
+        (Some((_, first)), Some((_, second)), Some((_, third)), Some((_, fourth))) => {
+            equals_the_second_alone(&first, &second, &third, &fourth)
+        }
+        _ => Ok(false),
+    }
+}
+
 #[test]
 fn compares_lists(rt: HostRuntime) -> Result<(), Fail> {
-    let module = decode(rt.alloc(), &LISTS)?;
-    let body = module.body(0).ok_or("no body")?;
-    let mut operators = body.operators();
+    let mut operators = body_of(rt.alloc(), LISTS)?.operators();
     assert!(rt; are_one_pair(&mut operators)?);
     assert!(rt; are_one_pair(&mut operators)?);
     Ok(())
+}
+
+/// Reports whether the next two operators differ, as do their immediates, and each equals itself.
+fn are_distinct(operators: &mut OperatorsReader<'_>) -> bool {
+    match (operators.next(), operators.next()) {
+        (Some((_, first)), Some((_, second))) => {
+            first != second
+                && first.immediates != second.immediates
+                && first == first
+                && second.immediates == second.immediates
+        }
+        _ => false,
+    }
 }
 
 #[test]
 fn distinguishes_operators(rt: HostRuntime) -> Result<(), Fail> {
-    let module = decode(rt.alloc(), &EVERY_KIND)?;
-    let body = module.body(0).ok_or("no body")?;
-    let mut operators = body.operators();
-    let (_, first) = operators.next().ok_or("no operator")?;
-    let (_, second) = operators.next().ok_or("no second operator")?;
-    assert!(rt; first != second);
-    assert!(rt; first.immediates != second.immediates);
-    assert!(rt; first == first);
-    assert!(rt; second.immediates == second.immediates);
+    let mut operators = body_of(rt.alloc(), EVERY_KIND)?.operators();
+    assert!(rt; are_distinct(&mut operators));
     Ok(())
+}
+
+/// A module with one function: the name of the row, the bytes, and the place and the end of the function's body.
+type Range = (&'static str, &'static [u8], u64, u64);
+
+const RANGES: &[Range] = &[
+    ("one operator", IDENTITY, 0x1f, 0x22),
+    ("immediates of each kind", EVERY_KIND, 0x16, 0x6f),
+];
+
+/// Reports whether a module has exactly one function, whose body has this place and this end.
+fn has_range(alloc: Global, wasm: &[u8], place: u64, end: u64) -> Result<bool, Error> {
+    let module = decode(alloc, wasm)?;
+    let is_placed = match module.body(0) {
+        Some(body) => body.place() == place && body.end() == end,
+        None => false,
+    };
+    Ok(is_placed && module.function_count() == 1 && module.body(1).is_none())
+}
+
+/// Returns the name of the first row whose module has another range, or `None` if there is no such row.
+fn first_other_range(alloc: Global, rows: &[Range]) -> Result<Option<&'static str>, Error> {
+    for (name, wasm, place, end) in rows {
+        if !has_range(alloc, wasm, *place, *end)? {
+            return Ok(Some(*name));
+        }
+    }
+    Ok(None)
+}
+
+/// Reports whether a module has no function.
+fn has_no_body(alloc: Global, wasm: &[u8]) -> Result<bool, Error> {
+    let module = decode(alloc, wasm)?;
+    Ok(module.function_count() == 0 && module.body(0).is_none())
 }
 
 #[test]
 fn returns_the_range_of_bodies(rt: HostRuntime) -> Result<(), Fail> {
-    let rows: [(&'static str, &[u8], u64, u64); 2] = [
-        ("one operator", &IDENTITY, 0x1f, 0x22),
-        ("immediates of each kind", &EVERY_KIND, 0x16, 0x6f),
-    ];
-    for (name, wasm, place, end) in rows {
-        let module: Module<'_> = decode(rt.alloc(), wasm)?;
-        let body: Body<'_> = module.body(0).ok_or(name)?;
-        assert!(rt; body.place() == place && body.end() == end, "{name}");
-        assert!(rt; module.function_count() == 1, "{name}");
-        assert!(rt; module.body(1).is_none(), "{name}");
-    }
-    let empty = decode(rt.alloc(), &PREAMBLE)?;
-    assert!(rt; empty.function_count() == 0 && empty.body(0).is_none());
+    let other = first_other_range(rt.alloc(), RANGES)?;
+    assert!(rt; other == None, "{other:?}");
+    assert!(rt; has_no_body(rt.alloc(), PREAMBLE)?);
     Ok(())
 }
 
+/// Reports whether the next operator has these immediates.
+fn has_next(operators: &mut OperatorsReader<'_>, expected: &Immediates<'_>) -> bool {
+    match operators.next() {
+        Some((_, operator)) => operator.immediates == *expected,
+        None => false,
+    }
+}
+
 /// A module whose function has a `ref.null` of each heap type.
-const EVERY_HEAP_TYPE: [u8; 50] = [
+const EVERY_HEAP_TYPE: &[u8] = &[
     0x00, 0x61, 0x73, 0x6d, 0x01, 0x00, 0x00, 0x00, // preamble
     0x01, 0x04, 0x01, 0x60, 0x00, 0x00, // types
     0x03, 0x02, 0x01, 0x00, // functions
@@ -307,7 +377,7 @@ const EVERY_HEAP_TYPE: [u8; 50] = [
 ];
 
 /// The heap types of `EVERY_HEAP_TYPE`.
-const HEAP_TYPES: [HeapType; 13] = [
+const HEAP_TYPES: &[HeapType] = &[
     HeapType::Exn,
     HeapType::Array,
     HeapType::Struct,
@@ -323,24 +393,29 @@ const HEAP_TYPES: [HeapType; 13] = [
     HeapType::Index(42),
 ];
 
+/// Returns the first of these heap types that the next operators, taken in order, do not have as their immediates.
+/// Returns `None` if there is no such heap type.
+fn first_missing(operators: &mut OperatorsReader<'_>, heap_types: &[HeapType]) -> Option<HeapType> {
+    for heap_type in heap_types {
+        if !has_next(operators, &Immediates::Heap(*heap_type)) {
+            return Some(*heap_type);
+        }
+    }
+    None
+}
+
 #[test]
 fn gives_each_heap_type(rt: HostRuntime) -> Result<(), Fail> {
-    let module = decode(rt.alloc(), &EVERY_HEAP_TYPE)?;
-    let body = module.body(0).ok_or("no body")?;
-    let mut operators = body.operators();
-    for heap_type in HEAP_TYPES {
-        let (_, operator) = operators.next().ok_or("no operator")?;
-        let is_expected =
-            matches!(operator.immediates, Immediates::Heap(heap) if heap == heap_type);
-        assert!(rt; is_expected, "{heap_type:?}");
-    }
+    let mut operators = body_of(rt.alloc(), EVERY_HEAP_TYPE)?.operators();
+    let missing = first_missing(&mut operators, HEAP_TYPES);
+    assert!(rt; missing == None, "{missing:?}");
     assert!(rt; operators.next().is_none());
     Ok(())
 }
 
 /// A module whose function has a `select` of each value type, and blocks of the types that `EVERY_KIND` does not
 /// have.
-const EVERY_TYPE: [u8; 40] = [
+const EVERY_TYPE: &[u8] = &[
     0x00, 0x61, 0x73, 0x6d, 0x01, 0x00, 0x00, 0x00, // preamble
     0x01, 0x04, 0x01, 0x60, 0x00, 0x00, // types
     0x03, 0x02, 0x01, 0x00, // functions
@@ -358,7 +433,7 @@ const TYPED_REF: RefType = RefType {
 };
 
 /// The types of the `select`.
-const VAL_TYPES: [ValType; 7] = [
+const VAL_TYPES: &[ValType] = &[
     ValType::I32,
     ValType::I64,
     ValType::F32,
@@ -368,20 +443,23 @@ const VAL_TYPES: [ValType; 7] = [
     ValType::Ref(TYPED_REF),
 ];
 
+/// Reports whether the next operator has exactly these value types as its immediates.
+fn has_next_types(operators: &mut OperatorsReader<'_>, expected: &[ValType]) -> bool {
+    match operators.next() {
+        Some((_, operator)) => match &operator.immediates {
+            Immediates::Types(found) => found.iter().eq(expected.iter().copied()),
+            _ => false,
+        },
+        None => false,
+    }
+}
+
 #[test]
 fn gives_each_value_type_and_block_type(rt: HostRuntime) -> Result<(), Fail> {
-    let module = decode(rt.alloc(), &EVERY_TYPE)?;
-    let body = module.body(0).ok_or("no body")?;
-    let mut operators = body.operators();
-    let (_, select) = operators.next().ok_or("no select")?;
-    assert!(rt;
-        matches!(&select.immediates, Immediates::Types(found) if found.iter().eq(VAL_TYPES.iter().copied()))
-    );
-    let (_, block) = operators.next().ok_or("no block")?;
-    assert!(rt; block.immediates == Immediates::Block(BlockType::Empty));
-    let (_, end) = operators.next().ok_or("no end")?;
-    assert!(rt; matches!(end.immediates, Immediates::None));
-    let (_, block) = operators.next().ok_or("no second block")?;
-    assert!(rt; block.immediates == Immediates::Block(BlockType::Func(0)));
+    let mut operators = body_of(rt.alloc(), EVERY_TYPE)?.operators();
+    assert!(rt; has_next_types(&mut operators, VAL_TYPES));
+    assert!(rt; has_next(&mut operators, &Immediates::Block(BlockType::Empty)));
+    assert!(rt; has_next(&mut operators, &Immediates::None));
+    assert!(rt; has_next(&mut operators, &Immediates::Block(BlockType::Func(0))));
     Ok(())
 }

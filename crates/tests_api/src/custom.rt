@@ -1,10 +1,10 @@
 //! Tests of a user-defined printer and of a user-defined writer with colors.
 ghost use Rattle.std.specs.Prelude.{◌≡◌, None, false, true, Ok};
 
+use crate::printing::print_to;
 use std::io;
 use std::io::Write;
 use std::test::Fail;
-use wasmprinter::Config;
 use wasmprinter::print::{Color, ColorSpec, Print, PrintTermcolor, WriteColor};
 use wasmprinter_samples::{PREAMBLE, expect_text};
 
@@ -80,7 +80,7 @@ impl Print for Letters {
 }
 
 /// A module with two custom sections, `mine` and `it`.
-const TWO_SECTIONS: [u8; 20] = [
+const TWO_SECTIONS: &[u8] = &[
     0x00, 0x61, 0x73, 0x6d, 0x01, 0x00, 0x00, 0x00, // preamble
     0x00, 0x05, 0x04, 0x6d, 0x69, 0x6e, 0x65, // mine
     0x00, 0x03, 0x02, 0x69, 0x74, // it
@@ -92,7 +92,7 @@ const TWO_SECTIONS_TEXT: &str = "(kmodule.|  (k@custom .l\"it\". (before first) 
 #[test]
 fn prints_to_a_printer_with_styles(rt: HostRuntime) -> Result<(), Fail> {
     let mut printer = Letters(String::new(rt.alloc()));
-    Config::new().print(rt.alloc(), &TWO_SECTIONS, &mut printer)?;
+    print_to(rt.alloc(), TWO_SECTIONS, &mut printer)?;
     expect_text(printer.0.as_str(), TWO_SECTIONS_TEXT)?;
     Ok(())
 }
@@ -141,7 +141,7 @@ impl WriteColor for Marks {
 #[test]
 fn prints_to_a_writer_of_marks(rt: HostRuntime) -> Result<(), Fail> {
     let mut printer = PrintTermcolor(Marks(Vec::new(rt.alloc())));
-    Config::new().print(rt.alloc(), &PREAMBLE, &mut printer)?;
+    print_to(rt.alloc(), PREAMBLE, &mut printer)?;
     assert!(rt; printer.0.0.as_slice() == b"(omodule.)\n".as_slice());
     Ok(())
 }

@@ -31,7 +31,7 @@ pub fn print_counted(
 #[cfg(test)]
 fn fails_once(config: &Config, alloc: Global, call: u32) -> bool {
     let mut recorder = Recorder::with_refusal(alloc, call, ErrorKind::BrokenPipe);
-    let answer = print_counted(config, alloc, &IDENTITY, &mut recorder);
+    let answer = print_counted(config, alloc, IDENTITY, &mut recorder);
     matches!(answer, Err(Error::Printer(e)) if e.kind() == ErrorKind::BrokenPipe)
         && recorder.call_count() == call
         && recorder.faults() == 1
@@ -52,7 +52,7 @@ fn counts_a_failed_call(rt: HostRuntime) {
 fn counts_nothing_where_no_call_failed(rt: HostRuntime) -> Result<(), Fail> {
     let config = Config::new();
     let mut recorder = Recorder::new(rt.alloc());
-    print_counted(&config, rt.alloc(), &IDENTITY, &mut recorder)?;
+    print_counted(&config, rt.alloc(), IDENTITY, &mut recorder)?;
     assert!(rt; recorder.call_count() > 0);
     assert!(rt; recorder.faults() == 0);
     let refused = print_counted(&config, rt.alloc(), &IDENTITY[..34], &mut recorder);

@@ -39,7 +39,7 @@ fn prints_a_file_of_a_source(rt: HostRuntime) -> Result<(), Fail> {
 
 #[test]
 fn prints_a_file_of_the_system(rt: HostRuntime) -> Result<(), Fail> {
-    fs::write(&rt, "surface.wasm", &IDENTITY)?;
+    fs::write(&rt, "surface.wasm", IDENTITY)?;
     let text = print_file(&rt, rt.alloc(), Path::new("surface.wasm"))?;
     fs::remove_file(&rt, "surface.wasm")?;
     expect_text(text.as_str(), IDENTITY_TEXT)?;

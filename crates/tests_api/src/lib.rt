@@ -25,4 +25,6 @@ mod options;
 #[cfg(test)]
 mod printers;
 #[cfg(test)]
+mod printing;
+#[cfg(test)]
 mod values;

@@ -5,7 +5,7 @@ use wasmprinter::wasm::{Names, Space, decode};
 use wasmprinter_samples::PREAMBLE;
 
 /// A module with a name section that has one name in each subsection. The named items need not exist.
-const NAMED: [u8; 91] = [
+const NAMED: &[u8] = &[
     0x00, 0x61, 0x73, 0x6d, 0x01, 0x00, 0x00, 0x00, // preamble
     0x00, 0x51, 0x04, 0x6e, 0x61, 0x6d, 0x65, // a custom section `name`
     0x00, 0x02, 0x01, 0x6d, // the module
@@ -27,7 +27,7 @@ const NAMED: [u8; 91] = [
 type Row = (Space, &'static str, u32, u32, &'static str);
 
 /// The names of `NAMED`.
-const ROWS: [Row; 11] = [
+const ROWS: &[Row] = &[
     (Space::Func, "func", 0, 0, "f"),
     (Space::Local, "local", 1, 0, "x"),
     (Space::Label, "label", 2, 0, "l"),
@@ -56,17 +56,17 @@ fn first_other(names: &Names<'_>, rows: &[Row]) -> Option<&'static str> {
 
 #[test]
 fn gives_names_and_words_of_each_space(rt: HostRuntime) -> Result<(), Fail> {
-    let module = decode(rt.alloc(), &NAMED)?;
+    let module = decode(rt.alloc(), NAMED)?;
     let names = module.names(rt.alloc())?;
     assert!(rt; names.module() == Some("m"));
-    let other = first_other(&names, &ROWS);
+    let other = first_other(&names, ROWS);
     assert!(rt; other == None, "{other:?}");
     Ok(())
 }
 
 #[test]
 fn gives_no_names_where_there_are_none(rt: HostRuntime) -> Result<(), Fail> {
-    let module = decode(rt.alloc(), &PREAMBLE)?;
+    let module = decode(rt.alloc(), PREAMBLE)?;
     let names = module.names(rt.alloc())?;
     assert!(rt; names.module() == None && names.identifier(Space::Func, 0, 0) == None);
     Ok(())

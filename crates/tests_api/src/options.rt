@@ -1,7 +1,9 @@
 //! Tests of each option of `Config`, and of the calls that print with them.
 
+use crate::printing::{print_to, text_by, text_of};
+use std::alloc::{AllocError, Global};
 use std::test::Fail;
-use wasmprinter::{Config, PrintFmtWrite, print_bytes};
+use wasmprinter::{Config, Error, PrintFmtWrite};
 use wasmprinter_samples::{EMPTY_TEXT, IDENTITY, IDENTITY_TEXT, PREAMBLE, expect_text};
 
 /// The text of `IDENTITY` with places, as a skeleton.
@@ -33,8 +35,11 @@ const FOLDED: &str = r#"(module
 /// The text of the empty module with ANSI escape sequences.
 const EMPTY_COLORED: &[u8] = b"(\x1b[0m\x1b[1m\x1b[38;5;11mmodule\x1b[0m)\n";
 
-#[test]
-fn prints_by_options(rt: HostRuntime) -> Result<(), Fail> {
+/// The text of `IDENTITY` with options: the name of the row, the options, and the text.
+type Row = (&'static str, Config, &'static str);
+
+/// Returns the rows.
+fn rows(alloc: Global) -> Result<[Row; 4], AllocError> {
     let mut outline = Config::new();
     outline.print_offsets(true).print_skeleton(true);
     let mut identifiers = Config::new();
@@ -42,8 +47,8 @@ fn prints_by_options(rt: HostRuntime) -> Result<(), Fail> {
     let mut folded = Config::new();
     folded
         .fold_instructions(true)
-        .indent_text(" ".to_string(rt.alloc())?);
-    let rows = [
+        .indent_text(" ".to_string(alloc)?);
+    Ok([
         ("defaults", Config::default(), IDENTITY_TEXT),
         ("a skeleton with places", outline, OUTLINE_WITH_PLACES),
         (
@@ -52,22 +57,47 @@ fn prints_by_options(rt: HostRuntime) -> Result<(), Fail> {
             OUTLINE_WITH_IDENTIFIERS,
         ),
         ("folded operators", folded, FOLDED),
-    ];
-    for (name, config, expected) in &rows {
-        let text = config.print_to_string(rt.alloc(), &IDENTITY)?;
-        assert!(rt; text.as_str() == *expected, "{name}");
+    ])
+}
+
+/// Reports whether the text of `IDENTITY` with these options is the expected one.
+fn is_printed_as(alloc: Global, config: &Config, expected: &str) -> Result<bool, Error> {
+    Ok(text_by(config, alloc, IDENTITY)?.as_str() == expected)
+}
+
+/// Returns the name of the first row with another text, or `None` if there is no such row.
+fn first_other(alloc: Global, rows: &[Row]) -> Result<Option<&'static str>, Error> {
+    for (name, config, expected) in rows {
+        if !is_printed_as(alloc, config, expected)? {
+            return Ok(Some(*name));
+        }
     }
+    Ok(None)
+}
+
+#[test]
+fn prints_by_options(rt: HostRuntime) -> Result<(), Fail> {
+    let other = first_other(rt.alloc(), &rows(rt.alloc())?)?;
+    assert!(rt; other == None, "{other:?}");
     Ok(())
+}
+
+/// Returns the text of the empty module, printed to a writer of texts.
+fn written(alloc: Global) -> Result<String, Error> {
+    let mut printer = PrintFmtWrite(String::new(alloc));
+    print_to(alloc, PREAMBLE, &mut printer)?;
+    Ok(printer.0)
+}
+
+/// Returns the text of the empty module with ANSI escape sequences.
+fn colored(alloc: Global) -> Result<Vec<u8>, Error> {
+    Config::new().print_to_ansi(alloc, PREAMBLE)
 }
 
 #[test]
 fn prints_by_each_function(rt: HostRuntime) -> Result<(), Fail> {
-    let text = print_bytes(rt.alloc(), &IDENTITY)?;
-    expect_text(text.as_str(), IDENTITY_TEXT)?;
-    let mut printer = PrintFmtWrite(String::new(rt.alloc()));
-    Config::new().print(rt.alloc(), &PREAMBLE, &mut printer)?;
-    expect_text(printer.0.as_str(), EMPTY_TEXT)?;
-    let text = Config::new().print_to_ansi(rt.alloc(), &PREAMBLE)?;
-    assert!(rt; text.as_slice() == EMPTY_COLORED);
+    expect_text(text_of(rt.alloc(), IDENTITY)?.as_str(), IDENTITY_TEXT)?;
+    expect_text(written(rt.alloc())?.as_str(), EMPTY_TEXT)?;
+    assert!(rt; colored(rt.alloc())?.as_slice() == EMPTY_COLORED);
     Ok(())
 }

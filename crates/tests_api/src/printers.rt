@@ -1,10 +1,12 @@
 //! Tests of printers: each call on them, the printers over writers, and a user-defined one.
 
+use crate::printing::print_to;
+use std::alloc::Global;
 use std::io;
 use std::test::Fail;
+use wasmprinter::Error;
 use wasmprinter::laws::text_printers_gain_the_text;
 use wasmprinter::print::{NoColor, Print, PrintFmtWrite, PrintIoWrite, PrintText, WriteBytes};
-use wasmprinter::{Config, Error};
 use wasmprinter_samples::{EMPTY_TEXT, PREAMBLE, expect_text};
 
 /// A printer that keeps its text, and takes runs of characters.
@@ -39,17 +41,34 @@ fn call_each<P: Print>(p: &mut P) -> io::Result<(bool, bool, bool)> {
     Ok((takes_section, p.takes_runs(), p.supports_async_color()))
 }
 
+/// Makes each call on a printer of text. Reports whether its answers and its text are the expected ones.
+fn is_text_printed(alloc: Global) -> io::Result<bool> {
+    let mut text = Text(String::new(alloc));
+    let answers = call_each(&mut text)?;
+    Ok(answers == (false, true, false) && text.0.as_str() == "abc\n")
+}
+
+/// Makes each call on a printer over a writer of texts. Reports whether its answers and the text are the expected
+/// ones.
+fn is_text_written(alloc: Global) -> io::Result<bool> {
+    let mut text = PrintFmtWrite(String::new(alloc));
+    let answers = call_each(&mut text)?;
+    Ok(answers == (false, false, false) && text.0.as_str() == "abc\n")
+}
+
+/// Makes each call on a printer over a writer of bytes. Reports whether its answers and the bytes are the expected
+/// ones.
+fn are_bytes_written(alloc: Global) -> io::Result<bool> {
+    let mut bytes = PrintIoWrite(Vec::new(alloc));
+    let answers = call_each(&mut bytes)?;
+    Ok(answers == (false, false, false) && bytes.0.as_slice() == b"abc\n".as_slice())
+}
+
 #[test]
 fn takes_each_call(rt: HostRuntime) -> Result<(), Fail> {
-    let mut text = Text(String::new(rt.alloc()));
-    assert!(rt; call_each(&mut text)? == (false, true, false));
-    expect_text(text.0.as_str(), "abc\n")?;
-    let mut text = PrintFmtWrite(String::new(rt.alloc()));
-    assert!(rt; call_each(&mut text)? == (false, false, false));
-    expect_text(text.0.as_str(), "abc\n")?;
-    let mut bytes = PrintIoWrite(Vec::new(rt.alloc()));
-    assert!(rt; call_each(&mut bytes)? == (false, false, false));
-    assert!(rt; bytes.0.as_slice() == b"abc\n".as_slice());
+    assert!(rt; is_text_printed(rt.alloc())?);
+    assert!(rt; is_text_written(rt.alloc())?);
+    assert!(rt; are_bytes_written(rt.alloc())?);
     Ok(())
 }
 
@@ -63,15 +82,15 @@ fn writes_bytes_whole(rt: HostRuntime) -> Result<(), Fail> {
 }
 
 /// Prints a module to a `PrintText`.
-fn print_to<T: PrintText + Drop>(config: &Config, rt: &HostRuntime, to: T) -> Result<T, Error> {
+fn print_to_text<T: PrintText + Drop>(alloc: Global, to: T) -> Result<T, Error> {
     let mut printer = to;
-    config.print(rt.alloc(), &PREAMBLE, &mut printer)?;
+    print_to(alloc, PREAMBLE, &mut printer)?;
     Ok(printer)
 }
 
 #[test]
 fn prints_to_a_printer_of_text(rt: HostRuntime) -> Result<(), Fail> {
-    let text = print_to(&Config::new(), &rt, Text(String::new(rt.alloc())))?;
+    let text = print_to_text(rt.alloc(), Text(String::new(rt.alloc())))?;
     expect_text(text.0.as_str(), EMPTY_TEXT)?;
     text_printers_gain_the_text::<Text>();
     Ok(())

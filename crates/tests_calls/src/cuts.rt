@@ -343,7 +343,7 @@ fn names_len(name_len: usize) -> usize {
 
 /// Returns a module that imports two functions, both with this name. The name must have fewer than 2^12 bytes.
 fn with_name(alloc: Global, name: &str) -> Result<Vec<u8>, AllocError> {
-    let mut wasm = Vec::from_slice(alloc, &PREAMBLE)?;
+    let mut wasm = Vec::from_slice(alloc, PREAMBLE)?;
     wasm.extend_from_slice(&TWO_IMPORTS)?;
     wasm.push(0x00)?;
     push_number(&mut wasm, names_len(name.len()).saturating_add(5))?;

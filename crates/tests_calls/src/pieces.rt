@@ -79,7 +79,7 @@ fn splits_a_module_with_these_options(rt: HostRuntime) -> Result<(), Fail> {
 fn splits_an_indent_text_by_levels(rt: HostRuntime) -> Result<(), Fail> {
     let mut config = Config::new();
     config.indent_text(String::from_str(rt.alloc(), "\t")?);
-    expect_calls("tabs", &config, rt.alloc(), &IDENTITY, TABS)
+    expect_calls("tabs", &config, rt.alloc(), IDENTITY, TABS)
 }
 
 /// Returns the end of a line with an `end` that is indented by `level` levels: the two spaces of each level are

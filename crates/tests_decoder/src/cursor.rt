@@ -42,7 +42,7 @@ fn goes_on_with(cursor: &mut Cursor, expected: Expected) -> bool {
 /// The name of the row, the place of the first byte, the bytes, and the expected number or sum.
 type Row = (&'static str, u32, &'static [u8], Expected);
 
-const ROWS: [Row; 20] = [
+const ROWS: &[Row] = &[
     ("u32 in one byte", 0, &[0x03], Expected::U32(Ok(3))),
     (
         "u32 with a byte more than needed",
@@ -155,40 +155,42 @@ const ROWS: [Row; 20] = [
     ),
 ];
 
-/// Reports whether reading these bytes, the first of which has this place, gives the expected value or error.
-fn is_read_as(place: u32, bytes: &[u8], expected: Expected) -> bool {
-    goes_on_with(&mut Cursor::new(u64::from(place), bytes), expected)
-}
-
-/// Returns the name of the first row whose bytes give another value or error, or `None` if there is no such row.
-fn first_other(rows: &[Row]) -> Option<&'static str> {
-    for (name, place, bytes, expected) in rows {
-        if !is_read_as(*place, bytes, *expected) {
-            return Some(*name);
-        }
-    }
-    None
-}
-
 #[test]
 fn numbers_and_vectors_are_read(rt: HostRuntime) {
-    let other = first_other(&ROWS);
-    assert!(rt; other == None, "{other:?}");
+    for (name, place, bytes, expected) in ROWS {
+        let mut cursor = Cursor::new(u64::from(*place), bytes);
+        assert!(rt; goes_on_with(&mut cursor, *expected), "{name}");
+    }
+}
+
+/// Reports whether a name follows, and then a name that is not UTF-8, over which a fork reads.
+fn begins_with_names(cursor: &mut Cursor) -> bool {
+    cursor.name() == Ok("aé") && cursor.fork().name() == Err(Malformed { place: 0x14 })
+}
+
+/// Reports whether a part has two bytes at 0x14, of which the first is 01, and no more can be taken.
+fn has_two_bytes(part: &mut Cursor) -> bool {
+    part.place() == 0x14
+        && part.len() == 2
+        && part.front(1).len() == 1
+        && part.peek() == Some(0x01)
+        && part.u8() == Ok(0x01)
+        && part.take(2) == Err(Malformed { place: 0x15 })
+}
+
+/// Reports whether exactly the byte 2a is left.
+fn ends_with_a_byte(cursor: &mut Cursor) -> bool {
+    let taken: Result<&[u8], Malformed> = Ok(&[0x2a]);
+    cursor.take(1) == taken && cursor.is_empty()
 }
 
 #[test]
 fn parts_and_names_are_read(rt: HostRuntime) -> Result<(), Fail> {
     let bytes = [0x03, 0x61, 0xc3, 0xa9, 0x01, 0xff, 0x2a];
     let mut cursor = Cursor::new(0x10, &bytes);
-    assert!(rt; cursor.name() == Ok("aé"));
-    assert!(rt; cursor.fork().name() == Err(Malformed { place: 0x14 }));
+    assert!(rt; begins_with_names(&mut cursor));
     let mut part = cursor.part(2)?;
-    assert!(rt; part.place() == 0x14 && part.len() == 2);
-    assert!(rt; part.front(1).len() == 1 && part.peek() == Some(0x01));
-    assert!(rt; part.u8() == Ok(0x01));
-    assert!(rt; part.take(2) == Err(Malformed { place: 0x15 }));
-    let taken: Result<&[u8], Malformed> = Ok(&[0x2a]);
-    assert!(rt; cursor.take(1) == taken);
-    assert!(rt; cursor.is_empty());
+    assert!(rt; has_two_bytes(&mut part));
+    assert!(rt; ends_with_a_byte(&mut cursor));
     Ok(())
 }

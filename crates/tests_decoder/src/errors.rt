@@ -1,10 +1,9 @@
 //! Tests of the texts of errors. The expected texts are typed by hand.
 
-use std::alloc::AllocError;
+use std::alloc::{AllocError, Global};
 use std::io;
 use std::test::Fail;
 use wasmprinter_bytes::{Error, Malformed};
-use wasmprinter_samples::expect_text;
 
 /// Returns one error of each kind, with its text.
 fn texts() -> [(Error, &'static str); 11] {
@@ -47,12 +46,29 @@ fn texts() -> [(Error, &'static str); 11] {
     ]
 }
 
+/// Reports whether this is the text of an error.
+fn is_text_of(alloc: Global, error: &Error, wanted: &str) -> Result<bool, AllocError> {
+    let text = format!(in alloc; "{}", error)?;
+    Ok(text.as_str() == wanted)
+}
+
+/// Returns the expected text of the first error that has another, or `None` if there is no such error.
+fn first_other(
+    alloc: Global,
+    rows: &[(Error, &'static str)],
+) -> Result<Option<&'static str>, AllocError> {
+    for (error, wanted) in rows {
+        if !is_text_of(alloc, error, wanted)? {
+            return Ok(Some(*wanted));
+        }
+    }
+    Ok(None)
+}
+
 #[test]
 fn each_error_has_its_text(rt: HostRuntime) -> Result<(), Fail> {
-    for (error, wanted) in texts() {
-        let text = format!(in rt.alloc(); "{}", error)?;
-        expect_text(text.as_str(), wanted)?;
-    }
+    let other = first_other(rt.alloc(), &texts())?;
+    assert!(rt; other == None, "{other:?}");
     Ok(())
 }
 

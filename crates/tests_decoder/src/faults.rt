@@ -19,7 +19,7 @@ const END: u8 = 0x0b;
 type Spelled = (Shape, Role, &'static [u8]);
 
 /// Operators without immediates, and with blocks, labels and types.
-const CONTROL: [Spelled; 24] = [
+const CONTROL: &[Spelled] = &[
     (Shape::None, Role::Plain, &[0x01]),
     (Shape::None, Role::Ends, &[0x0b]),
     (Shape::None, Role::Else, &[0x05]),
@@ -73,7 +73,7 @@ const CONTROL: [Spelled; 24] = [
 ];
 
 /// Operators with indices.
-const INDICES: [Spelled; 15] = [
+const INDICES: &[Spelled] = &[
     (Shape::Index(Space::Local), Role::Plain, &[0x20, 0x00]),
     (
         Shape::Index(Space::Func),
@@ -132,7 +132,7 @@ const INDICES: [Spelled; 15] = [
 ];
 
 /// Operators with memory operands, lanes and numbers.
-const NUMBERS: [Spelled; 18] = [
+const NUMBERS: &[Spelled] = &[
     (Shape::Memory(2), Role::Plain, &[0x28, 0x02, 0x08]),
     (
         Shape::Memory(3),
@@ -201,9 +201,12 @@ const NUMBERS: [Spelled; 18] = [
     (Shape::F32, Role::Plain, &[0x43, 0x00, 0x00, 0x80, 0x7f]),
 ];
 
+/// Bytes that are refused, and the place of the error.
+type Fault = (&'static [u8], u64);
+
 /// Bytes that encode no operator, each with the place of the error: opcodes that are not listed, and malformed
 /// immediates. For a number with too many bits, the place is that of the last byte that its width allows.
-const REFUSED: [(&[u8], u64); 46] = [
+const REFUSED: &[Fault] = &[
     (&[], 0x1a),
     // Opcodes
     (&[0xff, 0x00], 0x1a),
@@ -283,7 +286,7 @@ const REFUSED: [(&[u8], u64); 46] = [
 ];
 
 /// Expressions with an error in their second operator or in their last one, each with the place of the error.
-const FAULTY: [(&[u8], u64); 27] = [
+const FAULTY: &[Fault] = &[
     // In the second of several operators
     (&[0x01, 0xff, 0x0b], 0x1b),
     (&[0x01, 0x05, 0x0b], 0x1b),
@@ -375,7 +378,7 @@ fn outcome_of(alloc: Global, bytes: &[u8]) -> Outcome {
 }
 
 /// Operators before the one that is read, so that it is the first, the second or the last of several.
-const EARLIER: [&[u8]; 3] = [&[], &[0x01], &[0x20, 0x81, 0x01, 0x41, 0x7f, 0x6a, 0x1a]];
+const EARLIER: &[&[u8]] = &[&[], &[0x01], &[0x20, 0x81, 0x01, 0x41, 0x7f, 0x6a, 0x1a]];
 
 /// Returns the concatenation of both.
 fn joined(alloc: Global, bytes: &[u8], others: &[u8]) -> Result<Vec<u8>, AllocError> {
@@ -397,13 +400,18 @@ fn fault_place(bytes: &[u8]) -> Option<u64> {
     }
 }
 
+/// Returns the result of reading these bytes as an expression that begins with the earlier operators.
+fn outcome_after(alloc: Global, earlier: &[u8], bytes: &[u8]) -> Result<Outcome, AllocError> {
+    let expression = joined(alloc, earlier, bytes)?;
+    Ok(outcome_of(alloc, &expression))
+}
+
 /// Reports whether reading the bytes returns an error with this place, both as an operator and within an
 /// expression, also after other operators.
 fn is_fault_at(alloc: Global, bytes: &[u8], place: u64) -> Result<bool, AllocError> {
     for earlier in EARLIER {
-        let expression = joined(alloc, earlier, bytes)?;
         let later = place.saturating_add(earlier.len() as u64);
-        if outcome_of(alloc, &expression) != Outcome::Refused(later) {
+        if outcome_after(alloc, earlier, bytes)? != Outcome::Refused(later) {
             return Ok(false);
         }
     }
@@ -449,11 +457,11 @@ fn wanted_by(role: Role, start: usize, end: usize) -> Outcome {
 
 /// Reports whether the operator, followed by two `end`s, is read as its role requires, also after other operators.
 fn is_passed(alloc: Global, role: Role, bytes: &[u8]) -> Result<bool, AllocError> {
+    let ended = joined(alloc, bytes, &[END, END])?;
     for earlier in EARLIER {
-        let operators = joined(alloc, earlier, bytes)?;
-        let expression = joined(alloc, &operators, &[END, END])?;
-        let wanted = wanted_by(role, earlier.len(), operators.len());
-        if outcome_of(alloc, &expression) != wanted {
+        let start = earlier.len();
+        let wanted = wanted_by(role, start, start.saturating_add(bytes.len()));
+        if outcome_after(alloc, earlier, &ended)? != wanted {
             return Ok(false);
         }
     }
@@ -494,22 +502,22 @@ fn expect_spelled(alloc: Global, name: &'static str, rows: &[Spelled]) -> Result
 
 #[test]
 fn operators_are_read_whole_and_refused_if_truncated(rt: HostRuntime) -> Result<(), Fail> {
-    expect_spelled(rt.alloc(), "control", &CONTROL)?;
-    expect_spelled(rt.alloc(), "indices", &INDICES)?;
-    expect_spelled(rt.alloc(), "numbers", &NUMBERS)
+    expect_spelled(rt.alloc(), "control", CONTROL)?;
+    expect_spelled(rt.alloc(), "indices", INDICES)?;
+    expect_spelled(rt.alloc(), "numbers", NUMBERS)
 }
 
 #[test]
 fn faults_have_their_places(rt: HostRuntime) -> Result<(), Fail> {
     for (row, (bytes, place)) in REFUSED.iter().enumerate() {
         assert!(rt;
-            is_fault_at(rt.alloc(), *bytes, *place)?,
+            is_fault_at(rt.alloc(), bytes, *place)?,
             "row {row} of `REFUSED`"
         );
     }
     for (row, (bytes, place)) in FAULTY.iter().enumerate() {
         assert!(rt;
-            outcome_of(rt.alloc(), *bytes) == Outcome::Refused(*place),
+            outcome_of(rt.alloc(), bytes) == Outcome::Refused(*place),
             "row {row} of `FAULTY`"
         );
     }

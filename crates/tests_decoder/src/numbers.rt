@@ -21,8 +21,6 @@ enum Way {
     S64,
 }
 
-const WAYS: [Way; 5] = [Way::U32, Way::U64, Way::S32, Way::S33, Way::S64];
-
 /// How numbers of one kind are encoded (section 5.2.2 of the standard).
 #[derive(Clone, Copy)]
 struct Spelling {
@@ -117,12 +115,11 @@ impl Way {
 
 /// Reports whether each method does so on these bytes.
 fn all_read(bytes: &[u8]) -> bool {
-    for way in WAYS {
-        if !way.reads(bytes) {
-            return false;
-        }
-    }
-    true
+    Way::U32.reads(bytes)
+        && Way::U64.reads(bytes)
+        && Way::S32.reads(bytes)
+        && Way::S33.reads(bytes)
+        && Way::S64.reads(bytes)
 }
 
 /// Reports whether each method does so on each prefix of the bytes.
@@ -149,7 +146,7 @@ fn all_read_pairs(first: u8) -> bool {
 const LONGEST: usize = 12;
 
 /// Bytes that are repeated before the last one: their lower bits are all 0, all 1, or alternating.
-const REPEATED: [u8; 3] = [0x80, 0xff, 0xaa];
+const REPEATED: &[u8] = &[0x80, 0xff, 0xaa];
 
 /// Reports whether each method does so on `len` copies of the repeated byte, followed by any byte and more copies,
 /// and on each prefix.
@@ -205,20 +202,37 @@ fn first_drawn_that_differs(count: u32) -> Option<u32> {
     None
 }
 
+/// Returns the first byte for which a method fails on it, or on a pair that begins with it, or `None` if there is no
+/// such byte.
+fn first_byte_that_differs() -> Option<u8> {
+    for first in 0..=u8::MAX {
+        if !all_read_pairs(first) {
+            return Some(first);
+        }
+    }
+    None
+}
+
+/// Returns the first of these repeated bytes, and the number of its copies, after which a method fails on some last
+/// byte, or `None` if there is none.
+fn first_repeated_that_differs(bytes: &[u8]) -> Option<(u8, usize)> {
+    for repeated in bytes {
+        for len in 0..LONGEST {
+            if !all_read_last_bytes(*repeated, len) {
+                return Some((*repeated, len));
+            }
+        }
+    }
+    None
+}
+
 #[test]
 fn numbers_and_errors_have_their_places(rt: HostRuntime) {
     assert!(rt; all_read(&[]), "no bytes");
-    for first in 0..=u8::MAX {
-        assert!(rt; all_read_pairs(first), "up to two bytes, at {first:#x}");
-    }
-    for len in 0..LONGEST {
-        for repeated in REPEATED {
-            assert!(rt;
-                all_read_last_bytes(repeated, len),
-                "{repeated:#x}, at {len}"
-            );
-        }
-    }
+    let differs = first_byte_that_differs();
+    assert!(rt; differs == None, "up to two bytes, at {differs:?}");
+    let differs = first_repeated_that_differs(REPEATED);
+    assert!(rt; differs == None, "repeated byte and length {differs:?}");
     let differs = first_drawn_that_differs(DRAWN);
     assert!(rt; differs == None, "pseudorandom input with seed {differs:?}");
 }

@@ -6,13 +6,14 @@ mod opcodes;
 use std::alloc::{AllocError, Global};
 use std::test::Fail;
 use wasmprinter_bytes::bytes::Cursor;
+use wasmprinter_bytes::lists::{Decode, Items};
 use wasmprinter_bytes::{Error, Malformed};
-use wasmprinter_ops::blocks::{BlockType, Catch, Catches, Targets};
+use wasmprinter_ops::blocks::{BlockType, Catch};
 use wasmprinter_ops::composite::{CompositeType, FieldType, StorageType, SubType, SubTypes};
 use wasmprinter_ops::expression::{Expression, OperatorsReader};
 use wasmprinter_ops::operands::MemArg;
 use wasmprinter_ops::operator::{Immediates, Operator};
-use wasmprinter_ops::{HeapType, RefType, ValType, ValTypes, read_type, read_types};
+use wasmprinter_ops::{HeapType, RefType, ValType, read_type, read_types};
 
 /// An expected memory operand: its exponent, its memory and its offset.
 type Operand = (u32, u32, u64);
@@ -39,34 +40,14 @@ enum Wanted {
     Bytes([u8; 16]),
 }
 
-/// Reports whether these are the catch clauses.
-fn are_catches(clauses: &Catches, wanted: &[Catch]) -> bool {
-    for (clause, catch) in clauses.iter().zip(wanted) {
-        if clause != *catch {
+/// Reports whether these are the items of a list.
+fn are_items<T: Decode + PartialEq>(items: &Items<T>, wanted: &[T]) -> bool {
+    for (item, value) in items.iter().zip(wanted) {
+        if item != *value {
             return false;
         }
     }
-    clauses.len() as usize == wanted.len()
-}
-
-/// Reports whether these are the labels of the branch table.
-fn are_labels(targets: &Targets, wanted: &[u32]) -> bool {
-    for (target, label) in targets.iter().zip(wanted) {
-        if target != *label {
-            return false;
-        }
-    }
-    targets.len() as usize == wanted.len()
-}
-
-/// Reports whether these are the value types.
-fn are_types(types: &ValTypes, wanted: &[ValType]) -> bool {
-    for (found, val_type) in types.iter().zip(wanted) {
-        if found != *val_type {
-            return false;
-        }
-    }
-    types.len() as usize == wanted.len()
+    items.len() as usize == wanted.len()
 }
 
 /// Reports whether this is the memory operand.
@@ -80,16 +61,16 @@ fn are_wanted(immediates: &Immediates, wanted: &Wanted) -> bool {
         (Immediates::None, Wanted::None) => true,
         (Immediates::Block(found), Wanted::Block(block_type)) => found == block_type,
         (Immediates::TryTable(found, clauses), Wanted::TryTable(block_type, catches)) => {
-            found == block_type && are_catches(clauses, catches)
+            found == block_type && are_items(clauses, catches)
         }
         (Immediates::Index(found), Wanted::Index(index)) => found == index,
         (Immediates::Indices(first, second), Wanted::Indices(one, other)) => {
             first == one && second == other
         }
         (Immediates::BrTable(targets, other), Wanted::BrTable(labels, label)) => {
-            other == label && are_labels(targets, labels)
+            other == label && are_items(targets, labels)
         }
-        (Immediates::Types(found), Wanted::Types(types)) => are_types(found, types),
+        (Immediates::Types(found), Wanted::Types(types)) => are_items(found, types),
         (Immediates::Heap(found), Wanted::Heap(heap)) => found == heap,
         (Immediates::Cast(flags, label, from, to), Wanted::Cast(bits, target, source, other)) => {
             flags == bits && label == target && from == source && to == other
@@ -116,9 +97,9 @@ fn is_operator(operator: &Operator, word: &str, wanted: &Wanted) -> bool {
 /// An expected operator: its place, its word and its immediates.
 type Placed = (u64, &'static str, Wanted);
 
-/// Returns the place of the first of these operators that the reader does not return in order, or `None` if it
-/// returns all.
-fn first_missing(reader: &mut OperatorsReader, wanted: &[Placed]) -> Option<u64> {
+/// Returns the place of the first of these operators that the reader does not return in order, or of the operator after
+/// them, or `None` if it returns exactly these.
+fn first_other_place(reader: &mut OperatorsReader, wanted: &[Placed]) -> Option<u64> {
     for (place, word, immediates) in wanted {
         match reader.next() {
             Some((found, operator))
@@ -126,13 +107,14 @@ fn first_missing(reader: &mut OperatorsReader, wanted: &[Placed]) -> Option<u64>
             _ => return Some(*place),
         }
     }
-    None
+    let (place, _) = reader.next()?;
+    Some(place)
 }
 
 /// An expression: the name of the row, its bytes, the first of which is at 0x1a, and its operators.
 type Walk = (&'static str, &'static [u8], &'static [Placed]);
 
-const WALKS: [Walk; 7] = [
+const WALKS: &[Walk] = &[
     (
         "operators without blocks",
         &[0x42, 0x7f, 0x21, 0x00, 0x20, 0x00, 0x41, 0x2a, 0x1a, 0x0b],
@@ -248,36 +230,28 @@ const WALKS: [Walk; 7] = [
     ),
 ];
 
-/// Checks that the bytes are exactly an expression of these operators.
-///
-/// # Errors
-///
-/// - The bytes are refused, or another byte follows the expression, or an operator differs.
-fn expect_walk(alloc: Global, (name, bytes, wanted): Walk) -> Result<(), Fail> {
+/// Returns the place at which the bytes first differ from an expression of these operators alone, or `None` if they
+/// are one.
+fn place_of_difference(alloc: Global, bytes: &[u8], wanted: &[Placed]) -> Option<u64> {
     let mut cursor = Cursor::new(0x1a, bytes);
-    let expression = match Expression::read(alloc, &mut cursor) {
-        Ok(expression) => expression,
-        Err(error) => return Err((name, error))?,
-    };
-    if !cursor.is_empty() || expression.end() != 0x19 + bytes.len() as u64 {
-        return Err((name, "ends elsewhere"))?;
+    match Expression::read(alloc, &mut cursor) {
+        Ok(expression) => {
+            if cursor.is_empty() && expression.end() == 0x19 + bytes.len() as u64 {
+                first_other_place(&mut expression.operators(), wanted)
+            } else {
+                Some(expression.end())
+            }
+        }
+        Err(_) => Some(cursor.place()),
     }
-    let mut reader = expression.operators();
-    if let Some(place) = first_missing(&mut reader, wanted) {
-        return Err((name, place))?;
-    }
-    if reader.next().is_some() {
-        return Err((name, "another operator follows"))?;
-    }
-    Ok(())
 }
 
 #[test]
-fn operators_of_expressions_are_walked(rt: HostRuntime) -> Result<(), Fail> {
-    for walk in WALKS {
-        expect_walk(rt.alloc(), walk)?;
+fn operators_of_expressions_are_walked(rt: HostRuntime) {
+    for (name, bytes, wanted) in WALKS {
+        let difference = place_of_difference(rt.alloc(), bytes, wanted);
+        assert!(rt; difference == None, "{name}, at {difference:?}");
     }
-    Ok(())
 }
 
 /// Returns the place at which the bytes are refused, or `None` if they begin with an expression.
@@ -290,7 +264,7 @@ fn place_of_refusal(alloc: Global, bytes: &[u8]) -> Option<u64> {
 
 /// Bytes that encode operators but no expression: the name of the row, the bytes, and the place of the error (section
 /// 5.4, "Control Instructions").
-const NESTINGS: [(&str, &[u8], u64); 13] = [
+const NESTINGS: &[(&str, &[u8], u64)] = &[
     ("no `end`", &[0x41, 0x00], 2),
     ("one `end` for two", &[0x02, 0x40, 0x0b], 3),
     ("`else` outside any block", &[0x05, 0x0b], 0),
@@ -334,14 +308,14 @@ const NESTINGS: [(&str, &[u8], u64); 13] = [
 fn other_nesting_is_refused(rt: HostRuntime) {
     for (name, bytes, place) in NESTINGS {
         assert!(rt;
-            place_of_refusal(rt.alloc(), bytes) == Some(place),
+            place_of_refusal(rt.alloc(), bytes) == Some(*place),
             "{name}"
         );
     }
 }
 
 /// Returns an expression of 100,000 nested blocks.
-fn nested_blocks(alloc: Global) -> Result<Vec<u8>, AllocError> {
+pub(crate) fn nested_blocks(alloc: Global) -> Result<Vec<u8>, AllocError> {
     let mut bytes = [0x02, 0x40].repeat(alloc, 100_000)?;
     bytes.extend_from_slice(&[0x0b].repeat(alloc, 100_001)?)?;
     Ok(bytes)
@@ -364,15 +338,19 @@ fn go_on_with(operators: &mut OperatorsReader, number: u32, first: u64, step: u6
     true
 }
 
+/// Reports whether the operators are 100,000 `block`s and their `end`s.
+fn are_nested_blocks(operators: &mut OperatorsReader) -> bool {
+    go_on_with(operators, 0x02, 0, 2)
+        && go_on_with(operators, 0x0b, 200_000, 1)
+        && operators.next().is_none()
+}
+
 #[test]
 fn blocks_nest_deep(rt: HostRuntime) -> Result<(), Fail> {
     let bytes = nested_blocks(rt.alloc())?;
     let expression = Expression::read(rt.alloc(), &mut Cursor::new(0, &bytes))?;
     assert!(rt; expression.end() == 300_000);
-    let mut operators = expression.operators();
-    assert!(rt; go_on_with(&mut operators, 0x02, 0, 2));
-    assert!(rt; go_on_with(&mut operators, 0x0b, 200_000, 1));
-    assert!(rt; operators.next().is_none());
+    assert!(rt; are_nested_blocks(&mut expression.operators()));
     Ok(())
 }
 
@@ -409,7 +387,7 @@ fn reference(nullable: bool, heap: HeapType) -> ValType {
 /// A value type: the name of the row, the bytes, and the type or the place of the error.
 type Typed = (&'static str, &'static [u8], Expected);
 
-const VALUE_TYPES: [Typed; 34] = [
+const VALUE_TYPES: &[Typed] = &[
     ("i32", &[0x7f], Expected::Simple(ValType::I32)),
     ("i64", &[0x7e], Expected::Simple(ValType::I64)),
     ("f32", &[0x7d], Expected::Simple(ValType::F32)),
@@ -505,25 +483,12 @@ fn second(bytes: &[u8]) -> Result<Option<ValType>, Malformed> {
     Ok(types.next())
 }
 
-/// Reports whether these bytes begin with the expected type, or are refused at the expected place.
-fn begin_with(bytes: &[u8], expected: Expected) -> bool {
-    read_type(&mut Cursor::new(0, bytes)) == expected.result()
-}
-
-/// Returns the name of the first row whose bytes begin with another type, or `None` if there is no such row.
-fn first_other(rows: &[Typed]) -> Option<&'static str> {
-    for (name, bytes, expected) in rows {
-        if !begin_with(bytes, *expected) {
-            return Some(*name);
-        }
-    }
-    None
-}
-
 #[test]
 fn value_types_are_read(rt: HostRuntime) {
-    let other = first_other(&VALUE_TYPES);
-    assert!(rt; other == None, "{other:?}");
+    for (name, bytes, expected) in VALUE_TYPES {
+        let found = read_type(&mut Cursor::new(0, bytes));
+        assert!(rt; found == expected.result(), "{name}");
+    }
     assert!(rt; second(&[0x02, 0x7f, 0x7e]) == Ok(Some(ValType::I64)));
     assert!(rt; second(&[0x01, 0x7f]) == Ok(None));
     assert!(rt; second(&[0x02, 0x7f, 0x40]) == Err(Malformed { place: 2 }));
@@ -573,7 +538,7 @@ fn fields_are_read(rt: HostRuntime) -> Result<(), Fail> {
 
 /// Groups of types: the name of the row, the bytes with the count first, and the number of types or the place of the
 /// error.
-const GROUPS: [(&str, &[u8], Result<u32, Malformed>); 7] = [
+const GROUPS: &[(&str, &[u8], Result<u32, Malformed>)] = &[
     ("an array type", &[0x01, 0x5e, 0x77, 0x01], Ok(1)),
     (
         "an unknown storage type",
@@ -610,6 +575,6 @@ const GROUPS: [(&str, &[u8], Result<u32, Malformed>); 7] = [
 #[test]
 fn groups_of_types_are_counted(rt: HostRuntime) {
     for (name, bytes, wanted) in GROUPS {
-        assert!(rt; count_of(bytes) == wanted, "{name}");
+        assert!(rt; count_of(bytes) == *wanted, "{name}");
     }
 }

@@ -3,13 +3,14 @@
 //! folding adds are text without styles.
 
 use crate::modules::Options::{Folded, Places};
-use crate::modules::Part::{Body, Bytes, Custom};
-use crate::modules::{NO_PARAMS, ONE_FUNCTION, Options, Parts, build, folding};
+use crate::modules::{Options, folding};
 use std::alloc::Global;
 use std::io::ErrorKind;
 use std::test::Fail;
 use wasmprinter::Error;
 use wasmprinter_expecting::{expect_calls, print_to};
+use wasmprinter_samples::parts::Part::{Body, Bytes, Custom};
+use wasmprinter_samples::parts::{NO_PARAMS, ONE_FUNCTION, Parts, build};
 use wasmprinter_samples::{EMPTY_CALLS, FIELDS, IDENTITY, PREAMBLE, REFUSED, Recorder};
 
 /// The calls for `IDENTITY`.
@@ -58,7 +59,7 @@ const PLACED: &str = r#"[0x0]({K}module{R}
 "#;
 
 /// The operators of that body. The index is encoded in one byte more than it needs.
-const PLACED_OPERATORS: [u8; 12] = [
+const PLACED_OPERATORS: &[u8] = &[
     0x02, 0x40, 0x0b, 0x20, 0x80, 0x00, 0x04, 0x40, 0x0c, 0x00, 0x05, 0x0b,
 ];
 
@@ -76,19 +77,19 @@ const TAKEN: &str = r#"[0x0]({K}module{R}
 /// that the recorder claims (none if it is empty), and the calls.
 type Row = (&'static str, Options, Parts, &'static str, &'static str);
 
-const ROWS: [Row; 5] = [
-    ("no sections", Folded, &[Bytes(&PREAMBLE)], "", EMPTY_CALLS),
+const ROWS: &[Row] = &[
+    ("no sections", Folded, &[Bytes(PREAMBLE)], "", EMPTY_CALLS),
     (
         "a function",
         Folded,
-        &[Bytes(&IDENTITY)],
+        &[Bytes(IDENTITY)],
         "",
         IDENTITY_FOLDED,
     ),
     (
         "initialisers and segments",
         Folded,
-        &[Bytes(&FIELDS)],
+        &[Bytes(FIELDS)],
         "",
         FIELDS_FOLDED,
     ),
@@ -96,10 +97,10 @@ const ROWS: [Row; 5] = [
         "places of a block and an `if`",
         Places,
         &[
-            Bytes(&PREAMBLE),
+            Bytes(PREAMBLE),
             NO_PARAMS,
             ONE_FUNCTION,
-            Body(&PLACED_OPERATORS),
+            Body(PLACED_OPERATORS),
         ],
         "",
         PLACED,
@@ -108,7 +109,7 @@ const ROWS: [Row; 5] = [
         "a claimed section",
         Folded,
         &[
-            Bytes(&PREAMBLE),
+            Bytes(PREAMBLE),
             NO_PARAMS,
             ONE_FUNCTION,
             Body(&[0x41, 0x00, 0x1a]),
@@ -119,20 +120,38 @@ const ROWS: [Row; 5] = [
     ),
 ];
 
-#[test]
-fn makes_each_call_in_order(rt: HostRuntime) -> Result<(), Fail> {
-    let alloc = rt.alloc();
-    for (name, options, parts, claimed, calls) in &ROWS {
-        let wasm = build(alloc, parts)?;
-        let recorder = Recorder::with_section_taken(alloc, claimed);
-        expect_calls(name, &options.config(alloc)?, alloc, &wasm, recorder, calls)?;
+/// Checks the calls for the module of a row.
+///
+/// # Errors
+///
+/// - The module is refused, or its calls differ.
+fn expect_row(alloc: Global, row: &Row) -> Result<(), Fail> {
+    let (name, options, parts, claimed, calls) = row;
+    let wasm = build(alloc, parts)?;
+    let recorder = Recorder::with_section_taken(alloc, claimed);
+    expect_calls(name, &options.config(), alloc, &wasm, recorder, calls)
+}
+
+/// Checks the calls of each row.
+///
+/// # Errors
+///
+/// - A module is refused, or its calls differ.
+fn expect_rows(alloc: Global, rows: &[Row]) -> Result<(), Fail> {
+    for row in rows {
+        expect_row(alloc, row)?;
     }
     Ok(())
 }
 
+#[test]
+fn makes_each_call_in_order(rt: HostRuntime) -> Result<(), Fail> {
+    expect_rows(rt.alloc(), ROWS)
+}
+
 /// Recorded calls up to and including a refused one. The refused calls are the first, one in the middle, the line
 /// feed before a node, and the last.
-const BEGINNINGS: [&str; 4] = [
+const BEGINNINGS: &[&str] = &[
     "[0x0](",
     r#"[0x0]({K}module{R}
 [0xb]  ({K}type {R}{N}(;0;){R} ({K}func{R} ({K}param{R} {T}i32{R}) ({K}result{R} {T}i32{R})))
@@ -150,7 +169,7 @@ const BEGINNINGS: [&str; 4] = [
 /// call differs from those of `IDENTITY_FOLDED`.
 fn stops_at(alloc: Global, call: u32) -> Option<bool> {
     let mut recorder = Recorder::with_refusal(alloc, call, ErrorKind::BrokenPipe);
-    let refused = print_to(&folding(), alloc, &IDENTITY, &mut recorder);
+    let refused = print_to(&folding(), alloc, IDENTITY, &mut recorder);
     let is_returned =
         matches!(refused, Err(Error::Printer(e)) if e.kind() == ErrorKind::BrokenPipe);
     match recorder.calls().strip_suffix(REFUSED) {
@@ -165,7 +184,7 @@ fn stops_at(alloc: Global, call: u32) -> Option<bool> {
 #[test]
 fn stops_at_the_call_that_fails_and_returns_its_error(rt: HostRuntime) -> Result<(), Fail> {
     let mut recorder = Recorder::new(rt.alloc());
-    print_to(&folding(), rt.alloc(), &IDENTITY, &mut recorder)?;
+    print_to(&folding(), rt.alloc(), IDENTITY, &mut recorder)?;
     let mut seen: usize = 0;
     for call in 1..=recorder.call_count() {
         let is_seen = stops_at(rt.alloc(), call);

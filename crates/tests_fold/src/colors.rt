@@ -2,12 +2,14 @@
 //! contains those of its immediates; the parentheses and words that folding adds have none.
 
 use crate::modules::Options::{Folded, Places};
-use crate::modules::Part::{Body, Bytes, Custom, Section};
 use crate::modules::Text::{self, Whole};
-use crate::modules::{HINTS, NO_PARAMS, ONE_FUNCTION, Row, build, colored_text};
-use std::test::Fail;
+use crate::modules::{Row, colored_text};
+use std::alloc::Global;
+use wasmprinter::Error;
 use wasmprinter_samples::PREAMBLE;
-use wasmprinter_samples::sections::{DATA, GLOBAL};
+use wasmprinter_samples::parts::Part::{Body, Bytes, Custom, Section};
+use wasmprinter_samples::parts::{NO_PARAMS, ONE_FUNCTION, build};
+use wasmprinter_samples::sections::{DATA, GLOBAL, HINTS};
 
 /// The lines before the body of a function without parameters and results.
 const HEADER: &str = "(\x1b[0m\x1b[1m\x1b[38;5;11mmodule\x1b[0m
@@ -47,12 +49,12 @@ const PLACED: &str = "(\x1b[0m\x1b[1m\x1b[38;5;11mmodule\x1b[0m
 ";
 
 /// Modules, each with its text with ANSI escape sequences.
-const ROWS: [Row; 11] = [
+const ROWS: &[Row] = &[
     (
         "a number",
         Folded,
         &[
-            Bytes(&PREAMBLE),
+            Bytes(PREAMBLE),
             NO_PARAMS,
             ONE_FUNCTION,
             Body(&[0x41, 0x01, 0x1a]),
@@ -66,7 +68,7 @@ const ROWS: [Row; 11] = [
         "the comment of a label, which has a style",
         Folded,
         &[
-            Bytes(&PREAMBLE),
+            Bytes(PREAMBLE),
             NO_PARAMS,
             ONE_FUNCTION,
             Body(&[0x02, 0x40, 0x0b]),
@@ -80,7 +82,7 @@ const ROWS: [Row; 11] = [
         "the words of the arms, which have no style",
         Folded,
         &[
-            Bytes(&PREAMBLE),
+            Bytes(PREAMBLE),
             NO_PARAMS,
             ONE_FUNCTION,
             Body(&[0x04, 0x40, 0x05, 0x0b]),
@@ -94,7 +96,7 @@ const ROWS: [Row; 11] = [
         "indices",
         Folded,
         &[
-            Bytes(&PREAMBLE),
+            Bytes(PREAMBLE),
             NO_PARAMS,
             ONE_FUNCTION,
             Body(&[0x20, 0x00, 0x24, 0x07]),
@@ -108,7 +110,7 @@ const ROWS: [Row; 11] = [
         "a result, a label and its comment",
         Folded,
         &[
-            Bytes(&PREAMBLE),
+            Bytes(PREAMBLE),
             NO_PARAMS,
             ONE_FUNCTION,
             Body(&[0x02, 0x7f, 0x41, 0x00, 0x0c, 0x00, 0x0b, 0x1a]),
@@ -127,7 +129,7 @@ const ROWS: [Row; 11] = [
         "a type",
         Folded,
         &[
-            Bytes(&PREAMBLE),
+            Bytes(PREAMBLE),
             NO_PARAMS,
             ONE_FUNCTION,
             Body(&[0xd0, 0x70, 0xd1]),
@@ -141,7 +143,7 @@ const ROWS: [Row; 11] = [
         "a number with a comment",
         Folded,
         &[
-            Bytes(&PREAMBLE),
+            Bytes(PREAMBLE),
             NO_PARAMS,
             ONE_FUNCTION,
             Body(&[0x43, 0x00, 0x00, 0x80, 0xff, 0x8c]),
@@ -155,7 +157,7 @@ const ROWS: [Row; 11] = [
         "a label that does not exist, which has no style",
         Folded,
         &[
-            Bytes(&PREAMBLE),
+            Bytes(PREAMBLE),
             NO_PARAMS,
             ONE_FUNCTION,
             Body(&[0x0c, 0x01]),
@@ -166,7 +168,7 @@ const ROWS: [Row; 11] = [
         "a hint for the first operator of a function",
         Folded,
         &[
-            Bytes(&PREAMBLE),
+            Bytes(PREAMBLE),
             NO_PARAMS,
             ONE_FUNCTION,
             Custom(HINTS, &[0x01, 0x00, 0x01, 0x01, 0x01, 0x01]),
@@ -178,7 +180,7 @@ const ROWS: [Row; 11] = [
         "a global with a block, and segments with offsets of one operator and of two",
         Folded,
         &[
-            Bytes(&PREAMBLE),
+            Bytes(PREAMBLE),
             Section(
                 GLOBAL,
                 &[0x01, 0x7f, 0x00, 0x02, 0x7f, 0x41, 0x01, 0x0b, 0x0b],
@@ -196,7 +198,7 @@ const ROWS: [Row; 11] = [
         "places",
         Places,
         &[
-            Bytes(&PREAMBLE),
+            Bytes(PREAMBLE),
             NO_PARAMS,
             ONE_FUNCTION,
             Body(&[0x41, 0x01, 0x1a]),
@@ -205,13 +207,26 @@ const ROWS: [Row; 11] = [
     ),
 ];
 
-#[test]
-fn colors_nodes_hints_expressions_and_places(rt: HostRuntime) -> Result<(), Fail> {
-    let alloc = rt.alloc();
-    for (name, options, parts, typed) in &ROWS {
-        let wasm = build(alloc, parts)?;
-        let text = colored_text(&options.config(alloc)?, alloc, &wasm)?;
-        assert!(rt; text.as_slice() == typed.whole(alloc)?.as_bytes(), "{name}");
+/// Reports whether the module of a row has its text, with ANSI escape sequences.
+fn is_colored(alloc: Global, row: &Row) -> Result<bool, Error> {
+    let (_, options, parts, typed) = row;
+    let wasm = build(alloc, parts)?;
+    let text = colored_text(&options.config(), alloc, &wasm)?;
+    Ok(text.as_slice() == typed.whole(alloc)?.as_bytes())
+}
+
+/// Returns the name of the first row that is refused or has another text, or `None` if there is no such row.
+fn first_other(alloc: Global, rows: &[Row]) -> Option<&'static str> {
+    for row in rows {
+        if !matches!(is_colored(alloc, row), Ok(true)) {
+            return Some(row.0);
+        }
     }
-    Ok(())
+    None
+}
+
+#[test]
+fn colors_nodes_hints_expressions_and_places(rt: HostRuntime) {
+    let other = first_other(rt.alloc(), ROWS);
+    assert!(rt; other == None, "{other:?}");
 }

@@ -2,82 +2,18 @@
 //! bodies.
 
 use crate::modules::Options::{self, Default, Folded};
-use crate::modules::Part::{Bytes, Copies};
-use crate::modules::{Parts, build};
-use std::alloc::{AllocError, Global};
+use std::alloc::Global;
 use std::test::Fail;
 use wasmprinter_expecting::expect_printed_by;
 use wasmprinter_samples::PREAMBLE;
+use wasmprinter_samples::parts::Part::{Bytes, Copies};
+use wasmprinter_samples::parts::TextPart::{
+    self, Levels, Line, Numbered, NumberedLevels, Text, TextCopies,
+};
+use wasmprinter_samples::parts::{Parts, build, text_of_parts};
 
 /// The number of operators of one kind in a body.
 const MANY: u32 = 100_000;
-
-/// The most levels by which a line is indented.
-const MOST_LEVELS: u32 = 50;
-
-/// The nesting depth of a body's outermost nodes.
-const BODY_DEPTH: u32 = 2;
-
-/// A part of a text. A level is the depth of a line below a body's outermost nodes.
-enum TextPart {
-    /// This text
-    Text(&'static str),
-    /// That many copies of this text
-    TextCopies(u32, &'static str),
-    /// A line feed and the indent at this level
-    Line(u32),
-    /// For each level less than this: a line of this text
-    Levels(u32, &'static str),
-    /// For each level less than this: a line of this text and the number of the level, counted from 1
-    NumberedLevels(u32, &'static str),
-    /// For each number less than this: the first text, the number, and the second text
-    Numbered(u32, &'static str, &'static str),
-}
-
-use TextPart::{Levels, Line, Numbered, NumberedLevels, Text, TextCopies};
-
-/// Appends a line feed, and the indent at this level.
-fn start_line(text: &mut String, level: u32) -> Result<(), AllocError> {
-    text.push('\n')?;
-    for _ in 0..level.saturating_add(BODY_DEPTH).min(MOST_LEVELS) {
-        text.push_str("  ")?;
-    }
-    Ok(())
-}
-
-/// Returns a text of these parts.
-fn text_of_parts(alloc: Global, parts: &[TextPart]) -> Result<String, AllocError> {
-    let mut text = String::new(alloc);
-    for part in parts {
-        match part {
-            Text(once) => text.push_str(once)?,
-            TextCopies(count, copied) => {
-                for _ in 0..*count {
-                    text.push_str(copied)?;
-                }
-            }
-            Line(level) => start_line(&mut text, *level)?,
-            Levels(count, line) => {
-                for level in 0..*count {
-                    start_line(&mut text, level)?;
-                    text.push_str(line)?;
-                }
-            }
-            NumberedLevels(count, line) => {
-                for level in 0..*count {
-                    start_line(&mut text, level)?;
-                    write!(text, "{line}{}", level.saturating_add(1))?;
-                }
-            }
-            Numbered(count, before, after) => {
-                for number in 0..*count {
-                    write!(text, "{before}{number}{after}")?;
-                }
-            }
-        }
-    }
-    Ok(text)
-}
 
 /// The text of a module with a function without parameters and results, up to its body.
 const UP_TO_BODY: &str = "(module\n  (type (;0;) (func))\n  (func (;0;) (type 0)";
@@ -86,7 +22,7 @@ const UP_TO_BODY: &str = "(module\n  (type (;0;) (func))\n  (func (;0;) (type 0)
 const AFTER_BODY: &str = "\n  )\n)\n";
 
 /// A module with a function without parameters and results, up to its code section.
-const WITHOUT_CODE: [u8; 18] = [
+const WITHOUT_CODE: &[u8] = &[
     0x00, 0x61, 0x73, 0x6d, 0x01, 0x00, 0x00, 0x00, // preamble
     0x01, 0x04, 0x01, 0x60, 0x00, 0x00, // types
     0x03, 0x02, 0x01, 0x00, // functions
@@ -94,7 +30,7 @@ const WITHOUT_CODE: [u8; 18] = [
 
 /// The start of a code section of 100,008 bytes with a body of 100,004 bytes, up to its first operator, a
 /// constant.
-const CONSTANT: [u8; 11] = [
+const CONSTANT: &[u8] = &[
     0x0a, 0xa8, 0x8d, 0x06, 0x01, 0xa4, 0x8d, 0x06, 0x00, 0x41, 0x00,
 ];
 
@@ -110,17 +46,17 @@ fn expect_large(alloc: Global, rows: &[Row]) -> Result<(), Fail> {
     for (name, options, parts, typed) in rows {
         let wasm = build(alloc, parts)?;
         let text = text_of_parts(alloc, typed)?;
-        expect_printed_by(name, &options.config(alloc)?, alloc, &wasm, text.as_str())?;
+        expect_printed_by(name, &options.config(), alloc, &wasm, text.as_str())?;
     }
     Ok(())
 }
 
-const CHAIN: [Row; 1] = [(
+const CHAIN: &[Row] = &[(
     "a constant, and operators, each of which takes the result of the one before it",
     Folded,
     &[
-        Bytes(&WITHOUT_CODE),
-        Bytes(&CONSTANT),
+        Bytes(WITHOUT_CODE),
+        Bytes(CONSTANT),
         Copies(MANY, &[0x45]),
         Bytes(&[0x0b]),
     ],
@@ -136,15 +72,15 @@ const CHAIN: [Row; 1] = [(
 
 #[test]
 fn folds_a_long_chain(rt: HostRuntime) -> Result<(), Fail> {
-    expect_large(rt.alloc(), &CHAIN)
+    expect_large(rt.alloc(), CHAIN)
 }
 
 /// The parentheses close on a new line, because the line comment of the innermost label would contain them.
-const NESTED: [Row; 1] = [(
+const NESTED: &[Row] = &[(
     "nested blocks",
     Folded,
     &[
-        Bytes(&WITHOUT_CODE),
+        Bytes(WITHOUT_CODE),
         // A code section of 300,006 bytes with a body of 300,002 bytes
         Bytes(&[0x0a, 0xe6, 0xa7, 0x12, 0x01, 0xe2, 0xa7, 0x12, 0x00]),
         Copies(MANY, &[0x02, 0x40]),
@@ -162,15 +98,15 @@ const NESTED: [Row; 1] = [(
 
 #[test]
 fn folds_deep_nesting(rt: HostRuntime) -> Result<(), Fail> {
-    expect_large(rt.alloc(), &NESTED)
+    expect_large(rt.alloc(), NESTED)
 }
 
-const SIBLINGS: [Row; 1] = [(
+const SIBLINGS: &[Row] = &[(
     "a constant, operators without operands and results, and an operator that takes the constant",
     Folded,
     &[
-        Bytes(&WITHOUT_CODE),
-        Bytes(&CONSTANT),
+        Bytes(WITHOUT_CODE),
+        Bytes(CONSTANT),
         Copies(MANY - 1, &[0x01]),
         Bytes(&[0x1a, 0x0b]),
     ],
@@ -185,29 +121,29 @@ const SIBLINGS: [Row; 1] = [(
 
 #[test]
 fn folds_many_siblings(rt: HostRuntime) -> Result<(), Fail> {
-    expect_large(rt.alloc(), &SIBLINGS)
+    expect_large(rt.alloc(), SIBLINGS)
 }
 
 /// The number of bodies of a module. The next constant is this number, encoded in LEB128.
 const BODIES: u32 = 20_000;
 
-const BODIES_SPELLED: [u8; 3] = [0xa0, 0x9c, 0x01];
+const BODIES_SPELLED: &[u8] = &[0xa0, 0x9c, 0x01];
 
 /// The size of a body and its bytes: an `if` with both arms, with a constant before it and one in each arm.
-const BODY: [u8; 13] = [
+const BODY: &[u8] = &[
     0x0c, 0x00, 0x41, 0x00, 0x04, 0x40, 0x41, 0x00, 0x05, 0x41, 0x00, 0x0b, 0x0b,
 ];
 
 /// A module of `BODIES` functions.
 const MANY_BODIES: Parts = &[
-    Bytes(&PREAMBLE),
+    Bytes(PREAMBLE),
     Bytes(&[0x01, 0x04, 0x01, 0x60, 0x00, 0x00]),
     Bytes(&[0x03, 0xa3, 0x9c, 0x01]), // a function section of 20,003 bytes
-    Bytes(&BODIES_SPELLED),
+    Bytes(BODIES_SPELLED),
     Copies(BODIES, &[0x00]),
     Bytes(&[0x0a, 0xa3, 0xef, 0x0f]), // a code section of 260,003 bytes
-    Bytes(&BODIES_SPELLED),
-    Copies(BODIES, &BODY),
+    Bytes(BODIES_SPELLED),
+    Copies(BODIES, BODY),
 ];
 
 /// The text of each body after its number, folded.
@@ -232,7 +168,7 @@ const BODY_FLAT: &str = r#";) (type 0)
   )
 "#;
 
-const MANY_BODIES_ROWS: [Row; 2] = [
+const MANY_BODIES_ROWS: &[Row] = &[
     (
         "many bodies, folded",
         Folded,
@@ -257,5 +193,5 @@ const MANY_BODIES_ROWS: [Row; 2] = [
 
 #[test]
 fn prints_many_bodies(rt: HostRuntime) -> Result<(), Fail> {
-    expect_large(rt.alloc(), &MANY_BODIES_ROWS)
+    expect_large(rt.alloc(), MANY_BODIES_ROWS)
 }

@@ -124,13 +124,16 @@ fn decoding_refusal(alloc: Global, wasm: &[u8]) -> Result<Option<Refusal>, Error
 /// The contents of a storage before lines are appended to it.
 const OLD_TEXT: &str = "old\n";
 
+/// Appends the lines of a module to a storage, and returns the joined lines.
+fn append_lines(alloc: Global, wasm: &[u8], storage: &mut String) -> Result<String, Error> {
+    let lines = Config::new().offsets_and_lines(alloc, wasm, storage)?;
+    Ok(join(alloc, lines)?)
+}
+
 /// Appends the lines of a module to a storage with an old text, and returns the joined lines.
 fn lines_outcome(alloc: Global, wasm: &[u8]) -> Result<Outcome, Disagreement> {
     let mut storage = String::from_str(alloc, OLD_TEXT)?;
-    let outcome = match Config::new().offsets_and_lines(alloc, wasm, &mut storage) {
-        Ok(lines) => Outcome::Text(join(alloc, lines)?),
-        Err(error) => Outcome::Refused(Refusal::of(error)?),
-    };
+    let outcome = Outcome::of(append_lines(alloc, wasm, &mut storage))?;
     let Some(appended) = storage.strip_prefix(OLD_TEXT) else {
         return Err(Disagreement::OldTextLost);
     };

@@ -12,11 +12,26 @@ use wasmprinter_rows::{
 };
 use wasmprinter_samples::PREAMBLE;
 
+/// Returns all modules of the worked examples.
+fn all_modules() -> &'static [&'static [u8]] {
+    MODULES
+}
+
 /// The number of damaged modules that were tried, and the number of those that were printed.
 #[derive(Clone, Copy)]
 struct Tally {
     tried: usize,
     printed: usize,
+}
+
+impl Tally {
+    /// Counts a module that was tried.
+    fn add(&mut self, is_printed: bool) {
+        self.tried = self.tried.saturating_add(1);
+        if is_printed {
+            self.printed = self.printed.saturating_add(1);
+        }
+    }
 }
 
 /// A damaged module on which the calls disagree.
@@ -40,21 +55,16 @@ fn check(alloc: Global, wasm: &[u8], damage: Damage, at: usize) -> Result<bool, 
     Ok(answers.is_printed())
 }
 
-/// Damages each module at each of its bytes in turn, and checks that the calls agree.
-fn check_all(alloc: Global, damage: Damage) -> Result<Tally, Counterexample> {
+/// Damages these modules at each of their bytes in turn, and checks that the calls agree.
+fn check_all(alloc: Global, modules: &[&[u8]], damage: Damage) -> Result<Tally, Counterexample> {
     let mut tally = Tally {
         tried: 0,
         printed: 0,
     };
-    for (module, wasm) in MODULES.iter().enumerate() {
+    for (module, wasm) in modules.iter().enumerate() {
         for at in 0..wasm.len() {
             match check(alloc, wasm, damage, at) {
-                Ok(is_printed) => {
-                    tally.tried = tally.tried.saturating_add(1);
-                    if is_printed {
-                        tally.printed = tally.printed.saturating_add(1);
-                    }
-                }
+                Ok(is_printed) => tally.add(is_printed),
                 Err(disagreement) => {
                     return Err(Counterexample {
                         module,
@@ -69,10 +79,10 @@ fn check_all(alloc: Global, damage: Damage) -> Result<Tally, Counterexample> {
     Ok(tally)
 }
 
-/// Returns the number of bytes of all modules. Each byte is damaged once in each way.
-fn byte_count() -> usize {
+/// Returns the number of bytes of these modules. Each byte is damaged once in each way.
+fn byte_count(modules: &[&[u8]]) -> usize {
     let mut count: usize = 0;
-    for wasm in MODULES {
+    for wasm in modules {
         count = count.saturating_add(wasm.len());
     }
     count
@@ -80,10 +90,10 @@ fn byte_count() -> usize {
 
 /// Returns the number of modules that consist of the preamble and more bytes. Truncated after the preamble, each is
 /// printed as a module without fields.
-fn longer_count() -> usize {
+fn longer_count(modules: &[&[u8]]) -> usize {
     let mut count: usize = 0;
-    for wasm in MODULES {
-        if wasm.len() > PREAMBLE.len() && wasm.starts_with(&PREAMBLE) {
+    for wasm in modules {
+        if wasm.len() > PREAMBLE.len() && wasm.starts_with(PREAMBLE) {
             count = count.saturating_add(1);
         }
     }
@@ -91,7 +101,6 @@ fn longer_count() -> usize {
 }
 
 /// A module that is printed although one of its bytes is damaged.
-#[derive(Clone, Copy)]
 struct Survivor {
     /// The part of the module that the damaged byte encodes.
     name: &'static str,
@@ -258,10 +267,10 @@ const SURVIVORS: &[Survivor] = &[
     },
 ];
 
-/// Returns the number of survivors that are damaged in this way.
-fn survivor_count(damage: Damage) -> usize {
+/// Returns the number of these survivors that are damaged in this way.
+fn survivor_count(survivors: &[Survivor], damage: Damage) -> usize {
     let mut count: usize = 0;
-    for survivor in SURVIVORS {
+    for survivor in survivors {
         if survivor.damage == damage {
             count = count.saturating_add(1);
         }
@@ -272,18 +281,24 @@ fn survivor_count(damage: Damage) -> usize {
 /// Returns a lower bound of the number of modules that are printed after this damage of each byte.
 fn least_printed(damage: Damage) -> usize {
     match damage {
-        Damage::Cut => longer_count(),
-        Damage::PlusOne | Damage::Complement => survivor_count(damage),
+        Damage::Cut => longer_count(all_modules()),
+        Damage::PlusOne | Damage::Complement => survivor_count(SURVIVORS, damage),
     }
 }
 
-/// Checks the text of a survivor, and that its module is in `MODULES`.
-fn check_survivor(alloc: Global, survivor: &Survivor) -> Result<(), Fail> {
-    let wasm = survivor.wasm;
-    let damaged = survivor.damage.apply(alloc, wasm, survivor.at)?;
-    expect_printed(survivor.name, alloc, &damaged, survivor.text)?;
-    if !MODULES.contains(&wasm) {
-        return Err((survivor.name, "the module is not listed"))?;
+/// Checks the text of a survivor.
+fn check_text(alloc: Global, survivor: &Survivor) -> Result<(), Fail> {
+    let damaged = survivor.damage.apply(alloc, survivor.wasm, survivor.at)?;
+    expect_printed(survivor.name, alloc, &damaged, survivor.text)
+}
+
+/// Checks the texts of these survivors, and that their modules are among these.
+fn check_survivors(alloc: Global, survivors: &[Survivor], modules: &[&[u8]]) -> Result<(), Fail> {
+    for survivor in survivors {
+        check_text(alloc, survivor)?;
+        if !modules.contains(&survivor.wasm) {
+            return Err((survivor.name, "the module is not listed"))?;
+        }
     }
     Ok(())
 }
@@ -291,18 +306,25 @@ fn check_survivor(alloc: Global, survivor: &Survivor) -> Result<(), Fail> {
 #[test]
 fn prints_survivors(rt: HostRuntime) -> Result<(), Fail> {
     assert_eq!(rt; SURVIVORS.len(), SURVIVOR_COUNT);
-    for survivor in SURVIVORS {
-        check_survivor(rt.alloc(), survivor)?;
+    check_survivors(rt.alloc(), SURVIVORS, all_modules())
+}
+
+/// Checks that the calls agree on all modules with this damage of each byte, that each byte is damaged, and that
+/// enough of the damaged modules are printed.
+fn check_damage(alloc: Global, damage: Damage) -> Result<(), Fail> {
+    let tally = check_all(alloc, all_modules(), damage)?;
+    if tally.tried != byte_count(all_modules()) {
+        return Err(("another number of modules", (damage, tally.tried)))?;
+    }
+    if tally.printed < least_printed(damage) {
+        return Err(("too few modules are printed", (damage, tally.printed)))?;
     }
     Ok(())
 }
 
 #[test]
 fn agrees_on_modules_with_a_damaged_byte(rt: HostRuntime) -> Result<(), Fail> {
-    for damage in [Damage::Cut, Damage::PlusOne, Damage::Complement] {
-        let tally = check_all(rt.alloc(), damage)?;
-        assert_eq!(rt; tally.tried, byte_count(), "{damage:?}");
-        assert!(rt; tally.printed >= least_printed(damage), "{damage:?}");
-    }
-    Ok(())
+    check_damage(rt.alloc(), Damage::Cut)?;
+    check_damage(rt.alloc(), Damage::PlusOne)?;
+    check_damage(rt.alloc(), Damage::Complement)
 }

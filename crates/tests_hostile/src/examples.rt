@@ -36,7 +36,6 @@ impl Ending {
 }
 
 /// A module, with the calls and the result of printing it.
-#[derive(Clone, Copy)]
 pub struct Example {
     pub name: &'static str,
     pub wasm: &'static [u8],

@@ -82,25 +82,39 @@ impl Run<'_> {
         Ok(calls.ends_with(CLAIM_END))
     }
 
-    /// Checks that printing ends at each call that fails, each claim among them, and that it is complete if only a
-    /// call after the last one would fail.
-    fn check_each_call(&self, kind: ErrorKind) -> Result<(), Fail> {
-        let last = self.check_whole(Recorder::new(self.alloc))?;
+    /// Checks that printing ends at each call up to this last one if that call fails. Returns the number of calls that
+    /// ask for a claim.
+    fn check_calls(&self, last: u32, kind: ErrorKind) -> Result<usize, Fail> {
         let mut claims: usize = 0;
         for call in 1..=last {
             if self.check_until(call, kind)? {
                 claims = claims.saturating_add(1);
             }
         }
-        let wanted = self.example.calls(self.layout);
-        if claims != wanted.matches(CLAIM_START).count() {
-            return Err(self.fail_at(0, "another number of claims that fail"));
-        }
+        Ok(claims)
+    }
+
+    /// Checks that all calls precede the last one if that call fails, and that printing is complete if only a call
+    /// after the last one would fail.
+    fn check_last(&self, last: u32, kind: ErrorKind) -> Result<(), Fail> {
         let whole = self.calls_until(last, kind)?;
+        let wanted = self.example.calls(self.layout);
         expect_same(self.example.name, whole.as_str(), wanted)?;
         let after_last = last.saturating_add(1);
         self.check_whole(Recorder::with_refusal(self.alloc, after_last, kind))?;
         Ok(())
+    }
+
+    /// Checks that printing ends at each call that fails, each claim among them, and that it is complete if only a
+    /// call after the last one would fail.
+    fn check_each_call(&self, kind: ErrorKind) -> Result<(), Fail> {
+        let last = self.check_whole(Recorder::new(self.alloc))?;
+        let claims = self.check_calls(last, kind)?;
+        let wanted = self.example.calls(self.layout);
+        if claims != wanted.matches(CLAIM_START).count() {
+            return Err(self.fail_at(0, "another number of claims that fail"));
+        }
+        self.check_last(last, kind)
     }
 
     fn fail_at(&self, call: u32, reason: &'static str) -> Fail {
@@ -113,19 +127,35 @@ impl Run<'_> {
     }
 }
 
-#[test]
-fn stops_at_the_call_that_fails_and_returns_its_error(rt: HostRuntime) -> Result<(), Fail> {
-    for example in EXAMPLES {
-        for layout in LAYOUTS {
-            let run = Run {
-                alloc: rt.alloc(),
-                example,
-                layout,
-            };
-            for kind in KINDS {
-                run.check_each_call(kind)?;
-            }
+/// Checks these examples in a layout, with calls that fail with an error of this kind.
+fn check_examples(
+    alloc: Global,
+    examples: &[Example],
+    layout: Layout,
+    kind: ErrorKind,
+) -> Result<(), Fail> {
+    for example in examples {
+        let run = Run {
+            alloc,
+            example,
+            layout,
+        };
+        run.check_each_call(kind)?;
+    }
+    Ok(())
+}
+
+/// Checks each example in these layouts, with calls that fail with errors of these kinds.
+fn check_all(alloc: Global, layouts: &[Layout], kinds: &[ErrorKind]) -> Result<(), Fail> {
+    for layout in layouts {
+        for kind in kinds {
+            check_examples(alloc, EXAMPLES, *layout, *kind)?;
         }
     }
     Ok(())
+}
+
+#[test]
+fn stops_at_the_call_that_fails_and_returns_its_error(rt: HostRuntime) -> Result<(), Fail> {
+    check_all(rt.alloc(), LAYOUTS, KINDS)
 }

@@ -20,11 +20,15 @@ const UNREADABLE: &[(&str, &str)] = &[
     ("a link to itself", "loop.wasm"),
 ];
 
+/// Returns the text of a file. It has no contract, so that proofs of its callers need no facts about printing.
+fn text_of_file(rt: &HostRuntime, path: &str) -> Result<String, Error> {
+    print_file(rt, rt.alloc(), Path::new(path))
+}
+
 /// Returns the name of the first of these paths that is not refused as unreadable, or `None` if all are.
-fn first_readable(rt: &HostRuntime) -> Option<&'static str> {
-    for (name, path) in UNREADABLE {
-        let printed = print_file(rt, rt.alloc(), Path::new(*path));
-        if !matches!(printed, Err(Error::Unreadable)) {
+fn first_readable(rt: &HostRuntime, paths: &[(&'static str, &str)]) -> Option<&'static str> {
+    for (name, path) in paths {
+        if !matches!(text_of_file(rt, *path), Err(Error::Unreadable)) {
             return Some(*name);
         }
     }
@@ -36,7 +40,7 @@ fn refuses_paths_that_can_not_be_read(rt: HostRuntime) -> Result<(), Fail> {
     fs::create_dir(&rt, "directory.wasm")?;
     fs::write(&rt, "file.wasm", IDENTITY)?;
     symlink(&rt, "loop.wasm", "loop.wasm")?;
-    let readable = first_readable(&rt);
+    let readable = first_readable(&rt, UNREADABLE);
     fs::remove_file(&rt, "loop.wasm")?;
     fs::remove_file(&rt, "file.wasm")?;
     fs::remove_dir(&rt, "directory.wasm")?;
@@ -50,7 +54,7 @@ fn refuses_a_file_that_this_user_may_not_read(rt: HostRuntime) -> Result<(), Fai
     fs::write(&rt, "locked.wasm", IDENTITY)?;
     fs::set_permissions(&rt, "locked.wasm", Permissions::from_mode(0))?;
     let may_read = fs::read(&rt, "locked.wasm").is_ok();
-    let printed = print_file(&rt, rt.alloc(), Path::new("locked.wasm"));
+    let printed = text_of_file(&rt, "locked.wasm");
     fs::remove_file(&rt, "locked.wasm")?;
     match printed {
         Ok(text) => {

@@ -10,11 +10,11 @@ pub enum Layout {
     Folded,
 }
 
-pub const LAYOUTS: [Layout; 2] = [Layout::Flat, Layout::Folded];
+pub const LAYOUTS: &[Layout] = &[Layout::Flat, Layout::Folded];
 
 /// The kinds of errors with which printers and writers fail. A writer is not called again after an error of either
 /// kind.
-pub const KINDS: [ErrorKind; 2] = [ErrorKind::BrokenPipe, ErrorKind::StorageFull];
+pub const KINDS: &[ErrorKind] = &[ErrorKind::BrokenPipe, ErrorKind::StorageFull];
 
 impl Layout {
     /// Returns the default options with this layout.

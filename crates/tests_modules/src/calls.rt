@@ -1,12 +1,12 @@
 //! Tests of the calls on a printer: their order, and the error that is returned if one of them fails.
 
-use crate::rows::Part::{Bytes, Section};
 use crate::rows::{CallsRow, expect_calls_of};
 use std::alloc::Global;
 use std::io::ErrorKind;
 use std::test::Fail;
 use wasmprinter::{Config, Error};
 use wasmprinter_expecting::{expect_calls, print_to};
+use wasmprinter_samples::parts::Part::{Bytes, Section};
 use wasmprinter_samples::sections::TYPE;
 use wasmprinter_samples::{
     CONTROL, CONTROL_CALLS, EMPTY_CALLS, EVERYTHING, EVERYTHING_CALLS, FIELDS, FIELDS_CALLS,
@@ -15,7 +15,7 @@ use wasmprinter_samples::{
 };
 
 /// Two types in one group.
-const GROUP: [u8; 10] = [0x01, 0x4e, 0x02, 0x5f, 0x01, 0x78, 0x01, 0x60, 0x00, 0x00];
+const GROUP: &[u8] = &[0x01, 0x4e, 0x02, 0x5f, 0x01, 0x78, 0x01, 0x60, 0x00, 0x00];
 
 /// The calls that print a module with that group. Both types have the place after the first two bytes of the group.
 const GROUP_CALLS: &str = r#"[0x0]({K}module{R}
@@ -27,32 +27,32 @@ const GROUP_CALLS: &str = r#"[0x0]({K}module{R}
 "#;
 
 /// Modules, each with the calls that print it.
-const MODULES: [CallsRow; 8] = [
-    ("no sections", &[Bytes(&PREAMBLE)], "", EMPTY_CALLS),
-    ("a function", &[Bytes(&IDENTITY)], "", IDENTITY_CALLS),
+const MODULES: &[CallsRow] = &[
+    ("no sections", &[Bytes(PREAMBLE)], "", EMPTY_CALLS),
+    ("a function", &[Bytes(IDENTITY)], "", IDENTITY_CALLS),
     (
         "two functions, and two exports",
-        &[Bytes(&EVERYTHING)],
+        &[Bytes(EVERYTHING)],
         "",
         EVERYTHING_CALLS,
     ),
     (
         "memories, a tag, and exports of each kind",
-        &[Bytes(&KINDS)],
+        &[Bytes(KINDS)],
         "",
         KINDS_CALLS,
     ),
-    ("blocks", &[Bytes(&CONTROL)], "", CONTROL_CALLS),
+    ("blocks", &[Bytes(CONTROL)], "", CONTROL_CALLS),
     (
         "imports, tables and segments",
-        &[Bytes(&FIELDS)],
+        &[Bytes(FIELDS)],
         "",
         FIELDS_CALLS,
     ),
-    ("names", &[Bytes(&NAMED)], "", NAMED_CALLS),
+    ("names", &[Bytes(NAMED)], "", NAMED_CALLS),
     (
         "a group of types",
-        &[Bytes(&PREAMBLE), Section(TYPE, &GROUP)],
+        &[Bytes(PREAMBLE), Section(TYPE, GROUP)],
         "",
         GROUP_CALLS,
     ),
@@ -60,7 +60,7 @@ const MODULES: [CallsRow; 8] = [
 
 #[test]
 fn makes_each_call_in_order(rt: HostRuntime) -> Result<(), Fail> {
-    expect_calls_of(rt.alloc(), &MODULES)
+    expect_calls_of(rt.alloc(), MODULES)
 }
 
 #[test]
@@ -79,7 +79,7 @@ fn makes_the_calls_of_synthesized_identifiers(rt: HostRuntime) -> Result<(), Fai
 
 /// Recorded calls up to and including a refused one. The refused calls are the first, a style, a line feed, one in
 /// the middle, and the last.
-const BEGINNINGS: [&str; 5] = [
+const BEGINNINGS: &[&str] = &[
     "[0x0](",
     "[0x0]({K}",
     "[0x0]({K}module{R}\n",
@@ -94,7 +94,7 @@ const BEGINNINGS: [&str; 5] = [
 /// call differs from those of `IDENTITY`.
 fn stops_at(alloc: Global, call: u32) -> Option<bool> {
     let mut recorder = Recorder::with_refusal(alloc, call, ErrorKind::BrokenPipe);
-    let refused = print_to(&Config::new(), alloc, &IDENTITY, &mut recorder);
+    let refused = print_to(&Config::new(), alloc, IDENTITY, &mut recorder);
     let is_returned =
         matches!(refused, Err(Error::Printer(e)) if e.kind() == ErrorKind::BrokenPipe);
     match recorder.calls().strip_suffix(REFUSED) {
@@ -109,7 +109,7 @@ fn stops_at(alloc: Global, call: u32) -> Option<bool> {
 #[test]
 fn stops_at_the_call_that_fails_and_returns_its_error(rt: HostRuntime) -> Result<(), Fail> {
     let mut recorder = Recorder::new(rt.alloc());
-    print_to(&Config::new(), rt.alloc(), &IDENTITY, &mut recorder)?;
+    print_to(&Config::new(), rt.alloc(), IDENTITY, &mut recorder)?;
     let mut seen: usize = 0;
     for call in 1..=recorder.call_count() {
         let is_seen = stops_at(rt.alloc(), call);
@@ -132,7 +132,7 @@ fn returns_each_kind_of_error_unchanged(rt: HostRuntime) {
         ErrorKind::Other,
     ] {
         let mut recorder = Recorder::with_refusal(rt.alloc(), 3, kind);
-        let refused = print_to(&Config::default(), rt.alloc(), &PREAMBLE, &mut recorder);
+        let refused = print_to(&Config::default(), rt.alloc(), PREAMBLE, &mut recorder);
         assert!(rt; matches!(refused, Err(Error::Printer(e)) if e.kind() == kind));
     }
 }

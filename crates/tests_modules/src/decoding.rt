@@ -1,13 +1,15 @@
 //! Tests of decoded modules: functions, bodies, operators, locals, types and exports.
 
 use crate::limits::{MODULE_OF_MOST_FUNCTIONS, MOST_FUNCTIONS};
-use crate::rows::Part::Bytes;
-use crate::rows::{Parts, build};
+use std::alloc::{AllocError, Global};
 use std::test::Fail;
+use wasmprinter::Error;
 use wasmprinter::wasm::{
     BlockType, Body, Catch, Immediates, Module, Opcode, Operator, OperatorsReader, ValType, decode,
 };
 use wasmprinter_ops::opcode::Listed;
+use wasmprinter_samples::parts::Part::Bytes;
+use wasmprinter_samples::parts::{Parts, build};
 use wasmprinter_samples::{CONTROL, EVERYTHING, PREAMBLE};
 use wasmprinter_wasm::{BodyParts, Export, ExternKind, Fields, LocalEntry, TypeGroup};
 
@@ -47,7 +49,7 @@ impl Wanted {
 type Row = (u64, u32, &'static str, Wanted);
 
 /// The operators of the second body of `EVERYTHING`.
-const OPERATORS: [Row; 7] = [
+const OPERATORS: &[Row] = &[
     (0x2f, 0x41, "i32.const", Wanted::I32(-2)),
     (0x31, 0x42, "i64.const", Wanted::I64(i64::MIN)),
     (0x3c, 0x1a, "drop", Wanted::None),
@@ -58,7 +60,7 @@ const OPERATORS: [Row; 7] = [
 ];
 
 /// The catch clauses of `CONTROL`.
-const CATCHES: [Catch; 4] = [
+const CATCHES: &[Catch] = &[
     Catch::One(2, 0),
     Catch::OneRef(3, 1),
     Catch::All(0),
@@ -66,7 +68,7 @@ const CATCHES: [Catch; 4] = [
 ];
 
 /// The operators of `CONTROL`.
-const BLOCKS: [Row; 26] = [
+const BLOCKS: &[Row] = &[
     (0x1c, 0x02, "block", Wanted::Block(BlockType::Empty)),
     (0x1e, 0x41, "i32.const", Wanted::I32(0)),
     (
@@ -99,7 +101,7 @@ const BLOCKS: [Row; 26] = [
         0x45,
         0x1f,
         "try_table",
-        Wanted::TryTable(BlockType::Empty, &CATCHES),
+        Wanted::TryTable(BlockType::Empty, CATCHES),
     ),
     (0x52, 0x0a, "throw_ref", Wanted::None),
     (0x53, 0x0b, "end", Wanted::None),
@@ -139,27 +141,41 @@ fn has_functions(module: &Module<'_>, count: u32) -> bool {
         && module.body(u32::MAX).is_none()
 }
 
-/// Modules, each with the number of functions that it defines.
-const COUNTS: [(&str, Parts, u32); 2] = [
-    ("no functions", &[Bytes(&PREAMBLE)], 0),
-    ("two functions", &[Bytes(&EVERYTHING)], 2),
+/// Reports whether a module of these parts defines `count` functions.
+fn defines(alloc: Global, parts: Parts, count: u32) -> Result<bool, Error> {
+    let wasm = build(alloc, parts)?;
+    let module = decode(alloc, &wasm)?;
+    Ok(has_functions(&module, count))
+}
+
+/// A module: the name of the row, the parts, and the number of functions that it defines.
+type Count = (&'static str, Parts, u32);
+
+const COUNTS: &[Count] = &[
+    ("no functions", &[Bytes(PREAMBLE)], 0),
+    ("two functions", &[Bytes(EVERYTHING)], 2),
 ];
 
-#[test]
-fn counts_the_functions_that_are_defined(rt: HostRuntime) -> Result<(), Fail> {
-    for (name, parts, count) in COUNTS {
-        let wasm = build(rt.alloc(), parts)?;
-        let module = decode(rt.alloc(), &wasm)?;
-        assert!(rt; has_functions(&module, count), "{name}");
+/// Returns the name of the first row that is refused or has another number of functions, or `None` if there is no such
+/// row.
+fn first_other_count(alloc: Global, rows: &[Count]) -> Option<&'static str> {
+    for (name, parts, count) in rows {
+        if !matches!(defines(alloc, parts, *count), Ok(true)) {
+            return Some(*name);
+        }
     }
-    Ok(())
+    None
+}
+
+#[test]
+fn counts_the_functions_that_are_defined(rt: HostRuntime) {
+    let other = first_other_count(rt.alloc(), COUNTS);
+    assert!(rt; other == None, "{other:?}");
 }
 
 #[test]
 fn counts_a_million_functions(rt: HostRuntime) -> Result<(), Fail> {
-    let wasm = build(rt.alloc(), MODULE_OF_MOST_FUNCTIONS)?;
-    let module = decode(rt.alloc(), &wasm)?;
-    assert!(rt; has_functions(&module, MOST_FUNCTIONS));
+    assert!(rt; defines(rt.alloc(), MODULE_OF_MOST_FUNCTIONS, MOST_FUNCTIONS)?);
     Ok(())
 }
 
@@ -173,24 +189,24 @@ fn has_bodies(module: &Module<'_>) -> bool {
         return false;
     };
     difference(first.operators(), &[]).is_none()
-        && difference(second.operators(), &OPERATORS).is_none()
-        && difference(second.operators(), &OPERATORS).is_none()
+        && difference(second.operators(), OPERATORS).is_none()
+        && difference(second.operators(), OPERATORS).is_none()
         && difference(second.operators(), &OPERATORS[..6]) == Some(0x44)
 }
 
 /// Reports whether the body of `CONTROL` has its operators and the right end.
 fn has_blocks(module: &Module<'_>) -> bool {
     match module.body(0) {
-        Some(body) => difference(body.operators(), &BLOCKS).is_none() && body.end() == 0x54,
+        Some(body) => difference(body.operators(), BLOCKS).is_none() && body.end() == 0x54,
         None => false,
     }
 }
 
 #[test]
 fn walks_over_operators(rt: HostRuntime) -> Result<(), Fail> {
-    let module = decode(rt.alloc(), &EVERYTHING)?;
+    let module = decode(rt.alloc(), EVERYTHING)?;
     assert!(rt; has_bodies(&module));
-    let module = decode(rt.alloc(), &CONTROL)?;
+    let module = decode(rt.alloc(), CONTROL)?;
     assert!(rt; has_blocks(&module));
     Ok(())
 }
@@ -261,7 +277,7 @@ fn has_first_function(module: &Module<'_>) -> bool {
 
 #[test]
 fn gives_out_types_exports_and_bodies(rt: HostRuntime) -> Result<(), Fail> {
-    let module = decode(rt.alloc(), &EVERYTHING)?;
+    let module = decode(rt.alloc(), EVERYTHING)?;
     assert!(rt; has_types_and_exports(&module));
     assert!(rt; has_second_body(&module) && has_first_function(&module));
     Ok(())
@@ -270,7 +286,7 @@ fn gives_out_types_exports_and_bodies(rt: HostRuntime) -> Result<(), Fail> {
 // ---- opcodes
 
 /// Opcodes that are not in the table of operators.
-const NOT_LISTED: [(u8, u32); 10] = [
+const NOT_LISTED: &[(u8, u32)] = &[
     (0, 0x27),
     (0, 0x100),
     (0, u32::MAX),
@@ -283,17 +299,28 @@ const NOT_LISTED: [(u8, u32); 10] = [
     (0xff, 0x00),
 ];
 
-#[test]
-fn gives_no_words_to_opcodes_that_are_not_listed(rt: HostRuntime) -> Result<(), Fail> {
-    for (prefix, number) in NOT_LISTED {
-        let word = Opcode { prefix, number }.word();
-        assert!(rt; word.is_empty(), "{prefix:#x} {number:#x}: {word}");
+/// Returns the first of these opcodes that has a word, or `None` if there is no such opcode.
+fn first_with_word(opcodes: &[(u8, u32)]) -> Option<(u8, u32)> {
+    for (prefix, number) in opcodes {
+        let opcode = Opcode {
+            prefix: *prefix,
+            number: *number,
+        };
+        if !opcode.word().is_empty() {
+            return Some((*prefix, *number));
+        }
     }
-    Ok(())
+    None
+}
+
+#[test]
+fn gives_no_words_to_opcodes_that_are_not_listed(rt: HostRuntime) {
+    let listed = first_with_word(NOT_LISTED);
+    assert!(rt; listed == None, "{listed:?}");
 }
 
 /// Numbers of opcodes, each with the shape of its immediates.
-const SHAPES: [(u32, &str); 8] = [
+const SHAPES: &[(u32, &str)] = &[
     (0x0f, "Some(None)"),
     (0x10, "Some(Index(Func))"),
     (0x21, "Some(Index(Local))"),
@@ -304,12 +331,26 @@ const SHAPES: [(u32, &str); 8] = [
     (0x27, "None"),
 ];
 
+/// Reports whether the debug text of the shape of an opcode without a prefix is the expected one.
+fn is_shape(alloc: Global, number: u32, shape: &str) -> Result<bool, AllocError> {
+    let found = Opcode { prefix: 0, number }.shape();
+    let shown = format!(in alloc; "{found:?}")?;
+    Ok(shown.as_str() == shape)
+}
+
+/// Returns the number of the first opcode that has another shape, or `None` if there is no such opcode.
+fn first_other_shape(alloc: Global, rows: &[(u32, &str)]) -> Result<Option<u32>, AllocError> {
+    for (number, shape) in rows {
+        if !is_shape(alloc, *number, shape)? {
+            return Ok(Some(*number));
+        }
+    }
+    Ok(None)
+}
+
 #[test]
 fn gives_shapes_to_listed_opcodes(rt: HostRuntime) -> Result<(), Fail> {
-    for (number, shape) in SHAPES {
-        let found = Opcode { prefix: 0, number }.shape();
-        let shown = format!(in rt.alloc(); "{found:?}")?;
-        assert!(rt; shown.as_str() == shape, "at {number:#x}: {shown}");
-    }
+    let other = first_other_shape(rt.alloc(), SHAPES)?;
+    assert!(rt; other == None, "{other:?}");
     Ok(())
 }

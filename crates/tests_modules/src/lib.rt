@@ -6,16 +6,32 @@
 #[cfg(test)]
 mod calls;
 #[cfg(test)]
+mod colors;
+#[cfg(test)]
 mod customs;
 #[cfg(test)]
 mod decoding;
 #[cfg(test)]
+mod example;
+#[cfg(test)]
+mod files;
+#[cfg(test)]
 mod hints;
+#[cfg(test)]
+mod large;
 #[cfg(test)]
 mod limits;
 #[cfg(test)]
+mod lines;
+#[cfg(test)]
 mod names;
+#[cfg(test)]
+mod options;
+#[cfg(test)]
+mod places;
 #[cfg(test)]
 mod refusals;
 #[cfg(test)]
 mod rows;
+#[cfg(test)]
+mod setters;

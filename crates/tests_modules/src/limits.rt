@@ -1,45 +1,14 @@
 //! Tests of the limits on locals and functions: the greatest number that is accepted, and the error for one more
 //! (appendix "Implementation Limitations" of the standard).
 
-use crate::rows::Part::{Bytes, Copies};
-use crate::rows::{Parts, Refusal, RefusedRow, build, expect_refusals};
-use std::alloc::{AllocError, Global};
+use crate::rows::{RefusedRow, expect_refusals};
+use std::alloc::Global;
 use std::test::Fail;
-use wasmprinter_expecting::expect_printed;
+use wasmprinter_expecting::{Refusal, expect_printed};
 use wasmprinter_samples::PREAMBLE;
-
-/// A part of a text.
-enum TextPart {
-    /// This text
-    Text(&'static str),
-    /// That many copies of this text
-    TextCopies(u32, &'static str),
-    /// For each number less than this: the first text, the number, and the second text
-    Numbered(u32, &'static str, &'static str),
-}
-
-use TextPart::{Numbered, Text, TextCopies};
-
-/// Returns a text of these parts.
-fn text_of_parts(alloc: Global, parts: &[TextPart]) -> Result<String, AllocError> {
-    let mut text = String::new(alloc);
-    for part in parts {
-        match part {
-            Text(once) => text.push_str(once)?,
-            TextCopies(count, copied) => {
-                for _ in 0..*count {
-                    text.push_str(copied)?;
-                }
-            }
-            Numbered(count, before, after) => {
-                for number in 0..*count {
-                    write!(text, "{before}{number}{after}")?;
-                }
-            }
-        }
-    }
-    Ok(text)
-}
+use wasmprinter_samples::parts::Part::{Bytes, Copies};
+use wasmprinter_samples::parts::TextPart::{self, Numbered, Text, TextCopies};
+use wasmprinter_samples::parts::{Parts, build, text_of_parts};
 
 /// Checks that the module that consists of `parts` has the text that consists of `typed`.
 ///
@@ -65,7 +34,7 @@ pub const MOST_FUNCTIONS: u32 = 1_000_000;
 
 /// A module with `MOST_FUNCTIONS` functions without locals and operators.
 pub const MODULE_OF_MOST_FUNCTIONS: Parts = &[
-    Bytes(&PREAMBLE),
+    Bytes(PREAMBLE),
     Bytes(&[0x01, 0x04, 0x01, 0x60, 0x00, 0x00]),
     Bytes(&[0x03, 0xc3, 0x84, 0x3d, 0xc0, 0x84, 0x3d]), // a size of 1,000,003, and the count
     Copies(MOST_FUNCTIONS, &[0x00]),
@@ -74,34 +43,34 @@ pub const MODULE_OF_MOST_FUNCTIONS: Parts = &[
 ];
 
 /// Modules with one more local and one more function than are accepted, each with the error.
-const ONE_MORE: [RefusedRow; 2] = [
+const ONE_MORE: &[RefusedRow] = &[
     (
         "50,001 locals",
         &[
-            Bytes(&PREAMBLE),
+            Bytes(PREAMBLE),
             Bytes(&[0x01, 0x04, 0x01, 0x60, 0x00, 0x00]),
             Bytes(&[0x03, 0x02, 0x01, 0x00]),
             Bytes(&[0x0a, 0x08, 0x01, 0x06, 0x01, 0xd1, 0x86, 0x03, 0x7f, 0x0b]),
         ],
-        Refusal::TooManyLocals(22),
+        Refusal::TooManyLocals { place: 22 },
     ),
     (
         "1,000,001 functions",
         &[
-            Bytes(&PREAMBLE),
+            Bytes(PREAMBLE),
             Bytes(&[0x01, 0x04, 0x01, 0x60, 0x00, 0x00]),
             Bytes(&[0x03, 0xc4, 0x84, 0x3d, 0xc1, 0x84, 0x3d]), // a size of 1,000,004, and the count
             Copies(1_000_001, &[0x00]),
             Bytes(&[0x0a, 0xc6, 0x8d, 0xb7, 0x01, 0xc1, 0x84, 0x3d]), // a size of 3,000,006, and the count
             Copies(1_000_001, &[0x02, 0x00, 0x0b]),
         ],
-        Refusal::TooManyFunctions(1_000_001),
+        Refusal::TooManyFunctions { count: 1_000_001 },
     ),
 ];
 
 #[test]
 fn refuses_one_more_local_or_function_than_the_limit(rt: HostRuntime) -> Result<(), Fail> {
-    expect_refusals(rt.alloc(), &ONE_MORE)
+    expect_refusals(rt.alloc(), ONE_MORE)
 }
 
 /// Takes one second in the build of `rt test`, and more than the limit of 60 seconds in that of `rt try --test`.
@@ -122,12 +91,15 @@ fn prints_a_million_functions(rt: HostRuntime) -> Result<(), Fail> {
 /// The number of types, and of exports, of a module.
 const THOUSANDS: u32 = 3_000;
 
-/// Modules with many items, each with its text.
-const LARGE: [(&str, Parts, &[TextPart]); 2] = [
+/// A module: the name of the row, the parts, and the text.
+type Row = (&'static str, Parts, &'static [TextPart]);
+
+/// Modules with many items.
+const LARGE: &[Row] = &[
     (
         "50,000 locals of type i32 in a function without operators",
         &[
-            Bytes(&PREAMBLE),
+            Bytes(PREAMBLE),
             Bytes(&[0x01, 0x04, 0x01, 0x60, 0x00, 0x00]),
             Bytes(&[0x03, 0x02, 0x01, 0x00]),
             Bytes(&[0x0a, 0x08, 0x01, 0x06, 0x01, 0xd0, 0x86, 0x03, 0x7f, 0x0b]),
@@ -141,7 +113,7 @@ const LARGE: [(&str, Parts, &[TextPart]); 2] = [
     (
         "3,000 types without parameters and results, and exports of function 0 under the empty name",
         &[
-            Bytes(&PREAMBLE),
+            Bytes(PREAMBLE),
             Bytes(&[0x01, 0xaa, 0x46, 0xb8, 0x17]), // a size of 9,002, and the count
             Copies(THOUSANDS, &[0x60, 0x00, 0x00]),
             Bytes(&[0x07, 0xaa, 0x46, 0xb8, 0x17]), // a size of 9,002, and the count
@@ -156,10 +128,19 @@ const LARGE: [(&str, Parts, &[TextPart]); 2] = [
     ),
 ];
 
-#[test]
-fn prints_as_many_locals_as_the_limit_and_thousands_of_items(rt: HostRuntime) -> Result<(), Fail> {
-    for (name, parts, typed) in &LARGE {
-        expect_text_of_parts(name, rt.alloc(), parts, typed)?;
+/// Checks the text of each row.
+///
+/// # Errors
+///
+/// - A module is refused, or its text differs.
+fn expect_rows(alloc: Global, rows: &[Row]) -> Result<(), Fail> {
+    for (name, parts, typed) in rows {
+        expect_text_of_parts(name, alloc, parts, typed)?;
     }
     Ok(())
+}
+
+#[test]
+fn prints_as_many_locals_as_the_limit_and_thousands_of_items(rt: HostRuntime) -> Result<(), Fail> {
+    expect_rows(rt.alloc(), LARGE)
 }

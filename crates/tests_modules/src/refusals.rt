@@ -1,12 +1,14 @@
 //! Tests of refusals: which modules are malformed or components, and at which byte offset.
 
-use crate::rows::Expected::Malformed;
-use crate::rows::Part::{Bytes, Slice};
-use crate::rows::{Refusal, RefusedRow, Row, expect_refusals, expect_rows};
+use crate::rows::{RefusedRow, Row, expect_refusals, expect_rows};
 use std::alloc::Global;
 use std::test::Fail;
 use wasmprinter::Error;
-use wasmprinter_expecting::{early_refusal_of, expect_printed, is_malformed, is_printed_as};
+use wasmprinter_expecting::Expected::Malformed;
+use wasmprinter_expecting::{
+    Refusal, early_refusal_of, expect_printed, is_malformed, is_printed_as,
+};
+use wasmprinter_samples::parts::Part::{Bytes, Slice};
 use wasmprinter_samples::{EMPTY_TEXT, IDENTITY, IDENTITY_TEXT, MINUS_ONE, PREAMBLE};
 
 /// The text of `IDENTITY` if it is cut off after its first section.
@@ -36,34 +38,30 @@ fn accepts_only_two_prefixes_of_a_module(rt: HostRuntime) -> Result<(), Fail> {
             "at {len}"
         );
     }
-    expect_printed("the whole module", rt.alloc(), &IDENTITY, IDENTITY_TEXT)
+    expect_printed("the whole module", rt.alloc(), IDENTITY, IDENTITY_TEXT)
 }
 
 /// The id of the type section, and its size in six bytes: a 32-bit number has at most five (section 5.2.2 of the
 /// standard).
-const LONG_SIZE: [u8; 7] = [0x01, 0x86, 0x80, 0x80, 0x80, 0x80, 0x00];
+const LONG_SIZE: &[u8] = &[0x01, 0x86, 0x80, 0x80, 0x80, 0x80, 0x00];
 
 /// Malformed modules.
-const MALFORMED: [Row; 8] = [
+const MALFORMED: &[Row] = &[
     (
         "a body without an end",
-        &[Slice(&MINUS_ONE, 0, 32), Bytes(&[0x0a])],
+        &[Slice(MINUS_ONE, 0, 32), Bytes(&[0x0a])],
         Malformed,
     ),
     (
         "a size in too many bytes",
-        &[
-            Bytes(&PREAMBLE),
-            Bytes(&LONG_SIZE),
-            Slice(&IDENTITY, 10, 25),
-        ],
+        &[Bytes(PREAMBLE), Bytes(LONG_SIZE), Slice(IDENTITY, 10, 25)],
         Malformed,
     ),
     // The counts of functions and bodies must be equal (section 5.5 of the standard).
     (
         "two functions of one type, but only one body",
         &[
-            Bytes(&PREAMBLE),
+            Bytes(PREAMBLE),
             Bytes(&[0x01, 0x04, 0x01, 0x60, 0x00, 0x00]),
             Bytes(&[0x03, 0x03, 0x02, 0x00, 0x00]),
             Bytes(&[0x0a, 0x04, 0x01, 0x02, 0x00, 0x0b]),
@@ -74,7 +72,7 @@ const MALFORMED: [Row; 8] = [
     (
         "a count of types without types",
         &[
-            Bytes(&PREAMBLE),
+            Bytes(PREAMBLE),
             Bytes(&[0x01, 0x05, 0xff, 0xff, 0xff, 0xff, 0x0f]),
         ],
         Malformed,
@@ -82,7 +80,7 @@ const MALFORMED: [Row; 8] = [
     (
         "a count of functions without functions",
         &[
-            Bytes(&PREAMBLE),
+            Bytes(PREAMBLE),
             Bytes(&[0x03, 0x05, 0xff, 0xff, 0xff, 0xff, 0x0f]),
         ],
         Malformed,
@@ -90,7 +88,7 @@ const MALFORMED: [Row; 8] = [
     (
         "a count of exports without exports",
         &[
-            Bytes(&PREAMBLE),
+            Bytes(PREAMBLE),
             Bytes(&[0x07, 0x05, 0xff, 0xff, 0xff, 0xff, 0x0f]),
         ],
         Malformed,
@@ -98,7 +96,7 @@ const MALFORMED: [Row; 8] = [
     (
         "a count of bodies without bodies",
         &[
-            Bytes(&PREAMBLE),
+            Bytes(PREAMBLE),
             Bytes(&[0x0a, 0x05, 0xff, 0xff, 0xff, 0xff, 0x0f]),
         ],
         Malformed,
@@ -106,7 +104,7 @@ const MALFORMED: [Row; 8] = [
     (
         "a count of groups of locals without groups",
         &[
-            Bytes(&PREAMBLE),
+            Bytes(PREAMBLE),
             Bytes(&[0x01, 0x04, 0x01, 0x60, 0x00, 0x00]),
             Bytes(&[0x03, 0x02, 0x01, 0x00]),
             Bytes(&[0x0a, 0x07, 0x01, 0x05, 0xff, 0xff, 0xff, 0xff, 0x0f]),
@@ -117,14 +115,14 @@ const MALFORMED: [Row; 8] = [
 
 #[test]
 fn refuses_malformed_modules(rt: HostRuntime) -> Result<(), Fail> {
-    expect_rows(rt.alloc(), &MALFORMED)
+    expect_rows(rt.alloc(), MALFORMED)
 }
 
 /// The preamble of a component.
-const COMPONENT: [u8; 8] = [0x00, 0x61, 0x73, 0x6d, 0x0d, 0x00, 0x01, 0x00];
+const COMPONENT: &[u8] = &[0x00, 0x61, 0x73, 0x6d, 0x0d, 0x00, 0x01, 0x00];
 
 /// The 92 bytes that follow the preamble of a component.
-const COMPONENT_CONTENT: [u8; 92] = [
+const COMPONENT_CONTENT: &[u8] = &[
     0, 1, 2, 3, 4, 5, 6, 7, 8, 9, 10, 11, 12, 13, 14, 15, 16, 17, 18, 19, 20, 21, 22, 23, 24, 25,
     26, 27, 28, 29, 30, 31, 32, 33, 34, 35, 36, 37, 38, 39, 40, 41, 42, 43, 44, 45, 46, 47, 48, 49,
     50, 51, 52, 53, 54, 55, 56, 57, 58, 59, 60, 61, 62, 63, 64, 65, 66, 67, 68, 69, 70, 71, 72, 73,
@@ -132,30 +130,30 @@ const COMPONENT_CONTENT: [u8; 92] = [
 ];
 
 /// Bytes that do not begin with the preamble of a module, each with the error.
-const OTHER_PREAMBLES: [RefusedRow; 4] = [
+const OTHER_PREAMBLES: &[RefusedRow] = &[
     (
         "the preamble of a component",
-        &[Bytes(&COMPONENT)],
+        &[Bytes(COMPONENT)],
         Refusal::Component,
     ),
     (
         "a component of 100 bytes",
-        &[Bytes(&COMPONENT), Bytes(&COMPONENT_CONTENT)],
+        &[Bytes(COMPONENT), Bytes(COMPONENT_CONTENT)],
         Refusal::Component,
     ),
     (
         "seven bytes of the preamble of a component",
-        &[Slice(&COMPONENT, 0, 7)],
-        Refusal::Malformed(0),
+        &[Slice(COMPONENT, 0, 7)],
+        Refusal::Malformed { place: 0 },
     ),
     (
         "seven bytes of the preamble of a module",
-        &[Slice(&PREAMBLE, 0, 7)],
-        Refusal::Malformed(0),
+        &[Slice(PREAMBLE, 0, 7)],
+        Refusal::Malformed { place: 0 },
     ),
 ];
 
 #[test]
 fn refuses_components_and_preambles_that_are_cut_off(rt: HostRuntime) -> Result<(), Fail> {
-    expect_refusals(rt.alloc(), &OTHER_PREAMBLES)
+    expect_refusals(rt.alloc(), OTHER_PREAMBLES)
 }

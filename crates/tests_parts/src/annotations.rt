@@ -2,7 +2,7 @@
 ghost use Rattle.std.specs.Prelude.{◌≡◌, None, false};
 ghost use Rattle.wasmprinter_spec.specs.Options.{in_colors};
 
-use crate::printing::{expect_same, finish};
+use crate::printing::finish;
 use std::alloc::Global;
 use std::io;
 use std::io::ErrorKind;
@@ -11,6 +11,7 @@ use std::test::Fail;
 use wasmprinter_bytes::Error;
 use wasmprinter_bytes::bytes::Cursor;
 use wasmprinter_print::{Chosen, Print, PrintOptions, Printer};
+use wasmprinter_samples::expect_same;
 use wasmprinter_sections::{write_custom, write_customs};
 use wasmprinter_wasm::customs::Custom;
 use wasmprinter_wasm::places::{CustomEntry, SectionKind};
@@ -207,7 +208,7 @@ fn expect_rows(alloc: Global, rows: &[Row]) -> Result<(), Fail> {
 }
 
 /// Sections without a form of their own, also after a section of each kind.
-const RAW: [Row; 14] = [
+const RAW: &[Row] = &[
     (
         "escapes",
         Options::Default,
@@ -310,11 +311,11 @@ const RAW: [Row; 14] = [
 
 #[test]
 fn prints_raw_sections_with_their_places(rt: HostRuntime) -> Result<(), Fail> {
-    expect_rows(rt.alloc(), &RAW)
+    expect_rows(rt.alloc(), RAW)
 }
 
 /// Sections with the name `producers`.
-const PRODUCERS: [Row; 7] = [
+const PRODUCERS: &[Row] = &[
     (
         "a line for each value",
         Options::Offsets,
@@ -375,11 +376,11 @@ const PRODUCERS: [Row; 7] = [
 
 #[test]
 fn prints_producers(rt: HostRuntime) -> Result<(), Fail> {
-    expect_rows(rt.alloc(), &PRODUCERS)
+    expect_rows(rt.alloc(), PRODUCERS)
 }
 
 /// Sections with the name `dylink.0`.
-const DYLINK: [Row; 3] = [
+const DYLINK: &[Row] = &[
     (
         // Sizes three times; libraries; exports with flags 0x3f7, 0x409 and 0xfffffc08; imports with flags 0x20 and 0;
         // paths
@@ -423,7 +424,7 @@ const DYLINK: [Row; 3] = [
 
 #[test]
 fn prints_subsections_of_dylink(rt: HostRuntime) -> Result<(), Fail> {
-    expect_rows(rt.alloc(), &DYLINK)
+    expect_rows(rt.alloc(), DYLINK)
 }
 
 /// Sections, each with its place among the others and its bytes.
@@ -491,7 +492,7 @@ struct Question {
     outcome: Outcome,
 }
 
-const QUESTIONS: [Question; 8] = [
+const QUESTIONS: &[Question] = &[
     Question {
         name: "a section with an unknown subsection is refused",
         sections: UNKNOWN,
@@ -597,22 +598,41 @@ fn print_some(
     }
 }
 
-#[test]
-fn a_printer_is_asked_for_each_section(rt: HostRuntime) -> Result<(), Fail> {
-    for question in &QUESTIONS {
-        let customs = match entries_of(rt.alloc(), question.sections) {
-            Ok(customs) => customs,
-            Err(error) => return Err((question.name, error))?,
-        };
-        let mut printer = Taker::new(rt.alloc(), question.answers);
-        printer.failing = question.failing;
-        let result = print_some(&mut printer, &customs, question.printed);
-        assert!(rt; question.outcome.is_of(&result), "{}", question.name);
-        assert!(rt;
-            printer.has(question.asked, question.text),
-            "{}",
-            question.name
-        );
+/// Checks the result of printing the sections of a row, the sections that the printer is asked for, and the text.
+///
+/// # Errors
+///
+/// - A section is not read, or the result, the sections or the text differ.
+fn expect_asked(alloc: Global, question: &Question) -> Result<(), Fail> {
+    let customs = match entries_of(alloc, question.sections) {
+        Ok(customs) => customs,
+        Err(error) => return Err((question.name, error))?,
+    };
+    let mut printer = Taker::new(alloc, question.answers);
+    printer.failing = question.failing;
+    let result = print_some(&mut printer, &customs, question.printed);
+    if !question.outcome.is_of(&result) {
+        return Err((question.name, "the result differs"))?;
+    }
+    if !printer.has(question.asked, question.text) {
+        return Err((question.name, "the sections or the text differ"))?;
     }
     Ok(())
+}
+
+/// Checks each row.
+///
+/// # Errors
+///
+/// - A section is not read, or the result, the sections or the text differ.
+fn expect_each_asked(alloc: Global, questions: &[Question]) -> Result<(), Fail> {
+    for question in questions {
+        expect_asked(alloc, question)?;
+    }
+    Ok(())
+}
+
+#[test]
+fn a_printer_is_asked_for_each_section(rt: HostRuntime) -> Result<(), Fail> {
+    expect_each_asked(rt.alloc(), QUESTIONS)
 }

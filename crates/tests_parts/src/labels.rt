@@ -98,7 +98,7 @@ impl<'n, 'a> Walk<'n, 'a> {
 }
 
 /// Three nested blocks: `a`, `b` in it, and another `a` in that.
-const HIDDEN: [Step; 20] = [
+const HIDDEN: &[Step] = &[
     Step::Begin(0),
     Step::Own(Some(A)),
     Step::Advance(Role::Opens),
@@ -124,7 +124,7 @@ const HIDDEN: [Step; 20] = [
 ];
 
 /// Blocks that end in `delegate`, with the labels of all blocks around them.
-const DELEGATED: [Step; 16] = [
+const DELEGATED: &[Step] = &[
     Step::Begin(0),
     Step::Find(Role::Delegates, 0, LabelRef::ByNumber),
     Step::Find(Role::Delegates, 1, LabelRef::ToNothing),
@@ -146,7 +146,7 @@ const DELEGATED: [Step; 16] = [
 ];
 
 /// A block without a name that contains the block `a` and then another block without a name.
-const NAMELESS: [Step; 9] = [
+const NAMELESS: &[Step] = &[
     Step::Begin(0),
     Step::Own(None),
     Step::Advance(Role::Opens),
@@ -171,7 +171,7 @@ const THIRD: Identifier<'static> = Identifier::Given(Name {
 });
 
 /// Blocks whose names are not used as identifiers, and blocks without names, with identifiers synthesized.
-const SYNTHESIZED: [Step; 13] = [
+const SYNTHESIZED: &[Step] = &[
     Step::Begin(0),
     Step::Own(Some(OUTERMOST)),
     Step::Advance(Role::Opens),
@@ -189,7 +189,7 @@ const SYNTHESIZED: [Step; 13] = [
 ];
 
 /// Blocks of several functions, two of which have a label `a`.
-const FUNCTIONS: [Step; 21] = [
+const FUNCTIONS: &[Step] = &[
     Step::Begin(1),
     Step::Own(Some(A)),
     Step::Advance(Role::Opens),
@@ -223,29 +223,29 @@ type Row = (&'static str, &'static [u8], bool, &'static [Step]);
 /// The labels of function 0: 0 `a`, 1 `b`, 2 `a`.
 const A_B_A: &[u8] = b"\x03\x0c\x01\x00\x03\x00\x01a\x01\x01b\x02\x01a";
 
-const ROWS: [Row; 5] = [
-    ("a label is hidden for a while", A_B_A, false, &HIDDEN),
-    ("`delegate` leaves its block out", A_B_A, false, &DELEGATED),
+const ROWS: &[Row] = &[
+    ("a label is hidden for a while", A_B_A, false, HIDDEN),
+    ("`delegate` leaves its block out", A_B_A, false, DELEGATED),
     (
         "blocks without names go by depth",
         // Label 1 of function 0: `a`
         b"\x03\x06\x01\x00\x01\x01\x01a",
         false,
-        &NAMELESS,
+        NAMELESS,
     ),
     (
         "identifiers are synthesized by depth",
         // Labels of function 0: 1 `#q`, 2 the empty name
         b"\x03\x09\x01\x00\x02\x01\x02#q\x02\x00",
         true,
-        &SYNTHESIZED,
+        SYNTHESIZED,
     ),
     (
         "labels are those of the function",
         // Label 0 of function 1: `a`; label 0 of function 3: `a`
         b"\x03\x0b\x02\x01\x01\x00\x01a\x03\x01\x00\x01a",
         false,
-        &FUNCTIONS,
+        FUNCTIONS,
     ),
 ];
 
@@ -274,10 +274,19 @@ fn expect_steps(alloc: Global, (name, section, synthesizes, steps): Row) -> Resu
     }
 }
 
-#[test]
-fn labels_refer_to_open_blocks(rt: HostRuntime) -> Result<(), Fail> {
-    for row in ROWS {
-        expect_steps(rt.alloc(), row)?;
+/// Checks that all steps of each row succeed.
+///
+/// # Errors
+///
+/// - A step fails.
+fn expect_rows(alloc: Global, rows: &[Row]) -> Result<(), Fail> {
+    for row in rows {
+        expect_steps(alloc, *row)?;
     }
     Ok(())
+}
+
+#[test]
+fn labels_refer_to_open_blocks(rt: HostRuntime) -> Result<(), Fail> {
+    expect_rows(rt.alloc(), ROWS)
 }

@@ -2,7 +2,7 @@
 //! by hand.
 ghost use Rattle.std.specs.Prelude.{None};
 
-use crate::printing::{expect_same, finish, names_of};
+use crate::printing::{finish, names_of};
 use std::alloc::Global;
 use std::marker::Brand;
 use std::test::Fail;
@@ -14,6 +14,7 @@ use wasmprinter_flat::operators::{Form, Setting, write_operators};
 use wasmprinter_ops::composite::FuncType;
 use wasmprinter_ops::expression::Expression;
 use wasmprinter_print::{PrintFmtWrite, PrintOptions, Printer};
+use wasmprinter_samples::expect_same;
 use wasmprinter_text::signature::Signatures;
 
 /// The types of a module without types.
@@ -97,7 +98,7 @@ type Line = (
 const NAMES: &[u8] =
     b"\x02\x06\x01\x00\x01\x00\x01x\x03\x09\x01\x00\x02\x00\x01a\x01\x01a\x06\x04\x01\x00\x01m\x07\x04\x01\x00\x01g";
 
-const LINES: [Line; 9] = [
+const LINES: &[Line] = &[
     ("no operator", &[], false, &[0x0b], ""),
     (
         "one operator",
@@ -167,24 +168,42 @@ const LINES: [Line; 9] = [
     ),
 ];
 
-#[test]
-fn prints_operators_in_one_line(rt: HostRuntime) -> Result<(), Fail> {
-    let in_line = setting(Form::InLine, 0);
-    for (name, section, synthesizes, bytes, typed) in LINES {
-        let found = text_of_operators(
-            rt.alloc(),
-            section,
-            synthesizes,
-            &in_line,
-            FunctionHints::none(),
-            bytes,
-        );
-        match found {
-            Ok(text) => expect_same(name, text.as_str(), typed)?,
-            Err(error) => return Err((name, error))?,
-        }
+/// Checks the text of the operators of a row.
+///
+/// # Errors
+///
+/// - The operators are not read, or their text differs.
+fn expect_line(alloc: Global, line: &Line) -> Result<(), Fail> {
+    let (name, section, synthesizes, bytes, typed) = line;
+    let found = text_of_operators(
+        alloc,
+        section,
+        *synthesizes,
+        &setting(Form::InLine, 0),
+        FunctionHints::none(),
+        bytes,
+    );
+    match found {
+        Ok(text) => expect_same(name, text.as_str(), typed),
+        Err(error) => Err((*name, error))?,
+    }
+}
+
+/// Checks the text of each row.
+///
+/// # Errors
+///
+/// - Operators are not read, or their text differs.
+fn expect_lines(alloc: Global, lines: &[Line]) -> Result<(), Fail> {
+    for line in lines {
+        expect_line(alloc, line)?;
     }
     Ok(())
+}
+
+#[test]
+fn prints_operators_in_one_line(rt: HostRuntime) -> Result<(), Fail> {
+    expect_lines(rt.alloc(), LINES)
 }
 
 /// The text of two branches with hints, over several lines.

@@ -1,247 +1,9 @@
-//! Tests of blocks, labels and branches: texts of functions, operators that are not well nested, and deep nesting.
+//! Tests of deep nesting: texts of functions with many blocks, each inside the one before it.
 
-use crate::printing::Expected::{Malformed, Text};
-use crate::printing::Part::{Bytes, Function};
-use crate::printing::{Row, expect_rows};
 use std::alloc::{AllocError, Global};
 use std::test::Fail;
 use wasmprinter_expecting::expect_printed;
-use wasmprinter_samples::PREAMBLE;
-use wasmprinter_samples::sections::{NO_PARAMS, with_blocks};
-
-/// A type section with one function type, with one i32 parameter.
-const ONE_PARAM: [u8; 7] = [0x01, 0x05, 0x01, 0x60, 0x01, 0x7f, 0x00];
-
-/// A type section with a function type without parameters and results, and an array type of i32.
-const ARRAY: [u8; 9] = [0x01, 0x07, 0x02, 0x60, 0x00, 0x00, 0x5e, 0x7f, 0x00];
-
-/// Functions, each with the text of its module or its refusal.
-const BLOCKS: [Row; 13] = [
-    (
-        "branches of a table",
-        &PREAMBLE,
-        &[
-            Bytes(&NO_PARAMS),
-            Function(&[0x02, 0x40, 0x41, 0x00, 0x0e, 0x01, 0x00, 0x01, 0x0b]),
-        ],
-        Text(
-            r#"(module
-  (type (;0;) (func))
-  (func (;0;) (type 0)
-    block ;; label = @1
-      i32.const 0
-      br_table 0 (;@1;) 1
-    end
-  )
-)
-"#,
-        ),
-    ),
-    (
-        "catch clauses",
-        &PREAMBLE,
-        &[
-            Bytes(&NO_PARAMS),
-            Function(&[0x1f, 0x40, 0x01, 0x02, 0x00, 0x0b]),
-        ],
-        Text(
-            r#"(module
-  (type (;0;) (func))
-  (func (;0;) (type 0)
-    try_table (catch_all 0) ;; label = @1
-    end
-  )
-)
-"#,
-        ),
-    ),
-    (
-        "clauses that name a tag",
-        &PREAMBLE,
-        &[
-            Bytes(&NO_PARAMS),
-            Function(&[
-                0x02, 0x40, 0x1f, 0x7f, 0x03, 0x00, 0x02, 0x00, 0x01, 0x03, 0x01, 0x03, 0x02, 0x0b,
-                0x0b,
-            ]),
-        ],
-        Text(
-            r#"(module
-  (type (;0;) (func))
-  (func (;0;) (type 0)
-    block ;; label = @1
-      try_table (result i32) (catch 2 0 (;@1;)) (catch_ref 3 1) (catch_all_ref 2 (; INVALID ;)) ;; label = @2
-      end
-    end
-  )
-)
-"#,
-        ),
-    ),
-    (
-        "the signature of a block",
-        &PREAMBLE,
-        &[Bytes(&ONE_PARAM), Function(&[0x03, 0x00, 0x0b])],
-        Text(
-            r#"(module
-  (type (;0;) (func (param i32)))
-  (func (;0;) (type 0) (param i32)
-    loop (type 0) (param i32) ;; label = @1
-    end
-  )
-)
-"#,
-        ),
-    ),
-    // The first block has the array type, the second a type that is not declared.
-    (
-        "types without a signature",
-        &PREAMBLE,
-        &[
-            Bytes(&ARRAY),
-            Function(&[0x02, 0x01, 0x0b, 0x03, 0x02, 0x0b]),
-        ],
-        Text(
-            r#"(module
-  (type (;0;) (func))
-  (type (;1;) (array i32))
-  (func (;0;) (type 0)
-    block (type 1) ;; label = @1
-    end
-    loop (type 2) ;; label = @1
-    end
-  )
-)
-"#,
-        ),
-    ),
-    (
-        "the block of a delegate",
-        &PREAMBLE,
-        &[
-            Bytes(&NO_PARAMS),
-            Function(&[0x06, 0x40, 0x18, 0x00, 0x02, 0x40, 0x0c, 0x00, 0x0b]),
-        ],
-        Text(
-            r#"(module
-  (type (;0;) (func))
-  (func (;0;) (type 0)
-    try ;; label = @1
-    delegate 0
-    block ;; label = @1
-      br 0 (;@1;)
-    end
-  )
-)
-"#,
-        ),
-    ),
-    (
-        "the label of the body",
-        &PREAMBLE,
-        &[
-            Bytes(&NO_PARAMS),
-            Function(&[0x02, 0x40, 0x0c, 0x00, 0x0c, 0x01, 0x0b]),
-        ],
-        Text(
-            r#"(module
-  (type (;0;) (func))
-  (func (;0;) (type 0)
-    block ;; label = @1
-      br 0 (;@1;)
-      br 1
-    end
-  )
-)
-"#,
-        ),
-    ),
-    (
-        "a number that is no label",
-        &PREAMBLE,
-        &[Bytes(&NO_PARAMS), Function(&[0x0c, 0x07])],
-        Text(
-            r#"(module
-  (type (;0;) (func))
-  (func (;0;) (type 0)
-    br 7 (; INVALID ;)
-  )
-)
-"#,
-        ),
-    ),
-    (
-        "both arms of an if",
-        &PREAMBLE,
-        &[
-            Bytes(&NO_PARAMS),
-            Function(&[
-                0x41, 0x00, 0x04, 0x7f, 0x41, 0x01, 0x05, 0x41, 0x02, 0x0b, 0x1a,
-            ]),
-        ],
-        Text(
-            r#"(module
-  (type (;0;) (func))
-  (func (;0;) (type 0)
-    i32.const 0
-    if (result i32) ;; label = @1
-      i32.const 1
-    else
-      i32.const 2
-    end
-    drop
-  )
-)
-"#,
-        ),
-    ),
-    (
-        "catches of a try",
-        &PREAMBLE,
-        &[
-            Bytes(&NO_PARAMS),
-            Function(&[0x06, 0x40, 0x01, 0x07, 0x00, 0x01, 0x19, 0x09, 0x00, 0x0b]),
-        ],
-        Text(
-            r#"(module
-  (type (;0;) (func))
-  (func (;0;) (type 0)
-    try ;; label = @1
-      nop
-    catch 0
-      nop
-    catch_all
-      rethrow 0 (;@1;)
-    end
-  )
-)
-"#,
-        ),
-    ),
-    (
-        "an else outside of blocks",
-        &PREAMBLE,
-        &[Bytes(&NO_PARAMS), Function(&[0x05])],
-        Malformed,
-    ),
-    (
-        "two elses in an if",
-        &PREAMBLE,
-        &[Bytes(&NO_PARAMS), Function(&[0x04, 0x40, 0x05, 0x05, 0x0b])],
-        Malformed,
-    ),
-    (
-        "a catch in a block",
-        &PREAMBLE,
-        &[Bytes(&NO_PARAMS), Function(&[0x02, 0x40, 0x07, 0x00, 0x0b])],
-        Malformed,
-    ),
-];
-
-#[test]
-fn prints_or_refuses_blocks_and_branches(rt: HostRuntime) -> Result<(), Fail> {
-    expect_rows(rt.alloc(), &BLOCKS)
-}
+use wasmprinter_samples::sections::with_blocks;
 
 /// The most levels by which a line is indented.
 const MOST_LEVELS: u32 = 50;
@@ -297,7 +59,7 @@ type Deep = (
     &'static [&'static str],
 );
 
-const DEEP_BLOCKS: [Deep; 1] = [
+const DEEP_BLOCKS: &[Deep] = &[
     // A section of 300,006 bytes, with a body of 300,002 bytes
     (
         100_000,
@@ -309,7 +71,7 @@ const DEEP_BLOCKS: [Deep; 1] = [
     ),
 ];
 
-const DEEP_IFS_AND_TRIES: [Deep; 2] = [
+const DEEP_IFS_AND_TRIES: &[Deep] = &[
     // A section of 80,006 bytes, with a body of 80,002 bytes
     (
         20_000,
@@ -341,10 +103,10 @@ fn expect_deep(alloc: Global, rows: &[Deep]) -> Result<(), Fail> {
 
 #[test]
 fn prints_deep_blocks(rt: HostRuntime) -> Result<(), Fail> {
-    expect_deep(rt.alloc(), &DEEP_BLOCKS)
+    expect_deep(rt.alloc(), DEEP_BLOCKS)
 }
 
 #[test]
 fn prints_deep_ifs_and_tries(rt: HostRuntime) -> Result<(), Fail> {
-    expect_deep(rt.alloc(), &DEEP_IFS_AND_TRIES)
+    expect_deep(rt.alloc(), DEEP_IFS_AND_TRIES)
 }

@@ -1,4 +1,4 @@
-//! Tests of texts by section and by operator: the fields of each section, each operator, blocks, and single values.
+//! Tests of texts: each operator, deep nesting, many types, and single values; and of the number of defined functions.
 //! They use only paths of the crate `wasmprinter`. All expected texts are typed by hand.
 #![tactic(auto)]
 
@@ -10,16 +10,6 @@ mod imports;
 mod opcode_words;
 #[cfg(test)]
 mod opcodes;
-#[cfg(test)]
-mod printing;
-#[cfg(test)]
-mod sections;
-#[cfg(test)]
-mod segments;
-#[cfg(test)]
-mod tables;
-#[cfg(test)]
-mod texts;
 #[cfg(test)]
 mod types;
 #[cfg(test)]

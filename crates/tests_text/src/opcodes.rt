@@ -1,21 +1,24 @@
 //! Tests of all opcodes: the line of each operator, and the numbers of no operator, which are malformed.
 
 use crate::opcode_words::{Group, INDICES, LANES, MEMORIES, OTHERS, PLAIN};
-use crate::printing::{Part, build};
 use std::alloc::{AllocError, Global};
 use std::num::ParseIntError;
 use std::test::Fail;
 use wasmprinter::Error;
 use wasmprinter_expecting::is_malformed;
 use wasmprinter_samples::PREAMBLE;
-use wasmprinter_samples::sections::NO_PARAMS;
+use wasmprinter_samples::parts::{NO_PARAMS, ONE_FUNCTION, Part, build};
 
 /// Returns a module whose function has no parameters and has these operators, of fewer than 100 bytes.
 fn with_operators(alloc: Global, operators: &[u8]) -> Result<Vec<u8>, AllocError> {
     build(
         alloc,
-        &PREAMBLE,
-        &[Part::Bytes(&NO_PARAMS), Part::Function(operators)],
+        &[
+            Part::Bytes(PREAMBLE),
+            NO_PARAMS,
+            ONE_FUNCTION,
+            Part::Body(operators),
+        ],
     )
 }
 
@@ -126,90 +129,8 @@ fn prints_each_operator(rt: HostRuntime) -> Result<(), Fail> {
     Ok(())
 }
 
-/// Operators, each with the lines on which they are printed. The first ones open, divide and close blocks. The others
-/// have other immediates: those that the text leaves out, those that it does not, and longer encodings than needed.
-const OTHER_LINES: [(&[u8], &[&str]); 26] = [
-    (&[0x02, 0x40, 0x0b], &["block ;; label = @1", "end"]),
-    (&[0x03, 0x40, 0x0b], &["loop ;; label = @1", "end"]),
-    (
-        &[0x04, 0x40, 0x05, 0x0b],
-        &["if ;; label = @1", "else", "end"],
-    ),
-    (
-        &[0x06, 0x40, 0x07, 0x00, 0x19, 0x0b],
-        &["try ;; label = @1", "catch 0", "catch_all", "end"],
-    ),
-    (
-        &[0x06, 0x40, 0x18, 0x00],
-        &["try ;; label = @1", "delegate 0"],
-    ),
-    (
-        &[0x1f, 0x40, 0x00, 0x0b],
-        &["try_table ;; label = @1", "end"],
-    ),
-    (&[0x11, 0x00, 0x00], &["call_indirect (type 0)"]),
-    (&[0x3f, 0x00], &["memory.size"]),
-    (&[0x40, 0x00], &["memory.grow"]),
-    (&[0xfc, 0x0b, 0x00], &["memory.fill"]),
-    (&[0xfc, 0x08, 0x05, 0x00], &["memory.init 5"]),
-    (&[0xfc, 0x0c, 0x00, 0x00], &["table.init 0"]),
-    (&[0xfc, 0x0e, 0x00, 0x00], &["table.copy"]),
-    (&[0xfc, 0x0e, 0x00, 0x01], &["table.copy 0 1"]),
-    (&[0xfc, 0x0a, 0x01, 0x00], &["memory.copy 1 0"]),
-    (&[0x1c, 0x00], &["select (result)"]),
-    (&[0x1c, 0x02, 0x7f, 0x70], &["select (result i32 funcref)"]),
-    (&[0x28, 0x41, 0x01, 0x04], &["i32.load 1 offset=4 align=2"]),
-    (&[0x28, 0x42, 0x00, 0x00], &["i32.load"]),
-    (
-        &[0x28, 0xff, 0x00, 0x02, 0x00],
-        &["i32.load 2 align=9223372036854775808"],
-    ),
-    (
-        &[
-            0x36, 0x02, 0xff, 0xff, 0xff, 0xff, 0xff, 0xff, 0xff, 0xff, 0xff, 0x01,
-        ],
-        &["i32.store offset=18446744073709551615"],
-    ),
-    (
-        &[0xfd, 0x54, 0x41, 0x01, 0x02, 0x0f],
-        &["v128.load8_lane 1 offset=2 align=2 15"],
-    ),
-    (
-        &[0xfb, 0x18, 0x01, 0x00, 0x6e, 0x00],
-        &["br_on_cast 0 anyref (ref 0)"],
-    ),
-    (&[0xfb, 0x17, 0x00], &["ref.cast (ref null 0)"]),
-    (&[0xfd, 0x8e, 0x80, 0x80, 0x80, 0x00], &["i8x16.swizzle"]),
-    (
-        &[0x43, 0x01, 0x00, 0x80, 0xff],
-        &["f32.const -nan:0x1 (;=NaN;)"],
-    ),
-];
-
-/// The opcodes that open, divide and close blocks.
+/// The opcodes that open, divide and close blocks. The row file `text_operators.txt` has rows with each.
 const BLOCK_OPCODES: [u32; 10] = [0x02, 0x03, 0x04, 0x05, 0x06, 0x07, 0x0b, 0x18, 0x19, 0x1f];
-
-#[test]
-fn prints_blocks_and_other_immediates(rt: HostRuntime) -> Result<(), Fail> {
-    for (operators, lines) in OTHER_LINES {
-        let text = text_of(rt.alloc(), operators)?;
-        let typed = text_with_lines(rt.alloc(), lines)?;
-        assert!(rt; text == typed, "{lines:?} is printed as {text}");
-    }
-    Ok(())
-}
-
-/// Operators with malformed immediates: the flags of a cast, the first number of a memory operand, the byte of a
-/// fence, a type, a truncated lane.
-const MISSPELLED: [&[u8]; 7] = [
-    &[0xfb, 0x18, 0x04, 0x00, 0x6e, 0x6e],
-    &[0xfb, 0x19, 0xff, 0x00, 0x6e, 0x6e],
-    &[0x28, 0x80, 0x01, 0x00, 0x00],
-    &[0xfe, 0x03, 0x01],
-    &[0x1c, 0x01, 0x78],
-    &[0xd0, 0x7f],
-    &[0xfd, 0x54, 0x00, 0x00],
-];
 
 /// The numbers of no operator, below the bounds of `NUMBERS`: the prefix (0 for none), and the first and last
 /// number of a range.
@@ -260,11 +181,7 @@ fn is_refused(alloc: Global, prefix: u8, number: u32) -> Result<bool, AllocError
 }
 
 #[test]
-fn refuses_other_numbers_and_immediates(rt: HostRuntime) -> Result<(), Fail> {
-    for operator in MISSPELLED {
-        let wasm = with_operators(rt.alloc(), operator)?;
-        assert!(rt; is_malformed(rt.alloc(), &wasm), "{operator:?}");
-    }
+fn refuses_other_numbers(rt: HostRuntime) -> Result<(), Fail> {
     for (prefix, first, last) in UNLISTED {
         for number in first..=last {
             assert!(rt;
@@ -276,7 +193,7 @@ fn refuses_other_numbers_and_immediates(rt: HostRuntime) -> Result<(), Fail> {
     Ok(())
 }
 
-/// Returns each opcode that a test above prints or refuses.
+/// Returns each opcode that a test above or a row file prints or refuses.
 fn tested_opcodes(alloc: Global) -> Result<Vec<Code>, Fail> {
     let mut opcodes = Vec::new(alloc);
     for number in BLOCK_OPCODES {
@@ -297,7 +214,7 @@ fn tested_opcodes(alloc: Global) -> Result<Vec<Code>, Fail> {
     Ok(opcodes)
 }
 
-/// Each number is printed or refused by exactly one test above.
+/// Each number is printed or refused by exactly one test above, or by a row file if it is an opcode of blocks.
 #[test]
 fn leaves_out_no_number(rt: HostRuntime) -> Result<(), Fail> {
     let opcodes = tested_opcodes(rt.alloc())?;

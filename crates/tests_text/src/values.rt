@@ -5,54 +5,9 @@ use std::alloc::Global;
 use std::io::ErrorKind;
 use std::test::Fail;
 use wasmprinter::text::{write_bytes, write_f32, write_f64, write_quoted};
-use wasmprinter::{Error, PrintFmtWrite};
-use wasmprinter_expecting::expect_same;
+use wasmprinter::{Error, Print, PrintFmtWrite};
+use wasmprinter_expecting::{expect_recorded, expect_same};
 use wasmprinter_samples::Recorder;
-
-/// Bits of f32, each with its text.
-const SINGLES: [(u32, &str); 14] = [
-    (0x3fc0_0000, "0x1.8p+0"),
-    (0x0000_0000, "0x0p+0"),
-    (0x8000_0000, "-0x0p+0"),
-    (0x0000_0001, "0x1.p-149"),
-    (0x7fc0_0000, "nan (;=NaN;)"),
-    (0x7f80_0001, "nan:0x1 (;=NaN;)"),
-    (0x7f80_0000, "inf (;=inf;)"),
-    (0xff80_0000, "-inf (;=-inf;)"),
-    (0x4049_0fdb, "0x1.921fb6p+1"),
-    (0x7f7f_ffff, "0x1.fffffep+127"),
-    (0x0040_0000, "0x1.p-127"),
-    (0x0060_0000, "0x1.8p-127"),
-    (0xffc0_0000, "-nan (;=NaN;)"),
-    (0xffff_ffff, "-nan:0x7fffff (;=NaN;)"),
-];
-
-/// Bits of f64, each with its text.
-const DOUBLES: [(u64, &str); 8] = [
-    (0x3ff0_0000_0000_0000, "0x1p+0"),
-    (0x0000_0000_0000_0001, "0x1.p-1074"),
-    (0x7ff8_0000_0000_0000, "nan (;=NaN;)"),
-    (0xfff0_0000_0000_0001, "-nan:0x1 (;=NaN;)"),
-    (0x8000_0000_0000_0000, "-0x0p+0"),
-    (0x4009_21fb_5444_2d18, "0x1.921fb54442d18p+1"),
-    (0x000f_ffff_ffff_ffff, "0x1.ffffffffffffep-1023"),
-    (0x7fef_ffff_ffff_ffff, "0x1.fffffffffffffp+1023"),
-];
-
-#[test]
-fn writes_floats(rt: HostRuntime) -> Result<(), Fail> {
-    for (bits, text) in SINGLES {
-        let mut printer = PrintFmtWrite(String::new(rt.alloc()));
-        write_f32(&mut printer, bits)?;
-        expect_same(text, printer.0.as_str(), text)?;
-    }
-    for (bits, text) in DOUBLES {
-        let mut printer = PrintFmtWrite(String::new(rt.alloc()));
-        write_f64(&mut printer, bits)?;
-        expect_same(text, printer.0.as_str(), text)?;
-    }
-    Ok(())
-}
 
 /// A value that is written.
 enum Value {
@@ -66,9 +21,75 @@ enum Value {
     Bytes(&'static [u8]),
 }
 
-/// Values: the name of the row, the value, the number of the call that is refused, and the calls up to it. No call is
+/// Writes a value to a printer.
+fn write_value<P: Print>(printer: &mut P, value: &Value) -> Result<(), Error> {
+    match value {
+        Value::F32(bits) => write_f32(printer, *bits),
+        Value::F64(bits) => write_f64(printer, *bits),
+        Value::Quoted(text) => write_quoted(printer, text),
+        Value::Bytes(bytes) => write_bytes(printer, bytes),
+    }
+}
+
+/// Floats, each with its text.
+const FLOATS: &[(Value, &str)] = &[
+    (Value::F32(0x3fc0_0000), "0x1.8p+0"),
+    (Value::F32(0x0000_0000), "0x0p+0"),
+    (Value::F32(0x8000_0000), "-0x0p+0"),
+    (Value::F32(0x0000_0001), "0x1.p-149"),
+    (Value::F32(0x7fc0_0000), "nan (;=NaN;)"),
+    (Value::F32(0x7f80_0001), "nan:0x1 (;=NaN;)"),
+    (Value::F32(0x7f80_0000), "inf (;=inf;)"),
+    (Value::F32(0xff80_0000), "-inf (;=-inf;)"),
+    (Value::F32(0x4049_0fdb), "0x1.921fb6p+1"),
+    (Value::F32(0x7f7f_ffff), "0x1.fffffep+127"),
+    (Value::F32(0x0040_0000), "0x1.p-127"),
+    (Value::F32(0x0060_0000), "0x1.8p-127"),
+    (Value::F32(0xffc0_0000), "-nan (;=NaN;)"),
+    (Value::F32(0xffff_ffff), "-nan:0x7fffff (;=NaN;)"),
+    (Value::F64(0x3ff0_0000_0000_0000), "0x1p+0"),
+    (Value::F64(0x0000_0000_0000_0001), "0x1.p-1074"),
+    (Value::F64(0x7ff8_0000_0000_0000), "nan (;=NaN;)"),
+    (Value::F64(0xfff0_0000_0000_0001), "-nan:0x1 (;=NaN;)"),
+    (Value::F64(0x8000_0000_0000_0000), "-0x0p+0"),
+    (Value::F64(0x4009_21fb_5444_2d18), "0x1.921fb54442d18p+1"),
+    (Value::F64(0x000f_ffff_ffff_ffff), "0x1.ffffffffffffep-1023"),
+    (Value::F64(0x7fef_ffff_ffff_ffff), "0x1.fffffffffffffp+1023"),
+];
+
+/// Checks the text of a value. A failure shows the text.
+///
+/// # Errors
+///
+/// - The value is not written, or its text differs.
+fn expect_text_of(alloc: Global, value: &Value, text: &'static str) -> Result<(), Fail> {
+    let mut printer = PrintFmtWrite(String::new(alloc));
+    write_value(&mut printer, value)?;
+    expect_same(text, printer.0.as_str(), text)
+}
+
+/// Checks the text of each row.
+///
+/// # Errors
+///
+/// - A value is not written, or its text differs.
+fn expect_texts(alloc: Global, rows: &[(Value, &'static str)]) -> Result<(), Fail> {
+    for (value, text) in rows {
+        expect_text_of(alloc, value, text)?;
+    }
+    Ok(())
+}
+
+#[test]
+fn writes_floats(rt: HostRuntime) -> Result<(), Fail> {
+    expect_texts(rt.alloc(), FLOATS)
+}
+
+/// A value: the name of the row, the value, the number of the call that is refused, and the calls up to it. No call is
 /// refused if the number is 0.
-const VALUES: [(&str, Value, u32, &str); 9] = [
+type Row = (&'static str, Value, u32, &'static str);
+
+const VALUES: &[Row] = &[
     (
         "a finite float",
         Value::F32(0xbfc0_0000),
@@ -110,16 +131,6 @@ const VALUES: [(&str, Value, u32, &str); 9] = [
     ("refused bytes", Value::Bytes(b"ab"), 4, r#"{L}"ab{!}"#),
 ];
 
-/// Writes a value to a recorder.
-fn write_value(recorder: &mut Recorder, value: &Value) -> Result<(), Error> {
-    match value {
-        Value::F32(bits) => write_f32(recorder, *bits),
-        Value::F64(bits) => write_f64(recorder, *bits),
-        Value::Quoted(text) => write_quoted(recorder, text),
-        Value::Bytes(bytes) => write_bytes(recorder, bytes),
-    }
-}
-
 /// Returns whether writing a value succeeds if `refused` is 0, and otherwise whether it returns the error of the call
 /// with this number.
 fn is_answered(recorder: &mut Recorder, value: &Value, refused: u32) -> bool {
@@ -130,15 +141,35 @@ fn is_answered(recorder: &mut Recorder, value: &Value, refused: u32) -> bool {
     }
 }
 
-#[test]
-fn makes_the_calls_of_a_value(rt: HostRuntime) -> Result<(), Fail> {
-    for (name, value, refused, calls) in &VALUES {
-        let mut recorder = Recorder::with_refusal(rt.alloc(), *refused, ErrorKind::BrokenPipe);
-        assert!(rt; is_answered(&mut recorder, value, *refused), "{name}");
-        expect_same(name, recorder.calls(), calls)?;
-        assert!(rt; recorder.is_complete(), "{name}");
+/// Checks the result of writing the value of a row, and the calls.
+///
+/// # Errors
+///
+/// - The result differs, or the calls differ, or one was not recorded.
+fn expect_written(alloc: Global, row: &Row) -> Result<(), Fail> {
+    let (name, value, refused, calls) = row;
+    let mut recorder = Recorder::with_refusal(alloc, *refused, ErrorKind::BrokenPipe);
+    if !is_answered(&mut recorder, value, *refused) {
+        return Err((*name, "the result differs"))?;
+    }
+    expect_recorded(name, &recorder, calls)
+}
+
+/// Checks each row.
+///
+/// # Errors
+///
+/// - A result differs, or calls differ, or one was not recorded.
+fn expect_each_written(alloc: Global, rows: &[Row]) -> Result<(), Fail> {
+    for row in rows {
+        expect_written(alloc, row)?;
     }
     Ok(())
+}
+
+#[test]
+fn makes_the_calls_of_a_value(rt: HostRuntime) -> Result<(), Fail> {
+    expect_each_written(rt.alloc(), VALUES)
 }
 
 /// Reports whether writing a float returns the error of the call with this number and makes no call after it, if

@@ -2,11 +2,15 @@
 //! have no contracts, so that a proof of a test needs no facts about printing. A failure shows the name of its row.
 #![tactic(auto)]
 
+mod refusals;
+
+pub use refusals::{Expected, Refusal, expect_result};
 use std::alloc::Global;
 use std::test::Fail;
 use wasmprinter::print::{Ansi, PrintTermcolor};
 use wasmprinter::{Config, Error, Print, print_bytes};
-use wasmprinter_samples::{Recorder, expect_text};
+use wasmprinter_samples::Recorder;
+pub use wasmprinter_samples::expect_same;
 
 /// Prints a module with these options to any printer.
 pub fn print_to<P: Print>(
@@ -50,18 +54,6 @@ pub fn is_printed_as(alloc: Global, wasm: &[u8], typed: &str) -> bool {
     match text_of(alloc, wasm) {
         Ok(text) => text.as_str() == typed,
         Err(_) => false,
-    }
-}
-
-/// Checks that a text equals the expected one.
-///
-/// # Errors
-///
-/// - The texts differ.
-pub fn expect_same(name: &'static str, text: &str, typed: &str) -> Result<(), Fail> {
-    match expect_text(text, typed) {
-        Ok(()) => Ok(()),
-        Err(different) => Err((name, different))?,
     }
 }
 

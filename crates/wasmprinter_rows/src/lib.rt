@@ -1,11 +1,7 @@
-//! Small example modules that cover the binary format, and tests of the exact text, value or error of each. All
-//! expected values are typed by hand.
+//! Small example modules that cover the binary format, and tests of colors, claimed sections, lines, places, decoded
+//! names and refusals, values and large modules. All expected values are typed by hand.
 #![tactic(auto)]
 
-#[cfg(test)]
-mod basics;
-#[cfg(test)]
-mod blocks;
 pub mod calls;
 #[cfg(test)]
 mod colors;
@@ -14,20 +10,12 @@ mod custom_sections;
 #[cfg(test)]
 mod expecting;
 #[cfg(test)]
-mod fields;
-#[cfg(test)]
-mod folding;
-#[cfg(test)]
-mod hints;
-#[cfg(test)]
 mod large;
 #[cfg(test)]
 mod lines;
 pub mod modules;
 #[cfg(test)]
 mod names;
-#[cfg(test)]
-mod opcodes;
 #[cfg(test)]
 mod refusals;
 #[cfg(test)]

@@ -40,7 +40,7 @@ use whole::{
 };
 
 /// All modules, including those that are refused.
-pub const MODULES: [&[u8]; 86] = [
+pub const MODULES: &[&[u8]] = &[
     EMPTY,
     IDENTITY,
     MINUS_ONE,

@@ -4,7 +4,7 @@ use std::alloc::Global;
 use std::test::Fail;
 use wasmprinter::text::{write_bytes, write_f32, write_f64, write_quoted};
 use wasmprinter::{Error, PrintFmtWrite};
-use wasmprinter_samples::expect_text;
+use wasmprinter_samples::{expect_same, expect_text};
 
 /// The bits of an f32, and its text.
 struct Single {
@@ -19,7 +19,7 @@ struct Double {
 }
 
 /// Numbers of each class: normal, zero, subnormal, NaN and infinity.
-const SINGLES: [Single; 11] = [
+const SINGLES: &[Single] = &[
     Single {
         bits: 0x3fc0_0000,
         text: "0x1.8p+0",
@@ -67,7 +67,7 @@ const SINGLES: [Single; 11] = [
 ];
 
 /// Numbers of each class, of 64 bits.
-const DOUBLES: [Double; 4] = [
+const DOUBLES: &[Double] = &[
     Double {
         bits: 0x3ff0_0000_0000_0000,
         text: "0x1p+0",
@@ -100,17 +100,26 @@ fn double_text(alloc: Global, bits: u64) -> Result<String, Error> {
     Ok(printer.0)
 }
 
-#[test]
-fn writes_floats(rt: HostRuntime) -> Result<(), Fail> {
-    for Single { bits, text } in &SINGLES {
-        let found = single_text(rt.alloc(), *bits)?;
-        assert!(rt; found.as_str() == *text, "bits {bits:#x}");
-    }
-    for Double { bits, text } in &DOUBLES {
-        let found = double_text(rt.alloc(), *bits)?;
-        assert!(rt; found.as_str() == *text, "bits {bits:#x}");
+/// Checks the text of each f32. A failure shows the text.
+fn expect_singles(alloc: Global, rows: &[Single]) -> Result<(), Fail> {
+    for Single { bits, text } in rows {
+        expect_same(text, single_text(alloc, *bits)?.as_str(), text)?;
     }
     Ok(())
+}
+
+/// Checks the text of each f64. A failure shows the text.
+fn expect_doubles(alloc: Global, rows: &[Double]) -> Result<(), Fail> {
+    for Double { bits, text } in rows {
+        expect_same(text, double_text(alloc, *bits)?.as_str(), text)?;
+    }
+    Ok(())
+}
+
+#[test]
+fn writes_floats(rt: HostRuntime) -> Result<(), Fail> {
+    expect_singles(rt.alloc(), SINGLES)?;
+    expect_doubles(rt.alloc(), DOUBLES)
 }
 
 #[test]

@@ -2,7 +2,6 @@
 
 ghost use Rattle.std.specs.Prelude.{IfOk, IfErr, ◌≡◌, ◌≢◌};
 
-#[cfg(test)]
 use std::test::Fail;
 
 /// The difference between a text and the text that a test expects.
@@ -31,6 +30,18 @@ where
         .take_while(|(line, wanted)| line == wanted)
         .count();
     Err(Different::Line(same.saturating_add(1)))
+}
+
+/// Checks that a text equals the expected one. A failure shows this name.
+///
+/// # Errors
+///
+/// - The texts differ.
+pub fn expect_same(name: &'static str, text: &str, typed: &str) -> Result<(), Fail> {
+    match expect_text(text, typed) {
+        Ok(()) => Ok(()),
+        Err(different) => Err((name, different))?,
+    }
 }
 
 #[test]

@@ -3,21 +3,22 @@
 #![tactic(auto)]
 
 mod expect;
+pub mod parts;
 mod recorder;
 pub mod sections;
 
-pub use expect::{Different, expect_text};
+pub use expect::{Different, expect_same, expect_text};
 pub use recorder::{REFUSED, Recorder};
 
 /// The magic number and the version, which are a whole module.
-pub const PREAMBLE: [u8; 8] = [0x00, 0x61, 0x73, 0x6d, 0x01, 0x00, 0x00, 0x00];
+pub const PREAMBLE: &[u8] = &[0x00, 0x61, 0x73, 0x6d, 0x01, 0x00, 0x00, 0x00];
 
 pub const EMPTY_TEXT: &str = "(module)\n";
 
 pub const EMPTY_CALLS: &str = "[0x0]({K}module{R})\n";
 
 /// A function that returns its i32 parameter, exported as `f`.
-pub const IDENTITY: [u8; 35] = [
+pub const IDENTITY: &[u8] = &[
     0x00, 0x61, 0x73, 0x6d, 0x01, 0x00, 0x00, 0x00, // preamble
     0x01, 0x06, 0x01, 0x60, 0x01, 0x7f, 0x01, 0x7f, // types
     0x03, 0x02, 0x01, 0x00, // functions
@@ -45,7 +46,7 @@ pub const IDENTITY_CALLS: &str = r#"[0x0]({K}module{R}
 
 /// A module with a name section. Its names: `m` for the module, `t` for the type, an empty name for the function,
 /// `x` for the parameter and `l` for the block.
-pub const NAMED: [u8; 78] = [
+pub const NAMED: &[u8] = &[
     0x00, 0x61, 0x73, 0x6d, 0x01, 0x00, 0x00, 0x00, // preamble
     0x01, 0x06, 0x01, 0x60, 0x01, 0x7f, 0x01, 0x7f, // types
     0x03, 0x02, 0x01, 0x00, // functions
@@ -86,27 +87,16 @@ pub const SYNTHESIZED_CALLS: &str = r##"[0x0]({K}module{R}
 "##;
 
 /// A function that returns -1 through an i64 local.
-pub const MINUS_ONE: [u8; 33] = [
+pub const MINUS_ONE: &[u8] = &[
     0x00, 0x61, 0x73, 0x6d, 0x01, 0x00, 0x00, 0x00, // preamble
     0x01, 0x05, 0x01, 0x60, 0x00, 0x01, 0x7e, // types
     0x03, 0x02, 0x01, 0x00, // functions
     0x0a, 0x0c, 0x01, 0x0a, 0x01, 0x01, 0x7e, 0x42, 0x7f, 0x21, 0x00, 0x20, 0x00, 0x0b, // code
 ];
 
-pub const MINUS_ONE_TEXT: &str = r#"(module
-  (type (;0;) (func (result i64)))
-  (func (;0;) (type 0) (result i64)
-    (local i64)
-    i64.const -1
-    local.set 0
-    local.get 0
-  )
-)
-"#;
-
 /// Two types, two exports and two functions. The first function has no operators; the second has locals and
 /// operators.
-pub const EVERYTHING: [u8; 70] = [
+pub const EVERYTHING: &[u8] = &[
     0x00, 0x61, 0x73, 0x6d, 0x01, 0x00, 0x00, 0x00, // preamble
     0x01, 0x09, 0x02, 0x60, 0x00, 0x00, 0x60, 0x01, 0x7f, 0x01, 0x7e, // types from 0x08
     0x03, 0x03, 0x02, 0x01, 0x00, // functions from 0x13
@@ -158,7 +148,7 @@ pub const EVERYTHING_CALLS: &str = r#"[0x0]({K}module{R}
 "#;
 
 /// Types, memories, a tag, one export of each kind, the start function and a function.
-pub const KINDS: [u8; 69] = [
+pub const KINDS: &[u8] = &[
     0x00, 0x61, 0x73, 0x6d, 0x01, 0x00, 0x00, 0x00, // preamble
     0x01, 0x09, 0x02, 0x60, 0x00, 0x00, 0x60, 0x02, 0x7f, 0x7c, 0x00, // types from 0x08
     0x03, 0x02, 0x01, 0x00, // functions from 0x13
@@ -173,22 +163,6 @@ pub const KINDS: [u8; 69] = [
     0x08, 0x01, 0x00, // start from 0x3c
     0x0a, 0x04, 0x01, 0x02, 0x00, 0x0b, // code from 0x3f, with the body at 0x43
 ];
-
-pub const KINDS_TEXT: &str = r#"(module
-  (type (;0;) (func))
-  (type (;1;) (func (param i32 f64)))
-  (memory (;0;) 1)
-  (memory (;1;) i64 1 2 shared (pagesize 0x10000))
-  (tag (;0;) (type 1) (param i32 f64))
-  (export "f" (func 0))
-  (export "a" (table 0))
-  (export "m" (memory 1))
-  (export "g" (global 3))
-  (export "t" (tag 0))
-  (start 0)
-  (func (;0;) (type 0))
-)
-"#;
 
 pub const KINDS_CALLS: &str = r#"[0x0]({K}module{R}
 [0xb]  ({K}type {R}{N}(;0;){R} ({K}func{R}))
@@ -207,7 +181,7 @@ pub const KINDS_CALLS: &str = r#"[0x0]({K}module{R}
 "#;
 
 /// A function with blocks of each form, branches and exceptions.
-pub const CONTROL: [u8; 85] = [
+pub const CONTROL: &[u8] = &[
     0x00, 0x61, 0x73, 0x6d, 0x01, 0x00, 0x00, 0x00, // preamble
     0x01, 0x09, 0x02, 0x60, 0x00, 0x00, 0x60, 0x01, 0x7f, 0x01, 0x7e, // types from 0x08
     0x03, 0x02, 0x01, 0x00, // functions from 0x13
@@ -222,40 +196,6 @@ pub const CONTROL: [u8; 85] = [
     0x1f, 0x40, 0x04, 0x00, 0x02, 0x00, 0x01, 0x03, 0x01, 0x02, 0x00, 0x03, 0x00, // at 0x45
     0x0a, 0x0b, 0x0b, // at 0x52, 0x53 and 0x54
 ];
-
-pub const CONTROL_TEXT: &str = r#"(module
-  (type (;0;) (func))
-  (type (;1;) (func (param i32) (result i64)))
-  (func (;0;) (type 0)
-    block ;; label = @1
-      i32.const 0
-      if (result i32) ;; label = @2
-        i32.const 1
-      else
-        i32.const 2
-      end
-      br_table 0 (;@1;) 1 0 (;@1;)
-    end
-    loop (type 1) (param i32) (result i64) ;; label = @1
-      nop
-      br 0 (;@1;)
-    end
-    try ;; label = @1
-      unreachable
-    delegate 0
-    try ;; label = @1
-      throw 3
-    catch 3
-      rethrow 0 (;@1;)
-    catch_all
-      br_if 0 (;@1;)
-    end
-    try_table (catch 2 0) (catch_ref 3 1 (; INVALID ;)) (catch_all 0) (catch_all_ref 0) ;; label = @1
-      throw_ref
-    end
-  )
-)
-"#;
 
 pub const CONTROL_CALLS: &str = "[0x0]({K}module{R}
 [0xb]  ({K}type {R}{N}(;0;){R} ({K}func{R}))
@@ -294,7 +234,7 @@ pub const CONTROL_CALLS: &str = "[0x0]({K}module{R}
 
 /// Imports, tables, memories, a tag, a global with a block in its initialiser, an export, the start function,
 /// element segments and data segments.
-pub const FIELDS: [u8; 105] = [
+pub const FIELDS: &[u8] = &[
     0x00, 0x61, 0x73, 0x6d, 0x01, 0x00, 0x00, 0x00, // preamble
     0x01, 0x04, 0x01, 0x60, 0x00, 0x00, // types from 0x08
     0x02, 0x0e, 0x02, // imports from 0x0e
@@ -354,7 +294,7 @@ pub const FIELDS_CALLS: &str = r#"[0x0]({K}module{R}
 "#;
 
 /// In each index space, one item has a name and another has none. The name section is the last section.
-pub const EVERY_SPACE: [u8; 356] = [
+pub const EVERY_SPACE: &[u8] = &[
     0x00, 0x61, 0x73, 0x6d, 0x01, 0x00, 0x00, 0x00, // preamble
     0x01, 0x13, 0x04, // types from 0x08
     0x60, 0x01, 0x7f, 0x01, 0x7f, // of functions from i32 to i32, at 0x0b
@@ -412,6 +352,3 @@ pub const EVERY_SPACE: [u8; 356] = [
     0x0a, 0x06, 0x01, 0x01, 0x01, 0x01, 0x01, 0x78, // of fields: x
     0x0b, 0x06, 0x01, 0x01, 0x03, 0x65, 0x78, 0x63, // of tags: exc
 ];
-
-/// The byte offset at which the name section of `EVERY_SPACE` starts.
-pub const EVERY_SPACE_NAMES: usize = 0xe9;

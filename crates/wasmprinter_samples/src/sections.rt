@@ -1,6 +1,7 @@
 //! Sections from which tests assemble modules (section 5.5.2 of the standard), and modules of nested blocks.
 
 use crate::PREAMBLE;
+use crate::parts::{NO_PARAMS, ONE_FUNCTION, Part, build};
 use std::alloc::{AllocError, Global};
 
 /// The id of custom sections.
@@ -42,6 +43,9 @@ pub const DATA_COUNT: u8 = 12;
 /// The id of the tag section.
 pub const TAG: u8 = 13;
 
+/// The name of custom sections with branch hints.
+pub const HINTS: &str = "metadata.code.branch_hint";
+
 /// Appends a section with this id and content. The content has fewer than 128 bytes.
 pub fn add_section(wasm: &mut Vec<u8>, id: u8, content: &[u8]) -> Result<(), AllocError> {
     wasm.extend_from_slice(&[id, content.len().min(127) as u8])?;
@@ -61,33 +65,26 @@ pub fn add_custom(
     add_section(wasm, CUSTOM, &content)
 }
 
-/// A type section with one function type, without parameters and results.
-pub const NO_PARAMS: [u8; 6] = [0x01, 0x04, 0x01, 0x60, 0x00, 0x00];
-
-/// Appends the bytes `times` times.
-fn repeat(wasm: &mut Vec<u8>, times: u32, bytes: &[u8]) -> Result<(), AllocError> {
-    for _ in 0..times {
-        wasm.extend_from_slice(bytes)?;
-    }
-    Ok(())
-}
-
 /// Returns a module whose function opens `depth` nested blocks with the bytes `opens` each, and closes each with
 /// the bytes `closes`. `code` has the bytes from the code section to the first block: the id and size of the
 /// section, the count of bodies, the size of the body, and a count of no locals.
-pub fn with_blocks(
+pub fn with_blocks<'a>(
     alloc: Global,
     depth: u32,
-    opens: &[u8],
-    closes: &[u8],
-    code: &[u8],
+    opens: &'a [u8],
+    closes: &'a [u8],
+    code: &'a [u8],
 ) -> Result<Vec<u8>, AllocError> {
-    let mut wasm = Vec::from_slice(alloc, &PREAMBLE)?;
-    wasm.extend_from_slice(&NO_PARAMS)?;
-    wasm.extend_from_slice(&[0x03, 0x02, 0x01, 0x00])?;
-    wasm.extend_from_slice(code)?;
-    repeat(&mut wasm, depth, opens)?;
-    repeat(&mut wasm, depth, closes)?;
-    wasm.push(0x0b)?;
-    Ok(wasm)
+    build(
+        alloc,
+        &[
+            Part::Bytes(PREAMBLE),
+            NO_PARAMS,
+            ONE_FUNCTION,
+            Part::Bytes(code),
+            Part::Copies(depth, opens),
+            Part::Copies(depth, closes),
+            Part::Bytes(&[0x0b]),
+        ],
+    )
 }

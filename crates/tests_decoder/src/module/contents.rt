@@ -1,12 +1,13 @@
 //! Tests of the items of decoded modules: their places, types and values. All expected values are typed by hand.
 
-use crate::module::modules::{DATA, FUNCTIONS, TYPES, decode_row, module};
+use crate::module::modules::{Compared, DATA, Expected, FUNCTIONS, TYPES, are_all, are_as};
+use std::alloc;
 use std::test::Fail;
 use wasmprinter_ops::expression::{Expression, OperatorsReader};
 use wasmprinter_ops::{HeapType, RefType, ValType};
 use wasmprinter_wasm::{
     Data, DataMode, Element, ElementItems, ElementMode, Export, ExternKind, ExternType, Fields,
-    Global, GlobalType, Import, Limits, Memory, MemoryType, Module, Table, TableType, Tag, decode,
+    Global, GlobalType, Import, Limits, Memory, MemoryType, Module, Table, TableType, Tag,
 };
 
 /// The place of the first item of the first section.
@@ -73,38 +74,27 @@ fn has_operators(decoded: &Module, wanted: &[(u64, &str)]) -> bool {
         && are_operators(&mut body.operators(), wanted)
 }
 
-/// Reports whether the memories have these places and minimums.
-fn are_memories(memories: &[Memory], wanted: &[(u64, u64)]) -> bool {
-    for (memory, (place, min)) in memories.iter().zip(wanted) {
-        if memory.place() != *place || memory.ty().limits.min != *min {
-            return false;
-        }
+/// The expected place and minimum.
+impl Compared<(u64, u64)> for Memory {
+    fn is(&self, (place, min): &(u64, u64)) -> bool {
+        self.place() == *place && self.ty().limits.min == *min
     }
-    memories.len() == wanted.len()
 }
 
-/// Reports whether the tags have these places and types.
-fn are_tags(tags: &[Tag], wanted: &[(u64, u32)]) -> bool {
-    for (tag, (place, type_index)) in tags.iter().zip(wanted) {
-        if tag.place() != *place || tag.type_index() != *type_index {
-            return false;
-        }
+/// The expected place and type.
+impl Compared<(u64, u32)> for Tag {
+    fn is(&self, (place, type_index): &(u64, u32)) -> bool {
+        self.place() == *place && self.type_index() == *type_index
     }
-    tags.len() == wanted.len()
 }
 
-/// Reports whether these are the exports.
-fn are_exports(exports: &[Export], wanted: &[Exported]) -> bool {
-    for (export, (place, name, kind, index)) in exports.iter().zip(wanted) {
-        if export.place() != *place
-            || export.name() != *name
-            || export.kind() != *kind
-            || export.index() != *index
-        {
-            return false;
-        }
+impl Compared<Exported> for Export<'_> {
+    fn is(&self, (place, name, kind, index): &Exported) -> bool {
+        self.place() == *place
+            && self.name() == *name
+            && self.kind() == *kind
+            && self.index() == *index
     }
-    exports.len() == wanted.len()
 }
 
 /// Reports whether an expression has one operator before its `end`.
@@ -112,47 +102,28 @@ fn has_one_operator(expression: &Expression) -> bool {
     expression.operators().count() == 1
 }
 
-/// Reports whether this is the table, with an initialiser of one operator or without one.
-fn is_table(table: &Table, (place, ty, end): Tabled) -> bool {
-    let has_init = match table.init() {
-        Some(init) => end == Some(init.end()) && has_one_operator(init),
-        None => end.is_none(),
-    };
-    has_init && table.place() == place && table.ty() == ty
+/// An initialiser has one operator.
+impl Compared<Tabled> for Table<'_> {
+    fn is(&self, (place, ty, end): &Tabled) -> bool {
+        let has_init = match self.init() {
+            Some(init) => *end == Some(init.end()) && has_one_operator(init),
+            None => end.is_none(),
+        };
+        has_init && self.place() == *place && self.ty() == *ty
+    }
 }
 
-/// Reports whether these are the tables.
-fn are_tables(tables: &[Table], wanted: &[Tabled]) -> bool {
-    for (table, tabled) in tables.iter().zip(wanted) {
-        if !is_table(table, *tabled) {
-            return false;
-        }
+/// The expected place and type. The initialiser has one operator.
+impl Compared<(u64, GlobalType)> for Global<'_> {
+    fn is(&self, (place, ty): &(u64, GlobalType)) -> bool {
+        self.place() == *place && self.ty() == *ty && has_one_operator(self.init())
     }
-    tables.len() == wanted.len()
 }
 
-/// Reports whether these are the globals, each with an initialiser of one operator.
-fn are_globals(globals: &[Global], wanted: &[(u64, GlobalType)]) -> bool {
-    for (global, (place, ty)) in globals.iter().zip(wanted) {
-        if global.place() != *place || global.ty() != *ty || !has_one_operator(global.init()) {
-            return false;
-        }
+impl Compared<Imported> for Import<'_> {
+    fn is(&self, (place, name, ty): &Imported) -> bool {
+        self.place() == *place && self.module() == "m" && self.name() == *name && self.ty() == *ty
     }
-    globals.len() == wanted.len()
-}
-
-/// Reports whether these are the imports.
-fn are_imports(imports: &[Import], wanted: &[Imported]) -> bool {
-    for (import, (place, name, ty)) in imports.iter().zip(wanted) {
-        if import.place() != *place
-            || import.module() != "m"
-            || import.name() != *name
-            || import.ty() != *ty
-        {
-            return false;
-        }
-    }
-    imports.len() == wanted.len()
 }
 
 /// Reports whether exactly one item of each kind is imported.
@@ -182,41 +153,24 @@ fn counts_of(items: &ElementItems) -> (u32, usize) {
     }
 }
 
-/// Reports whether this is the segment, at the place `FIRST`, with an offset of one operator if it is active.
-fn is_segment(element: &Element, wanted: Segment) -> bool {
-    let (table, names_table, functions, expressions) = wanted;
-    is_active_for(element.mode(), table)
-        && element.place() == FIRST
-        && element.names_table() == names_table
-        && counts_of(element.items()) == (functions, expressions)
-}
-
-/// Reports whether there is exactly one segment, and this is it.
-fn is_only_segment(elements: &[Element], wanted: Segment) -> bool {
-    match elements {
-        [element] => is_segment(element, wanted),
-        _ => false,
+/// The segment is at the place `FIRST`, with an offset of one operator if it is active.
+impl Compared<Segment> for Element<'_> {
+    fn is(&self, (table, names_table, functions, expressions): &Segment) -> bool {
+        is_active_for(self.mode(), *table)
+            && self.place() == FIRST
+            && self.names_table() == *names_table
+            && counts_of(self.items()) == (*functions, *expressions)
     }
 }
 
-/// Reports whether a segment has this place and these bytes, and is active for this memory or, for `None`,
-/// passive.
-fn is_data(data: &Data, place: u64, memory: Option<u32>, bytes: &[u8]) -> bool {
-    let found = match data.mode() {
-        DataMode::Active { memory, .. } => Some(*memory),
-        DataMode::Passive => None,
-    };
-    data.place() == place && found == memory && data.bytes() == bytes
-}
-
-/// Reports whether these are the data segments.
-fn are_data_segments(segments: &[Data], wanted: &[DataSegment]) -> bool {
-    for (segment, (place, memory, bytes)) in segments.iter().zip(wanted) {
-        if !is_data(segment, *place, *memory, bytes) {
-            return false;
-        }
+impl Compared<DataSegment> for Data<'_> {
+    fn is(&self, (place, memory, bytes): &DataSegment) -> bool {
+        let found = match self.mode() {
+            DataMode::Active { memory, .. } => Some(*memory),
+            DataMode::Passive => None,
+        };
+        self.place() == *place && found == *memory && self.bytes() == *bytes
     }
-    segments.len() == wanted.len()
 }
 
 /// Returns the place and the index of the start function, or `None` if there is none.
@@ -225,24 +179,23 @@ fn start_of(decoded: &Module) -> Option<(u64, u32)> {
     Some((start.place(), start.function()))
 }
 
-impl Items {
-    /// Reports whether these are the items of the module.
-    fn are_in(self, decoded: &Module) -> bool {
-        match self {
-            Items::Operators(operators) => has_operators(decoded, operators),
-            Items::Tables(tables) => are_tables(decoded.tables(), tables),
-            Items::Memories(memories) => are_memories(decoded.memories(), memories),
-            Items::Tags(tags) => are_tags(decoded.tags(), tags),
-            Items::Globals(globals) => are_globals(decoded.globals(), globals),
-            Items::Exports(exports) => are_exports(decoded.exports(), exports),
+impl Expected for Items {
+    fn is_met(&self, _alloc: alloc::Global, module: &Module) -> bool {
+        match *self {
+            Items::Operators(operators) => has_operators(module, operators),
+            Items::Tables(tables) => are_all(module.tables(), tables),
+            Items::Memories(memories) => are_all(module.memories(), memories),
+            Items::Tags(tags) => are_all(module.tags(), tags),
+            Items::Globals(globals) => are_all(module.globals(), globals),
+            Items::Exports(exports) => are_all(module.exports(), exports),
             Items::Imports(imports) => {
-                are_imports(decoded.imports(), imports)
-                    && imports_one_of_each(decoded)
-                    && decoded.function_count() == 0
+                are_all(module.imports(), imports)
+                    && imports_one_of_each(module)
+                    && module.function_count() == 0
             }
-            Items::Start(start) => start_of(decoded) == start,
-            Items::Element(segment) => is_only_segment(decoded.elements(), segment),
-            Items::Data(segments) => are_data_segments(decoded.data_segments(), segments),
+            Items::Start(start) => start_of(module) == start,
+            Items::Element(segment) => are_all(module.elements(), &[segment]),
+            Items::Data(segments) => are_all(module.data_segments(), segments),
         }
     }
 }
@@ -291,7 +244,7 @@ const EXTERN: RefType = RefType {
 };
 
 /// An import section with one import of each kind.
-const IMPORTS: [u8; 38] = [
+const IMPORTS: &[u8] = &[
     0x02, 0x24, 0x05, 0x01, 0x6d, 0x01, 0x66, 0x00, 0x03, 0x01, 0x6d, 0x01, 0x74, 0x01, 0x70, 0x00,
     0x01, 0x01, 0x6d, 0x01, 0x65, 0x02, 0x00, 0x01, 0x01, 0x6d, 0x01, 0x67, 0x03, 0x7f, 0x01, 0x01,
     0x6d, 0x01, 0x78, 0x04, 0x00, 0x02,
@@ -300,12 +253,12 @@ const IMPORTS: [u8; 38] = [
 /// A module: the name of the row, its sections, and its items of one kind.
 type Row = (&'static str, &'static [&'static [u8]], Items);
 
-const ROWS: [Row; 22] = [
+const ROWS: &[Row] = &[
     (
         "operators",
         &[
             &[0x01, 0x05, 0x01, 0x60, 0x00, 0x01, 0x7e],
-            &FUNCTIONS,
+            FUNCTIONS,
             &[
                 0x0a, 0x0c, 0x01, 0x0a, 0x01, 0x01, 0x7e, 0x42, 0x7f, 0x21, 0x00, 0x20, 0x00, 0x0b,
             ],
@@ -414,7 +367,7 @@ const ROWS: [Row; 22] = [
     ),
     (
         "an import of each kind",
-        &[&IMPORTS],
+        &[IMPORTS],
         Items::Imports(&[
             (0x0b, "f", ExternType::Func(3)),
             (0x11, "t", ExternType::Table(TABLE)),
@@ -425,14 +378,14 @@ const ROWS: [Row; 22] = [
     ),
     (
         "a start function",
-        &[&TYPES, &[0x08, 0x02, 0x87, 0x00]],
+        &[TYPES, &[0x08, 0x02, 0x87, 0x00]],
         Items::Start(Some((0x10, 7))),
     ),
     (
         "no start function",
         &[
             &[0x01, 0x06, 0x01, 0x60, 0x01, 0x7f, 0x01, 0x7f],
-            &FUNCTIONS,
+            FUNCTIONS,
             &[0x07, 0x05, 0x01, 0x01, 0x66, 0x00, 0x00],
             &[0x0a, 0x06, 0x01, 0x04, 0x00, 0x20, 0x00, 0x0b],
         ],
@@ -498,9 +451,7 @@ const ROWS: [Row; 22] = [
 #[test]
 fn items_have_their_places_and_values(rt: HostRuntime) -> Result<(), Fail> {
     for (name, sections, items) in ROWS {
-        let bytes = module(rt.alloc(), sections)?;
-        let decoded = decode_row(name, rt.alloc(), &bytes)?;
-        assert!(rt; items.are_in(&decoded), "{name}");
+        assert!(rt; are_as(rt.alloc(), sections, items)?, "{name}");
     }
     Ok(())
 }

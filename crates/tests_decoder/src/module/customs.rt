@@ -1,12 +1,14 @@
 //! Tests of custom sections: their names and bytes, errors in them, and the names of a module. All expected values
 //! are typed by hand.
 
-use crate::module::modules::{CODE, FUNCTIONS, TYPES, decode_row, fault_place, module};
+use crate::module::modules::{
+    CODE, Compared, Expected, FUNCTIONS, TYPES, are_all, are_as, are_refused_at,
+};
 use std::alloc::{AllocError, Global};
 use std::test::Fail;
 use wasmprinter_custom::{Names, Space};
 use wasmprinter_wasm::customs::Custom;
-use wasmprinter_wasm::{CustomEntry, Fields, decode};
+use wasmprinter_wasm::{CustomEntry, Fields, Module};
 
 /// A name section with the names `m` for the module and `a` for function 0.
 const FIRST_NAMES: &[u8] = b"\x00\x0f\x04name\x00\x02\x01m\x01\x04\x01\x00\x01a";
@@ -23,9 +25,9 @@ const NO_NAMES: &[u8] = b"\x00\x05\x04name";
 /// A name section whose only subsection, with function names, is truncated after the first name.
 const CUT_NAMES: &[u8] = b"\x00\x0e\x04name\x01\x07\x02\x00\x01c\x01\x05d";
 
-/// Returns a module with one function, and with these sections at three places among its own.
-fn with_names(alloc: Global, [before, amid, after]: [&[u8]; 3]) -> Result<Vec<u8>, AllocError> {
-    module(alloc, &[before, &TYPES, &FUNCTIONS, amid, &CODE, after])
+/// Returns the sections of a module with one function, and these at three places among them.
+fn with_others([before, amid, after]: Places) -> [&'static [u8]; 6] {
+    [before, TYPES, FUNCTIONS, amid, CODE, after]
 }
 
 /// No section.
@@ -48,7 +50,7 @@ enum Fact {
 /// Custom sections: the name of the row, the sections at three places, and a fact about each custom section.
 type Row = (&'static str, Places, &'static [Fact]);
 
-const ROWS: [Row; 16] = [
+const ROWS: &[Row] = &[
     ("no custom section", [NONE, NONE, NONE], &[]),
     (
         "names before all sections",
@@ -151,42 +153,59 @@ fn holds(section: &Custom, place: u64, bytes: &[u8]) -> bool {
         && cursor.len() == bytes.len()
 }
 
-/// Reports whether this is a fact about the custom section.
-fn is_fact(fact: Fact, section: &Custom) -> bool {
-    match fact {
-        Fact::Names(place) => {
-            section.place() == place && section.name() == "name" && section.is_name_section()
+/// The fact is about the custom section.
+impl Compared<Fact> for CustomEntry<'_> {
+    fn is(&self, fact: &Fact) -> bool {
+        let section = &self.section;
+        match *fact {
+            Fact::Names(place) => {
+                section.place() == place && section.name() == "name" && section.is_name_section()
+            }
+            Fact::Other(name, bytes) => {
+                section.name() == name && section.bytes() == bytes && !section.is_name_section()
+            }
+            Fact::Data(place, bytes) => holds(section, place, bytes),
         }
-        Fact::Other(name, bytes) => {
-            section.name() == name && section.bytes() == bytes && !section.is_name_section()
-        }
-        Fact::Data(place, bytes) => holds(section, place, bytes),
     }
 }
 
-/// Reports whether there is one custom section for each fact, about which it holds.
-fn are_facts(customs: &[CustomEntry], facts: &[Fact]) -> bool {
-    for (custom, fact) in customs.iter().zip(facts) {
-        if !is_fact(*fact, &custom.section) {
-            return false;
+/// What is expected of the custom sections of a module.
+#[derive(Clone, Copy)]
+enum Customs {
+    /// There is one custom section for each fact, about which it holds.
+    Facts(&'static [Fact]),
+    /// There are this many.
+    Count(usize),
+    /// They give these names to the module and to functions 0 and 1.
+    Names(Option<&'static str>, Option<&'static str>, Option<&'static str>),
+}
+
+impl Expected for Customs {
+    fn is_met(&self, alloc: Global, module: &Module) -> bool {
+        match *self {
+            Customs::Facts(facts) => are_all(module.customs(), facts),
+            Customs::Count(count) => module.customs().len() == count,
+            Customs::Names(of_module, first, second) => match module.names(alloc) {
+                Ok(names) => are_given(&names, of_module, first, second),
+                Err(_) => false,
+            },
         }
     }
-    customs.len() == facts.len()
 }
 
 #[test]
 fn custom_sections_have_names_places_and_data(rt: HostRuntime) -> Result<(), Fail> {
     for (name, sections, facts) in ROWS {
-        let bytes = with_names(rt.alloc(), sections)?;
-        let decoded = decode_row(name, rt.alloc(), &bytes)?;
-        assert!(rt; are_facts(decoded.customs(), facts), "{name}");
+        let sections = with_others(*sections);
+        let expected = Customs::Facts(*facts);
+        assert!(rt; are_as(rt.alloc(), &sections, &expected)?, "{name}");
     }
     Ok(())
 }
 
 /// Custom sections that are refused before all other sections and after them: the name of the row, the section, and the
 /// offset of the error from its first byte.
-const REFUSED: [(&str, &[u8], u64); 6] = [
+const REFUSED: &[(&str, &[u8], u64)] = &[
     ("no name", b"\x00\x00", 2),
     (
         "a name that exceeds the section by a byte",
@@ -207,19 +226,20 @@ const REFUSED: [(&str, &[u8], u64); 6] = [
     ),
 ];
 
+/// Reports whether a section is refused before all other sections and after them, at this offset from its first byte.
+fn is_refused_at(alloc: Global, section: &[u8], offset: u64) -> Result<bool, AllocError> {
+    let before = [section, TYPES, FUNCTIONS, CODE];
+    let after = [TYPES, FUNCTIONS, CODE, section];
+    Ok(
+        are_refused_at(alloc, &before, offset.saturating_add(0x08))?
+            && are_refused_at(alloc, &after, offset.saturating_add(0x18))?,
+    )
+}
+
 #[test]
 fn custom_sections_without_a_whole_name_are_refused(rt: HostRuntime) -> Result<(), Fail> {
     for (name, section, offset) in REFUSED {
-        let before = with_names(rt.alloc(), [section, NONE, NONE])?;
-        assert!(rt;
-            fault_place(rt.alloc(), &before) == Some(0x08 + offset),
-            "{name}"
-        );
-        let after = with_names(rt.alloc(), [NONE, NONE, section])?;
-        assert!(rt;
-            fault_place(rt.alloc(), &after) == Some(0x18 + offset),
-            "{name}"
-        );
+        assert!(rt; is_refused_at(rt.alloc(), section, *offset)?, "{name}");
     }
     Ok(())
 }
@@ -230,59 +250,71 @@ type Named = (
     &'static str,
     Places,
     Option<&'static str>,
-    [Option<&'static str>; 2],
+    Option<&'static str>,
+    Option<&'static str>,
 );
 
-const NAMED: [Named; 8] = [
-    ("no section", [NONE, NONE, NONE], None, [None, None]),
+const NAMED: &[Named] = &[
+    ("no section", [NONE, NONE, NONE], None, None, None),
     (
         "sections without names",
         [NO_NAMES, NONE, NO_NAMES],
         None,
-        [None, None],
+        None,
+        None,
     ),
     (
         "a section with another name",
         [OTHER_NAMES, NONE, NONE],
         None,
-        [None, None],
+        None,
+        None,
     ),
     (
         "one section",
         [FIRST_NAMES, NONE, NONE],
         Some("m"),
-        [Some("a"), None],
+        Some("a"),
+        None,
     ),
     (
         "another section",
         [NONE, NONE, SECOND_NAMES],
         None,
-        [Some("b"), Some("a")],
+        Some("b"),
+        Some("a"),
     ),
     // A name that was given before is replaced, and the last name of a function counts
     (
         "two sections",
         [FIRST_NAMES, NONE, SECOND_NAMES],
         Some("m"),
-        [Some("b"), Some("#func1 a")],
+        Some("b"),
+        Some("#func1 a"),
     ),
     (
         "two sections the other way round",
         [SECOND_NAMES, FIRST_NAMES, NONE],
         Some("m"),
-        [Some("#func0 a"), Some("a")],
+        Some("#func0 a"),
+        Some("a"),
     ),
     (
         "a section after one with an error",
         [CUT_NAMES, NO_NAMES, FIRST_NAMES],
         Some("m"),
-        [Some("a"), None],
+        Some("a"),
+        None,
     ),
 ];
 
 /// Reports whether the module and functions 0 and 1 have these names.
-fn are_given(names: &Names, of_module: Option<&str>, of_functions: [Option<&str>; 2]) -> bool {
-    let [first, second] = of_functions;
+fn are_given(
+    names: &Names,
+    of_module: Option<&str>,
+    first: Option<&str>,
+    second: Option<&str>,
+) -> bool {
     names.module() == of_module
         && names.identifier(Space::Func, 0, 0) == first
         && names.identifier(Space::Func, 0, 1) == second
@@ -290,23 +322,19 @@ fn are_given(names: &Names, of_module: Option<&str>, of_functions: [Option<&str>
 
 #[test]
 fn all_name_sections_give_names(rt: HostRuntime) -> Result<(), Fail> {
-    for (name, sections, of_module, of_functions) in NAMED {
-        let bytes = with_names(rt.alloc(), sections)?;
-        let decoded = decode_row(name, rt.alloc(), &bytes)?;
-        let names = decoded.names(rt.alloc())?;
-        assert!(rt; are_given(&names, of_module, of_functions), "{name}");
+    for (name, sections, of_module, first, second) in NAMED {
+        let sections = with_others(*sections);
+        let expected = Customs::Names(*of_module, *first, *second);
+        assert!(rt; are_as(rt.alloc(), &sections, &expected)?, "{name}");
     }
     Ok(())
 }
 
 #[test]
 fn custom_sections_may_be_adjacent(rt: HostRuntime) -> Result<(), Fail> {
-    let twice = module(rt.alloc(), &[FIRST_NAMES, FIRST_NAMES])?;
-    let decoded = decode(rt.alloc(), &twice)?;
-    assert!(rt; decoded.customs().len() == 2);
+    let twice = [FIRST_NAMES, FIRST_NAMES];
+    assert!(rt; are_as(rt.alloc(), &twice, &Customs::Count(2))?);
     let note: &[u8] = b"\x00\x02\x01n";
-    let hundreds = module(rt.alloc(), &[note; 300])?;
-    let decoded = decode(rt.alloc(), &hundreds)?;
-    assert!(rt; decoded.customs().len() == 300);
+    assert!(rt; are_as(rt.alloc(), &[note; 300], &Customs::Count(300))?);
     Ok(())
 }

@@ -1,8 +1,7 @@
 //! Tests of the places of errors in sections. The place is that of the first byte, number or entry that the binary
 //! format does not allow, or the end of the section if something is missing. The places are counted by hand.
 
-use crate::module::modules::{fault_place, module};
-use std::alloc::{AllocError, Global};
+use crate::module::modules::are_refused_at;
 use std::test::Fail;
 
 /// Sections, each with the place of the error if it is the only section of a module. Its id is at 8, its size at
@@ -143,17 +142,14 @@ const SEGMENTS: Faults = &[
     (&[0x0a, 0x05, 0x01, 0x03, 0x00, 0x0b, 0x0b], 0x0e),
 ];
 
-/// Reports whether a module with only this section is refused with this place.
-fn is_at_fault(alloc: Global, section: &[u8], wanted: u64) -> Result<bool, AllocError> {
-    let bytes = module(alloc, &[section])?;
-    Ok(fault_place(alloc, &bytes) == Some(wanted))
-}
-
 #[test]
 fn reports_faults_at_their_start(rt: HostRuntime) -> Result<(), Fail> {
     for faults in [UNKNOWN, DECLARATIONS, DEFINITIONS, SEGMENTS] {
-        for (section, wanted) in faults {
-            assert!(rt; is_at_fault(rt.alloc(), section, *wanted)?, "{section:?}");
+        for (section, place) in faults {
+            assert!(rt;
+                are_refused_at(rt.alloc(), &[*section], *place)?,
+                "{section:?}"
+            );
         }
     }
     Ok(())

@@ -2,36 +2,37 @@
 //! places are typed by hand.
 
 use crate::module::modules::{
-    CODE, EXPORTS, FUNCTIONS, MEMORIES, START, TAGS, TYPES, decode_row, module,
+    CODE, Compared, EXPORTS, Expected, FUNCTIONS, MEMORIES, START, TAGS, TYPES, are_all, are_as,
 };
+use std::alloc::Global;
 use std::test::Fail;
-use wasmprinter_wasm::{CustomEntry, Fields, SectionKind};
+use wasmprinter_wasm::{CustomEntry, Fields, Module, SectionKind};
 
 /// A custom section named `n`.
 const NOTE: &[u8] = b"\x00\x02\x01n";
 
 /// An import section with one function, whose names are empty.
-const IMPORTS: [u8; 7] = [0x02, 0x05, 0x01, 0x00, 0x00, 0x00, 0x00];
+const IMPORTS: &[u8] = &[0x02, 0x05, 0x01, 0x00, 0x00, 0x00, 0x00];
 
 /// A table section with one table.
-const TABLES: [u8; 6] = [0x04, 0x04, 0x01, 0x70, 0x00, 0x01];
+const TABLES: &[u8] = &[0x04, 0x04, 0x01, 0x70, 0x00, 0x01];
 
 /// A global section with one global.
-const GLOBALS: [u8; 8] = [0x06, 0x06, 0x01, 0x7f, 0x00, 0x41, 0x00, 0x0b];
+const GLOBALS: &[u8] = &[0x06, 0x06, 0x01, 0x7f, 0x00, 0x41, 0x00, 0x0b];
 
 /// An element section with one segment without items.
-const ELEMENTS: [u8; 6] = [0x09, 0x04, 0x01, 0x01, 0x00, 0x00];
+const ELEMENTS: &[u8] = &[0x09, 0x04, 0x01, 0x01, 0x00, 0x00];
 
 /// A data count section with the count 1.
-const DATA_COUNT: [u8; 3] = [0x0c, 0x01, 0x01];
+const DATA_COUNT: &[u8] = &[0x0c, 0x01, 0x01];
 
 /// A data section with one segment without bytes.
-const DATA: [u8; 5] = [0x0b, 0x03, 0x01, 0x01, 0x00];
+const DATA: &[u8] = &[0x0b, 0x03, 0x01, 0x01, 0x00];
 
 /// A function section and a code section without functions.
-const NO_FUNCTIONS: [u8; 3] = [0x03, 0x01, 0x00];
+const NO_FUNCTIONS: &[u8] = &[0x03, 0x01, 0x00];
 
-const NO_CODE: [u8; 3] = [0x0a, 0x01, 0x00];
+const NO_CODE: &[u8] = &[0x0a, 0x01, 0x00];
 
 /// The name of the row, sections, and the places of the custom sections among them.
 type Row = (
@@ -44,33 +45,9 @@ type Row = (
 const ALL: Row = (
     "sections of all kinds",
     &[
-        NOTE,
-        &TYPES,
-        NOTE,
-        &IMPORTS,
-        NOTE,
-        &FUNCTIONS,
-        NOTE,
-        &TABLES,
-        NOTE,
-        &MEMORIES,
-        NOTE,
-        &TAGS,
-        NOTE,
-        &GLOBALS,
-        NOTE,
-        &EXPORTS,
-        NOTE,
-        &START,
-        NOTE,
-        &ELEMENTS,
-        NOTE,
-        &DATA_COUNT,
-        NOTE,
-        &CODE,
-        NOTE,
-        &DATA,
-        NOTE,
+        NOTE, TYPES, NOTE, IMPORTS, NOTE, FUNCTIONS, NOTE, TABLES, NOTE, MEMORIES, NOTE, TAGS,
+        NOTE, GLOBALS, NOTE, EXPORTS, NOTE, START, NOTE, ELEMENTS, NOTE, DATA_COUNT, NOTE, CODE,
+        NOTE, DATA, NOTE,
     ],
     &[
         None,
@@ -98,7 +75,7 @@ const EMPTY: Row = (
         NOTE,
         &[0x02, 0x01, 0x00],
         NOTE,
-        &NO_FUNCTIONS,
+        NO_FUNCTIONS,
         NOTE,
         &[0x04, 0x01, 0x00],
         NOTE,
@@ -114,7 +91,7 @@ const EMPTY: Row = (
         NOTE,
         &[0x0c, 0x01, 0x00],
         NOTE,
-        &NO_CODE,
+        NO_CODE,
         NOTE,
         &[0x0b, 0x01, 0x00],
         NOTE,
@@ -125,83 +102,88 @@ const EMPTY: Row = (
 /// Modules with custom sections, each with their places.
 const ROWS: &[Row] = &[
     ("a custom section alone", &[NOTE], &[None]),
-    ("before types", &[NOTE, &TYPES], &[None]),
-    ("after types", &[&TYPES, NOTE], &[Some(SectionKind::Type)]),
+    ("before types", &[NOTE, TYPES], &[None]),
+    ("after types", &[TYPES, NOTE], &[Some(SectionKind::Type)]),
     (
         "before, between and after sections",
-        &[NOTE, &TYPES, NOTE, &MEMORIES, NOTE],
+        &[NOTE, TYPES, NOTE, MEMORIES, NOTE],
         &[None, Some(SectionKind::Type), Some(SectionKind::Memory)],
     ),
     (
         "two in a row before types",
-        &[NOTE, NOTE, &TYPES],
+        &[NOTE, NOTE, TYPES],
         &[None, None],
     ),
     (
         "two in a row after types",
-        &[&TYPES, NOTE, NOTE, &MEMORIES],
+        &[TYPES, NOTE, NOTE, MEMORIES],
         &[Some(SectionKind::Type), Some(SectionKind::Type)],
     ),
     (
         "a section without functions does not count",
-        &[&NO_FUNCTIONS, NOTE],
+        &[NO_FUNCTIONS, NOTE],
         &[None],
     ),
     (
         "a section without bodies does not count",
-        &[&TYPES, &NO_FUNCTIONS, NOTE, &NO_CODE, NOTE],
+        &[TYPES, NO_FUNCTIONS, NOTE, NO_CODE, NOTE],
         &[Some(SectionKind::Type), Some(SectionKind::Type)],
     ),
     (
         "a start section counts",
-        &[&START, NOTE],
+        &[START, NOTE],
         &[Some(SectionKind::Start)],
     ),
     (
         "a start section counts after exports",
-        &[&EXPORTS, NOTE, &START, &NO_CODE, NOTE],
+        &[EXPORTS, NOTE, START, NO_CODE, NOTE],
         &[Some(SectionKind::Export), Some(SectionKind::Start)],
     ),
     (
         "a data count section does not count",
-        &[&DATA_COUNT, NOTE, &DATA],
+        &[DATA_COUNT, NOTE, DATA],
         &[None],
     ),
     (
         "a data count section does not count after memories",
-        &[&MEMORIES, &DATA_COUNT, NOTE, &DATA],
+        &[MEMORIES, DATA_COUNT, NOTE, DATA],
         &[Some(SectionKind::Memory)],
     ),
     (
         "after code",
-        &[&TYPES, &FUNCTIONS, &CODE, NOTE],
+        &[TYPES, FUNCTIONS, CODE, NOTE],
         &[Some(SectionKind::Code)],
     ),
     (
         "before code and after data",
-        &[&TYPES, &FUNCTIONS, NOTE, &CODE, &DATA, NOTE],
+        &[TYPES, FUNCTIONS, NOTE, CODE, DATA, NOTE],
         &[Some(SectionKind::Function), Some(SectionKind::Data)],
     ),
     ALL,
     EMPTY,
 ];
 
-/// Reports whether custom sections have these places.
-fn stand_after(customs: &[CustomEntry], places: &[Option<SectionKind>]) -> bool {
-    for (custom, place) in customs.iter().zip(places) {
-        if custom.after != *place {
-            return false;
-        }
+/// The place is that of the custom section.
+impl Compared<Option<SectionKind>> for CustomEntry<'_> {
+    fn is(&self, place: &Option<SectionKind>) -> bool {
+        self.after == *place
     }
-    customs.len() == places.len()
+}
+
+/// The places of the custom sections.
+#[derive(Clone, Copy)]
+struct Places(&'static [Option<SectionKind>]);
+
+impl Expected for Places {
+    fn is_met(&self, _alloc: Global, module: &Module) -> bool {
+        are_all(module.customs(), self.0)
+    }
 }
 
 #[test]
 fn custom_sections_follow_nonempty_sections(rt: HostRuntime) -> Result<(), Fail> {
     for (name, sections, places) in ROWS {
-        let bytes = module(rt.alloc(), sections)?;
-        let decoded = decode_row(name, rt.alloc(), &bytes)?;
-        assert!(rt; stand_after(decoded.customs(), places), "{name}");
+        assert!(rt; are_as(rt.alloc(), sections, &Places(*places))?, "{name}");
     }
     Ok(())
 }

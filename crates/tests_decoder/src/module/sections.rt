@@ -1,13 +1,13 @@
 //! Tests of sections that are accepted or refused as the only section of a module. The bytes are typed by hand.
 
-use crate::module::modules::{Verdict, module};
-use std::alloc::Global;
+use crate::module::modules::Verdict;
 use std::test::Fail;
+use wasmprinter_samples::PREAMBLE;
 
 /// Sections: what they have in common, and the expected result of decoding a module with each alone.
 type Group = (&'static str, Verdict, &'static [&'static [u8]]);
 
-const GROUPS: [Group; 21] = [
+const GROUPS: &[Group] = &[
     (
         "groups of types, structures, arrays and subtypes",
         Verdict::Accepted,
@@ -213,25 +213,15 @@ const GROUPS: [Group; 21] = [
     ),
 ];
 
-/// Checks the result of decoding a module with each section of a group alone.
-///
-/// # Errors
-///
-/// - A result differs. The error is the name of the group with the number of the section, counted from 0.
-fn expect_group(alloc: Global, (name, verdict, sections): Group) -> Result<(), Fail> {
-    for (number, section) in sections.iter().enumerate() {
-        let bytes = module(alloc, &[section])?;
-        if !verdict.is_on(alloc, &bytes) {
-            return Err((name, number))?;
-        }
-    }
-    Ok(())
-}
-
 #[test]
 fn single_sections_are_accepted_or_refused(rt: HostRuntime) -> Result<(), Fail> {
-    for group in GROUPS {
-        expect_group(rt.alloc(), group)?;
+    for (name, verdict, sections) in GROUPS {
+        for (number, section) in sections.iter().enumerate() {
+            assert!(rt;
+                verdict.is_on_all(rt.alloc(), PREAMBLE, &[*section])?,
+                "{name}, section {number}"
+            );
+        }
     }
     Ok(())
 }

@@ -1,25 +1,20 @@
 //! Tests of the types of decoded modules: groups of types, and the types of memories. All expected values are typed by
 //! hand.
 
-use crate::module::modules::module;
+use crate::module::modules::{Compared, Expected, are_all, are_as};
 use std::alloc::{AllocError, Global};
 use std::test::Fail;
 use wasmprinter_ops::ValType;
 use wasmprinter_ops::composite::FuncType;
-use wasmprinter_wasm::{Fields, Limits, MemoryType, Module, TypeGroup, decode};
+use wasmprinter_wasm::{Fields, Limits, MemoryType, Module, TypeGroup};
 
-/// Reports whether the groups of types have these places, are written as groups or not, and have these numbers of
-/// types.
-fn are_groups(groups: &[TypeGroup], wanted: &[(u64, bool, u32)]) -> bool {
-    for (group, (place, is_written, len)) in groups.iter().zip(wanted) {
-        if group.place() != *place
-            || group.is_written() != *is_written
-            || group.types().len() != *len
-        {
-            return false;
-        }
+/// A group of types: its place, whether it is written as a group, and the number of its types.
+type Group = (u64, bool, u32);
+
+impl Compared<Group> for TypeGroup<'_> {
+    fn is(&self, (place, is_written, len): &Group) -> bool {
+        self.place() == *place && self.is_written() == *is_written && self.types().len() == *len
     }
-    groups.len() == wanted.len()
 }
 
 /// Reports whether a function type has one parameter, of type f32, and no results.
@@ -39,37 +34,39 @@ fn has_signatures(decoded: &Module) -> bool {
         && decoded.signature(4).is_none()
 }
 
+/// Two groups of types that are written as groups, each followed by another type.
+#[derive(Clone, Copy)]
+struct Groups;
+
+impl Expected for Groups {
+    fn is_met(&self, _alloc: Global, module: &Module) -> bool {
+        let groups = [
+            (0x0b, true, 0),
+            (0x0d, false, 1),
+            (0x0f, true, 2),
+            (0x1a, false, 1),
+        ];
+        are_all(module.types(), &groups) && has_signatures(module)
+    }
+}
+
 #[test]
 fn type_indices_count_the_types_of_all_groups(rt: HostRuntime) -> Result<(), Fail> {
     let section = [
         0x01, 0x13, 0x04, 0x4e, 0x00, 0x5f, 0x00, 0x4e, 0x02, 0x60, 0x01, 0x7d, 0x00, 0x50, 0x00,
         0x60, 0x00, 0x00, 0x5e, 0x78, 0x01,
     ];
-    let bytes = module(rt.alloc(), &[&section])?;
-    let decoded = decode(rt.alloc(), &bytes)?;
-    let wanted = [
-        (0x0b, true, 0),
-        (0x0d, false, 1),
-        (0x0f, true, 2),
-        (0x1a, false, 1),
-    ];
-    assert!(rt; are_groups(decoded.types(), &wanted));
-    assert!(rt; has_signatures(&decoded));
+    assert!(rt; are_as(rt.alloc(), &[&section], &Groups)?);
     Ok(())
 }
 
-/// Returns a module with one memory, whose type these bytes encode.
-fn with_memory(alloc: Global, memory_type: &[u8]) -> Result<Vec<u8>, AllocError> {
-    let size = u8::try_from(memory_type.len() + 1).unwrap_or(0);
-    module(alloc, &[&[0x05, size, 0x01], memory_type])
-}
-
-/// Returns the type of the only memory of a module.
-fn only_memory(alloc: Global, bytes: &[u8]) -> Option<MemoryType> {
-    let decoded = decode(alloc, bytes).ok()?;
-    match decoded.memories() {
-        [memory] => Some(memory.ty()),
-        _ => None,
+/// The type of the only memory.
+impl Expected for MemoryType {
+    fn is_met(&self, _alloc: Global, module: &Module) -> bool {
+        match module.memories() {
+            [memory] => memory.ty() == *self,
+            _ => false,
+        }
     }
 }
 
@@ -84,7 +81,7 @@ type MemoryRow = (
     Option<u32>,
 );
 
-const MEMORY_TYPES: [MemoryRow; 22] = [
+const MEMORY_TYPES: &[MemoryRow] = &[
     ("flags 00", &[0x00, 0x01], false, false, None, None),
     ("flags 01", &[0x01, 0x01, 0x02], false, false, Some(2), None),
     ("flags 02", &[0x02, 0x01], false, true, None, None),
@@ -183,17 +180,23 @@ const MEMORY_TYPES: [MemoryRow; 22] = [
     ),
 ];
 
+/// Reports whether the memory of a row has its type.
+fn is_memory(alloc: Global, row: &MemoryRow) -> Result<bool, AllocError> {
+    let (_, bytes, wide, shared, max, page) = row;
+    let wanted = MemoryType {
+        wide: *wide,
+        shared: *shared,
+        limits: Limits { min: 1, max: *max },
+        page: *page,
+    };
+    let size = u8::try_from(bytes.len() + 1).unwrap_or(0);
+    are_as(alloc, &[&[0x05, size, 0x01], bytes], &wanted)
+}
+
 #[test]
 fn flags_say_what_a_memory_is(rt: HostRuntime) -> Result<(), Fail> {
-    for (name, bytes, wide, shared, max, page) in MEMORY_TYPES {
-        let wanted = MemoryType {
-            wide,
-            shared,
-            limits: Limits { min: 1, max },
-            page,
-        };
-        let found = only_memory(rt.alloc(), &with_memory(rt.alloc(), bytes)?);
-        assert!(rt; found == Some(wanted), "{name}");
+    for row in MEMORY_TYPES {
+        assert!(rt; is_memory(rt.alloc(), row)?, "{}", row.0);
     }
     Ok(())
 }

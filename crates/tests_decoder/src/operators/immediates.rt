@@ -37,7 +37,7 @@ const LANES: [u8; 16] = [1, 2, 3, 4, 5, 6, 7, 8, 9, 10, 11, 12, 13, 14, 15, 255]
 /// An operator: the name of the row, its bytes, its word and its immediates.
 type Row = (&'static str, &'static [u8], &'static str, Wanted);
 
-const OPERATORS: [Row; 31] = [
+const OPERATORS: &[Row] = &[
     (
         "an index",
         &[0x24, 0x81, 0x01],
@@ -210,24 +210,15 @@ const OPERATORS: [Row; 31] = [
     ),
 ];
 
-/// Returns the name of the first row whose bytes are not its operator, or `None` if there is no such row.
-fn first_other(rows: &[Row]) -> Option<&'static str> {
-    for (name, bytes, word, wanted) in rows {
-        if !are_operator(bytes, word, wanted) {
-            return Some(*name);
-        }
-    }
-    None
-}
-
 #[test]
 fn immediates_are_read(rt: HostRuntime) {
-    let other = first_other(&OPERATORS);
-    assert!(rt; other == None, "{other:?}");
+    for (name, bytes, word, wanted) in OPERATORS {
+        assert!(rt; are_operator(bytes, word, wanted), "{name}");
+    }
 }
 
 /// Bytes that encode no operator: the name of the row, the bytes, and the place of the error.
-const REFUSED: [(&str, &[u8], u64); 16] = [
+const REFUSED: &[(&str, &[u8], u64)] = &[
     ("opcode ff", &[0xff], 0),
     ("an unknown opcode with a prefix", &[0xfc, 0x12], 0),
     ("a block type that is a negative number", &[0x02, 0x41], 1),
@@ -273,25 +264,25 @@ const REFUSED: [(&str, &[u8], u64); 16] = [
 #[test]
 fn other_operators_are_refused(rt: HostRuntime) {
     for (name, bytes, place) in REFUSED {
-        assert!(rt; place_of_refusal(bytes) == Some(place), "{name}");
+        assert!(rt; place_of_refusal(bytes) == Some(*place), "{name}");
     }
 }
 
+/// Flags of casts, and whether the source and the target are nullable.
+const FLAGS: &[(u8, bool, bool)] = &[
+    (0, false, false),
+    (1, true, false),
+    (2, false, true),
+    (3, true, true),
+];
+
 #[test]
 fn flags_of_casts_say_which_types_are_nullable(rt: HostRuntime) {
-    let rows = [
-        (0, false, false),
-        (1, true, false),
-        (2, false, true),
-        (3, true, true),
-    ];
-    for (flags, source, target) in rows {
+    for (flags, source, target) in FLAGS {
+        let of_source = cast_source(*flags, HeapType::Eq);
+        let of_target = cast_target(*flags, HeapType::Eq);
         assert!(rt;
-            cast_source(flags, HeapType::Eq).nullable == source,
-            "flags {flags}"
-        );
-        assert!(rt;
-            cast_target(flags, HeapType::Eq).nullable == target,
+            of_source.nullable == *source && of_target.nullable == *target,
             "flags {flags}"
         );
     }

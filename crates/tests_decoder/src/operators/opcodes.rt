@@ -18,7 +18,7 @@ enum Property {
 /// An opcode: its prefix and number, and a property.
 type Row = (u8, u32, Property);
 
-const SHAPES: [Row; 38] = [
+const SHAPES: &[Row] = &[
     (0, 0x00, Property::Shape("unreachable", Shape::None)),
     (0, 0x02, Property::Shape("block", Shape::Block)),
     (0, 0x07, Property::Shape("catch", Shape::Index(Space::Tag))),
@@ -111,7 +111,7 @@ const SHAPES: [Row; 38] = [
     ),
 ];
 
-const ARITIES: [Row; 29] = [
+const ARITIES: &[Row] = &[
     (0, 0x01, Property::Arity("nop", Arity::Fixed(0, 0))),
     (0, 0x02, Property::Arity("block", Arity::OfBlock)),
     (0, 0x08, Property::Arity("throw", Arity::OfThrow)),
@@ -175,7 +175,7 @@ const ARITIES: [Row; 29] = [
     ),
 ];
 
-const ROLES: [Row; 14] = [
+const ROLES: &[Row] = &[
     (0, 0x01, Property::Role(Role::Plain)),
     (0, 0x02, Property::Role(Role::Opens)),
     (0, 0x03, Property::Role(Role::Opens)),
@@ -193,7 +193,7 @@ const ROLES: [Row; 14] = [
 ];
 
 /// Prefixes and numbers that are opcodes of no operator.
-const OTHERS: [Row; 15] = [
+const OTHERS: &[Row] = &[
     (0, 0x16, Property::Absent),
     (0, 0x27, Property::Absent),
     (0, 0xcf, Property::Absent),
@@ -249,8 +249,8 @@ fn expect_properties(name: &'static str, rows: &[Row]) -> Result<(), Fail> {
 
 #[test]
 fn opcodes_have_words_shapes_arities_and_roles(_rt: HostRuntime) -> Result<(), Fail> {
-    expect_properties("shapes", &SHAPES)?;
-    expect_properties("arities", &ARITIES)?;
-    expect_properties("roles", &ROLES)?;
-    expect_properties("opcodes of no operator", &OTHERS)
+    expect_properties("shapes", SHAPES)?;
+    expect_properties("arities", ARITIES)?;
+    expect_properties("roles", ROLES)?;
+    expect_properties("opcodes of no operator", OTHERS)
 }

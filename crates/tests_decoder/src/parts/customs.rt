@@ -50,7 +50,7 @@ type RoleRow = (
     (&'static str, u8),
 );
 
-const ROLES: [RoleRow; 17] = [
+const ROLES: &[RoleRow] = &[
     ("names", "name", b"\xff", ("silent", 0)),
     ("hints", "metadata.code.branch_hint", b"\xff", ("silent", 0)),
     ("an unknown section", "names", b"", ("raw", 0)),
@@ -127,7 +127,7 @@ const ROLES: [RoleRow; 17] = [
 
 /// Characters, each with the word for the role of a `producers` section whose only field has this character as its
 /// name.
-const CHARACTERS: [(u8, &str); 15] = [
+const CHARACTERS: &[(u8, &str)] = &[
     (b'!', "producers"),
     (b'~', "producers"),
     (b'@', "producers"),
@@ -148,11 +148,11 @@ const CHARACTERS: [(u8, &str); 15] = [
 #[test]
 fn sections_have_roles(rt: HostRuntime) {
     for (name, section, bytes, wanted) in ROLES {
-        assert!(rt; role_of(section, bytes) == wanted, "{name}");
+        assert!(rt; role_of(section, bytes) == *wanted, "{name}");
     }
     for (byte, wanted) in CHARACTERS {
-        let role = role_of("producers", &[0x01, 0x01, byte, 0x00]);
-        assert!(rt; role == (wanted, 0), "a field named by byte {byte:#x}");
+        let role = role_of("producers", &[0x01, 0x01, *byte, 0x00]);
+        assert!(rt; role == (*wanted, 0), "a field named by byte {byte:#x}");
     }
 }
 
@@ -268,7 +268,7 @@ const PRODUCERS: &[u8] = b"\x02\x08language\x02\x04Rust\x00\x01C\x0211\x03sdk\x0
 const SIZES: &[u8] = b"\x01\x04\x10\x02\x03\x00\x05\x01\x00";
 
 /// Sections: the name of the row, the bytes, and a fact.
-const FACTS: [(&str, &[u8], Fact); 8] = [
+const FACTS: &[(&str, &[u8], Fact)] = &[
     ("a value", PRODUCERS, Fact::SecondValue(0x111, "C", "11")),
     ("a field", PRODUCERS, Fact::SecondField("sdk")),
     ("a subsection", SIZES, Fact::SecondSubsection(0x106)),
@@ -294,7 +294,7 @@ const FACTS: [(&str, &[u8], Fact); 8] = [
 #[test]
 fn contents_of_sections_are_read(rt: HostRuntime) {
     for (name, bytes, fact) in FACTS {
-        assert!(rt; is_fact(fact, bytes), "{name}");
+        assert!(rt; is_fact(*fact, bytes), "{name}");
     }
 }
 
@@ -341,7 +341,7 @@ fn are_hints(mut hints: FunctionHints, offsets: Offsets) -> bool {
 
 /// The expected hints of functions, asked for in this order. The section has hints of function 1, at offsets 3 and
 /// 7, and of function 4, at offset 2.
-const HINTED: [(u64, Offsets); 4] = [
+const HINTED: &[(u64, Offsets)] = &[
     (0, &[(3, None)]),
     (
         1,
@@ -372,14 +372,14 @@ fn hints_are_taken_in_order(rt: HostRuntime) {
     assert!(rt; is_hint_section("metadata.code.branch_hint"));
     assert!(rt; !is_hint_section("metadata.code.branch_hints"));
     let bytes = b"\x02\x01\x02\x03\x01\x01\x07\x01\x00\x04\x01\x02\x01\x01";
-    let other = first_other(&mut Hints::of_section(0x50, bytes), &HINTED);
+    let other = first_other(&mut Hints::of_section(0x50, bytes), HINTED);
     assert!(rt; other == None, "row {other:?}");
     assert!(rt; are_hints(Hints::none().next_function(1), &[(3, None)]));
 }
 
 /// Hint sections with an error in or after the first hint, which is that of function 1 at offset 3. Each has the name
 /// of its row.
-const FAULTS: [(&str, &[u8]); 4] = [
+const FAULTS: &[(&str, &[u8])] = &[
     ("an unknown direction", b"\x01\x01\x01\x03\x01\x02"),
     ("a hint of two bytes", b"\x01\x01\x01\x03\x02\x01"),
     ("a byte after the hints", b"\x01\x01\x01\x03\x01\x01\x00"),
@@ -421,14 +421,17 @@ fn hints_are_read_once(rt: HostRuntime) -> Result<(), Fail> {
     Ok(())
 }
 
+/// Reports whether a section gives no hint to the operator of a function at this offset.
+fn gives_no_hint(bytes: &[u8], function: u64, offset: u64) -> bool {
+    has_no_hint(&mut Hints::of_section(0, bytes), function, offset)
+}
+
 #[test]
 fn a_fault_gives_no_hints(rt: HostRuntime) -> Result<(), Fail> {
     for (name, bytes) in FAULTS {
-        let mut hints = Hints::of_section(0, bytes);
-        assert!(rt; has_no_hint(&mut hints, 1, 3), "{name}");
+        assert!(rt; gives_no_hint(bytes, 1, 3), "{name}");
     }
     let bytes = many_hints(rt.alloc(), 131_072, [0x80, 0x80, 0x08])?;
-    let mut hints = Hints::of_section(0, &bytes);
-    assert!(rt; has_no_hint(&mut hints, 100_000, 0), "a hint too many");
+    assert!(rt; gives_no_hint(&bytes, 100_000, 0), "a hint too many");
     Ok(())
 }

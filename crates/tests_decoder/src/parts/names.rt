@@ -7,7 +7,6 @@ use wasmprinter_bytes::bytes::Cursor;
 use wasmprinter_custom::{
     Identifier, Identifiers, LabelName, Name, NameEntries, Names, NamesBuilder, Space, read_names,
 };
-use wasmprinter_samples::expect_text;
 
 /// Reads the names of these sections in order.
 fn read_sections<'a>(
@@ -65,7 +64,7 @@ fn expect_names(
 
 /// The identifiers of functions with the names 0 `b`, 1 `a`, 2 the empty name, 3 `#x` and 4 `a`. `a` was first the
 /// name of function 0.
-const MARKED: [Item; 8] = [
+const MARKED: &[Item] = &[
     (Space::Func, 0, 0, Some("b")),
     (Space::Func, 0, 1, Some("#func1 a")),
     (Space::Func, 0, 2, Some("#func2 ")),
@@ -78,10 +77,10 @@ const MARKED: [Item; 8] = [
 ];
 
 /// Local 0 of function 0, which is `x`, and function 0, which has no name.
-const LOCAL: [Item; 2] = [(Space::Local, 0, 0, Some("x")), (Space::Func, 0, 0, None)];
+const LOCAL: &[Item] = &[(Space::Local, 0, 0, Some("x")), (Space::Func, 0, 0, None)];
 
 /// The names before an error, and those of the section after it.
-const AROUND_A_FAULT: [Item; 5] = [
+const AROUND_A_FAULT: &[Item] = &[
     (Space::Local, 1, 0, Some("x")),
     (Space::Local, 0, 0, None),
     (Space::Local, 1, 1, None),
@@ -90,14 +89,14 @@ const AROUND_A_FAULT: [Item; 5] = [
 ];
 
 /// Labels 0 and 1 of function 0, which are both `a`, and label 2, whose name is empty.
-const LABELS: [Item; 3] = [
+const LABELS: &[Item] = &[
     (Space::Label, 0, 0, Some("a")),
     (Space::Label, 0, 1, Some("a")),
     (Space::Label, 0, 2, Some("#label2 ")),
 ];
 
 /// Functions 0 `a`, 1 `b` and 2 `c`, locals of function 0: 0 `x`, 1 `y`; of function 1: 0 `z`.
-const WITHOUT_GAPS: [Item; 13] = [
+const WITHOUT_GAPS: &[Item] = &[
     (Space::Func, 0, 0, Some("a")),
     (Space::Func, 0, 1, Some("b")),
     (Space::Func, 0, 2, Some("c")),
@@ -115,7 +114,7 @@ const WITHOUT_GAPS: [Item; 13] = [
 ];
 
 /// Functions 2 `a`, 3 `b`, 7 `c` and 9 `d`.
-const GAPS_BETWEEN_INDICES: [Item; 11] = [
+const GAPS_BETWEEN_INDICES: &[Item] = &[
     (Space::Func, 0, 0, None),
     (Space::Func, 0, 1, None),
     (Space::Func, 0, 2, Some("a")),
@@ -130,7 +129,7 @@ const GAPS_BETWEEN_INDICES: [Item; 11] = [
 ];
 
 /// Locals of function 2: 0 `x`, 1 `w`; of function 5: 0 `y`, 1 `z`.
-const GAPS_BETWEEN_FUNCTIONS: [Item; 11] = [
+const GAPS_BETWEEN_FUNCTIONS: &[Item] = &[
     (Space::Local, 0, 0, None),
     (Space::Local, 1, 7, None),
     (Space::Local, 2, 0, Some("x")),
@@ -145,7 +144,7 @@ const GAPS_BETWEEN_FUNCTIONS: [Item; 11] = [
 ];
 
 /// Locals of function 4294967295: 0 `x`.
-const FAR_BEHIND: [Item; 4] = [
+const FAR_BEHIND: &[Item] = &[
     (Space::Local, 0, 0, None),
     (Space::Local, 4_294_967_294, 0, None),
     (Space::Local, 4_294_967_295, 0, Some("x")),
@@ -153,7 +152,7 @@ const FAR_BEHIND: [Item; 4] = [
 ];
 
 /// Locals of function 0: 0 `x`; of function 4294967295: 0 `y`.
-const FIRST_AND_FAR_BEHIND: [Item; 6] = [
+const FIRST_AND_FAR_BEHIND: &[Item] = &[
     (Space::Local, 0, 0, Some("x")),
     (Space::Local, 0, 1, None),
     (Space::Local, 1, 0, None),
@@ -164,7 +163,7 @@ const FIRST_AND_FAR_BEHIND: [Item; 6] = [
 
 /// Globals 0 `g` and 1 `h`; locals of function 0: 0 `x`; of function 1: 0 `y`, 1 `z`; functions 0 `a`, 1 `b`, 2 `c`
 /// and 3 `d`.
-const FROM_THE_LAST: [Item; 15] = [
+const FROM_THE_LAST: &[Item] = &[
     (Space::Global, 0, 0, Some("g")),
     (Space::Global, 0, 1, Some("h")),
     (Space::Global, 0, 2, None),
@@ -196,19 +195,19 @@ type Row = (
 const REPEATED: &[u8] = b"\x01\x14\x06\x00\x01a\x01\x01a\x02\x00\x03\x02#x\x00\x01b\x04\x01a\x07";
 
 /// Labels 0 `a`, 1 `a` and 2 the empty name of function 0; then a module with the name `m`, twice.
-const LABELS_AND_MODULE: [&[u8]; 2] = [
+const LABELS_AND_MODULE: &[&[u8]] = &[
     b"\x03\x0b\x01\x00\x03\x00\x01a\x01\x01a\x02\x00",
     b"\x00\x02\x01m\x00\x02\x01m",
 ];
 
-const ROWS: [Row; 10] = [
+const ROWS: &[Row] = &[
     (
         "names that were given before are marked",
         &[REPEATED],
         None,
-        &MARKED,
+        MARKED,
     ),
-    ("a local", &[b"\x02\x06\x01\x00\x01\x00\x01x"], None, &LOCAL),
+    ("a local", &[b"\x02\x06\x01\x00\x01\x00\x01x"], None, LOCAL),
     (
         "reading stops at the first fault",
         &[
@@ -219,13 +218,13 @@ const ROWS: [Row; 10] = [
             b"\x01\x07\x02\x00\x01f\x01\x01f",
         ],
         Some("m"),
-        &AROUND_A_FAULT,
+        AROUND_A_FAULT,
     ),
     (
         "names of labels and the module never count",
-        &LABELS_AND_MODULE,
+        LABELS_AND_MODULE,
         Some("m"),
-        &LABELS,
+        LABELS,
     ),
     (
         "no gaps",
@@ -234,31 +233,31 @@ const ROWS: [Row; 10] = [
             b"\x02\x0e\x02\x00\x02\x00\x01x\x01\x01y\x01\x01\x00\x01z",
         ],
         None,
-        &WITHOUT_GAPS,
+        WITHOUT_GAPS,
     ),
     (
         "gaps between indices",
         &[b"\x01\x0d\x04\x02\x01a\x03\x01b\x07\x01c\x09\x01d"],
         None,
-        &GAPS_BETWEEN_INDICES,
+        GAPS_BETWEEN_INDICES,
     ),
     (
         "gaps between functions",
         &[b"\x02\x11\x02\x02\x02\x00\x01x\x01\x01w\x05\x02\x00\x01y\x01\x01z"],
         None,
-        &GAPS_BETWEEN_FUNCTIONS,
+        GAPS_BETWEEN_FUNCTIONS,
     ),
     (
         "a function far after none",
         &[b"\x02\x0a\x01\xff\xff\xff\xff\x0f\x01\x00\x01x"],
         None,
-        &FAR_BEHIND,
+        FAR_BEHIND,
     ),
     (
         "a function far after another",
         &[b"\x02\x0f\x02\x00\x01\x00\x01x\xff\xff\xff\xff\x0f\x01\x00\x01y"],
         None,
-        &FIRST_AND_FAR_BEHIND,
+        FIRST_AND_FAR_BEHIND,
     ),
     (
         "names from the last to the first",
@@ -268,14 +267,14 @@ const ROWS: [Row; 10] = [
             b"\x01\x0d\x04\x03\x01d\x02\x01c\x01\x01b\x00\x01a",
         ],
         None,
-        &FROM_THE_LAST,
+        FROM_THE_LAST,
     ),
 ];
 
 #[test]
 fn items_have_identifiers(rt: HostRuntime) -> Result<(), Fail> {
     for (name, sections, module, items) in ROWS {
-        expect_names(name, rt.alloc(), sections, module, items)?;
+        expect_names(*name, rt.alloc(), sections, *module, items)?;
     }
     Ok(())
 }
@@ -289,7 +288,7 @@ type NameRow = (
     Option<Name<'static>>,
 );
 
-const NAMES: [NameRow; 4] = [
+const NAMES: &[NameRow] = &[
     (
         "a name that was given before",
         &[REPEATED],
@@ -307,7 +306,7 @@ const NAMES: [NameRow; 4] = [
     ),
     (
         "a module that is named twice",
-        &LABELS_AND_MODULE,
+        LABELS_AND_MODULE,
         None,
         Some(Name {
             given: "m",
@@ -342,13 +341,16 @@ fn has_name(
 #[test]
 fn names_have_contents(rt: HostRuntime) -> Result<(), Fail> {
     for (name, sections, function, wanted) in NAMES {
-        assert!(rt; has_name(rt.alloc(), sections, function, wanted)?, "{name}");
+        assert!(rt;
+            has_name(rt.alloc(), sections, *function, *wanted)?,
+            "{name}"
+        );
     }
     Ok(())
 }
 
 /// Spaces, the ids of their subsections, and the identifier of item 1 if items 0 and 1 both have the name `a`.
-const SPACES: [(Space, u8, &str); 10] = [
+const SPACES: &[(Space, u8, &str)] = &[
     (Space::Func, 1, "#func1 a"),
     (Space::Local, 2, "#local1 a"),
     (Space::Types, 4, "#type1 a"),
@@ -380,21 +382,14 @@ fn count_in(alloc: Global, space: Space, id: u8, second: &str) -> Result<bool, E
     Ok(are_counted(&names, space, second, is_indirect))
 }
 
-/// Returns the id of the subsection of the first space for which this does not hold, or `None` if it holds for
-/// all.
-fn first_uncounted(alloc: Global, spaces: &[(Space, u8, &str)]) -> Result<Option<u8>, Error> {
-    for (space, id, second) in spaces {
-        if !count_in(alloc, *space, *id, second)? {
-            return Ok(Some(*id));
-        }
-    }
-    Ok(None)
-}
-
 #[test]
 fn names_count_in_their_space(rt: HostRuntime) -> Result<(), Fail> {
-    let uncounted = first_uncounted(rt.alloc(), &SPACES)?;
-    assert!(rt; uncounted == None, "subsection {uncounted:?}");
+    for (space, id, second) in SPACES {
+        assert!(rt;
+            count_in(rt.alloc(), *space, *id, second)?,
+            "subsection {id}"
+        );
+    }
     Ok(())
 }
 
@@ -429,7 +424,7 @@ type Identified = (
     Option<Identifier<'static>>,
 );
 
-const IDENTIFIED: [Identified; 6] = [
+const IDENTIFIED: &[Identified] = &[
     (
         "a function with a name",
         &[MODULE_AND_FUNCTION],
@@ -475,7 +470,7 @@ const IDENTIFIED: [Identified; 6] = [
 ];
 
 /// Reports whether an item, or the module for `None`, has this identifier.
-fn is_identified(
+fn has_identifier(
     names: &Names,
     synthesizes: bool,
     item: Option<(Space, u64, u64)>,
@@ -488,20 +483,25 @@ fn is_identified(
     }
 }
 
+/// Reports whether, by the names of the row's sections, its item has its identifier.
+fn is_identified(alloc: Global, row: &Identified) -> Result<bool, Error> {
+    let (_, sections, synthesizes, item, wanted) = row;
+    let names = names_of(alloc, sections)?;
+    Ok(has_identifier(&names, *synthesizes, *item, *wanted))
+}
+
 #[test]
 fn identifiers_are_given_or_synthesized(rt: HostRuntime) -> Result<(), Fail> {
-    for (name, sections, synthesizes, item, wanted) in IDENTIFIED {
-        let names = names_of(rt.alloc(), sections)?;
-        assert!(rt; is_identified(&names, synthesizes, item, wanted), "{name}");
+    for row in IDENTIFIED {
+        assert!(rt; is_identified(rt.alloc(), row)?, "{}", row.0);
     }
     Ok(())
 }
 
 #[test]
-fn spaces_have_words(rt: HostRuntime) -> Result<(), Fail> {
-    expect_text(Space::Types.word(), "type")?;
-    expect_text(Space::Data.word(), "data")?;
-    Ok(())
+fn spaces_have_words(rt: HostRuntime) {
+    assert!(rt; Space::Types.word() == "type");
+    assert!(rt; Space::Data.word() == "data");
 }
 
 /// A label: its function, its number and its name.
@@ -532,7 +532,7 @@ fn lists(alloc: Global, names: &Names, wanted: &[Label]) -> Result<bool, AllocEr
 }
 
 /// The labels of functions 0 and 2, sorted by function and number.
-const LISTED: [Label; 3] = [(0, 7, "c"), (2, 0, "a"), (2, 1, "b")];
+const LISTED: &[Label] = &[(0, 7, "c"), (2, 0, "a"), (2, 1, "b")];
 
 #[test]
 fn labels_are_listed_by_function_and_number(rt: HostRuntime) -> Result<(), Fail> {
@@ -540,7 +540,7 @@ fn labels_are_listed_by_function_and_number(rt: HostRuntime) -> Result<(), Fail>
     let labels = b"\x03\x0e\x02\x02\x02\x01\x01b\x00\x01a\x00\x01\x07\x01c";
     let others = b"\x02\x06\x01\x00\x01\x00\x01x\x01\x04\x01\x00\x01f";
     let names = names_of(rt.alloc(), &[labels, others])?;
-    assert!(rt; lists(rt.alloc(), &names, &LISTED)?);
+    assert!(rt; lists(rt.alloc(), &names, LISTED)?);
     Ok(())
 }
 
@@ -582,7 +582,7 @@ fn subsection_of(alloc: Global, id: u8, content: &[u8]) -> Result<Vec<u8>, Error
 type Last = (&'static str, Space, u8, &'static str);
 
 /// The spaces whose items belong to no function or type. 300 items have the name `a`.
-const LAST_OF_300: [Last; 8] = [
+const LAST_OF_300: &[Last] = &[
     ("300 functions", Space::Func, 1, "#func299 a"),
     ("300 types", Space::Types, 4, "#type299 a"),
     ("300 tables", Space::Table, 5, "#table299 a"),
@@ -595,49 +595,58 @@ const LAST_OF_300: [Last; 8] = [
 
 /// The spaces whose items belong to a function or type. 20 items of each have the name `a`. Labels may share a
 /// name.
-const LAST_OF_20: [Last; 3] = [
+const LAST_OF_20: &[Last] = &[
     ("20 locals of each function", Space::Local, 2, "#local19 a"),
     ("20 labels of each function", Space::Label, 3, "a"),
     ("20 fields of each type", Space::Field, 10, "#field19 a"),
 ];
 
-/// Checks the first and the last of 300 items with the name `a`, in each space whose items belong to no function or
-/// type.
-fn expect_300(alloc: Global) -> Result<(), Fail> {
-    let map = map_of(alloc, 300)?;
-    for (name, space, id, last) in LAST_OF_300 {
-        let section = subsection_of(alloc, id, &map)?;
+/// Checks the identifiers of these items by the names of a subsection with this id and content.
+fn expect_subsection(
+    name: &'static str,
+    alloc: Global,
+    id: u8,
+    content: &[u8],
+    items: &[Item],
+) -> Result<(), Fail> {
+    let section = subsection_of(alloc, id, content)?;
+    expect_names(name, alloc, &[&section], None, items)
+}
+
+/// Checks the first and the last of 300 items with the name `a`, in spaces whose items belong to no function or type.
+fn expect_300(alloc: Global, map: &[u8], rows: &[Last]) -> Result<(), Fail> {
+    for (name, space, id, last) in rows {
         let items = [
-            (space, 0, 0, Some("a")),
-            (space, 0, 299, Some(last)),
-            (space, 0, 300, None),
+            (*space, 0, 0, Some("a")),
+            (*space, 0, 299, Some(*last)),
+            (*space, 0, 300, None),
         ];
-        expect_names(name, alloc, &[&section], None, &items)?;
+        expect_subsection(*name, alloc, *id, map, &items)?;
     }
     Ok(())
 }
 
 /// Checks the first and the last of 20 items with the name `a` in the first and the last of 40 functions or types, in
-/// each other space.
-fn expect_40_times_20(alloc: Global) -> Result<(), Fail> {
-    let maps = maps_of(alloc, &map_of(alloc, 20)?)?;
-    for (name, space, id, last) in LAST_OF_20 {
-        let section = subsection_of(alloc, id, &maps)?;
+/// other spaces.
+fn expect_40_times_20(alloc: Global, maps: &[u8], rows: &[Last]) -> Result<(), Fail> {
+    for (name, space, id, last) in rows {
         let items = [
-            (space, 0, 0, Some("a")),
-            (space, 0, 19, Some(last)),
-            (space, 0, 20, None),
-            (space, 39, 0, Some("a")),
-            (space, 39, 19, Some(last)),
-            (space, 40, 0, None),
+            (*space, 0, 0, Some("a")),
+            (*space, 0, 19, Some(*last)),
+            (*space, 0, 20, None),
+            (*space, 39, 0, Some("a")),
+            (*space, 39, 19, Some(*last)),
+            (*space, 40, 0, None),
         ];
-        expect_names(name, alloc, &[&section], None, &items)?;
+        expect_subsection(*name, alloc, *id, maps, &items)?;
     }
     Ok(())
 }
 
 #[test]
 fn many_names_are_kept(rt: HostRuntime) -> Result<(), Fail> {
-    expect_300(rt.alloc())?;
-    expect_40_times_20(rt.alloc())
+    let map = map_of(rt.alloc(), 300)?;
+    expect_300(rt.alloc(), &map, LAST_OF_300)?;
+    let maps = maps_of(rt.alloc(), &map_of(rt.alloc(), 20)?)?;
+    expect_40_times_20(rt.alloc(), &maps, LAST_OF_20)
 }

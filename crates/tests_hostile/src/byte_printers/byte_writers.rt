@@ -25,16 +25,16 @@ enum Printer {
     Colored,
 }
 
-const PRINTERS: [Printer; 3] = [Printer::Plain, Printer::Uncolored, Printer::Colored];
+const PRINTERS: &[Printer] = &[Printer::Plain, Printer::Uncolored, Printer::Colored];
 
 /// The greatest number of bytes that a writer of the first kind accepts in one call.
 const SINGLE: usize = 1;
 
 /// The greatest numbers of bytes that writers accept in one call.
-const ACCEPTED_AT_ONCE: [usize; 2] = [SINGLE, usize::MAX];
+const ACCEPTED_AT_ONCE: &[usize] = &[SINGLE, usize::MAX];
 
 /// The markers of styles in typed texts, and their ANSI escape sequences.
-const STYLES: [(&str, &str); 6] = [
+const STYLES: &[(&str, &str)] = &[
     ("{K}", "\x1b[0m\x1b[1m\x1b[38;5;11m"),
     ("{N}", "\x1b[0m\x1b[35m"),
     ("{L}", "\x1b[0m\x1b[31m"),
@@ -44,7 +44,6 @@ const STYLES: [(&str, &str); 6] = [
 ];
 
 /// A module with its texts. They contain the markers of styles.
-#[derive(Clone, Copy)]
 struct Styled {
     name: &'static str,
     wasm: &'static [u8],
@@ -120,13 +119,13 @@ const CUT: &str = r#"({K}module{R}
 const MODULES: &[Styled] = &[
     Styled {
         name: "no fields",
-        wasm: &PREAMBLE,
+        wasm: PREAMBLE,
         flat: EMPTY,
         folded: EMPTY,
     },
     Styled {
         name: "identity",
-        wasm: &IDENTITY,
+        wasm: IDENTITY,
         flat: IDENTITY_FLAT,
         folded: IDENTITY_FOLDED,
     },
@@ -156,22 +155,43 @@ const MODULES: &[Styled] = &[
     },
 ];
 
-/// A module that is printed in a layout by a printer, to a writer.
-#[derive(Clone, Copy)]
-struct Run {
+/// Returns a text with the sequences of these styles in place of their markers, or nothing if it has no colors.
+fn replace_markers(
     alloc: Global,
-    module: Styled,
-    layout: Layout,
+    marked: &str,
+    styles: &[(&str, &str)],
+    is_colored: bool,
+) -> Result<String, AllocError> {
+    let mut text = String::from_str(alloc, marked)?;
+    for (mark, sequence) in styles {
+        let style = if is_colored { *sequence } else { "" };
+        text = text.replace(alloc, *mark, style)?;
+    }
+    Ok(text)
+}
+
+/// The printer, the layout and the writer of a run.
+#[derive(Clone, Copy, Debug)]
+struct Form {
     printer: Printer,
+    layout: Layout,
     /// The maximum number of bytes that the writer accepts in one call.
     most: usize,
 }
 
-impl Run {
+/// A module that is printed in a layout by a printer, to a writer.
+#[derive(Clone, Copy)]
+struct Run<'a> {
+    alloc: Global,
+    module: &'a Styled,
+    form: Form,
+}
+
+impl Run<'_> {
     fn print(&self, writer: &mut Scripted) -> Result<(), Error> {
-        let config = self.layout.config();
+        let config = self.form.layout.config();
         let wasm = self.module.wasm;
-        match self.printer {
+        match self.form.printer {
             Printer::Plain => {
                 print_bytes_to(&config, self.alloc, wasm, writer)?;
             }
@@ -187,24 +207,17 @@ impl Run {
 
     /// Returns the text, with ANSI escape sequences if the printer writes colors.
     fn text(&self) -> Result<String, AllocError> {
-        let marked = match self.layout {
+        let marked = match self.form.layout {
             Layout::Flat => self.module.flat,
             Layout::Folded => self.module.folded,
         };
-        let mut text = String::from_str(self.alloc, marked)?;
-        for (mark, sequence) in STYLES {
-            let style = match self.printer {
-                Printer::Colored => sequence,
-                Printer::Plain | Printer::Uncolored => "",
-            };
-            text = text.replace(self.alloc, mark, style)?;
-        }
-        Ok(text)
+        let is_colored = matches!(self.form.printer, Printer::Colored);
+        replace_markers(self.alloc, marked, STYLES, is_colored)
     }
 
     /// Checks that the whole text is written if no call fails, and returns the number of calls.
     fn check_whole(&self, text: &str) -> Result<usize, Fail> {
-        let mut writer = Scripted::new(self.alloc, self.most);
+        let mut writer = Scripted::new(self.alloc, self.form.most);
         self.print(&mut writer)?;
         if writer.bytes.as_slice() != text.as_bytes() {
             return Err(self.fail_at(0, "another text"));
@@ -215,7 +228,7 @@ impl Run {
     /// Checks that printing ends at the call with this number, which fails, and that the bytes that were written
     /// before are a proper prefix of the text. Returns their number.
     fn check_until(&self, text: &str, write: usize, kind: ErrorKind) -> Result<usize, Fail> {
-        let mut writer = Scripted::with_failure(self.alloc, self.most, write, kind);
+        let mut writer = Scripted::with_failure(self.alloc, self.form.most, write, kind);
         let result = self.print(&mut writer);
         if !matches!(result, Err(Error::Printer(e)) if e.kind() == kind) {
             return Err(self.fail_at(write, "another result"));
@@ -230,22 +243,30 @@ impl Run {
         Ok(count)
     }
 
-    /// Checks that printing ends at each call that fails. If the writer accepts single bytes, there is a call for
-    /// each byte of the text, and exactly the bytes before the failing call are written.
-    fn check_each_write(&self, kind: ErrorKind) -> Result<(), Fail> {
-        let text = self.text()?;
-        let writes = self.check_whole(text.as_str())?;
-        if self.most == SINGLE && writes != text.len() {
-            return Err(self.fail_at(0, "another number of writes"));
-        }
-        for before in 0..writes {
-            let write = before + 1;
-            let count = self.check_until(text.as_str(), write, kind)?;
-            if self.most == SINGLE && count != before {
-                return Err(self.fail_at(write, "another number of bytes before it"));
+    /// Checks that printing ends at each of this number of calls if that call fails with an error of these kinds. If
+    /// the writer accepts single bytes, exactly the bytes before the failing call are written.
+    fn check_writes(&self, text: &str, writes: usize, kinds: &[ErrorKind]) -> Result<(), Fail> {
+        for kind in kinds {
+            for before in 0..writes {
+                let write = before + 1;
+                let count = self.check_until(text, write, *kind)?;
+                if self.form.most == SINGLE && count != before {
+                    return Err(self.fail_at(write, "another number of bytes before it"));
+                }
             }
         }
         Ok(())
+    }
+
+    /// Checks that printing ends at each call that fails. If the writer accepts single bytes, there is a call for
+    /// each byte of the text.
+    fn check_each_write(&self) -> Result<(), Fail> {
+        let text = self.text()?;
+        let writes = self.check_whole(text.as_str())?;
+        if self.form.most == SINGLE && writes != text.len() {
+            return Err(self.fail_at(0, "another number of writes"));
+        }
+        self.check_writes(text.as_str(), writes, KINDS)
     }
 
     /// Checks that the last call is made again if it is interrupted.
@@ -253,7 +274,7 @@ impl Run {
         let text = self.text()?;
         let writes = self.check_whole(text.as_str())?;
         let kind = ErrorKind::Interrupted;
-        let mut writer = Scripted::with_failure(self.alloc, self.most, writes, kind);
+        let mut writer = Scripted::with_failure(self.alloc, self.form.most, writes, kind);
         self.print(&mut writer)?;
         if writer.calls.len() != writes.saturating_add(1) {
             return Err(self.fail_at(writes, "another number of writes"));
@@ -277,12 +298,19 @@ impl Run {
         Ok(())
     }
 
+    /// Makes a check.
+    fn check(&self, check: Check) -> Result<(), Fail> {
+        match check {
+            Check::EachWrite => self.check_each_write(),
+            Check::Interrupted => self.check_interrupted(),
+            Check::Full => self.check_full(),
+        }
+    }
+
     fn fail_at(&self, write: usize, reason: &'static str) -> Fail {
         Fail::from(Failure {
             module: self.module.name,
-            layout: self.layout,
-            printer: self.printer,
-            most: self.most,
+            form: self.form,
             write,
             reason,
         })
@@ -293,70 +321,78 @@ impl Run {
 #[derive(Debug, Drop)]
 struct Failure {
     module: &'static str,
-    layout: Layout,
-    printer: Printer,
-    most: usize,
+    form: Form,
     /// The number of the call of `write` that fails, from 1, or 0 if no call fails.
     write: usize,
     reason: &'static str,
 }
 
-/// Adds the runs of a module in a layout, with each printer and writer.
-fn add_runs(
-    runs: &mut Vec<Run>,
+/// What is checked of each run.
+#[derive(Clone, Copy)]
+enum Check {
+    /// Printing ends at each write that fails.
+    EachWrite,
+    /// A write that was interrupted is made again.
+    Interrupted,
+    /// Printing ends at a writer that accepts no bytes.
+    Full,
+}
+
+/// Checks the runs of these modules in a form.
+fn check_modules(alloc: Global, modules: &[Styled], form: Form, check: Check) -> Result<(), Fail> {
+    for module in modules {
+        let run = Run {
+            alloc,
+            module,
+            form,
+        };
+        run.check(check)?;
+    }
+    Ok(())
+}
+
+/// Checks the runs of all modules by a printer, in these layouts and with these writers.
+fn check_printer(
     alloc: Global,
-    module: Styled,
-    layout: Layout,
-) -> Result<(), AllocError> {
-    for printer in PRINTERS {
-        for most in ACCEPTED_AT_ONCE {
-            runs.push(Run {
-                alloc,
-                module,
-                layout,
+    printer: Printer,
+    layouts: &[Layout],
+    accepted: &[usize],
+    check: Check,
+) -> Result<(), Fail> {
+    for layout in layouts {
+        for most in accepted {
+            let form = Form {
                 printer,
-                most,
-            })?;
+                layout: *layout,
+                most: *most,
+            };
+            check_modules(alloc, MODULES, form, check)?;
         }
     }
     Ok(())
 }
 
-/// Returns the runs of each module, in both layouts, with each printer and writer.
-fn all_runs(alloc: Global) -> Result<Vec<Run>, AllocError> {
-    let mut runs = Vec::new(alloc);
-    for module in MODULES {
-        for layout in LAYOUTS {
-            add_runs(&mut runs, alloc, *module, layout)?;
-        }
+/// Checks the runs of each module by these printers, in both layouts and with each writer.
+fn check_runs(alloc: Global, printers: &[Printer], check: Check) -> Result<(), Fail> {
+    for printer in printers {
+        check_printer(alloc, *printer, LAYOUTS, ACCEPTED_AT_ONCE, check)?;
     }
-    Ok(runs)
+    Ok(())
 }
 
 #[test]
 fn stops_at_each_write_that_fails_and_returns_its_error(rt: HostRuntime) -> Result<(), Fail> {
-    for run in &all_runs(rt.alloc())? {
-        for kind in KINDS {
-            run.check_each_write(kind)?;
-        }
-    }
-    Ok(())
+    check_runs(rt.alloc(), PRINTERS, Check::EachWrite)
 }
 
 #[test]
 fn tries_a_write_again_that_was_interrupted(rt: HostRuntime) -> Result<(), Fail> {
-    for run in &all_runs(rt.alloc())? {
-        run.check_interrupted()?;
-    }
-    Ok(())
+    check_runs(rt.alloc(), PRINTERS, Check::Interrupted)
 }
 
 #[test]
 fn fails_where_a_writer_takes_nothing(rt: HostRuntime) -> Result<(), Fail> {
-    for run in &all_runs(rt.alloc())? {
-        run.check_full()?;
-    }
-    Ok(())
+    check_runs(rt.alloc(), PRINTERS, Check::Full)
 }
 
 /// The numbers of writes that fail, each with the sequences that are written before. The color has three sequences.
@@ -383,22 +419,35 @@ fn set_color_until(alloc: Global, write: usize) -> (Option<ErrorKind>, Scripted)
     (kind, writer.into_inner())
 }
 
+/// Reports whether setting a color of three sequences returns the error of the write with this number, and makes no
+/// write after it. The sequences that are written before are these.
+fn leaves(alloc: Global, write: usize, left: &str) -> bool {
+    let (kind, script) = set_color_until(alloc, write);
+    let wanted = if write < 4 {
+        Some(ErrorKind::BrokenPipe)
+    } else {
+        None
+    };
+    kind == wanted
+        && script.calls.len() == write.min(3)
+        && script.bytes.as_slice() == left.as_bytes()
+}
+
+/// Returns the number of the first of these writes before which other sequences are written, or `None` if there is no
+/// such write.
+fn first_other(alloc: Global, rows: &[(usize, &str)]) -> Option<usize> {
+    for (write, left) in rows {
+        if !leaves(alloc, *write, *left) {
+            return Some(*write);
+        }
+    }
+    None
+}
+
 #[test]
 fn leaves_the_sequences_up_to_the_one_that_failed(rt: HostRuntime) {
-    for (write, left) in LEFT {
-        let (kind, script) = set_color_until(rt.alloc(), *write);
-        let wanted = if *write < 4 {
-            Some(ErrorKind::BrokenPipe)
-        } else {
-            None
-        };
-        assert!(rt; kind == wanted, "at write {write}");
-        assert!(rt; script.calls.len() == (*write).min(3), "at write {write}");
-        assert!(rt;
-            script.bytes.as_slice() == left.as_bytes(),
-            "at write {write}"
-        );
-    }
+    let other = first_other(rt.alloc(), LEFT);
+    assert!(rt; other == None, "at write {other:?}");
 }
 
 /// Returns a writer whose first call fails.

@@ -32,27 +32,48 @@ const IDENTITY_COLORED: &str = "(\x1b[0m\x1b[1m\x1b[38;5;11mmodule\x1b[0m
 )
 ";
 
-/// Modules, each with its text with ANSI escape sequences.
-const COLORED: &[(&str, &[u8], &str)] = &[
-    ("no fields", &PREAMBLE, EMPTY_COLORED),
-    ("identity", &IDENTITY, IDENTITY_COLORED),
-];
-
-#[test]
-fn prints_in_colors(rt: HostRuntime) -> Result<(), Fail> {
-    for (name, wasm, text) in COLORED {
-        let colored = colored_text_by(&Config::new(), rt.alloc(), *wasm)?;
-        assert!(rt; colored.as_slice() == text.as_bytes(), "{name}");
-    }
-    Ok(())
+/// The printers that print a module.
+#[derive(Clone, Copy)]
+enum Printers {
+    /// Those that write colors.
+    Colored,
+    /// Those that write no colors.
+    Plain,
 }
 
-/// Modules, each with its text.
-const PLAIN: &[(&str, &[u8], &str)] = &[
-    ("no fields", &PREAMBLE, EMPTY_TEXT),
-    ("identity", &IDENTITY, IDENTITY_TEXT),
-    ("everything", &EVERYTHING, EVERYTHING_TEXT),
+/// A module: the name of the row, the module, the printers, and its text.
+type Row = (&'static str, &'static [u8], Printers, &'static str);
+
+const ROWS: &[Row] = &[
+    (
+        "no fields in colors",
+        PREAMBLE,
+        Printers::Colored,
+        EMPTY_COLORED,
+    ),
+    (
+        "identity in colors",
+        IDENTITY,
+        Printers::Colored,
+        IDENTITY_COLORED,
+    ),
+    ("no fields", PREAMBLE, Printers::Plain, EMPTY_TEXT),
+    ("identity", IDENTITY, Printers::Plain, IDENTITY_TEXT),
+    ("everything", EVERYTHING, Printers::Plain, EVERYTHING_TEXT),
 ];
+
+/// Reports whether a module prints this text with ANSI escape sequences.
+fn is_colored(alloc: Global, wasm: &[u8], text: &str) -> Result<bool, Error> {
+    let colored = colored_text_by(&Config::new(), alloc, wasm)?;
+    Ok(colored.as_slice() == text.as_bytes())
+}
+
+/// Reports whether a printer with colors prints this text of a module to a writer without colors.
+fn is_uncolored(alloc: Global, wasm: &[u8], text: &str) -> Result<bool, Error> {
+    let writer = NoColor::new(Vec::new(alloc));
+    let uncolored = print_colors_to(&Config::new(), alloc, wasm, writer)?;
+    Ok(uncolored.into_inner().as_slice() == text.as_bytes())
+}
 
 /// Reports whether a module prints this text to an empty vector, and appends it to a vector with bytes.
 fn is_plain(alloc: Global, wasm: &[u8], text: &str) -> Result<bool, Error> {
@@ -62,18 +83,28 @@ fn is_plain(alloc: Global, wasm: &[u8], text: &str) -> Result<bool, Error> {
     Ok(plain.as_slice() == text.as_bytes() && after.strip_prefix(b"a\n") == Some(text.as_bytes()))
 }
 
-#[test]
-fn prints_plain_text_where_there_are_no_colors(rt: HostRuntime) -> Result<(), Fail> {
-    let alloc = rt.alloc();
-    for (name, wasm, text) in PLAIN {
-        let writer = NoColor::new(Vec::new(alloc));
-        let uncolored = print_colors_to(&Config::new(), alloc, *wasm, writer)?;
-        assert!(rt;
-            uncolored.into_inner().as_slice() == text.as_bytes(),
-            "{name}"
-        );
-        assert!(rt; is_plain(alloc, *wasm, *text)?, "{name}");
+/// Reports whether each of these printers prints this text of a module.
+fn is_printed(alloc: Global, wasm: &[u8], by: Printers, text: &str) -> Result<bool, Error> {
+    match by {
+        Printers::Colored => is_colored(alloc, wasm, text),
+        Printers::Plain => Ok(is_uncolored(alloc, wasm, text)? && is_plain(alloc, wasm, text)?),
     }
+}
+
+/// Returns the name of the first row whose text differs, or `None` if there is no such row.
+fn first_other(alloc: Global, rows: &[Row]) -> Result<Option<&'static str>, Error> {
+    for (name, wasm, by, text) in rows {
+        if !is_printed(alloc, *wasm, *by, *text)? {
+            return Ok(Some(*name));
+        }
+    }
+    Ok(None)
+}
+
+#[test]
+fn prints_in_colors_and_plain_text(rt: HostRuntime) -> Result<(), Fail> {
+    let other = first_other(rt.alloc(), ROWS)?;
+    assert!(rt; other == None, "{other:?}");
     Ok(())
 }
 
@@ -145,29 +176,33 @@ const LOOKS: &[(Option<Color>, bool, bool, &str)] = &[
     (Some(Color::Cyan), true, true, "\x1b[0m\x1b[1m\x1b[38;5;14m"),
 ];
 
-/// Returns the bytes that a writer with colors writes for a look.
-fn sequences_of(
-    alloc: Global,
-    fg: Option<Color>,
-    bold: bool,
-    intense: bool,
-) -> io::Result<Vec<u8>> {
-    let mut spec = ColorSpec::new();
-    spec.set_fg(fg).set_bold(bold).set_intense(intense);
+/// Reports whether a writer with colors writes these sequences for a color.
+fn is_written(alloc: Global, spec: &ColorSpec, sequences: &str) -> io::Result<bool> {
     let mut writer = Ansi::new(Vec::new(alloc));
-    writer.set_color(&spec)?;
-    Ok(writer.into_inner())
+    writer.set_color(spec)?;
+    Ok(writer.into_inner().as_slice() == sequences.as_bytes())
+}
+
+/// Returns the first of these looks for which a writer with colors writes other sequences, or `None` if there is no
+/// such look.
+fn first_other_look(
+    alloc: Global,
+    looks: &[(Option<Color>, bool, bool, &str)],
+) -> io::Result<Option<(Option<Color>, bool, bool)>> {
+    for (fg, bold, intense, sequences) in looks {
+        let mut spec = ColorSpec::new();
+        spec.set_fg(*fg).set_bold(*bold).set_intense(*intense);
+        if !is_written(alloc, &spec, *sequences)? {
+            return Ok(Some((*fg, *bold, *intense)));
+        }
+    }
+    Ok(None)
 }
 
 #[test]
 fn writes_the_sequences_of_each_color(rt: HostRuntime) -> Result<(), Fail> {
-    for (fg, bold, intense, wanted) in LOOKS {
-        let sequences = sequences_of(rt.alloc(), *fg, *bold, *intense)?;
-        assert!(rt;
-            sequences.as_slice() == wanted.as_bytes(),
-            "{fg:?} {bold} {intense}"
-        );
-    }
+    let other = first_other_look(rt.alloc(), LOOKS)?;
+    assert!(rt; other.is_none(), "{other:?}");
     Ok(())
 }
 

@@ -11,7 +11,7 @@ use wasmprinter::print::{Ansi, NoColor, WriteBytes};
 /// The length in bytes up to which a piece of each length is forwarded.
 const LONGEST: usize = 300;
 
-const PIECES: [u8; LONGEST] = [b'x'; LONGEST];
+const PIECES: &[u8] = &[b'x'; LONGEST];
 
 /// The path by which a call reaches the underlying writer.
 #[derive(Clone, Copy, Debug)]
@@ -22,7 +22,7 @@ enum Way {
     Uncolored,
 }
 
-const WAYS: [Way; 3] = [Way::Itself, Way::Colored, Way::Uncolored];
+const WAYS: &[Way] = &[Way::Itself, Way::Colored, Way::Uncolored];
 
 /// A call on a writer.
 #[derive(Clone, Copy)]
@@ -88,12 +88,34 @@ impl Way {
         Ok(taken == wanted && has_taken(&writer, received, &piece[..wanted]))
     }
 
+    /// Reports whether a piece is forwarded once, to a writer that accepts all of it and to one that accepts a half.
+    fn passes_piece(self, alloc: Global, piece: &[u8]) -> io::Result<bool> {
+        Ok(
+            self.passes(alloc, Call::All, piece, usize::MAX)?
+                && self.passes(alloc, Call::Part, piece, usize::MAX)?
+                && self.passes(alloc, Call::Part, piece, piece.len() / 2)?,
+        )
+    }
+
     /// Reports whether a call is forwarded once, and the error of the writer is returned.
     fn refuses(self, alloc: Global, call: Call, piece: &[u8], kind: ErrorKind) -> bool {
         let mut writer = Scripted::with_failure(alloc, usize::MAX, 1, kind);
         let refused = self.call(&mut writer, call, piece);
         matches!(refused, Err(e) if e.kind() == kind)
             && has_taken(&writer, call.received(piece.len()), b"")
+    }
+
+    /// Reports whether a piece is forwarded once, and the error of the writer is returned, if it is of any of these
+    /// kinds.
+    fn refuses_piece(self, alloc: Global, piece: &[u8], kinds: &[ErrorKind]) -> bool {
+        for kind in kinds {
+            if !self.refuses(alloc, Call::All, piece, *kind)
+                || !self.refuses(alloc, Call::Part, piece, *kind)
+            {
+                return false;
+            }
+        }
+        true
     }
 }
 
@@ -106,77 +128,79 @@ fn has_taken(writer: &Scripted, call: Option<Asked>, bytes: &[u8]) -> bool {
     is_called && writer.bytes.as_slice() == bytes
 }
 
-#[test]
-fn forwards_a_piece_of_each_length(rt: HostRuntime) -> Result<(), Fail> {
-    let alloc = rt.alloc();
-    for way in WAYS {
-        for len in 0..=LONGEST {
-            let piece = &PIECES[..len];
-            assert!(rt;
-                way.passes(alloc, Call::All, piece, usize::MAX)?,
-                "{way:?}: {len} bytes"
-            );
-            for most in [usize::MAX, len / 2] {
-                assert!(rt;
-                    way.passes(alloc, Call::Part, piece, most)?,
-                    "{way:?}: {len} bytes"
-                );
+/// Returns the first of these ways, and the length of the first start of these bytes, that is not forwarded. Returns
+/// `None` if each is.
+fn first_stopped(alloc: Global, ways: &[Way], bytes: &[u8]) -> io::Result<Option<(Way, usize)>> {
+    for way in ways {
+        for len in 0..=bytes.len() {
+            if !way.passes_piece(alloc, &bytes[..len])? {
+                return Ok(Some((*way, len)));
             }
         }
     }
+    Ok(None)
+}
+
+#[test]
+fn forwards_a_piece_of_each_length(rt: HostRuntime) -> Result<(), Fail> {
+    let stopped = first_stopped(rt.alloc(), WAYS, PIECES)?;
+    assert!(rt; stopped.is_none(), "{stopped:?}");
     Ok(())
+}
+
+/// Returns the first of these ways, and the length of the first start of these bytes that is not empty, by which the
+/// error of the writer is not returned. Returns `None` if it always is.
+fn first_taken(alloc: Global, ways: &[Way], bytes: &[u8]) -> Option<(Way, usize)> {
+    for way in ways {
+        for len in 1..=bytes.len() {
+            if !way.refuses_piece(alloc, &bytes[..len], KINDS) {
+                return Some((*way, len));
+            }
+        }
+    }
+    None
 }
 
 #[test]
 fn returns_the_error_of_the_writer_for_a_piece_of_each_length(rt: HostRuntime) {
-    let alloc = rt.alloc();
-    for way in WAYS {
-        for len in 1..=LONGEST {
-            let piece = &PIECES[..len];
-            for kind in KINDS {
-                for call in [Call::All, Call::Part] {
-                    assert!(rt;
-                        way.refuses(alloc, call, piece, kind),
-                        "{way:?}: {len} bytes"
-                    );
-                }
-            }
+    let taken = first_taken(rt.alloc(), WAYS, PIECES);
+    assert!(rt; taken.is_none(), "{taken:?}");
+}
+
+/// Returns the first of these ways by which a call with a piece is not forwarded once and unchanged, or the error of
+/// the writer is not returned. Returns `None` if there is no such way.
+fn first_other(alloc: Global, ways: &[Way], call: Call, piece: &[u8]) -> io::Result<Option<Way>> {
+    for way in ways {
+        if !way.passes(alloc, call, piece, usize::MAX)?
+            || !way.refuses(alloc, call, piece, ErrorKind::BrokenPipe)
+        {
+            return Ok(Some(*way));
         }
     }
+    Ok(None)
 }
 
 #[test]
 fn flushes_the_writer_and_returns_its_result(rt: HostRuntime) -> Result<(), Fail> {
-    let alloc = rt.alloc();
-    let kind = ErrorKind::BrokenPipe;
-    for way in WAYS {
-        assert!(rt; way.passes(alloc, Call::Flush, b"", usize::MAX)?, "{way:?}");
-        assert!(rt; way.refuses(alloc, Call::Flush, b"", kind), "{way:?}");
-    }
+    let other = first_other(rt.alloc(), WAYS, Call::Flush, b"")?;
+    assert!(rt; other.is_none(), "{other:?}");
     Ok(())
 }
 
-/// Returns a piece of 300,000 bytes.
-fn long_piece(alloc: Global) -> Result<Vec<u8>, AllocError> {
+/// Returns bytes repeated a thousand times.
+fn long_piece(alloc: Global, bytes: &[u8]) -> Result<Vec<u8>, AllocError> {
     let mut piece = Vec::new(alloc);
     for _ in 0..1_000 {
-        piece.extend_from_slice(&PIECES)?;
+        piece.extend_from_slice(bytes)?;
     }
     Ok(piece)
 }
 
 #[test]
 fn forwards_a_long_piece_whole(rt: HostRuntime) -> Result<(), Fail> {
-    let alloc = rt.alloc();
-    let kind = ErrorKind::BrokenPipe;
-    let piece = long_piece(alloc)?;
-    for way in WAYS {
-        assert!(rt;
-            way.passes(alloc, Call::All, &piece, usize::MAX)?,
-            "{way:?}"
-        );
-        assert!(rt; way.refuses(alloc, Call::All, &piece, kind), "{way:?}");
-    }
+    let piece = long_piece(rt.alloc(), PIECES)?;
+    let other = first_other(rt.alloc(), WAYS, Call::All, &piece)?;
+    assert!(rt; other.is_none(), "{other:?}");
     assert_eq!(rt; piece.len(), 300_000);
     Ok(())
 }

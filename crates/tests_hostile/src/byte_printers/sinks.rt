@@ -95,7 +95,7 @@ fn print_input_to<P: Print>(alloc: Global, input: Input, printer: &mut P) -> Res
     match input {
         Input::Quoted => write_quoted(printer, "ab\u{e9}\"\n\u{1f600}c"),
         Input::Bytes => write_bytes(printer, b"ab\x1f\"\xffc"),
-        Input::Module => print_to(&Config::new(), alloc, &IDENTITY, printer),
+        Input::Module => print_to(&Config::new(), alloc, IDENTITY, printer),
     }
 }
 
@@ -176,17 +176,26 @@ fn writes_colors(alloc: Global, input: Input, wanted: &str) -> Result<bool, Erro
     Ok(printer.0.calls.as_slice() == wanted.as_bytes())
 }
 
+/// Returns the name of the first row with other writes, and the field of these writes. Returns `None` if there is no
+/// such row.
+fn first_other(alloc: Global, rows: &[Row]) -> Result<Option<(&'static str, &'static str)>, Error> {
+    for row in rows {
+        if !writes_bytes(alloc, row.input, row.bytes)? {
+            return Ok(Some((row.name, "bytes")));
+        }
+        if !writes_text(alloc, row.input, row.text)? {
+            return Ok(Some((row.name, "text")));
+        }
+        if !writes_colors(alloc, row.input, row.colors)? {
+            return Ok(Some((row.name, "colors")));
+        }
+    }
+    Ok(None)
+}
+
 #[test]
 fn asks_a_writer_for_each_piece_and_color(rt: HostRuntime) -> Result<(), Fail> {
-    let alloc = rt.alloc();
-    for row in ROWS {
-        let name = row.name;
-        assert!(rt; writes_bytes(alloc, row.input, row.bytes)?, "{name}: bytes");
-        assert!(rt; writes_text(alloc, row.input, row.text)?, "{name}: text");
-        assert!(rt;
-            writes_colors(alloc, row.input, row.colors)?,
-            "{name}: colors"
-        );
-    }
+    let other = first_other(rt.alloc(), ROWS)?;
+    assert!(rt; other.is_none(), "{other:?}");
     Ok(())
 }

@@ -55,7 +55,7 @@ impl fmt::Write for TextWriter {
 /// pieces.
 fn count_pieces(alloc: Global, refused: u32) -> Result<u32, Fail> {
     let mut printer = PrintFmtWrite(TextWriter::new(String::new(alloc), refused));
-    print_to(&Config::new(), alloc, &IDENTITY, &mut printer)?;
+    print_to(&Config::new(), alloc, IDENTITY, &mut printer)?;
     expect_text(printer.0.text.as_str(), IDENTITY_TEXT)?;
     Ok(printer.0.given)
 }
@@ -64,18 +64,28 @@ fn count_pieces(alloc: Global, refused: u32) -> Result<u32, Fail> {
 /// piece after it, and no earlier piece fails.
 fn stops_at(alloc: Global, piece: u32) -> bool {
     let mut printer = PrintFmtWrite(TextWriter::new(String::new(alloc), piece));
-    let refused = print_to(&Config::new(), alloc, &IDENTITY, &mut printer);
+    let refused = print_to(&Config::new(), alloc, IDENTITY, &mut printer);
     matches!(refused, Err(Error::Printer(e)) if e.kind() == ErrorKind::Other)
         && printer.0.given == piece
         && IDENTITY_TEXT.starts_with(printer.0.text.as_str())
 }
 
+/// Returns the number of the first piece up to this last one at which printing does not stop if it is refused, or
+/// `None` if there is no such piece.
+fn first_passed(alloc: Global, last: u32) -> Option<u32> {
+    for piece in 1..=last {
+        if !stops_at(alloc, piece) {
+            return Some(piece);
+        }
+    }
+    None
+}
+
 #[test]
 fn writes_nothing_after_a_piece_that_was_refused(rt: HostRuntime) -> Result<(), Fail> {
     let pieces = count_pieces(rt.alloc(), 0)?;
-    for piece in 1..=pieces {
-        assert!(rt; stops_at(rt.alloc(), piece), "at piece {piece}");
-    }
+    let passed = first_passed(rt.alloc(), pieces);
+    assert!(rt; passed == None, "at piece {passed:?}");
     assert_eq!(rt; count_pieces(rt.alloc(), pieces.saturating_add(1))?, pieces);
     Ok(())
 }
@@ -102,8 +112,8 @@ fn gives_each_piece_and_line_feed_to_the_writer(rt: HostRuntime) -> Result<(), F
 fn keeps_the_text_that_a_string_begins_with(rt: HostRuntime) -> Result<(), Fail> {
     let alloc = rt.alloc();
     let mut printer = print::PrintFmtWrite(String::from_str(alloc, "first ")?);
-    print_to(&Config::default(), alloc, &PREAMBLE, &mut printer)?;
-    print_to(&Config::default(), alloc, &PREAMBLE, &mut printer)?;
+    print_to(&Config::default(), alloc, PREAMBLE, &mut printer)?;
+    print_to(&Config::default(), alloc, PREAMBLE, &mut printer)?;
     let refused = print_to(&Config::default(), alloc, &PREAMBLE[..7], &mut printer);
     assert!(rt; matches!(refused, Err(Error::Malformed { .. })));
     let text = printer
@@ -140,15 +150,29 @@ fn is_passed_on(alloc: Global, text: &str) -> bool {
 }
 
 /// Ranges of lengths of texts, in bytes.
-const LENGTHS: [(u32, u32); 2] = [(0, 300), (10_000, 10_000)];
+const LENGTHS: &[(u32, u32)] = &[(0, 300), (10_000, 10_000)];
+
+/// Reports whether a text of this length is forwarded in one write, and whether the error of that write is returned.
+fn passes_on(alloc: Global, len: u32) -> Result<bool, AllocError> {
+    let text = digits(alloc, len)?;
+    Ok(is_passed_on(alloc, text.as_str()))
+}
+
+/// Returns the first length in these ranges of which a text is not forwarded, or `None` if there is no such length.
+fn first_split(alloc: Global, ranges: &[(u32, u32)]) -> Result<Option<u32>, AllocError> {
+    for (from, to) in ranges {
+        for len in *from..=*to {
+            if !passes_on(alloc, len)? {
+                return Ok(Some(len));
+            }
+        }
+    }
+    Ok(None)
+}
 
 #[test]
 fn passes_on_a_text_of_each_length(rt: HostRuntime) -> Result<(), Fail> {
-    for (from, to) in LENGTHS {
-        for len in from..=to {
-            let text = digits(rt.alloc(), len)?;
-            assert!(rt; is_passed_on(rt.alloc(), text.as_str()), "{len} bytes");
-        }
-    }
+    let split = first_split(rt.alloc(), LENGTHS)?;
+    assert!(rt; split == None, "{split:?} bytes");
     Ok(())
 }

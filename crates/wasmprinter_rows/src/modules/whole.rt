@@ -1,13 +1,13 @@
 //! Small modules, and bytes that are refused as a whole: wrong preambles, sizes, counts and numbers of locals.
 
 /// A module without sections.
-pub const EMPTY: &[u8] = &wasmprinter_samples::PREAMBLE;
+pub const EMPTY: &[u8] = wasmprinter_samples::PREAMBLE;
 
 /// A function that returns its i32 parameter, exported as `f`.
-pub const IDENTITY: &[u8] = &wasmprinter_samples::IDENTITY;
+pub const IDENTITY: &[u8] = wasmprinter_samples::IDENTITY;
 
 /// A function that returns -1 through a local of type i64.
-pub const MINUS_ONE: &[u8] = &wasmprinter_samples::MINUS_ONE;
+pub const MINUS_ONE: &[u8] = wasmprinter_samples::MINUS_ONE;
 
 /// `MINUS_ONE` with a last byte that is not the `end` of the body.
 pub const BODY_WITHOUT_END: &[u8] = &[

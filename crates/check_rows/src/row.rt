@@ -1,0 +1,208 @@
+//! A row: a module, options, and the typed text or error.
+
+use std::alloc::{AllocError, Global};
+use wasmprinter::{Config, Error, OffsetsAndLines};
+
+/// The expected result of printing a module.
+#[derive(Drop)]
+enum Expected<'a> {
+    /// The text of the row
+    Text,
+    /// The error with this description
+    Error(&'a str),
+    /// A malformed module, at a byte offset within the module or at its end
+    Malformed,
+}
+
+/// A module, options, and the expected text or error.
+#[derive(Drop)]
+pub struct Row<'a> {
+    title: &'a str,
+    config: Config,
+    wasm: Vec<u8>,
+    text: String,
+    /// The places before the lines of the text
+    places: Vec<Option<u64>>,
+    /// Whether the places are compared
+    has_places: bool,
+    expected: Expected<'a>,
+}
+
+/// Returns the number that is written in hexadecimal, or `None` if this is not a number of fewer than 17 digits.
+fn hexadecimal(digits: &str) -> Option<u64> {
+    u64::from_str_radix(digits, 16).ok()
+}
+
+/// Appends bytes that are written in hexadecimal. Reports whether each word is a byte.
+fn push_bytes(bytes: &mut Vec<u8>, words: &str) -> Result<bool, AllocError> {
+    for word in words.split_whitespace() {
+        match hexadecimal(word) {
+            Some(byte) if byte < 0x100 => bytes.push(byte as u8)?,
+            _ => return Ok(false),
+        }
+    }
+    Ok(true)
+}
+
+/// Returns the place and the text of a line of the expected text, or `None` if this is another line.
+fn split_line(line: &str) -> Option<(Option<u64>, &str)> {
+    let (place, text) = line.split_once('|')?;
+    if place.is_empty() {
+        return Some((None, text));
+    }
+    Some((Some(hexadecimal(place)?), text))
+}
+
+/// Returns the description of an error, which follows its name and its detail.
+fn description_in(words: &str) -> Option<&str> {
+    let (_name, words) = words.split_once(' ')?;
+    let (_detail, description) = words.split_once(' ')?;
+    Some(description)
+}
+
+/// Reports whether the lines have these places, in order.
+fn have_places(mut lines: OffsetsAndLines<'_>, places: &[Option<u64>]) -> bool {
+    for place in places {
+        if !matches!(lines.next(), Some((found, _)) if found == *place) {
+            return false;
+        }
+    }
+    lines.next().is_none()
+}
+
+impl<'a> Row<'a> {
+    /// Returns a row of an empty module, for which the expected result is missing.
+    pub fn new(alloc: Global, title: &'a str) -> Row<'a> {
+        Row {
+            title,
+            config: Config::new(),
+            wasm: Vec::new(alloc),
+            text: String::new(alloc),
+            places: Vec::new(alloc),
+            has_places: false,
+            expected: Expected::Text,
+        }
+    }
+
+    /// Returns the title.
+    pub fn title(&self) -> &'a str {
+        self.title
+    }
+
+    /// Sets options. Reports whether each word is an option.
+    fn set(&mut self, words: &str) -> bool {
+        for word in words.split_whitespace() {
+            match word {
+                "offsets" => self.config.print_offsets(true),
+                "skeleton" => self.config.print_skeleton(true),
+                "name_unnamed" => self.config.name_unnamed(true),
+                "fold" => self.config.fold_instructions(true),
+                _ => return false,
+            };
+        }
+        true
+    }
+
+    /// Sets the indent, which is written in hexadecimal. Reports whether it is a text.
+    fn set_indent(&mut self, alloc: Global, words: &str) -> Result<bool, AllocError> {
+        let mut bytes = Vec::new(alloc);
+        if !push_bytes(&mut bytes, words)? {
+            return Ok(false);
+        }
+        let Ok(indent) = str::from_utf8(&bytes) else {
+            return Ok(false);
+        };
+        self.config.indent_text(String::from_str(alloc, indent)?);
+        Ok(true)
+    }
+
+    /// Appends bytes as many times as their first word says. Reports whether the words are a number and bytes.
+    fn push_copies(&mut self, alloc: Global, words: &str) -> Result<bool, AllocError> {
+        let Some((count, words)) = words.split_once(' ') else {
+            return Ok(false);
+        };
+        let mut bytes = Vec::new(alloc);
+        let Ok(count) = count.parse::<u32>() else {
+            return Ok(false);
+        };
+        if !push_bytes(&mut bytes, words)? {
+            return Ok(false);
+        }
+        for _ in 0..count {
+            self.wasm.extend_from_slice(&bytes)?;
+        }
+        Ok(true)
+    }
+
+    /// Expects an error. Reports whether the words are the name of an error, its detail and its description, or only
+    /// `Malformed`.
+    fn expect_error(&mut self, words: &'a str) -> bool {
+        if words == "Malformed" {
+            self.expected = Expected::Malformed;
+            return true;
+        }
+        match description_in(words) {
+            Some(description) => {
+                self.expected = Expected::Error(description);
+                true
+            }
+            None => false,
+        }
+    }
+
+    /// Adds a line of a file, which is not empty and no comment, to the row. Reports whether the line can be read.
+    pub fn add_line(&mut self, alloc: Global, line: &'a str) -> Result<bool, AllocError> {
+        if let Some((place, text)) = split_line(line) {
+            self.places.push(place)?;
+            self.text.push_str(text)?;
+            self.text.push('\n')?;
+            return Ok(true);
+        }
+        if let Some(words) = line.strip_prefix("wasm ") {
+            return push_bytes(&mut self.wasm, words);
+        }
+        if let Some(words) = line.strip_prefix("copies ") {
+            return self.push_copies(alloc, words);
+        }
+        if let Some(words) = line.strip_prefix("indent") {
+            return self.set_indent(alloc, words);
+        }
+        if let Some(words) = line.strip_prefix("set ") {
+            return Ok(self.set(words));
+        }
+        if let Some(words) = line.strip_prefix("error ") {
+            return Ok(self.expect_error(words));
+        }
+        self.has_places = line == "places";
+        Ok(self.has_places)
+    }
+
+    /// Reports whether the lines of the text start at the typed places, if there are any.
+    fn are_places(&self, alloc: Global) -> Result<bool, Error> {
+        if !self.has_places {
+            return Ok(true);
+        }
+        let mut storage = String::new(alloc);
+        let lines = self
+            .config
+            .offsets_and_lines(alloc, &self.wasm, &mut storage)?;
+        Ok(have_places(lines, &self.places))
+    }
+
+    /// Reports whether printing the module has the expected result.
+    pub fn is_met(&self, alloc: Global) -> Result<bool, Error> {
+        match (
+            self.config.print_to_string(alloc, &self.wasm),
+            &self.expected,
+        ) {
+            (Ok(text), Expected::Text) => Ok(text == self.text && self.are_places(alloc)?),
+            (Err(Error::Malformed { place }), Expected::Malformed) => {
+                Ok(place <= self.wasm.len() as u64)
+            }
+            (Err(error), Expected::Error(description)) => {
+                Ok(format!(in alloc; "{error}")?.as_str() == *description)
+            }
+            _ => Ok(false),
+        }
+    }
+}
