@@ -31,9 +31,13 @@ inputs() {
         find "crates/$crate" \( -name out -o -name must-fail -o -name wrong-bodies \) -prune -o -type f -print | LC_ALL=C sort | xargs sha256sum
     done
 }
-printer=$kept/$(cd "$root" && inputs | sha256sum | cut -d ' ' -f 1).a
+work=$(mktemp -d)
+trap 'rm -rf "$work"' EXIT
+(cd "$root" && inputs) >"$work/inputs"
+printer=$kept/$(sha256sum <"$work/inputs" | cut -d ' ' -f 1).a
 if [ ! -e "$printer" ]; then
     (cd "$root/crates/wasmprinter_c" && rt lib)
+    (cd "$root" && inputs) | cmp - "$work/inputs" || { echo "library: a source changed meanwhile" >&2; exit 1; }
     mkdir -p "$kept"
     # a rename, so that an interrupted copy is not taken for the archive
     cp "$root/crates/wasmprinter_c/out/libwasmprinter_c.a" "$printer.$$"
@@ -41,8 +45,6 @@ if [ ! -e "$printer" ]; then
 fi
 mkdir -p "$folder"
 # one archive: the printer, and the functions of the toolchain that call malloc and free
-work=$(mktemp -d)
-trap 'rm -rf "$work"' EXIT
 cp "$printer" "$work/printer.a"
 cp "$(dirname "$(rt doc)")/c/liblibc_c.a" "$work/heap.a"
 (cd "$work" && printf 'create libwasmprinter.a\naddlib printer.a\naddlib heap.a\nsave\nend\n' | ar -M)

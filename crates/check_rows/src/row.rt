@@ -6,6 +6,8 @@ use wasmprinter::{Config, Error, OffsetsAndLines};
 /// The expected result of printing a module.
 #[derive(Drop)]
 enum Expected<'a> {
+    /// Nothing was typed yet
+    Missing,
     /// The text of the row
     Text,
     /// The error with this description
@@ -33,11 +35,11 @@ fn hexadecimal(digits: &str) -> Option<u64> {
     u64::from_str_radix(digits, 16).ok()
 }
 
-/// Appends bytes that are written in hexadecimal. Reports whether each word is a byte.
+/// Appends bytes that are written in hexadecimal. Reports whether each word is a byte of two digits.
 fn push_bytes(bytes: &mut Vec<u8>, words: &str) -> Result<bool, AllocError> {
     for word in words.split_whitespace() {
         match hexadecimal(word) {
-            Some(byte) if byte < 0x100 => bytes.push(byte as u8)?,
+            Some(byte) if word.len() == 2 && byte < 0x100 => bytes.push(byte as u8)?,
             _ => return Ok(false),
         }
     }
@@ -60,14 +62,18 @@ fn description_in(words: &str) -> Option<&str> {
     Some(description)
 }
 
-/// Reports whether the lines have these places, in order.
-fn have_places(mut lines: OffsetsAndLines<'_>, places: &[Option<u64>]) -> bool {
-    for place in places {
-        if !matches!(lines.next(), Some((found, _)) if found == *place) {
+/// Reports whether the lines have these places and are those of this text, in order.
+fn are_lines(mut found: OffsetsAndLines<'_>, places: &[Option<u64>], text: &str) -> bool {
+    for (place, line) in places.iter().zip(text.lines()) {
+        let is_line = match found.next() {
+            Some((start, whole)) => start == *place && whole.strip_suffix('\n') == Some(line),
+            None => false,
+        };
+        if !is_line {
             return false;
         }
     }
-    lines.next().is_none()
+    found.next().is_none()
 }
 
 impl<'a> Row<'a> {
@@ -80,7 +86,7 @@ impl<'a> Row<'a> {
             text: String::new(alloc),
             places: Vec::new(alloc),
             has_places: false,
-            expected: Expected::Text,
+            expected: Expected::Missing,
         }
     }
 
@@ -134,9 +140,25 @@ impl<'a> Row<'a> {
         Ok(true)
     }
 
-    /// Expects an error. Reports whether the words are the name of an error, its detail and its description, or only
-    /// `Malformed`.
+    /// Expects a line with this place and text after the earlier ones. Reports whether no error is expected, and the
+    /// places are compared if the line has one.
+    fn add_text(&mut self, place: Option<u64>, text: &str) -> Result<bool, AllocError> {
+        if !matches!(self.expected, Expected::Missing | Expected::Text) {
+            return Ok(false);
+        }
+        self.expected = Expected::Text;
+        self.places.push(place)?;
+        self.text.push_str(text)?;
+        self.text.push('\n')?;
+        Ok(self.has_places || place.is_none())
+    }
+
+    /// Expects an error. Reports whether nothing was expected before, and the words are the name of an error, its detail
+    /// and its description, or only `Malformed`.
     fn expect_error(&mut self, words: &'a str) -> bool {
+        if !matches!(self.expected, Expected::Missing) {
+            return false;
+        }
         if words == "Malformed" {
             self.expected = Expected::Malformed;
             return true;
@@ -153,10 +175,7 @@ impl<'a> Row<'a> {
     /// Adds a line of a file, which is not empty and no comment, to the row. Reports whether the line can be read.
     pub fn add_line(&mut self, alloc: Global, line: &'a str) -> Result<bool, AllocError> {
         if let Some((place, text)) = split_line(line) {
-            self.places.push(place)?;
-            self.text.push_str(text)?;
-            self.text.push('\n')?;
-            return Ok(true);
+            return self.add_text(place, text);
         }
         if let Some(words) = line.strip_prefix("wasm ") {
             return push_bytes(&mut self.wasm, words);
@@ -177,7 +196,7 @@ impl<'a> Row<'a> {
         Ok(self.has_places)
     }
 
-    /// Reports whether the lines of the text start at the typed places, if there are any.
+    /// Reports whether the lines of the text are the typed ones and start at the typed places, if there are any.
     fn are_places(&self, alloc: Global) -> Result<bool, Error> {
         if !self.has_places {
             return Ok(true);
@@ -186,7 +205,8 @@ impl<'a> Row<'a> {
         let lines = self
             .config
             .offsets_and_lines(alloc, &self.wasm, &mut storage)?;
-        Ok(have_places(lines, &self.places))
+        let are_typed = are_lines(lines, &self.places, self.text.as_str());
+        Ok(are_typed && storage == self.text)
     }
 
     /// Reports whether printing the module has the expected result.
