@@ -9,7 +9,7 @@
 set -eu
 folder=$1
 root=$(cd "$(dirname "$0")/.." && pwd)
-kept=${XDG_CACHE_HOME:-$HOME/.cache}/wasmprinter
+kept=${XDG_CACHE_HOME:-${HOME:-/tmp}/.cache}/wasmprinter
 
 # crates: prints the lines of crates.txt of `wasmprinter_c` and of the crates below it.
 crates() {
