@@ -95,14 +95,14 @@ impl<'a> Row<'a> {
         self.title
     }
 
-    /// Sets options. Reports whether each word is an option.
-    fn set(&mut self, words: &str) -> bool {
+    /// Turns options on or off. Reports whether each word is an option.
+    fn set(&mut self, words: &str, on: bool) -> bool {
         for word in words.split_whitespace() {
             match word {
-                "offsets" => self.config.print_offsets(true),
-                "skeleton" => self.config.print_skeleton(true),
-                "name_unnamed" => self.config.name_unnamed(true),
-                "fold" => self.config.fold_instructions(true),
+                "offsets" => self.config.print_offsets(on),
+                "skeleton" => self.config.print_skeleton(on),
+                "name_unnamed" => self.config.name_unnamed(on),
+                "fold" => self.config.fold_instructions(on),
                 _ => return false,
             };
         }
@@ -187,7 +187,10 @@ impl<'a> Row<'a> {
             return self.set_indent(alloc, words);
         }
         if let Some(words) = line.strip_prefix("set ") {
-            return Ok(self.set(words));
+            return Ok(self.set(words, true));
+        }
+        if let Some(words) = line.strip_prefix("unset ") {
+            return Ok(self.set(words, false));
         }
         if let Some(words) = line.strip_prefix("error ") {
             return Ok(self.expect_error(words));
