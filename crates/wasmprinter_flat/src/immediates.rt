@@ -7,9 +7,9 @@ ghost use Rattle.wasmprinter_spec.specs.Layout.Operators as layout;
 ghost use Rattle.wasmprinter_spec.specs.Layout.Operators.{block_pieces, ending_pieces, immediate_pieces};
 ghost use Rattle.wasmprinter_ops.specs.Blocks.{block_type_view, catches_view};
 ghost use Rattle.wasmprinter_ops.specs.Immediates.{immediates_view, HasShape};
-ghost use Rattle.wasmprinter_ops.specs.Shapes.{space_view, shape_view};
+ghost use Rattle.wasmprinter_ops.specs.Shapes.{shape_view};
 ghost use Rattle.wasmprinter_ops.specs.ValTypes.{heap_view};
-ghost use Rattle.wasmprinter_flat.specs.Contexts.{setting_in, labels_around, own_in, pieces_in, operand_pieces_in, catches_pieces_in};
+ghost use Rattle.wasmprinter_flat.specs.Contexts.{setting_in, labels_around, own_in, pieces_in, catches_pieces_in};
 ghost use Rattle.wasmprinter_flat.specs.Settings.{form_view};
 
 use crate::blocks::{write_block_type, write_catches, write_ending};
@@ -72,24 +72,8 @@ fn write_try_table<O: Output, S: Signatures>(
     write_ending(out, context.setting.form, own, context.block());
 }
 
-/// Writes an index: a label, or an index into another space.
-#[tactic(auto, unfolding(wasmprinter_spec::specs::Layout::Operators::operand_pieces))]
-fn write_index_of<O: Output, S: Signatures>(
-    out: &mut O,
-    context: &Context<'_, '_, '_, '_, S>,
-    space: Space,
-    index: u32,
-)
-    ensures { O.wrote out.old out.new
-        (operand_pieces_in S.signature_at context.now (space_view space) index) }
-{
-    match space {
-        Space::Label => write_label(out, context, index),
-        _ => write_operand(out, context, space, index),
-    }
-}
-
-/// Writes an index by its shape.
+/// Writes an index by its shape: a label, or an index into another space.
+#[tactic(auto, unfolding(wasmprinter_spec::specs::Layout::Operators::immediate_pieces, wasmprinter_spec::specs::Layout::Operators::operand_pieces))]
 fn write_index_by_shape<O: Output, S: Signatures>(
     out: &mut O,
     context: &Context<'_, '_, '_, '_, S>,
@@ -101,7 +85,10 @@ fn write_index_by_shape<O: Output, S: Signatures>(
         (pieces_in S.signature_at context.now (shape_view shape) (Index index)) }
 {
     match shape {
-        Shape::Index(space) => write_index_of(out, context, space, index),
+        Shape::Index(space) => match space {
+            Space::Label => write_label(out, context, index),
+            _ => write_operand(out, context, space, index),
+        },
         Shape::DefaultIndex(space) => write_default_index(out, context, space, index),
         _ => unreachable!(),
     }

@@ -97,30 +97,9 @@ fn write_definition<O: FoldingOutput>(
     );
 }
 
-/// Writes a function with its body, as a group.
-#[tactic(auto, unfolding(wasmprinter_spec::specs::Layout::Groups::group_gap_at))]
-fn write_definition_group<O: FoldingOutput>(
-    out: &mut O,
-    scope: &mut Scope<'_, '_>,
-    number: u64,
-    hints: FunctionHints<'_>,
-    function: &Function<'_>,
-)
-    ensures pieces { O.wrote out.old out.new
-        (group_gap_at O.chosen.offsets function.now.body.value.end 1 (codes "func")
-        (definition_parts (function_scope_view O.chosen scope.old number) hints.entry function.now)) }
-    ensures scope { scope_view O.chosen scope.new ≡ scope_view O.chosen scope.old }
-{
-    let end = function.body().end();
-    open_group_space(out, "func");
-    let outer = out.enter_group();
-    write_definition(out, scope, number, hints, function);
-    close_group_at(out, end, FIELD_NESTING, outer);
-}
-
 /// Writes function `number` as a group on a line of its own, its operators with these hints. A skeleton leaves out the
 /// body.
-#[tactic(auto, unfolding(wasmprinter_spec::specs::Layout::Functions::function_pieces, wasmprinter_spec::specs::Layout::Functions::function_group))]
+#[tactic(auto, unfolding(wasmprinter_spec::specs::Layout::Functions::function_pieces, wasmprinter_spec::specs::Layout::Functions::function_group, wasmprinter_spec::specs::Layout::Groups::group_gap_at))]
 pub fn write_function<O: FoldingOutput>(
     out: &mut O,
     scope: &mut Scope<'_, '_>,
@@ -132,10 +111,14 @@ pub fn write_function<O: FoldingOutput>(
         (function_pieces O.chosen (scope_view O.chosen scope.old) number hints.entry function.now) }
     ensures scope { scope_view O.chosen scope.new ≡ scope_view O.chosen scope.old }
 {
-    write_break(out, Some(function.body().place()), FIELD_NESTING);
+    let body = function.body();
+    write_break(out, Some(body.place()), FIELD_NESTING);
     if out.skeleton() {
         write_outline(out, scope, number, function);
-    } else {
-        write_definition_group(out, scope, number, hints, function);
+        return;
     }
+    open_group_space(out, "func");
+    let outer = out.enter_group();
+    write_definition(out, scope, number, hints, function);
+    close_group_at(out, body.end(), FIELD_NESTING, outer);
 }

@@ -33,22 +33,6 @@ fn folder_of<'s, 'a>(
     Ok(Some(Folder::new(alloc, module, color)?))
 }
 
-/// Writes a module to an output over the printer.
-fn write_to_printer<'o, 'p, 's, 'a, P: Print, K: Chosen>(
-    out: &mut Printer<'o, 'p, P, K>,
-    module: &'s Module<'a>,
-    labels: OpenLabels<'s, 'a>,
-    folder: Option<Folder<'s, 'a>>,
-)
-    requires { Folds K.options folder module.now }
-    ensures same { out.new.printer.ghost_name ≡ out.old.printer.ghost_name }
-    ensures made { (answers : Answers) × HasEffect P.meaning K.options (state out.old.printer.now out.old.halt out.old.begun)
-        (state out.new.printer.now out.new.halt out.new.begun)
-        (of_parts K.options (whole_parts K.options answers (names_of labels.entry) module.now)) }
-{
-    write_module(out, module, labels, folder);
-}
-
 /// Prints a module with the options that `K` stands for.
 fn print_by<'s, 'a, P: Print, K: Chosen>(
     p: &mut P,
@@ -63,7 +47,7 @@ fn print_by<'s, 'a, P: Print, K: Chosen>(
         (module_laid K.options answers (names_of labels.entry) module.now) }
 {
     let mut out: Printer<'_, '_, P, K> = Printer::new(p, options);
-    write_to_printer(&mut out, module, labels, folder);
+    write_module(&mut out, module, labels, folder);
     let Printer {
         printer: _,
         options: _,

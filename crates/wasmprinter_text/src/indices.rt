@@ -1,7 +1,7 @@
 //! Items at their declarations and indices that refer to them: by identifier if the item has one, otherwise by number
 //! (section 6.3 of the WebAssembly Core Specification, "Identifiers").
 ghost use Rattle.std.specs.Prelude.{[], ◌∷◌, Some, chars, option_map};
-ghost use Rattle.wasmprinter_spec.specs.Piece.{Gap, NameAnnotation, BeginName, EndStyle, Identifier as IdentifierPiece};
+ghost use Rattle.wasmprinter_spec.specs.Piece.{Gap, NameAnnotation, Identifier as IdentifierPiece};
 ghost use Rattle.wasmprinter_spec.specs.Layout.Groups.{line_group_gap};
 ghost use Rattle.wasmprinter_spec.specs.Layout.Identifiers.{given_pieces, id_and_name_pieces, leading_id_and_name_pieces, id_and_name_gap_pieces};
 ghost use Rattle.wasmprinter_spec.specs.Layout.Identifiers.{identifier_gap_pieces, declaration_pieces, index_pieces};
@@ -13,10 +13,12 @@ use crate::comments::write_index_comment;
 use crate::identifiers::{
     write_identifier as write_content, write_name_annotation, write_synthesized_identifier,
 };
-use crate::numbers::write_index as write_number;
-use crate::words::{begin_name, end_style, open_group_space, write_close_paren, write_space};
+use crate::words::{
+    begin_name, end_style, open_group_space, write_close_paren, write_in_style, write_space,
+};
+use itoa::Buffer;
 use wasmprinter_custom::{Identifier, Identifiers, Name, Space};
-use wasmprinter_print::Output;
+use wasmprinter_print::{Output, Style};
 
 /// Writes an identifier.
 fn write_identifier<O: Output>(out: &mut O, identifier: Identifier<'_>)
@@ -116,16 +118,6 @@ fn write_declaration<O: Output>(out: &mut O, identifier: Option<Identifier<'_>>,
     end_style(out);
 }
 
-/// Writes an identifier in the style of names.
-fn write_styled_identifier<O: Output>(out: &mut O, identifier: Identifier<'_>)
-    ensures { O.wrote out.old out.new
-        (BeginName ∷ (IdentifierPiece (chars (identifier_view identifier.entry).content) ∷ (EndStyle ∷ []))) }
-{
-    begin_name(out);
-    write_identifier(out, identifier);
-    end_style(out);
-}
-
 /// Writes an index: the identifier of the item, or its number for `None`.
 #[tactic(auto, unfolding(wasmprinter_spec::specs::Layout::Identifiers::index_pieces))]
 pub fn write_index<O: Output>(out: &mut O, identifier: Option<Identifier<'_>>, number: u64)
@@ -133,8 +125,12 @@ pub fn write_index<O: Output>(out: &mut O, identifier: Option<Identifier<'_>>, n
         (index_pieces (option_map identifier_view identifier.entry) number) }
 {
     match identifier {
-        None => write_number(out, number),
-        Some(identifier) => write_styled_identifier(out, identifier),
+        None => write_in_style(out, Style::Name, Buffer::new().format(number)),
+        Some(identifier) => {
+            begin_name(out);
+            write_identifier(out, identifier);
+            end_style(out);
+        }
     }
 }
 

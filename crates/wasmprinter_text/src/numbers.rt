@@ -4,7 +4,7 @@ ghost use Rattle.std.specs.Fmt.{digits, digit_glyph};
 ghost use Rattle.wasmprinter_spec.specs.Call.{Text};
 ghost use Rattle.wasmprinter_spec.specs.Piece.{Gap, Word, Number, Constant};
 
-use crate::words::{write_space, write_two_in_style};
+use crate::words::{write_in_style, write_space, write_two_in_style};
 use itoa::Buffer;
 use wasmprinter_print::{Output, Style};
 
@@ -100,9 +100,7 @@ pub fn write_decimal_between<O: Output>(out: &mut O, before: &str, n: u64, after
 pub fn write_index<O: Output>(out: &mut O, n: u64)
     ensures { O.wrote out.old out.new (Number n ∷ []) }
 {
-    out.start(Style::Name);
-    write_decimal(out, n);
-    out.reset_color();
+    write_in_style(out, Style::Name, Buffer::new().format(n));
 }
 
 /// Writes a space and an index.
