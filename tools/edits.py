@@ -4,7 +4,7 @@
 An edit of `must-fail/` first names the clause that rejects it: `clause: FUNCTION`, or `clause: FUNCTION, NAME` if the function has several. Then an
 edit names a file of its crate by a line `file: PATH`, and changes it by pairs of lines `old: TEXT` and `new: TEXT`, in order: each later pair
 applies to the result of the earlier ones. Nothing is written: the pairs are applied to a copy of the file in memory. An edit is bad if it names
-no clause although it is one of the gate's, if it names no file of its crate or has no pair, if a line `old:` has no line `new:` after it, if an
+no clause of a function of its crate although it is one of the gate's, if it names no file of its crate or has no pair, if a line `old:` has no line `new:` after it, if an
 old text does not occur exactly once, or if the result is the original. Prints each bad edit and the counts. The status is 1 if an edit is bad,
 or if there are no edits.
 
@@ -12,6 +12,7 @@ The prover does not run here: tools/wrong-bodies.sh and the gate check that it r
 """
 
 import pathlib
+import re
 import sys
 
 ROOT = pathlib.Path(__file__).resolve().parent.parent
@@ -26,6 +27,17 @@ def value(line, key):
     if line == key + ":":
         return ""
     return line[len(key) + 2 :] if line.startswith(key + ": ") else None
+
+
+def check_clause(crate, line):
+    """Checks that the line names a clause of a function of the crate."""
+    clause = value(line, "clause")
+    if not clause:
+        raise BadEdit("no clause in the first line")
+    function = clause.split(",")[0].split("::")[-1]
+    declared = re.compile(rf"\bfn {re.escape(function)}\b")
+    if not any(declared.search(file.read_text(encoding="utf-8")) for file in crate.glob("src/**/*.rt")):
+        raise BadEdit(f"no function {function}")
 
 
 def original(crate, path):
@@ -76,8 +88,8 @@ def main():
         for path in paths:
             lines = path.read_text(encoding="utf-8").split("\n")
             try:
-                if folder == "must-fail" and not value(lines[0], "clause"):
-                    raise BadEdit("no clause in the first line")
+                if folder == "must-fail":
+                    check_clause(path.parent.parent, lines[0])
                 apply(path.parent.parent, lines)
             except BadEdit as reason:
                 bad += 1
