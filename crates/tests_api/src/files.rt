@@ -7,7 +7,7 @@ use std::path::Path;
 use std::test::Fail;
 use std::{fs, io};
 use wasmprinter::{Error, Source, print_file};
-use wasmprinter_samples::{IDENTITY, IDENTITY_TEXT, expect_text};
+use wasmprinter_samples::{EMPTY_TEXT, IDENTITY, IDENTITY_TEXT, PREAMBLE, expect_text};
 
 /// A source with one file, `identity.wasm`.
 #[derive(Drop)]
@@ -37,11 +37,26 @@ fn prints_a_file_of_a_source(rt: HostRuntime) -> Result<(), Fail> {
     Ok(())
 }
 
+/// Writes a file of the system, and returns the result of printing it. Removes the file.
+fn printed(rt: &HostRuntime, name: &str, content: &[u8]) -> io::Result<Result<String, Error>> {
+    fs::write(rt, name, content)?;
+    let text = print_file(rt, rt.alloc(), Path::new(name));
+    fs::remove_file(rt, name)?;
+    Ok(text)
+}
+
 #[test]
-fn prints_a_file_of_the_system(rt: HostRuntime) -> Result<(), Fail> {
-    fs::write(&rt, "surface.wasm", IDENTITY)?;
-    let text = print_file(&rt, rt.alloc(), Path::new("surface.wasm"))?;
-    fs::remove_file(&rt, "surface.wasm")?;
+fn prints_files_of_the_system(rt: HostRuntime) -> Result<(), Fail> {
+    let text = printed(&rt, "empty.wasm", PREAMBLE)??;
+    expect_text(text.as_str(), EMPTY_TEXT)?;
+    let text = printed(&rt, "identity.wasm", IDENTITY)??;
     expect_text(text.as_str(), IDENTITY_TEXT)?;
+    Ok(())
+}
+
+#[test]
+fn refuses_a_file_of_text(rt: HostRuntime) -> Result<(), Fail> {
+    let text = printed(&rt, "text.wasm", b"(module)")?;
+    assert!(rt; matches!(text, Err(Error::Malformed { place: 0 })));
     Ok(())
 }

@@ -1,6 +1,7 @@
 //! Tests of the library's public items: each is used by its path in the crate `wasmprinter`. Shared modules and texts
 //! are those of `wasmprinter_samples`. `faults` prints to a printer that counts its failed calls, and proves the
-//! count. Expected values are typed by hand.
+//! count. All tests of files are here, since each crate with one proves what drops a file of the system. Expected values
+//! are typed by hand.
 #![tactic(auto)]
 
 #[cfg(test)]
@@ -26,5 +27,7 @@ mod options;
 mod printers;
 #[cfg(test)]
 mod printing;
+#[cfg(test)]
+mod unreadable;
 #[cfg(test)]
 mod values;

@@ -6,11 +6,11 @@ use crate::layout::Layout;
 use std::alloc::Global;
 use std::test::Fail;
 use wasmprinter_expecting::expect_calls;
-use wasmprinter_rows::calls::HINTED_FOLDED;
-use wasmprinter_rows::{
+use wasmprinter_samples::calls::HINTED_FOLDED;
+use wasmprinter_samples::{
     CUSTOMS_AROUND_A_MEMORY, DYLINK_CUT, DYLINK_MEMORY, DYLINK_UNKNOWN, HINTED_IF, RAW_PRODUCERS,
+    Recorder,
 };
-use wasmprinter_samples::Recorder;
 
 /// A module with custom sections that the printer claims.
 struct Claim {

@@ -6,11 +6,10 @@ use crate::damage::Damage;
 use std::alloc::Global;
 use std::test::Fail;
 use wasmprinter_expecting::expect_printed;
-use wasmprinter_rows::{
+use wasmprinter_samples::{
     CUSTOMS_AROUND_A_MEMORY, DYLINK_CUT, DYLINK_MEMORY, GLOBAL_BLOCK, HINTED_IF, IDENTITY, MODULES,
-    RAW_PRODUCERS,
+    PREAMBLE, RAW_PRODUCERS,
 };
-use wasmprinter_samples::PREAMBLE;
 
 /// Returns all modules of the worked examples.
 fn all_modules() -> &'static [&'static [u8]] {

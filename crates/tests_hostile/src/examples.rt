@@ -3,15 +3,14 @@
 
 use crate::layout::Layout;
 use wasmprinter::Error;
-use wasmprinter_rows::calls::{
+use wasmprinter_samples::calls::{
     CUSTOMS_CALLS, CUT_CALLS, GLOBAL_FOLDED, HINTED_FOLDED, IDENTITY_FOLDED, MEMORY_CALLS,
     PRODUCERS_CALLS, UNKNOWN_CALLS,
 };
-use wasmprinter_rows::{
+use wasmprinter_samples::{
     CUSTOMS_AROUND_A_MEMORY, DYLINK_CUT, DYLINK_MEMORY, DYLINK_UNKNOWN, GLOBAL_BLOCK, HINTED_IF,
-    IDENTITY, RAW_PRODUCERS,
+    IDENTITY, IDENTITY_CALLS, RAW_PRODUCERS,
 };
-use wasmprinter_samples::IDENTITY_CALLS;
 
 /// The result of printing an example.
 #[derive(Clone, Copy)]

@@ -1,6 +1,6 @@
-//! Tests of hostile use, through the public paths of the crate `wasmprinter` only: damaged modules, printers and
-//! writers that fail at each of their calls, and files that can't be read. `byte_printers` tests printers over writers
-//! of bytes and of text, with colors and without. Expected values are typed by hand.
+//! Tests of hostile use, through the public paths of the crate `wasmprinter` only: damaged modules, and printers and
+//! writers that fail at each of their calls. `byte_printers` tests printers over writers of bytes and of text, with
+//! colors and without. Expected values are typed by hand.
 #![tactic(auto)]
 
 #[cfg(test)]
@@ -17,8 +17,6 @@ mod damaged;
 mod examples;
 #[cfg(test)]
 mod failing;
-#[cfg(test)]
-mod files;
 #[cfg(test)]
 mod layout;
 #[cfg(test)]

@@ -1,15 +1,18 @@
 //! Tests of custom sections (section 5.5.3 of the standard): malformed ones, their places in a decoded module, calls on a
 //! printer before a `dylink.0` section (tool conventions) is refused, and sections that the printer claims.
 
-use crate::rows::{CallsRow, Row, expect_calls_of, expect_rows};
+use crate::rows::{Row, expect_rows};
 use std::alloc::{AllocError, Global};
 use std::test::Fail;
 use wasmprinter::wasm::decode;
 use wasmprinter::{Config, Error};
 use wasmprinter_expecting::Expected::Malformed;
-use wasmprinter_expecting::{expect_recorded, print_to, refusal_of};
+use wasmprinter_expecting::Options::Default;
+use wasmprinter_expecting::{
+    CallsRow, Refusal, expect_each_calls, expect_recorded, print_to, refusal_of,
+};
 use wasmprinter_samples::parts::Part::{Bytes, Custom, Section};
-use wasmprinter_samples::parts::{add_parts, build};
+use wasmprinter_samples::parts::{Parts, add_parts, build};
 use wasmprinter_samples::sections::CUSTOM;
 use wasmprinter_samples::{PREAMBLE, Recorder};
 use wasmprinter_wasm::{CustomEntry, Fields, SectionKind};
@@ -119,13 +122,23 @@ fn add_sections(
     Ok(())
 }
 
+/// Returns a module of these sections, with a custom section before them and after each.
+fn with_customs(alloc: Global, sections: &[SectionRow]) -> Result<Vec<u8>, AllocError> {
+    let mut wasm = build(alloc, &[Bytes(PREAMBLE), Custom("c", &[])])?;
+    add_sections(alloc, &mut wasm, sections)?;
+    Ok(wasm)
+}
+
+/// Reports whether the custom sections of a module have these kinds of sections as their places.
+fn has_places(alloc: Global, wasm: &[u8], kinds: &[Option<SectionKind>]) -> Result<bool, Error> {
+    let module = decode(alloc, wasm)?;
+    Ok(are_after(module.customs(), kinds))
+}
+
 #[test]
 fn knows_every_place(rt: HostRuntime) -> Result<(), Fail> {
-    let alloc = rt.alloc();
-    let mut wasm = build(alloc, &[Bytes(PREAMBLE), Custom("c", &[])])?;
-    add_sections(alloc, &mut wasm, SECTIONS)?;
-    let module = decode(alloc, &wasm)?;
-    assert!(rt; are_after(module.customs(), EVERY_PLACE));
+    let wasm = with_customs(rt.alloc(), SECTIONS)?;
+    assert!(rt; has_places(rt.alloc(), &wasm, EVERY_PLACE)?);
     Ok(())
 }
 
@@ -137,25 +150,34 @@ const CALLS_BEFORE_REFUSAL: &str = r#"[0x0]({K}module{R}{? "a" 0xc [1]}
 [0x10]  ({K}memory {R}{N}(;0;){R} {L}1{R}){? "b" 0x16 []}
 [0x14]  ({K}@custom {R}{L}"b"{R} (after memory) {L}""{R}){? "dylink.0" 0x21 [9, 0]}"#;
 
+/// A memory between custom sections, of which the third is a `dylink.0` section with an unknown subsection.
+const UNKNOWN_SUBSECTION: Parts = &[
+    Bytes(AROUND_A_MEMORY),
+    Custom("dylink.0", &[0x09, 0x00]),
+    Custom("c", &[]),
+];
+
+/// Checks that a module is refused for subsection 9, after these calls on a printer.
+///
+/// # Errors
+///
+/// - The module is not refused for this subsection, or its calls differ.
+fn expect_refused_after(alloc: Global, wasm: &[u8], calls: &str) -> Result<(), Fail> {
+    let mut recorder = Recorder::new(alloc);
+    let refusal = Refusal::DylinkSubsection { id: 9 };
+    if !refusal.is(print_to(&Config::new(), alloc, wasm, &mut recorder).err()) {
+        return Err("is not refused for its subsection")?;
+    }
+    expect_recorded("an unknown subsection", &recorder, calls)
+}
+
 #[test]
 fn refuses_a_subsection_that_is_not_known(rt: HostRuntime) -> Result<(), Fail> {
-    let alloc = rt.alloc();
-    let wasm = build(
-        alloc,
-        &[
-            Bytes(AROUND_A_MEMORY),
-            Custom("dylink.0", &[0x09, 0x00]),
-            Custom("c", &[]),
-        ],
-    )?;
-    let refused = refusal_of(alloc, &wasm);
+    let wasm = build(rt.alloc(), UNKNOWN_SUBSECTION)?;
+    let refused = refusal_of(rt.alloc(), &wasm);
     assert!(rt; matches!(refused, Some(Error::DylinkSubsection { id: 9 })));
     // The text before the refused section is printed.
-    let mut recorder = Recorder::new(alloc);
-    let printed = print_to(&Config::new(), alloc, &wasm, &mut recorder);
-    expect_recorded("an unknown subsection", &recorder, CALLS_BEFORE_REFUSAL)?;
-    assert!(rt; matches!(printed, Err(Error::DylinkSubsection { id: 9 })));
-    Ok(())
+    expect_refused_after(rt.alloc(), &wasm, CALLS_BEFORE_REFUSAL)
 }
 
 // ---- claims
@@ -165,6 +187,7 @@ fn refuses_a_subsection_that_is_not_known(rt: HostRuntime) -> Result<(), Fail> {
 const CLAIMS: &[CallsRow] = &[
     (
         "a `dylink.0` section with an unknown subsection, between two other sections",
+        Default,
         &[
             Bytes(PREAMBLE),
             Custom("a", &[]),
@@ -180,12 +203,14 @@ const CLAIMS: &[CallsRow] = &[
     ),
     (
         "the same section twice",
+        Default,
         &[Bytes(PREAMBLE), Custom("a", &[0x01]), Custom("a", &[0x01])],
         "a",
         "[0x0]({K}module{R}{? \"a\" 0xc [1]}{? \"a\" 0x11 [1]})\n",
     ),
     (
         "a section that names the module, whose names are used",
+        Default,
         &[Bytes(PREAMBLE), Custom("name", b"\x00\x02\x01m")],
         "name",
         "[0x0]({K}module{R} $m{? \"name\" 0xf [0, 2, 1, 109]})\n",
@@ -194,5 +219,5 @@ const CLAIMS: &[CallsRow] = &[
 
 #[test]
 fn prints_nothing_of_claimed_sections(rt: HostRuntime) -> Result<(), Fail> {
-    expect_calls_of(rt.alloc(), CLAIMS)
+    expect_each_calls(rt.alloc(), CLAIMS)
 }

@@ -1,7 +1,8 @@
 //! Tests of the calls that print branch hints (Code Metadata): each is on a line of its own, directly before its operator.
 
-use crate::rows::{CallsRow, expect_calls_of};
 use std::test::Fail;
+use wasmprinter_expecting::Options::Default;
+use wasmprinter_expecting::{CallsRow, expect_each_calls};
 use wasmprinter_samples::PREAMBLE;
 use wasmprinter_samples::parts::Part::{Bytes, Custom, Section};
 use wasmprinter_samples::parts::{ONE_FUNCTION, ONE_PARAM, Part, Parts};
@@ -40,11 +41,11 @@ const LIKELY_TAKEN_CALLS: &str = r#"[0x0]({K}module{R}
 
 /// The hints are printed whether the printer claims the section or not.
 const CALLS: &[CallsRow] = &[
-    ("no claim", LIKELY_TAKEN, "", LIKELY_TAKEN_CALLS),
-    ("a claim", LIKELY_TAKEN, HINTS, LIKELY_TAKEN_CALLS),
+    ("no claim", Default, LIKELY_TAKEN, "", LIKELY_TAKEN_CALLS),
+    ("a claim", Default, LIKELY_TAKEN, HINTS, LIKELY_TAKEN_CALLS),
 ];
 
 #[test]
 fn makes_the_calls_of_a_hint(rt: HostRuntime) -> Result<(), Fail> {
-    expect_calls_of(rt.alloc(), CALLS)
+    expect_each_calls(rt.alloc(), CALLS)
 }

@@ -1,20 +1,14 @@
-//! Tests of whole modules: refusals, limits, names, custom sections, branch hints, decoded modules, the order of the
-//! calls on a printer, and calls that fail. Parts of a decoded module that the library does not export are read through
-//! the traits of `wasmprinter_wasm` and `wasmprinter_ops`. Expected values are typed by hand.
+//! Tests of whole modules: refusals, limits, names, custom sections, branch hints, decoded modules, options, lines and
+//! places, and the examples of the documents. Parts of a decoded module that the library does not export are read
+//! through the traits of `wasmprinter_wasm` and `wasmprinter_ops`. Expected values are typed by hand.
 #![tactic(auto)]
 
-#[cfg(test)]
-mod calls;
-#[cfg(test)]
-mod colors;
 #[cfg(test)]
 mod customs;
 #[cfg(test)]
 mod decoding;
 #[cfg(test)]
 mod example;
-#[cfg(test)]
-mod files;
 #[cfg(test)]
 mod hints;
 #[cfg(test)]

@@ -157,3 +157,18 @@ const OTHER_PREAMBLES: &[RefusedRow] = &[
 fn refuses_components_and_preambles_that_are_cut_off(rt: HostRuntime) -> Result<(), Fail> {
     expect_refusals(rt.alloc(), OTHER_PREAMBLES)
 }
+
+/// A table whose initialiser has no operators.
+const EMPTY_INITIALIZER: &[RefusedRow] = &[(
+    "an empty initialiser",
+    &[
+        Bytes(PREAMBLE),
+        Bytes(&[0x04, 0x07, 0x01, 0x40, 0x00, 0x70, 0x00, 0x01, 0x0b]),
+    ],
+    Refusal::EmptyTableInit { place: 11 },
+)];
+
+#[test]
+fn refuses_an_empty_initialiser(rt: HostRuntime) -> Result<(), Fail> {
+    expect_refusals(rt.alloc(), EMPTY_INITIALIZER)
+}

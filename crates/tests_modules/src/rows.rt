@@ -1,12 +1,10 @@
-//! Rows of modules that the tests share, with their texts, calls or refusals, and the loops that check these rows. A
-//! failure shows the name of its row.
+//! Rows of modules that the tests share, with their texts or refusals, and the loops that check these rows. A failure
+//! shows the name of its row.
 
 use std::alloc::Global;
 use std::test::Fail;
-use wasmprinter::Config;
 use wasmprinter::wasm::decode;
-use wasmprinter_expecting::{Expected, Refusal, early_refusal_of, expect_calls, expect_result};
-use wasmprinter_samples::Recorder;
+use wasmprinter_expecting::{Expected, Refusal, early_refusal_of, expect_result};
 use wasmprinter_samples::parts::{Parts, build};
 
 /// A module: the name of the row, the parts, and the expected result.
@@ -21,24 +19,6 @@ pub fn expect_rows(alloc: Global, rows: &[Row]) -> Result<(), Fail> {
     for (name, parts, expected) in rows {
         let wasm = build(alloc, parts)?;
         expect_result(name, alloc, &wasm, expected)?;
-    }
-    Ok(())
-}
-
-/// A module that is printed to a recorder: the name of the row, the parts, the name of the custom sections that the
-/// recorder claims (none if it is empty), and the calls that are expected.
-pub type CallsRow = (&'static str, Parts, &'static str, &'static str);
-
-/// Checks the calls of each row with the default options.
-///
-/// # Errors
-///
-/// - A module is refused, or its calls differ.
-pub fn expect_calls_of(alloc: Global, rows: &[CallsRow]) -> Result<(), Fail> {
-    for (name, parts, claimed, calls) in rows {
-        let wasm = build(alloc, parts)?;
-        let recorder = Recorder::with_section_taken(alloc, claimed);
-        expect_calls(name, &Config::new(), alloc, &wasm, recorder, calls)?;
     }
     Ok(())
 }

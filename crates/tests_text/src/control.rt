@@ -1,4 +1,5 @@
-//! Tests of deep nesting: texts of functions with many blocks, each inside the one before it.
+//! Tests of deep nesting: texts of functions with many `if`s and `try`s, each inside the one before it. The file `large`
+//! has the blocks.
 
 use std::alloc::{AllocError, Global};
 use std::test::Fail;
@@ -59,19 +60,7 @@ type Deep = (
     &'static [&'static str],
 );
 
-const DEEP_BLOCKS: &[Deep] = &[
-    // A section of 300,006 bytes, with a body of 300,002 bytes
-    (
-        100_000,
-        &[0x02, 0x40],
-        &[0x0b],
-        &[0x0a, 0xe6, 0xa7, 0x12, 0x01, 0xe2, 0xa7, 0x12, 0x00],
-        "block",
-        &["end"],
-    ),
-];
-
-const DEEP_IFS_AND_TRIES: &[Deep] = &[
+const DEEP: &[Deep] = &[
     // A section of 80,006 bytes, with a body of 80,002 bytes
     (
         20_000,
@@ -102,11 +91,6 @@ fn expect_deep(alloc: Global, rows: &[Deep]) -> Result<(), Fail> {
 }
 
 #[test]
-fn prints_deep_blocks(rt: HostRuntime) -> Result<(), Fail> {
-    expect_deep(rt.alloc(), DEEP_BLOCKS)
-}
-
-#[test]
 fn prints_deep_ifs_and_tries(rt: HostRuntime) -> Result<(), Fail> {
-    expect_deep(rt.alloc(), DEEP_IFS_AND_TRIES)
+    expect_deep(rt.alloc(), DEEP)
 }

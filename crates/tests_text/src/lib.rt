@@ -1,15 +1,36 @@
-//! Tests of texts: each operator, deep nesting, many types, and single values; and of the number of defined functions.
-//! They use only paths of the crate `wasmprinter`. All expected texts are typed by hand.
+//! Tests of texts that are built by code, and of the calls in which a printer receives a text: each operator, flat and
+//! folded, deep nesting, large modules, many types, single values, colors, and refusals of folding in colors and as lines;
+//! and of the number of defined functions. Most other texts are rows of files, which the crate `check_rows` checks. Only
+//! the tests of `parts` call functions that the crate `wasmprinter` does not export. All expected texts and calls are typed
+//! by hand; `pieces/lists.rt` says from where its calls were typed.
 #![tactic(auto)]
 
 #[cfg(test)]
+mod arities;
+#[cfg(test)]
+mod calls;
+#[cfg(test)]
+mod colors;
+#[cfg(test)]
 mod control;
 #[cfg(test)]
+mod cuts;
+#[cfg(test)]
+mod fold_refusals;
+#[cfg(test)]
 mod imports;
+#[cfg(test)]
+mod large;
 #[cfg(test)]
 mod opcode_words;
 #[cfg(test)]
 mod opcodes;
+#[cfg(test)]
+mod parts;
+#[cfg(test)]
+mod pieces;
+#[cfg(test)]
+mod runs;
 #[cfg(test)]
 mod types;
 #[cfg(test)]

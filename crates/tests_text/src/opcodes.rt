@@ -130,11 +130,11 @@ fn prints_each_operator(rt: HostRuntime) -> Result<(), Fail> {
 }
 
 /// The opcodes that open, divide and close blocks. The row file `text_operators.txt` has rows with each.
-const BLOCK_OPCODES: [u32; 10] = [0x02, 0x03, 0x04, 0x05, 0x06, 0x07, 0x0b, 0x18, 0x19, 0x1f];
+const BLOCK_OPCODES: &[u32] = &[0x02, 0x03, 0x04, 0x05, 0x06, 0x07, 0x0b, 0x18, 0x19, 0x1f];
 
 /// The numbers of no operator, below the bounds of `NUMBERS`: the prefix (0 for none), and the first and last
 /// number of a range.
-const UNLISTED: [(u8, u32, u32); 23] = [
+const UNLISTED: &[(u8, u32, u32)] = &[
     (0, 0x16, 0x17),
     (0, 0x1d, 0x1e),
     (0, 0x27, 0x27),
@@ -162,19 +162,19 @@ const UNLISTED: [(u8, u32, u32); 23] = [
 
 /// Each prefix (0 for none) with the number after the last one that is tested: one-byte opcodes up to FA, those
 /// after FB and FC up to 63, after FD up to 511, and after FE up to 7F.
-const NUMBERS: [Code; 5] = [(0, 0xfb), (0xfb, 64), (0xfc, 64), (0xfd, 512), (0xfe, 0x80)];
+const NUMBERS: &[Code] = &[(0, 0xfb), (0xfb, 64), (0xfc, 64), (0xfd, 512), (0xfe, 0x80)];
 
 /// The number of tested opcodes.
 const NUMBERS_LEN: usize = 251 + 64 + 64 + 512 + 128;
 
 /// Zeros, which can be read as immediates of any shape, or as operators.
-const ZEROS: [u8; 20] = [0x00; 20];
+const ZEROS: &[u8] = &[0x00; 20];
 
 /// Reports whether an opcode followed by zeros is refused, both with one `end` after them and with two, for an
 /// opcode that opens a block.
 fn is_refused(alloc: Global, prefix: u8, number: u32) -> Result<bool, AllocError> {
     let mut bytes = opcode(alloc, prefix, number)?;
-    bytes.extend_from_slice(&ZEROS)?;
+    bytes.extend_from_slice(ZEROS)?;
     let is_refused_alone = is_malformed(alloc, &with_operators(alloc, &bytes)?);
     bytes.push(0x0b)?;
     Ok(is_refused_alone && is_malformed(alloc, &with_operators(alloc, &bytes)?))
@@ -183,9 +183,9 @@ fn is_refused(alloc: Global, prefix: u8, number: u32) -> Result<bool, AllocError
 #[test]
 fn refuses_other_numbers(rt: HostRuntime) -> Result<(), Fail> {
     for (prefix, first, last) in UNLISTED {
-        for number in first..=last {
+        for number in *first..=*last {
             assert!(rt;
-                is_refused(rt.alloc(), prefix, number)?,
+                is_refused(rt.alloc(), *prefix, number)?,
                 "{prefix:#x} {number:#x}"
             );
         }
@@ -197,7 +197,7 @@ fn refuses_other_numbers(rt: HostRuntime) -> Result<(), Fail> {
 fn tested_opcodes(alloc: Global) -> Result<Vec<Code>, Fail> {
     let mut opcodes = Vec::new(alloc);
     for number in BLOCK_OPCODES {
-        opcodes.push((0, number))?;
+        opcodes.push((0, *number))?;
     }
     for (_, groups) in GROUPS {
         for group in groups {
@@ -207,8 +207,8 @@ fn tested_opcodes(alloc: Global) -> Result<Vec<Code>, Fail> {
         }
     }
     for (prefix, first, last) in UNLISTED {
-        for number in first..=last {
-            opcodes.push((prefix, number))?;
+        for number in *first..=*last {
+            opcodes.push((*prefix, number))?;
         }
     }
     Ok(opcodes)
@@ -219,8 +219,8 @@ fn tested_opcodes(alloc: Global) -> Result<Vec<Code>, Fail> {
 fn leaves_out_no_number(rt: HostRuntime) -> Result<(), Fail> {
     let opcodes = tested_opcodes(rt.alloc())?;
     for (prefix, end) in NUMBERS {
-        for number in 0..end {
-            let wanted = (prefix, number);
+        for number in 0..*end {
+            let wanted = (*prefix, number);
             assert!(rt; opcodes.contains(&wanted), "{wanted:?}");
         }
     }

@@ -31,8 +31,8 @@ fn write_value<P: Print>(printer: &mut P, value: &Value) -> Result<(), Error> {
     }
 }
 
-/// Floats, each with its text.
-const FLOATS: &[(Value, &str)] = &[
+/// Values, each with its text: numbers of each class, escaped bytes, and characters outside of ASCII.
+const TEXTS: &[(Value, &str)] = &[
     (Value::F32(0x3fc0_0000), "0x1.8p+0"),
     (Value::F32(0x0000_0000), "0x0p+0"),
     (Value::F32(0x8000_0000), "-0x0p+0"),
@@ -55,6 +55,8 @@ const FLOATS: &[(Value, &str)] = &[
     (Value::F64(0x4009_21fb_5444_2d18), "0x1.921fb54442d18p+1"),
     (Value::F64(0x000f_ffff_ffff_ffff), "0x1.ffffffffffffep-1023"),
     (Value::F64(0x7fef_ffff_ffff_ffff), "0x1.fffffffffffffp+1023"),
+    (Value::Bytes(&[0x41, 0x22, 0x00]), r#""A\22\00""#),
+    (Value::Quoted("\u{1b}\u{e9}"), r#""\u{1b}\u{e9}""#),
 ];
 
 /// Checks the text of a value. A failure shows the text.
@@ -81,8 +83,8 @@ fn expect_texts(alloc: Global, rows: &[(Value, &'static str)]) -> Result<(), Fai
 }
 
 #[test]
-fn writes_floats(rt: HostRuntime) -> Result<(), Fail> {
-    expect_texts(rt.alloc(), FLOATS)
+fn writes_values(rt: HostRuntime) -> Result<(), Fail> {
+    expect_texts(rt.alloc(), TEXTS)
 }
 
 /// A value: the name of the row, the value, the number of the call that is refused, and the calls up to it. No call is

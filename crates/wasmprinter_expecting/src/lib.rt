@@ -2,8 +2,12 @@
 //! have no contracts, so that a proof of a test needs no facts about printing. A failure shows the name of its row.
 #![tactic(auto)]
 
+mod calls;
+mod options;
 mod refusals;
 
+pub use calls::{CallsRow, expect_calls, expect_each_calls, expect_recorded};
+pub use options::Options;
 pub use refusals::{Expected, Refusal, expect_result};
 use std::alloc::Global;
 use std::test::Fail;
@@ -90,38 +94,6 @@ pub fn expect_printed_by(
         Ok(text) => expect_same(name, text.as_str(), typed),
         Err(error) => Err((name, error))?,
     }
-}
-
-/// Checks that a recorder recorded exactly these calls and missed none.
-///
-/// # Errors
-///
-/// - The calls differ, or one was not recorded.
-pub fn expect_recorded(name: &'static str, recorder: &Recorder, typed: &str) -> Result<(), Fail> {
-    expect_same(name, recorder.calls(), typed)?;
-    if !recorder.is_complete() {
-        return Err((name, "a call was not recorded"))?;
-    }
-    Ok(())
-}
-
-/// Checks that printing a module with these options to a recorder succeeds, and makes exactly these calls.
-///
-/// # Errors
-///
-/// - The module is refused, or the calls differ, or one was not recorded.
-pub fn expect_calls(
-    name: &'static str,
-    config: &Config,
-    alloc: Global,
-    wasm: &[u8],
-    mut recorder: Recorder,
-    typed: &str,
-) -> Result<(), Fail> {
-    if let Err(error) = print_to(config, alloc, wasm, &mut recorder) {
-        return Err((name, error))?;
-    }
-    expect_recorded(name, &recorder, typed)
 }
 
 /// Returns the error with which printing a module with the default options to a recorder fails before the first

@@ -2,12 +2,19 @@
 //! typed by hand: bytes by the binary format, texts by the text format and the layout.
 #![tactic(auto)]
 
+pub mod calls;
 mod expect;
+pub mod modules;
 pub mod parts;
 mod recorder;
 pub mod sections;
 
 pub use expect::{Different, expect_same, expect_text};
+pub use modules::MODULES;
+pub use modules::customs::{
+    CUSTOMS_AROUND_A_MEMORY, DYLINK_CUT, DYLINK_MEMORY, DYLINK_UNKNOWN, HINTED_IF, RAW_PRODUCERS,
+};
+pub use modules::sections::GLOBAL_BLOCK;
 pub use recorder::{REFUSED, Recorder};
 
 /// The magic number and the version, which are a whole module.

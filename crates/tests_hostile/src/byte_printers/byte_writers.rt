@@ -11,8 +11,9 @@ use std::io::ErrorKind;
 use std::test::Fail;
 use wasmprinter::print::{Ansi, Color, ColorSpec, NoColor, WriteColor};
 use wasmprinter::{Error, Print, PrintIoWrite, PrintTermcolor};
-use wasmprinter_rows::{CUSTOMS_AROUND_A_MEMORY, DYLINK_CUT, GLOBAL_BLOCK, HINTED_IF};
-use wasmprinter_samples::{IDENTITY, PREAMBLE};
+use wasmprinter_samples::{
+    CUSTOMS_AROUND_A_MEMORY, DYLINK_CUT, GLOBAL_BLOCK, HINTED_IF, IDENTITY, PREAMBLE,
+};
 
 /// A printer over a writer of bytes.
 #[derive(Clone, Copy, Debug)]
