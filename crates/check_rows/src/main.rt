@@ -3,8 +3,10 @@
 //! of the gate are in `data`; `data/README.md` describes their format.
 #![tactic(auto)]
 
+mod operators;
 mod row;
 
+use operators::row_of_operator;
 use row::Row;
 use std::alloc::{AllocError, Global};
 use std::path::Path;
@@ -20,6 +22,8 @@ fn read_rows<'a>(
     for line in file.lines() {
         if let Some(title) = line.strip_prefix("row ") {
             rows.push(Row::new(alloc, title))?;
+        } else if let Some(row) = row_of_operator(alloc, line)? {
+            rows.push(row)?;
         } else if !line.is_empty() && !line.starts_with('#') {
             let is_read = match rows.last_mut() {
                 Some(row) => row.add_line(alloc, line)?,

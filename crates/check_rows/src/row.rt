@@ -36,7 +36,7 @@ fn hexadecimal(digits: &str) -> Option<u64> {
 }
 
 /// Appends bytes that are written in hexadecimal. Reports whether each word is a byte of two digits.
-fn push_bytes(bytes: &mut Vec<u8>, words: &str) -> Result<bool, AllocError> {
+pub fn push_bytes(bytes: &mut Vec<u8>, words: &str) -> Result<bool, AllocError> {
     for word in words.split_whitespace() {
         match hexadecimal(word) {
             Some(byte) if word.len() == 2 && byte < 0x100 => bytes.push(byte as u8)?,
@@ -87,6 +87,25 @@ impl<'a> Row<'a> {
             places: Vec::new(alloc),
             has_places: false,
             expected: Expected::Missing,
+        }
+    }
+
+    /// Returns a row of a module with its text, without places.
+    pub fn with_text(
+        alloc: Global,
+        title: &'a str,
+        config: Config,
+        wasm: Vec<u8>,
+        text: String,
+    ) -> Row<'a> {
+        Row {
+            title,
+            config,
+            wasm,
+            text,
+            places: Vec::new(alloc),
+            has_places: false,
+            expected: Expected::Text,
         }
     }
 

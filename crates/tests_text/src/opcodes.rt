@@ -1,10 +1,8 @@
-//! Tests of all opcodes: the line of each operator, and the numbers of no operator, which are malformed.
+//! Tests of all opcodes: the numbers of no operator are malformed, and all others are read. The row file `operators_flat.txt`
+//! has the line of each operator.
 
-use crate::opcode_words::{Group, INDICES, LANES, MEMORIES, OTHERS, PLAIN};
 use std::alloc::{AllocError, Global};
-use std::num::ParseIntError;
 use std::test::Fail;
-use wasmprinter::Error;
 use wasmprinter_expecting::is_malformed;
 use wasmprinter_samples::PREAMBLE;
 use wasmprinter_samples::parts::{NO_PARAMS, ONE_FUNCTION, Part, build};
@@ -20,26 +18,6 @@ fn with_operators(alloc: Global, operators: &[u8]) -> Result<Vec<u8>, AllocError
             Part::Body(operators),
         ],
     )
-}
-
-/// Returns the text of that module.
-fn text_of(alloc: Global, operators: &[u8]) -> Result<String, Error> {
-    wasmprinter_expecting::text_of(alloc, &with_operators(alloc, operators)?)
-}
-
-/// Returns the text of a module whose function has these lines.
-fn text_with_lines(alloc: Global, lines: &[&str]) -> Result<String, AllocError> {
-    let mut text = String::from_str(
-        alloc,
-        "(module\n  (type (;0;) (func))\n  (func (;0;) (type 0)\n",
-    )?;
-    for line in lines {
-        text.push_str("    ")?;
-        text.push_str(line)?;
-        text.push('\n')?;
-    }
-    text.push_str("  )\n)\n")?;
-    Ok(text)
 }
 
 /// Returns the bytes of an opcode: its number alone if it has no prefix, otherwise the prefix and the number.
@@ -60,74 +38,6 @@ fn opcode(alloc: Global, prefix: u8, number: u32) -> Result<Vec<u8>, AllocError>
 
 /// A prefix (0 for none) and a number.
 type Code = (u8, u32);
-
-/// An operator and the line on which it is printed.
-#[derive(Drop)]
-struct Sample {
-    code: Code,
-    bytes: Vec<u8>,
-    line: String,
-}
-
-/// Returns the operators of a group.
-fn samples_of(alloc: Global, group: &Group) -> Result<Vec<Sample>, Fail> {
-    let mut samples = Vec::new(alloc);
-    let mut number = 0;
-    for item in group.words.split_ascii_whitespace() {
-        match item.strip_prefix('@') {
-            Some(digits) => number = number_of(group.prefix, digits)?,
-            None => {
-                let mut bytes = opcode(alloc, group.prefix, number)?;
-                bytes.extend_from_slice(group.immediates)?;
-                let line = format!(in alloc; "{item}{}", group.text)?;
-                let code = (group.prefix, number);
-                samples.push(Sample { code, bytes, line })?;
-                number = number.saturating_add(1);
-            }
-        }
-    }
-    Ok(samples)
-}
-
-/// Parses a number as a group writes it.
-fn number_of(prefix: u8, digits: &str) -> Result<u32, ParseIntError> {
-    match prefix {
-        0 | 0xfe => u32::from_str_radix(digits, 16),
-        _ => u32::from_str_radix(digits, 10),
-    }
-}
-
-/// All groups, each with the name of its test row.
-const GROUPS: [(&str, &[Group]); 5] = [
-    ("operators without immediates", &PLAIN),
-    ("operators on memories", &MEMORIES),
-    ("operators with lanes", &LANES),
-    ("operators with indices", &INDICES),
-    ("operators with types and numbers", &OTHERS),
-];
-
-/// Returns the printed text of the first operator of these groups that is not printed on its line, or `None` if
-/// there is no such operator.
-fn first_fault(alloc: Global, groups: &[Group]) -> Result<Option<String>, Fail> {
-    for group in groups {
-        for sample in &samples_of(alloc, group)? {
-            let text = text_of(alloc, &sample.bytes)?;
-            if text != text_with_lines(alloc, &[sample.line.as_str()])? {
-                return Ok(Some(text));
-            }
-        }
-    }
-    Ok(None)
-}
-
-#[test]
-fn prints_each_operator(rt: HostRuntime) -> Result<(), Fail> {
-    for (name, groups) in GROUPS {
-        let fault = first_fault(rt.alloc(), groups)?;
-        assert!(rt; fault == None, "{name}: {fault:?}");
-    }
-    Ok(())
-}
 
 /// The opcodes that open, divide and close blocks. The row file `text_operators.txt` has rows with each.
 const BLOCK_OPCODES: &[u32] = &[0x02, 0x03, 0x04, 0x05, 0x06, 0x07, 0x0b, 0x18, 0x19, 0x1f];
@@ -164,8 +74,8 @@ const UNLISTED: &[(u8, u32, u32)] = &[
 /// after FB and FC up to 63, after FD up to 511, and after FE up to 7F.
 const NUMBERS: &[Code] = &[(0, 0xfb), (0xfb, 64), (0xfc, 64), (0xfd, 512), (0xfe, 0x80)];
 
-/// The number of tested opcodes.
-const NUMBERS_LEN: usize = 251 + 64 + 64 + 512 + 128;
+/// The number of operators, without those that open, divide and close blocks.
+const LISTED: u32 = 565;
 
 /// Zeros, which can be read as immediates of any shape, or as operators.
 const ZEROS: &[u8] = &[0x00; 20];
@@ -180,50 +90,32 @@ fn is_refused(alloc: Global, prefix: u8, number: u32) -> Result<bool, AllocError
     Ok(is_refused_alone && is_malformed(alloc, &with_operators(alloc, &bytes)?))
 }
 
-#[test]
-fn refuses_other_numbers(rt: HostRuntime) -> Result<(), Fail> {
-    for (prefix, first, last) in UNLISTED {
-        for number in *first..=*last {
-            assert!(rt;
-                is_refused(rt.alloc(), *prefix, number)?,
-                "{prefix:#x} {number:#x}"
-            );
-        }
-    }
-    Ok(())
+/// Reports whether an opcode is in a range of `UNLISTED`.
+fn is_unlisted(prefix: u8, number: u32) -> bool {
+    UNLISTED.iter().any(|range| range.0 == prefix && range.1 <= number && number <= range.2)
 }
 
-/// Returns each opcode that a test above or a row file prints or refuses.
-fn tested_opcodes(alloc: Global) -> Result<Vec<Code>, Fail> {
-    let mut opcodes = Vec::new(alloc);
-    for number in BLOCK_OPCODES {
-        opcodes.push((0, *number))?;
-    }
-    for (_, groups) in GROUPS {
-        for group in groups {
-            for sample in &samples_of(alloc, group)? {
-                opcodes.push(sample.code)?;
+/// Reports whether an opcode is one of those that open, divide and close blocks.
+fn is_of_blocks(prefix: u8, number: u32) -> bool {
+    prefix == 0 && BLOCK_OPCODES.contains(&number)
+}
+
+#[test]
+fn refuses_exactly_the_other_numbers(rt: HostRuntime) -> Result<(), Fail> {
+    let mut listed: u32 = 0;
+    for (prefix, end) in NUMBERS {
+        for number in 0..*end {
+            if is_of_blocks(*prefix, number) {
+                continue;
+            }
+            let unlisted = is_unlisted(*prefix, number);
+            let refused = is_refused(rt.alloc(), *prefix, number)?;
+            assert!(rt; refused == unlisted, "{prefix:#x} {number:#x}");
+            if !refused {
+                listed = listed.saturating_add(1);
             }
         }
     }
-    for (prefix, first, last) in UNLISTED {
-        for number in *first..=*last {
-            opcodes.push((*prefix, number))?;
-        }
-    }
-    Ok(opcodes)
-}
-
-/// Each number is printed or refused by exactly one test above, or by a row file if it is an opcode of blocks.
-#[test]
-fn leaves_out_no_number(rt: HostRuntime) -> Result<(), Fail> {
-    let opcodes = tested_opcodes(rt.alloc())?;
-    for (prefix, end) in NUMBERS {
-        for number in 0..*end {
-            let wanted = (*prefix, number);
-            assert!(rt; opcodes.contains(&wanted), "{wanted:?}");
-        }
-    }
-    assert!(rt; opcodes.len() == NUMBERS_LEN);
+    assert!(rt; listed == LISTED);
     Ok(())
 }

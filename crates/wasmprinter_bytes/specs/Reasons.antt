@@ -1,7 +1,7 @@
 -- The reasons for errors of decoding: what each error says about the bytes.
 use Rattle.std.specs.Prelude.{ℕ}
 use Rattle.wasmprinter_bytes.specs.declared.error.Error.{Error}
-use Rattle.wasmprinter_bytes.specs.declared.error.Error.TheVariants.{Malformed, Component, TooManyLocals, TooManyFunctions, EmptyTableInit, FoldLegacy, FoldHint, DylinkSubsection, Unreadable, Printer, Memory}
+use Rattle.wasmprinter_bytes.specs.declared.error.Error.TheVariants.{Malformed, Component, TooManyLocals, TooManyFunctions, EmptyTableInit, Memory}
 
 -- The reason for each error that decoding may return. The reason is ⊥ for an error that the reader never returns.
 pub record Reasons : Type 1 where
@@ -19,9 +19,5 @@ HasReason r Component = r.component
 HasReason r (TooManyLocals place) = r.locals place
 HasReason r (TooManyFunctions count) = r.functions count
 HasReason r (EmptyTableInit place) = r.tables place
-HasReason r (FoldLegacy place) = ⊥
-HasReason r (FoldHint place) = ⊥
-HasReason r (DylinkSubsection id) = ⊥
-HasReason r Unreadable = ⊥
-HasReason r (Printer e) = ⊥
 HasReason r Memory = r.memory
+HasReason r other = ⊥

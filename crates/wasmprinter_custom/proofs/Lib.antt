@@ -10,5 +10,4 @@ pub mod Marked
 pub mod Merging
 mod NextEntry
 pub mod Placing
-mod RunBytes
 pub mod Subsections

@@ -3,18 +3,27 @@ ghost use Rattle.std.specs.Prelude.{◌≡◌};
 ghost use Rattle.wasmprinter_spec.specs.Character.{class};
 ghost use Rattle.wasmprinter_spec.specs.Quoted.{is_id_char, all_id_chars, is_id};
 
-/// The printable characters, other than the space, that are not allowed in a word.
-const NOT_IN_WORDS: [u8; 9] = [b'"', b'(', b')', b',', b';', b'[', b']', b'{', b'}'];
+/// The bytes of identifier characters, each at its own index. All other entries are a full stop.
+static IDENTIFIER_BYTES: [u8; 256] = *b"\
+    ................................\
+    .!.#$%&'..*+.-./0123456789:.<=>?\
+    @ABCDEFGHIJKLMNOPQRSTUVWXYZ.\\.^_\
+    `abcdefghijklmnopqrstuvwxyz.|.~.\
+    ................................\
+    ................................\
+    ................................\
+    ................................";
 
-/// Reports whether a byte is an identifier character.
+/// Reports whether a byte is an ASCII character that may occur in an identifier.
+#[inline(always)]
 fn is_id_char(byte: u8) -> bool
     ensures { result ≡ is_id_char (class byte) }
 {
-    byte.is_ascii_graphic() && !NOT_IN_WORDS.contains(&byte)
+    IDENTIFIER_BYTES[usize::from(byte)] == byte
 }
 
 /// Reports whether all bytes are identifier characters.
-fn all_id_chars(bytes: &[u8]) -> bool
+pub fn all_id_chars(bytes: &[u8]) -> bool
     ensures { result ≡ all_id_chars bytes.now }
 {
     for &byte in bytes {

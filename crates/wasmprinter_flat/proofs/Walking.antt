@@ -26,6 +26,14 @@ pub operator-out : (s : Setting) (first : Bool) (own : Label) (xs : List Label) 
 unfolding operator_pieces
 operator-out s first own xs place o role depth r e = rw (e, r) refl
 
+-- Starting an operator, and then writing its word and immediates, writes the operator.
+pub operator_written : {S : Type 0} (wrote : S → S → List Piece → Type 0) → AllThen wrote → {u v w : S} (s : Setting) (first : Bool) (own : Label) (xs : List Label)
+    (place : ℕ) (o : Operator) (role : Role) (depth : ℕ) → role ≡ role_of o.opcode → depth ≡ level role (length xs) →
+    wrote u v (before_word s.form first place (s.nesting + depth)) → wrote v w (word_pieces s own xs o) →
+    wrote u w (operator_pieces s first own xs (record { place = place; value = o }))
+operator_written wrote then {u} {v} {w} s first own xs place o role depth r e start word =
+    rw (operator-out s first own xs place o role depth r e) (then u v w _ _ start word)
+
 operators-of : (s : Setting) (hs : List (Placed Hint)) (first : Bool) (n : ℕ) (xs : List Label) (os rest : List (Placed Operator)) (o : Placed Operator) → os ≡ o ∷ rest →
     operators_pieces s hs first n xs os
     ≡ hint_pieces (s.nesting + length xs) (next_hint (o.place - s.body) hs)

@@ -7,7 +7,7 @@ use Rattle.wasmprinter_spec.specs.Names.Section.{local_subsection}
 use Rattle.wasmprinter_spec.specs.Labels.{Label, labels_outside, labels_inside}
 use Rattle.wasmprinter_spec.specs.Operator.{Immediates, Catch}
 use Rattle.wasmprinter_spec.specs.Piece.{Piece}
-use Rattle.wasmprinter_spec.specs.Layout.Operators.{Setting, immediate_pieces, operand_pieces, catch_pieces, catches_pieces}
+use Rattle.wasmprinter_spec.specs.Layout.Operators.{Setting, immediate_pieces, catch_pieces, catches_pieces}
 use Rattle.wasmprinter_ops.specs.Shapes.{role_view}
 use Rattle.wasmprinter_flat.specs.OpenLabels.Scan.{names_of, own_label}
 use Rattle.wasmprinter_flat.specs.Settings.{setting_view}
@@ -36,10 +36,6 @@ own_in c = own_label c.labels.now
 -- The pieces of immediates, by their shape.
 abbrev pub pieces_in : {S : Type 0} → (S → ℕ → Option FuncType) → Context S → Shape → Immediates → List Piece
 pieces_in signature_at c shape i = immediate_pieces (setting_in signature_at c) (labels_within c) (labels_around c) (own_in c) shape i
-
--- The pieces of an index into the index space, or of a label.
-abbrev pub operand_pieces_in : {S : Type 0} → (S → ℕ → Option FuncType) → Context S → Space → ℕ → List Piece
-operand_pieces_in signature_at c space index = operand_pieces (setting_in signature_at c) (labels_within c) (labels_around c) space index
 
 -- The pieces of a catch clause.
 abbrev pub catch_pieces_in : {S : Type 0} → (S → ℕ → Option FuncType) → Context S → Catch → List Piece

@@ -1,6 +1,6 @@
 //! Labels (section 6.5 of the WebAssembly Core Specification, "Labels"), each with a space before it: an
 //! identifier, or an index that counts the enclosing blocks from the innermost outward.
-ghost use Rattle.std.specs.Prelude.{[], ◌∷◌, codes, decimal, true, false};
+ghost use Rattle.std.specs.Prelude.{[], ◌∷◌, ◌++◌, codes, decimal, true, false};
 ghost use Rattle.wasmprinter_spec.specs.Piece.{Gap, Word, Number, BlockComment};
 ghost use Rattle.wasmprinter_spec.specs.Layout.Operators.{label_name_pieces, label_pieces, labels_pieces};
 ghost use Rattle.wasmprinter_custom.specs.Shown.{identifier_view};
@@ -35,7 +35,7 @@ fn write_by_name<O: Output>(out: &mut O, identifier: Identifier<'_>, label: u32)
 /// Writes the index of a label, with the number of its block in a comment.
 fn write_around<O: Output>(out: &mut O, label: u64, block: u64)
     ensures { O.wrote out.old out.new
-        (Gap ∷ (Number label ∷ (BlockComment true (64 ∷ decimal block) ∷ []))) }
+        (Gap ∷ (Number label ∷ (BlockComment true (codes "@" ++ decimal block) ∷ []))) }
 {
     write_space(out);
     write_number(out, label);

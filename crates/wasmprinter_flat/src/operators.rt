@@ -2,9 +2,8 @@
 ghost use Rattle.std.specs.Prelude.{◌≡◌, ◌+◌, ◌-◌, ◌<◌, ◌^◌, [], length, true, Some};
 ghost use Rattle.wasmprinter_spec.specs.Customs.Hints.{next_hint, hint_after};
 ghost use Rattle.wasmprinter_spec.specs.Layout.Operators.{level as level_of, before_word};
-ghost use Rattle.wasmprinter_spec.specs.Layout.Operators.{operator_pieces, hint_pieces, operators_pieces};
+ghost use Rattle.wasmprinter_spec.specs.Layout.Operators.{hint_pieces, operators_pieces};
 ghost use Rattle.wasmprinter_ops.specs.Shapes.{role_view};
-ghost use Rattle.wasmprinter_flat.specs.OpenLabels.Scan.{own_label};
 ghost use Rattle.wasmprinter_flat.specs.Settings.{form_view, setting_among, word_pieces_among};
 
 use crate::context::Context;
@@ -80,6 +79,7 @@ pub fn start_operator<O: Output>(
 }
 
 /// Writes the word of an operator and its immediates. `labels` are those that are open before it.
+#[inline(never)]
 pub fn write_operator_word<O: Output, S: Signatures>(
     out: &mut O,
     setting: &Setting<'_, S>,
@@ -99,27 +99,6 @@ pub fn write_operator_word<O: Output, S: Signatures>(
     if let Some(shape) = operator.opcode.shape() {
         write_immediates_by_shape(out, &context, shape, &operator.immediates);
     }
-}
-
-/// Writes an operator. `labels` are those that are open before it; `first` says whether it is the first of its
-/// list.
-#[inline(never)]
-fn write_operator<O: Output, S: Signatures>(
-    out: &mut O,
-    setting: &Setting<'_, S>,
-    labels: &OpenLabels<'_, '_>,
-    first: bool,
-    place: u64,
-    operator: &Operator<'_>,
-)
-    requires { length labels.now.labels + 1 < 2 ^ 64 }
-    ensures { O.wrote out.old out.new
-        (operator_pieces (setting_among S.signature_at setting.now labels.now) first (own_label labels.now) labels.now.labels
-        (record { place = place; value = operator.now })) }
-{
-    let level = level(operator.opcode.role(), labels.depth());
-    start_operator(out, setting.form, first, place, setting.nesting, level);
-    write_operator_word(out, setting, labels, operator);
 }
 
 /// Writes a hint on a line of its own, indented like the operators of the block.
@@ -172,11 +151,14 @@ pub fn write_operators<O: Output, S: Signatures>(
     for (place, operator) in expression.operators() {
         let depth = labels.depth();
         write_next_hint(out, setting, depth, &mut hints, place);
-        write_operator(out, setting, labels, first, place, &operator);
+        let role = operator.opcode.role();
+        let level = level(role, depth);
+        start_operator(out, setting.form, first, place, setting.nesting, level);
+        write_operator_word(out, setting, labels, &operator);
         if out.has_failed() {
             return;
         }
-        labels.advance(operator.opcode.role());
+        labels.advance(role);
         first = false;
     }
 }

@@ -2,7 +2,7 @@
 use Rattle.std.specs.Prelude.{ℕ, List, [], ◌∷◌, Result, Ok, Err}
 use Rattle.std.specs.List.{Contains}
 use Rattle.wasmprinter_bytes.specs.declared.error.Error.{Error}
-use Rattle.wasmprinter_bytes.specs.declared.error.Error.TheVariants.{Malformed, Component, TooManyLocals, TooManyFunctions, EmptyTableInit, FoldLegacy, FoldHint, DylinkSubsection, Unreadable, Printer, Memory}
+use Rattle.wasmprinter_bytes.specs.declared.error.Error.TheVariants.{FoldLegacy, FoldHint}
 use Rattle.wasmprinter_spec.specs.Placed.{PlacedModule}
 use Rattle.wasmprinter_spec.specs.Options.{Options}
 use Rattle.wasmprinter_spec.specs.Folding.Refusals.{legacy_places, misplaced_hints}
@@ -15,14 +15,6 @@ error_of_first error (place ∷ places) = Err (error place)
 -- The reason for an error: at its place is an operator or a hint that cannot be folded. Errors without a reason
 -- are not returned.
 abbrev pub HasFoldReason : Options → PlacedModule → Error → Type 0
-HasFoldReason o m (Malformed place) = ⊥
-HasFoldReason o m Component = ⊥
-HasFoldReason o m (TooManyLocals place) = ⊥
-HasFoldReason o m (TooManyFunctions count) = ⊥
-HasFoldReason o m (EmptyTableInit place) = ⊥
 HasFoldReason o m (FoldLegacy place) = Contains (legacy_places o m) place
 HasFoldReason o m (FoldHint place) = Contains (misplaced_hints o m) place
-HasFoldReason o m (DylinkSubsection id) = ⊥
-HasFoldReason o m Unreadable = ⊥
-HasFoldReason o m (Printer e) = ⊥
-HasFoldReason o m Memory = ⊥
+HasFoldReason o m other = ⊥

@@ -22,19 +22,19 @@ ending_by folds (Err e) = ending_after folds e
 
 -- The layout ends at a refusal exactly if the refusal is returned. (A failed call or a failed allocation may come
 -- before a refusal.)
-abbrev pub IsRefusedAs : Error → Option ℕ → Type 0
-IsRefusedAs (DylinkSubsection id) refused = refused ≡ Some id
-IsRefusedAs (Printer e) refused = Unit {0}
-IsRefusedAs Memory refused = Unit {0}
-IsRefusedAs _ refused = ⊥
+abbrev pub ErrorAgreesWithRefusal : Error → Option ℕ → Type 0
+ErrorAgreesWithRefusal (DylinkSubsection id) refused = refused ≡ Some id
+ErrorAgreesWithRefusal (Printer e) refused = Unit {0}
+ErrorAgreesWithRefusal Memory refused = Unit {0}
+ErrorAgreesWithRefusal _ refused = ⊥
 
-abbrev pub IsRefused : {T : Type 0} → Result T Error → Option ℕ → Type 0
-IsRefused (Ok x) refused = refused ≡ None
-IsRefused (Err e) refused = IsRefusedAs e refused
+abbrev pub AgreesWithRefusal : {T : Type 0} → Result T Error → Option ℕ → Type 0
+AgreesWithRefusal (Ok x) refused = refused ≡ None
+AgreesWithRefusal (Err e) refused = ErrorAgreesWithRefusal e refused
 
 -- The calls that were made are those of the layout. They are a prefix if a call failed, whose error is then
 -- returned, or if an allocation failed while operators were folded. A refusal, if there is one, is returned after all
 -- calls. Nothing else is returned as an error.
 pub record PrintsLaid {P T : Type 0} (m : Meaning P) (o : Options) (old new : P) (r : Result T Error) (l : Laid) : Type 0 where
   pub made : Made m old new (ending_by o.folds r) (all_calls o l.pieces)
-  pub refused : IsRefused r l.refused
+  pub refused : AgreesWithRefusal r l.refused

@@ -3,9 +3,8 @@ ghost use Rattle.std.specs.Prelude.{◌≡◌, Bool, true, IfOk, IfErr};
 ghost use Rattle.wasmprinter_bytes.specs.declared.error.Error.TheVariants.{Memory};
 ghost use Rattle.wasmprinter_spec.specs.Options.{Answers, in_colors};
 ghost use Rattle.wasmprinter_flat.specs.OpenLabels.Scan.{names_of};
-ghost use Rattle.wasmprinter_print.specs.Effects.{HasEffect, state, of_parts};
 ghost use Rattle.wasmprinter_sections.specs.Endings.{PrintsLaid};
-ghost use Rattle.wasmprinter_sections.specs.Sections.{module_laid, whole_parts, Folds};
+ghost use Rattle.wasmprinter_sections.specs.Sections.{module_laid, Folds};
 
 use crate::modules::write_module;
 use std::alloc::Global;

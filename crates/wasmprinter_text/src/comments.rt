@@ -40,7 +40,7 @@ fn write_number_comment<O: Output>(out: &mut O, before: &str, n: u64, after: &st
 
 /// Writes a space and a comment with the number of a block.
 pub fn write_depth_comment<O: Output>(out: &mut O, block: u64)
-    ensures { O.wrote out.old out.new (BlockComment true (64 ∷ decimal block) ∷ []) }
+    ensures { O.wrote out.old out.new (BlockComment true (codes "@" ++ decimal block) ∷ []) }
 {
     write_number_comment(out, " (;@", block, ";)");
 }

@@ -1,6 +1,6 @@
 //! The representation of floats as bits (section 4.3 of the WebAssembly Core Specification, "Representations").
 ghost use Rattle.std.specs.Prelude.{◌≡◌, ◌<◌, ◌≤◌, ◌^◌};
-ghost use Rattle.wasmprinter_spec.specs.Float.{bias, greatest_exponent, sign_bit, canonical_payload};
+ghost use Rattle.wasmprinter_spec.specs.Float.{double, bias, greatest_exponent, sign_bit, canonical_payload};
 ghost use Rattle.wasmprinter_spec.specs.FloatText.{digit_count, filled_fraction, shift, shifted_fraction};
 ghost use Rattle.wasmprinter_text.specs.Formats.{width_of};
 
@@ -19,7 +19,7 @@ impl Format {
     /// Returns the number of bits of the fraction.
     pub fn fraction_bits(self) -> u32
         ensures is { result ≡ (width_of self).fraction }
-        ensures few { result ≤ 52 }
+        ensures few { result ≤ double.fraction }
     {
         match self {
             Format::Single => 23,
@@ -30,7 +30,7 @@ impl Format {
     /// Returns the number of hexadecimal digits that hold a fraction.
     pub fn digit_count(self) -> u32
         ensures is { result ≡ digit_count (width_of self) }
-        ensures few { result ≤ 13 }
+        ensures few { result ≤ digit_count double }
     {
         match self {
             Format::Single => 6,
@@ -41,7 +41,7 @@ impl Format {
     /// Returns the bias: the number that is subtracted from the bits of the exponent.
     pub fn bias(self) -> u64
         ensures is { result ≡ bias (width_of self) }
-        ensures small { result ≤ 1023 }
+        ensures small { result ≤ bias double }
     {
         match self {
             Format::Single => 127,
@@ -93,7 +93,7 @@ impl Format {
         requires some { 0 < fraction }
         requires below { fraction < 2 ^ (width_of self).fraction }
         ensures is { result ≡ shift (width_of self) fraction }
-        ensures few { result ≤ 52 }
+        ensures few { result ≤ double.fraction }
     {
         self.fraction_bits() - fraction.ilog2()
     }

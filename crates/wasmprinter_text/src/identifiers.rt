@@ -2,54 +2,22 @@
 //! and the custom annotations proposal).
 ghost use Rattle.std.specs.Prelude.{◌≡◌, [], ◌∷◌, ◌++◌, true, chars, decimal, if◌then◌else◌};
 ghost use Rattle.wasmprinter_spec.specs.Call.{Text};
-ghost use Rattle.wasmprinter_spec.specs.Character.{class};
 ghost use Rattle.wasmprinter_spec.specs.Names.Content.{index_content};
 ghost use Rattle.wasmprinter_spec.specs.Piece.{Identifier, NameAnnotation};
-ghost use Rattle.wasmprinter_spec.specs.Quoted.{is_id_char, all_id_chars, is_id, quoted_text};
+ghost use Rattle.wasmprinter_spec.specs.Quoted.{all_id_chars, is_id, quoted_text};
 ghost use Rattle.wasmprinter_text.specs.Numbers.{dollar};
 
 use crate::numbers::write_decimal;
 use crate::strings::{write_chars, write_in_quotes};
 use crate::words::write_in_style;
+use wasmprinter_custom::all_id_chars;
 use wasmprinter_print::{Output, Style};
-
-/// The bytes of identifier characters, each at its own index. All other entries are a full stop.
-static IDENTIFIER_BYTES: [u8; 256] = *b"\
-    ................................\
-    .!.#$%&'..*+.-./0123456789:.<=>?\
-    @ABCDEFGHIJKLMNOPQRSTUVWXYZ.\\.^_\
-    `abcdefghijklmnopqrstuvwxyz.|.~.\
-    ................................\
-    ................................\
-    ................................\
-    ................................";
-
-/// Reports whether a byte is an ASCII character that may occur in an identifier.
-#[inline(always)]
-fn is_identifier_byte(byte: u8) -> bool
-    ensures { result ≡ is_id_char (class byte) }
-{
-    IDENTIFIER_BYTES[usize::from(byte)] == byte
-}
-
-/// Reports whether all characters of a text may occur in an identifier. Only ASCII characters may, so checking its
-/// bytes is enough.
-fn all_id_chars(s: &str) -> bool
-    ensures { result ≡ all_id_chars (chars s.now) }
-{
-    for &byte in s.as_bytes() {
-        if !is_identifier_byte(byte) {
-            return false;
-        }
-    }
-    true
-}
 
 /// Reports whether a text may follow the dollar sign of an identifier without quotes.
 fn is_id(s: &str) -> bool
     ensures { result ≡ is_id (chars s.now) }
 {
-    !s.is_empty() && all_id_chars(s)
+    !s.is_empty() && all_id_chars(s.as_bytes())
 }
 
 /// Writes the part of an identifier after its dollar sign.

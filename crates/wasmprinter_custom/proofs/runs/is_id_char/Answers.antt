@@ -1,14 +1,21 @@
-use Rattle.std.proofs.Common.{sym, ap, ◌∙◌, arith}
-use Rattle.std.specs.Prelude.{not}
-use Rattle.wasmprinter_custom.proofs.RunBytes.{runs_graphic, runs_other}
+use Rattle.std.proofs.Common.{◌≡◌, ℕ, Bool, true, eqb, get_or, refl}
+use Rattle.std.proofs.lemmas.Bool.{agree_below, agree_below_at}
+use Rattle.wasmprinter_spec.specs.Character.{class}
+use Rattle.wasmprinter_spec.specs.Quoted.{is_id_char}
+use Rattle.wasmprinter_custom.specs.declared.runs.TheConstants.{IDENTIFIER_BYTES}
 use Rattle.wasmprinter_custom.proofs.runs.is_id_char.Goals as goal
 
-pub returns-then-is_ascii_graphic : goal.returns-then-is_ascii_graphic
-returns-then-is_ascii_graphic c =
-    ap not c.contains.ensures.value
-    ∙ runs_graphic c.args.byte (omega arith) (sym c.is_ascii_graphic.ensures.value ∙ c.if-is_ascii_graphic.true)
+stands : ℕ → Bool
+stands b = eqb (get_or IDENTIFIER_BYTES b 0) b
 
-pub returns-else-is_ascii_graphic : goal.returns-else-is_ascii_graphic
-returns-else-is_ascii_graphic c =
-    c.if-is_ascii_graphic.false
-    ∙ runs_other c.args.byte (omega arith) (sym c.is_ascii_graphic.ensures.value ∙ c.if-is_ascii_graphic.false)
+runs_bytes : ℕ → Bool
+runs_bytes b = is_id_char (class b)
+
+-- For every byte the table agrees with the byte's class.
+table : agree_below stands runs_bytes 256 ≡ true
+unfolding stands runs_bytes class
+table = refl
+
+pub returns : goal.returns
+unfolding stands runs_bytes
+returns c = rw c.from.ensures (agree_below_at stands runs_bytes 256 c.args.byte table c.ranges.byte.fits)

@@ -1,20 +1,20 @@
 use Rattle.std.proofs.Common.{refl, sym, ap, ◌∙◌}
 use Rattle.wasmprinter_spec.specs.Operator.{Operator}
 use Rattle.wasmprinter_spec.specs.Table.{role_of}
-use Rattle.wasmprinter_flat.proofs.Walking.{starts, has_room, has_count, after_next, goes_on, all_written}
+use Rattle.wasmprinter_flat.proofs.Walking.{operator_written, starts, has_room, has_count, after_next, goes_on, all_written}
 use Rattle.wasmprinter_flat.proofs.operators.write_operators.Goals as goal
 
 pub loop-place-init : goal.loop-place-init
 loop-place-init g c =
     starts g.O.Output.wrote _ _ _ _ _ _ _ c.begin.ensures refl (c.into_iter-place-iterator.ensures.into_iter_gives ∙ c.operators-place-items.ensures.all) c.operators-place-items.ensures.few
 
-pub write_operator-requires : goal.write_operator-requires
-write_operator-requires g c = has_room g.O.Output.wrote c.loop-place.invariant _ _ c.in-Some.ensures.steps
+pub write_operator_word-requires : goal.write_operator_word-requires
+write_operator_word-requires g c = has_room g.O.Output.wrote c.loop-place.invariant _ _ c.in-Some.ensures.steps
 
 pub returns-then-has_failed-clause-pieces : goal.returns-then-has_failed-clause-pieces
 returns-then-has_failed-clause-pieces g c =
     after_next g.O.Output.wrote c.loop-place.invariant g.met.O.Output.pieces_then _ _ c.in-Some.ensures.steps
-    (rw c.depth-depth.ensures at c.write_next_hint.ensures.pieces) c.write_operator.ensures _
+    (rw c.depth-depth.ensures at c.write_next_hint.ensures.pieces) (operator_written g.O.Output.wrote g.met.O.Output.pieces_then _ _ _ _ _ _ _ _ (c.role-role.ensures ∙ ap (λ (o : Operator). role_of o.opcode) c.operator.view_is) (rw c.depth-depth.ensures at c.level-level.ensures) c.start_operator.ensures c.write_operator_word.ensures) _
     (g.met.O.Output.pieces_skipped _ _ (sym c.has_failed.ensures ∙ c.if-has_failed.true))
 
 pub returns-then-has_failed-clause-named : goal.returns-then-has_failed-clause-named
@@ -38,5 +38,5 @@ returns-clause-synthesizes g c = c.loop-place.invariant.synthesizes
 pub loop-place-preserved : goal.loop-place-preserved
 loop-place-preserved g c =
     goes_on g.O.Output.wrote c.loop-place.invariant g.met.O.Output.pieces_then _ _ _ _ _ c.in-Some.ensures.steps
-    (c.role.ensures ∙ ap (λ (o : Operator). role_of o.opcode) c.operator.view_is) c.advance.ensures c.write_next_hint.ensures.after
-    (rw c.depth-depth.ensures at c.write_next_hint.ensures.pieces) c.write_operator.ensures
+    (c.role-role.ensures ∙ ap (λ (o : Operator). role_of o.opcode) c.operator.view_is) c.advance.ensures c.write_next_hint.ensures.after
+    (rw c.depth-depth.ensures at c.write_next_hint.ensures.pieces) (operator_written g.O.Output.wrote g.met.O.Output.pieces_then _ _ _ _ _ _ _ _ (c.role-role.ensures ∙ ap (λ (o : Operator). role_of o.opcode) c.operator.view_is) (rw c.depth-depth.ensures at c.level-level.ensures) c.start_operator.ensures c.write_operator_word.ensures)
