@@ -1,6 +1,6 @@
-//! `check_rows FILE..` prints the module of each row of these files, and compares the text, or the error, with the typed
-//! one. It prints each row that differs, and for each file how many rows it has and how many of them differ. The files
-//! of the gate are in `data`; `data/README.md` describes their format.
+//! `check_rows FILE..` prints the module of each row of these files, and compares the text, or the error, with the
+//! typed one. It prints each row that differs, and for each file how many rows it has and how many of them differ.
+//! The files of the gate are in `data`; `data/README.md` describes their format.
 #![tactic(auto)]
 
 mod operators;
@@ -13,7 +13,8 @@ use std::path::Path;
 use std::{env, fs};
 use wasmprinter::Error;
 
-/// Returns the rows of a file, or the first line that can't be read.
+/// Returns the rows of a file, or the first line that can't be read or is a row of an operator with an opcode that is
+/// not greater than that of the row before.
 fn read_rows<'a>(
     alloc: Global,
     file: &'a str,
@@ -23,6 +24,9 @@ fn read_rows<'a>(
         if let Some(title) = line.strip_prefix("row ") {
             rows.push(Row::new(alloc, title))?;
         } else if let Some(row) = row_of_operator(alloc, line)? {
+            if !rows.last().is_none_or(|last| row.may_follow(last)) {
+                return Ok(Err(line));
+            }
             rows.push(row)?;
         } else if !line.is_empty() && !line.starts_with('#') {
             let is_read = match rows.last_mut() {
@@ -62,7 +66,7 @@ fn main(rt: HostRuntime) -> Result<(), Error> {
                 let differing = check_rows(&rt, alloc, &rows)?;
                 println!(rt; "{name}: {} rows, {differing} differ", rows.len())?;
             }
-            Err(line) => println!(rt; "{name}: not a line of a row: {line}")?,
+            Err(line) => println!(rt; "{name}: not a line of a row, or not in order: {line}")?,
         }
     }
     Ok(())

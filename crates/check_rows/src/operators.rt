@@ -1,6 +1,6 @@
-//! Rows of a single operator, each in one line of a file: the operator alone in a function, or folded. A folded operator
-//! follows six constants and precedes an operator that takes one operand, so that its node shows its operand and result
-//! counts.
+//! Rows of a single operator, each in one line of a file: the operator alone in a function, or folded. A folded
+//! operator follows six constants and precedes an operator that takes one operand. So its node shows its operand
+//! count, and whether it has no results, one or several.
 
 use crate::row::{Row, push_bytes};
 use std::alloc::{AllocError, Global};
@@ -24,8 +24,8 @@ const TYPES: &[u8] = &[
     0x60, 0x01, 0x7f, 0x00, // of the tag
 ];
 
-/// The parts before the code section of a module with a folded operator: these types, an imported function of type 1, a
-/// function of type 0, and a tag of type 4.
+/// The parts before the code section of a module with a folded operator: the types `TYPES`, an imported function of
+/// type 1, a function of type 0, and a tag of type 4.
 const BEFORE_NODE: Parts = &[
     Bytes(PREAMBLE),
     Section(TYPE, TYPES),
@@ -49,10 +49,13 @@ const NODE_HEADER: &str = r#"(module
 /// The text after the body.
 const FOOTER: &str = "  )\n)\n";
 
+/// The first prefix: an opcode that begins with this byte or a greater one also has a number.
+const FIRST_PREFIX: u32 = 0xfb;
+
 /// The number of constants before a folded operator.
 const CONSTANTS: u32 = 6;
 
-/// These constants.
+/// The bytes of these constants, `i32.const 0` each.
 const SIX: &[u8] = &[
     0x41, 0x00, 0x41, 0x00, 0x41, 0x00, 0x41, 0x00, 0x41, 0x00, 0x41, 0x00,
 ];
@@ -66,7 +69,7 @@ struct Node<'a> {
     text: &'a str,
 }
 
-/// Parses a folded operator, or returns `None` if these are other words.
+/// Parses a folded operator, or returns `None` if the words have another form.
 fn node_in(words: &str) -> Option<Node<'_>> {
     let (arity, words) = words.split_once(": ")?;
     let (digits, text) = words.split_once(": ")?;
@@ -77,6 +80,20 @@ fn node_in(words: &str) -> Option<Node<'_>> {
         digits,
         text,
     })
+}
+
+/// Returns a number that orders opcodes, for the one with which these bytes begin: 2^14 times its byte, or times its
+/// prefix, plus its number, which is below 2^14. Returns 0 if there are no bytes.
+fn opcode_of(operator: &[u8]) -> u32 {
+    let byte = |index: usize| operator.get(index).map_or(0, |byte| u32::from(*byte));
+    let prefix = byte(0) << 14;
+    if byte(0) < FIRST_PREFIX {
+        prefix
+    } else if byte(1) < 0x80 {
+        prefix | byte(1)
+    } else {
+        prefix | byte(1) & 0x7f | byte(2) << 7
+    }
 }
 
 /// Returns the row of an operator alone, or `None` if the words are not its bytes and its text.
@@ -101,7 +118,9 @@ fn operator_row<'a>(
     text.push_str(line)?;
     text.push('\n')?;
     text.push_str(FOOTER)?;
-    Ok(Some(Row::with_text(alloc, title, Config::new(), wasm, text)))
+    let mut row = Row::with_text(alloc, title, Config::new(), wasm, text);
+    row.set_opcode(opcode_of(&operators));
+    Ok(Some(row))
 }
 
 /// Adds `count` constants, each on a line of its own.
@@ -172,7 +191,7 @@ fn node_row<'a>(alloc: Global, title: &'a str, words: &str) -> Result<Option<Row
     Ok(Some(Row::with_text(alloc, title, config, wasm, text)))
 }
 
-/// Returns the row of an operator, or `None` if this is another line. The line is its title.
+/// Returns the row of an operator, or `None` if the line is not one or can't be read. The line is its title.
 pub fn row_of_operator<'a>(alloc: Global, line: &'a str) -> Result<Option<Row<'a>>, AllocError> {
     if let Some(words) = line.strip_prefix("operator ") {
         return operator_row(alloc, line, words);

@@ -28,6 +28,8 @@ pub struct Row<'a> {
     /// Whether the places are compared
     has_places: bool,
     expected: Expected<'a>,
+    /// The opcode of the only operator, for a row of an operator alone
+    opcode: Option<u32>,
 }
 
 /// Returns the number that is written in hexadecimal, or `None` if this is not a number of fewer than 17 digits.
@@ -87,10 +89,11 @@ impl<'a> Row<'a> {
             places: Vec::new(alloc),
             has_places: false,
             expected: Expected::Missing,
+            opcode: None,
         }
     }
 
-    /// Returns a row of a module with its text, without places.
+    /// Returns the row of a module with its expected text. Places are not compared.
     pub fn with_text(
         alloc: Global,
         title: &'a str,
@@ -106,7 +109,18 @@ impl<'a> Row<'a> {
             places: Vec::new(alloc),
             has_places: false,
             expected: Expected::Text,
+            opcode: None,
         }
+    }
+
+    /// Makes this the row of an operator alone, with this opcode.
+    pub fn set_opcode(&mut self, opcode: u32) {
+        self.opcode = Some(opcode);
+    }
+
+    /// Reports whether the row may follow another one: its opcode, if it has one, is greater.
+    pub fn may_follow(&self, other: &Row<'_>) -> bool {
+        self.opcode.is_none() || self.opcode > other.opcode
     }
 
     /// Returns the title.
@@ -172,8 +186,8 @@ impl<'a> Row<'a> {
         Ok(self.has_places || place.is_none())
     }
 
-    /// Expects an error. Reports whether nothing was expected before, and the words are the name of an error, its detail
-    /// and its description, or only `Malformed`.
+    /// Expects an error. Reports whether nothing was expected before, and the words are the name of an error, its
+    /// detail and its description, or only `Malformed`.
     fn expect_error(&mut self, words: &'a str) -> bool {
         if !matches!(self.expected, Expected::Missing) {
             return false;

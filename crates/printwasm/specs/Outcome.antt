@@ -76,9 +76,9 @@ refused_status = 1
 abbrev pub misused_status : ℕ
 misused_status = 2
 
--- The outcome of a run with these words, where errors have the texts that `renders` gives. `takes` gives the writes to
--- the output `out`, and `reports` those to the error output `err`. `new_out` and `new_err` are their states after the
--- run.
+-- The outcome of a run with these words. `gives` says what reading each file may return, and `renders` gives the
+-- texts of errors. `takes` gives the writes to the output `out`, and `reports` those to the error output `err`.
+-- `new_out` and `new_err` are their states after the run.
 pub record HasOutcome {W V : Type 0} (gives : List ℕ → Reading) (takes : TextWrite W) (reports : TextWrite V) (renders : Rendering Error)
     (words : List (List ℕ)) (out new_out : W) (err new_err : V) (status : ℕ) : Type 0 where
   -- The status is `misused_status` if and only if the words do not name one file or contain an unknown option.

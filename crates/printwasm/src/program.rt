@@ -6,6 +6,7 @@ ghost use Rattle.std.specs.Process.{exit_status};
 ghost use Rattle.wasmprinter_spec.specs.Binary.{IsComponent};
 ghost use Rattle.printwasm.specs.Words.{AreWordsOf, CannotReadWords, is_option, is_known, named_file, has, choice_of};
 ghost use Rattle.printwasm.specs.Outcome.{IsTextBy, GivesText, GivesNoText, WritesModuleText, FailsToWrite, ReportsError, HasOutcome, RunsWithWords, RefusesArguments};
+ghost use Rattle.printwasm.specs.Outcome.{refused_status};
 ghost use Rattle.wasmprinter.specs.Outcome.{HasListedTextCause, IsSoundTextRefusal};
 
 use crate::rendering::{Render, WordsError};
@@ -236,7 +237,7 @@ fn text_of(alloc: Global, choice: &Choice, wasm: &[u8]) -> Result<Vec<u8>, Error
 /// Writes the line of an error, and returns exit status 1. A failure to write the line is ignored.
 fn refuse<X: Drop, R: Render<X>, E: Sink>(renderer: &R, err: &mut E, error: X) -> u8
     ensures reported { ReportsError E.takes err.old err.new (R.renders renderer.now) error }
-    ensures status { result ≡ 1 }
+    ensures status { result ≡ refused_status }
 {
     let _ = renderer.write_line(err, &error);
     REFUSED

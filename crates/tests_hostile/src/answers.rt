@@ -1,11 +1,11 @@
 //! The results of the calls on one module, and whether they agree.
 
 use crate::layout::Layout;
-use crate::outcome::{Outcome, Refusal};
+use crate::outcome::Outcome;
 use std::alloc::{AllocError, Global};
 use wasmprinter::wasm::decode;
 use wasmprinter::{Config, Error, OffsetsAndLines, PrintFmtWrite};
-use wasmprinter_expecting::{print_to, text_of};
+use wasmprinter_expecting::{Refusal, print_to, text_of};
 
 /// A disagreement between the calls on a module.
 #[derive(Debug, Drop)]

@@ -1,5 +1,5 @@
-//! Tests of all opcodes: the numbers of no operator are malformed, and all others are read. The row file `operators_flat.txt`
-//! has the line of each operator.
+//! Tests of opcodes: reserved opcodes are malformed. No other opcode is, with zeros as immediates; those of blocks
+//! are not tried. The row file `operators_flat.txt` has the line of each operator.
 
 use std::alloc::{AllocError, Global};
 use std::test::Fail;
@@ -42,9 +42,9 @@ type Code = (u8, u32);
 /// The opcodes that open, divide and close blocks. The row file `text_operators.txt` has rows with each.
 const BLOCK_OPCODES: &[u32] = &[0x02, 0x03, 0x04, 0x05, 0x06, 0x07, 0x0b, 0x18, 0x19, 0x1f];
 
-/// The numbers of no operator, below the bounds of `NUMBERS`: the prefix (0 for none), and the first and last
+/// The reserved opcodes, below the bounds of `NUMBERS`: the prefix (0 for none), and the first and last
 /// number of a range.
-const UNLISTED: &[(u8, u32, u32)] = &[
+const RESERVED: &[(u8, u32, u32)] = &[
     (0, 0x16, 0x17),
     (0, 0x1d, 0x1e),
     (0, 0x27, 0x27),
@@ -74,14 +74,15 @@ const UNLISTED: &[(u8, u32, u32)] = &[
 /// after FB and FC up to 63, after FD up to 511, and after FE up to 7F.
 const NUMBERS: &[Code] = &[(0, 0xfb), (0xfb, 64), (0xfc, 64), (0xfd, 512), (0xfe, 0x80)];
 
-/// The number of operators, without those that open, divide and close blocks.
+/// The number of operators, without those that open, divide and close blocks. `operators_flat.txt` has as many rows,
+/// each with another opcode.
 const LISTED: u32 = 565;
 
 /// Zeros, which can be read as immediates of any shape, or as operators.
 const ZEROS: &[u8] = &[0x00; 20];
 
-/// Reports whether an opcode followed by zeros is refused, both with one `end` after them and with two, for an
-/// opcode that opens a block.
+/// Reports whether an opcode followed by zeros is refused, both with one `end` after them and with two, which an opcode
+/// needs that opens a block.
 fn is_refused(alloc: Global, prefix: u8, number: u32) -> Result<bool, AllocError> {
     let mut bytes = opcode(alloc, prefix, number)?;
     bytes.extend_from_slice(ZEROS)?;
@@ -90,9 +91,9 @@ fn is_refused(alloc: Global, prefix: u8, number: u32) -> Result<bool, AllocError
     Ok(is_refused_alone && is_malformed(alloc, &with_operators(alloc, &bytes)?))
 }
 
-/// Reports whether an opcode is in a range of `UNLISTED`.
-fn is_unlisted(prefix: u8, number: u32) -> bool {
-    UNLISTED.iter().any(|range| range.0 == prefix && range.1 <= number && number <= range.2)
+/// Reports whether an opcode is reserved.
+fn is_reserved(prefix: u8, number: u32) -> bool {
+    RESERVED.iter().any(|range| range.0 == prefix && range.1 <= number && number <= range.2)
 }
 
 /// Reports whether an opcode is one of those that open, divide and close blocks.
@@ -101,16 +102,16 @@ fn is_of_blocks(prefix: u8, number: u32) -> bool {
 }
 
 #[test]
-fn refuses_exactly_the_other_numbers(rt: HostRuntime) -> Result<(), Fail> {
+fn refuses_exactly_the_reserved_opcodes(rt: HostRuntime) -> Result<(), Fail> {
     let mut listed: u32 = 0;
     for (prefix, end) in NUMBERS {
         for number in 0..*end {
             if is_of_blocks(*prefix, number) {
                 continue;
             }
-            let unlisted = is_unlisted(*prefix, number);
+            let reserved = is_reserved(*prefix, number);
             let refused = is_refused(rt.alloc(), *prefix, number)?;
-            assert!(rt; refused == unlisted, "{prefix:#x} {number:#x}");
+            assert!(rt; refused == reserved, "{prefix:#x} {number:#x}");
             if !refused {
                 listed = listed.saturating_add(1);
             }

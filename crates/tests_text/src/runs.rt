@@ -68,7 +68,7 @@ impl Print for RunPrinter {
         self.pieces.put_piece(s)
     }
 
-    #[tactic(auto, using(wasmprinter_print::specs::EmitsLaws::does))]
+    #[tactic(auto, using(wasmprinter_print::specs::MadeLaws::does))]
     fn write_each_char(&mut self, s: &str) -> io::Result<()> {
         self.pieces.put_run(s)
     }

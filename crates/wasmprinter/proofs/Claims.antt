@@ -124,10 +124,10 @@ module _ (o : Options) where
   unfolding group_at
   inner_unclaimed names size ps h =
       let id_and_name : List Piece = leading_id_and_name_pieces names.module_name in
-      let write_close_paren : List Piece = close (Some size) 0 (o.offsets || has_break (id_and_name ++ ps)) in
+      let closing : List Piece = close (Some size) 0 (o.offsets || has_break (id_and_name ++ ps)) in
       let front : List Piece = Begin 0 ∷ (Open (codes "module") ∷ []) in
       let inner : AreUnclaimedIn (id_and_name ++ ps) =
-      pieces_front (id_and_name ++ ps) write_close_paren (pieces_front ((id_and_name ++ ps) ++ write_close_paren) (EndLine ∷ []) (pieces_after front (((id_and_name ++ ps) ++ write_close_paren) ++ (EndLine ∷ [])) h)) in
+      pieces_front (id_and_name ++ ps) closing (pieces_front ((id_and_name ++ ps) ++ closing) (EndLine ∷ []) (pieces_after front (((id_and_name ++ ps) ++ closing) ++ (EndLine ∷ [])) h)) in
       pieces_after id_and_name ps inner
 
   whole_unclaimed_in : (names : Names) (size : ℕ) (l : Laid) → l.refused ≡ None → AreUnclaimedIn (module_pieces_of o names size l.pieces l.refused) → AreUnclaimedIn l.pieces

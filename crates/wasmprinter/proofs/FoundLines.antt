@@ -8,7 +8,7 @@ use Rattle.wasmprinter_spec.specs.Placed.{Body, PlacedFunction, PlacedModule}
 use Rattle.wasmprinter_spec.specs.Lines.{TextLine, line_from, operator_at, place_of}
 use Rattle.wasmprinter_laws.proofs.Lines.Finding.{finds_place, only_found}
 use Rattle.wasmprinter_wasm.specs.Modules.{body_at}
-use Rattle.wasmprinter.specs.Found.{place_at, NamesItsLine, FindsItsLine}
+use Rattle.wasmprinter.specs.Found.{place_at, IsAtItsLine, FindsItsLine}
 use Rattle.wasmprinter.proofs.Named.{one_module}
 
 -- ---- An operator is found by its body, then by its place, then by its line
@@ -50,7 +50,7 @@ module _ (m : PlacedModule) (lines : List TextLine) (i j : ℕ) (b : Placed Body
 
 -- ---- The result
 
-pub names : (m : PlacedModule) (lines : List TextLine) (i j : ℕ) (result : Option (ℕ × ℕ)) → result ≡ place_of m lines i j → NamesItsLine m lines i j result
+pub names : (m : PlacedModule) (lines : List TextLine) (i j : ℕ) (result : Option (ℕ × ℕ)) → result ≡ place_of m lines i j → IsAtItsLine m lines i j result
 names m lines i j result e number place f = finds_place m lines i j number place (sym e ∙ f)
 
 all_found : (m : PlacedModule) (lines : List TextLine) (i j : ℕ) → FindsItsLine m lines i j (place_of m lines i j)

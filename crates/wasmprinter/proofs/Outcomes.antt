@@ -12,7 +12,7 @@ use Rattle.wasmprinter_spec.specs.Names.{Names}
 use Rattle.wasmprinter_spec.specs.Piece.{all_calls}
 use Rattle.wasmprinter_spec.specs.Layout.{module_pieces, layout, refusal}
 use Rattle.wasmprinter_spec.specs.Layout.Customs.{Laid}
-use Rattle.wasmprinter_print.specs.Emits.{Made, Broken, Begun, Ending, Through, AtCall, Stopped, Never, at_growth}
+use Rattle.wasmprinter_print.specs.Made.{Made, Broken, Interrupted, Ending, Through, AtCall, Stopped, Never, when_out_of_memory}
 use Rattle.wasmprinter_bytes.specs.declared.error.Error.{Error}
 use Rattle.wasmprinter_bytes.specs.declared.error.Error.TheVariants.{Malformed, Component, TooManyLocals, TooManyFunctions, EmptyTableInit, FoldLegacy, FoldHint, DylinkSubsection, Unreadable, Printer, Memory}
 use Rattle.std.specs.declared.io.Error.{Error as IoError}
@@ -23,7 +23,7 @@ use Rattle.wasmprinter_spec.specs.Call.{Call}
 use Rattle.wasmprinter_spec.specs.Folding.Refusals.{IsFoldable}
 use Rattle.wasmprinter_fold.specs.Refused.{HasFoldReason}
 use Rattle.wasmprinter.specs.Printed.{Printed}
-use Rattle.wasmprinter.specs.Outcome.{HasListedCause, HasListedTextCause, IsSoundRefusal, IsSoundTextRefusal, IsLegacyAt, IsMisplacedAt, AnyIsRefused, MadeUpTo, Leaves, as_growth}
+use Rattle.wasmprinter.specs.Outcome.{HasListedCause, HasListedTextCause, IsSoundRefusal, IsSoundTextRefusal, IsLegacyAt, IsMisplacedAt, AnyIsRefused, MadeUpTo, Leaves, without_printer}
 use Rattle.wasmprinter_spec.specs.Names.Content.{name_of}
 use Rattle.wasmprinter_spec.specs.ModuleNames.{name_entries, module_names}
 use Rattle.wasmprinter_custom.specs.Views.{NamedItem, name_at}
@@ -142,11 +142,11 @@ module _ {P : Type 0} (m : Meaning P) (colors : Bool) (o : Options) (bytes : Lis
   -- after a failed allocation. An allocation can fail only during folding.
   module _ (r : Result (Unit {0}) Error) where
     with_folds : (Q : Error → Type 0) → ((x : IoError) → Broken m old new x (layout by answers placed) → Q (Printer x)) →
-        ((id : ℕ) → MadeUpTo m old new id by placed answers → Q (DylinkSubsection id)) → (o.folds ≡ true → Begun m old new (layout by answers placed) → Q Memory) →
+        ((id : ℕ) → MadeUpTo m old new id by placed answers → Q (DylinkSubsection id)) → (o.folds ≡ true → Interrupted m old new (layout by answers placed) → Q Memory) →
         AsLaid r → IfErr r Q
     with_folds Q failed refused stopped v = by_result r v
       where
-        by_growth : (b : Bool) → o.folds ≡ b → Made m old new (at_growth b) (all_calls by (module_pieces by answers placed)) → Q Memory
+        by_growth : (b : Bool) → o.folds ≡ b → Made m old new (when_out_of_memory b) (all_calls by (module_pieces by answers placed)) → Q Memory
         by_growth true k v = stopped k (made Stopped v).made
         by_growth false k v = absurd (never v)
 
@@ -206,14 +206,14 @@ fold_unmarked o bytes placed r e spelled h f = (λ q. absurd (unmarked r e h f q
     unmarked (Err y) e h f q = let same : y ≡ Component = cc in no_reason e (sym f ∙ same) h
 
 -- If a printer fails only because of failed allocations, the error that is returned for its error has its cause.
-pub growth_cause : {P : Type 0} (m : Meaning P) (o : Options) (bytes : List ℕ) (old new : P) (e : Error) → HasListedCause m o bytes old new e → HasListedTextCause o bytes (as_growth e)
+pub growth_cause : {P : Type 0} (m : Meaning P) (o : Options) (bytes : List ℕ) (old new : P) (e : Error) → HasListedCause m o bytes old new e → HasListedTextCause o bytes (without_printer e)
 growth_cause m o bytes old new (Printer x) h = λ placed s. tt
 growth_cause m o bytes old new Memory h = λ placed s. tt
 growth_cause m o bytes old new (DylinkSubsection id) h = λ placed s. refused_unknown m old new id placed.customs (h placed s)
 growth_cause m o bytes old new _ h = h
 
 -- That error is true of the bytes.
-pub growth_true : (o : Options) (bytes : List ℕ) (e : Error) → IsSoundRefusal o bytes e → IsSoundTextRefusal o bytes (as_growth e)
+pub growth_true : (o : Options) (bytes : List ℕ) (e : Error) → IsSoundRefusal o bytes e → IsSoundTextRefusal o bytes (without_printer e)
 growth_true o bytes (Printer x) h = inr h
 growth_true o bytes Memory (inl h) = inl h
 growth_true o bytes Memory (inr h) = inr h.1

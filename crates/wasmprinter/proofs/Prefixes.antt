@@ -3,8 +3,8 @@ use Rattle.std.proofs.Common.{◌≡◌, List, [], ◌∷◌, ◌++◌, sym, ap,
 use Rattle.std.specs.declared.io.Error.{Error as IoError}
 use Rattle.wasmprinter_spec.specs.Call.{Call, atoms}
 use Rattle.wasmprinter_spec.specs.Meaning.{Meaning}
-use Rattle.wasmprinter_print.specs.Emits.{Broken}
-use Rattle.wasmprinter_print.specs.EmitsLaws.{atoms-append}
+use Rattle.wasmprinter_print.specs.Made.{Broken}
+use Rattle.wasmprinter_print.specs.MadeLaws.{atoms-append}
 
 -- If a call failed, the calls before it are a prefix of the layout.
 pub broken_alike : {P : Type 0} (m : Meaning P) (old new : P) (x : IoError) (layout : List Call) (b : Broken m old new x layout) →

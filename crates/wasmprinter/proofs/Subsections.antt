@@ -14,8 +14,8 @@ use Rattle.wasmprinter_spec.specs.Customs.{CustomRole, Silent, Listed, Linked, R
 use Rattle.wasmprinter_spec.specs.Layout.Identifiers.{leading_id_and_name_pieces}
 use Rattle.wasmprinter_spec.specs.Layout.{early_scope, section_pieces, section_order, section_parts, module_parts, module_pieces_of, module_pieces_with, module_pieces, layout, refusal}
 use Rattle.wasmprinter_spec.specs.Layout.Customs.{Part, Shown, Stops, Laid, laid_parts, role_part, custom_part, same_place, parts_at}
-use Rattle.wasmprinter_print.specs.EmitsLaws.{atoms-append}
-use Rattle.wasmprinter_print.specs.Emits.{Whole}
+use Rattle.wasmprinter_print.specs.MadeLaws.{atoms-append}
+use Rattle.wasmprinter_print.specs.Made.{Whole}
 use Rattle.wasmprinter_print.specs.EffectLaws.{all_calls-append}
 use Rattle.wasmprinter_sections.proofs.Joined.{laid_after, joined-append}
 use Rattle.wasmprinter.specs.Outcome.{AnyIsUnknown, IsRefused, AnyIsRefused, MadeUpTo}

@@ -12,7 +12,7 @@ use Rattle.wasmprinter_spec.specs.Options.{Options, Answers, in_colors}
 use Rattle.wasmprinter_spec.specs.Layout.{layout}
 use Rattle.wasmprinter_spec.specs.Lines.{TextLine, lines_of, joined_lines, line_places, hint_places, HasFunctionLines}
 use Rattle.wasmprinter_spec.proofs.Texts.{alike_texts, alike_lines}
-use Rattle.wasmprinter_print.specs.Emits.{Broken, Begun}
+use Rattle.wasmprinter_print.specs.Made.{Broken, Interrupted}
 use Rattle.wasmprinter_writers.specs.declared.lines.LineStart.{LineStart}
 use Rattle.wasmprinter_writers.specs.Cuts.{lines_at_starts}
 use Rattle.wasmprinter_writers.specs.Tracked.{Tracked, without_lines}
@@ -21,7 +21,7 @@ use Rattle.wasmprinter_writers.proofs.LineRuns.{claims_never, run_tracks, run_te
 use Rattle.wasmprinter_laws.proofs.Lines.Starts.{lines_join}
 use Rattle.wasmprinter_laws.proofs.Lines.FunctionLines.{function_lines}
 use Rattle.wasmprinter.specs.Printed.{Printed, no_claims}
-use Rattle.wasmprinter.specs.Outcome.{Leaves, LeavesBeginning, IsSoundTextRefusal, as_growth}
+use Rattle.wasmprinter.specs.Outcome.{Leaves, LeavesBeginning, IsSoundTextRefusal, without_printer}
 use Rattle.wasmprinter.specs.Lined.{HasLinesBy, GainsPrefix, LeavesStorage}
 use Rattle.wasmprinter.proofs.Claims.{alike_unclaimed}
 use Rattle.wasmprinter.proofs.Prefixes.{broken_alike}
@@ -55,7 +55,7 @@ run_claims_none : (s t : Tracked) (calls : List Call) → Run tracked_meaning s 
 run_claims_none s t calls r = none_claimed tracked_meaning claims_never s t calls r
 
 begun_gains : (o : Options) (old new : Tracked) (placed : PlacedModule) (answers : Answers) →
-    Begun tracked_meaning old new (layout o answers placed) → GainsPrefix o old.text new.text placed answers
+    Interrupted tracked_meaning old new (layout o answers placed) → GainsPrefix o old.text new.text placed answers
 begun_gains o old new placed answers b = record {
   calls = b.calls;
   rest = b.rest;
@@ -87,7 +87,7 @@ module _ (o : Options) (bytes : List ℕ) (old new : Tracked) where
   })
 
   -- After each error the storage is as promised. An error of the tracker is a failed allocation.
-  pub refusal_leaves : (e : Error) → Leaves tracked_meaning false o bytes old new e → LeavesStorage o bytes (as_growth e) old.text new.text
+  pub refusal_leaves : (e : Error) → Leaves tracked_meaning false o bytes old new e → LeavesStorage o bytes (without_printer e) old.text new.text
   refusal_leaves (Malformed place) h = ap (λ (t : Tracked). t.text) h
   refusal_leaves Component h = ap (λ (t : Tracked). t.text) h
   refusal_leaves (TooManyLocals place) h = ap (λ (t : Tracked). t.text) h

@@ -19,8 +19,8 @@ place_at operators number = option_map (λ (o : Placed Operator). o.place) (slic
 
 -- For any lines: if a result is returned, its place is the place of the operator, and the line with its number
 -- begins with that place.
-abbrev pub NamesItsLine : PlacedModule → List TextLine → ℕ → ℕ → Option (ℕ × ℕ) → Type 0
-NamesItsLine m lines function operator result =
+abbrev pub IsAtItsLine : PlacedModule → List TextLine → ℕ → ℕ → Option (ℕ × ℕ) → Type 0
+IsAtItsLine m lines function operator result =
     (number place : ℕ) → result ≡ Some (number, place) →
     (o : Placed Operator) × (operator_at m function operator ≡ Some o) × (place ≡ o.place)
     × (slice_get (line_places lines) number ≡ Some (Some place))

@@ -13,7 +13,8 @@ use Rattle.wasmprinter_writers.specs.Cuts.{lines_at_starts}
 use Rattle.wasmprinter.specs.Printed.{IsTextOf, no_claims}
 use Rattle.wasmprinter.specs.Outcome.{WhilePrinting}
 
--- The storage is the old text followed by the text of the module that the bytes encode, and these are its lines.
+-- The storage is the old text followed by the text of the module that the bytes encode, and these are its lines. The
+-- order is: options, bytes of the module, text before, text after, lines.
 pub record HasLinesBy (o : Options) (bytes old storage : List ℕ) (lines : List TextLine) : Type 0 where
   -- The text of the module.
   pub text : List ℕ

@@ -11,7 +11,7 @@ use Rattle.wasmprinter_spec.specs.Meaning.{Meaning, Run, Failed}
 use Rattle.wasmprinter_spec.specs.Options.{Options, Answers, in_colors}
 use Rattle.wasmprinter_spec.specs.Layout.{layout, refusal}
 use Rattle.wasmprinter_spec.specs.Folding.Refusals.{legacy_places, misplaced_hints, IsFoldable}
-use Rattle.wasmprinter_print.specs.Emits.{Whole, Broken, Begun}
+use Rattle.wasmprinter_print.specs.Made.{Whole, Broken, Interrupted}
 use Rattle.wasmprinter_bytes.specs.Reasons.{Reasons}
 use Rattle.wasmprinter_bytes.specs.declared.error.Error.{Error}
 use Rattle.wasmprinter_bytes.specs.declared.error.Error.TheVariants.{Malformed, Component, TooManyLocals, TooManyFunctions, EmptyTableInit, FoldLegacy, FoldHint, DylinkSubsection, Unreadable, Printer, Memory}
@@ -139,18 +139,9 @@ HasListedTextCause o bytes e =
 
 -- The error that is returned for an error of a printer that keeps its text in memory. `Printer` becomes `Memory`,
 -- since such a printer fails only if an allocation fails.
-abbrev pub as_growth : Error → Error
-as_growth (Malformed place) = Malformed place
-as_growth Component = Component
-as_growth (TooManyLocals place) = TooManyLocals place
-as_growth (TooManyFunctions count) = TooManyFunctions count
-as_growth (EmptyTableInit place) = EmptyTableInit place
-as_growth (FoldLegacy place) = FoldLegacy place
-as_growth (FoldHint place) = FoldHint place
-as_growth (DylinkSubsection id) = DylinkSubsection id
-as_growth Unreadable = Unreadable
-as_growth (Printer e) = Memory
-as_growth Memory = Memory
+abbrev pub without_printer : Error → Error
+without_printer (Printer e) = Memory
+without_printer error = error
 
 -- The bytes encode a module within the limits.
 pub record ArePrintable (bytes : List ℕ) : Type 0 where
@@ -242,7 +233,7 @@ each_reason so = record {
 abbrev pub LeavesBeginning : {P : Type 0} → Meaning P → Bool → Options → List ℕ → P → P → Type 0
 LeavesBeginning m colors o bytes old new =
     (new ≡ old)
-    ⊎ ((o.folds ≡ true) × WhilePrinting o bytes (λ placed answers. Begun m old new (layout (in_colors o colors) answers placed)))
+    ⊎ ((o.folds ≡ true) × WhilePrinting o bytes (λ placed answers. Interrupted m old new (layout (in_colors o colors) answers placed)))
 
 -- The state of the printer after an error. In these layouts, the styles within the text of a folded operator are ANSI
 -- escape sequences if the printer can write colors as text. Otherwise that text has no styles.

@@ -3,7 +3,7 @@ ghost use Rattle.std.specs.Prelude.{◌≡◌, ◌↔◌, IfOk, IfErr, IsErrOf, 
 ghost use Rattle.wasmprinter_spec.specs.Binary.{IsComponent};
 ghost use Rattle.wasmprinter_spec.specs.Options.{defaults};
 ghost use Rattle.wasmprinter.specs.Printed.{HasText};
-ghost use Rattle.wasmprinter.specs.Outcome.{as_growth, HasListedTextCause, IsSoundTextRefusal};
+ghost use Rattle.wasmprinter.specs.Outcome.{without_printer, HasListedTextCause, IsSoundTextRefusal};
 
 use crate::config::Config;
 use std::alloc::Global;
@@ -12,7 +12,7 @@ use wasmprinter_bytes::Error;
 /// Replaces `Printer` by `Memory`, and returns any other error unchanged. A printer that keeps its text in memory
 /// fails only if an allocation fails.
 pub(crate) fn without_printer(error: Error) -> Error
-    ensures { result ≡ as_growth error }
+    ensures { result ≡ without_printer error }
 {
     match error {
         Error::Printer(_) => Error::Memory,

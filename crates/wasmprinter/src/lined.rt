@@ -39,6 +39,8 @@ impl Config {
         ensures lines { IfOk result (λ starts.
             HasLinesAt self.now wasm.now (string_bytes storage.old) (string_bytes storage.new) starts.items) }
         ensures cuttable { IfOk result (λ starts. IsCuttable starts.items (string_bytes storage.new)) }
+        // If the bytes encode a module, the error has a listed cause. `refused`: whatever the bytes are, it is true
+        // of them.
         ensures caused { IfErr result (HasListedTextCause self.now wasm.now) }
         ensures refused { IfErr result (IsSoundTextRefusal self.now wasm.now) }
         ensures component { IsErrOf result Error.Component ↔ IsComponent wasm.now }
@@ -65,7 +67,7 @@ impl Config {
     /// # Errors
     ///
     /// The errors of [`Config::print_to_string`]. `storage` then begins with its old text, and a prefix of the
-    /// text of the module may follow.
+    /// text of the module may follow, as the contract of `print_with_line_starts` states.
     pub fn offsets_and_lines<'a>(
         &self,
         alloc: Global,
@@ -73,6 +75,8 @@ impl Config {
         storage: &'a mut String,
     ) -> Result<OffsetsAndLines<'a>, Error>
         ensures lines { IfOk result (λ it. HasLinesBy self.now wasm.now (string_bytes storage.old) it.storage it.lines) }
+        // If the bytes encode a module, the error has a listed cause. `refused`: whatever the bytes are, it is true
+        // of them.
         ensures caused { IfErr result (HasListedTextCause self.now wasm.now) }
         ensures refused { IfErr result (IsSoundTextRefusal self.now wasm.now) }
         ensures component { IsErrOf result Error.Component ↔ IsComponent wasm.now }

@@ -2,7 +2,7 @@
 ghost use Rattle.std.specs.Prelude.{◌≡◌};
 ghost use Rattle.wasmprinter_spec.specs.Lines as spec;
 ghost use Rattle.wasmprinter_spec.specs.Lines.{line_from};
-ghost use Rattle.wasmprinter.specs.Found.{place_at, text_lines, NamesItsLine, FindsItsLine};
+ghost use Rattle.wasmprinter.specs.Found.{place_at, text_lines, IsAtItsLine, FindsItsLine};
 
 use wasmprinter_ops::expression::OperatorsReader;
 use wasmprinter_wasm::Module;
@@ -24,7 +24,7 @@ pub fn place_of(
     operator: u32,
 ) -> Option<(usize, u64)>
     ensures exact { result ≡ spec.place_of «module».now (text_lines lines.now) function operator }
-    ensures names { NamesItsLine «module».now (text_lines lines.now) function operator result }
+    ensures at { IsAtItsLine «module».now (text_lines lines.now) function operator result }
     ensures finds { FindsItsLine «module».now (text_lines lines.now) function operator result }
 {
     find(module, lines, function, operator)

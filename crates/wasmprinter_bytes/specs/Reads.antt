@@ -18,7 +18,8 @@ abbrev pub IsWithin : {X : Type 0} → Input → Result X Malformed → Type 0
 IsWithin old (Ok x) = Unit {0}
 IsWithin old (Err e) = e.place ≤ end_of old
 
--- The call reads a value by `parse` at the position `old`, returns `result`, and leaves the cursor at `new`.
+-- The call reads a value by `parse` at the position `old`, returns `result`, and leaves the cursor at `new`. `view`
+-- maps a value of the program to that of the definitions. The place of an error is only bounded here; tests check it.
 pub record Decodes {X A : Type 0} (view : X → A) (parse : Input → Option (A × Input)) (old : Input)
     (result : Result X Malformed) (new : Input) : Type 0 where
   -- The value and the position `new` are those of `parse`, or both fail.

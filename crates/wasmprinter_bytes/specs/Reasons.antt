@@ -20,4 +20,4 @@ HasReason r (TooManyLocals place) = r.locals place
 HasReason r (TooManyFunctions count) = r.functions count
 HasReason r (EmptyTableInit place) = r.tables place
 HasReason r Memory = r.memory
-HasReason r other = ⊥
+HasReason r _ = ⊥

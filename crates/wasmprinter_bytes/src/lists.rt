@@ -52,7 +52,7 @@ pub trait DecodeIn<'a>: Drop {
 ///
 /// - `Malformed` if the bytes do not encode the count or one of the values, with the place of the
 ///   first unexpected byte or number.
-/// - `Memory` if an allocation fails.
+/// - `Memory` if an allocation fails. Nothing is allocated before a first value is read.
 pub fn read_list<'a, T: DecodeIn<'a>>(
     alloc: Global,
     cursor: &mut Cursor<'a>,
@@ -91,7 +91,7 @@ pub trait GrownIn<'a>: Drop {
 ///
 /// - `Malformed` if the bytes do not encode the count.
 /// - The errors of reading a value.
-/// - `Memory` if an allocation fails.
+/// - `Memory` if an allocation fails. Nothing is allocated if the count is 0.
 pub fn read_grown_list<'a, T: GrownIn<'a>>(
     alloc: Global,
     cursor: &mut Cursor<'a>,

@@ -11,7 +11,7 @@ use Rattle.wasmprinter_spec.specs.Options.{Options, in_colors}
 use Rattle.wasmprinter_spec.specs.Layout.{layout}
 use Rattle.wasmprinter_spec.proofs.Texts.{alike_texts}
 use Rattle.wasmprinter_print.proofs.Prefixes.{broken_parts}
-use Rattle.wasmprinter_print.specs.Emits.{Whole, Broken, Begun}
+use Rattle.wasmprinter_print.specs.Made.{Whole, Broken, Interrupted}
 use Rattle.wasmprinter.specs.Printed.{Printed}
 use Rattle.wasmprinter.specs.Outcome.{HasListedCause, Leaves, LeavesBeginning}
 use Rattle.wasmprinter.proofs.Claims.{alike_unclaimed}
@@ -37,7 +37,7 @@ module _ (old : Copier) (fresh : IsFresh old) where
   run_claims_none : (new : Copier) (calls : List Call) → Run copied_meaning old calls new → AllByRecursion IsUnclaimed calls
   run_claims_none new calls r = none_claimed copied_meaning claims_never old new calls r
 
-  begun_holds : (new : Copier) (l : List Call) → Begun copied_meaning old new l → HoldsPrefix l old.out.now new.out.now
+  begun_holds : (new : Copier) (l : List Call) → Interrupted copied_meaning old new l → HoldsPrefix l old.out.now new.out.now
   begun_holds new l b =
       let has : HasCopied old (text_of b.calls) (entries 0 b.calls) new = run_copied old new b.calls fresh b.run in
       record { calls = b.calls; rest = b.rest; alike = b.alike; unclaimed = run_claims_none new b.calls b.run; copied = has.copied }

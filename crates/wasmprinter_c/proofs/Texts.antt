@@ -8,7 +8,7 @@ use Rattle.wasmprinter_bytes.specs.declared.error.Error.TheVariants.{Printer}
 use Rattle.wasmprinter_spec.specs.Call.{Text, text_of}
 use Rattle.wasmprinter_spec.proofs.Texts.{alike_texts}
 use Rattle.wasmprinter_text.proofs.Digits.{digits-length}
-use Rattle.wasmprinter_print.specs.Emits.{EmitsOrFails, Whole, Broken}
+use Rattle.wasmprinter_print.specs.Made.{Whole, Broken, Made, outcome}
 use Rattle.wasmprinter_c.specs.Over.{over}
 use Rattle.wasmprinter_c.specs.Copied.{copied_meaning}
 use Rattle.wasmprinter_c.specs.Lines.{entries}
@@ -79,12 +79,12 @@ never_broken old new x text fresh short b =
     let same = ap length (append-nil text) in
     omega (arith, long, same, short)
 
-emitted : (old new : Copier) (r : Result (Unit {0}) Error) (text : List ℕ) → IsFresh old → IsShort text → EmitsOrFails copied_meaning old new r (Text text ∷ []) → HasAll old text new
+emitted : (old new : Copier) (r : Result (Unit {0}) Error) (text : List ℕ) → IsFresh old → IsShort text → Made copied_meaning old new (outcome r) (Text text ∷ []) → HasAll old text new
 emitted old new (Ok x) text fresh short m = whole_written old new text fresh m.made
 emitted old new (Err (Printer e)) text fresh short m = absurd (never_broken old new e text fresh short m.made)
 emitted old new (Err _) text fresh short m = absurd m.made
 
 pub described : (old new : Copier) (r : Result (Unit {0}) Error) (status detail : ℕ) → old.written ≡ 0 → old.count ≡ 0 →
-    EmitsOrFails copied_meaning old new r (Text (message status detail) ∷ []) → HasAll old (message status detail) new
+    Made copied_meaning old new (outcome r) (Text (message status detail) ∷ []) → HasAll old (message status detail) new
 described old new r status detail text lines m =
     emitted old new r (message status detail) (record { text = text; lines = lines }) (short_message status detail) m

@@ -10,7 +10,8 @@ with_place before place after = before ++ (digits 16 false place ++ after)
 abbrev pub with_number : List ℕ → ℕ → List ℕ → List ℕ
 with_number before n after = before ++ (decimal n ++ after)
 
--- The description of a status with this detail.
+-- The description of a status with this detail. 1 to 11 are the numbers that `number_of` gives to errors, 0 is
+-- `ok_status` and 12 `indent_status`.
 abbrev pub message : ℕ → ℕ → List ℕ
 message status detail =
     if status == 0 then codes "success"

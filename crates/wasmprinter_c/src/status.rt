@@ -1,7 +1,7 @@
 //! Statuses: the numbers of errors, and their descriptions.
 ghost use Rattle.std.specs.Prelude.{◌≡◌, ◌∷◌, []};
 ghost use Rattle.wasmprinter_spec.specs.Call.{Text};
-ghost use Rattle.wasmprinter_print.specs.Emits.{EmitsOrFails};
+ghost use Rattle.wasmprinter_print.specs.Made.{Made, outcome};
 ghost use Rattle.wasmprinter_c.specs.Copied.{copied_meaning};
 ghost use Rattle.wasmprinter_c.specs.Messages.{message};
 ghost use Rattle.wasmprinter_c.specs.Refused.{number_of, detail_in};
@@ -107,7 +107,7 @@ fn write_message<O: Output>(out: &mut O, status: u32, detail: u64)
 
 /// Writes the description of a status with its detail to a buffer.
 pub(crate) fn describe(copier: &mut Copier<'_>, status: u32, detail: u64) -> Result<(), Error>
-    ensures { EmitsOrFails copied_meaning copier.old copier.new result (Text (message status detail) ∷ []) }
+    ensures { Made copied_meaning copier.old copier.new (outcome result) (Text (message status detail) ∷ []) }
 {
     write_value(copier, &Description { status, detail })
 }

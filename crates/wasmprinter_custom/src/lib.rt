@@ -33,6 +33,6 @@ pub use items::{ItemsIn, ReadFrom, ValueSource};
 pub use producers::{Producers, ProducersField, Value, Values};
 pub use read::read_names;
 pub use role::{CustomRole, custom_role};
-pub use runs::all_id_chars;
+pub use runs::is_id;
 pub use space::Space;
 pub use store::{LabelName, Name, NameEntries, Names, NamesBuilder};

@@ -1,4 +1,5 @@
-//! Names that can occur as a word in the text (section 6.3 of the WebAssembly Core Specification, "Identifiers").
+//! Identifier characters, and names that consist of them (section 6.3 of the WebAssembly Core Specification,
+//! "Identifiers").
 ghost use Rattle.std.specs.Prelude.{◌≡◌};
 ghost use Rattle.wasmprinter_spec.specs.Character.{class};
 ghost use Rattle.wasmprinter_spec.specs.Quoted.{is_id_char, all_id_chars, is_id};
@@ -23,7 +24,7 @@ fn is_id_char(byte: u8) -> bool
 }
 
 /// Reports whether all bytes are identifier characters.
-pub fn all_id_chars(bytes: &[u8]) -> bool
+fn all_id_chars(bytes: &[u8]) -> bool
     ensures { result ≡ all_id_chars bytes.now }
 {
     for &byte in bytes {
@@ -34,8 +35,9 @@ pub fn all_id_chars(bytes: &[u8]) -> bool
     true
 }
 
-/// Reports whether a name consists of one or more identifier characters.
-pub(crate) fn is_id(name: &str) -> bool
+/// Reports whether a name consists of one or more identifier characters. These are ASCII characters, so it is enough to
+/// check its bytes.
+pub fn is_id(name: &str) -> bool
     ensures { result ≡ is_id name.now }
 {
     !name.is_empty() && all_id_chars(name.as_bytes())

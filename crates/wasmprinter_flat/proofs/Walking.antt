@@ -19,7 +19,7 @@ use Rattle.wasmprinter_flat.proofs.Depths.{after-length, after-count}
 
 -- The pieces of an operator are those that start it, at the level of its role, and those of its word and
 -- immediates.
-pub operator-out : (s : Setting) (first : Bool) (own : Label) (xs : List Label) (place : ℕ) (o : Operator) (role : Role) (depth : ℕ) →
+operator-out : (s : Setting) (first : Bool) (own : Label) (xs : List Label) (place : ℕ) (o : Operator) (role : Role) (depth : ℕ) →
     role ≡ role_of o.opcode → depth ≡ level role (length xs) →
     operator_pieces s first own xs (record { place = place; value = o })
     ≡ before_word s.form first place (s.nesting + depth) ++ word_pieces s own xs o

@@ -28,8 +28,8 @@ abbrev pub setting_view : {S : Type 0} → (S → ℕ → Option FuncType) → S
 setting_view signature_at s names = setting_of s.form (signature_at s.types.now) s.nesting names s.function s.body
 
 -- The setting of the definitions, with the identifiers that the state of the labels has.
-abbrev pub setting_among : {S : Type 0} → (S → ℕ → Option FuncType) → Setting S → Scan → layout.Setting
-setting_among signature_at s labels = setting_view signature_at s (names_of labels)
+abbrev pub setting_with_names : {S : Type 0} → (S → ℕ → Option FuncType) → Setting S → Scan → layout.Setting
+setting_with_names signature_at s labels = setting_view signature_at s (names_of labels)
 
 -- The pieces of an operator's word and immediates. `xs` are the labels that are open before it, and `own` is that
 -- of the block that it opens, if it opens one.
@@ -39,5 +39,5 @@ word_pieces s own xs o =
     Word (word_of o.opcode) ∷ layout.pieces_by s (labels_inside role xs) (labels_outside role xs) own (shape_of o.opcode) o.immediates
 
 -- The pieces of an operator's word and immediates, in the program's state of the labels.
-abbrev pub word_pieces_among : {S : Type 0} → (S → ℕ → Option FuncType) → Setting S → Scan → Operator → List Piece
-word_pieces_among signature_at s labels o = word_pieces (setting_among signature_at s labels) (own_label labels) labels.labels o
+abbrev pub word_pieces_with_names : {S : Type 0} → (S → ℕ → Option FuncType) → Setting S → Scan → Operator → List Piece
+word_pieces_with_names signature_at s labels o = word_pieces (setting_with_names signature_at s labels) (own_label labels) labels.labels o

@@ -4,7 +4,7 @@ ghost use Rattle.wasmprinter_spec.specs.Customs.Hints.{next_hint, hint_after};
 ghost use Rattle.wasmprinter_spec.specs.Layout.Operators.{level as level_of, before_word};
 ghost use Rattle.wasmprinter_spec.specs.Layout.Operators.{hint_pieces, operators_pieces};
 ghost use Rattle.wasmprinter_ops.specs.Shapes.{role_view};
-ghost use Rattle.wasmprinter_flat.specs.Settings.{form_view, setting_among, word_pieces_among};
+ghost use Rattle.wasmprinter_flat.specs.Settings.{form_view, setting_with_names, word_pieces_with_names};
 
 use crate::context::Context;
 use crate::immediates::write_immediates_by_shape;
@@ -87,7 +87,7 @@ pub fn write_operator_word<O: Output, S: Signatures>(
     operator: &Operator<'_>,
 )
     requires { length labels.now.labels + 1 < 2 ^ 64 }
-    ensures { O.wrote out.old out.new (word_pieces_among S.signature_at setting.now labels.now operator.now) }
+    ensures { O.wrote out.old out.new (word_pieces_with_names S.signature_at setting.now labels.now operator.now) }
 {
     let role = operator.opcode.role();
     let context = Context {
@@ -141,7 +141,7 @@ pub fn write_operators<O: Output, S: Signatures>(
     expression: &Expression<'_>,
 )
     ensures pieces { O.wrote out.old out.new
-        (operators_pieces (setting_among S.signature_at setting.now labels.old) hints.entry true 0 [] expression.now.items) }
+        (operators_pieces (setting_with_names S.signature_at setting.now labels.old) hints.entry true 0 [] expression.now.items) }
     ensures named { labels.new.named ≡ labels.old.named }
     ensures synthesizes { labels.new.synthesizes ≡ labels.old.synthesizes }
 {

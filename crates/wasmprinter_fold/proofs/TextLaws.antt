@@ -12,7 +12,7 @@ use Rattle.wasmprinter_spec.specs.Colored.{colored_bytes}
 use Rattle.wasmprinter_spec.specs.Meaning.{Run}
 use Rattle.wasmprinter_spec.specs.Layout.Folded.{text_in_color}
 use Rattle.wasmprinter_spec.proofs.Texts.{alike_texts, alike_colored}
-use Rattle.wasmprinter_print.specs.Emits.{Made, Through}
+use Rattle.wasmprinter_print.specs.Made.{Made, Through}
 use Rattle.wasmprinter_print.specs.Effects.{State, state, Effect, EffectEnds, HasEffect}
 use Rattle.wasmprinter_print.specs.EffectLaws.{effect_end}
 use Rattle.wasmprinter_print.specs.declared.halt.Halt.{Halt}

@@ -17,4 +17,4 @@ error_of_first error (place ∷ places) = Err (error place)
 abbrev pub HasFoldReason : Options → PlacedModule → Error → Type 0
 HasFoldReason o m (FoldLegacy place) = Contains (legacy_places o m) place
 HasFoldReason o m (FoldHint place) = Contains (misplaced_hints o m) place
-HasFoldReason o m other = ⊥
+HasFoldReason o m _ = ⊥

@@ -1,7 +1,7 @@
 //! The folder, which folds and prints the operators of a module, list by list.
 ghost use Rattle.std.specs.Prelude.{◌≡◌, true, IfOk, OnErr};
 ghost use Rattle.wasmprinter_spec.specs.Layout.Folded.{folded_list};
-ghost use Rattle.wasmprinter_flat.specs.Settings.{setting_among};
+ghost use Rattle.wasmprinter_flat.specs.Settings.{setting_with_names};
 ghost use Rattle.wasmprinter_fold.specs.Gathering.{ImportsSome};
 ghost use Rattle.wasmprinter_fold.specs.Views.{folding_view};
 
@@ -71,7 +71,7 @@ impl<'m, 'a> Folder<'m, 'a> {
     )
         requires { O.chosen.folds ≡ true }
         ensures writes { O.wrote out.old out.new
-            (folded_list (folding_view self.old) own (setting_among S.signature_at setting.now labels.old) hints.entry
+            (folded_list (folding_view self.old) own (setting_with_names S.signature_at setting.now labels.old) hints.entry
             expression.now.items) }
         ensures folder { self.new ≡ self.old }
         ensures named { labels.new.named ≡ labels.old.named }

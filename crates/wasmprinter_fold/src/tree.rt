@@ -7,7 +7,7 @@ ghost use Rattle.wasmprinter_spec.specs.Folding.Arities.{signatures_within, coun
 ghost use Rattle.wasmprinter_spec.specs.Folding.Code.{nested_code_of};
 ghost use Rattle.wasmprinter_spec.specs.Layout.Folded.{items};
 ghost use Rattle.wasmprinter_fold.specs.Building.{StateOf, Plain, Opens, OpensIf, Else, Ends, start};
-ghost use Rattle.wasmprinter_flat.specs.Settings.{setting_among};
+ghost use Rattle.wasmprinter_flat.specs.Settings.{setting_with_names};
 ghost use Rattle.wasmprinter_fold.specs.Counted.{counts_view};
 ghost use Rattle.wasmprinter_fold.specs.Shown.{Shown};
 ghost use Rattle.wasmprinter_fold.specs.Growing.{Shows, GrowsByStep, operator_step, shown_operator, shown_keyword, IsGrown};
@@ -91,7 +91,7 @@ impl GrowingTree {
         ensures color { self.new.texts.color ≡ self.old.texts.color }
         ensures labels { self.new.labels ≡ self.old.labels }
         ensures steps { OnOk result (GrowsByStep self.old self.new (Plain
-            (shown_operator self.old.texts.color (setting_among S.signature_at setting.now labels.now) labels.now place hint operator.now)
+            (shown_operator self.old.texts.color (setting_with_names S.signature_at setting.now labels.now) labels.now place hint operator.now)
             counts.operands counts.results)) }
     {
         let head = self
@@ -115,7 +115,7 @@ impl GrowingTree {
         ensures color { self.new.texts.color ≡ self.old.texts.color }
         ensures labels { self.new.labels ≡ self.old.labels }
         ensures steps { OnOk result (GrowsByStep self.old self.new (Opens
-            (shown_operator self.old.texts.color (setting_among S.signature_at setting.now labels.now) labels.now place hint operator.now)
+            (shown_operator self.old.texts.color (setting_with_names S.signature_at setting.now labels.now) labels.now place hint operator.now)
             counts.results)) }
     {
         let head = self
@@ -139,7 +139,7 @@ impl GrowingTree {
         ensures color { self.new.texts.color ≡ self.old.texts.color }
         ensures labels { self.new.labels ≡ self.old.labels }
         ensures steps { OnOk result (GrowsByStep self.old self.new (OpensIf
-            (shown_operator self.old.texts.color (setting_among S.signature_at setting.now labels.now) labels.now place hint operator.now)
+            (shown_operator self.old.texts.color (setting_with_names S.signature_at setting.now labels.now) labels.now place hint operator.now)
             (shown_keyword self.old.texts.color place (codes "then")) counts.results)) }
     {
         let head = self
@@ -188,7 +188,7 @@ impl GrowingTree {
         ensures color { self.new.texts.color ≡ self.old.texts.color }
         ensures labels { self.new.labels ≡ self.old.labels }
         ensures steps { OnOk result (GrowsByStep self.old self.new (operator_step self.old.texts.color
-            (setting_among S.signature_at setting.now labels.now) labels.now place hint operator.now (counts_view counts))) }
+            (setting_with_names S.signature_at setting.now labels.now) labels.now place hint operator.now (counts_view counts))) }
     {
         match operator.opcode.role() {
             Role::Plain => self.plain(setting, labels, operator, place, hint, counts),
@@ -218,7 +218,7 @@ impl GrowingTree {
         ensures labels { OnOk result (self.new.labels ≡ labels_after (role_of operator.now.opcode)
             (label_of_block (signatures_within callees.now own) operator.now) self.old.labels) }
         ensures steps { OnOk result (GrowsByStep self.old self.new (operator_step self.old.texts.color
-            (setting_among S.signature_at setting.now labels.now) labels.now place hint operator.now
+            (setting_with_names S.signature_at setting.now labels.now) labels.now place hint operator.now
             (counts_of (signatures_within callees.now own) self.old.labels operator.now))) }
     {
         let counts = counts(callees, own, &self.labels, operator);
@@ -247,7 +247,7 @@ impl GrowingTree {
         ensures named { labels.new.named ≡ labels.old.named }
         ensures synthesizes { labels.new.synthesizes ≡ labels.old.synthesizes }
         ensures grown { IfOk result (λ folded. IsGrown self.old.texts.color self.new folded (nested_code_of
-            (items (setting_among S.signature_at setting.now labels.old) (signatures_within callees.now own) hints.entry 0 [] []
+            (items (setting_with_names S.signature_at setting.now labels.old) (signatures_within callees.now own) hints.entry 0 [] []
             expression.now.items))) }
     {
         self.clear();

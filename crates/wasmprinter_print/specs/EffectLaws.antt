@@ -8,8 +8,8 @@ use Rattle.wasmprinter_spec.specs.Options.{Options}
 use Rattle.wasmprinter_spec.specs.Piece.{Piece, calls, all_calls}
 use Rattle.wasmprinter_spec.specs.Layout.Groups.{breaks, has_break, close}
 use Rattle.wasmprinter_spec.specs.Layout.Customs.{Part, Shown, Stops, Laid, laid_parts}
-use Rattle.wasmprinter_print.specs.Emits.{Whole, Through, AtCall, Stopped}
-use Rattle.wasmprinter_print.specs.EmitsLaws.{atoms-text, then_calls, broken_longer, begun_longer, alike_calls}
+use Rattle.wasmprinter_print.specs.Made.{Whole, Through, AtCall, Stopped}
+use Rattle.wasmprinter_print.specs.MadeLaws.{atoms-text, then_calls, broken_longer, interrupted_longer, alike_calls}
 use Rattle.wasmprinter_print.specs.Effects.{State, state, Effect, both, then_by, Opened, Left, EffectEnds, HasEffectFrom, HasEffect, of_calls, of_pieces, of_laid, of_parts}
 use Rattle.wasmprinter_print.specs.declared.halt.Halt.{Halt}
 use Rattle.wasmprinter_print.specs.declared.halt.Halt.TheVariants.{Printer, Memory, Refused}
@@ -37,7 +37,7 @@ ended_then m folds a s t b c (Some (Refused id)) e f w h v = (then_calls m a.pri
 ended_ends : {P : Type 0} (m : Meaning P) (folds : Bool) (a : State P) (t : P) (b c : Bool) (x : Halt) (e f : Effect) →
     e.refused ≡ None → EffectEnds m folds a t (Some x) b e → EffectEnds m folds a t (Some x) c (both e f)
 ended_ends m folds a t b c (Printer x) e f n v = broken_longer m a.printer t x e.layout f.layout v
-ended_ends m folds a t b c Memory e f n v = (begun_longer m a.printer t e.layout f.layout v.0, v.1)
+ended_ends m folds a t b c Memory e f n v = (interrupted_longer m a.printer t e.layout f.layout v.0, v.1)
 ended_ends m folds a t b c (Refused id) e f n v = let q : e.refused ≡ Some id = v.1 in cc
 
 effect_then_from : {P : Type 0} (m : Meaning P) (folds : Bool) (p q : P) (x y : Option Halt) (b c : Bool) (t : State P) (e f : Effect) →

@@ -6,7 +6,7 @@ use Rattle.wasmprinter_spec.specs.Options.{Options}
 use Rattle.wasmprinter_spec.specs.Piece.{Piece, all_calls}
 use Rattle.wasmprinter_spec.specs.Layout.Groups.{has_break}
 use Rattle.wasmprinter_spec.specs.Layout.Customs.{Part, Laid, laid_parts}
-use Rattle.wasmprinter_print.specs.Emits.{Whole, Broken, Begun}
+use Rattle.wasmprinter_print.specs.Made.{Whole, Broken, Interrupted}
 use Rattle.wasmprinter_print.specs.declared.halt.Halt.{Halt}
 use Rattle.wasmprinter_print.specs.declared.halt.Halt.TheVariants.{Printer, Memory, Refused}
 
@@ -44,7 +44,7 @@ then_by (Some id) e f = e
 abbrev pub EffectEnds : {P : Type 0} → Meaning P → Bool → State P → P → Option Halt → Bool → Effect → Type 0
 EffectEnds m folds a new None begun e = Whole m a.printer new e.layout × (begun ≡ (a.begun || e.lines)) × (e.refused ≡ None)
 EffectEnds m folds a new (Some (Printer x)) begun e = Broken m a.printer new x e.layout
-EffectEnds m folds a new (Some Memory) begun e = Begun m a.printer new e.layout × (folds ≡ true)
+EffectEnds m folds a new (Some Memory) begun e = Interrupted m a.printer new e.layout × (folds ≡ true)
 EffectEnds m folds a new (Some (Refused id)) begun e = Whole m a.printer new e.layout × (e.refused ≡ Some id)
 
 -- The same for any state at the start: after an error nothing is printed.

@@ -1,10 +1,10 @@
 -- The definitions that the contracts of this crate cite.
 pub mod EffectLaws
 pub mod Effects
-pub mod Emits
-pub mod EmitsLaws
 pub mod Errors
 pub mod Indents
+pub mod Made
+pub mod MadeLaws
 pub mod OutputLaws
 pub mod Styles
 pub mod TextOnly

@@ -5,7 +5,7 @@
 ghost use Rattle.std.specs.Prelude.{◌≡◌, Bool, [], ◌∷◌};
 ghost use Rattle.wasmprinter_spec.specs.Call.{Text, Newline, Line, Start, Literal, Name, Keyword, TypeName, Comment, Reset};
 ghost use Rattle.wasmprinter_spec.specs.Meaning.{Meaning, Succeeded};
-ghost use Rattle.wasmprinter_print.specs.Emits.{Does, Claims, Emits};
+ghost use Rattle.wasmprinter_print.specs.Made.{Does, Claims, Made, ending};
 
 mod fmt_write;
 mod halt;
@@ -50,7 +50,7 @@ pub trait Print {
     /// # Errors
     /// - The printer's error. Printing stops and returns it.
     fn write_each_char(&mut self, s: &str) -> io::Result<()>
-        ensures { Emits meaning self.old self.new result (Text s.now ∷ []) }
+        ensures { Made meaning self.old self.new (ending result) (Text s.now ∷ []) }
     {
         for c in s.chars() {
             self.write_str(c.encode_utf8(&mut [0; 4]))?;

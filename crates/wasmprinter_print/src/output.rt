@@ -14,19 +14,19 @@ use crate::Style;
 /// call after it.
 ///
 /// Layout code is generic over this trait. The contract of a layout function is `O.wrote out.old out.new pieces`:
-/// these pieces were written, unless an error has occurred. The laws at the end say how such facts compose; they make
+/// these pieces were written, up to the first error. The laws at the end say how such facts compose; they make
 /// most proofs automatic.
 pub trait Output {
     /// The options that were chosen for the layout.
     ghost chosen: { Options };
 
-    /// These calls were made on the printer, or an error has occurred.
+    /// If an error was recorded before, no call was made. Otherwise these calls were made, up to the first that failed.
     ghost called: { Self → Self → List Call → Type 0 };
 
-    /// These pieces were written, or an error has occurred.
+    /// The calls of these pieces were made, as `called` says.
     ghost wrote: { Self → Self → List Piece → Type 0 };
 
-    /// These parts of a module were written, or an error has occurred.
+    /// The calls of these parts of a module were made, as `called` says.
     ghost laid: { Self → Self → List Part → Type 0 };
 
     /// An error has occurred.
@@ -170,7 +170,8 @@ pub trait Output {
 /// The output of layout code that may fold operators. Other layout code is generic over [`Output`] alone, so it can't
 /// record that memory ran out.
 pub trait FoldingOutput: Output {
-    /// Records that an allocation failed while operators are folded. Any pieces may have been due.
+    /// Records that an allocation failed while operators are folded. No call follows, so the contract holds for any
+    /// list of pieces.
     fn run_out_of_memory(&mut self)
         requires { Self.chosen.folds ≡ true }
         ensures { (xs : List Piece) → Self.wrote self.old self.new xs };

@@ -43,7 +43,7 @@ impl<T: PrintText> Print for T {
     }
 
     #[inline]
-    #[tactic(auto, using(crate::specs::EmitsLaws::does))]
+    #[tactic(auto, using(crate::specs::MadeLaws::does))]
     fn write_each_char(&mut self, s: &str) -> io::Result<()> {
         Print::write_str(self, s)
     }

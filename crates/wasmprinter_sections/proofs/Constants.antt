@@ -5,7 +5,7 @@ use Rattle.wasmprinter_spec.specs.Operator.{Operator}
 use Rattle.wasmprinter_spec.specs.Layout.Operators.{Setting, expression_pieces}
 use Rattle.wasmprinter_spec.specs.Layout.Declarations.{Scope, Folding}
 use Rattle.wasmprinter_spec.specs.Layout.Functions.{body_by}
-use Rattle.wasmprinter_spec.specs.Layout.Expressions.{in_line, constant_by, constant_pieces, held_pieces}
+use Rattle.wasmprinter_spec.specs.Layout.Expressions.{in_line, constant_by, constant_pieces, grouped_pieces}
 use Rattle.wasmprinter_sections.specs.Scopes.{is_one}
 
 constant_by-list : (f : Option Folding) (s : Setting) (os : List (Placed Operator)) → constant_by f s os ≡ body_by f (Some 0) s [] os

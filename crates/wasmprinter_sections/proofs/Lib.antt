@@ -1,4 +1,3 @@
-pub mod Claims
 pub mod Constants
 pub mod CustomLists
 pub mod Declared

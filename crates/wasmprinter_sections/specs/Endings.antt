@@ -6,22 +6,22 @@ use Rattle.wasmprinter_spec.specs.Meaning.{Meaning}
 use Rattle.wasmprinter_spec.specs.Options.{Options}
 use Rattle.wasmprinter_spec.specs.Piece.{all_calls}
 use Rattle.wasmprinter_spec.specs.Layout.Customs.{Laid}
-use Rattle.wasmprinter_print.specs.Emits.{Made, Ending, Through, AtCall, Never, at_growth}
+use Rattle.wasmprinter_print.specs.Made.{Made, Ending, Through, AtCall, Never, when_out_of_memory}
 
 -- How the calls end that were made before this error. A refusal comes after all calls before it, and the printer's
 -- error at the call that failed. Memory can run out only if operators are folded. No other error is returned.
 abbrev pub ending_after : Bool → Error → Ending
 ending_after folds (DylinkSubsection id) = Through
 ending_after folds (Printer e) = AtCall e
-ending_after folds Memory = at_growth folds
+ending_after folds Memory = when_out_of_memory folds
 ending_after folds _ = Never
 
 abbrev pub ending_by : {T : Type 0} → Bool → Result T Error → Ending
 ending_by folds (Ok x) = Through
 ending_by folds (Err e) = ending_after folds e
 
--- The layout ends at a refusal exactly if the refusal is returned. (A failed call or a failed allocation may come
--- before a refusal.)
+-- If a refusal is returned, the layout ends at it. After success it ends at none. After a failed call or a failed
+-- allocation, either is possible.
 abbrev pub ErrorAgreesWithRefusal : Error → Option ℕ → Type 0
 ErrorAgreesWithRefusal (DylinkSubsection id) refused = refused ≡ Some id
 ErrorAgreesWithRefusal (Printer e) refused = Unit {0}

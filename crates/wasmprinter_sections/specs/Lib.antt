@@ -6,4 +6,3 @@ pub mod Parts
 pub mod Scopes
 pub mod Sections
 pub mod TypeLines
-pub mod Unclaimed

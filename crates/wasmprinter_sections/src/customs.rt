@@ -2,14 +2,14 @@
 ghost use Rattle.std.specs.Prelude.{◌≡◌, ◌↔◌, Bool, IsTrue, [], ◌∷◌};
 ghost use Rattle.wasmprinter_spec.specs.Options.{Answers};
 ghost use Rattle.wasmprinter_spec.specs.Customs.{custom_role_of};
-ghost use Rattle.wasmprinter_spec.specs.Layout.Customs.{custom_part, parts_at};
+ghost use Rattle.wasmprinter_spec.specs.Piece.{Piece, Claimed};
+ghost use Rattle.wasmprinter_spec.specs.Layout.Customs.{role_part, custom_part, parts_at};
 ghost use Rattle.wasmprinter_wasm.specs.Places.{place_view};
 ghost use Rattle.wasmprinter_custom.specs.Roles.{role_view};
-ghost use Rattle.wasmprinter_sections.specs.Unclaimed.{claim_of, WroteUnclaimed};
 
 use crate::dylink::write_dylink;
 use crate::producers::write_producers;
-use crate::raw::{write_faulted, write_raw};
+use crate::raw::{write_malformed, write_raw};
 use wasmprinter_custom::{CustomRole, custom_role};
 use wasmprinter_print::Output;
 use wasmprinter_wasm::customs::Custom;
@@ -26,14 +26,17 @@ fn role_of<'a>(section: &Custom<'a>) -> CustomRole<'a>
 
 /// Asks the printer whether it claims a section. Returns the answer.
 fn write_claim<O: Output>(out: &mut O, section: &Custom<'_>) -> bool
-    ensures { O.wrote out.old out.new (claim_of section.now.value result ∷ []) }
+    ensures { O.wrote out.old out.new
+        (Claimed section.now.value.name section.now.value.bytes.place section.now.value.bytes.value result ∷ []) }
 {
     out.print_custom_section(section.name(), section.bytes_place(), section.bytes())
 }
 
-/// Writes a section with the role that the printer does not claim. Ends the layout if the section is refused.
+/// Writes a section with this role after its claim, which the printer answered with no. Ends the layout if the
+/// section is refused.
 fn write_role<O: Output>(out: &mut O, entry: &CustomEntry<'_>, role: CustomRole<'_>)
-    ensures { WroteUnclaimed O.wrote O.laid out.old out.new O.chosen.skeleton entry.now (role_view role.entry) }
+    ensures { (a : O) (claim : Piece) → O.wrote a out.old (claim ∷ [])
+        → O.laid a out.new (role_part O.chosen.skeleton claim entry.now (role_view role.entry) ∷ []) }
 {
     let place = entry.section.place();
     match &role {
@@ -42,7 +45,7 @@ fn write_role<O: Output>(out: &mut O, entry: &CustomEntry<'_>, role: CustomRole<
         CustomRole::Dylink(subsections) => write_dylink(out, place, subsections),
         CustomRole::Refused(id) => out.refuse_subsection(*id),
         CustomRole::Raw => write_raw(out, entry),
-        CustomRole::Malformed => write_faulted(out, entry),
+        CustomRole::Malformed => write_malformed(out, entry),
     }
 }
 
@@ -59,7 +62,7 @@ pub fn write_custom<O: Output>(out: &mut O, entry: &CustomEntry<'_>)
 }
 
 /// Reports whether a section comes after one of the kind or, for `None`, before all others.
-fn stands_at(entry: &CustomEntry<'_>, after: Option<SectionKind>) -> bool
+fn comes_after(entry: &CustomEntry<'_>, after: Option<SectionKind>) -> bool
     ensures { IsTrue result ↔ (entry.now.after ≡ place_view after) }
 {
     entry.after == after
@@ -76,7 +79,7 @@ pub fn write_customs<O: Output>(
         (parts_at O.chosen.skeleton answers (place_view after) 0 customs.now) }
 {
     for entry in customs {
-        if !stands_at(entry, after) {
+        if !comes_after(entry, after) {
             continue;
         }
         write_custom(out, entry);

@@ -3,7 +3,7 @@
 ghost use Rattle.std.specs.Prelude.{◌≡◌};
 ghost use Rattle.wasmprinter_spec.specs.Layout.Operators.{expression_pieces};
 ghost use Rattle.wasmprinter_spec.specs.Layout.Expressions.{in_line, word_unless_one};
-ghost use Rattle.wasmprinter_spec.specs.Layout.Expressions.{constant_pieces, held_pieces, group_parts, constant_group};
+ghost use Rattle.wasmprinter_spec.specs.Layout.Expressions.{constant_pieces, grouped_pieces, group_parts, constant_group};
 ghost use Rattle.wasmprinter_sections.specs.Scopes.{scope_view, is_one};
 
 use crate::operators::write_flat_or_folded;
@@ -19,7 +19,7 @@ use wasmprinter_text::words::{open_unnamed, write_space, write_word};
 const EXPRESSION_NESTING: u64 = 2;
 
 /// The nesting depth of an expression in a group of its own.
-const HELD_NESTING: u64 = 3;
+const GROUPED_NESTING: u64 = 3;
 
 /// The number of results of the enclosing function of a constant expression: there is no function, so 0.
 const NO_RESULTS: Option<u32> = Some(0);
@@ -34,7 +34,7 @@ fn write_single<O: Output>(out: &mut O, scope: &mut Scope<'_, '_>, expression: &
     let setting = Setting {
         form: Form::InLine,
         types: &scope.types,
-        nesting: HELD_NESTING,
+        nesting: GROUPED_NESTING,
         function: scope.function,
         body: 0,
     };
@@ -110,13 +110,13 @@ fn write_grouped_expr<O: FoldingOutput>(
     expression: &Expression<'_>,
 )
     ensures pieces { O.wrote out.old out.new
-        (held_pieces (scope_view O.chosen scope.old) 3 expression.now.items) }
+        (grouped_pieces (scope_view O.chosen scope.old) 3 expression.now.items) }
     ensures scope { scope_view O.chosen scope.new ≡ scope_view O.chosen scope.old }
 {
     if is_one(expression) {
         write_single(out, scope, expression);
     } else {
-        write_nested(out, scope, HELD_NESTING, expression);
+        write_nested(out, scope, GROUPED_NESTING, expression);
     }
 }
 

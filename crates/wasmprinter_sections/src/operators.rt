@@ -1,7 +1,7 @@
 //! The operators of an expression, flat or folded (section 6.5 of the WebAssembly Core Specification).
 ghost use Rattle.std.specs.Prelude.{◌≡◌};
 ghost use Rattle.wasmprinter_spec.specs.Layout.Functions.{body_by};
-ghost use Rattle.wasmprinter_flat.specs.Settings.{setting_among};
+ghost use Rattle.wasmprinter_flat.specs.Settings.{setting_with_names};
 ghost use Rattle.wasmprinter_sections.specs.Scopes.{folding_in};
 
 use wasmprinter_custom::FunctionHints;
@@ -26,7 +26,7 @@ pub fn write_flat_or_folded<O: FoldingOutput, S: Signatures>(
     expression: &Expression<'_>,
 )
     ensures pieces { O.wrote out.old out.new (body_by (folding_in O.chosen.folds folder.old) results
-        (setting_among S.signature_at setting.now labels.old) hints.entry expression.now.items) }
+        (setting_with_names S.signature_at setting.now labels.old) hints.entry expression.now.items) }
     ensures folder { folder.new ≡ folder.old }
     ensures named { labels.new.named ≡ labels.old.named }
     ensures synthesizes { labels.new.synthesizes ≡ labels.old.synthesizes }

@@ -60,8 +60,8 @@ fn print_by<'s, 'a, P: Print, K: Chosen>(
     }
 }
 
-/// Prints a module, with the identifiers of the labels. If operators are folded, everything that is printed must be
-/// foldable.
+/// Prints a module. `labels` also holds the identifiers of the module. If operators are folded, a list of operators that
+/// can't be folded is left out; `check_folding` rules such lists out.
 ///
 /// # Errors
 ///

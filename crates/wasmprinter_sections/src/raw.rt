@@ -1,6 +1,6 @@
 //! Raw custom sections (appendix "Custom Annotations" of the WebAssembly Core Specification).
 ghost use Rattle.std.specs.Prelude.{◌≡◌};
-ghost use Rattle.wasmprinter_spec.specs.Layout.Customs.{place_word as word_of_place, two_words, place_pieces, raw_pieces, faulted_pieces};
+ghost use Rattle.wasmprinter_spec.specs.Layout.Customs.{place_word as word_of_place, two_words, place_pieces, raw_pieces, malformed_pieces};
 ghost use Rattle.wasmprinter_wasm.specs.Places.{section_kind_view, place_view};
 
 use crate::quoted::SECTION_NESTING;
@@ -68,8 +68,8 @@ pub(crate) fn write_raw<O: Output>(out: &mut O, entry: &CustomEntry<'_>)
 }
 
 /// Writes a line that says that the section is malformed, and then the section as a raw annotation.
-pub(crate) fn write_faulted<O: Output>(out: &mut O, entry: &CustomEntry<'_>)
-    ensures { O.wrote out.old out.new (faulted_pieces O.chosen.skeleton entry.now) }
+pub(crate) fn write_malformed<O: Output>(out: &mut O, entry: &CustomEntry<'_>)
+    ensures { O.wrote out.old out.new (malformed_pieces O.chosen.skeleton entry.now) }
 {
     let section = &entry.section;
     write_break(out, Some(section.bytes_place()), SECTION_NESTING);

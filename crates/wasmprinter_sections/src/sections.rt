@@ -43,7 +43,11 @@ fn write_functions<O: FoldingOutput>(out: &mut O, module: &Module<'_>, scope: &m
 
 /// Writes the data segments. Labels and locals in their expressions are those of the function with the next free
 /// index.
-fn write_datas<O: FoldingOutput>(out: &mut O, module: &Module<'_>, scope: &mut Scope<'_, '_>)
+fn write_data_segments<O: FoldingOutput>(
+    out: &mut O,
+    module: &Module<'_>,
+    scope: &mut Scope<'_, '_>,
+)
     ensures pieces { O.wrote out.old out.new
         (numbered_pieces (data_pieces O.chosen.skeleton
         (function_scope_view O.chosen scope.old (imported_count FuncKind module.now.imports + length module.now.functions))) 0 module.now.data_segments) }
@@ -98,6 +102,6 @@ pub(crate) fn write_fields_of<O: FoldingOutput>(
         Kind::Start => write_start(out, scope, module.start()),
         Kind::Element => write_each(out, scope, 0, module.elements()),
         Kind::Code => write_functions(out, module, scope),
-        Kind::Data => write_datas(out, module, scope),
+        Kind::Data => write_data_segments(out, module, scope),
     }
 }

@@ -21,7 +21,7 @@ use Rattle.wasmprinter_spec.specs.Quoted.{char_text, byte_text, quoted_text, quo
 use Rattle.wasmprinter_spec.specs.Layout.{layout, layout_folded, module_parts, module_pieces, module_pieces_with, pieces_by}
 use Rattle.wasmprinter_spec.specs.Layout.Tags.{tag_pieces}
 use Rattle.wasmprinter_spec.specs.Layout.Start.{start_pieces}
-use Rattle.wasmprinter_spec.specs.Layout.Customs.{exports_pieces, faulted_pieces, fields_pieces, flags_by, flags_pieces, gap_quoted_list, import_infos_pieces, names_pieces, place_pieces, raw_pieces, sizes_group, sizes_pieces, subsections_pieces, values_pieces}
+use Rattle.wasmprinter_spec.specs.Layout.Customs.{exports_pieces, malformed_pieces, fields_pieces, flags_by, flags_pieces, gap_quoted_list, import_infos_pieces, names_pieces, place_pieces, raw_pieces, sizes_group, sizes_pieces, subsections_pieces, values_pieces}
 use Rattle.wasmprinter_spec.specs.Layout.DataSegments.{data_mode_pieces, data_pieces}
 use Rattle.wasmprinter_spec.specs.Layout.Elements.{element_pieces, expression_items, function_items, items_pieces, mode_pieces}
 use Rattle.wasmprinter_spec.specs.Layout.Exports.{export_pieces, extern_index_pieces, kind_word}
@@ -46,7 +46,7 @@ printing = tt
 
 -- Unfolds how a module is printed.
 unfoldable pub composing : ⊤
-unfolding printing left_in place_text body_by body_pieces composite_pieces constant_by constant_group constant_pieces data_mode_pieces data_pieces element_pieces export_pieces exports_pieces expression_items extern_index_pieces extern_pieces faulted_pieces field_pieces fields_pieces flags_by flags_pieces function_group function_items function_pieces functions_pieces gap_quoted_list global_pieces global_type_pieces group group_at group_gap group_gap_at header_pieces import_infos_pieces import_pieces imports_pieces init_pieces inner_pieces items_pieces kind_word layout layout_folded limits_pieces local_line local_pieces member_pieces memory_pieces memory_type_pieces mode_pieces module_parts module_pieces module_pieces_with names_pieces numbered_pieces pieces_by place_pieces raw_pieces sizes_group sizes_pieces start_pieces storage_pieces struct_field_pieces sub_group sub_pieces subsections_pieces supertype_pieces table_pieces table_type_pieces tag_pieces type_group_pieces type_pieces type_section_pieces values_pieces
+unfolding printing left_in place_text body_by body_pieces composite_pieces constant_by constant_group constant_pieces data_mode_pieces data_pieces element_pieces export_pieces exports_pieces expression_items extern_index_pieces extern_pieces malformed_pieces field_pieces fields_pieces flags_by flags_pieces function_group function_items function_pieces functions_pieces gap_quoted_list global_pieces global_type_pieces group group_at group_gap group_gap_at header_pieces import_infos_pieces import_pieces imports_pieces init_pieces inner_pieces items_pieces kind_word layout layout_folded limits_pieces local_line local_pieces member_pieces memory_pieces memory_type_pieces mode_pieces module_parts module_pieces module_pieces_with names_pieces numbered_pieces pieces_by place_pieces raw_pieces sizes_group sizes_pieces start_pieces storage_pieces struct_field_pieces sub_group sub_pieces subsections_pieces supertype_pieces table_pieces table_type_pieces tag_pieces type_group_pieces type_pieces type_section_pieces values_pieces
 composing = tt
 
 -- Unfolds how a text is read.

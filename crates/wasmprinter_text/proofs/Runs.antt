@@ -29,7 +29,7 @@ pub run-chars : (bs : List ℕ) → IsUtf8 bs → all_id_chars (chars bs) ≡ tr
 run-chars bs u h = sym (encodes-IsAscii (chars bs) (ascii_at (chars bs) h)) ∙ encodes-chars bs u
 
 -- All characters of a text are identifier characters if and only if all of its bytes are.
-pub bytes-run : (bs : List ℕ) → IsUtf8 bs → all_id_chars bs ≡ all_id_chars (chars bs)
+bytes-run : (bs : List ℕ) → IsUtf8 bs → all_id_chars bs ≡ all_id_chars (chars bs)
 bytes-run bs u = by (all_id_chars bs) (all_id_chars (chars bs)) refl refl
   where
     by : (s t : Bool) → all_id_chars bs ≡ s → all_id_chars (chars bs) ≡ t → all_id_chars bs ≡ all_id_chars (chars bs)
@@ -46,17 +46,22 @@ pub plain-chars : (bs : List ℕ) → IsUtf8 bs → is_id (chars bs) ≡ true �
 plain-chars bs u h = run-chars bs u (is_id-all (chars bs) h)
 
 -- The empty text needs quotes in an identifier.
-pub run-empty : (bs : List ℕ) → IsUtf8 bs → length bs ≡ 0 → is_id (chars bs) ≡ false
+run-empty : (bs : List ℕ) → IsUtf8 bs → length bs ≡ 0 → is_id (chars bs) ≡ false
 run-empty [] u e = ap is_id (chars-IsAscii [] (λ i. omega arith))
 run-empty (b ∷ bs) u e = absurd cc
 
 -- A nonempty text needs no quotes in an identifier if and only if all of its characters are identifier characters.
-pub run-some : (bs : List ℕ) → IsUtf8 bs → (length bs ≡ 0 → ⊥) → is_id (chars bs) ≡ all_id_chars (chars bs)
+run-some : (bs : List ℕ) → IsUtf8 bs → (length bs ≡ 0 → ⊥) → is_id (chars bs) ≡ all_id_chars (chars bs)
 run-some bs u n = by (chars bs) refl
   where
     by : (cs : List ℕ) → chars bs ≡ cs → is_id cs ≡ all_id_chars cs
     by [] e = absurd (n (ap length (sym (encodes-chars bs u) ∙ ap encode_utf8_all e)))
     by (c ∷ cs) e = refl
+
+-- The characters of a text need quotes in an identifier if and only if its bytes, as characters, need them.
+pub bytes-is_id : (bs : List ℕ) → IsUtf8 bs → is_id bs ≡ is_id (chars bs)
+bytes-is_id [] u = sym (run-empty [] u refl)
+bytes-is_id (b ∷ bs) u = bytes-run (b ∷ bs) u ∙ sym (run-some (b ∷ bs) u (λ e. cc))
 
 -- ---- synthesized identifiers
 

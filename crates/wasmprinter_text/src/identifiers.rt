@@ -10,15 +10,8 @@ ghost use Rattle.wasmprinter_text.specs.Numbers.{dollar};
 use crate::numbers::write_decimal;
 use crate::strings::{write_chars, write_in_quotes};
 use crate::words::write_in_style;
-use wasmprinter_custom::all_id_chars;
+use wasmprinter_custom::is_id;
 use wasmprinter_print::{Output, Style};
-
-/// Reports whether a text may follow the dollar sign of an identifier without quotes.
-fn is_id(s: &str) -> bool
-    ensures { result ≡ is_id (chars s.now) }
-{
-    !s.is_empty() && all_id_chars(s.as_bytes())
-}
 
 /// Writes the part of an identifier after its dollar sign.
 fn write_content<O: Output>(out: &mut O, content: &str)

@@ -11,10 +11,11 @@ use wasmprinter_print::Print;
 
 /// A printer that appends to its own text, and records where each printed line starts.
 ///
-/// Styles write nothing, and no custom section is claimed. If an allocation fails, a call that writes text returns
-/// an error of the kind `OutOfMemory`, and leaves the text and its lines unchanged. `start_line` allocates
-/// nothing: the line waits for its entry until the next call that writes text. If another line starts before then,
-/// that line is lost, and all later calls that write text fail as if out of memory.
+/// Styles write nothing, and no custom section is claimed. If an allocation fails, a call that writes text returns an
+/// error of the kind `OutOfMemory`, and leaves the text and its lines unchanged; `write_each_char` keeps the
+/// characters before the failure. `start_line` allocates nothing: the line waits for its entry until the next call
+/// that writes text. If another line starts before then, that line is lost, and all later calls that write text fail
+/// as if out of memory.
 #[derive(Drop)]
 pub struct LineTracker {
     text: String,
@@ -50,7 +51,7 @@ impl LineTracker {
     ghost use Rattle.std.specs.Prelude.{◌≡◌, false, [], ◌∷◌, OnOk, OnErr, IfOk};
     ghost use Rattle.std.specs.String.{string_bytes};
     ghost use Rattle.wasmprinter_spec.specs.Call.{Text};
-    ghost use Rattle.wasmprinter_print.specs.Emits.{Emits};
+    ghost use Rattle.wasmprinter_print.specs.Made.{Made, ending};
     ghost use Rattle.wasmprinter_writers.specs.Tracked.{without_lines, with_text};
     ghost use Rattle.wasmprinter_writers.specs.Cuts.{lines_at_starts, IsCuttable};
 
@@ -100,7 +101,7 @@ impl LineTracker {
     /// Appends a piece of text character by character. If an allocation fails, the characters before it have been
     /// appended.
     fn write_by_chars(&mut self, piece: &str) -> io::Result<()>
-        ensures { Emits tracked_meaning self.old self.new result (Text piece.now ∷ []) }
+        ensures { Made tracked_meaning self.old self.new (ending result) (Text piece.now ∷ []) }
     {
         for c in piece.chars() {
             self.write_str(c.encode_utf8(&mut [0; 4]))?;

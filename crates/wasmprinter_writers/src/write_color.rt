@@ -8,14 +8,15 @@ use std::io::Write;
 
 /// A writer that can set the look of the text after a call.
 pub trait WriteColor: Write {
-    // The results that a call for this look may have, and the states of the writer after it. `None` is the look of
-    // text without colors.
+    /// The results that a call for this look may have, and the states of the writer after it. `None` is the look of
+    /// text without colors.
     ghost sets_color: { Coloring Self };
 
-    // Whether such calls have an effect.
+    /// Whether such calls have an effect: what `supports_color` returns.
     ghost is_colored: { Self → Bool };
 
-    // Whether such calls take effect on a console immediately, so that they cannot be written as text.
+    /// Whether such calls take effect on a console immediately, so that they cannot be written as text: what
+    /// `is_synchronous` returns.
     ghost is_immediate: { Self → Bool };
 
     /// Reports whether the writer shows colors.

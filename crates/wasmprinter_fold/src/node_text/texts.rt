@@ -42,8 +42,8 @@ impl Texts {
     ghost use Rattle.wasmprinter_spec.specs.Call.{Text};
     ghost use Rattle.wasmprinter_spec.specs.Options.{defaults};
     ghost use Rattle.wasmprinter_spec.specs.Piece.{all_calls};
-    ghost use Rattle.wasmprinter_print.specs.Emits.{Made, Through};
-    ghost use Rattle.wasmprinter_flat.specs.Settings.{word_pieces_among};
+    ghost use Rattle.wasmprinter_print.specs.Made.{Made, Through};
+    ghost use Rattle.wasmprinter_flat.specs.Settings.{word_pieces_with_names};
     ghost use Rattle.wasmprinter_fold.specs.Shown.{shown_of_calls, shown_of_head, IsIn};
     ghost use Rattle.wasmprinter_fold.specs.Buffers.{GrowsText, with_text_begun, with_text, with_sequences};
     ghost use Rattle.wasmprinter_fold.specs.Buffers.{no_semicolons, texts_meaning};
@@ -118,7 +118,7 @@ impl Texts {
         ensures color { self.new.color ≡ self.old.color }
         ensures grows { GrowsText self.old.bytes self.new.bytes }
         ensures made { OnOk result (Made texts_meaning self.old self.new Through
-            (all_calls defaults (word_pieces_among S.signature_at setting.now labels.now operator.now))) }
+            (all_calls defaults (word_pieces_with_names S.signature_at setting.now labels.now operator.now))) }
     {
         let options = PrintOptions::new();
         let mut out: Printer<'_, '_, Texts, Brand> = Printer::new(self, &options);
@@ -155,7 +155,7 @@ impl Texts {
         ensures grows { GrowsText self.old.bytes self.new.bytes }
         ensures inside { IfOk result (λ head. IsIn self.new.bytes head) }
         ensures shows { IfOk result (λ head. shown_of_head self.new.bytes head ≡ shown_of_calls place hint self.old.color
-            (all_calls defaults (word_pieces_among S.signature_at setting.now labels.now operator.now))) }
+            (all_calls defaults (word_pieces_with_names S.signature_at setting.now labels.now operator.now))) }
     {
         let start = self.begin();
         self.push_operator(setting, labels, operator)?;

@@ -9,7 +9,7 @@ use Rattle.wasmprinter_spec.specs.Placed.{Import, Table, Global, Export, Element
 use Rattle.wasmprinter_spec.specs.Layout.ValTypes.{ref_pieces}
 use Rattle.wasmprinter_spec.specs.Layout.Declarations.{Scope, Folding, item_declaration, item_index}
 use Rattle.wasmprinter_spec.specs.Layout.Operators.{expression_pieces}
-use Rattle.wasmprinter_spec.specs.Layout.Expressions.{in_line, constant_pieces, word_unless_one, held_pieces, group_parts, constant_group}
+use Rattle.wasmprinter_spec.specs.Layout.Expressions.{in_line, constant_pieces, word_unless_one, grouped_pieces, group_parts, constant_group}
 use Rattle.wasmprinter_spec.specs.Layout.Functions.{header_pieces}
 use Rattle.wasmprinter_spec.specs.Layout.Tables.{table_type_pieces, init_pieces, table_pieces}
 use Rattle.wasmprinter_spec.specs.Layout.Memories.{memory_pieces}
@@ -34,7 +34,7 @@ module _ (x y : Option Folding) (d : Bared x y) (s : Scope) where
   unfolding constant_pieces
   constant_pieces_so nesting os = constant_so d (in_line s nesting) os
 
-  held_so : (nesting : ℕ) (os : List (Placed Operator)) → Recolored (held_pieces (in_way s x) nesting os) (held_pieces (in_way s y) nesting os)
+  held_so : (nesting : ℕ) (os : List (Placed Operator)) → Recolored (grouped_pieces (in_way s x) nesting os) (grouped_pieces (in_way s y) nesting os)
   held_so nesting [] = constant_pieces_so nesting []
   held_so nesting (o ∷ []) = same_all (expression_pieces (in_line s nesting) (o ∷ []))
   held_so nesting (o ∷ p ∷ os) = constant_pieces_so nesting (o ∷ p ∷ os)

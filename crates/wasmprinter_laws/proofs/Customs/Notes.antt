@@ -15,7 +15,7 @@ use Rattle.wasmprinter_spec.specs.Options.{Answers, AreUnclaimed}
 use Rattle.wasmprinter_spec.specs.Piece as piece
 use Rattle.wasmprinter_spec.specs.Piece.{Piece, Gap, Quoted, Shut, Claimed}
 use Rattle.wasmprinter_spec.specs.Layout.DataSegments.{shown_bytes}
-use Rattle.wasmprinter_spec.specs.Layout.Customs.{place_word, place_pieces, raw_pieces, faulted_pieces, fields_pieces, subsections_pieces, Part, Shown, Stops, role_part, custom_part, same_place, parts_at}
+use Rattle.wasmprinter_spec.specs.Layout.Customs.{place_word, place_pieces, raw_pieces, malformed_pieces, fields_pieces, subsections_pieces, Part, Shown, Stops, role_part, custom_part, same_place, parts_at}
 use Rattle.wasmprinter_spec.specs.Text.Items.{each}
 use Rattle.wasmprinter_spec.specs.Text.Customs.{section_of_word, custom_place, read_custom}
 use Rattle.wasmprinter_laws.proofs.Tokens.Grown.{row_customs-onto}
@@ -89,8 +89,8 @@ raw_writes skeleton c is h =
     (append_assoc (place_pieces c.after) (Gap ∷ shown) (Shut ∷ [])) note)
 
 faulted_writes : {a : Edge} (skeleton : Bool) (c : CustomEntry) → is_any_place c.after ≡ true → IsRangedCustom c.section.value → is_remark c.section.value.name ≡ true →
-    WritesNoted a (faulted_pieces skeleton c) Bound End (raw_note skeleton c)
-unfolding faulted_pieces class
+    WritesNoted a (malformed_pieces skeleton c) Bound End (raw_note skeleton c)
+unfolding malformed_pieces class
 faulted_writes skeleton c is h remark =
     break_writes (plain_ending_writes refl
     (is_remark-append (codes "failed to parse custom section `") (c.section.value.name ++ codes "`") refl (is_remark-append c.section.value.name (codes "`") remark refl))

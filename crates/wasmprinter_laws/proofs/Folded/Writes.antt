@@ -74,13 +74,13 @@ module _ (o : Options) (form : Form) where
   RowWrites first nesting (Snoc b h r held) =
       WritesNoted (ahead form first) (whole_pieces o form first nesting (Snoc b h r held)) Bound (row_items false (Snoc b h r held)) (row_items true (Snoc b h r held))
 
-  abbrev held_pieces : List ℕ → ℕ → ℕ → Nodes → List Piece
-  held_pieces s place nesting held = comment_end (is_nil held) s place nesting ++ (whole_pieces o form false (nesting + 1) held ++ (Shut ∷ []))
+  abbrev rest_of_group : List ℕ → ℕ → ℕ → Nodes → List Piece
+  rest_of_group s place nesting held = comment_end (is_nil held) s place nesting ++ (whole_pieces o form false (nesting + 1) held ++ (Shut ∷ []))
 
   -- A group with its inner nodes
   group_by : {f : Forest} (v : List ℕ) (ps : List Piece) (s : List ℕ) (place nesting : ℕ) (held : Nodes) → is_word v ≡ true →
       (has_line_comment s ≡ false → has_line_comment (all_text o ps) ≡ false) → Writes Bound ps (after form) f → RowWrites false (nesting + 1) held →
-      WritesNoted Free (OpenPlain v ∷ (ps ++ held_pieces s place nesting held)) Bound
+      WritesNoted Free (OpenPlain v ∷ (ps ++ rest_of_group s place nesting held)) Bound
       (Group (Word v (onto f (row_items false held))) End) (Group (Word v (onto f (row_items true held))) End)
   group_by v ps s place nesting Nil h n w k = bare_group v ps s place nesting h n w
   group_by {f = f} v ps s place nesting (Snoc b g r inner) h n w k =
@@ -91,7 +91,7 @@ module _ (o : Options) (form : Form) where
 
   -- The pieces of the group of a node
   abbrev group_pieces : Head → ℕ → Nodes → List Piece
-  group_pieces h nesting held = opened (head_pieces h) ++ held_pieces (head_text o h) (head_place h) nesting held
+  group_pieces h nesting held = opened (head_pieces h) ++ rest_of_group (head_text o h) (head_place h) nesting held
 
   abbrev HeadWrites : Head → ℕ → Nodes → Type 0
   HeadWrites h nesting held =
@@ -102,7 +102,7 @@ module _ (o : Options) (form : Form) where
       let w : List ℕ = item_word x in
       let r : HasRow x.operator.value = row_for x.operator.value p.listed in
       let is : is_word w ≡ true = ap is_word (ap word_of_row r.found) ∙ r.is_its_word in
-      let tail : List Piece = held_pieces (head_text o (Of x)) x.operator.place nesting held in
+      let tail : List Piece = rest_of_group (head_text o (Of x)) x.operator.place nesting held in
       let same : head_text o (Of x) ≡ all_text o (piece.Word w ∷ rest x) = text_of-all_calls o x.pieces ∙ ap (all_text o) p.pieces in
       subst (λ ps. WritesNoted Free (opened ps ++ tail) Bound (Group (head_items (Of x) (row_items false held)) End) (Group (head_items (Of x) (row_items true held)) End))
       (sym p.pieces)

@@ -11,7 +11,7 @@ use Rattle.wasmprinter_spec.specs.Customs.Dylink.{MemInfo, ExportInfo, ImportInf
 use Rattle.wasmprinter_spec.specs.Options.{Answers}
 use Rattle.wasmprinter_spec.specs.Piece.{Piece, Claimed}
 use Rattle.wasmprinter_spec.specs.Layout.Groups.{close, has_break}
-use Rattle.wasmprinter_spec.specs.Layout.Customs.{place_pieces, raw_pieces, faulted_pieces, note, gap_quoted_list, values_pieces, fields_pieces, has_flag, flag_words, flags_by, flags_pieces, sizes_group, sizes_pieces, names_pieces, exports_pieces, import_infos_pieces, content_pieces, subsections_pieces, Part, Shown, Stops, role_part, custom_part, same_place, parts_at}
+use Rattle.wasmprinter_spec.specs.Layout.Customs.{place_pieces, raw_pieces, malformed_pieces, note, gap_quoted_list, values_pieces, fields_pieces, has_flag, flag_words, flags_by, flags_pieces, sizes_group, sizes_pieces, names_pieces, exports_pieces, import_infos_pieces, content_pieces, subsections_pieces, Part, Shown, Stops, role_part, custom_part, same_place, parts_at}
 use Rattle.wasmprinter_spec.specs.Lines.{places}
 use Rattle.wasmprinter_spec.specs.Apart.{IsOutside, role_places, custom_places}
 use Rattle.wasmprinter_laws.proofs.Lines.Indexes.{AreElsewhere}
@@ -64,8 +64,8 @@ module _ (low high : ℕ) where
   raw_elsewhere skeleton c h =
       (h, stay_elsewhere low high (both_stay (place_stays c.after) (then_stay refl (both_stay (bytes_stay skeleton c.section.value.bytes.value) (alone_stays refl)))))
 
-  faulted_elsewhere : (skeleton : Bool) (c : CustomEntry) → IsOutside low high c.section.value.bytes.place → IsOutside low high c.section.place → Elsewhere (faulted_pieces skeleton c)
-  unfolding faulted_pieces
+  faulted_elsewhere : (skeleton : Bool) (c : CustomEntry) → IsOutside low high c.section.value.bytes.place → IsOutside low high c.section.place → Elsewhere (malformed_pieces skeleton c)
+  unfolding malformed_pieces
   faulted_elsewhere skeleton c h k = (h, raw_elsewhere skeleton c k)
 
   note_elsewhere : (w : List ℕ) (ps : List Piece) → Elsewhere ps → Elsewhere (note w ps)

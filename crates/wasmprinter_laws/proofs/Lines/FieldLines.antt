@@ -16,7 +16,7 @@ use Rattle.wasmprinter_spec.specs.Layout.Declarations.{Scope, Folding, item_decl
 use Rattle.wasmprinter_spec.specs.Layout.Types.{type_pieces, member_pieces, group_pieces_by, type_group_pieces, type_section_pieces}
 use Rattle.wasmprinter_spec.specs.Layout.Operators.{InLine, Setting}
 use Rattle.wasmprinter_spec.specs.Layout.Functions.{header_pieces}
-use Rattle.wasmprinter_spec.specs.Layout.Expressions.{in_line, constant_by, constant_pieces, word_unless_one, held_pieces, constant_group}
+use Rattle.wasmprinter_spec.specs.Layout.Expressions.{in_line, constant_by, constant_pieces, word_unless_one, grouped_pieces, constant_group}
 use Rattle.wasmprinter_spec.specs.Layout.Limits.{wide_pieces, limits_pieces}
 use Rattle.wasmprinter_spec.specs.Layout.Tables.{table_type_pieces, init_pieces, table_pieces}
 use Rattle.wasmprinter_spec.specs.Layout.Memories.{shared_pieces, page_pieces, memory_type_pieces, memory_pieces}
@@ -140,7 +140,7 @@ word_stays w [] = then_stay refl (alone_stays refl)
 word_stays w (o ∷ []) = nothing_stays
 word_stays w (o ∷ p ∷ os) = then_stay refl (alone_stays refl)
 
-held_stay : (s : Scope) → s.folding ≡ None → (nesting : ℕ) (os : List (Placed Operator)) → IsOneLine (held_pieces s nesting os)
+held_stay : (s : Scope) → s.folding ≡ None → (nesting : ℕ) (os : List (Placed Operator)) → IsOneLine (grouped_pieces s nesting os)
 held_stay s flat nesting [] = constant_stays s flat nesting []
 held_stay s flat nesting (o ∷ []) = expression_stays (in_line s nesting) refl (o ∷ [])
 held_stay s flat nesting (o ∷ p ∷ os) = constant_stays s flat nesting (o ∷ p ∷ os)

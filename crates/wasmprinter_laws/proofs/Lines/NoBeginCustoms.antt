@@ -11,7 +11,7 @@ use Rattle.wasmprinter_spec.specs.Customs.Dylink.{MemInfo, ExportInfo, ImportInf
 use Rattle.wasmprinter_spec.specs.Options.{Answers}
 use Rattle.wasmprinter_spec.specs.Piece.{Piece, Claimed}
 use Rattle.wasmprinter_spec.specs.Layout.Groups.{has_break}
-use Rattle.wasmprinter_spec.specs.Layout.Customs.{raw_pieces, faulted_pieces, note, values_pieces, fields_pieces, sizes_pieces, names_pieces, exports_pieces, import_infos_pieces, content_pieces, subsections_pieces, Part, Shown, Stops, role_part, custom_part, same_place, parts_at, laid_parts}
+use Rattle.wasmprinter_spec.specs.Layout.Customs.{raw_pieces, malformed_pieces, note, values_pieces, fields_pieces, sizes_pieces, names_pieces, exports_pieces, import_infos_pieces, content_pieces, subsections_pieces, Part, Shown, Stops, role_part, custom_part, same_place, parts_at, laid_parts}
 use Rattle.wasmprinter_spec.proofs.Each.{all_both}
 use Rattle.wasmprinter_spec.proofs.OneLine.{both_stay, then_stay, alone_stays}
 use Rattle.wasmprinter_laws.proofs.Lines.FieldLines.{bytes_stay}
@@ -24,8 +24,8 @@ raw_none skeleton c =
     field_none (Some c.section.place) 1 (line_none (then_stay refl (then_stay refl (then_stay refl
     (both_stay (place_stays c.after) (then_stay refl (both_stay (bytes_stay skeleton c.section.value.bytes.value) (alone_stays refl))))))))
 
-faulted_none : (skeleton : Bool) (c : CustomEntry) → HasNoBegin (faulted_pieces skeleton c)
-unfolding faulted_pieces
+faulted_none : (skeleton : Bool) (c : CustomEntry) → HasNoBegin (malformed_pieces skeleton c)
+unfolding malformed_pieces
 faulted_none skeleton c = then_none tt (then_none tt (raw_none skeleton c))
 
 note_none : (w : List ℕ) {ps : List Piece} → HasNoBegin ps → HasNoBegin (note w ps)

@@ -11,7 +11,7 @@ use Rattle.wasmprinter_spec.specs.Layout.Groups.{has_break}
 use Rattle.wasmprinter_spec.specs.Layout.Declarations.{Scope, Folding}
 use Rattle.wasmprinter_spec.specs.Layout.Types.{type_pieces, member_pieces, group_pieces_by, type_group_pieces, type_section_pieces}
 use Rattle.wasmprinter_spec.specs.Layout.Operators.{Setting, expression_pieces}
-use Rattle.wasmprinter_spec.specs.Layout.Expressions.{in_line, constant_by, constant_pieces, held_pieces, group_parts, constant_group}
+use Rattle.wasmprinter_spec.specs.Layout.Expressions.{in_line, constant_by, constant_pieces, grouped_pieces, group_parts, constant_group}
 use Rattle.wasmprinter_spec.specs.Layout.Tables.{init_pieces, table_pieces}
 use Rattle.wasmprinter_spec.specs.Layout.Memories.{memory_pieces}
 use Rattle.wasmprinter_spec.specs.Layout.Tags.{tag_pieces}
@@ -59,7 +59,7 @@ module _ (s : Scope) where
   unfolding constant_pieces
   constant_none nesting os = constant_by_none s.folding (in_line s nesting) os
 
-  held_none : (nesting : ℕ) (os : List (Placed Operator)) → HasNoBegin (held_pieces s nesting os)
+  held_none : (nesting : ℕ) (os : List (Placed Operator)) → HasNoBegin (grouped_pieces s nesting os)
   held_none nesting [] = constant_none nesting []
   held_none nesting (o ∷ []) = expression_none (in_line s nesting) (o ∷ [])
   held_none nesting (o ∷ p ∷ os) = constant_none nesting (o ∷ p ∷ os)

@@ -47,8 +47,8 @@ raw_pieces skeleton c =
     ++ (Gap ∷ (shown_bytes skeleton s.bytes.value ++ (Shut ∷ [])))))))
 
 -- The line that reports the error, and the section as raw bytes.
-unfoldable pub faulted_pieces : Bool → CustomEntry → List Piece
-faulted_pieces skeleton c =
+unfoldable pub malformed_pieces : Bool → CustomEntry → List Piece
+malformed_pieces skeleton c =
     Break (Some c.section.value.bytes.place) 1
     ∷ (PlainLineComment (codes "failed to parse custom section `" ++ (c.section.value.name ++ codes "`")) ∷ raw_pieces skeleton c)
 
@@ -141,7 +141,7 @@ subsections_pieces (s ∷ ss) = content_pieces s.place s.value ++ subsections_pi
 
 -- ---- Each section
 
--- Pieces; or pieces, and the id for which the section after them is refused.
+-- Pieces that are printed; or pieces at which the layout ends, with the unknown id of the section that is refused.
 pub data Part : Type 0 where
   Shown : List Piece → Part
   Stops : List Piece → ℕ → Part
@@ -153,7 +153,7 @@ role_part skeleton claim c (Listed fields) =
 role_part skeleton claim c (Linked ss) = Shown (claim ∷ (Break (Some c.section.place) 1 ∷ note (codes "dylink.0") (subsections_pieces ss)))
 role_part skeleton claim c (Refused id) = Stops (claim ∷ []) id
 role_part skeleton claim c Raw = Shown (claim ∷ raw_pieces skeleton c)
-role_part skeleton claim c Malformed = Shown (claim ∷ faulted_pieces skeleton c)
+role_part skeleton claim c Malformed = Shown (claim ∷ malformed_pieces skeleton c)
 
 -- A custom section, with the answer to its claim. A claimed section is neither printed nor checked.
 abbrev pub custom_part : Bool → Bool → CustomEntry → Part

@@ -31,13 +31,13 @@ word_unless_one w (o ∷ []) = []
 word_unless_one w os = Word w ∷ (Gap ∷ [])
 
 -- An expression. A single operator is never folded.
-abbrev pub held_pieces : Scope → ℕ → List (Placed Operator) → List Piece
-held_pieces s nesting (o ∷ []) = expression_pieces (in_line s nesting) (o ∷ [])
-held_pieces s nesting os = constant_pieces s nesting os
+abbrev pub grouped_pieces : Scope → ℕ → List (Placed Operator) → List Piece
+grouped_pieces s nesting (o ∷ []) = expression_pieces (in_line s nesting) (o ∷ [])
+grouped_pieces s nesting os = constant_pieces s nesting os
 
 -- The content of the group of an expression.
 abbrev pub group_parts : Scope → ℕ → List ℕ → List (Placed Operator) → List Piece
-group_parts s nesting w os = word_unless_one w os ++ held_pieces s nesting os
+group_parts s nesting w os = word_unless_one w os ++ grouped_pieces s nesting os
 
 -- An expression in a group at this nesting depth.
 unfoldable pub constant_group : Scope → ℕ → List ℕ → List (Placed Operator) → List Piece

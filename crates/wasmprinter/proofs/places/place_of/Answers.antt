@@ -2,8 +2,8 @@ use Rattle.wasmprinter.specs.Found.{text_lines}
 use Rattle.wasmprinter.proofs.FoundLines.{names, finds}
 use Rattle.wasmprinter.proofs.places.place_of.Goals as goal
 
-pub returns-clause-names : goal.returns-clause-names
-returns-clause-names c =
+pub returns-clause-at : goal.returns-clause-at
+returns-clause-at c =
     names c.args.module.now (text_lines c.args.lines.now) c.args.function c.args.operator c.find.result c.find.ensures
 
 pub returns-clause-finds : goal.returns-clause-finds

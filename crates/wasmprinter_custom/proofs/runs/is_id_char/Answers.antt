@@ -5,17 +5,17 @@ use Rattle.wasmprinter_spec.specs.Quoted.{is_id_char}
 use Rattle.wasmprinter_custom.specs.declared.runs.TheConstants.{IDENTIFIER_BYTES}
 use Rattle.wasmprinter_custom.proofs.runs.is_id_char.Goals as goal
 
-stands : ℕ → Bool
-stands b = eqb (get_or IDENTIFIER_BYTES b 0) b
+in_table : ℕ → Bool
+in_table b = eqb (get_or IDENTIFIER_BYTES b 0) b
 
-runs_bytes : ℕ → Bool
-runs_bytes b = is_id_char (class b)
+is_id_byte : ℕ → Bool
+is_id_byte b = is_id_char (class b)
 
 -- For every byte the table agrees with the byte's class.
-table : agree_below stands runs_bytes 256 ≡ true
-unfolding stands runs_bytes class
+table : agree_below in_table is_id_byte 256 ≡ true
+unfolding in_table is_id_byte class
 table = refl
 
 pub returns : goal.returns
-unfolding stands runs_bytes
-returns c = rw c.from.ensures (agree_below_at stands runs_bytes 256 c.args.byte table c.ranges.byte.fits)
+unfolding in_table is_id_byte
+returns c = rw c.from.ensures (agree_below_at in_table is_id_byte 256 c.args.byte table c.ranges.byte.fits)

@@ -14,7 +14,9 @@ write_operator_word-requires g c = has_room g.O.Output.wrote c.loop-place.invari
 pub returns-then-has_failed-clause-pieces : goal.returns-then-has_failed-clause-pieces
 returns-then-has_failed-clause-pieces g c =
     after_next g.O.Output.wrote c.loop-place.invariant g.met.O.Output.pieces_then _ _ c.in-Some.ensures.steps
-    (rw c.depth-depth.ensures at c.write_next_hint.ensures.pieces) (operator_written g.O.Output.wrote g.met.O.Output.pieces_then _ _ _ _ _ _ _ _ (c.role-role.ensures ∙ ap (λ (o : Operator). role_of o.opcode) c.operator.view_is) (rw c.depth-depth.ensures at c.level-level.ensures) c.start_operator.ensures c.write_operator_word.ensures) _
+    (rw c.depth-depth.ensures at c.write_next_hint.ensures.pieces)
+    (operator_written g.O.Output.wrote g.met.O.Output.pieces_then _ _ _ _ _ _ _ _ (c.role-role.ensures ∙ ap (λ (o : Operator). role_of o.opcode) c.operator.view_is)
+    (rw c.depth-depth.ensures at c.level-level.ensures) c.start_operator.ensures c.write_operator_word.ensures) _
     (g.met.O.Output.pieces_skipped _ _ (sym c.has_failed.ensures ∙ c.if-has_failed.true))
 
 pub returns-then-has_failed-clause-named : goal.returns-then-has_failed-clause-named
@@ -39,4 +41,6 @@ pub loop-place-preserved : goal.loop-place-preserved
 loop-place-preserved g c =
     goes_on g.O.Output.wrote c.loop-place.invariant g.met.O.Output.pieces_then _ _ _ _ _ c.in-Some.ensures.steps
     (c.role-role.ensures ∙ ap (λ (o : Operator). role_of o.opcode) c.operator.view_is) c.advance.ensures c.write_next_hint.ensures.after
-    (rw c.depth-depth.ensures at c.write_next_hint.ensures.pieces) (operator_written g.O.Output.wrote g.met.O.Output.pieces_then _ _ _ _ _ _ _ _ (c.role-role.ensures ∙ ap (λ (o : Operator). role_of o.opcode) c.operator.view_is) (rw c.depth-depth.ensures at c.level-level.ensures) c.start_operator.ensures c.write_operator_word.ensures)
+    (rw c.depth-depth.ensures at c.write_next_hint.ensures.pieces)
+    (operator_written g.O.Output.wrote g.met.O.Output.pieces_then _ _ _ _ _ _ _ _ (c.role-role.ensures ∙ ap (λ (o : Operator). role_of o.opcode) c.operator.view_is)
+    (rw c.depth-depth.ensures at c.level-level.ensures) c.start_operator.ensures c.write_operator_word.ensures)

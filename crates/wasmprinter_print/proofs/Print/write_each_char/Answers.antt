@@ -2,7 +2,7 @@ use Rattle.std.proofs.Common.{◌≡◌, ℕ, List, [], ◌∷◌, length, arith
 use Rattle.std.specs.Prelude.{Result, Err}
 use Rattle.std.specs.declared.io.Error.{Error as IoError}
 use Rattle.std.proofs.lemmas.Str.{IsUtf8-past_char}
-use Rattle.wasmprinter_print.specs.EmitsLaws.{called, call_fails}
+use Rattle.wasmprinter_print.specs.MadeLaws.{called, call_fails}
 use Rattle.wasmprinter_print.proofs.Texts.{text_done, text_fails, text_whole}
 use Rattle.wasmprinter_print.proofs.Print.write_each_char.Goals as goal
 

@@ -5,11 +5,11 @@ use Rattle.wasmprinter_wasm.specs.Places.{place_view}
 use Rattle.wasmprinter_sections.proofs.Places.{with_answer, left-none, left-passed, left-answered}
 use Rattle.wasmprinter_sections.proofs.customs.write_customs.Goals as goal
 
-pub loop-entry-preserved-then-not-stands_at : goal.loop-entry-preserved-then-not-stands_at
-loop-entry-preserved-then-not-stands_at g c = λ t others w.
+pub loop-entry-preserved-then-not-comes_after : goal.loop-entry-preserved-then-not-comes_after
+loop-entry-preserved-then-not-comes_after g c = λ t others w.
     let item = c.entry-item.result in
     let step = left-passed g.O.Output.chosen.skeleton (place_view c.args.after) others c.loop-entry.entry-index c.args.customs.now item item c.loop-entry-test.true c.entry-item.is
-    (λ e. true≢false (sym (c.stands_at.ensures.1 e) ∙ c.if-not-stands_at.true)) in
+    (λ e. true≢false (sym (c.comes_after.ensures.1 e) ∙ c.if-not-comes_after.true)) in
     c.loop-entry.invariant t others (rw step w)
 
 pub loop-entry-preserved : goal.loop-entry-preserved
@@ -18,7 +18,7 @@ loop-entry-preserved g c = λ t others w.
     let item = c.entry-item.result in
     let (answer, written) = c.write_custom.ensures in
     let step = left-answered g.O.Output.chosen.skeleton (place_view c.args.after) others i c.args.customs.now item item c.loop-entry-test.true c.entry-item.is
-    answer (c.stands_at.ensures.0 c.if-not-stands_at.false) in
+    answer (c.comes_after.ensures.0 c.if-not-comes_after.false) in
     c.loop-entry.invariant t (with_answer i answer others) (rw step (g.met.O.Output.part_then _ _ _ _ _ written w))
 
 pub returns : goal.returns

@@ -1,4 +1,4 @@
-use Rattle.wasmprinter_print.specs.EmitsLaws.{does}
+use Rattle.wasmprinter_print.specs.MadeLaws.{does}
 use Rattle.wasmprinter.specs.AnsiText.{ansi_text_meaning}
 use Rattle.wasmprinter.proofs.ansi_text.AnsiTextPrint.write_each_char.Goals as goal
 

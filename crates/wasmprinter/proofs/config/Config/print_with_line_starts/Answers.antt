@@ -4,7 +4,7 @@ use Rattle.wasmprinter_writers.specs.Cuts.{lines_at_starts}
 use Rattle.wasmprinter_writers.specs.Tracked.{without_lines}
 use Rattle.wasmprinter_bytes.specs.declared.error.Error.TheVariants.{Memory}
 use Rattle.wasmprinter.specs.Lined.{HasLinesBy, LeavesStorage}
-use Rattle.wasmprinter.specs.Outcome.{HasListedTextCause, IsSoundTextRefusal, as_growth}
+use Rattle.wasmprinter.specs.Outcome.{HasListedTextCause, IsSoundTextRefusal, without_printer}
 use Rattle.wasmprinter.proofs.Outcomes.{growth_cause, growth_true}
 use Rattle.wasmprinter.proofs.TrackedLines.{told_as, handed_on_as, leaves_as, printed_leaves, printable, finished_lines, refusal_leaves}
 use Rattle.wasmprinter.proofs.config.Config.print_with_line_starts.Goals as goal
@@ -49,5 +49,5 @@ returns-in-Err-clause-left c =
     let text = string_bytes c.finish-text.result.0 in
     let begun : c.new-printer.result ≡ without_lines base = c.new-printer.ensures ∙ ap (λ s. without_lines (string_bytes s)) c.replace-text.ensures.value in
     subst (λ e. LeavesStorage c.args.self.now c.args.wasm.now e base text) (sym c.without_printer.ensures)
-    (leaves_as c.args.self.now c.args.wasm.now base text c.new-printer.result c.print-printed.new.printer begun c.finish-text.ensures.text (as_growth c.in-Err.error)
+    (leaves_as c.args.self.now c.args.wasm.now base text c.new-printer.result c.print-printed.new.printer begun c.finish-text.ensures.text (without_printer c.in-Err.error)
     (refusal_leaves c.args.self.now c.args.wasm.now c.new-printer.result c.print-printed.new.printer c.in-Err.error c.in-Err.ensures.left))

@@ -2,7 +2,7 @@ use Rattle.std.proofs.Common.{ap, ◌∙◌, codes}
 use Rattle.wasmprinter_spec.specs.Operator.{Operator}
 use Rattle.wasmprinter_spec.specs.Table.{role_of}
 use Rattle.wasmprinter_ops.specs.Shapes.{role_view}
-use Rattle.wasmprinter_flat.specs.Settings.{setting_among}
+use Rattle.wasmprinter_flat.specs.Settings.{setting_with_names}
 use Rattle.wasmprinter_fold.specs.Counted.{counts_view}
 use Rattle.wasmprinter_fold.specs.Growing.{shown_operator, shown_keyword}
 use Rattle.wasmprinter_fold.proofs.Growing.{same_step, by_role, ends_role}
@@ -12,7 +12,7 @@ pub returns-in-Plain-clause-steps : goal.returns-in-Plain-clause-steps
 returns-in-Plain-clause-steps g c =
     let color = c.args.self.now.texts.color in
     let x =
-    shown_operator color (setting_among g.S.Signatures.signature_at c.args.setting.now c.args.labels.now) c.args.labels.now
+    shown_operator color (setting_with_names g.S.Signatures.signature_at c.args.setting.now c.args.labels.now) c.args.labels.now
     c.args.place c.args.hint c.args.operator.now in
     let then = shown_keyword color c.args.place (codes "then") in
     let otherwise = shown_keyword color c.args.place (codes "else") in
@@ -24,7 +24,7 @@ pub returns-in-Opens-clause-steps : goal.returns-in-Opens-clause-steps
 returns-in-Opens-clause-steps g c =
     let color = c.args.self.now.texts.color in
     let x =
-    shown_operator color (setting_among g.S.Signatures.signature_at c.args.setting.now c.args.labels.now) c.args.labels.now
+    shown_operator color (setting_with_names g.S.Signatures.signature_at c.args.setting.now c.args.labels.now) c.args.labels.now
     c.args.place c.args.hint c.args.operator.now in
     let then = shown_keyword color c.args.place (codes "then") in
     let otherwise = shown_keyword color c.args.place (codes "else") in
@@ -36,7 +36,7 @@ pub returns-in-OpensIf-clause-steps : goal.returns-in-OpensIf-clause-steps
 returns-in-OpensIf-clause-steps g c =
     let color = c.args.self.now.texts.color in
     let x =
-    shown_operator color (setting_among g.S.Signatures.signature_at c.args.setting.now c.args.labels.now) c.args.labels.now
+    shown_operator color (setting_with_names g.S.Signatures.signature_at c.args.setting.now c.args.labels.now) c.args.labels.now
     c.args.place c.args.hint c.args.operator.now in
     let then = shown_keyword color c.args.place (codes "then") in
     let otherwise = shown_keyword color c.args.place (codes "else") in
@@ -48,7 +48,7 @@ pub returns-in-Else-clause-steps : goal.returns-in-Else-clause-steps
 returns-in-Else-clause-steps g c =
     let color = c.args.self.now.texts.color in
     let x =
-    shown_operator color (setting_among g.S.Signatures.signature_at c.args.setting.now c.args.labels.now) c.args.labels.now
+    shown_operator color (setting_with_names g.S.Signatures.signature_at c.args.setting.now c.args.labels.now) c.args.labels.now
     c.args.place c.args.hint c.args.operator.now in
     let then = shown_keyword color c.args.place (codes "then") in
     let otherwise = shown_keyword color c.args.place (codes "else") in
@@ -60,7 +60,7 @@ pub returns-in-OpensTry : goal.returns-in-OpensTry
 returns-in-OpensTry g c =
     let color = c.args.self.now.texts.color in
     let x =
-    shown_operator color (setting_among g.S.Signatures.signature_at c.args.setting.now c.args.labels.now) c.args.labels.now
+    shown_operator color (setting_with_names g.S.Signatures.signature_at c.args.setting.now c.args.labels.now) c.args.labels.now
     c.args.place c.args.hint c.args.operator.now in
     let then = shown_keyword color c.args.place (codes "then") in
     let otherwise = shown_keyword color c.args.place (codes "else") in

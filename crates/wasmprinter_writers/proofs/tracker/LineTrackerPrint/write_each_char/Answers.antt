@@ -1,4 +1,4 @@
-use Rattle.wasmprinter_print.specs.EmitsLaws.{does}
+use Rattle.wasmprinter_print.specs.MadeLaws.{does}
 use Rattle.wasmprinter_writers.specs.Tracking.{tracked_meaning}
 use Rattle.wasmprinter_writers.proofs.tracker.LineTrackerPrint.write_each_char.Goals as goal
 

@@ -1,5 +1,6 @@
 -- The calls that generic code makes for a layout: all of them, or a prefix up to a failed call or a failed
--- allocation.
+-- allocation. The order of what is passed is: meaning, state before, state after, result, calls. `Does`, `Claims`,
+-- `Succeeded`, `Failed` and `Run` take their calls between the states.
 use Rattle.std.specs.Prelude.{◌≡◌, ℕ, Bool, true, false, List, [], ◌∷◌, ◌++◌, Result, Ok, Err}
 use Rattle.std.specs.declared.io.Error.{Error as IoError}
 use Rattle.wasmprinter_spec.specs.Call.{Call, Claim, atoms}
@@ -36,7 +37,7 @@ pub record Broken {P : Type 0} (m : Meaning P) (old new : P) (error : IoError) (
   pub alike : atoms (calls ++ call ∷ []) ++ rest ≡ atoms layout
 
 -- All calls that were made succeeded. They are a prefix of the layout, up to how text is split into calls.
-pub record Begun {P : Type 0} (m : Meaning P) (old new : P) (layout : List Call) : Type 0 where
+pub record Interrupted {P : Type 0} (m : Meaning P) (old new : P) (layout : List Call) : Type 0 where
   pub calls : List Call
   pub rest : List Call
   pub run : Run m old calls new
@@ -56,9 +57,9 @@ ending (Ok x) = Through
 ending (Err e) = AtCall e
 
 -- The ending when an allocation failed. Only a function that allocates while it prints can end in this way.
-abbrev pub at_growth : Bool → Ending
-at_growth true = Stopped
-at_growth false = Never
+abbrev pub when_out_of_memory : Bool → Ending
+when_out_of_memory true = Stopped
+when_out_of_memory false = Never
 
 -- The ending of a function that returns an `Error`: it returns only errors of the printer.
 abbrev pub ending_of : Error → Ending
@@ -73,25 +74,18 @@ outcome (Err e) = ending_of e
 abbrev pub Calls : {P : Type 0} → Meaning P → P → P → Ending → List Call → Type 0
 Calls m old new Through layout = Whole m old new layout
 Calls m old new (AtCall e) layout = Broken m old new e layout
-Calls m old new Stopped layout = Begun m old new layout
+Calls m old new Stopped layout = Interrupted m old new layout
 Calls m old new Never layout = ⊥
 
--- `Calls` as a record. The lemmas use this name.
+-- `Calls` as a record, so that contracts and lemmas can refer to it by name. A function that returns a result has
+-- made the calls of the layout up to how text is split into calls, if the ending is `ending result` or `outcome
+-- result`. It then fails only if a call on the printer failed, and returns that call's error; the calls up to and
+-- including the failed one are a prefix of the layout.
 pub record Made {P : Type 0} (m : Meaning P) (old new : P) (end : Ending) (layout : List Call) : Type 0 where
   pub made : Calls m old new end layout
 
--- A function with this result has made the calls of the layout, up to how text is split into calls. It fails only
--- if a call on the printer failed, and returns that call's error. The calls up to and including the failed one are
--- then a prefix of the layout.
-abbrev pub Emits : {P T : Type 0} → Meaning P → P → P → Result T IoError → List Call → Type 0
-Emits m old new r layout = Made m old new (ending r) layout
-
--- `Emits` for a function that returns an `Error`: the error is always `Printer` with the error of the failed call.
-abbrev pub EmitsOrFails : {P T : Type 0} → Meaning P → P → P → Result T Error → List Call → Type 0
-EmitsOrFails m old new r layout = Made m old new (outcome r) layout
-
 -- The calls that were made so far, followed by those of `rest`, are the calls of `whole`.
-pub record Owes {P : Type 0} (m : Meaning P) (old new : P) (whole rest : List Call) : Type 0 where
+pub record StillToMake {P : Type 0} (m : Meaning P) (old new : P) (whole rest : List Call) : Type 0 where
   pub layout : List Call
   pub made : Made m old new Through layout
   pub alike : atoms layout ++ atoms rest ≡ atoms whole

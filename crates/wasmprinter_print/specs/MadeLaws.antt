@@ -1,11 +1,11 @@
--- Consequences of `Made` and `Owes` for any printer: how the parts of a layout combine.
+-- Consequences of `Made` and `StillToMake` for any printer: how the parts of a layout combine.
 use Rattle.std.specs.Prelude.{◌≡◌, ℕ, List, [], ◌∷◌, ◌++◌, Result, Ok, Err, IsErrAnd}
 use Rattle.std.proofs.Common.{refl, sym, ap, ap₂, ◌∙◌, subst, append_assoc, append-nil}
 use Rattle.std.proofs.lemmas.List.{map-append}
 use Rattle.std.specs.declared.io.Error.{Error as IoError}
 use Rattle.wasmprinter_spec.specs.Call.{Call, Text, calls_of_bytes, atoms}
 use Rattle.wasmprinter_spec.specs.Meaning.{Meaning, Run, Succeeded, Failed}
-use Rattle.wasmprinter_print.specs.Emits.{Does, Emits, Made, Owes, Calls, Ending, Through, AtCall, Stopped, Never, Whole, Broken, Begun}
+use Rattle.wasmprinter_print.specs.Made.{Does, Made, StillToMake, Calls, Ending, Through, AtCall, Stopped, Never, Whole, Broken, Interrupted, ending}
 
 -- The atoms of two concatenated lists of calls are the atoms of the first followed by those of the second.
 pub atoms-append : (k l : List Call) → atoms (k ++ l) ≡ atoms k ++ atoms l
@@ -74,8 +74,8 @@ broken_longer m a t e l k v = record {
   alike = longer (v.calls ++ v.call ∷ []) l k v.rest v.alike;
 }
 
-pub begun_longer : {P : Type 0} (m : Meaning P) (a t : P) (l k : List Call) → Begun m a t l → Begun m a t (l ++ k)
-begun_longer m a t l k v = record {
+pub interrupted_longer : {P : Type 0} (m : Meaning P) (a t : P) (l k : List Call) → Interrupted m a t l → Interrupted m a t (l ++ k)
+interrupted_longer m a t l k v = record {
   calls = v.calls;
   rest = v.rest ++ atoms k;
   run = v.run;
@@ -84,7 +84,7 @@ begun_longer m a t l k v = record {
 
 -- If a call of `l` failed and the function returned its error, then the function has made a prefix of `l ++ k`.
 pub ends : {P U : Type 0} (m : Meaning P) {a t : P} (r : Result U IoError) {e : IoError} {l : List Call} (k : List Call) →
-    IsErrAnd r (λ y. y ≡ e) → Made m a t (AtCall e) l → Emits m a t r (l ++ k)
+    IsErrAnd r (λ y. y ≡ e) → Made m a t (AtCall e) l → Made m a t (ending r) (l ++ k)
 ends m (Ok x) k f v = absurd f
 ends m {a} {t} (Err y) {e} {l} k f v =
     record { made = broken_longer m a t y l k (subst (λ z. Broken m a t z l) (sym f) v.made) }
@@ -96,7 +96,7 @@ called m {a} {t} {c} s =
 
 -- A call that failed is a failed layout of one call.
 pub call_fails : {P U : Type 0} (m : Meaning P) {a t : P} (r : Result U IoError) (e : IoError) {c : Call} →
-    IsErrAnd r (λ y. y ≡ e) → Failed m a c e t → Emits m a t r (c ∷ [])
+    IsErrAnd r (λ y. y ≡ e) → Failed m a c e t → Made m a t (ending r) (c ∷ [])
 call_fails m (Ok x) e f v = absurd f
 call_fails m {a} {t} (Err y) e {c} f v = record {
   made = record {
@@ -111,7 +111,7 @@ call_fails m {a} {t} (Err y) e {c} f v = record {
 }
 
 -- A call with its result is a layout of one call.
-pub does : {P : Type 0} (m : Meaning P) {a t : P} (r : Result (Unit {0}) IoError) (c : Call) → Does m a c t r → Emits m a t r (c ∷ [])
+pub does : {P : Type 0} (m : Meaning P) {a t : P} (r : Result (Unit {0}) IoError) (c : Call) → Does m a c t r → Made m a t (ending r) (c ∷ [])
 does m (Ok x) c v = called m v
 does m (Err e) c v = call_fails {U = Unit {0}} m (Err e) e refl v
 
@@ -136,13 +136,13 @@ pub alike : {P : Type 0} (m : Meaning P) {a t : P} {r : Ending} {l : List Call} 
 alike m {a} {t} {r} {l} k e v = record { made = alike_calls m a t r l k e v.made }
 
 -- If no call of `whole` is left, then all of it was made.
-pub owes_none : {P : Type 0} (m : Meaning P) {a t : P} (whole : List Call) → Owes m a t whole [] → Made m a t Through whole
-owes_none m whole o = alike m whole (sym (append-nil (atoms o.layout)) ∙ o.alike) o.made
+pub rest_none : {P : Type 0} (m : Meaning P) {a t : P} (whole : List Call) → StillToMake m a t whole [] → Made m a t Through whole
+rest_none m whole o = alike m whole (sym (append-nil (atoms o.layout)) ∙ o.alike) o.made
 
 -- If the next calls that are left were made, then only the calls after them are left.
-pub pays : {P : Type 0} (m : Meaning P) {a s t : P} {whole l k : List Call} →
-    Owes m a s whole (l ++ k) → Made m s t Through l → Owes m a t whole k
-pays m {l = l} {k} o v = record {
+pub makes_next : {P : Type 0} (m : Meaning P) {a s t : P} {whole l k : List Call} →
+    StillToMake m a s whole (l ++ k) → Made m s t Through l → StillToMake m a t whole k
+makes_next m {l = l} {k} o v = record {
   layout = o.layout ++ l;
   made = then m o.made v;
   alike =
@@ -151,14 +151,14 @@ pays m {l = l} {k} o v = record {
 }
 
 -- The text in the calls that are left may be split in another way.
-pub owes_alike : {P : Type 0} (m : Meaning P) {a s : P} {whole l : List Call} (k : List Call) →
-    atoms l ≡ atoms k → Owes m a s whole l → Owes m a s whole k
-owes_alike m k e o = record { layout = o.layout; made = o.made; alike = ap (λ x. atoms o.layout ++ x) (sym e) ∙ o.alike }
+pub rest_alike : {P : Type 0} (m : Meaning P) {a s : P} {whole l : List Call} (k : List Call) →
+    atoms l ≡ atoms k → StillToMake m a s whole l → StillToMake m a s whole k
+rest_alike m k e o = record { layout = o.layout; made = o.made; alike = ap (λ x. atoms o.layout ++ x) (sym e) ∙ o.alike }
 
 -- If the calls that are left were made with some ending, then `whole` was made with that ending.
-pub settles : {P : Type 0} (m : Meaning P) {a s t : P} {r : Ending} {whole k : List Call} →
-    Owes m a s whole k → Made m s t r k → Made m a t r whole
-settles m {whole = whole} {k} o v = alike m whole (atoms-append o.layout k ∙ o.alike) (then m o.made v)
+pub makes_rest : {P : Type 0} (m : Meaning P) {a s t : P} {r : Ending} {whole k : List Call} →
+    StillToMake m a s whole k → Made m s t r k → Made m a t r whole
+makes_rest m {whole = whole} {k} o v = alike m whole (atoms-append o.layout k ∙ o.alike) (then m o.made v)
 
 -- A text in two calls has the same atoms as the same text in one call.
 pub atoms-text : (x y : List ℕ) (k : List Call) → atoms (Text x ∷ Text y ∷ k) ≡ atoms (Text (x ++ y) ∷ k)

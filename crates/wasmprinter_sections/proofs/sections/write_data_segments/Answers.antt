@@ -1,7 +1,7 @@
 use Rattle.std.proofs.Common.{ap}
 use Rattle.wasmprinter_spec.specs.Layout.Declarations.{Scope, scope_of_function}
 use Rattle.wasmprinter_spec.specs.Layout.DataSegments.{data_pieces}
-use Rattle.wasmprinter_sections.proofs.sections.write_datas.Goals as goal
+use Rattle.wasmprinter_sections.proofs.sections.write_data_segments.Goals as goal
 
 pub returns-clause-pieces : goal.returns-clause-pieces
 unfolding data_pieces

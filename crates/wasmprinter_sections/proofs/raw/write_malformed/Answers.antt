@@ -1,11 +1,11 @@
 use Rattle.std.specs.Prelude.{◌≡◌}
 use Rattle.std.proofs.Common.{ap}
 use Rattle.wasmprinter_spec.specs.Placed.{CustomEntry}
-use Rattle.wasmprinter_spec.specs.Layout.Customs.{faulted_pieces}
-use Rattle.wasmprinter_sections.proofs.raw.write_faulted.Goals as goal
+use Rattle.wasmprinter_spec.specs.Layout.Customs.{malformed_pieces}
+use Rattle.wasmprinter_sections.proofs.raw.write_malformed.Goals as goal
 
 pub returns : goal.returns
-unfolding faulted_pieces
+unfolding malformed_pieces
 returns g c =
     let law = g.met.O.Output in
     let same : c.entry.inside.section ≡ c.args.entry.now.section = ap (λ (e : CustomEntry). e.section) c.entry.view_is in
