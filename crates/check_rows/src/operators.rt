@@ -82,8 +82,8 @@ fn node_in(words: &str) -> Option<Node<'_>> {
     })
 }
 
-/// Returns a number that orders opcodes, for the one with which these bytes begin: 2^14 times its byte, or times its
-/// prefix, plus its number, which is below 2^14. Returns 0 if there are no bytes.
+/// Returns a number by which opcodes are in order, for the opcode at the start of these bytes: 2^14 times its first
+/// byte, plus the number after a prefix, which is below 2^14. Returns 0 if there are no bytes.
 fn opcode_of(operator: &[u8]) -> u32 {
     let byte = |index: usize| operator.get(index).map_or(0, |byte| u32::from(*byte));
     let prefix = byte(0) << 14;

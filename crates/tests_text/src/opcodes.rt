@@ -74,15 +74,15 @@ const RESERVED: &[(u8, u32, u32)] = &[
 /// after FB and FC up to 63, after FD up to 511, and after FE up to 7F.
 const NUMBERS: &[Code] = &[(0, 0xfb), (0xfb, 64), (0xfc, 64), (0xfd, 512), (0xfe, 0x80)];
 
-/// The number of operators, without those that open, divide and close blocks. `operators_flat.txt` has as many rows,
-/// each with another opcode.
+/// The number of operators, without those that open, divide and close blocks. `operators_flat.txt` has this
+/// number of rows, each with another opcode.
 const LISTED: u32 = 565;
 
 /// Zeros, which can be read as immediates of any shape, or as operators.
 const ZEROS: &[u8] = &[0x00; 20];
 
-/// Reports whether an opcode followed by zeros is refused, both with one `end` after them and with two, which an opcode
-/// needs that opens a block.
+/// Reports whether an opcode followed by zeros is refused, with one `end` after them and also with two. An opcode that
+/// opens a block needs two.
 fn is_refused(alloc: Global, prefix: u8, number: u32) -> Result<bool, AllocError> {
     let mut bytes = opcode(alloc, prefix, number)?;
     bytes.extend_from_slice(ZEROS)?;

@@ -138,8 +138,8 @@ impl Config {
     /// - `Printer`: a call on the printer failed. It holds the error of that call.
     pub fn print<P: Print>(&self, alloc: Global, wasm: &[u8], printer: &mut P) -> Result<(), Error>
         ensures printed { OnOk result (Printed P.meaning (P.colors printer.old) self.now wasm.now printer.old printer.new) }
-        // If the bytes encode a module, the error has a listed cause. `refused`: whatever the bytes are, it is true
-        // of them.
+        // `caused`: if the bytes encode a module, the error has a listed cause. `refused`: the error is true of the
+        // bytes, whether they encode a module or not.
         ensures caused { IfErr result (HasListedCause P.meaning self.now wasm.now printer.old printer.new) }
         ensures refused { IfErr result (IsSoundRefusal self.now wasm.now) }
         ensures left { IfErr result (Leaves P.meaning (P.colors printer.old) self.now wasm.now printer.old printer.new) }
@@ -164,8 +164,8 @@ impl Config {
     /// text can't grow.
     pub fn print_to_string(&self, alloc: Global, wasm: &[u8]) -> Result<String, Error>
         ensures printed { IfOk result (λ text. IsTextOf self.now wasm.now (string_bytes text)) }
-        // If the bytes encode a module, the error has a listed cause. `refused`: whatever the bytes are, it is true
-        // of them.
+        // `caused`: if the bytes encode a module, the error has a listed cause. `refused`: the error is true of the
+        // bytes, whether they encode a module or not.
         ensures caused { IfErr result (HasListedTextCause self.now wasm.now) }
         ensures refused { IfErr result (IsSoundTextRefusal self.now wasm.now) }
         ensures component { IsErrOf result Error.Component ↔ IsComponent wasm.now }

@@ -39,8 +39,8 @@ impl Config {
         ensures lines { IfOk result (λ starts.
             HasLinesAt self.now wasm.now (string_bytes storage.old) (string_bytes storage.new) starts.items) }
         ensures cuttable { IfOk result (λ starts. IsCuttable starts.items (string_bytes storage.new)) }
-        // If the bytes encode a module, the error has a listed cause. `refused`: whatever the bytes are, it is true
-        // of them.
+        // `caused`: if the bytes encode a module, the error has a listed cause. `refused`: the error is true of the
+        // bytes, whether they encode a module or not.
         ensures caused { IfErr result (HasListedTextCause self.now wasm.now) }
         ensures refused { IfErr result (IsSoundTextRefusal self.now wasm.now) }
         ensures component { IsErrOf result Error.Component ↔ IsComponent wasm.now }
@@ -75,8 +75,8 @@ impl Config {
         storage: &'a mut String,
     ) -> Result<OffsetsAndLines<'a>, Error>
         ensures lines { IfOk result (λ it. HasLinesBy self.now wasm.now (string_bytes storage.old) it.storage it.lines) }
-        // If the bytes encode a module, the error has a listed cause. `refused`: whatever the bytes are, it is true
-        // of them.
+        // `caused`: if the bytes encode a module, the error has a listed cause. `refused`: the error is true of the
+        // bytes, whether they encode a module or not.
         ensures caused { IfErr result (HasListedTextCause self.now wasm.now) }
         ensures refused { IfErr result (IsSoundTextRefusal self.now wasm.now) }
         ensures component { IsErrOf result Error.Component ↔ IsComponent wasm.now }

@@ -77,10 +77,9 @@ Calls m old new (AtCall e) layout = Broken m old new e layout
 Calls m old new Stopped layout = Interrupted m old new layout
 Calls m old new Never layout = ⊥
 
--- `Calls` as a record, so that contracts and lemmas can refer to it by name. A function that returns a result has
--- made the calls of the layout up to how text is split into calls, if the ending is `ending result` or `outcome
--- result`. It then fails only if a call on the printer failed, and returns that call's error; the calls up to and
--- including the failed one are a prefix of the layout.
+-- `Calls` as a record, so that contracts and lemmas can refer to it by name. A function that returns a result has the
+-- ending `ending result` or `outcome result`. After `Ok`, it has made all calls of the layout, up to how text is split into
+-- calls. After an error, a call failed with this error, and the calls up to and including this one are a prefix.
 pub record Made {P : Type 0} (m : Meaning P) (old new : P) (end : Ending) (layout : List Call) : Type 0 where
   pub made : Calls m old new end layout
 

@@ -20,13 +20,15 @@ pub trait Output {
     /// The options that were chosen for the layout.
     ghost chosen: { Options };
 
-    /// If an error was recorded before, no call was made. Otherwise these calls were made, up to the first that failed.
+    /// These calls were made, up to the first error: a failed call, memory that ran out, or a refusal. If an error was
+    /// recorded before, no call was made.
     ghost called: { Self → Self → List Call → Type 0 };
 
-    /// The calls of these pieces were made, as `called` says.
+    /// The calls of these pieces were made, up to the first error in the same way.
     ghost wrote: { Self → Self → List Piece → Type 0 };
 
-    /// The calls of these parts of a module were made, as `called` says.
+    /// The calls of these parts of a module were made, up to the first error in the same way, or up to a part at which
+    /// the layout ends.
     ghost laid: { Self → Self → List Part → Type 0 };
 
     /// An error has occurred.
@@ -170,8 +172,8 @@ pub trait Output {
 /// The output of layout code that may fold operators. Other layout code is generic over [`Output`] alone, so it can't
 /// record that memory ran out.
 pub trait FoldingOutput: Output {
-    /// Records that an allocation failed while operators are folded. No call follows, so the contract holds for any
-    /// list of pieces.
+    /// Records that an allocation failed while operators are folded. It makes no call. An empty list of calls is a
+    /// prefix of the calls of any pieces, so the contract holds for each list of pieces.
     fn run_out_of_memory(&mut self)
         requires { Self.chosen.folds ≡ true }
         ensures { (xs : List Piece) → Self.wrote self.old self.new xs };

@@ -12,11 +12,11 @@ pub trait WriteColor: Write {
     /// text without colors.
     ghost sets_color: { Coloring Self };
 
-    /// Whether such calls have an effect: what `supports_color` returns.
+    /// Whether a chosen look has an effect. `supports_color` returns it.
     ghost is_colored: { Self → Bool };
 
-    /// Whether such calls take effect on a console immediately, so that they cannot be written as text: what
-    /// `is_synchronous` returns.
+    /// Whether a chosen look takes effect on a console immediately, so that it cannot be written as text.
+    /// `is_synchronous` returns it.
     ghost is_immediate: { Self → Bool };
 
     /// Reports whether the writer shows colors.

@@ -141,7 +141,7 @@ subsections_pieces (s ∷ ss) = content_pieces s.place s.value ++ subsections_pi
 
 -- ---- Each section
 
--- Pieces that are printed; or pieces at which the layout ends, with the unknown id of the section that is refused.
+-- Pieces that are printed; or pieces after which the layout ends, with the unknown id for which a section is refused.
 pub data Part : Type 0 where
   Shown : List Piece → Part
   Stops : List Piece → ℕ → Part
