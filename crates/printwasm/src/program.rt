@@ -109,8 +109,8 @@ fn words_of<I: Iterator<Item = String>>(
     Ok(args?.skip(1).collect(alloc)?)
 }
 
-/// Prints the module in the file that the arguments name, and returns the exit status. `words` does not contain
-/// the program's name.
+/// Prints the module in the file that the arguments name, and returns the exit status: 0 if the text was written, 1
+/// after an error, 2 if the arguments are wrong. `words` does not contain the program's name.
 ///
 /// Nothing is written to `out` before the text is complete. After an error, one line is written to `err`.
 pub fn run<S: Source, R: Render<Error>, O: Sink, E: Sink>(

@@ -142,6 +142,7 @@ impl Config {
         // bytes, whether they encode a module or not.
         ensures caused { IfErr result (HasListedCause P.meaning self.now wasm.now printer.old printer.new) }
         ensures refused { IfErr result (IsSoundRefusal self.now wasm.now) }
+        // The state of the printer after the error.
         ensures left { IfErr result (Leaves P.meaning (P.colors printer.old) self.now wasm.now printer.old printer.new) }
         ensures component { IsErrOf result Error.Component ↔ IsComponent wasm.now }
     {

@@ -42,7 +42,7 @@ reader_reasons nothing grows at = record {
 -- `Takes view parse Grows old result new`: if `result` is `Ok x`, `parse` at the position `old` gives `view x` and
 -- the position `new`. If it is `Malformed`, `parse` gives nothing, and the place is not after the end of the bytes.
 -- If it is `Memory`, `Grows old` holds. No other error occurs. This is `Decodes`, without `end`, for a reader that
--- may allocate.
+-- may allocate. The place of an error is only bounded here; tests check it.
 abbrev pub Takes : {X A : Type 0} → (X → A) → (Input → Option (A × Input)) → (Input → Type 0) → Input → Result X Error → Input → Type 0
 Takes view parse Grows old (Ok x) new = parse old ≡ Some (view x, new)
 Takes view parse Grows old (Err e) new = HasReason (reader_reasons (parse old ≡ None) (Grows old) old) e

@@ -58,6 +58,8 @@ impl<'m, 'a> Folder<'m, 'a> {
     /// a constant expression, `None` if the function's type is unknown. `labels` is first reset to the start of the
     /// function, so its earlier use does not matter. Its identifiers are those passed to `OpenLabels::new`.
     ///
+    /// The options of `out` must ask for folding.
+    ///
     /// Writes nothing if the list has an operator of legacy exception handling, which cannot be folded. If an
     /// allocation fails, records in `out` that memory ran out.
     pub fn write<O: FoldingOutput, S: Signatures>(

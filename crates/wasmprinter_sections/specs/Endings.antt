@@ -32,9 +32,9 @@ abbrev pub AgreesWithRefusal : {T : Type 0} → Result T Error → Option ℕ �
 AgreesWithRefusal (Ok x) refused = refused ≡ None
 AgreesWithRefusal (Err e) refused = ErrorAgreesWithRefusal e refused
 
--- The calls that were made are those of the layout. They are a prefix if a call failed, whose error is then
--- returned, or if an allocation failed while operators were folded. A refusal, if there is one, is returned after all
--- calls. Nothing else is returned as an error.
+-- The calls that were made are those of the layout, up to how text is split into calls. They are a prefix if a call
+-- failed, whose error is then returned, or if an allocation failed while operators were folded. A refusal (an unknown
+-- subsection of `dylink.0`), if there is one, is returned after all calls. Nothing else is returned as an error.
 pub record PrintsLaid {P T : Type 0} (m : Meaning P) (o : Options) (old new : P) (r : Result T Error) (l : Laid) : Type 0 where
   pub made : Made m old new (ending_by o.folds r) (all_calls o l.pieces)
   pub refused : AgreesWithRefusal r l.refused

@@ -68,7 +68,7 @@ fn print_by<'s, 'a, P: Print, K: Chosen>(
 /// - `DylinkSubsection`: a custom section `dylink.0` that the printer does not claim has an unknown subsection.
 ///   All text before that section was written.
 /// - `Printer`: a call on the printer failed. It holds the error of that call.
-/// - `Memory`, only if operators are folded: an allocation failed.
+/// - `Memory`, only if operators are folded: an allocation failed. A prefix of the text was written.
 pub fn print_module<'s, 'a, P: Print>(
     alloc: Global,
     p: &mut P,

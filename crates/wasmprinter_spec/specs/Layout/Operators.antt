@@ -222,8 +222,8 @@ abbrev pub hint_pieces : ℕ → Option (Placed Hint) → List Piece
 hint_pieces nesting None = []
 hint_pieces nesting (Some h) = Break (Some h.place) nesting ∷ (HintAnnotation h.value.taken ∷ [])
 
--- A list of operators. n blocks were opened before it, the labels `xs` are open, and the hints `hs` are not yet
--- printed. `first` says whether the first of these operators is the first of the whole list.
+-- A list of operators. The hints `hs` are not yet printed, `first` says whether the first of these operators is the
+-- first of the whole list, n blocks were opened before it, and the labels `xs` are open.
 unfoldable pub operators_pieces : Setting → List (Placed Hint) → Bool → ℕ → List labels.Label → List (Placed Operator) → List Piece
 operators_pieces s hs first n xs [] = []
 operators_pieces s hs first n xs (o ∷ os) =
