@@ -3,6 +3,16 @@
 use std::alloc::{AllocError, Global};
 use wasmprinter::{Config, Error, OffsetsAndLines};
 
+/// An error that a row describes.
+#[derive(Drop)]
+struct TypedError<'a> {
+    name: &'a str,
+    /// The place, the count or the id of the error, or 0
+    detail: u64,
+    /// The description of the error, if the row has it
+    description: Option<&'a str>,
+}
+
 /// The expected result of printing a module.
 #[derive(Drop)]
 enum Expected<'a> {
@@ -10,10 +20,8 @@ enum Expected<'a> {
     Missing,
     /// The text of the row
     Text,
-    /// The error with this description
-    Error(&'a str),
-    /// A malformed module, at a byte offset within the module or at its end
-    Malformed,
+    /// This error
+    Error(TypedError<'a>),
 }
 
 /// A module, options, and the expected text or error.
@@ -57,11 +65,58 @@ fn split_line(line: &str) -> Option<(Option<u64>, &str)> {
     Some((Some(hexadecimal(place)?), text))
 }
 
-/// Returns the description of an error, which follows its name and its detail.
-fn description_in(words: &str) -> Option<&str> {
-    let (_name, words) = words.split_once(' ')?;
-    let (_detail, description) = words.split_once(' ')?;
-    Some(description)
+/// Returns the number that is written in decimal or, after `0x`, in hexadecimal.
+fn number(word: &str) -> Option<u64> {
+    match word.strip_prefix("0x") {
+        Some(digits) => hexadecimal(digits),
+        None => word.parse::<u64>().ok(),
+    }
+}
+
+/// Returns the error with this name and detail, and with the description that may follow them. Returns `None` if the
+/// words have another form.
+fn typed_error(words: &str) -> Option<TypedError<'_>> {
+    let (name, words) = words.split_once(' ')?;
+    let (detail, description) = match words.split_once(' ') {
+        Some((detail, description)) => (detail, Some(description)),
+        None => (words, None),
+    };
+    Some(TypedError {
+        name,
+        detail: number(detail)?,
+        description,
+    })
+}
+
+/// Returns the name of an error, and its detail: its place, count or id, or 0.
+fn name_and_detail(error: &Error) -> (&'static str, u64) {
+    match error {
+        Error::Malformed { place } => ("Malformed", *place),
+        Error::Component => ("Component", 0),
+        Error::TooManyLocals { place } => ("TooManyLocals", *place),
+        Error::TooManyFunctions { count } => ("TooManyFunctions", u64::from(*count)),
+        Error::EmptyTableInit { place } => ("EmptyTableInit", *place),
+        Error::FoldLegacy { place } => ("FoldLegacy", *place),
+        Error::FoldHint { place } => ("FoldHint", *place),
+        Error::DylinkSubsection { id } => ("DylinkSubsection", u64::from(*id)),
+        Error::Unreadable => ("Unreadable", 0),
+        Error::Printer(_) => ("Printer", 0),
+        Error::Memory => ("Memory", 0),
+    }
+}
+
+impl TypedError<'_> {
+    /// Reports whether the error has this name, detail and description.
+    fn is(&self, alloc: Global, error: &Error) -> Result<bool, Error> {
+        let (name, detail) = name_and_detail(error);
+        if name != self.name || detail != self.detail {
+            return Ok(false);
+        }
+        match self.description {
+            Some(description) => Ok(format!(in alloc; "{error}")?.as_str() == description),
+            None => Ok(true),
+        }
+    }
 }
 
 /// Reports whether the lines have these places and are those of this text, in order.
@@ -187,18 +242,14 @@ impl<'a> Row<'a> {
     }
 
     /// Expects an error. Reports whether nothing was expected before, and the words are the name of an error, its
-    /// detail and its description, or only `Malformed`.
+    /// detail and perhaps its description.
     fn expect_error(&mut self, words: &'a str) -> bool {
         if !matches!(self.expected, Expected::Missing) {
             return false;
         }
-        if words == "Malformed" {
-            self.expected = Expected::Malformed;
-            return true;
-        }
-        match description_in(words) {
-            Some(description) => {
-                self.expected = Expected::Error(description);
+        match typed_error(words) {
+            Some(error) => {
+                self.expected = Expected::Error(error);
                 true
             }
             None => false,
@@ -252,12 +303,9 @@ impl<'a> Row<'a> {
             &self.expected,
         ) {
             (Ok(text), Expected::Text) => Ok(text == self.text && self.are_places(alloc)?),
-            (Err(Error::Malformed { place }), Expected::Malformed) => {
-                Ok(place <= self.wasm.len() as u64)
-            }
-            (Err(error), Expected::Error(description)) => {
-                Ok(format!(in alloc; "{error}")?.as_str() == *description)
-            }
+            // A place is at most the length of the module, whatever was typed.
+            (Err(Error::Malformed { place }), _) if place > self.wasm.len() as u64 => Ok(false),
+            (Err(error), Expected::Error(typed)) => typed.is(alloc, &error),
             _ => Ok(false),
         }
     }
