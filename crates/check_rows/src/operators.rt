@@ -1,6 +1,6 @@
 //! Rows of a single operator, each in one line of a file: the operator alone in a function, or folded. A folded
-//! operator follows six constants and precedes an operator that takes one operand. So its node shows its operand
-//! count, and whether it has no results, one or several.
+//! operator follows eight constants and precedes `select`, which takes three operands. So the text shows both counts:
+//! the operator takes as many constants as it has operands, and `select` takes its results and further constants.
 
 use crate::row::{Row, push_bytes};
 use std::alloc::{AllocError, Global};
@@ -34,7 +34,7 @@ const BEFORE_NODE: Parts = &[
     Section(TAG, &[0x01, 0x00, 0x04]),
 ];
 
-/// The text before the body of a module with a folded operator.
+/// The text before the body of a module with a folded operator, without the line feed at its end.
 const NODE_HEADER: &str = r#"(module
   (type (;0;) (func (result i32 i32)))
   (type (;1;) (func (param i32 i32) (result i32)))
@@ -43,24 +43,30 @@ const NODE_HEADER: &str = r#"(module
   (type (;4;) (func (param i32)))
   (import "" "" (func (;0;) (type 1) (param i32 i32) (result i32)))
   (tag (;0;) (type 4) (param i32))
-  (func (;1;) (type 0) (result i32 i32)
-"#;
+  (func (;1;) (type 0) (result i32 i32)"#;
 
-/// The text after the body.
-const FOOTER: &str = "  )\n)\n";
+/// The text after the body, with the line feed that ends the body.
+const FOOTER: &str = "\n  )\n)\n";
 
 /// The first prefix: an opcode that begins with this byte or a greater one also has a number.
 const FIRST_PREFIX: u32 = 0xfb;
 
 /// The number of constants before a folded operator.
-const CONSTANTS: u32 = 6;
+const CONSTANTS: u32 = 8;
 
 /// The bytes of these constants, `i32.const 0` each.
-const SIX: &[u8] = &[
-    0x41, 0x00, 0x41, 0x00, 0x41, 0x00, 0x41, 0x00, 0x41, 0x00, 0x41, 0x00,
+const EIGHT: &[u8] = &[
+    0x41, 0x00, 0x41, 0x00, 0x41, 0x00, 0x41, 0x00, 0x41, 0x00, 0x41, 0x00, 0x41, 0x00, 0x41, 0x00,
 ];
 
-/// A folded operator: its operand and result counts, its bytes as hexadecimal digits, and its text.
+/// The opcode of `select`, the operator after a folded operator.
+const SELECT: u8 = 0x1b;
+
+/// The operand count of `select`.
+const SELECT_OPERANDS: u32 = 3;
+
+/// A folded operator: its operand and result counts, its bytes as hexadecimal digits, and its text. It has at most
+/// five operands and three results.
 #[derive(Drop)]
 struct Node<'a> {
     operands: u32,
@@ -116,59 +122,36 @@ fn operator_row<'a>(
         "(module\n  (type (;0;) (func))\n  (func (;0;) (type 0)\n    ",
     )?;
     text.push_str(line)?;
-    text.push('\n')?;
     text.push_str(FOOTER)?;
     let mut row = Row::with_text(alloc, title, Config::new(), wasm, text);
     row.set_opcode(opcode_of(&operators));
     Ok(Some(row))
 }
 
-/// Adds `count` constants, each on a line of its own.
-fn add_constants(text: &mut String, count: u32) -> Result<(), AllocError> {
+/// Adds `count` constants, each on a line of its own after this indent.
+fn add_constants(text: &mut String, indent: &str, count: u32) -> Result<(), AllocError> {
     for _ in 0..count {
-        text.push_str("    (i32.const 0)\n")?;
+        text.push('\n')?;
+        text.push_str(indent)?;
+        text.push_str("(i32.const 0)")?;
     }
     Ok(())
 }
 
-/// Adds an operator with its operands, at this indent.
-fn add_node(text: &mut String, indent: &str, node: &Node<'_>) -> Result<(), AllocError> {
-    text.push_str(indent)?;
-    text.push('(')?;
-    text.push_str(node.text)?;
-    for _ in 0..node.operands {
-        text.push('\n')?;
-        text.push_str(indent)?;
-        text.push_str("  (i32.const 0)")?;
-    }
-    text.push(')')
-}
-
-/// Adds the lines of the body with a folded operator.
+/// Adds the lines of the body with a folded operator, each after a line feed. `select` takes as operands the operator's
+/// results and, for the others, the constants before its node.
 fn add_body(text: &mut String, node: &Node<'_>) -> Result<(), AllocError> {
-    let left = CONSTANTS.saturating_sub(node.operands);
-    match node.results {
-        // `i32.eqz` takes the last remaining constant, and with it the operator after that constant.
-        0 => {
-            add_constants(text, left.saturating_sub(1))?;
-            text.push_str("    (i32.eqz\n      (i32.const 0)\n")?;
-            add_node(text, "      ", node)?;
-            text.push_str(")\n")
-        }
-        // `i32.eqz` takes the only result.
-        1 => {
-            add_constants(text, left)?;
-            text.push_str("    (i32.eqz\n")?;
-            add_node(text, "      ", node)?;
-            text.push_str(")\n")
-        }
-        // `i32.eqz` cannot take one of several results.
-        _ => {
-            add_constants(text, left)?;
-            add_node(text, "    ", node)?;
-            text.push_str("\n    (i32.eqz)\n")
-        }
-    }
+    let beside = SELECT_OPERANDS.saturating_sub(node.results);
+    let left = CONSTANTS
+        .saturating_sub(node.operands)
+        .saturating_sub(beside);
+    add_constants(text, "    ", left)?;
+    text.push_str("\n    (select")?;
+    add_constants(text, "      ", beside)?;
+    text.push_str("\n      (")?;
+    text.push_str(node.text)?;
+    add_constants(text, "        ", node.operands)?;
+    text.push_str("))")
 }
 
 /// Returns the row of a folded operator, or `None` if the words are not its counts, its bytes and its text.
@@ -176,11 +159,11 @@ fn node_row<'a>(alloc: Global, title: &'a str, words: &str) -> Result<Option<Row
     let Some(node) = node_in(words) else {
         return Ok(None);
     };
-    let mut operators = Vec::from_slice(alloc, SIX)?;
+    let mut operators = Vec::from_slice(alloc, EIGHT)?;
     if !push_bytes(&mut operators, node.digits)? {
         return Ok(None);
     }
-    operators.push(0x45)?;
+    operators.push(SELECT)?;
     let mut wasm = build(alloc, BEFORE_NODE)?;
     add_parts(alloc, &mut wasm, &[Body(&operators)])?;
     let mut text = String::from_str(alloc, NODE_HEADER)?;
