@@ -469,23 +469,39 @@ fn reports_that_the_text_could_not_be_written(rt: HostRuntime) -> Result<(), Fai
     Ok(())
 }
 
-/// Returns whether the program with these words ends with this status and prints nothing, although the sink for
-/// its reports has only this much room.
-fn keeps_status(rt: &HostRuntime, words: &[&str], room: usize, status: u8) -> Result<bool, Fail> {
+/// Returns whether the program with these words ends with this status and prints nothing, and fills a sink of this
+/// size with a prefix of its report.
+fn keeps_status(
+    rt: &HostRuntime,
+    words: &[&str],
+    status: u8,
+    report: &str,
+    room: usize,
+) -> Result<bool, Fail> {
     let mut out = Vec::new(rt.alloc());
     let mut err = Narrow::new(rt, room);
     let answer = run_into(rt, words, &mut out, &mut err)?;
-    Ok(answer == status && out.is_empty() && err.taken.len() == room)
+    Ok(
+        answer == status
+            && out.is_empty()
+            && err.taken.len() == room
+            && report.as_bytes().starts_with(&err.taken),
+    )
 }
 
-/// Words for which nothing is printed, with the exit status.
-const UNMET: &[(Words, u8)] = &[(&["no such file"], 1), (&[], 2)];
+/// Words for which nothing is printed, with the exit status and the report.
+type Unmet = (Words, u8, &'static str);
+
+/// Words of each kind.
+const UNMET: &[Unmet] = &[(&["no such file"], 1, UNREADABLE), (&[], 2, USAGE)];
 
 /// Returns the first words with which the program does not keep its status for a sink that is full from the start
-/// or after five bytes, or `None` if there are no such words.
-fn first_other_status(rt: &HostRuntime, rows: &[(Words, u8)]) -> Result<Option<Words>, Fail> {
-    for (words, status) in rows {
-        if !keeps_status(rt, words, 0, *status)? || !keeps_status(rt, words, 5, *status)? {
+/// or after five bytes, or does not fill it with its report. Returns `None` if there are no such words.
+fn first_other_status(rt: &HostRuntime, rows: &[Unmet]) -> Result<Option<Words>, Fail> {
+    for (words, status, report) in rows {
+        if !keeps_status(rt, words, *status, report, 0)?
+            || !keeps_status(rt, words, *status, report, 5)?
+        {
             return Ok(Some(*words));
         }
     }
