@@ -106,8 +106,8 @@ const ROWS: &[Row] = &[
     ),
 ];
 
-/// Reports whether appending the lines of a module is refused for this reason, and the earlier contents of the
-/// storage remain.
+/// Reports whether appending the lines of a module is refused for this reason, and the storage is unchanged: what can't
+/// be folded is refused before any of the text is appended.
 fn are_lines_refused(
     alloc: Global,
     config: &Config,
@@ -116,7 +116,7 @@ fn are_lines_refused(
 ) -> Result<bool, AllocError> {
     let mut storage = String::from_str(alloc, "old")?;
     let error = config.offsets_and_lines(alloc, wasm, &mut storage).err();
-    Ok(refusal.is(error) && storage.as_str().starts_with("old"))
+    Ok(refusal.is(error) && storage.as_str() == "old")
 }
 
 /// Checks that a module is refused for this reason with ANSI escape sequences, and as lines.
