@@ -1,28 +1,32 @@
 -- The effect of each operator on the lists.
-use Rattle.std.proofs.Common.{◌≡◌, ℕ, suc, ◌+◌, ◌-◌, ◌≤◌, List, [], ◌∷◌, ◌++◌, length, drop, refl, sym, ◌∙◌, ap, subst, ◌⊎◌, inl, inr, arith, append_assoc, length-append}
-use Rattle.std.proofs.lemmas.List.{same_from_push, drop_at, append-nil}
+use Rattle.std.proofs.Common.{◌≡◌, ℕ, suc, ◌+◌, ◌-◌, ◌≤◌, List, [], ◌∷◌, ◌++◌, length, take, drop, refl, sym, ◌∙◌, ap, subst, arith, append_assoc, length-append}
+use Rattle.std.proofs.lemmas.List.{same_from_push, drop_at, take_at, append-nil, length-take-le}
+use Rattle.std.proofs.Math.Seq.{take-append-add}
 use Rattle.wasmprinter_spec.specs.Folding.Arities.{greatest}
-use Rattle.wasmprinter_spec.specs.Folding.Tree.{NodesOf, Nil, Snoc, front, last, count, OperandsOf, Fit, Overshot, TooFew, operand_search, with_operands}
-use Rattle.wasmprinter_spec.proofs.Folding.{row_of_both-front-last, AreLast, AreLast-operand_search}
+use Rattle.wasmprinter_spec.specs.Folding.Tree.{NodesOf, Nil, Snoc, row_of_both, front, last, count, OperandsOf, operand_search, with_operands}
+use Rattle.wasmprinter_spec.proofs.Folding.{row_of_both-front-last, AreLast-operand_search}
 use Rattle.wasmprinter_fold.specs.declared.nodes.NodeText.{NodeText}
 use Rattle.wasmprinter_fold.specs.declared.nodes.Node.{Node}
 use Rattle.wasmprinter_fold.specs.declared.nodes.builder.Frame.{Frame}
 use Rattle.wasmprinter_fold.specs.declared.nodes.builder.Arm.{Arm}
 use Rattle.wasmprinter_fold.specs.declared.nodes.builder.Arm.TheVariants as arm
-use Rattle.wasmprinter_fold.specs.Postorder.{postorder, forest_of, IsPostorder}
-use Rattle.wasmprinter_fold.specs.Rows.{outcome, IsPlace}
+use Rattle.wasmprinter_fold.specs.declared.nodes.candidates.Candidate.{Candidate}
+use Rattle.wasmprinter_fold.specs.declared.nodes.candidates.Cut.{Cut}
+use Rattle.wasmprinter_fold.specs.Postorder.{postorder}
+use Rattle.wasmprinter_fold.specs.Candidates.{width, candidates, with_candidate, left_by, taken_by, counted_by, IsCut, IsPlace, IsEndOf, IsLimited, IsOpenRow}
 use Rattle.wasmprinter_fold.specs.Building.{OpenNodes, Top, InBlock, InThen, InElse, state_at, state_after_end, state_after_else}
-use Rattle.wasmprinter_fold.specs.Frames.{State, base, frame_after, frames, StandsAt, with_node, with_if}
-use Rattle.wasmprinter_fold.proofs.Postorders.{forest_of-postorder, length-postorder, postorder-row_of_both, count-row_of_both, IsPostorder-postorder}
+use Rattle.wasmprinter_fold.specs.Frames.{State, base, base_candidates, frame_in, frames, AreLimited, StandsAt, with_node, with_case, with_block}
+use Rattle.wasmprinter_fold.proofs.Postorders.{length-postorder, postorder-row_of_both, count-row_of_both}
+use Rattle.wasmprinter_fold.proofs.Candidates.{length-candidates, width-row_of_both, take-candidates, AreLast-taken, with_operands-taken, counted_by-limited, left-limited, front-limited}
 
 -- ---- The innermost block
 
 -- The frame t of the innermost block comes after the frames `rest` of the others.
 abbrev pub IsTop : OpenNodes NodeText → List Frame → Frame → Type 0
 IsTop Top rest t = ⊥
-IsTop (InBlock o b x q) rest t = (rest ≡ frames o) × (t ≡ frame_after (base o ++ postorder b) [] arm.Block x q)
-IsTop (InThen o b d x y q) rest t = (rest ≡ frames o) × (t ≡ frame_after (base o ++ postorder b) (postorder d) (arm.Then y) x q)
-IsTop (InElse o b d x y q) rest t = (rest ≡ frames o) × (t ≡ frame_after (base o ++ postorder b) (postorder d) (arm.Else y) x q)
+IsTop (InBlock o b x q) rest t = (rest ≡ frames o) × (t ≡ frame_in o b Nil arm.Block x q)
+IsTop (InThen o b d x y q) rest t = (rest ≡ frames o) × (t ≡ frame_in o b d (arm.Then y) x q)
+IsTop (InElse o b d x y q) rest t = (rest ≡ frames o) × (t ≡ frame_in o b d (arm.Else y) x q)
 
 is_top : (o : OpenNodes NodeText) (rest : List Frame) (t : Frame) → frames o ≡ rest ++ t ∷ [] → IsTop o rest t
 is_top Top rest t e = absurd (omega (arith, ap length e, length-append rest (t ∷ [])))
@@ -30,25 +34,22 @@ is_top (InBlock o b x q) rest t e = let p = same_from_push _ _ _ _ e in (sym p.0
 is_top (InThen o b d x y q) rest t e = let p = same_from_push _ _ _ _ e in (sym p.0, sym p.1)
 is_top (InElse o b d x y q) rest t e = let p = same_from_push _ _ _ _ e in (sym p.0, sym p.1)
 
--- The start of the innermost frame is the number of nodes before those of the open part.
-start-top : (o : OpenNodes NodeText) (rest : List Frame) (t : Frame) → IsTop o rest t → t.start ≡ length (base o)
-start-top Top rest t h = absurd h
-start-top (InBlock o b x q) rest t h =
-    ap (λ (u : Frame). u.start) h.1 ∙ ap length (append-nil (base o ++ postorder b))
-start-top (InThen o b d x y q) rest t h = ap (λ (u : Frame). u.start) h.1
-start-top (InElse o b d x y q) rest t h = ap (λ (u : Frame). u.start) h.1
+-- The innermost frame says where the candidates of the open part begin.
+part-top : (o : OpenNodes NodeText) (rest : List Frame) (t : Frame) → IsTop o rest t → t.part ≡ length (base_candidates o)
+part-top Top rest t h = absurd h
+part-top (InBlock o b x q) rest t h = ap (λ (u : Frame). u.part) h.1
+part-top (InThen o b d x y q) rest t h = ap (λ (u : Frame). u.part) h.1
+part-top (InElse o b d x y q) rest t h = ap (λ (u : Frame). u.part) h.1
 
-pub start_some : (o : OpenNodes NodeText) (all rest : List Frame) (t : Frame) → all ≡ frames o → all ≡ rest ++ t ∷ [] → t.start ≡ length (base o)
-start_some o all rest t e h = start-top o rest t (is_top o rest t (sym e ∙ h))
+pub part_some : (o : OpenNodes NodeText) (all rest : List Frame) (t : Frame) → all ≡ frames o → all ≡ rest ++ t ∷ []
+    → t.part ≡ length (base_candidates o)
+part_some o all rest t e h = part-top o rest t (is_top o rest t (sym e ∙ h))
 
-length-frames : (o : OpenNodes NodeText) → length (frames o) ≡ 0 → length (base o) ≡ 0
-length-frames Top e = refl
-length-frames (InBlock o b x q) e = absurd (omega (arith, e, length-append {A = Frame}))
-length-frames (InThen o b d x y q) e = absurd (omega (arith, e, length-append {A = Frame}))
-length-frames (InElse o b d x y q) e = absurd (omega (arith, e, length-append {A = Frame}))
-
-pub start_none : (o : OpenNodes NodeText) (all : List Frame) → all ≡ frames o → length all ≡ 0 → 0 ≡ length (base o)
-start_none o all e h = sym (length-frames o (sym (ap length e) ∙ h))
+pub part_none : (o : OpenNodes NodeText) (all : List Frame) → all ≡ frames o → length all ≡ 0 → 0 ≡ length (base_candidates o)
+part_none Top all e h = refl
+part_none (InBlock o b x q) all e h = absurd (omega (arith, h, ap length e, length-append {A = Frame}))
+part_none (InThen o b d x y q) all e h = absurd (omega (arith, h, ap length e, length-append {A = Frame}))
+part_none (InElse o b d x y q) all e h = absurd (omega (arith, h, ap length e, length-append {A = Frame}))
 
 -- ---- One more node
 
@@ -63,157 +64,242 @@ wrapped before b parts x r from nodes e at =
     ap (λ (n : ℕ). nodes ++ node n ∷ []) size
     ∙ (ap (λ (l : List Node). l ++ node (count parts) ∷ []) e ∙ simp append_assoc)
 
--- The nodes of the open part are a row of their own.
-module _ (nodes before : List Node) (f : NodesOf NodeText) (e : nodes ≡ before ++ postorder f) where
-  row_is : drop (length before) nodes ≡ postorder f
-  row_is = ap (drop (length before)) e ∙ drop_at before (postorder f) (length before) refl
+-- A row in two parts.
+two_rows : (nodes before : List Node) (f b parts : NodesOf NodeText) → nodes ≡ before ++ postorder f → f ≡ row_of_both b parts
+    → nodes ≡ (before ++ postorder b) ++ postorder parts
+two_rows nodes before f b parts e h =
+    e
+    ∙ (ap (λ (g : NodesOf NodeText). before ++ postorder g) h
+    ∙ (ap (λ (l : List Node). before ++ l) (postorder-row_of_both b parts)
+    ∙ sym (append_assoc before (postorder b) (postorder parts))))
 
-  pub row_whole : IsPostorder (drop (length before) nodes)
-  row_whole = subst IsPostorder (sym row_is) (IsPostorder-postorder f)
+-- ---- The open part
 
-  row_forest : forest_of (drop (length before) nodes) ≡ f
-  row_forest = ap forest_of row_is ∙ forest_of-postorder f
+module _ (nodes : List Node) (row : List Candidate) (blocks : List Frame) (s : State) (h : StandsAt nodes row blocks s) where
+  ends_at : length nodes ≡ length (base s.outer) + count s.groups
+  ends_at = ap length h.rows ∙ (length-append (base s.outer) (postorder s.groups) ∙ ap (λ (n : ℕ). length (base s.outer) + n) (length-postorder s.groups))
+
+  pub part_fits : (part : ℕ) → part ≡ length (base_candidates s.outer) → part ≤ length row
+  part_fits part e = omega (arith, e, ap length h.open_row, length-append (base_candidates s.outer) (candidates (length (base s.outer)) s.groups))
+
+  pub is_end : (part end : ℕ) → part ≡ length (base_candidates s.outer) → end ≡ length nodes
+      → IsEndOf (drop part row) end (length (base s.outer)) s.groups
+  is_end part end p e =
+      record {
+        whole =
+            ap (λ (n : ℕ). drop n row) p
+            ∙ (ap (drop (length (base_candidates s.outer))) h.open_row
+            ∙ drop_at (base_candidates s.outer) (candidates (length (base s.outer)) s.groups) (length (base_candidates s.outer)) refl);
+        ends = e ∙ ends_at;
+      }
+
+  -- Where the open part is cut, the nodes after the cut are at the end of the lists.
+  module _ (b parts : NodesOf NodeText) (whole : s.groups ≡ row_of_both b parts) (part : ℕ) (begins : part ≡ length (base_candidates s.outer)) (cut : Cut)
+      (is : IsCut (length (base s.outer)) b cut) where
+    pub cut_fits : cut.start ≤ length nodes
+    cut_fits = omega (arith, is.start, ends_at, ap count whole, count-row_of_both b parts)
+
+    pub cut_at : cut.start ≡ length (base s.outer ++ postorder b)
+    cut_at = omega (arith, is.start, length-append (base s.outer) (postorder b), length-postorder b)
+
+    pub kept_row : take (part + cut.kept) row ≡ base_candidates s.outer ++ candidates (length (base s.outer)) b
+    kept_row =
+        let first : ℕ = length (base s.outer) in
+        let outer : List Candidate = base_candidates s.outer in
+        ap (λ (n : ℕ). take (n + cut.kept) row) begins
+        ∙ (ap (take (length outer + cut.kept)) h.open_row
+        ∙ (take-append-add outer (candidates first s.groups) cut.kept
+        ∙ (ap (λ (n : ℕ). outer ++ take n (candidates first s.groups)) is.kept
+        ∙ (ap (λ (f : NodesOf NodeText). outer ++ take (width b) (candidates first f)) whole
+        ∙ ap (λ (l : List Candidate). outer ++ l) (take-candidates first b parts)))))
+
+    pub kept_fits : part + cut.kept ≤ length row
+    kept_fits =
+        omega (arith, begins, is.kept, ap length h.open_row, length-append (base_candidates s.outer) (candidates (length (base s.outer)) s.groups), length-candidates (length (base s.outer)) s.groups, ap width whole, width-row_of_both b parts)
+
+    pub open_after : IsOpenRow (take (part + cut.kept) row) part cut.start (base_candidates s.outer) (length (base s.outer)) b
+    open_after = record { whole = kept_row; begins = begins; ends = is.start; limited = left-limited s.groups b parts whole h.limited }
 
 -- ---- A plain operator
 
--- Wherever its operands begin, adding a plain operator gives the row with that operator and its operands.
-placed : (nodes before : List Node) (f : NodesOf NodeText) (x : NodeText) (own from results : ℕ) (o : OperandsOf NodeText)
-    → AreLast f o → nodes ≡ before ++ postorder f
-    → IsPlace (length before) (length nodes) own (outcome o) from results
-    → with_node nodes x results from ≡ before ++ postorder (with_operands f x own o)
-placed nodes before f x own from results (Fit b run) h e p =
-    let split : nodes ≡ (before ++ postorder b) ++ postorder run =
-    e
-    ∙ (ap (λ (g : NodesOf NodeText). before ++ postorder g) h
-    ∙ (ap (λ (l : List Node). before ++ l) (postorder-row_of_both b run)
-    ∙ sym (append_assoc before (postorder b) (postorder run)))) in
-    let at : from ≡ length (before ++ postorder b) =
-    omega (arith, p.0, length-append before (postorder b), length-postorder b) in
-    rw p.1 (wrapped before b run x own from nodes split at)
-placed nodes before f x own from results Overshot h e p =
-    rw p.1 (wrapped before f Nil x greatest from nodes (e ∙ sym (append-nil (before ++ postorder f))) (p.0 ∙ ap length e))
-placed nodes before f x own from results TooFew h e p =
-    rw p.1 (wrapped before f Nil x own from nodes (e ∙ sym (append-nil (before ++ postorder f))) (p.0 ∙ ap length e))
+-- What adding a plain operator needs and gives, if the nodes after the cut are its operands.
+pub record AddsPlain (nodes : List Node) (row : List Candidate) (blocks : List Frame) (s : State) (x : NodeText) (operands own part : ℕ) (cut : Cut)
+    (results : ℕ) : Type 0 where
+  pub before : NodesOf NodeText
+  pub fits : cut.start ≤ length nodes
+  pub within : part + cut.kept ≤ length row
+  pub open_row : IsOpenRow (take (part + cut.kept) row) part cut.start (base_candidates s.outer) (length (base s.outer)) before
+  pub stands : (new : List Node) (more : List Candidate) → new ≡ with_node nodes x results cut.start
+      → more ≡ base_candidates s.outer ++ with_candidate (length (base s.outer)) before results
+      → StandsAt new more blocks (state_at s.outer (with_operands s.groups x own (operand_search operands s.groups)))
 
-place_fits : (start len own from results : ℕ) (f : NodesOf NodeText) (o : OperandsOf NodeText) → AreLast f o
-    → start + count f ≡ len → IsPlace start len own (outcome o) from results → from ≤ len
-place_fits start len own from results f (Fit b run) h e p = omega (arith, p.0, e, ap count h, count-row_of_both b run)
-place_fits start len own from results f Overshot h e p = omega (arith, p.0)
-place_fits start len own from results f TooFew h e p = omega (arith, p.0)
-
-module _ (nodes : List Node) (blocks : List Frame) (s : State) (h : StandsAt nodes blocks s)
-    (start operands own from results : ℕ) (begins : start ≡ length (base s.outer))
-    (p : IsPlace start (length nodes) own (outcome (operand_search operands (forest_of (drop start nodes)))) from results) where
-  here : IsPlace (length (base s.outer)) (length nodes) own (outcome (operand_search operands s.groups)) from results
-  here =
-      let P : ℕ → NodesOf NodeText → Type 0 = λ n g. IsPlace n (length nodes) own (outcome (operand_search operands g)) from results in
-      let Q : ℕ → Type 0 = λ n. P n (forest_of (drop n nodes)) in
-      subst (P (length (base s.outer))) (row_forest nodes (base s.outer) s.groups h.rows) (subst Q begins p)
-
-  pub plain_fits : from ≤ length nodes
-  plain_fits =
-      place_fits (length (base s.outer)) (length nodes) own from results s.groups (operand_search operands s.groups) (AreLast-operand_search operands s.groups)
-      (sym (ap length h.rows ∙ (length-append (base s.outer) (postorder s.groups) ∙ ap (λ (n : ℕ). length (base s.outer) + n) (length-postorder s.groups))))
-      here
-
-  pub plain_stands : (x : NodeText) (new : List Node) → new ≡ with_node nodes x results from
-      → StandsAt new blocks (state_at s.outer (with_operands s.groups x own (operand_search operands s.groups)))
-  plain_stands x new e =
+module _ (nodes : List Node) (row : List Candidate) (blocks : List Frame) (s : State) (h : StandsAt nodes row blocks s) (x : NodeText)
+    (operands own part end : ℕ) (most : own ≤ greatest) (begins : part ≡ length (base_candidates s.outer)) (ends : end ≡ length nodes) (cut : Cut) (results : ℕ)
+    (place : (first : ℕ) (f : NodesOf NodeText) → IsEndOf (drop part row) end first f → IsPlace first f own (operand_search operands f) cut results) where
+  pub adds_plain : AddsPlain nodes row blocks s x operands own part cut results
+  adds_plain =
+      let o : OperandsOf NodeText = operand_search operands s.groups in
+      let b : NodesOf NodeText = left_by s.groups o in
+      let t : NodesOf NodeText = taken_by o in
+      let split : s.groups ≡ row_of_both b t = AreLast-taken s.groups o (AreLast-operand_search operands s.groups) in
+      let at : IsPlace (length (base s.outer)) s.groups own o cut results =
+      place (length (base s.outer)) s.groups (is_end nodes row blocks s h part end begins ends) in
       record {
-        rows =
-            e
-            ∙ placed nodes (base s.outer) s.groups x own from results (operand_search operands s.groups) (AreLast-operand_search operands s.groups) h.rows here;
-        open_blocks = h.open_blocks;
+        before = b;
+        fits = cut_fits nodes row blocks s h b t split part begins cut at.cuts;
+        within = kept_fits nodes row blocks s h b t split part begins cut at.cuts;
+        open_row = open_after nodes row blocks s h b t split part begins cut at.cuts;
+        stands =
+            λ new more e m.
+            let P : NodesOf NodeText → Type 0 = λ f. StandsAt new more blocks (state_at s.outer f) in
+            subst P (sym (with_operands-taken s.groups x own o))
+            (record {
+              rows =
+                  e
+                  ∙ (ap (λ (r : ℕ). with_node nodes x r cut.start) at.counts
+                  ∙ wrapped (base s.outer) b t x (counted_by own o) cut.start nodes (two_rows nodes (base s.outer) s.groups b t h.rows split)
+                  (cut_at nodes row blocks s h b t split part begins cut at.cuts));
+              open_row = m ∙ ap (λ (r : ℕ). base_candidates s.outer ++ with_candidate (length (base s.outer)) b r) at.counts;
+              open_blocks = h.open_blocks;
+              outer_limited = h.outer_limited;
+              limited = (left-limited s.groups b t split h.limited, counted_by-limited own o most);
+            });
       }
 
 -- ---- Opening a block
 
-pub opens_block : (nodes : List Node) (blocks : List Frame) (s : State) → StandsAt nodes blocks s
-    → (start own : ℕ) (x : NodeText) → start ≡ length nodes → (new : List Frame)
-    → new ≡ blocks ++ record { arm = arm.Block; head = x; results = own; operands_start = start; start = start } ∷ []
-    → StandsAt nodes new (state_at (InBlock s.outer s.groups x own) Nil)
-opens_block nodes blocks s h start own x here new e =
+pub opens_block : (nodes : List Node) (row : List Candidate) (blocks : List Frame) (s : State) → StandsAt nodes row blocks s
+    → (start part own : ℕ) (x : NodeText) → own ≤ greatest → start ≡ length nodes → part ≡ length row → (new : List Frame)
+    → new ≡ blocks ++ record { arm = arm.Block; head = x; results = own; operands_start = start; start = start; part = part } ∷ []
+    → StandsAt nodes row new (state_at (InBlock s.outer s.groups x own) Nil)
+opens_block nodes row blocks s h start part own x most here width new e =
     let all : List Node = base s.outer ++ postorder s.groups in
-    let frame : ℕ → ℕ → Frame = λ a b. record { arm = arm.Block; head = x; results = own; operands_start = a; start = b } in
+    let row_is : List Candidate = base_candidates s.outer ++ candidates (length (base s.outer)) s.groups in
+    let frame : ℕ → ℕ → ℕ → Frame = λ a b c. record { arm = arm.Block; head = x; results = own; operands_start = a; start = b; part = c } in
     record {
       rows = h.rows ∙ sym (append-nil all);
+      open_row = h.open_row ∙ sym (append-nil row_is);
       open_blocks =
           e
-          ∙ (ap (λ (l : List Frame). l ++ frame start start ∷ []) h.open_blocks
-          ∙ (ap (λ (n : ℕ). frames s.outer ++ frame n n ∷ []) (here ∙ ap length h.rows)
-          ∙ ap (λ (n : ℕ). frames s.outer ++ frame (length all) n ∷ []) (ap length (sym (append-nil all)))));
+          ∙ (ap (λ (l : List Frame). l ++ frame start start part ∷ []) h.open_blocks
+          ∙ (ap (λ (n : ℕ). frames s.outer ++ frame n n part ∷ []) (here ∙ ap length h.rows)
+          ∙ (ap (λ (n : ℕ). frames s.outer ++ frame (length all) n part ∷ []) (ap length (sym (append-nil all)))
+          ∙ ap (λ (n : ℕ). frames s.outer ++ frame (length all) (length (all ++ [])) n ∷ []) (width ∙ ap length h.open_row))));
+      outer_limited = (h.outer_limited, h.limited, most);
+      limited = tt;
     }
 
-pub opens_if : (nodes : List Node) (blocks : List Frame) (s : State) → StandsAt nodes blocks s
-    → (outer from start own : ℕ) (x y : NodeText) → outer ≡ length (base s.outer)
-    → from ≡ outer + count (front (forest_of (drop outer nodes))) → start ≡ length nodes → (new : List Frame)
-    → new ≡ blocks ++ record { arm = arm.Then y; head = x; results = own; operands_start = from; start = start } ∷ []
-    → StandsAt nodes new (state_at (InThen s.outer (front s.groups) (last s.groups) x y own) Nil)
-opens_if nodes blocks s h outer from start own x y begins at here new e =
-    let g = s.groups in
-    let split : nodes ≡ (base s.outer ++ postorder (front g)) ++ postorder (last g) =
-    h.rows
-    ∙ (ap (λ (f : NodesOf NodeText). base s.outer ++ postorder f) (sym (row_of_both-front-last g))
-    ∙ (ap (λ (l : List Node). base s.outer ++ l) (postorder-row_of_both (front g) (last g))
-    ∙ sym (append_assoc (base s.outer) (postorder (front g)) (postorder (last g))))) in
-    let Q : ℕ → Type 0 = λ n. from ≡ n + count (front (forest_of (drop n nodes))) in
-    let at_base : from ≡ length (base s.outer) + count (front g) =
-    subst Q begins at
-    ∙ ap (λ (f : NodesOf NodeText). length (base s.outer) + count (front f)) (row_forest nodes (base s.outer) g h.rows) in
-    let at_front : from ≡ length (base s.outer ++ postorder (front g)) =
-    omega (arith, at_base, length-append (base s.outer) (postorder (front g)), length-postorder (front g)) in
-    let frame : ℕ → ℕ → Frame = λ a b. record { arm = arm.Then y; head = x; results = own; operands_start = a; start = b } in
+pub opens_if : (nodes : List Node) (row : List Candidate) (blocks : List Frame) (s : State) → StandsAt nodes row blocks s
+    → (outer start own : ℕ) (x y : NodeText) → own ≤ greatest → outer ≡ length (base_candidates s.outer) → (cut : Cut)
+    → IsCut (length (base s.outer)) (front s.groups) cut → start ≡ length nodes → (more : List Candidate) → more ≡ take (outer + cut.kept) row → (new : List Frame)
+    → new ≡ blocks ++ record { arm = arm.Then y; head = x; results = own; operands_start = cut.start; start = start; part = outer + cut.kept } ∷ []
+    → StandsAt nodes more new (state_at (InThen s.outer (front s.groups) (last s.groups) x y own) Nil)
+opens_if nodes row blocks s h outer start own x y most begins cut is here more m new e =
+    let g : NodesOf NodeText = s.groups in
+    let whole : g ≡ row_of_both (front g) (last g) = sym (row_of_both-front-last g) in
+    let split : nodes ≡ (base s.outer ++ postorder (front g)) ++ postorder (last g) = two_rows nodes (base s.outer) g (front g) (last g) h.rows whole in
+    let kept : take (outer + cut.kept) row ≡ base_candidates s.outer ++ candidates (length (base s.outer)) (front g) =
+    kept_row nodes row blocks s h (front g) (last g) whole outer begins cut is in
+    let fits : outer + cut.kept ≤ length row = kept_fits nodes row blocks s h (front g) (last g) whole outer begins cut is in
+    let at : cut.start ≡ length (base s.outer ++ postorder (front g)) = cut_at nodes row blocks s h (front g) (last g) whole outer begins cut is in
+    let part : outer + cut.kept ≡ length (base_candidates s.outer ++ candidates (length (base s.outer)) (front g)) =
+    sym (length-take-le (outer + cut.kept) row fits) ∙ ap length kept in
+    let frame : ℕ → ℕ → ℕ → Frame = λ a b c. record { arm = arm.Then y; head = x; results = own; operands_start = a; start = b; part = c } in
     record {
       rows = split ∙ sym (append-nil ((base s.outer ++ postorder (front g)) ++ postorder (last g)));
+      open_row = m ∙ (kept ∙ sym (append-nil (base_candidates s.outer ++ candidates (length (base s.outer)) (front g))));
       open_blocks =
           e
-          ∙ (ap (λ (l : List Frame). l ++ frame from start ∷ []) h.open_blocks
-          ∙ (ap (λ (n : ℕ). frames s.outer ++ frame n start ∷ []) at_front
-          ∙ ap (λ (n : ℕ). frames s.outer ++ frame (length (base s.outer ++ postorder (front g))) n ∷ []) (here ∙ ap length split)));
+          ∙ (ap (λ (l : List Frame). l ++ frame cut.start start (outer + cut.kept) ∷ []) h.open_blocks
+          ∙ (ap (λ (n : ℕ). frames s.outer ++ frame n start (outer + cut.kept) ∷ []) at
+          ∙ (ap (λ (n : ℕ). frames s.outer ++ frame (length (base s.outer ++ postorder (front g))) n (outer + cut.kept) ∷ []) (here ∙ ap length split)
+          ∙ ap (λ (n : ℕ). frames s.outer ++ frame (length (base s.outer ++ postorder (front g))) (length ((base s.outer ++ postorder (front g)) ++ postorder (last g))) n ∷ []) part)));
+      outer_limited = (h.outer_limited, front-limited g h.limited, most);
+      limited = tt;
     }
 
 -- ---- The end of a block, and an `else`
 
-pub record ClosesBlock (nodes : List Node) (rest : List Frame) (t : Frame) (s : State) : Type 0 where
-  pub fits : t.operands_start ≤ length nodes
-  pub stands : (new : List Node) → new ≡ with_node nodes t.head t.results t.operands_start → StandsAt new rest s
-
-pub record ClosesIf (nodes : List Node) (rest : List Frame) (t : Frame) (case : NodeText) (s : State) : Type 0 where
+-- Closing the innermost block, whose frame is t, gives the state s.
+pub record Closes (nodes : List Node) (row : List Candidate) (rest : List Frame) (t : Frame) (s : State) : Type 0 where
   pub fits : t.start ≤ length nodes
   pub in_order : t.operands_start ≤ t.start
-  pub stands : (new : List Node) → new ≡ with_if nodes case t → StandsAt new rest s
+  pub outer : OpenNodes NodeText
+  pub before : NodesOf NodeText
+  pub open_blocks : rest ≡ frames outer
+  pub open_row : (part : ℕ) → part ≡ length (base_candidates outer)
+      → IsOpenRow (take t.part row) part t.operands_start (base_candidates outer) (length (base outer)) before
+  pub stands : (new : List Node) (more : List Candidate) → new ≡ with_block nodes t
+      → more ≡ base_candidates outer ++ with_candidate (length (base outer)) before t.results → StandsAt new more rest s
 
-pub record Turned (nodes : List Node) (rest : List Frame) (t : Frame) (case otherwise : NodeText) (s : State) : Type 0 where
+-- The first case of an `if` is closed and the second one opened.
+pub record Turned (nodes : List Node) (row : List Candidate) (rest : List Frame) (t : Frame) (case otherwise : NodeText) (s : State) : Type 0 where
   pub fits : t.start ≤ length nodes
   pub stands : (mid : List Node) → mid ≡ with_node nodes case 0 t.start
-      → StandsAt mid (rest ++ record t { arm = arm.Else otherwise; start = length mid } ∷ []) s
+      → StandsAt mid (take t.part row) (rest ++ record t { arm = arm.Else otherwise; start = length mid } ∷ []) s
 
-ClosesBlock-at : (o : OpenNodes NodeText) (b f : NodesOf NodeText) (x : NodeText) (q : ℕ) (nodes : List Node)
-    → nodes ≡ (base o ++ postorder b) ++ postorder f
-    → ClosesBlock nodes (frames o) (frame_after (base o ++ postorder b) [] arm.Block x q) (state_after_end (InBlock o b x q) f)
-ClosesBlock-at o b f x q nodes e =
-    record {
-      fits = omega (arith, ap length e, length-append (base o ++ postorder b) (postorder f));
-      stands = λ new n. record { rows = n ∙ wrapped (base o) b f x q _ nodes e refl; open_blocks = refl };
-    }
-
-ClosesIf-at : (o : OpenNodes NodeText) (b d f : NodesOf NodeText) (a : Arm) (x y : NodeText) (q : ℕ) (nodes : List Node)
+Closes-at : (o : OpenNodes NodeText) (b d f : NodesOf NodeText) (a : Arm) (x : NodeText) (q : ℕ) (nodes : List Node) (row : List Candidate) (s : State)
+    → AreLimited o → IsLimited b → q ≤ greatest
     → nodes ≡ ((base o ++ postorder b) ++ postorder d) ++ postorder f
-    → ClosesIf nodes (frames o) (frame_after (base o ++ postorder b) (postorder d) a x q) y (state_at o (Snoc b x q (Snoc d y 0 f)))
-ClosesIf-at o b d f a x y q nodes e =
-    let case : with_node nodes y 0 (length ((base o ++ postorder b) ++ postorder d)) ≡ (base o ++ postorder b) ++ postorder (Snoc d y 0 f) =
-    wrapped (base o ++ postorder b) d f y 0 _ nodes e refl in
+    → row ≡ (base_candidates o ++ candidates (length (base o)) b) ++ candidates (length ((base o ++ postorder b) ++ postorder d)) f
+    → (held : NodesOf NodeText) → with_case nodes a (length ((base o ++ postorder b) ++ postorder d)) ≡ (base o ++ postorder b) ++ postorder held
+    → s ≡ state_at o (Snoc b x q held)
+    → Closes nodes row (frames o) (frame_in o b d a x q) s
+Closes-at o b d f a x q nodes row s outer limited most e r held case is =
+    let kept : List Candidate = base_candidates o ++ candidates (length (base o)) b in
     record {
       fits = omega (arith, ap length e, length-append ((base o ++ postorder b) ++ postorder d) (postorder f));
       in_order = omega (arith, length-append (base o ++ postorder b) (postorder d));
+      outer = o;
+      before = b;
+      open_blocks = refl;
+      open_row =
+          λ part p. record {
+            whole = ap (take (length kept)) r ∙ take_at kept (candidates (length ((base o ++ postorder b) ++ postorder d)) f) (length kept) refl;
+            begins = p;
+            ends = length-append (base o) (postorder b) ∙ ap (λ (n : ℕ). length (base o) + n) (length-postorder b);
+            limited = limited;
+          };
       stands =
-          λ new n. record { rows = n ∙ wrapped (base o) b (Snoc d y 0 f) x q _ _ case refl; open_blocks = refl };
+          λ new more n m.
+          let P : State → Type 0 = λ t. StandsAt new more (frames o) t in
+          subst P (sym is)
+          (record {
+            rows = n ∙ wrapped (base o) b held x q _ _ case refl;
+            open_row = m;
+            open_blocks = refl;
+            outer_limited = outer;
+            limited = (limited, most);
+          });
     }
 
-Turned-at : (o : OpenNodes NodeText) (b d f : NodesOf NodeText) (x y z : NodeText) (q : ℕ) (nodes : List Node)
-    → nodes ≡ ((base o ++ postorder b) ++ postorder d) ++ postorder f
-    → Turned nodes (frames o) (frame_after (base o ++ postorder b) (postorder d) (arm.Then y) x q) y z (state_after_else z (InThen o b d x y q) f)
-Turned-at o b d f x y z q nodes e =
+module _ (nodes : List Node) (row : List Candidate) (rest : List Frame) (t : Frame) where
+  closes_top : (o : OpenNodes NodeText) (f : NodesOf NodeText) → nodes ≡ base o ++ postorder f
+      → row ≡ base_candidates o ++ candidates (length (base o)) f → AreLimited o → IsTop o rest t → Closes nodes row rest t (state_after_end o f)
+  closes_top Top f e r l h = absurd h
+  closes_top (InBlock o b x q) f e r l h =
+      let all : List Node = base o ++ postorder b in
+      let empty : all ++ [] ≡ all = append-nil all in
+      rw (h.0, h.1)
+      (Closes-at o b Nil f arm.Block x q nodes row (state_after_end (InBlock o b x q) f) l.0 l.1 l.2
+      (e ∙ ap (λ (l : List Node). l ++ postorder f) (sym empty))
+      (r ∙ ap (λ (l : List Node). (base_candidates o ++ candidates (length (base o)) b) ++ candidates (length l) f) (sym empty))
+      f e refl)
+  closes_top (InThen o b d x y q) f e r l h =
+      rw (h.0, h.1)
+      (Closes-at o b d f (arm.Then y) x q nodes row (state_after_end (InThen o b d x y q) f) l.0 l.1 l.2 e r (Snoc d y 0 f)
+      (wrapped (base o ++ postorder b) d f y 0 _ nodes e refl) refl)
+  closes_top (InElse o b d x y q) f e r l h =
+      rw (h.0, h.1)
+      (Closes-at o b d f (arm.Else y) x q nodes row (state_after_end (InElse o b d x y q) f) l.0 l.1 l.2 e r (Snoc d y 0 f)
+      (wrapped (base o ++ postorder b) d f y 0 _ nodes e refl) refl)
+
+Turned-at : (o : OpenNodes NodeText) (b d f : NodesOf NodeText) (x y z : NodeText) (q : ℕ) (nodes : List Node) (row : List Candidate)
+    → AreLimited (InThen o b d x y q) → nodes ≡ ((base o ++ postorder b) ++ postorder d) ++ postorder f
+    → row ≡ (base_candidates o ++ candidates (length (base o)) b) ++ candidates (length ((base o ++ postorder b) ++ postorder d)) f
+    → Turned nodes row (frames o) (frame_in o b d (arm.Then y) x q) y z (state_after_else z (InThen o b d x y q) f)
+Turned-at o b d f x y z q nodes row limited e r =
+    let kept : List Candidate = base_candidates o ++ candidates (length (base o)) b in
     let case : with_node nodes y 0 (length ((base o ++ postorder b) ++ postorder d)) ≡ (base o ++ postorder b) ++ postorder (Snoc d y 0 f) =
     wrapped (base o ++ postorder b) d f y 0 _ nodes e refl in
     record {
@@ -221,58 +307,34 @@ Turned-at o b d f x y z q nodes e =
       stands =
           λ mid m. record {
             rows = (m ∙ case) ∙ sym (append-nil ((base o ++ postorder b) ++ postorder (Snoc d y 0 f)));
+            open_row =
+                ap (take (length kept)) r
+                ∙ (take_at kept (candidates (length ((base o ++ postorder b) ++ postorder d)) f) (length kept) refl ∙ sym (append-nil kept));
             open_blocks =
-                ap (λ (n : ℕ). frames o ++ record { arm = arm.Else z; head = x; results = q; operands_start = length (base o ++ postorder b); start = n } ∷ [])
+                ap (λ (n : ℕ). frames o ++ record { arm = arm.Else z; head = x; results = q; operands_start = length (base o ++ postorder b); start = n; part = length kept } ∷ [])
                 (ap length (m ∙ case));
+            outer_limited = limited;
+            limited = tt;
           };
     }
 
--- If the innermost frame is that of a block without cases, closing it gives the state after an `end`.
-block_top : (o : OpenNodes NodeText) (f : NodesOf NodeText) (nodes : List Node) (rest : List Frame) (t : Frame)
-    → nodes ≡ base o ++ postorder f → IsTop o rest t → t.arm ≡ arm.Block → ClosesBlock nodes rest t (state_after_end o f)
-block_top Top f nodes rest t e h a = absurd h
-block_top (InBlock o b x q) f nodes rest t e h a = rw (h.0, h.1) (ClosesBlock-at o b f x q nodes e)
-block_top (InThen o b d x y q) f nodes rest t e h a = absurd (cc (ap (λ (u : Frame). u.arm) h.1))
-block_top (InElse o b d x y q) f nodes rest t e h a = absurd (cc (ap (λ (u : Frame). u.arm) h.1))
-
-then_top : (o : OpenNodes NodeText) (f : NodesOf NodeText) (nodes : List Node) (rest : List Frame) (t : Frame) (z : NodeText)
-    → nodes ≡ base o ++ postorder f → IsTop o rest t → t.arm ≡ arm.Then z → ClosesIf nodes rest t z (state_after_end o f)
-then_top Top f nodes rest t z e h a = absurd h
-then_top (InBlock o b x q) f nodes rest t z e h a = absurd (cc (ap (λ (u : Frame). u.arm) h.1))
-then_top (InThen o b d x y q) f nodes rest t z e h a =
+turn_top : (o : OpenNodes NodeText) (f : NodesOf NodeText) (nodes : List Node) (row : List Candidate) (rest : List Frame) (t : Frame) (z otherwise : NodeText)
+    → nodes ≡ base o ++ postorder f → row ≡ base_candidates o ++ candidates (length (base o)) f → AreLimited o → IsTop o rest t → t.arm ≡ arm.Then z
+    → Turned nodes row rest t z otherwise (state_after_else otherwise o f)
+turn_top Top f nodes row rest t z w e r l h a = absurd h
+turn_top (InBlock o b x q) f nodes row rest t z w e r l h a = absurd (cc (ap (λ (u : Frame). u.arm) h.1))
+turn_top (InThen o b d x y q) f nodes row rest t z w e r l h a =
     let same : z ≡ y = cc (ap (λ (u : Frame). u.arm) h.1) in
-    rw (h.0, h.1, same) (ClosesIf-at o b d f (arm.Then y) x y q nodes e)
-then_top (InElse o b d x y q) f nodes rest t z e h a = absurd (cc (ap (λ (u : Frame). u.arm) h.1))
+    rw (h.0, h.1, same) (Turned-at o b d f x y w q nodes row l e r)
+turn_top (InElse o b d x y q) f nodes row rest t z w e r l h a = absurd (cc (ap (λ (u : Frame). u.arm) h.1))
 
-else_top : (o : OpenNodes NodeText) (f : NodesOf NodeText) (nodes : List Node) (rest : List Frame) (t : Frame) (z : NodeText)
-    → nodes ≡ base o ++ postorder f → IsTop o rest t → t.arm ≡ arm.Else z → ClosesIf nodes rest t z (state_after_end o f)
-else_top Top f nodes rest t z e h a = absurd h
-else_top (InBlock o b x q) f nodes rest t z e h a = absurd (cc (ap (λ (u : Frame). u.arm) h.1))
-else_top (InThen o b d x y q) f nodes rest t z e h a = absurd (cc (ap (λ (u : Frame). u.arm) h.1))
-else_top (InElse o b d x y q) f nodes rest t z e h a =
-    let same : z ≡ y = cc (ap (λ (u : Frame). u.arm) h.1) in
-    rw (h.0, h.1, same) (ClosesIf-at o b d f (arm.Else y) x y q nodes e)
-
-turn_top : (o : OpenNodes NodeText) (f : NodesOf NodeText) (nodes : List Node) (rest : List Frame) (t : Frame) (z otherwise : NodeText)
-    → nodes ≡ base o ++ postorder f → IsTop o rest t → t.arm ≡ arm.Then z
-    → Turned nodes rest t z otherwise (state_after_else otherwise o f)
-turn_top Top f nodes rest t z w e h a = absurd h
-turn_top (InBlock o b x q) f nodes rest t z w e h a = absurd (cc (ap (λ (u : Frame). u.arm) h.1))
-turn_top (InThen o b d x y q) f nodes rest t z w e h a =
-    let same : z ≡ y = cc (ap (λ (u : Frame). u.arm) h.1) in
-    rw (h.0, h.1, same) (Turned-at o b d f x y w q nodes e)
-turn_top (InElse o b d x y q) f nodes rest t z w e h a = absurd (cc (ap (λ (u : Frame). u.arm) h.1))
-
-module _ (nodes : List Node) (blocks rest : List Frame) (t : Frame) (s : State) (h : StandsAt nodes blocks s) (e : blocks ≡ rest ++ t ∷ []) where
+module _ (nodes : List Node) (row : List Candidate) (blocks rest : List Frame) (t : Frame) (s : State) (h : StandsAt nodes row blocks s)
+    (e : blocks ≡ rest ++ t ∷ []) where
   top : IsTop s.outer rest t
   top = is_top s.outer rest t (sym h.open_blocks ∙ e)
 
-  pub closes_block : t.arm ≡ arm.Block → ClosesBlock nodes rest t (state_after_end s.outer s.groups)
-  closes_block = block_top s.outer s.groups nodes rest t h.rows top
+  pub closes : Closes nodes row rest t (state_after_end s.outer s.groups)
+  closes = closes_top nodes row rest t s.outer s.groups h.rows h.open_row h.outer_limited top
 
-  pub closes_if : (case : NodeText) → (t.arm ≡ arm.Then case) ⊎ (t.arm ≡ arm.Else case) → ClosesIf nodes rest t case (state_after_end s.outer s.groups)
-  closes_if case (inl a) = then_top s.outer s.groups nodes rest t case h.rows top a
-  closes_if case (inr a) = else_top s.outer s.groups nodes rest t case h.rows top a
-
-  pub turns : (case otherwise : NodeText) → t.arm ≡ arm.Then case → Turned nodes rest t case otherwise (state_after_else otherwise s.outer s.groups)
-  turns case otherwise = turn_top s.outer s.groups nodes rest t case otherwise h.rows top
+  pub turns : (case otherwise : NodeText) → t.arm ≡ arm.Then case → Turned nodes row rest t case otherwise (state_after_else otherwise s.outer s.groups)
+  turns case otherwise = turn_top s.outer s.groups nodes row rest t case otherwise h.rows h.open_row h.outer_limited top

@@ -11,7 +11,7 @@ use Rattle.wasmprinter_ops.specs.Shapes.{role_view}
 use Rattle.wasmprinter_fold.specs.declared.nodes.NodeText.{NodeText}
 use Rattle.wasmprinter_fold.specs.declared.nodes.Node.{Node}
 use Rattle.wasmprinter_fold.specs.declared.nodes.builder.Builder.{Builder}
-use Rattle.wasmprinter_fold.specs.Building.{OpenNodes, Top, InBlock, InThen, InElse, StateOf, Step, Ends, start, state_at, step}
+use Rattle.wasmprinter_fold.specs.Building.{OpenNodes, Top, InBlock, InThen, InElse, StateOf, Step, Ends, state_at, step}
 use Rattle.wasmprinter_fold.specs.Heads.{AllStep}
 use Rattle.wasmprinter_fold.specs.Mapping.{map_nodes, map_open, map_step}
 use Rattle.wasmprinter_fold.specs.Frames.{State, Stands}

@@ -1,6 +1,7 @@
 pub mod AllHeads
 mod BlockLabels
 pub mod Blocks
+pub mod Candidates
 mod Gathered
 mod Growing
 mod LabelsFound
@@ -11,7 +12,6 @@ pub mod NodeTexts
 pub mod Postorders
 pub mod RowLaws
 pub mod Runs
-pub mod Searches
 pub mod Steps
 pub mod TaskLaws
 pub mod TextLaws

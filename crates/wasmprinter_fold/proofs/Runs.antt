@@ -6,6 +6,7 @@ use Rattle.wasmprinter_spec.specs.Folding.Tree.{Head, Of, ThenCase, ElseCase, No
 use Rattle.wasmprinter_fold.specs.declared.nodes.NodeText.{NodeText}
 use Rattle.wasmprinter_fold.specs.declared.nodes.Node.{Node}
 use Rattle.wasmprinter_fold.specs.declared.nodes.builder.Frame.{Frame}
+use Rattle.wasmprinter_fold.specs.declared.nodes.candidates.Candidate.{Candidate}
 use Rattle.wasmprinter_fold.specs.Postorder.{postorder, forest_of, IsPostorder}
 use Rattle.wasmprinter_fold.specs.Building.{OpenNodes, Top, InBlock, InThen, InElse, StateOf, Step, start, state_at, step, step_of, steps, run_all}
 use Rattle.wasmprinter_fold.specs.Mapping.{map_nodes, map_step}
@@ -36,8 +37,8 @@ postorder-base_row (InElse o b d x y q) =
     ∙ sym (postorder-row_of_both (row_of_both (base_row o) b) d))
 
 -- The list represents nodes, whatever blocks are open.
-pub stands_whole : (nodes : List Node) (blocks : List Frame) (s : State) → StandsAt nodes blocks s → IsPostorder nodes
-stands_whole nodes blocks s h =
+pub stands_whole : (nodes : List Node) (row : List Candidate) (blocks : List Frame) (s : State) → StandsAt nodes row blocks s → IsPostorder nodes
+stands_whole nodes row blocks s h =
     subst IsPostorder
     (sym
     (h.rows
@@ -46,9 +47,9 @@ stands_whole nodes blocks s h =
     (IsPostorder-postorder (row_of_both (base_row s.outer) s.groups))
 
 -- If no block is open, the list represents the nodes of the state.
-pub stands_closed : (nodes : List Node) (blocks : List Frame) (s : State) → StandsAt nodes blocks s → s.outer ≡ Top
+pub stands_closed : (nodes : List Node) (row : List Candidate) (blocks : List Frame) (s : State) → StandsAt nodes row blocks s → s.outer ≡ Top
     → forest_of nodes ≡ s.groups
-stands_closed nodes blocks s h e =
+stands_closed nodes row blocks s h e =
     ap forest_of (h.rows ∙ ap (λ (o : OpenNodes NodeText). base o ++ postorder s.groups) e) ∙ forest_of-postorder s.groups
 
 -- ---- Code

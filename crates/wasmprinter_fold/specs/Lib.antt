@@ -1,6 +1,7 @@
 -- The definitions that the contracts of this crate cite.
 pub mod Buffers
 pub mod Building
+pub mod Candidates
 pub mod Counted
 pub mod Frames
 pub mod Gathering

@@ -1,6 +1,7 @@
 //! The nodes that operators fold into, as one list in postorder: each node comes after those that it holds.
 
 mod builder;
+mod candidates;
 mod rows;
 
 pub use builder::Builder;

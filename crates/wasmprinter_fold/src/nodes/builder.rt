@@ -1,11 +1,11 @@
 //! The builder, which folds one operator after another.
-ghost use Rattle.std.specs.Prelude.{◌≡◌, ◌≤◌, ◌+◌, length, drop, OnOk};
-ghost use Rattle.wasmprinter_spec.specs.Folding.Tree.{operand_search, front, count};
+ghost use Rattle.std.specs.Prelude.{◌≡◌, ◌≤◌, length, OnOk};
+ghost use Rattle.wasmprinter_fold.specs.Building.{OpenNodes};
 ghost use Rattle.wasmprinter_fold.specs.Postorder.{IsPostorder, forest_of};
-ghost use Rattle.wasmprinter_fold.specs.Rows.{outcome, IsPlace};
-ghost use Rattle.wasmprinter_fold.specs.Frames.{with_node, with_if};
+ghost use Rattle.wasmprinter_fold.specs.Frames.{with_node, with_case, with_block, frames, base_candidates};
+ghost use Rattle.wasmprinter_fold.specs.declared.nodes.NodeText.{NodeText};
 
-use crate::nodes::rows::{Taken, find_operands, last_group};
+use crate::nodes::candidates::{Candidate, place_of, predicate_of, push_candidate};
 use crate::nodes::{Node, NodeText};
 use std::alloc::{AllocError, Global};
 
@@ -33,15 +33,19 @@ pub struct Frame {
     pub operands_start: usize,
     /// The index of the first node of its open part.
     pub start: usize,
+    /// The index of the first candidate of its open part.
+    pub part: usize,
 }
 
 /// Builds the nodes of a list of operators, one operator after another.
 ///
 /// All nodes are in one list, and no node is ever moved: an operator is added after its operands, and its size
-/// counts them. After an error the nodes are unusable until the list is cleared.
+/// counts them. Operands are searched in a second list, which has an entry for each node that no other node holds yet.
+/// After an error the nodes are unusable until the list is cleared.
 #[derive(Drop)]
 pub struct Builder {
     nodes: Vec<Node>,
+    candidates: Vec<Candidate>,
     frames: Vec<Frame>,
 }
 
@@ -59,44 +63,41 @@ fn wrap(nodes: &mut Vec<Node>, head: NodeText, results: u32, from: usize) -> Res
     Ok(())
 }
 
-/// Adds the node of the open case of an `if`, and then the node of the `if`.
-fn wrap_if(nodes: &mut Vec<Node>, case: NodeText, frame: Frame) -> Result<(), AllocError>
-    requires case { frame.start ≤ length nodes.old.items }
-    requires whole { frame.operands_start ≤ frame.start }
-    ensures { OnOk result (nodes.new.items ≡ with_if nodes.old.items case frame) }
+/// Adds the node of the open case of an `if`. A block without cases has none.
+fn wrap_case(nodes: &mut Vec<Node>, frame: Frame) -> Result<(), AllocError>
+    requires { frame.start ≤ length nodes.old.items }
+    ensures { OnOk result (nodes.new.items ≡ with_case nodes.old.items frame.arm frame.start) }
 {
-    wrap(nodes, case, 0, frame.start)?;
-    wrap(nodes, frame.head, frame.results, frame.operands_start)
-}
-
-/// Returns the index at which the operands of a plain operator begin, and the number of results of its node.
-fn place_of(nodes: &[Node], start: usize, operands: u32, results: u32) -> (usize, u32)
-    requires in_range { start ≤ length nodes.now }
-    requires whole { IsPostorder (drop start nodes.now) }
-    ensures { IsPlace start (length nodes.now) results (outcome (operand_search operands (forest_of (drop start nodes.now)))) result.0 result.1 }
-{
-    match find_operands(&nodes[start..], operands) {
-        Taken::From(before) => (start + before, results),
-        Taken::Overshot => (nodes.len(), u32::MAX),
-        Taken::TooFew => (nodes.len(), results),
+    match frame.arm {
+        Arm::Block => Ok(()),
+        Arm::Then(case) | Arm::Else(case) => wrap(nodes, case, 0, frame.start),
     }
 }
 
-/// Returns the index at which the predicate of an `if` begins: the last node of the open part, if there is one.
-fn predicate_from(nodes: &[Node], start: usize) -> usize
-    requires in_range { start ≤ length nodes.now }
-    requires whole { IsPostorder (drop start nodes.now) }
-    ensures { result ≡ start + count (front (forest_of (drop start nodes.now))) }
+/// Adds the node of a block, after that of its open case.
+fn wrap_block(nodes: &mut Vec<Node>, frame: Frame) -> Result<(), AllocError>
+    requires case { frame.start ≤ length nodes.old.items }
+    requires whole { frame.operands_start ≤ frame.start }
+    ensures { OnOk result (nodes.new.items ≡ with_block nodes.old.items frame) }
 {
-    match last_group(&nodes[start..]) {
-        Some(predicate) => start + predicate.before.len(),
-        None => start,
+    wrap_case(nodes, frame)?;
+    wrap(nodes, frame.head, frame.results, frame.operands_start)
+}
+
+/// Returns the index of the first candidate of the open part.
+fn open_part(blocks: &[Frame]) -> usize
+    requires { (o : OpenNodes NodeText) × (blocks.now ≡ frames o) }
+    ensures { (o : OpenNodes NodeText) → blocks.now ≡ frames o → result ≡ length (base_candidates o) }
+{
+    match blocks.split_last() {
+        Some((frame, _)) => frame.part,
+        None => 0,
     }
 }
 
 impl Builder {
     ghost use Rattle.wasmprinter_fold.specs.Building.{start, step, Top, Plain, Opens, OpensIf, Else, Ends};
-    ghost use Rattle.wasmprinter_fold.specs.Frames.{State, Stands, base};
+    ghost use Rattle.wasmprinter_fold.specs.Frames.{State, Stands};
 
     /// Creates a builder without nodes. This allocates no memory.
     pub fn new(alloc: Global) -> Builder
@@ -104,6 +105,7 @@ impl Builder {
     {
         Builder {
             nodes: Vec::new(alloc),
+            candidates: Vec::new(alloc),
             frames: Vec::new(alloc),
         }
     }
@@ -113,6 +115,7 @@ impl Builder {
         ensures { Stands self.new start }
     {
         self.nodes.clear();
+        self.candidates.clear();
         self.frames.clear();
     }
 
@@ -125,17 +128,6 @@ impl Builder {
         &self.nodes
     }
 
-    /// Returns the index of the first node of the open part.
-    fn start(&self) -> usize
-        requires { (s : State) × Stands self.now s }
-        ensures { (s : State) → Stands self.now s → result ≡ length (base s.outer) }
-    {
-        match self.frames.split_last() {
-            Some((frame, _)) => frame.start,
-            None => 0,
-        }
-    }
-
     /// Adds a plain operator. Its operands are the last nodes whose results sum up to exactly `operands`, if there are
     /// such nodes.
     ///
@@ -146,9 +138,12 @@ impl Builder {
         requires { (s : State) × Stands self.old s }
         ensures { OnOk result ((s : State) → Stands self.old s → Stands self.new (step s (Plain head operands results))) }
     {
-        let start = self.start();
-        let (from, counted) = place_of(&self.nodes, start, operands, results);
-        wrap(&mut self.nodes, head, counted, from)
+        let part = open_part(&self.frames);
+        let end = self.nodes.len();
+        let (place, counted) = place_of(&self.candidates[part..], end, operands, results);
+        wrap(&mut self.nodes, head, counted, place.start)?;
+        self.candidates.truncate(part + place.kept);
+        push_candidate(&mut self.candidates, part, place.start, counted)
     }
 
     /// Opens a block.
@@ -167,6 +162,7 @@ impl Builder {
             results,
             operands_start: start,
             start,
+            part: self.candidates.len(),
         })?;
         Ok(())
     }
@@ -186,15 +182,18 @@ impl Builder {
         requires { (s : State) × Stands self.old s }
         ensures { OnOk result ((s : State) → Stands self.old s → Stands self.new (step s (OpensIf head then results))) }
     {
-        let outer = self.start();
+        let outer = open_part(&self.frames);
         let start = self.nodes.len();
-        let from = predicate_from(&self.nodes, outer);
+        let predicate = predicate_of(&self.candidates[outer..], start);
+        let part = outer + predicate.kept;
+        self.candidates.truncate(part);
         self.frames.push(Frame {
             arm: Arm::Then(then),
             head,
             results,
-            operands_start: from,
+            operands_start: predicate.start,
             start,
+            part,
         })?;
         Ok(())
     }
@@ -214,6 +213,7 @@ impl Builder {
             match frame.arm {
                 Arm::Then(then) => {
                     wrap(&mut self.nodes, then, 0, frame.start)?;
+                    self.candidates.truncate(frame.part);
                     let start = self.nodes.len();
                     self.frames.push(Frame {
                         arm: Arm::Else(otherwise),
@@ -236,17 +236,17 @@ impl Builder {
         requires { (s : State) × Stands self.old s }
         ensures { OnOk result ((s : State) → Stands self.old s → Stands self.new (step s Ends)) }
     {
-        match self.frames.pop() {
-            Some(frame) => match frame.arm {
-                Arm::Block => wrap(
-                    &mut self.nodes,
-                    frame.head,
-                    frame.results,
-                    frame.operands_start,
-                ),
-                Arm::Then(case) | Arm::Else(case) => wrap_if(&mut self.nodes, case, frame),
-            },
-            None => Ok(()),
+        if let Some(frame) = self.frames.pop() {
+            wrap_block(&mut self.nodes, frame)?;
+            self.candidates.truncate(frame.part);
+            let part = open_part(&self.frames);
+            push_candidate(
+                &mut self.candidates,
+                part,
+                frame.operands_start,
+                frame.results,
+            )?;
         }
+        Ok(())
     }
 }

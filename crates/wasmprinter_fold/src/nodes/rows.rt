@@ -1,8 +1,7 @@
-//! Rows of nodes: their last node, and the search for operands.
+//! The last node of a row.
 ghost use Rattle.std.specs.Prelude.{◌≡◌, [], MatchOption};
-ghost use Rattle.wasmprinter_spec.specs.Folding.Tree.{operand_search};
-ghost use Rattle.wasmprinter_fold.specs.Postorder.{IsPostorder, forest_of};
-ghost use Rattle.wasmprinter_fold.specs.Rows.{IsLast, outcome};
+ghost use Rattle.wasmprinter_fold.specs.Postorder.{IsPostorder};
+ghost use Rattle.wasmprinter_fold.specs.Rows.{IsLast};
 
 use crate::nodes::Node;
 
@@ -17,17 +16,6 @@ pub struct Last<'a> {
     pub parts: &'a [Node],
 }
 
-/// The outcome of a search for operands.
-#[derive(Clone, Copy, Debug)]
-pub enum Taken {
-    /// The operands were found. This is the number of nodes before them, at every depth.
-    From(usize),
-    /// The sum of results exceeded the number of operands without ever being equal to it.
-    Overshot,
-    /// There are too few results, or the operator takes no operands.
-    TooFew,
-}
-
 /// Returns the last node of a row, if there is one.
 pub fn last_group(row: &[Node]) -> Option<Last<'_>>
     requires { IsPostorder row.now }
@@ -40,27 +28,4 @@ pub fn last_group(row: &[Node]) -> Option<Last<'_>>
         node: *node,
         parts,
     })
-}
-
-/// Searches a row of nodes for the operands of an operator that takes `operands` values.
-pub fn find_operands(row: &[Node], operands: u32) -> Taken
-    requires { IsPostorder row.now }
-    ensures { result ≡ outcome (operand_search operands (forest_of row.now)) }
-{
-    if operands == 0 {
-        return Taken::TooFew;
-    }
-    let mut before = row;
-    let mut sum: u32 = 0;
-    while let Some(last) = last_group(before) {
-        before = last.before;
-        sum = sum.saturating_add(last.node.results);
-        if sum == operands {
-            return Taken::From(before.len());
-        }
-        if operands < sum {
-            return Taken::Overshot;
-        }
-    }
-    Taken::TooFew
 }

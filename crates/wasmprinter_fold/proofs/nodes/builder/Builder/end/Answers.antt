@@ -1,24 +1,36 @@
-use Rattle.std.proofs.lemmas.Result.{on_ok_weaker}
-use Rattle.wasmprinter_fold.proofs.Blocks.{closes_block, closes_if}
+use Rattle.std.proofs.Common.{List, ◌∙◌, length, sym, subst}
+use Rattle.wasmprinter_fold.specs.declared.nodes.candidates.Candidate.{Candidate}
+use Rattle.wasmprinter_fold.specs.Candidates.{IsOpenRow}
+use Rattle.wasmprinter_fold.specs.Frames.{base, base_candidates}
+use Rattle.wasmprinter_fold.proofs.Blocks.{closes}
 use Rattle.wasmprinter_fold.proofs.nodes.builder.Builder.end.Goals as goal
 
-pub wrap-requires : goal.wrap-requires
-wrap-requires c = (closes_block _ _ _ _ _ c.requires.1 c.in-Some.ensures.items c.in-Block.is).fits
+pub wrap_block-requires-clause-case : goal.wrap_block-requires-clause-case
+wrap_block-requires-clause-case c = (closes _ _ _ _ _ _ c.requires.1 c.in-Some.ensures.items).fits
 
-pub wrap_if-requires-clause-case : goal.wrap_if-requires-clause-case
-wrap_if-requires-clause-case c = (closes_if _ _ _ _ _ c.requires.1 c.in-Some.ensures.items _ c.in-Then.is).fits
+pub wrap_block-requires-clause-whole : goal.wrap_block-requires-clause-whole
+wrap_block-requires-clause-whole c = (closes _ _ _ _ _ _ c.requires.1 c.in-Some.ensures.items).in_order
 
-pub wrap_if-requires-clause-whole : goal.wrap_if-requires-clause-whole
-wrap_if-requires-clause-whole c = (closes_if _ _ _ _ _ c.requires.1 c.in-Some.ensures.items _ c.in-Then.is).in_order
+pub open_part-part-requires : goal.open_part-part-requires
+open_part-part-requires c =
+    let closed = closes _ _ _ _ _ _ c.requires.1 c.in-Some.ensures.items in
+    (closed.outer, c.deref.ensures.value ∙ closed.open_blocks)
 
-pub returns-in-Block : goal.returns-in-Block
-returns-in-Block c =
-    on_ok_weaker c.wrap.result
-    (λ e s h. (closes_block _ _ _ _ s h c.in-Some.ensures.items c.in-Block.is).stands _ e)
-    c.wrap.ensures
+pub push_candidate-requires : goal.push_candidate-requires
+push_candidate-requires c =
+    let closed = closes _ _ _ _ _ _ c.requires.1 c.in-Some.ensures.items in
+    let part = c.open_part-part.ensures closed.outer (c.deref.ensures.value ∙ closed.open_blocks) in
+    let P : List Candidate → Type 0 =
+    λ l. IsOpenRow l c.open_part-part.result c.in-Some.frame.operands_start (base_candidates closed.outer) (length (base closed.outer)) closed.before in
+    (base_candidates closed.outer, length (base closed.outer), closed.before, subst P (sym c.truncate.ensures.items) (closed.open_row _ part))
 
-pub returns-in-Then : goal.returns-in-Then
-returns-in-Then c =
-    on_ok_weaker c.wrap_if.result
-    (λ e s h. (closes_if _ _ _ _ s h c.in-Some.ensures.items _ c.in-Then.is).stands _ e)
-    c.wrap_if.ensures
+pub returns-in_ok-push_candidate : goal.returns-in_ok-push_candidate
+returns-in_ok-push_candidate c =
+    λ s h.
+    let closed = closes _ _ _ _ _ s h c.in-Some.ensures.items in
+    let part = c.open_part-part.ensures closed.outer (c.deref.ensures.value ∙ closed.open_blocks) in
+    let P : List Candidate → Type 0 =
+    λ l. IsOpenRow l c.open_part-part.result c.in-Some.frame.operands_start (base_candidates closed.outer) (length (base closed.outer)) closed.before in
+    closed.stands _ _ c.in_ok-wrap_block.ensures
+    (c.in_ok-push_candidate.ensures (base_candidates closed.outer) (length (base closed.outer)) closed.before
+    (subst P (sym c.truncate.ensures.items) (closed.open_row _ part)))

@@ -1,21 +1,58 @@
+use Rattle.std.proofs.Common.{◌≤◌, ◌+◌, List, arith, ◌∙◌, length, sym, subst}
+use Rattle.std.proofs.lemmas.List.{take_rest}
 use Rattle.std.proofs.lemmas.Result.{on_ok_weaker}
-use Rattle.wasmprinter_fold.specs.Frames.{base}
-use Rattle.wasmprinter_fold.proofs.Blocks.{row_whole, plain_fits, plain_stands}
+use Rattle.wasmprinter_fold.specs.declared.nodes.candidates.Candidate.{Candidate}
+use Rattle.wasmprinter_fold.specs.Candidates.{IsOpenRow}
+use Rattle.wasmprinter_fold.specs.Frames.{base, base_candidates}
+use Rattle.wasmprinter_fold.proofs.Blocks.{is_end, adds_plain}
 use Rattle.wasmprinter_fold.proofs.nodes.builder.Builder.plain.Goals as goal
 
-pub place_of-from-requires-clause-whole : goal.place_of-from-requires-clause-whole
-place_of-from-requires-clause-whole c =
-    rw (c.deref.ensures.value, c.start-start.ensures _ c.requires.1)
-    (row_whole _ (base c.requires.0.outer) c.requires.0.groups c.requires.1.rows)
+pub place_of-counted-requires : goal.place_of-counted-requires
+place_of-counted-requires c =
+    let s = c.requires.0 in
+    let h = c.requires.1 in
+    let part = c.open_part-part.ensures s.outer (c.deref.ensures.value ∙ h.open_blocks) in
+    rw (c.deref-2.ensures.value, take_rest)
+    (length (base s.outer), s.groups, is_end _ _ _ _ h _ _ part (omega (arith, c.len-end.ensures, c.args.self.now.nodes.ok.0)))
 
 pub wrap-requires : goal.wrap-requires
 wrap-requires c =
-    let p = rw c.deref.ensures.value at c.place_of-from.ensures in
-    plain_fits _ _ _ c.requires.1 _ _ _ _ _ (c.start-start.ensures _ c.requires.1) p
+    let h = c.requires.1 in
+    let part = c.open_part-part.ensures c.requires.0.outer (c.deref.ensures.value ∙ h.open_blocks) in
+    let place = rw (c.deref-2.ensures.value, take_rest) at c.place_of-counted.ensures in
+    (adds_plain _ _ _ _ h c.args.head _ c.args.results _ _ (omega arith) part (omega (arith, c.len-end.ensures, c.args.self.now.nodes.ok.0)) _ _ place).fits
+
+pub overflow_add-part : goal.overflow_add-part
+overflow_add-part c =
+    let h = c.requires.1 in
+    let part = c.open_part-part.ensures c.requires.0.outer (c.deref.ensures.value ∙ h.open_blocks) in
+    let place = rw (c.deref-2.ensures.value, take_rest) at c.place_of-counted.ensures in
+    let within : c.open_part-part.result + c.place_of-counted.result.0.kept ≤ length c.args.self.now.candidates.items =
+    (adds_plain _ _ _ _ h c.args.head _ c.args.results _ _ (omega arith) part (omega (arith, c.len-end.ensures, c.args.self.now.nodes.ok.0)) _ _ place).within in
+    omega (arith, within, c.args.self.now.candidates.ok.0)
+
+pub push_candidate-requires : goal.push_candidate-requires
+push_candidate-requires c =
+    let s = c.requires.0 in
+    let h = c.requires.1 in
+    let part = c.open_part-part.ensures s.outer (c.deref.ensures.value ∙ h.open_blocks) in
+    let place = rw (c.deref-2.ensures.value, take_rest) at c.place_of-counted.ensures in
+    let adds =
+    adds_plain _ _ _ _ h c.args.head _ c.args.results _ _ (omega arith) part (omega (arith, c.len-end.ensures, c.args.self.now.nodes.ok.0)) _ _ place in
+    let P : List Candidate → Type 0 =
+    λ l. IsOpenRow l c.open_part-part.result c.place_of-counted.result.0.start (base_candidates s.outer) (length (base s.outer)) adds.before in
+    (base_candidates s.outer, length (base s.outer), adds.before, subst P (sym c.truncate.ensures.items) adds.open_row)
 
 pub returns : goal.returns
 returns c =
-    let p = rw c.deref.ensures.value at c.place_of-from.ensures in
-    on_ok_weaker c.wrap.result
-    (λ e s h. plain_stands _ _ _ h _ _ _ _ _ (c.start-start.ensures _ h) p _ _ e)
-    c.wrap.ensures
+    on_ok_weaker c.push_candidate.result
+    (λ e s h.
+    let part = c.open_part-part.ensures s.outer (c.deref.ensures.value ∙ h.open_blocks) in
+    let place = rw (c.deref-2.ensures.value, take_rest) at c.place_of-counted.ensures in
+    let adds =
+    adds_plain _ _ _ _ h c.args.head _ c.args.results _ _ (omega arith) part (omega (arith, c.len-end.ensures, c.args.self.now.nodes.ok.0)) _ _ place in
+    let P : List Candidate → Type 0 =
+    λ l. IsOpenRow l c.open_part-part.result c.place_of-counted.result.0.start (base_candidates s.outer) (length (base s.outer)) adds.before in
+    adds.stands _ _ c.in_ok-wrap.ensures
+    (e (base_candidates s.outer) (length (base s.outer)) adds.before (subst P (sym c.truncate.ensures.items) adds.open_row)))
+    c.push_candidate.ensures
