@@ -10,7 +10,7 @@ mod system;
 #[cfg(test)]
 mod tests;
 
-use program::start;
+use program::{start, words_of};
 use rendering::ByDisplay;
 use std::env;
 use std::process::ExitCode;
@@ -20,7 +20,7 @@ fn main(rt: HostRuntime) -> ExitCode {
         &rt,
         &ByDisplay,
         rt.alloc(),
-        env::args(&rt),
+        words_of(rt.alloc(), env::args(&rt)),
         &mut rt.stdout(),
         &mut rt.stderr(),
     )

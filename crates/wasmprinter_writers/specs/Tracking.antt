@@ -24,12 +24,13 @@ KeepsAll (Start style) new = Unit {0}
 KeepsAll (Claim name place bytes answer) new = answer ≡ false
 
 -- The meaning of a tracker: only calls that write text can fail. A call that fails returns an error of the kind
--- `OutOfMemory`, and leaves the text and its lines unchanged.
+-- `OutOfMemory`, leaves the text and its lines unchanged, and loses no line.
 abbrev pub tracked_meaning : Meaning Tracked
 tracked_meaning = record {
   after = λ old call new. (new ≡ tracked_after old call) × KeepsAll call new;
   may_fail = λ old call. IsText call;
-  partly = λ old call error new. (error_kind error ≡ OutOfMemory) × (new.text ≡ old.text) × (new.lines ≡ old.lines);
+  partly = λ old call error new.
+      (error_kind error ≡ OutOfMemory) × (new.text ≡ old.text) × (new.lines ≡ old.lines) × (new.lost ≡ old.lost);
   faults = λ t. None;
 }
 

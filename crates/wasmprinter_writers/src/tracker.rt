@@ -48,7 +48,7 @@ fn has_room(text: &String, piece: &str) -> bool
 }
 
 impl LineTracker {
-    ghost use Rattle.std.specs.Prelude.{◌≡◌, false, [], ◌∷◌, OnOk, OnErr, IfOk};
+    ghost use Rattle.std.specs.Prelude.{◌≡◌, false, [], ◌∷◌, OnOk, OnErr, IfOk, IsOk};
     ghost use Rattle.std.specs.String.{string_bytes};
     ghost use Rattle.wasmprinter_spec.specs.Call.{Text};
     ghost use Rattle.wasmprinter_print.specs.Made.{Made, ending};
@@ -73,6 +73,7 @@ impl LineTracker {
         ensures ok { OnOk result (self.new ≡ record self.old { new_line = false }) }
         ensures kept { OnOk result (self.new.lost ≡ false) }
         ensures err { OnErr result (self.new ≡ self.old) }
+        ensures needed { self.old.new_line ≡ false → self.old.lost ≡ false → IsOk result }
     {
         if self.lost {
             return Err(AllocError);
@@ -92,6 +93,7 @@ impl LineTracker {
         ensures kept { OnOk result (self.new.lost ≡ false) }
         ensures text { OnErr result (self.new.text ≡ self.old.text) }
         ensures lines { OnErr result (self.new.lines ≡ self.old.lines) }
+        ensures lost { OnErr result (self.new.lost ≡ self.old.lost) }
     {
         self.enter()?;
         self.text.push_str(piece)?;
@@ -113,12 +115,14 @@ impl LineTracker {
     ///
     /// # Errors
     ///
-    /// - [`AllocError`] if an allocation for the last line start failed, or a line was lost before.
+    /// - [`AllocError`] if the last line has no text and an allocation for its start failed, or if a line was lost
+    ///   before.
     pub fn finish(mut self) -> (String, Result<Vec<LineStart>, AllocError>)
         ensures text { string_bytes result.0 ≡ self.text }
         ensures lines { IfOk result.1 (λ starts. lines_at_starts starts.items self.text ≡ self.lines) }
         ensures cuttable { IfOk result.1 (λ starts. IsCuttable starts.items self.text) }
         ensures kept { OnOk result.1 (self.lost ≡ false) }
+        ensures needed { self.new_line ≡ false → self.lost ≡ false → IsOk result.1 }
     {
         let entered = self.enter();
         let LineTracker {
