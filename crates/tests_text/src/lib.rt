@@ -28,6 +28,8 @@ mod pieces;
 #[cfg(test)]
 mod runs;
 #[cfg(test)]
+mod strings;
+#[cfg(test)]
 mod types;
 #[cfg(test)]
 mod values;
