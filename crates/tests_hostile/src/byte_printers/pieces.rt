@@ -2,6 +2,7 @@
 //! bytes, or of `write_str` on a writer of text. The error of that call is returned, and the next piece is written.
 
 use crate::byte_printers::recording::{ByteRecorder, Call, Failure, TextRecorder, WORDS};
+use crate::byte_printers::writers::digits;
 use crate::layout::KINDS;
 use std::alloc::{AllocError, Global};
 use std::io;
@@ -11,10 +12,10 @@ use wasmprinter::print::{Ansi, NoColor};
 use wasmprinter::{Print, PrintFmtWrite, PrintIoWrite, PrintTermcolor};
 
 /// The lengths of pieces in bytes: the least ones, those around the sizes of usual buffers, and one of 1 MiB.
-const LENGTHS: &[usize] = &[0, 1, 4_095, 4_096, 4_097, 65_535, 65_536, 65_537, 1_048_576];
+const LENGTHS: &[u32] = &[0, 1, 4_095, 4_096, 4_097, 65_535, 65_536, 65_537, 1_048_576];
 
 /// The length of a piece for which errors of all kinds are tried.
-const SHORT: usize = 3;
+const SHORT: u32 = 3;
 
 /// The kinds of errors of calls that fail. A writer that implements `write_all` itself may also return `Interrupted`.
 const ALL_KINDS: &[ErrorKind] = &[
@@ -135,41 +136,41 @@ fn writes_despite(alloc: Global, printer: Printer, piece: &str, kinds: &[ErrorKi
     writes_whole(alloc, printer, piece, None)
 }
 
-/// Returns a text of this many digits.
-fn digits(alloc: Global, len: usize) -> Result<String, AllocError> {
-    let mut text = String::new(alloc);
-    for at in 0..len {
-        text.push(char::from(b'0' + (at % 10) as u8))?;
-    }
-    Ok(text)
-}
-
-/// Returns the first of these printers, with the first of these lengths, that does not write a piece whole with errors
-/// of these kinds. Returns `None` if there is no such printer.
+/// Returns the first of these printers that does not write a piece whole with errors of these kinds, or `None` if there is
+/// no such printer.
 fn first_other(
     alloc: Global,
     printers: &[Printer],
-    lengths: &[usize],
+    piece: &str,
     kinds: &[ErrorKind],
-) -> Result<Option<(Printer, usize)>, AllocError> {
-    for len in lengths {
-        let piece = digits(alloc, *len)?;
-        for printer in printers {
-            if !writes_despite(alloc, *printer, piece.as_str(), kinds) {
-                return Ok(Some((*printer, *len)));
-            }
+) -> Option<Printer> {
+    for printer in printers {
+        if !writes_despite(alloc, *printer, piece, kinds) {
+            return Some(*printer);
         }
     }
-    Ok(None)
+    None
+}
+
+/// Checks that each printer writes a piece of this length whole with errors of these kinds.
+///
+/// # Errors
+///
+/// - A printer does not. The error has the printer and the length.
+fn expect_whole(alloc: Global, len: u32, kinds: &[ErrorKind]) -> Result<(), Fail> {
+    let piece = digits(alloc, len)?;
+    match first_other(alloc, PRINTERS, piece.as_str(), kinds) {
+        Some(printer) => Err((printer, len))?,
+        None => Ok(()),
+    }
 }
 
 #[test]
 fn makes_one_call_for_each_piece_and_returns_its_error(rt: HostRuntime) -> Result<(), Fail> {
-    let other = first_other(rt.alloc(), PRINTERS, LENGTHS, KINDS)?;
-    assert!(rt; other.is_none(), "{other:?}");
-    let other = first_other(rt.alloc(), PRINTERS, &[SHORT], ALL_KINDS)?;
-    assert!(rt; other.is_none(), "{other:?}");
-    Ok(())
+    for len in LENGTHS {
+        expect_whole(rt.alloc(), *len, KINDS)?;
+    }
+    expect_whole(rt.alloc(), SHORT, ALL_KINDS)
 }
 
 /// Reports whether a printer makes one call of `write_str` for the piece and one for the line feed, and returns an error
@@ -187,23 +188,21 @@ fn writes_text(alloc: Global, piece: &str, failing: usize) -> bool {
         && kinds == (kind_at(failure, 1), kind_at(failure, 2))
 }
 
-/// Returns the first of these lengths of which a piece is not written whole to a text writer, or `None` if there is no
-/// such length.
-fn first_divided(alloc: Global, lengths: &[usize]) -> Result<Option<usize>, AllocError> {
-    for len in lengths {
-        let piece = digits(alloc, *len)?;
-        for failing in 0..3 {
-            if !writes_text(alloc, piece.as_str(), failing) {
-                return Ok(Some(*len));
-            }
-        }
-    }
-    Ok(None)
+/// Reports whether a piece of this length is written whole to a text writer if no call fails, and if the first or the
+/// second fails.
+fn writes_text_of(alloc: Global, len: u32) -> Result<bool, AllocError> {
+    let piece = digits(alloc, len)?;
+    Ok(
+        writes_text(alloc, piece.as_str(), 0)
+            && writes_text(alloc, piece.as_str(), 1)
+            && writes_text(alloc, piece.as_str(), 2),
+    )
 }
 
 #[test]
 fn makes_one_call_for_each_piece_of_text(rt: HostRuntime) -> Result<(), Fail> {
-    let divided = first_divided(rt.alloc(), LENGTHS)?;
-    assert!(rt; divided == None, "{divided:?} bytes");
+    for len in LENGTHS {
+        assert!(rt; writes_text_of(rt.alloc(), *len)?, "{len} bytes");
+    }
     Ok(())
 }
