@@ -74,6 +74,14 @@ fn write_line<P: Print>(p: &mut P, line: usize, failures: &mut Failures) {
     }
 }
 
+/// Writes this text and the lines.
+fn write_lines<P: Print>(p: &mut P, beginning: &str, failures: &mut Failures) {
+    write_again(p, beginning, failures);
+    for line in 0..LINES {
+        write_line(p, line, failures);
+    }
+}
+
 /// Reports whether this is the text of a line: the word, or a proper prefix of it if the word failed, and a line feed.
 fn is_line(text: &str, has_failed: bool) -> bool {
     match text.strip_suffix('\n') {
@@ -108,7 +116,7 @@ fn are_recorded(beginning: &str, text: &str, starts: &[LineStart], failures: &Fa
         && matches!(starts.first(), Some(first) if first.at == beginning.len())
 }
 
-/// Writes lines after this text to a tracker, and returns the ending.
+/// Writes this text and the lines to a tracker, and returns the ending.
 fn ending_after(alloc: Global, beginning: &str) -> Ending {
     let mut failures = Failures {
         calls: 0,
@@ -116,10 +124,7 @@ fn ending_after(alloc: Global, beginning: &str) -> Ending {
         is_other: false,
     };
     let mut tracker = LineTracker::new(alloc, String::new(alloc));
-    write_again(&mut tracker, beginning, &mut failures);
-    for line in 0..LINES {
-        write_line(&mut tracker, line, &mut failures);
-    }
+    write_lines(&mut tracker, beginning, &mut failures);
     let (text, starts) = tracker.finish();
     match starts {
         Ok(starts) => Ending::of(
