@@ -83,15 +83,20 @@ impl Printer {
     }
 }
 
-/// Reports whether a result is success, or the error of a recorder with this kind.
-fn is_result(alloc: Global, found: &io::Result<()>, kind: Option<ErrorKind>) -> bool {
+/// Reports whether a result is success if there is no kind, and otherwise an error of this kind.
+fn has_kind(found: &io::Result<()>, kind: Option<ErrorKind>) -> bool {
     match (found, kind) {
         (Ok(()), None) => true,
-        (Err(error), Some(kind)) => match format!(in alloc; "{error}") {
-            Ok(words) => error.kind() == kind && words.as_str() == WORDS,
-            Err(_) => false,
-        },
+        (Err(error), Some(kind)) => error.kind() == kind,
         _ => false,
+    }
+}
+
+/// Reports whether a result is success, or an error with the words of a recorder's error.
+fn has_words(alloc: Global, found: &io::Result<()>) -> bool {
+    match found {
+        Ok(()) => true,
+        Err(error) => matches!(format!(in alloc; "{error}"), Ok(words) if words.as_str() == WORDS),
     }
 }
 
@@ -119,8 +124,10 @@ fn writes_whole(alloc: Global, printer: Printer, piece: &str, failure: Failure) 
     let (of_piece, of_line_feed) = results;
     recorder.calls.as_slice() == [Call::WriteAll(piece.len()), Call::WriteAll(1)].as_slice()
         && are_written(&recorder.bytes, piece.as_bytes(), failure)
-        && is_result(alloc, &of_piece, kind_at(failure, 1))
-        && is_result(alloc, &of_line_feed, kind_at(failure, 2))
+        && has_kind(&of_piece, kind_at(failure, 1))
+        && has_kind(&of_line_feed, kind_at(failure, 2))
+        && has_words(alloc, &of_piece)
+        && has_words(alloc, &of_line_feed)
 }
 
 /// Reports whether a printer writes a piece whole if no call fails, and if the first or the second fails with an error
@@ -136,8 +143,8 @@ fn writes_despite(alloc: Global, printer: Printer, piece: &str, kinds: &[ErrorKi
     writes_whole(alloc, printer, piece, None)
 }
 
-/// Returns the first of these printers that does not write a piece whole with errors of these kinds, or `None` if there is
-/// no such printer.
+/// Returns the first of these printers that does not write a piece whole with errors of these kinds, or `None` if there
+/// is no such printer.
 fn first_other(
     alloc: Global,
     printers: &[Printer],
@@ -173,19 +180,15 @@ fn makes_one_call_for_each_piece_and_returns_its_error(rt: HostRuntime) -> Resul
     expect_whole(rt.alloc(), SHORT, ALL_KINDS)
 }
 
-/// Reports whether a printer makes one call of `write_str` for the piece and one for the line feed, and returns an error
-/// exactly for the call with this number. The error of a text writer has no kind, so `Other` is returned.
-fn writes_text(alloc: Global, piece: &str, failing: usize) -> bool {
-    let mut printer = PrintFmtWrite(TextRecorder::new(alloc, failing));
+/// Reports whether a printer makes one call of `write_str` for the piece and one for the line feed, and returns their
+/// results. The error of a text writer has no kind, so the printer's error is `Other`.
+fn writes_text(alloc: Global, piece: &str, failure: Failure) -> bool {
+    let mut printer = PrintFmtWrite(TextRecorder::new(alloc, failure));
     let (of_piece, of_line_feed) = write_to(&mut printer, piece);
-    let failure = Some((failing, ErrorKind::Other)).filter(|_| failing > 0);
-    let kinds = (
-        of_piece.err().map(|e| e.kind()),
-        of_line_feed.err().map(|e| e.kind()),
-    );
     printer.0.lengths.as_slice() == [piece.len(), 1].as_slice()
         && are_written(printer.0.text.as_bytes(), piece.as_bytes(), failure)
-        && kinds == (kind_at(failure, 1), kind_at(failure, 2))
+        && has_kind(&of_piece, kind_at(failure, 1))
+        && has_kind(&of_line_feed, kind_at(failure, 2))
 }
 
 /// Reports whether a piece of this length is written whole to a text writer if no call fails, and if the first or the
@@ -193,9 +196,9 @@ fn writes_text(alloc: Global, piece: &str, failing: usize) -> bool {
 fn writes_text_of(alloc: Global, len: u32) -> Result<bool, AllocError> {
     let piece = digits(alloc, len)?;
     Ok(
-        writes_text(alloc, piece.as_str(), 0)
-            && writes_text(alloc, piece.as_str(), 1)
-            && writes_text(alloc, piece.as_str(), 2),
+        writes_text(alloc, piece.as_str(), None)
+            && writes_text(alloc, piece.as_str(), Some((1, ErrorKind::Other)))
+            && writes_text(alloc, piece.as_str(), Some((2, ErrorKind::Other))),
     )
 }
 

@@ -75,16 +75,16 @@ pub struct TextRecorder {
     pub text: String,
     /// The lengths of the pieces, in order.
     pub lengths: Vec<usize>,
-    /// The number of the call that fails, counted from 1, or 0 if none fails.
-    failing: usize,
+    /// The call that fails. The kind of its error is not used.
+    failure: Failure,
 }
 
 impl TextRecorder {
-    pub fn new(alloc: Global, failing: usize) -> TextRecorder {
+    pub fn new(alloc: Global, failure: Failure) -> TextRecorder {
         TextRecorder {
             text: String::new(alloc),
             lengths: Vec::new(alloc),
-            failing,
+            failure,
         }
     }
 }
@@ -92,7 +92,8 @@ impl TextRecorder {
 impl fmt::Write for TextRecorder {
     fn write_str(&mut self, s: &str) -> fmt::Result {
         let is_recorded = self.lengths.push(s.len()).is_ok();
-        if !is_recorded || self.lengths.len() == self.failing {
+        let number = self.lengths.len();
+        if !is_recorded || matches!(self.failure, Some((failing, _)) if failing == number) {
             return Err(fmt::Error);
         }
         self.text.push_str(s)?;
