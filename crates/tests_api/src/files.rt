@@ -66,8 +66,8 @@ fn prints_files_of_the_system(rt: HostRuntime) -> Result<(), Fail> {
 /// The number of copies of `LETTERS` in the large file, which then has more than two times 2^20 bytes.
 const COPIES: u32 = 100_000;
 
-/// The 25 letters that are repeated. No power of two is a multiple of 25, so that a block of the file that is missing or
-/// read twice moves the letters after it.
+/// The 25 letters that are repeated. No power of two is a multiple of 25, so a block of the file that is missing or read
+/// twice moves the letters after it.
 const LETTERS: &str = "abcdefghijklmnopqrstuvwxy";
 
 /// The preamble, and the size and the name of a custom section with 2,500,000 bytes of data, which follow.

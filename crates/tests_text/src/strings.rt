@@ -175,9 +175,6 @@ fn module_of(alloc: Global, name: &str, data: &[u8]) -> Result<Vec<u8>, AllocErr
     Ok(wasm)
 }
 
-/// The digits of hexadecimal numbers.
-const DIGITS: &[u8; 16] = b"0123456789abcdef";
-
 /// Reports whether a quoted string contains this character unescaped.
 fn is_unescaped(code: u32) -> bool {
     code >= 0x20 && code <= 0x7e && code != 0x22 && code != 0x5c
@@ -189,9 +186,7 @@ fn add_bytes(text: &mut String, bytes: &[u8]) -> Result<(), AllocError> {
         if is_unescaped(u32::from(*byte)) {
             text.push(char::from(*byte))?;
         } else {
-            text.push('\\')?;
-            text.push(char::from(DIGITS[usize::from(*byte / 16)]))?;
-            text.push(char::from(DIGITS[usize::from(*byte % 16)]))?;
+            write!(text, "\\{byte:02x}")?;
         }
     }
     Ok(())
