@@ -9,6 +9,7 @@
 
 mod comparing;
 mod ending;
+mod going_on;
 mod modules;
 mod naming;
 mod printers;

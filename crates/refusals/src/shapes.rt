@@ -49,6 +49,8 @@ pub enum Way {
     Folded,
     /// The same, with each call compared. A refused section ends the calls.
     FoldedCalls,
+    /// Not printed: trackers receive lines, and are used further after a failed allocation.
+    Trackers,
     /// In lines. No call follows.
     Setup,
     /// In lines. Each call that needs no memory follows.
@@ -354,6 +356,13 @@ pub const SHAPES: &[Shape] = &[
         wasm: LISTS,
         text: LISTS_TEXT,
         functions: 1,
+    },
+    Shape {
+        name: "trackers that go on",
+        way: Way::Trackers,
+        wasm: EMPTY,
+        text: "",
+        functions: 0,
     },
     Shape {
         name: "setup",

@@ -2,6 +2,7 @@
 
 use crate::comparing::{Comparing, are_text};
 use crate::ending::Ending;
+use crate::going_on::by_trackers;
 use crate::printers::{Copying, Keeping};
 use crate::shapes::{Shape, Way};
 use crate::without_memory::ending_of_calls;
@@ -263,6 +264,7 @@ pub fn ending_of(rt: &HostRuntime, shape: &Shape) -> Ending {
         Way::FoldedCalls => {
             by_comparing(alloc, &folding(), shape, Comparing::with_calls(shape.text))
         }
+        Way::Trackers => by_trackers(alloc),
         Way::Setup => ending_of_calls(alloc, shape, false),
         Way::WithoutMemory => ending_of_calls(alloc, shape, true),
     }

@@ -1,6 +1,9 @@
 //! Tests of the places that errors report. No contract states these places. They are typed by hand, or follow from
 //! where an operator is truncated.
 
+mod damaged;
+
+use damaged::is_damaged_alike;
 use std::alloc::{AllocError, Global};
 use std::test::Fail;
 use wasmprinter_bytes::bytes::Cursor;
@@ -16,10 +19,10 @@ const PLACE: u64 = 0x1a;
 const END: u8 = 0x0b;
 
 /// A shape of immediates, the role of an operator with these, and the bytes of that operator.
-type Spelled = (Shape, Role, &'static [u8]);
+type Spelled<'a> = (Shape, Role, &'a [u8]);
 
 /// Operators without immediates, and with blocks, labels and types.
-const CONTROL: &[Spelled] = &[
+const CONTROL: &[Spelled<'static>] = &[
     (Shape::None, Role::Plain, &[0x01]),
     (Shape::None, Role::Ends, &[0x0b]),
     (Shape::None, Role::Else, &[0x05]),
@@ -73,7 +76,7 @@ const CONTROL: &[Spelled] = &[
 ];
 
 /// Operators with indices.
-const INDICES: &[Spelled] = &[
+const INDICES: &[Spelled<'static>] = &[
     (Shape::Index(Space::Local), Role::Plain, &[0x20, 0x00]),
     (
         Shape::Index(Space::Func),
@@ -132,7 +135,7 @@ const INDICES: &[Spelled] = &[
 ];
 
 /// Operators with memory operands, lanes and numbers.
-const NUMBERS: &[Spelled] = &[
+const NUMBERS: &[Spelled<'static>] = &[
     (Shape::Memory(2), Role::Plain, &[0x28, 0x02, 0x08]),
     (
         Shape::Memory(3),
@@ -478,7 +481,7 @@ fn has_shape(bytes: &[u8], shape: Shape) -> bool {
 }
 
 /// Reports whether the bytes are an operator with this shape and role, and each proper prefix is refused.
-fn is_spelled(alloc: Global, (shape, role, bytes): Spelled) -> Result<bool, AllocError> {
+fn is_spelled(alloc: Global, (shape, role, bytes): Spelled<'_>) -> Result<bool, AllocError> {
     Ok(
         has_shape(bytes, shape)
             && is_passed(alloc, role, bytes)?
@@ -486,14 +489,15 @@ fn is_spelled(alloc: Global, (shape, role, bytes): Spelled) -> Result<bool, Allo
     )
 }
 
-/// Checks that the bytes of each row are an operator with its shape and role, and each proper prefix is refused.
+/// Checks that the bytes of each row are an operator with its shape and role, that each proper prefix is refused, and
+/// that damaged bytes are read alike as an operator and within an expression.
 ///
 /// # Errors
 ///
 /// - A row does not hold. The error is the name of the table with the number of the row.
-fn expect_spelled(alloc: Global, name: &'static str, rows: &[Spelled]) -> Result<(), Fail> {
+fn expect_spelled(alloc: Global, name: &'static str, rows: &[Spelled<'_>]) -> Result<(), Fail> {
     for (row, spelled) in rows.iter().enumerate() {
-        if !is_spelled(alloc, *spelled)? {
+        if !is_spelled(alloc, *spelled)? || !is_damaged_alike(alloc, spelled.2)? {
             return Err((name, row))?;
         }
     }

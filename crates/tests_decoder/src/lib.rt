@@ -1,4 +1,5 @@
-//! Tests of the decoder. All expected values are typed by hand.
+//! Tests of the decoder. All expected values are typed by hand, except that `faults` compares two ways of reading
+//! damaged operators.
 //!
 //! - At the root: the texts of errors and the places that they report, the cursor, numbers in LEB128, and the decoders
 //!   of types, opcodes and operators.

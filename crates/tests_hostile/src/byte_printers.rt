@@ -4,7 +4,9 @@
 mod byte_writers;
 mod colors;
 mod passing;
+mod pieces;
 mod printing;
+mod recording;
 mod scripted;
 mod sinks;
 mod writers;

@@ -8,7 +8,7 @@ use std::test::Fail;
 use wasmprinter_expecting::expect_printed;
 use wasmprinter_samples::{
     CUSTOMS_AROUND_A_MEMORY, DYLINK_CUT, DYLINK_MEMORY, GLOBAL_BLOCK, HINTED_IF, IDENTITY, MODULES,
-    PREAMBLE, RAW_PRODUCERS,
+    RAW_PRODUCERS,
 };
 
 /// Returns all modules of the worked examples.
@@ -83,18 +83,6 @@ fn byte_count(modules: &[&[u8]]) -> usize {
     let mut count: usize = 0;
     for wasm in modules {
         count = count.saturating_add(wasm.len());
-    }
-    count
-}
-
-/// Returns the number of modules that consist of the preamble and more bytes. Truncated after the preamble, each is
-/// printed as a module without fields.
-fn longer_count(modules: &[&[u8]]) -> usize {
-    let mut count: usize = 0;
-    for wasm in modules {
-        if wasm.len() > PREAMBLE.len() && wasm.starts_with(PREAMBLE) {
-            count = count.saturating_add(1);
-        }
     }
     count
 }
@@ -266,22 +254,20 @@ const SURVIVORS: &[Survivor] = &[
     },
 ];
 
-/// Returns the number of these survivors that are damaged in this way.
-fn survivor_count(survivors: &[Survivor], damage: Damage) -> usize {
-    let mut count: usize = 0;
-    for survivor in survivors {
-        if survivor.damage == damage {
-            count = count.saturating_add(1);
-        }
-    }
-    count
-}
+// The numbers of modules that are printed after each kind of damage. A decoder that was written separately, from the
+// binary format, counted them.
+const PRINTED_IF_CUT: usize = 156;
 
-/// Returns a lower bound of the number of modules that are printed after this damage of each byte.
-fn least_printed(damage: Damage) -> usize {
+const PRINTED_IF_INCREMENTED: usize = 765;
+
+const PRINTED_IF_COMPLEMENTED: usize = 296;
+
+/// Returns the number of modules that are printed after this damage of each byte.
+fn printed_count(damage: Damage) -> usize {
     match damage {
-        Damage::Cut => longer_count(all_modules()),
-        Damage::PlusOne | Damage::Complement => survivor_count(SURVIVORS, damage),
+        Damage::Cut => PRINTED_IF_CUT,
+        Damage::PlusOne => PRINTED_IF_INCREMENTED,
+        Damage::Complement => PRINTED_IF_COMPLEMENTED,
     }
 }
 
@@ -309,14 +295,17 @@ fn prints_survivors(rt: HostRuntime) -> Result<(), Fail> {
 }
 
 /// Checks that the calls agree on all modules with this damage of each byte, that each byte is damaged, and that
-/// enough of the damaged modules are printed.
+/// the expected number of the damaged modules is printed.
 fn check_damage(alloc: Global, damage: Damage) -> Result<(), Fail> {
     let tally = check_all(alloc, all_modules(), damage)?;
     if tally.tried != byte_count(all_modules()) {
         return Err(("another number of modules", (damage, tally.tried)))?;
     }
-    if tally.printed < least_printed(damage) {
-        return Err(("too few modules are printed", (damage, tally.printed)))?;
+    if tally.printed != printed_count(damage) {
+        return Err((
+            "another number of modules is printed",
+            (damage, tally.printed),
+        ))?;
     }
     Ok(())
 }

@@ -69,6 +69,8 @@ fn appends_to_existing_text(rt: HostRuntime) -> Result<(), Fail> {
     let mut storage = String::from_str(rt.alloc(), "λ\n")?;
     assert!(rt; is_appended(rt.alloc(), &mut storage, "λ\n(module)\n")?);
     assert!(rt; is_appended(rt.alloc(), &mut storage, "λ\n(module)\n(module)\n")?);
+    let mut old = String::from_str(rt.alloc(), "old\n")?;
+    assert!(rt; is_appended(rt.alloc(), &mut old, "old\n(module)\n")?);
     Ok(())
 }
 

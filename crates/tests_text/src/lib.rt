@@ -1,8 +1,9 @@
 //! Tests of texts that are built by code, and of the calls in which a printer receives a text: deep nesting, large
-//! modules, many types, single values, colors, and refusals of folding in colors and as lines; of reserved opcodes;
-//! and of the number of defined functions. Most other texts are rows of files, which the crate `check_rows` checks.
-//! Only the tests of `parts` call functions that the crate `wasmprinter` does not export. All expected texts and
-//! calls are typed by hand; `pieces/lists.rt` says from where its calls were typed.
+//! modules, many types, single values, strings, colors, and refusals of folding in colors and as lines; of reserved
+//! opcodes; and of the number of defined functions. Most other texts are rows of files, which the crate `check_rows`
+//! checks. Only the tests of `parts` call functions that the crate `wasmprinter` does not export. All expected texts
+//! and calls are typed by hand, except that `strings` builds texts from pseudorandom bytes; `pieces/lists.rt` says from
+//! where its calls were typed.
 #![tactic(auto)]
 
 #[cfg(test)]
@@ -27,6 +28,8 @@ mod parts;
 mod pieces;
 #[cfg(test)]
 mod runs;
+#[cfg(test)]
+mod strings;
 #[cfg(test)]
 mod types;
 #[cfg(test)]

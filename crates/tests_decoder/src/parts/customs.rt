@@ -309,6 +309,29 @@ fn are_flags(flags: SymbolFlags, wanted: &[&str], other_bits: u32) -> bool {
     words.next() == None && flags.other_bits() == other_bits
 }
 
+/// The flags, each with its bit and its word (tool conventions, "Linking").
+const FLAGS: &[(SymbolFlags, u32, &str)] = &[
+    (SymbolFlags::BINDING_WEAK, 0x1, "binding-weak"),
+    (SymbolFlags::BINDING_LOCAL, 0x2, "binding-local"),
+    (SymbolFlags::VISIBILITY_HIDDEN, 0x4, "visibility-hidden"),
+    (SymbolFlags::UNDEFINED, 0x10, "undefined"),
+    (SymbolFlags::EXPORTED, 0x20, "exported"),
+    (SymbolFlags::EXPLICIT_NAME, 0x40, "explicit-name"),
+    (SymbolFlags::NO_STRIP, 0x80, "no-strip"),
+    (SymbolFlags::TLS, 0x100, "tls"),
+    (SymbolFlags::ABSOLUTE, 0x200, "absolute"),
+];
+
+#[test]
+fn flags_have_bits_and_words(rt: HostRuntime) {
+    for (flag, bit, word) in FLAGS {
+        assert!(rt;
+            flag.bits() == *bit && are_flags(*flag, &[*word], 0),
+            "{word}"
+        );
+    }
+}
+
 #[test]
 fn flags_have_words(rt: HostRuntime) {
     let flags = SymbolFlags::EXPORTED.union(SymbolFlags::BINDING_WEAK);

@@ -127,7 +127,7 @@ fn keeps_the_text_that_a_string_begins_with(rt: HostRuntime) -> Result<(), Fail>
 }
 
 /// Returns a text of this many digits.
-fn digits(alloc: Global, len: u32) -> Result<String, AllocError> {
+pub fn digits(alloc: Global, len: u32) -> Result<String, AllocError> {
     let mut text = String::new(alloc);
     for at in 0..len {
         text.push(char::from(b'0' + (at % 10) as u8))?;
