@@ -29,8 +29,8 @@ class Result:
         self.fault = None
 
 
-def spawn(command, folder, out):
-    """Runs a command to its end. Returns its status, the elapsed seconds, and its resource usage."""
+def spawn(command, folder, out, limit=LIMIT):
+    """Runs a command to its end, or stops it after `limit` seconds. Returns its status, the elapsed seconds, and its resource usage."""
     opened = os.O_WRONLY | os.O_CREAT | os.O_TRUNC
     files = [
         (os.POSIX_SPAWN_OPEN, 0, os.devnull, os.O_RDONLY, 0),
@@ -39,7 +39,7 @@ def spawn(command, folder, out):
     ]
     start = time.perf_counter()
     child = os.posix_spawn(command[0], command, os.environ, file_actions=files, setpgroup=0)
-    stop = threading.Timer(LIMIT, os.killpg, (child, signal.SIGKILL))
+    stop = threading.Timer(limit, os.killpg, (child, signal.SIGKILL))
     stop.start()
     _, status, usage = os.wait4(child, 0)
     wall = time.perf_counter() - start
