@@ -1,6 +1,5 @@
 -- The reasons for the errors of printing, and the state of the printer after each error.
 use Rattle.std.specs.Prelude.{◌≡◌, ◌<◌, ◌⊎◌, List, [], ◌∷◌, ◌++◌, ℕ, Bool, true, false, length, Some}
-use Rattle.std.specs.List.{Contains}
 use Rattle.std.specs.declared.io.Error.{Error as IoError}
 use Rattle.wasmprinter_spec.specs.Binary.{Spells, IsComponent}
 use Rattle.wasmprinter_spec.specs.Placed.{CustomEntry, PlacedModule}
@@ -10,13 +9,13 @@ use Rattle.wasmprinter_spec.specs.Call.{Call, Claim, atoms}
 use Rattle.wasmprinter_spec.specs.Meaning.{Meaning, Run, Failed}
 use Rattle.wasmprinter_spec.specs.Options.{Options, Answers, in_colors}
 use Rattle.wasmprinter_spec.specs.Layout.{layout, refusal}
-use Rattle.wasmprinter_spec.specs.Folding.Refusals.{legacy_places, misplaced_hints, IsFoldable}
+use Rattle.wasmprinter_spec.specs.Folding.Refusals.{IsFirstLegacy, IsFirstMisplaced, IsFoldable}
 use Rattle.wasmprinter_print.specs.Made.{Whole, Broken, Interrupted}
 use Rattle.wasmprinter_bytes.specs.Reasons.{Reasons}
 use Rattle.wasmprinter_bytes.specs.declared.error.Error.{Error}
 use Rattle.wasmprinter_bytes.specs.declared.error.Error.TheVariants.{Malformed, Component, TooManyLocals, TooManyFunctions, EmptyTableInit, FoldLegacy, FoldHint, DylinkSubsection, Unreadable, Printer, Memory}
 use Rattle.wasmprinter_wasm.specs.Modules.{bodies_of}
-use Rattle.wasmprinter_wasm.specs.Refusals.{AnyIsOver, FirstIsEmpty}
+use Rattle.wasmprinter_wasm.specs.Refusals.{FirstIsOver, FirstIsEmpty}
 use Rattle.wasmprinter_wasm.specs.Decoding.{HoldsSome, module_reasons}
 
 -- One of these custom sections is a `dylink.0` section whose first unknown subsection has this id. That subsection
@@ -70,15 +69,15 @@ HasPrintReason printing reasons Unreadable = ⊥
 HasPrintReason printing reasons (Printer e) = printing.failed e
 HasPrintReason printing reasons Memory = reasons.memory
 
--- Operators are folded, and at this place is an operator of legacy exception handling in a list of operators that
--- is printed.
+-- Operators are folded, and at this place is the first operator of legacy exception handling in the lists of operators
+-- that are printed.
 abbrev pub IsLegacyAt : Options → PlacedModule → ℕ → Type 0
-IsLegacyAt o m place = (o.folds ≡ true) × Contains (legacy_places o m) place
+IsLegacyAt o m place = (o.folds ≡ true) × IsFirstLegacy o m place
 
--- Operators are folded, and at this place of the bytes is a branch hint on an operator that can't have one, in a
--- body that is printed.
+-- Operators are folded, none of legacy exception handling is printed, and at this place of the bytes is the first
+-- branch hint on an operator that can't have one, in the bodies that are printed.
 abbrev pub IsMisplacedAt : Options → PlacedModule → ℕ → Type 0
-IsMisplacedAt o m place = (o.folds ≡ true) × Contains (misplaced_hints o m) place
+IsMisplacedAt o m place = (o.folds ≡ true) × IsFirstMisplaced o m place
 
 -- The reasons for a module with these options. `failed` and `unknown` are those for a failed call and for an
 -- unknown subsection.
@@ -104,14 +103,15 @@ pub record PrinterFailed {P : Type 0} (m : Meaning P) (old new : P) (error : IoE
   -- increased by one, unless it had its greatest value.
   pub failed : Failed m before call error new
 
--- The reasons of decoding for bytes that encode this module: the function whose body is at this place has too many
--- locals; the module has `count` functions, which is too many; the table at this place has an empty initialiser;
+-- The reasons of decoding for bytes that encode this module: the first function with too many locals has its
+-- body at this place; the module has `count` functions, which is too many; the first table with an empty initialiser is at
+-- this place;
 -- an allocation failed, under the condition `growth`.
 abbrev pub causes : Type 0 → PlacedModule → Reasons
 causes growth placed = record {
   malformed = λ place. ⊥;
   component = ⊥;
-  locals = λ place. AnyIsOver place (bodies_of placed.functions);
+  locals = λ place. FirstIsOver place (bodies_of placed.functions);
   functions = λ count. (length placed.functions ≡ count) × (most_functions < count);
   tables = λ place. FirstIsEmpty place placed.tables;
   memory = growth;

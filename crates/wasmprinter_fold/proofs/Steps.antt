@@ -16,7 +16,7 @@ use Rattle.wasmprinter_spec.specs.Customs.Hints.{Hint, FunctionHints, next_hint,
 use Rattle.wasmprinter_spec.specs.Placed.{Custom, CustomEntry, Global, PlacedFunction, PlacedModule}
 use Rattle.wasmprinter_spec.specs.Options.{Options}
 use Rattle.wasmprinter_spec.specs.Folding.Code.{is_try}
-use Rattle.wasmprinter_spec.specs.Folding.Refusals.{Operators, init_list, element_lists, data_lists, constant_lists, legacy_places_in, place_if_misplaced, misplaced_hints_in, misplaced_hints_from}
+use Rattle.wasmprinter_spec.specs.Folding.Refusals.{Operators, init_list, element_lists, data_lists, lists_before_code, body_lists, legacy_places_in, legacy_places, place_if_misplaced, misplaced_hints_in, misplaced_hints_from}
 use Rattle.wasmprinter_wasm.specs.Segments.{constants_of}
 use Rattle.wasmprinter_ops.specs.Operators.{pairs}
 use Rattle.wasmprinter_ops.proofs.Pairs.{first-pair, no-pair}
@@ -129,22 +129,28 @@ hintless k (f ∷ fs) = rw (body_hintless f.body.place f.body.value.operators) (
 pub items_single : (es : List (Closed (Placed Operator))) → flat_map (λ (e : Closed (Placed Operator)). e.items ∷ []) es ≡ constants_of es
 items_single es = flat_map_single (λ (e : Closed (Placed Operator)). e.items) es
 
--- The places in constant expressions are those in tables, globals, element segments and data segments.
-pub constants_parts : (o : Options) (m : PlacedModule) →
-    flat_map legacy_places_in (constant_lists o m)
+-- The places in constant expressions before the bodies are those in tables, globals and element segments.
+pub before_parts : (o : Options) (m : PlacedModule) →
+    flat_map legacy_places_in (lists_before_code o m)
     ≡ flat_map legacy_places_in (flat_map init_list m.tables)
     ++ (flat_map legacy_places_in (flat_map (λ (g : Placed (Global (Placed Operator))). g.value.init ∷ []) m.globals)
-    ++ (flat_map legacy_places_in (flat_map (element_lists o.skeleton) m.elements)
-    ++ flat_map legacy_places_in (flat_map data_lists m.data_segments)))
-constants_parts o m =
+    ++ flat_map legacy_places_in (flat_map (element_lists o.skeleton) m.elements))
+before_parts o m =
     let globals = flat_map_single (λ (g : Placed (Global (Placed Operator))). g.value.init) m.globals in
-    let front = flat_map init_list m.tables in
+    let first = flat_map init_list m.tables in
     let second = map (λ (g : Placed (Global (Placed Operator))). g.value.init) m.globals in
     let third = flat_map (element_lists o.skeleton) m.elements in
-    let fourth = flat_map data_lists m.data_segments in
-    let a = flat_map legacy_places_in front in
-    let b = flat_map legacy_places_in second in
-    let c = flat_map legacy_places_in third in
-    let d = flat_map legacy_places_in fourth in
-    rw (globals, flat_map-append legacy_places_in ((front ++ second) ++ third) fourth, flat_map-append legacy_places_in (front ++ second) third, flat_map-append legacy_places_in front second)
-    (append_assoc (a ++ b) c d ∙ append_assoc a b (c ++ d))
+    rw (globals, flat_map-append legacy_places_in (first ++ second) third, flat_map-append legacy_places_in first second)
+    (append_assoc (flat_map legacy_places_in first) (flat_map legacy_places_in second) (flat_map legacy_places_in third))
+
+-- The places in all lists are those before the bodies, in the bodies and in data segments.
+pub all_parts : (o : Options) (m : PlacedModule) →
+    legacy_places o m
+    ≡ flat_map legacy_places_in (lists_before_code o m)
+    ++ (flat_map legacy_places_in (body_lists o m) ++ flat_map legacy_places_in (flat_map data_lists m.data_segments))
+all_parts o m =
+    let before = lists_before_code o m in
+    let bodies = body_lists o m in
+    let after = flat_map data_lists m.data_segments in
+    rw (flat_map-append legacy_places_in (before ++ bodies) after, flat_map-append legacy_places_in before bodies)
+    (append_assoc (flat_map legacy_places_in before) (flat_map legacy_places_in bodies) (flat_map legacy_places_in after))

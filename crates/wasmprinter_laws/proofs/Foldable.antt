@@ -7,7 +7,7 @@ use Rattle.wasmprinter_spec.specs.Placed.{PlacedModule}
 use Rattle.wasmprinter_spec.specs.Options.{Options}
 use Rattle.wasmprinter_spec.specs.Layout.Declarations.{Folding}
 use Rattle.wasmprinter_spec.specs.Folding.Code.{is_try, AreWithoutTry}
-use Rattle.wasmprinter_spec.specs.Folding.Refusals.{Operators, init_list, element_lists, data_lists, constant_lists, body_lists, legacy_places_in, legacy_places}
+use Rattle.wasmprinter_spec.specs.Folding.Refusals.{Operators, init_list, element_lists, data_lists, lists_before_code, body_lists, lists_after_code, printed_lists, legacy_places_in, legacy_places}
 use Rattle.wasmprinter_spec.proofs.Each.{all_parts}
 use Rattle.wasmprinter_laws.proofs.Each.{nothing_joined, all_flat, all_mapped}
 use Rattle.wasmprinter_laws.proofs.Folded.Lists.{is_folding, AreFoldable}
@@ -50,23 +50,17 @@ module _ (folding : Option Folding) (m : PlacedModule) where
 
   pub can_fold : (o : Options) → o.skeleton ≡ false → (is_folding folding ≡ true → legacy_places o m ≡ []) → CanFold
   can_fold o whole h =
-      let parts = λ (e : is_folding folding ≡ true). nothing_places (constant_lists o m) (body_lists o m) (h e) in
-      let constants : AllFoldable (constant_lists o m) = lists_foldable folding (constant_lists o m) (λ e. (parts e).0) in
-      let bodies : AllFoldable (body_lists o m) = lists_foldable folding (body_lists o m) (λ e. (parts e).1) in
       let tables : List Operators = flat_map init_list m.tables in
       let globals : List Operators = map (λ g. g.value.init) m.globals in
       let elements : List Operators = flat_map (element_lists o.skeleton) m.elements in
-      let data_segments : List Operators = flat_map data_lists m.data_segments in
-      let last = all_parts Foldable ((tables ++ globals) ++ elements) data_segments constants in
-      let third = all_parts Foldable (tables ++ globals) elements last.0 in
+      let last = all_parts Foldable (lists_before_code o m ++ body_lists o m) (lists_after_code m) (lists_foldable folding (printed_lists o m) h) in
+      let middle = all_parts Foldable (lists_before_code o m) (body_lists o m) last.0 in
+      let third = all_parts Foldable (tables ++ globals) elements middle.0 in
       let first = all_parts Foldable tables globals third.0 in
       record {
         tables = all_flat Foldable init_list m.tables first.0;
         globals = all_mapped Foldable (λ g. g.value.init) m.globals first.1;
         elements = all_flat Foldable (element_lists false) m.elements (subst (λ s. AllFoldable (flat_map (element_lists s) m.elements)) whole third.1);
-        functions = all_mapped Foldable (λ f. f.body.value.operators) m.functions (subst (λ s. AllFoldable (cond s [] (map (λ f. f.body.value.operators) m.functions))) whole bodies);
+        functions = all_mapped Foldable (λ f. f.body.value.operators) m.functions (subst (λ s. AllFoldable (cond s [] (map (λ f. f.body.value.operators) m.functions))) whole middle.1);
         data_segments = all_flat Foldable data_lists m.data_segments last.1;
       }
-    where
-      nothing_places : (a b : List Operators) → flat_map legacy_places_in a ++ flat_map legacy_places_in b ≡ [] → (flat_map legacy_places_in a ≡ []) × (flat_map legacy_places_in b ≡ [])
-      nothing_places a b e = nothing_joined (flat_map legacy_places_in a) (flat_map legacy_places_in b) e

@@ -22,8 +22,8 @@ use Rattle.wasmprinter_bytes.specs.declared.error.Error.TheVariants as e
 use Rattle.wasmprinter_bytes.specs.Reasons.{HasReason}
 use Rattle.wasmprinter_bytes.proofs.Reasons.{reason_implied, memory_alone}
 use Rattle.wasmprinter_spec.proofs.Each.{all_parts}
-use Rattle.wasmprinter_wasm.specs.Refusals.{AnyIsOver, PlacedTable, FirstIsEmpty}
-use Rattle.wasmprinter_wasm.specs.Contents.{HasFew, HasNoEmpty}
+use Rattle.wasmprinter_wasm.specs.Refusals.{HasFew, FirstIsOver, PlacedTable, FirstIsEmpty}
+use Rattle.wasmprinter_wasm.specs.Contents.{HasNoEmpty}
 use Rattle.wasmprinter_wasm.specs.Gathering.{Gathered, IsWhole, sections_at, item_count_in, HoldsSections, sections_reasons}
 use Rattle.wasmprinter_wasm.specs.Modules.{functions_of, bodies_of, IsPaired, HasFewItems}
 use Rattle.wasmprinter_wasm.specs.Decoding.{HoldsSome, HoldsNothing, module_reasons, IsFaultOf, TakesModule}
@@ -143,7 +143,7 @@ module _ (bytes pre : List ℕ) (at : Input) (first : preamble.parse (input 0 by
       many_later (input 0 bytes) at place later h.0,
       λ m s.
           let p = spelled_of m s in
-          subst (AnyIsOver place) (sym (functions_are m p).bodies) (h.1 p.sections p.read p.rise),
+          subst (FirstIsOver place) (sym (functions_are m p).bodies) (h.1 p.sections p.read p.rise),
     );
     functions = λ count (begins, many, counted). (
       section_later (input 0 bytes) at FunctionSection count later begins,
@@ -252,10 +252,10 @@ module _ (bytes pre : List ℕ) (at : Input) (first : preamble.parse (input 0 by
           }
 
 -- If every function is within the limit of locals, then no function exceeds it.
-over_few : (place : ℕ) (fs : List PlacedFunction) → AllByRecursion HasFewLocals fs → AnyIsOver place (bodies_of fs) → ⊥
+over_few : (place : ℕ) (fs : List PlacedFunction) → AllByRecursion HasFewLocals fs → FirstIsOver place (bodies_of fs) → ⊥
 over_few place [] few over = over
 over_few place (f ∷ fs) few (inl here) = absurd (omega (arith, here.1, few.0))
-over_few place (f ∷ fs) few (inr there) = over_few place fs few.1 there
+over_few place (f ∷ fs) few (inr there) = over_few place fs few.1 there.1
 
 -- If no table has an empty initialiser, then there is no first one that has.
 empty_none : (place : ℕ) (ts : List PlacedTable) → AllByRecursion HasNoEmpty ts → FirstIsEmpty place ts → ⊥

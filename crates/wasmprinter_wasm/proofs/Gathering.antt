@@ -9,7 +9,7 @@ use Rattle.wasmprinter_bytes.specs.Reads.{end_of}
 use Rattle.wasmprinter_bytes.specs.declared.error.Error.{Error}
 use Rattle.wasmprinter_bytes.specs.Reasons.{HasReason}
 use Rattle.wasmprinter_bytes.proofs.Reasons.{reason_implied}
-use Rattle.wasmprinter_wasm.specs.Refusals.{AnyIsOver, FirstIsEmpty}
+use Rattle.wasmprinter_wasm.specs.Refusals.{FirstIsOver, FirstIsEmpty}
 use Rattle.wasmprinter_wasm.specs.Contents.{IsSmall, HasCount, HasOver, HasEmpty, item_count}
 use Rattle.wasmprinter_wasm.specs.Sections.{section_reasons}
 use Rattle.wasmprinter_wasm.specs.Gathering.{Gathered, none_gathered, Kept, gathered_items, with_section, IsHeld, sections_at, item_count_in, HoldsSections, sections_reasons}
@@ -147,7 +147,7 @@ module _ (start at : Input) (g : Gathered) (some : at.bytes ≡ [] → ⊥) (k :
   gathering_fault = reason_implied (section_reasons at) (sections_reasons start) (record {
     malformed = malformed_fault;
     component = λ h. h;
-    locals = λ place h. (many_later start at place k.later h.0, of_sections (HasOver place) (λ (ss : List Section). AnyIsOver place (bodies_in ss)) (over_midst place) h.1);
+    locals = λ place h. (many_later start at place k.later h.0, of_sections (HasOver place) (λ (ss : List Section). FirstIsOver place (bodies_in ss)) (over_midst place) h.1);
     functions = λ count (begins, many, counted). (
       section_later start at FunctionSection count k.later begins,
       many,

@@ -11,10 +11,10 @@ use Rattle.wasmprinter_bytes.specs.declared.error.Error.{Error}
 use Rattle.wasmprinter_bytes.specs.Reasons.{HasReason}
 use Rattle.wasmprinter_bytes.proofs.Reasons.{reason_implied}
 use Rattle.wasmprinter_bytes.proofs.Fronts.{with_front}
-use Rattle.wasmprinter_wasm.specs.Refusals.{HasManyLocals, IsOver, AnyIsOver}
+use Rattle.wasmprinter_wasm.specs.Refusals.{HasManyLocals, HasFew, IsOver, FirstIsOver}
 use Rattle.wasmprinter_wasm.specs.Bodies.{body_reasons, HasEntryBlocks, bodies_reasons}
 use Rattle.wasmprinter_spec.specs.Sections.{CodeSection}
-use Rattle.wasmprinter_wasm.specs.Contents.{HasFew, content_reasons}
+use Rattle.wasmprinter_wasm.specs.Contents.{content_reasons}
 use Rattle.wasmprinter_wasm.proofs.Parts.{alone_some, alone_none}
 use Rattle.wasmprinter_wasm.proofs.SectionLists.{alone_items}
 use Rattle.wasmprinter_wasm.proofs.LaterPlaces.{IsLater, later_none, later_more, many_later}
@@ -24,10 +24,11 @@ pub few-push : (bs : List (Placed Body)) (b : Placed Body) → AllByRecursion Ha
 few-push [] b all few = (few, tt)
 few-push (x ∷ xs) b all few = (all.0, few-push xs b all.1 few)
 
--- If a body after others has too many locals, one of all bodies has too many.
-any_after : (place : ℕ) (front rest : List (Placed Body)) (b : Placed Body) → IsOver place b → AnyIsOver place (front ++ b ∷ rest)
-any_after place [] rest b over = inl over
-any_after place (x ∷ xs) rest b over = inr (any_after place xs rest b over)
+-- A body with too many locals after bodies within the limit is the first one.
+first_after : (place : ℕ) (front rest : List (Placed Body)) (b : Placed Body) → AllByRecursion HasFew front → IsOver place b
+    → FirstIsOver place (front ++ b ∷ rest)
+first_after place [] rest b few over = inl over
+first_after place (x ∷ xs) rest b few over = inr (few.0, first_after place xs rest b few.1 over)
 
 module _ {A : Type 0} (g : Grammar A) where
   -- The items with their count.
@@ -63,16 +64,17 @@ abbrev P : Input → Option (Placed Body × Input)
 P = code_entry.parse
 
 module _ (old start at : Input) (count i : ℕ) (front : List (Placed Body)) (counted : u32.parse old ≡ Some (count, start)) (lt : i < count)
-    (so_far : with_front front (items_at P (count - i) at) ≡ items_at P count start) (later : IsLater start at) (ends : end_of at ≡ end_of old) where
+    (so_far : with_front front (items_at P (count - i) at) ≡ items_at P count start) (later : IsLater start at) (ends : end_of at ≡ end_of old)
+    (few : AllByRecursion HasFew front) where
   -- The list is the items so far, followed by the next item and the others.
   one_more : (vec code_entry).parse old ≡ with_front front (items_at P (suc (count - (i + 1))) at)
   one_more =
       let k : count - i ≡ suc (count - (i + 1)) = omega arith in
       vec_is code_entry old start count counted ∙ sym so_far ∙ ap (λ (n : ℕ). with_front front (items_at P n at)) k
 
-  -- If the next entry has too many locals, one of all bodies has too many.
-  any_over : (place : ℕ) → ((x : Placed Body × Input) → P at ≡ Some x → IsOver place x.0) → (x : List (Placed Body) × Input) → (vec code_entry).parse old ≡ Some x → AnyIsOver place x.0
-  any_over place over x r =
+  -- If the next entry has too many locals, it is the first of all bodies that has.
+  first_over : (place : ℕ) → ((x : Placed Body × Input) → P at ≡ Some x → IsOver place x.0) → (x : List (Placed Body) × Input) → (vec code_entry).parse old ≡ Some x → FirstIsOver place x.0
+  first_over place over x r =
       let m : ℕ = count - (i + 1) in
       let (after_front, rest_parsed, whole) = bind_some (items_at P (suc m) at) (λ z. Some (front ++ z.0, z.1)) x (sym one_more ∙ r) in
       let (rest, end) = after_front in
@@ -82,9 +84,9 @@ module _ (old start at : Input) (count i : ℕ) (front : List (Placed Body)) (co
       let first : entry ∷ others ≡ rest =
       ap (λ (z : List (Placed Body) × Input). z.0) (some_is (entry ∷ others, after) after_front result) in
       let all : front ++ rest ≡ x.0 = ap (λ (z : List (Placed Body) × Input). z.0) (some_is (front ++ rest, end) x whole) in
-      let here : AnyIsOver place (front ++ entry ∷ others) = any_after place front others entry (over (entry, mid) parsed) in
-      let there : AnyIsOver place (front ++ rest) = subst (λ (bs : List (Placed Body)). AnyIsOver place (front ++ bs)) first here in
-      subst (λ (bs : List (Placed Body)). AnyIsOver place bs) all there
+      let here : FirstIsOver place (front ++ entry ∷ others) = first_after place front others entry few (over (entry, mid) parsed) in
+      let there : FirstIsOver place (front ++ rest) = subst (λ (bs : List (Placed Body)). FirstIsOver place (front ++ bs)) first here in
+      subst (λ (bs : List (Placed Body)). FirstIsOver place bs) all there
 
   -- An error of an entry is an error of the list of bodies.
   pub bodies_fault : (f : Error) → HasReason (body_reasons P (HasEntryBlocks at) at) f → HasReason (bodies_reasons old) f
@@ -93,7 +95,7 @@ module _ (old start at : Input) (count i : ℕ) (front : List (Placed Body)) (co
     component = λ h. h;
     locals = λ place h.
         let from_start : HasManyLocals start place = many_later start at place later h.0 in
-        (many_later old start place (later_more u32 old old start count counted (later_none old)) from_start, any_over place h.1);
+        (many_later old start place (later_more u32 old old start count counted (later_none old)) from_start, first_over place h.1);
     functions = λ count h. h;
     tables = λ place h. absurd h;
     memory = λ h. record { count = count; after = start; counted = counted; some = omega arith };

@@ -11,8 +11,8 @@ use Rattle.wasmprinter_spec.specs.Sections.{Kind, Section, holds, section_kind, 
 use Rattle.wasmprinter_spec.specs.Binary.{type_indices_in, tables_in, bodies_in}
 use Rattle.wasmprinter_spec.specs.Limits.{most_functions}
 use Rattle.wasmprinter_spec.proofs.Ordered.{with_one, held_push, held_each, held_midst, held_picked}
-use Rattle.wasmprinter_wasm.specs.Refusals.{AnyIsOver, FirstIsEmpty}
-use Rattle.wasmprinter_wasm.specs.Contents.{HasFew, HasNoEmpty, IsSmall, HasCount, HasOver, HasEmpty, item_count}
+use Rattle.wasmprinter_wasm.specs.Refusals.{HasFew, FirstIsOver, FirstIsEmpty}
+use Rattle.wasmprinter_wasm.specs.Contents.{HasNoEmpty, IsSmall, HasCount, HasOver, HasEmpty, item_count}
 use Rattle.wasmprinter_wasm.specs.declared.places.SectionKind.{SectionKind}
 use Rattle.wasmprinter_wasm.specs.Places.{place_view}
 use Rattle.wasmprinter_wasm.specs.Gathering.{Gathered, none_gathered, Kept, gathered_items, section_items, with_section, IsHeld, item_count_in}
@@ -129,9 +129,9 @@ count_midst count xs s ys up (indices, held, counted) =
     ap length (held_picked FunctionSection 3 refl [] 0 xs s indices ys held up) ∙ counted
 
 -- The bodies of sections in order are those of the only code section.
-pub over_midst : (place : ℕ) (xs : List Section) (s : Section) (ys : List Section) → are_above 0 (xs ++ s ∷ ys) ≡ true → HasOver place s → AnyIsOver place (bodies_in (xs ++ s ∷ ys))
+pub over_midst : (place : ℕ) (xs : List Section) (s : Section) (ys : List Section) → are_above 0 (xs ++ s ∷ ys) ≡ true → HasOver place s → FirstIsOver place (bodies_in (xs ++ s ∷ ys))
 over_midst place xs s ys up (bodies, held, over) =
-    subst (AnyIsOver place) (sym (held_picked CodeSection 12 refl [] 0 xs s bodies ys held up)) over
+    subst (FirstIsOver place) (sym (held_picked CodeSection 12 refl [] 0 xs s bodies ys held up)) over
 
 -- The tables of sections in order are those of the only table section.
 pub empty_midst : (place : ℕ) (xs : List Section) (s : Section) (ys : List Section) → are_above 0 (xs ++ s ∷ ys) ≡ true → HasEmpty place s

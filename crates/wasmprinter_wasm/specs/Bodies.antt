@@ -11,8 +11,7 @@ use Rattle.wasmprinter_bytes.specs.Reads.{end_of}
 use Rattle.wasmprinter_bytes.specs.declared.error.Error.{Error}
 use Rattle.wasmprinter_bytes.specs.Reasons.{Reasons, HasReason}
 use Rattle.wasmprinter_wasm.specs.Growing.{HasBlocks}
-use Rattle.wasmprinter_wasm.specs.Refusals.{HasManyLocals, IsOver, AnyIsOver}
-use Rattle.wasmprinter_wasm.specs.Contents.{HasFew}
+use Rattle.wasmprinter_wasm.specs.Refusals.{HasManyLocals, HasFew, IsOver, FirstIsOver}
 use Rattle.wasmprinter_bytes.specs.Lists.{CountsItems}
 
 -- The bytes begin with a size, and the next `size` bytes are a body for which `HasBlocks` holds.
@@ -55,7 +54,7 @@ abbrev pub bodies_reasons : Input → Reasons
 bodies_reasons at = record {
   malformed = λ place. ((vec code_entry).parse at ≡ None) × (place ≤ end_of at);
   component = ⊥;
-  locals = λ place. HasManyLocals at place × ((x : List (Placed Body) × Input) → (vec code_entry).parse at ≡ Some x → AnyIsOver place x.0);
+  locals = λ place. HasManyLocals at place × ((x : List (Placed Body) × Input) → (vec code_entry).parse at ≡ Some x → FirstIsOver place x.0);
   functions = λ count. ⊥;
   tables = λ place. ⊥;
   memory = CountsItems at;

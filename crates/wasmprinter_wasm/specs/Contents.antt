@@ -13,13 +13,9 @@ use Rattle.wasmprinter_bytes.specs.declared.error.Error.{Error}
 use Rattle.wasmprinter_bytes.specs.declared.error.Malformed.{Malformed}
 use Rattle.wasmprinter_bytes.specs.Reasons.{Reasons, HasReason}
 use Rattle.wasmprinter_bytes.specs.Lists.{CountsItems}
-use Rattle.wasmprinter_wasm.specs.Refusals.{HasManyLocals, HasEmptyInit, HoldsItems, AnyIsOver, PlacedTable, FirstIsEmpty}
+use Rattle.wasmprinter_wasm.specs.Refusals.{HasManyLocals, HasEmptyInit, HoldsItems, HasFew, FirstIsOver, PlacedTable, FirstIsEmpty}
 
 -- ---- Sections of each kind
-
--- The body has at most as many locals as are allowed.
-abbrev pub HasFew : Placed Body → Type 0
-HasFew b = local_count b.value.locals ≤ most_locals
 
 -- The table does not have an empty initialiser.
 abbrev pub HasNoEmpty : PlacedTable → Type 0
@@ -65,9 +61,9 @@ item_count (holds DataSection ds) = length ds
 abbrev pub HasCount : ℕ → SectionValue → Type 0
 HasCount count s = (is : List ℕ) × (content_of FunctionSection s ≡ Some is) × (length is ≡ count)
 
--- The section is a code section, and a body at the place has too many locals.
+-- The section is a code section, and its first body with too many locals is at the place.
 abbrev pub HasOver : ℕ → SectionValue → Type 0
-HasOver place s = (bs : List (Placed Body)) × (content_of CodeSection s ≡ Some bs) × AnyIsOver place bs
+HasOver place s = (bs : List (Placed Body)) × (content_of CodeSection s ≡ Some bs) × FirstIsOver place bs
 
 -- The section is a table section, and its first table with an empty initialiser is at the place.
 abbrev pub HasEmpty : ℕ → SectionValue → Type 0

@@ -7,7 +7,7 @@ use Rattle.wasmprinter_spec.specs.Sections.{FunctionSection}
 use Rattle.wasmprinter_spec.specs.Limits.{IsWithinLimits, most_functions}
 use Rattle.wasmprinter_bytes.specs.declared.error.Error.{Error}
 use Rattle.wasmprinter_bytes.specs.Reasons.{Reasons, HasReason}
-use Rattle.wasmprinter_wasm.specs.Refusals.{HasManyLocals, HasEmptyInit, BeginsSection, KeepsSome, AnyIsOver, FirstIsEmpty}
+use Rattle.wasmprinter_wasm.specs.Refusals.{HasManyLocals, HasEmptyInit, BeginsSection, KeepsSome, FirstIsOver, FirstIsEmpty}
 use Rattle.wasmprinter_wasm.specs.Modules.{bodies_of}
 
 -- The number of items of a module: groups of types, imports, functions, tables, memories, tags, globals, exports,
@@ -25,16 +25,16 @@ HoldsSome m = 0 < items_held m
 abbrev pub HoldsNothing : PlacedModule → Type 0
 HoldsNothing m = items_held m ≡ 0
 
--- The reason for each error of decoding: the bytes are a component; they encode no module; the function whose body
--- is at the place has too many locals; there are too many functions; the table at the place has an empty
--- initialiser; or an allocation failed. An allocation can fail only if the bytes contain a section of items with a
+-- The reason for each error of decoding: the bytes are a component; they encode no module; the first function
+-- with too many locals has its body at the place; there are too many functions; the first table with an empty initialiser
+-- is at the place; or an allocation failed. An allocation can fail only if the bytes contain a section of items with a
 -- count above zero or a custom section, and if every module that they encode has an item. `component` says when
 -- the bytes are refused as a component.
 abbrev pub module_reasons : List ℕ → Type 0 → Reasons
 module_reasons bytes component = record {
   malformed = λ place. ((m : PlacedModule) → Spells bytes m → ⊥) × (place ≤ length bytes);
   component = component;
-  locals = λ place. HasManyLocals (input 0 bytes) place × ((m : PlacedModule) → Spells bytes m → AnyIsOver place (bodies_of m.functions));
+  locals = λ place. HasManyLocals (input 0 bytes) place × ((m : PlacedModule) → Spells bytes m → FirstIsOver place (bodies_of m.functions));
   functions =
       λ count. BeginsSection (input 0 bytes) FunctionSection count × (most_functions < count)
       × ((m : PlacedModule) → Spells bytes m → length m.functions ≡ count);

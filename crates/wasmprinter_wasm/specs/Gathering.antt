@@ -14,7 +14,7 @@ use Rattle.wasmprinter_spec.specs.Limits.{most_functions}
 use Rattle.wasmprinter_bytes.specs.Reads.{end_of}
 use Rattle.wasmprinter_bytes.specs.declared.error.Error.{Error}
 use Rattle.wasmprinter_bytes.specs.Reasons.{Reasons, HasReason}
-use Rattle.wasmprinter_wasm.specs.Refusals.{HasManyLocals, HasEmptyInit, BeginsSection, KeepsSome, AnyIsOver, FirstIsEmpty}
+use Rattle.wasmprinter_wasm.specs.Refusals.{HasManyLocals, HasEmptyInit, BeginsSection, KeepsSome, FirstIsOver, FirstIsEmpty}
 use Rattle.wasmprinter_wasm.specs.Contents.{IsSmall}
 
 -- The contents of the sections read so far, the rank of the last one, and the place of a custom section that
@@ -155,7 +155,7 @@ sections_reasons at = record {
   component = ⊥;
   locals =
       λ place. HasManyLocals at place
-      × ((ss : List Section) → sections_at at ≡ Some ss → are_above 0 ss ≡ true → AnyIsOver place (bodies_in ss));
+      × ((ss : List Section) → sections_at at ≡ Some ss → are_above 0 ss ≡ true → FirstIsOver place (bodies_in ss));
   functions = λ count.
       BeginsSection at FunctionSection count × (most_functions < count)
       × ((ss : List Section) → sections_at at ≡ Some ss → are_above 0 ss ≡ true → length (type_indices_in ss) ≡ count);

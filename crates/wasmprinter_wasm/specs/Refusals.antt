@@ -1,6 +1,6 @@
 -- The reasons why a module that is not malformed may be rejected: a function has too many locals, there are too many
 -- functions, a table has an empty initialiser, or an allocation failed. Memory is allocated only to keep something.
-use Rattle.std.specs.Prelude.{◌≡◌, ℕ, ◌+◌, ◌<◌, ◌⊎◌, List, [], ◌∷◌, ◌++◌, length, Option, Some}
+use Rattle.std.specs.Prelude.{◌≡◌, ℕ, ◌+◌, ◌<◌, ◌≤◌, ◌⊎◌, List, [], ◌∷◌, ◌++◌, length, Option, Some}
 use Rattle.wasmprinter_spec.specs.Grammar.{Input, Placed, value_with_place}
 use Rattle.wasmprinter_spec.specs.Name.{u32, vec}
 use Rattle.wasmprinter_spec.specs.Types.{TableType}
@@ -77,10 +77,14 @@ KeepsSome at = BeginsItems at ⊎ HasCustom at
 abbrev pub IsOver : ℕ → Placed Body → Type 0
 IsOver place b = (b.place ≡ place) × (most_locals < local_count b.value.locals)
 
--- One of the bodies is at the place, and has more locals than are allowed.
-abbrev pub AnyIsOver : ℕ → List (Placed Body) → Type 0
-AnyIsOver place [] = ⊥
-AnyIsOver place (b ∷ bs) = IsOver place b ⊎ AnyIsOver place bs
+-- The body has at most as many locals as are allowed.
+abbrev pub HasFew : Placed Body → Type 0
+HasFew b = local_count b.value.locals ≤ most_locals
+
+-- The first body with more locals than are allowed is at the place.
+abbrev pub FirstIsOver : ℕ → List (Placed Body) → Type 0
+FirstIsOver place [] = ⊥
+FirstIsOver place (b ∷ bs) = IsOver place b ⊎ (HasFew b × FirstIsOver place bs)
 
 -- At the place, the bytes contain a table with an empty initialiser.
 pub record HasEmptyInit (at : Input) (place : ℕ) : Type 0 where

@@ -3,7 +3,7 @@ ghost use Rattle.std.specs.Prelude.{◌≡◌, [], IfOk};
 ghost use Rattle.std.specs.List.{flat_map};
 ghost use Rattle.std.specs.Result.{IfErr};
 ghost use Rattle.wasmprinter_bytes.specs.declared.error.Error.TheVariants.{FoldLegacy, FoldHint};
-ghost use Rattle.wasmprinter_spec.specs.Folding.Refusals.{legacy_places_in, legacy_places, constant_lists, misplaced_hints};
+ghost use Rattle.wasmprinter_spec.specs.Folding.Refusals.{legacy_places_in, legacy_places, lists_before_code, body_lists, misplaced_hints};
 ghost use Rattle.wasmprinter_fold.specs.Refused.{error_of_first, HasFoldReason};
 
 use crate::foldable::hints::check_hints;
@@ -12,27 +12,35 @@ use wasmprinter_bytes::Error;
 use wasmprinter_print::PrintOptions;
 use wasmprinter_wasm::{Fields, Module};
 
-/// Returns an error for the first operator of legacy exception handling in constant expressions that are printed.
-#[tactic(auto, using(crate::proofs::Steps::constants_parts, crate::proofs::Steps::front_refused, crate::proofs::Steps::front_passed))]
-fn check_constants(options: &PrintOptions, module: &Module<'_>) -> Result<(), Error>
-    ensures { result ≡ error_of_first FoldLegacy (flat_map legacy_places_in (constant_lists options.now module.now)) }
+/// Returns an error for the first operator of legacy exception handling in constant expressions before the bodies.
+#[tactic(auto, using(crate::proofs::Steps::before_parts, crate::proofs::Steps::front_refused, crate::proofs::Steps::front_passed))]
+fn check_before_code(options: &PrintOptions, module: &Module<'_>) -> Result<(), Error>
+    ensures { result ≡ error_of_first FoldLegacy (flat_map legacy_places_in (lists_before_code options.now module.now)) }
 {
     let skeleton = options.skeleton;
     check_each(module.tables(), skeleton)?;
     check_each(module.globals(), skeleton)?;
-    check_each(module.elements(), skeleton)?;
-    check_each(module.data_segments(), skeleton)
+    check_each(module.elements(), skeleton)
 }
 
-/// Returns an error for the first operator of legacy exception handling that is printed.
-fn check_legacy(options: &PrintOptions, module: &Module<'_>) -> Result<(), Error>
-    ensures { result ≡ error_of_first FoldLegacy (legacy_places options.now module.now) }
+/// Returns an error for the first operator of legacy exception handling in bodies that are printed.
+fn check_printed_bodies(options: &PrintOptions, module: &Module<'_>) -> Result<(), Error>
+    ensures { result ≡ error_of_first FoldLegacy (flat_map legacy_places_in (body_lists options.now module.now)) }
 {
-    check_constants(options, module)?;
     if options.skeleton {
         return Ok(());
     }
     check_bodies(module)
+}
+
+/// Returns an error for the first operator of legacy exception handling that is printed.
+#[tactic(auto, using(crate::proofs::Steps::all_parts, crate::proofs::Steps::front_refused, crate::proofs::Steps::front_passed))]
+fn check_legacy(options: &PrintOptions, module: &Module<'_>) -> Result<(), Error>
+    ensures { result ≡ error_of_first FoldLegacy (legacy_places options.now module.now) }
+{
+    check_before_code(options, module)?;
+    check_printed_bodies(options, module)?;
+    check_each(module.data_segments(), options.skeleton)
 }
 
 /// Returns an error for the first printed hint on an operator whose folded text has no place for it.
@@ -50,10 +58,10 @@ fn check_printed_hints(options: &PrintOptions, module: &Module<'_>) -> Result<()
 ///
 /// # Errors
 ///
-/// - `FoldLegacy` with the place of a `try`, `catch`, `catch_all` or `delegate` in a list of operators that is
-///   printed.
-/// - `FoldHint` with the place of a branch hint on a `block`, `loop`, `try_table`, `else` or `end` of a body that
-///   is printed.
+/// - `FoldLegacy` with the place of the first `try`, `catch`, `catch_all` or `delegate` in the lists of operators that
+///   are printed, in the order of the bytes.
+/// - `FoldHint`, if there is no such operator, with the place of the first branch hint on a `block`, `loop`, `try_table`,
+///   `else` or `end` of the bodies that are printed, in the order of the operators.
 pub fn check_folding(options: &PrintOptions, module: &Module<'_>) -> Result<(), Error>
     ensures legacy { IfOk result (λ _. legacy_places options.now module.now ≡ []) }
     ensures hints { IfOk result (λ _. misplaced_hints options.now module.now ≡ []) }

@@ -1,6 +1,6 @@
 -- What cannot be folded in a module: operators of legacy exception handling, and branch hints on operators whose
 -- node has no place for a hint. The standard does not define this: the rules are this printer's own.
-use Rattle.std.specs.Prelude.{◌≡◌, ℕ, ◌+◌, ◌-◌, List, [], ◌∷◌, ◌++◌, map, flat_map, Bool, true, false, cond, length, Option, Some, None}
+use Rattle.std.specs.Prelude.{◌≡◌, ℕ, ◌+◌, ◌-◌, List, [], ◌∷◌, ◌++◌, map, flat_map, Bool, true, false, cond, length, slice_get, Option, Some, None}
 use Rattle.wasmprinter_spec.specs.Grammar.{Placed}
 use Rattle.wasmprinter_spec.specs.Operator.{Operator}
 use Rattle.wasmprinter_spec.specs.Row.{Role, Opens, Else, Ends}
@@ -39,15 +39,21 @@ element_lists skeleton e = offset_list e.value.element.mode ++ cond skeleton [] 
 abbrev pub data_lists : Placed (Data (Placed Operator)) → List Operators
 data_lists d = elim d.value.mode as (λ m. List Operators) [ PassiveData ↦ [] | ActiveData memory os ↦ os ∷ [] ]
 
--- The lists of constant expressions.
-abbrev pub constant_lists : Options → PlacedModule → List Operators
-constant_lists o m =
-    flat_map init_list m.tables ++ map (λ g. g.value.init) m.globals ++ flat_map (element_lists o.skeleton) m.elements
-    ++ flat_map data_lists m.data_segments
+-- The lists of constant expressions before the code section: in tables, globals and element segments.
+abbrev pub lists_before_code : Options → PlacedModule → List Operators
+lists_before_code o m = flat_map init_list m.tables ++ map (λ g. g.value.init) m.globals ++ flat_map (element_lists o.skeleton) m.elements
 
 -- The lists of bodies. In a skeleton they are not printed.
 abbrev pub body_lists : Options → PlacedModule → List Operators
 body_lists o m = cond o.skeleton [] (map (λ f. f.body.value.operators) m.functions)
+
+-- The lists of constant expressions after the code section: in data segments.
+abbrev pub lists_after_code : PlacedModule → List Operators
+lists_after_code m = flat_map data_lists m.data_segments
+
+-- All lists that are printed, in the order of the bytes.
+abbrev pub printed_lists : Options → PlacedModule → List Operators
+printed_lists o m = lists_before_code o m ++ body_lists o m ++ lists_after_code m
 
 -- ---- Operators of legacy exception handling
 
@@ -56,9 +62,13 @@ abbrev pub legacy_places_in : Operators → List ℕ
 legacy_places_in [] = []
 legacy_places_in (o ∷ os) = cond (is_try (role_of o.value.opcode)) (o.place ∷ legacy_places_in os) (legacy_places_in os)
 
--- The places of operators of legacy exception handling in all lists that are printed.
+-- The places of operators of legacy exception handling in all lists that are printed, in the order of the bytes.
 abbrev pub legacy_places : Options → PlacedModule → List ℕ
-legacy_places o m = flat_map legacy_places_in (constant_lists o m) ++ flat_map legacy_places_in (body_lists o m)
+legacy_places o m = flat_map legacy_places_in (printed_lists o m)
+
+-- The first operator of legacy exception handling that is printed is at this place.
+abbrev pub IsFirstLegacy : Options → PlacedModule → ℕ → Type 0
+IsFirstLegacy o m place = slice_get (legacy_places o m) 0 ≡ Some place
 
 -- ---- Hints
 
@@ -94,6 +104,11 @@ abbrev pub misplaced_hints : Options → PlacedModule → List ℕ
 misplaced_hints o m =
     cond o.skeleton []
     (misplaced_hints_from (hints_of m.customs) (length (imported_types func_import (without_places m.imports))) m.functions)
+
+-- No operator of legacy exception handling is printed, and the first misplaced hint that is printed is at this place.
+-- The hints are in the order of the operators.
+abbrev pub IsFirstMisplaced : Options → PlacedModule → ℕ → Type 0
+IsFirstMisplaced o m place = (legacy_places o m ≡ []) × (slice_get (misplaced_hints o m) 0 ≡ Some place)
 
 -- ---- Modules
 

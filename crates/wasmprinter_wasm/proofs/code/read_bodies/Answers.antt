@@ -31,4 +31,4 @@ returns-in_err-read_entry-clause-reads c =
     rw (failed, is)
     (bodies_fault c.args.cursor.now c.u32.new.self c.loop.cursor c.in_ok-count.count c.loop.counter c.loop.bodies.items
     c.in_ok-count.ensures.reads (omega arith) c.loop.invariant.rest c.loop.invariant.later
-    (omega (arith, c.loop.invariant.end, c.in_ok-count.ensures.end)) c.in_err-read_entry.field-0.0 c.in_err-read_entry.ensures.reads)
+    (omega (arith, c.loop.invariant.end, c.in_ok-count.ensures.end)) c.loop.invariant.few c.in_err-read_entry.field-0.0 c.in_err-read_entry.ensures.reads)

@@ -4,7 +4,7 @@ use Rattle.wasmprinter_spec.specs.Repeated.{items_at}
 use Rattle.wasmprinter_spec.specs.Binary.Code.{code_entry}
 use Rattle.wasmprinter_bytes.specs.Reads.{end_of}
 use Rattle.wasmprinter_bytes.proofs.Fronts.{with_front}
-use Rattle.wasmprinter_wasm.specs.Contents.{HasFew}
+use Rattle.wasmprinter_wasm.specs.Refusals.{HasFew}
 use Rattle.wasmprinter_wasm.proofs.LaterPlaces.{IsLater}
 use Rattle.wasmprinter_wasm.proofs.code.read_bodies.Given as goal
 
