@@ -1,5 +1,5 @@
 -- Errors of values whose readers may allocate: an error of a part is an error of the whole.
-use Rattle.std.proofs.Common.{◌≡◌, ℕ, suc, ◌+◌, ◌-◌, ◌<◌, List, Option, Some, None, refl, sym, ◌∙◌, arith}
+use Rattle.std.proofs.Common.{◌≡◌, ℕ, suc, ◌+◌, ◌-◌, ◌<◌, ◌≤◌, List, Option, Some, None, refl, sym, ◌∙◌, arith}
 use Rattle.wasmprinter_spec.specs.Grammar.{Input}
 use Rattle.wasmprinter_spec.specs.Name.{u32}
 use Rattle.wasmprinter_spec.specs.Repeated.{items_at}
@@ -10,11 +10,11 @@ use Rattle.wasmprinter_bytes.specs.Reads.{end_of}
 use Rattle.wasmprinter_bytes.specs.Lists.{CountsItems, reader_reasons, vec_at}
 use Rattle.wasmprinter_bytes.proofs.Fronts.{with_front}
 
--- An error of a part that ends where the whole ends is an error of the whole.
-pub part_fault : (nothing grows whole grows_whole : Type 0) (at old : Input) → (nothing → whole) → (grows → grows_whole) → end_of at ≡ end_of old → (f : Error)
+-- An error of a part that ends where the whole ends, and does not start before it, is an error of the whole.
+pub part_fault : (nothing grows whole grows_whole : Type 0) (at old : Input) → (nothing → whole) → (grows → grows_whole) → end_of at ≡ end_of old → old.place ≤ at.place → (f : Error)
     → HasReason (reader_reasons nothing grows at) f → HasReason (reader_reasons whole grows_whole old) f
-part_fault nothing grows whole grows_whole at old none more ends = reason_implied (reader_reasons nothing grows at) (reader_reasons whole grows_whole old) (record {
-  malformed = λ place h. (none h.0, omega (arith, h.1, ends));
+part_fault nothing grows whole grows_whole at old none more ends forward = reason_implied (reader_reasons nothing grows at) (reader_reasons whole grows_whole old) (record {
+  malformed = λ place h. (none h.0, omega (arith, h.1, ends, forward));
   component = λ h. h;
   locals = λ place h. h;
   functions = λ count h. h;
@@ -37,6 +37,6 @@ module _ {A : Type 0} (parse : Input → Option (A × Input)) (old start at : In
   counted_some = record { count = count; after = start; counted = counted; some = omega arith }
 
   -- An error of an item is an error of the list.
-  pub list_fault : (grows : Type 0) → end_of at ≡ end_of old → (f : Error) → HasReason (reader_reasons (parse at ≡ None) grows at) f
+  pub list_fault : (grows : Type 0) → end_of at ≡ end_of old → old.place ≤ at.place → (f : Error) → HasReason (reader_reasons (parse at ≡ None) grows at) f
       → HasReason (reader_reasons (vec_at parse old ≡ None) (CountsItems old) old) f
-  list_fault grows ends = part_fault (parse at ≡ None) grows (vec_at parse old ≡ None) (CountsItems old) at old none_after (λ h. counted_some) ends
+  list_fault grows ends forward = part_fault (parse at ≡ None) grows (vec_at parse old ≡ None) (CountsItems old) at old none_after (λ h. counted_some) ends forward

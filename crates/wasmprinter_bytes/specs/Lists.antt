@@ -1,9 +1,9 @@
 -- Values that are read one after the other, and reading that may allocate.
-use Rattle.std.specs.Prelude.{◌≡◌, ℕ, ◌<◌, ◌≤◌, List, Option, Some, None, IsSome, Result, Ok, Err}
+use Rattle.std.specs.Prelude.{◌≡◌, ℕ, ◌<◌, List, Option, Some, None, IsSome, Result, Ok, Err}
 use Rattle.wasmprinter_spec.specs.Grammar.{Input, ◌>>=◌}
 use Rattle.wasmprinter_spec.specs.Name.{u32}
 use Rattle.wasmprinter_spec.specs.Repeated.{items_at}
-use Rattle.wasmprinter_bytes.specs.Reads.{end_of}
+use Rattle.wasmprinter_bytes.specs.Reads.{IsPlaceIn}
 use Rattle.wasmprinter_bytes.specs.declared.error.Error.{Error}
 use Rattle.wasmprinter_bytes.specs.Reasons.{Reasons, HasReason}
 
@@ -28,10 +28,10 @@ pub record BeginsList {A : Type 0} (parse : Input → Option (A × Input)) (at :
   pub first : IsSome (parse counts.after)
 
 -- The reasons why a reader that may allocate can fail: `nothing`, that the bytes do not encode the value, for
--- `Malformed` within the bytes; and `grows`, which holds where the reader may allocate, for `Memory`.
+-- `Malformed` at a place from the position to the end of the bytes; and `grows`, which holds where the reader may allocate, for `Memory`.
 abbrev pub reader_reasons : Type 0 → Type 0 → Input → Reasons
 reader_reasons nothing grows at = record {
-  malformed = λ place. nothing × (place ≤ end_of at);
+  malformed = λ place. nothing × IsPlaceIn at place;
   component = ⊥;
   locals = λ place. ⊥;
   functions = λ count. ⊥;
@@ -40,9 +40,9 @@ reader_reasons nothing grows at = record {
 }
 
 -- `Takes view parse Grows old result new`: if `result` is `Ok x`, `parse` at the position `old` gives `view x` and
--- the position `new`. If it is `Malformed`, `parse` gives nothing, and the place is not after the end of the bytes.
--- If it is `Memory`, `Grows old` holds. No other error occurs. This is `Decodes`, without `end`, for a reader that
--- may allocate. The place of an error is only bounded here; tests check it.
+-- the position `new`. If it is `Malformed`, `parse` gives nothing, and the place is not before the position `old` and
+-- not after the end of the bytes. If it is `Memory`, `Grows old` holds. No other error occurs. This is `Decodes`,
+-- without `end` and `forward`, for a reader that may allocate. The place of an error is only bounded here; tests check it.
 abbrev pub Takes : {X A : Type 0} → (X → A) → (Input → Option (A × Input)) → (Input → Type 0) → Input → Result X Error → Input → Type 0
 Takes view parse Grows old (Ok x) new = parse old ≡ Some (view x, new)
 Takes view parse Grows old (Err e) new = HasReason (reader_reasons (parse old ≡ None) (Grows old) old) e

@@ -13,18 +13,37 @@ abbrev pub Reads : {X A : Type 0} → (X → A) → (Input → Option (A × Inpu
 Reads view parse old (Ok x) new = parse old ≡ Some (view x, new)
 Reads view parse old (Err e) new = parse old ≡ None
 
--- The place of an error is not after the end of the bytes.
+-- The place is not before `from`, and not after the end of the bytes.
+abbrev pub IsPlaceFrom : ℕ → Input → ℕ → Type 0
+IsPlaceFrom from at place = (from ≤ place) × (place ≤ end_of at)
+
+-- The place is not before the position, and not after the end of the bytes.
+abbrev pub IsPlaceIn : Input → ℕ → Type 0
+IsPlaceIn at place = IsPlaceFrom at.place at place
+
+-- The place of an error is not before `from`, and not after the end of the bytes.
+abbrev pub IsWithinFrom : {X : Type 0} → ℕ → Input → Result X Malformed → Type 0
+IsWithinFrom from old (Ok x) = Unit {0}
+IsWithinFrom from old (Err e) = IsPlaceFrom from old e.place
+
+-- The place of an error is not before the position, and not after the end of the bytes.
 abbrev pub IsWithin : {X : Type 0} → Input → Result X Malformed → Type 0
-IsWithin old (Ok x) = Unit {0}
-IsWithin old (Err e) = e.place ≤ end_of old
+IsWithin old result = IsWithinFrom old.place old result
 
 -- The call reads a value by `parse` at the position `old`, returns `result`, and leaves the cursor at `new`. `view`
--- maps a value of the program to that of the definitions. The place of an error is only bounded here; tests check it.
-pub record Decodes {X A : Type 0} (view : X → A) (parse : Input → Option (A × Input)) (old : Input)
+-- maps a value of the program to that of the definitions. The place of an error is only bounded here, and `from` is
+-- the lower bound; tests check it.
+pub record DecodesFrom {X A : Type 0} (from : ℕ) (view : X → A) (parse : Input → Option (A × Input)) (old : Input)
     (result : Result X Malformed) (new : Input) : Type 0 where
   -- The value and the position `new` are those of `parse`, or both fail.
   pub reads : Reads view parse old result new
-  -- The place of an error is not after the end of the bytes.
-  pub within : IsWithin old result
+  -- The place of an error is not before `from`, and not after the end of the bytes.
+  pub within : IsWithinFrom from old result
   -- The bytes end where they ended before.
   pub end : end_of new ≡ end_of old
+  -- The cursor only moves forward.
+  pub forward : old.place ≤ new.place
+
+-- The same, and the place of an error is not before the position `old`.
+abbrev pub Decodes : {X A : Type 0} → (X → A) → (Input → Option (A × Input)) → Input → Result X Malformed → Input → Type 0
+Decodes view parse old result new = DecodesFrom old.place view parse old result new

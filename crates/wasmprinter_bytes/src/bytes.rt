@@ -268,6 +268,7 @@ impl<'a> Cursor<'a> {
         ensures stays { IfNone result (self.new ≡ self.old) }
         ensures missed { IfNone result (IfSome (slice_get self.old.bytes 0) (λ b. limit ≤ b)) }
         ensures end { end_of self.new ≡ end_of self.old }
+        ensures forward { self.old.place ≤ self.new.place }
     {
         match self.rest.split_first() {
             Some((byte, rest)) if *byte < limit => {

@@ -1,6 +1,6 @@
 //! Lists (section 5.1 of the WebAssembly Core Specification, "Lists"): a count, and that
 //! many items one after the other.
-ghost use Rattle.std.specs.Prelude.{◌≡◌, [], length};
+ghost use Rattle.std.specs.Prelude.{◌≡◌, ◌≤◌, [], length};
 ghost use Rattle.wasmprinter_bytes.specs.Reads.{Decodes, end_of};
 ghost use Rattle.wasmprinter_bytes.specs.Lists.{Takes, CountsItems, BeginsList, vec_at};
 
@@ -59,6 +59,7 @@ pub fn read_list<'a, T: DecodeIn<'a>>(
 ) -> Result<Vec<T>, Error>
     ensures reads { Takes (λ v. v.items) (vec_at T.parse) (BeginsList T.parse) cursor.old result cursor.new }
     ensures end { end_of cursor.new ≡ end_of cursor.old }
+    ensures forward { cursor.old.place ≤ cursor.new.place }
 {
     let count = cursor.u32()?;
     let mut values = Vec::new(alloc);
@@ -82,7 +83,8 @@ pub trait GrownIn<'a>: Drop {
     /// Reads the value at the cursor.
     fn read(alloc: Global, cursor: &mut Cursor<'a>) -> Result<Self, Error>
         ensures reads { Takes (λ x. x) parse grows cursor.old result cursor.new }
-        ensures end { end_of cursor.new ≡ end_of cursor.old };
+        ensures end { end_of cursor.new ≡ end_of cursor.old }
+        ensures forward { cursor.old.place ≤ cursor.new.place };
 }
 
 /// Reads a count and that many values for which reading may allocate, and returns the values in memory.
@@ -98,6 +100,7 @@ pub fn read_grown_list<'a, T: GrownIn<'a>>(
 ) -> Result<Vec<T>, Error>
     ensures reads { Takes (λ v. v.items) (vec_at T.parse) CountsItems cursor.old result cursor.new }
     ensures end { end_of cursor.new ≡ end_of cursor.old }
+    ensures forward { cursor.old.place ≤ cursor.new.place }
 {
     let count = cursor.u32()?;
     let mut grown = Vec::new(alloc);

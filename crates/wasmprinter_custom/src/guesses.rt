@@ -1,5 +1,5 @@
 //! The likely positions of items in the list of items with names. A position is only a hint: each lookup verifies it.
-ghost use Rattle.std.specs.Prelude.{◌≡◌, [], IsOk};
+ghost use Rattle.std.specs.Prelude.{◌≡◌, ◌<◌, ◌≤◌, ◌+◌, ◌-◌, [], length, max, IfOk, IfErr, OnOk, OnErr, IsOk};
 
 use crate::store::{Place, StoredName};
 use std::alloc::{AllocError, Global};
@@ -17,10 +17,21 @@ struct Beginnings {
 }
 
 impl Beginnings {
-    /// Adds an item after the items so far. `limit` is the greatest number of functions or types that get a
-    /// start of their own: a module may name a local of its last function only, and memory must grow with the
-    /// names, not with the functions.
-    fn add(&mut self, outer: u64, position: usize, limit: usize) -> Result<(), AllocError> {
+    /// Adds an item after the items so far. Only the first `limit` functions or types get a start of their own: a module
+    /// may name a local of its last function only, and memory must grow with the names, not with the functions. So the
+    /// caller passes the number of names.
+    ///
+    /// # Errors
+    ///
+    /// If an allocation fails. Some starts may have been added.
+    fn add(&mut self, outer: u64, position: usize, limit: usize) -> Result<(), AllocError>
+        ensures added { OnOk result (outer - self.old.first < limit
+            → length self.new.begins.items ≡ max (length self.old.begins.items) (outer - self.old.first + 1)) }
+        ensures stopped { OnErr result ((length self.old.begins.items ≤ length self.new.begins.items)
+            × (length self.new.begins.items < outer - self.old.first + 1) × (outer - self.old.first < limit)) }
+        ensures kept { limit ≤ outer - self.old.first → self.new.begins.items ≡ self.old.begins.items }
+        ensures bound { length self.new.begins.items ≤ max (length self.old.begins.items) limit }
+    {
         let ahead = outer.saturating_sub(self.first) as usize;
         if ahead < limit {
             for _ in self.begins.len()..ahead + 1 {

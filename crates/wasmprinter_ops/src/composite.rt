@@ -6,7 +6,7 @@ ghost use Rattle.wasmprinter_spec.specs.Repeated.{items_at};
 ghost use Rattle.wasmprinter_spec.specs.Types.{func_type_of};
 ghost use Rattle.wasmprinter_spec.specs.Binary.Types.{packed_type_of, storage_type, mutability, field, signature, composite_after};
 ghost use Rattle.wasmprinter_spec.specs.Binary.Types.{composite as composite_grammar, sub_type_parts, sub_type_after, subtype};
-ghost use Rattle.wasmprinter_bytes.specs.Reads.{Decodes, end_of};
+ghost use Rattle.wasmprinter_bytes.specs.Reads.{Decodes, DecodesFrom};
 ghost use Rattle.wasmprinter_ops.specs.ValTypes.{types_view};
 ghost use Rattle.wasmprinter_ops.specs.Types.{storage_view, field_view, field_at, fields_view, composite_view};
 
@@ -205,8 +205,8 @@ impl<'a> FuncType<'a> {
 impl<'a> CompositeType<'a> {
     /// Reads the rest of a composite type, after its first byte.
     fn read_after(first: First, cursor: &mut Cursor<'a>) -> Result<Self, Malformed>
-        requires { first.place ≤ end_of cursor.now }
-        ensures { Decodes composite_view (composite_after first.byte).parse cursor.old result cursor.new }
+        requires { first.place ≤ cursor.now.place }
+        ensures { DecodesFrom first.place composite_view (composite_after first.byte).parse cursor.old result cursor.new }
     {
         match first.byte {
             ARRAY => Ok(CompositeType::Array(FieldType::read_field(cursor)?)),
@@ -241,8 +241,8 @@ impl<'a> SubType<'a> {
 
     /// Reads the rest of a subtype, after its first byte.
     fn read_after(first: First, cursor: &mut Cursor<'a>) -> Result<Self, Malformed>
-        requires { first.place ≤ end_of cursor.now }
-        ensures { Decodes (λ t. t) (sub_type_after first.byte).parse cursor.old result cursor.new }
+        requires { first.place ≤ cursor.now.place }
+        ensures { DecodesFrom first.place (λ t. t) (sub_type_after first.byte).parse cursor.old result cursor.new }
     {
         match first.byte {
             SUB => SubType::read_parts(false, cursor),

@@ -1,6 +1,6 @@
 //! Expressions (section 5.4, "Expressions"): operators up to the `end` that closes them. The operators are not kept;
 //! each operator is read again from the bytes when it is requested.
-ghost use Rattle.std.specs.Prelude.{◌≡◌, ◌↔◌, ◌<◌, ◌^◌, [], length, IsTrue};
+ghost use Rattle.std.specs.Prelude.{◌≡◌, ◌↔◌, ◌<◌, ◌≤◌, ◌^◌, [], length, IsTrue};
 ghost use Rattle.wasmprinter_spec.specs.Instructions.{expression, roles};
 ghost use Rattle.wasmprinter_spec.specs.Nesting.{Nests, Sequence};
 ghost use Rattle.wasmprinter_bytes.specs.Reads.{end_of};
@@ -80,6 +80,7 @@ impl<'a> Model for Expression<'a> {
 fn skip_operators(alloc: Global, cursor: &mut Cursor) -> Result<u64, Error>
     ensures reads { SkipsOperators cursor.old result cursor.new }
     ensures end { end_of cursor.new ≡ end_of cursor.old }
+    ensures forward { cursor.old.place ≤ cursor.new.place }
 {
     let mut blocks = Blocks::new(alloc);
     loop {
@@ -104,6 +105,7 @@ impl<'a> Expression<'a> {
     pub fn read(alloc: Global, cursor: &mut Cursor<'a>) -> Result<Self, Error>
         ensures reads { Takes (λ e. e) expression.parse HasBlock cursor.old result cursor.new }
         ensures end { end_of cursor.new ≡ end_of cursor.old }
+        ensures forward { cursor.old.place ≤ cursor.new.place }
     {
         let start = cursor.fork();
         let end = skip_operators(alloc, cursor)?;

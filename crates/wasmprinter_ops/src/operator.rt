@@ -3,7 +3,7 @@ ghost use Rattle.std.specs.Prelude.{◌≡◌, ◌≤◌, IfOk};
 ghost use Rattle.wasmprinter_spec.specs.Grammar.{value_with_place};
 ghost use Rattle.wasmprinter_spec.specs.Row.{FenceShape, TryTableShape, FieldShape, BranchTableShape, CastShape, MemoryLaneShape};
 ghost use Rattle.wasmprinter_spec.specs.Instructions.{operator, immediates as immediates_grammar, indices, cast};
-ghost use Rattle.wasmprinter_bytes.specs.Reads.{Decodes, Reads, IsWithin, end_of};
+ghost use Rattle.wasmprinter_bytes.specs.Reads.{Decodes, Reads, IsWithin, IsWithinFrom, end_of};
 ghost use Rattle.wasmprinter_ops.specs.Immediates.{immediates_view, HasShape, HasCastFlags};
 ghost use Rattle.wasmprinter_ops.specs.Operators.{placed_view, AfterOpcode, Passes, PassesOperator};
 ghost use Rattle.wasmprinter_ops.specs.Shapes.{shape_view};
@@ -174,6 +174,7 @@ fn pass_immediates(cursor: &mut Cursor, shape: Shape) -> Result<(), Malformed>
     ensures reads { Passes (immediates_grammar (shape_view shape)).parse cursor.old result cursor.new }
     ensures within { IsWithin cursor.old result }
     ensures end { end_of cursor.new ≡ end_of cursor.old }
+    ensures forward { cursor.old.place ≤ cursor.new.place }
 {
     match shape {
         Shape::None => Ok(()),
@@ -199,10 +200,11 @@ fn pass_immediates(cursor: &mut Cursor, shape: Shape) -> Result<(), Malformed>
 /// Skips the immediates of the opcode at `place`, and returns the operator's role.
 #[inline(always)]
 fn pass_after(cursor: &mut Cursor, place: u64, opcode: Opcode) -> Result<Role, Malformed>
-    requires { place ≤ end_of cursor.now }
+    requires { place ≤ cursor.now.place }
     ensures reads { AfterOpcode opcode cursor.old (λ at. PassesOperator at result cursor.new) }
-    ensures within { IsWithin cursor.old result }
+    ensures within { IsWithinFrom place cursor.old result }
     ensures end { end_of cursor.new ≡ end_of cursor.old }
+    ensures forward { cursor.old.place ≤ cursor.new.place }
 {
     let Some(shape) = opcode.shape() else {
         return Err(Malformed { place });
@@ -218,6 +220,7 @@ pub(crate) fn pass_operator(cursor: &mut Cursor) -> Result<Role, Malformed>
     ensures reads { PassesOperator cursor.old result cursor.new }
     ensures within { IsWithin cursor.old result }
     ensures end { end_of cursor.new ≡ end_of cursor.old }
+    ensures forward { cursor.old.place ≤ cursor.new.place }
 {
     let place = cursor.place();
     let byte = cursor.u8()?;
@@ -303,10 +306,11 @@ impl<'a> Operator<'a> {
     /// Reads the immediates of the opcode at `place`.
     #[inline(always)]
     fn read_after(cursor: &mut Cursor<'a>, place: u64, opcode: Opcode) -> Result<Self, Malformed>
-        requires { place ≤ end_of cursor.now }
+        requires { place ≤ cursor.now.place }
         ensures reads { AfterOpcode opcode cursor.old (λ at. Reads (λ o. o) operator.parse at result cursor.new) }
-        ensures within { IsWithin cursor.old result }
+        ensures within { IsWithinFrom place cursor.old result }
         ensures end { end_of cursor.new ≡ end_of cursor.old }
+        ensures forward { cursor.old.place ≤ cursor.new.place }
     {
         let Some(shape) = opcode.shape() else {
             return Err(Malformed { place });

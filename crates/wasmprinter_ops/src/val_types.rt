@@ -5,7 +5,7 @@ ghost use Rattle.wasmprinter_spec.specs.Grammar.{byte as byte_grammar};
 ghost use Rattle.wasmprinter_spec.specs.Name.{vec};
 ghost use Rattle.wasmprinter_spec.specs.Binary.ValTypes.{abstract_heap_of, number_type_of, non_negative, signed_index, heap_type};
 ghost use Rattle.wasmprinter_spec.specs.Binary.ValTypes.{ref_type_after, reference_type, val_type_after, val_type, begins_val_type};
-ghost use Rattle.wasmprinter_bytes.specs.Reads.{Decodes, end_of};
+ghost use Rattle.wasmprinter_bytes.specs.Reads.{Decodes, DecodesFrom};
 ghost use Rattle.wasmprinter_ops.specs.ValTypes.{heap_view, ref_view, type_view, types_view, type_at};
 
 use wasmprinter_bytes::Malformed;
@@ -179,8 +179,8 @@ pub fn read_heap_type(cursor: &mut Cursor) -> Result<HeapType, Malformed>
 impl RefType {
     /// Reads the rest of a reference type, after its first byte.
     fn read_after(first: First, cursor: &mut Cursor) -> Result<Self, Malformed>
-        requires { first.place ≤ end_of cursor.now }
-        ensures { Decodes ref_view (ref_type_after first.byte).parse cursor.old result cursor.new }
+        requires { first.place ≤ cursor.now.place }
+        ensures { DecodesFrom first.place ref_view (ref_type_after first.byte).parse cursor.old result cursor.new }
     {
         let (nullable, heap) = match first.byte {
             REF => (false, read_heap_type(cursor)?),
@@ -223,8 +223,8 @@ impl ValType {
 
     /// Reads the rest of a value type, after its first byte.
     pub(crate) fn read_after(first: First, cursor: &mut Cursor) -> Result<Self, Malformed>
-        requires { first.place ≤ end_of cursor.now }
-        ensures { Decodes type_view (val_type_after first.byte).parse cursor.old result cursor.new }
+        requires { first.place ≤ cursor.now.place }
+        ensures { DecodesFrom first.place type_view (val_type_after first.byte).parse cursor.old result cursor.new }
     {
         match ValType::of_byte(first.byte) {
             Some(val_type) => Ok(val_type),

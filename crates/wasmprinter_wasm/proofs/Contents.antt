@@ -1,11 +1,11 @@
 -- The reasons for errors of a section's content are reasons for errors of the section.
-use Rattle.std.proofs.Common.{◌≡◌, ℕ, ◌<◌, ◌≤◌, List, [], ◌∷◌, ◌++◌, length, Option, Some, None, refl, sym, ap, subst, ◌∙◌, arith, length-append, append_assoc}
+use Rattle.std.proofs.Common.{◌≡◌, ℕ, ◌<◌, List, [], ◌∷◌, ◌++◌, length, Option, Some, None, refl, sym, ap, subst, ◌∙◌, arith, length-append, append_assoc}
 use Rattle.std.specs.Prelude.{Result, Ok, Err}
 use Rattle.wasmprinter_spec.specs.Grammar.{Input, ◌>>=◌, bind_some, some_is, byte}
 use Rattle.wasmprinter_spec.specs.Name.{u32}
 use Rattle.wasmprinter_spec.specs.Sized.{front_at}
 use Rattle.wasmprinter_spec.specs.Sections.{Kind, kind_of, Content, Section, holds, content, section}
-use Rattle.wasmprinter_bytes.specs.Reads.{end_of}
+use Rattle.wasmprinter_bytes.specs.Reads.{IsPlaceIn}
 use Rattle.wasmprinter_bytes.specs.declared.error.Error.{Error}
 use Rattle.wasmprinter_bytes.specs.declared.error.Error.TheVariants.{Malformed as AtPlace}
 use Rattle.wasmprinter_bytes.specs.Reasons.{HasReason}
@@ -24,11 +24,11 @@ module _ (old after_id mid part new : Input) (id size : ℕ) (id_read : byte.par
   later : IsLater old after_id
   later = later_more byte old old after_id id id_read (later_none old)
 
-  -- A place that is not after the end of the part is not after the end of the whole.
-  within : (place : ℕ) → place ≤ end_of part → place ≤ end_of old
+  -- A place in the part is in the whole.
+  within : (place : ℕ) → IsPlaceIn part place → IsPlaceIn old place
   within place le =
       let p = part_within after_id mid part new size size_read cut begins in
-      omega (arith, ap length later.parts, later.begins, length-append later.text after_id.bytes)
+      omega (arith, p, le, ap length later.parts, later.begins, length-append later.text after_id.bytes)
 
   -- If no kind has the id, then no section is read.
   no_section : kind_of id ≡ None → section.parse old ≡ None

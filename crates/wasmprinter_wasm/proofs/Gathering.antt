@@ -139,7 +139,7 @@ module _ (start at : Input) (g : Gathered) (some : at.bytes ≡ [] → ⊥) (k :
         let n = next_of (section.parse at) refl ss read in
         let clash : ◌≡◌ {A = Option (Section × Input)} None (Some (n.item, n.after)) = sym h.0 ∙ n.first in
         cc,
-    omega (arith, h.1, k.ends),
+    omega (arith, h.1, k.ends, k.later.begins),
   )
 
   -- A true reason for an error of one section is a true reason for that error of all sections.

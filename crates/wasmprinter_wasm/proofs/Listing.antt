@@ -1,5 +1,5 @@
 -- A loop that reads the bodies of a code section, and the section that contains them.
-use Rattle.std.proofs.Common.{◌≡◌, ℕ, suc, ◌+◌, ◌-◌, ◌<◌, List, [], ◌∷◌, ◌++◌, Option, Some, None, refl, sym, ap, subst, ◌∙◌, arith, inl, inr}
+use Rattle.std.proofs.Common.{◌≡◌, ℕ, suc, ◌+◌, ◌-◌, ◌<◌, List, [], ◌∷◌, ◌++◌, Option, Some, None, refl, sym, ap, subst, ◌∙◌, arith, inl, inr, ◌≤◌}
 use Rattle.std.specs.List.{AllByRecursion}
 use Rattle.wasmprinter_spec.specs.Grammar.{Input, Grammar, ◌>>=◌, bind_some, some_is, Placed}
 use Rattle.wasmprinter_spec.specs.Name.{u32, vec}
@@ -65,7 +65,7 @@ P = code_entry.parse
 
 module _ (old start at : Input) (count i : ℕ) (front : List (Placed Body)) (counted : u32.parse old ≡ Some (count, start)) (lt : i < count)
     (so_far : with_front front (items_at P (count - i) at) ≡ items_at P count start) (later : IsLater start at) (ends : end_of at ≡ end_of old)
-    (few : AllByRecursion HasFew front) where
+    (forward : old.place ≤ at.place) (few : AllByRecursion HasFew front) where
   -- The list is the items so far, followed by the next item and the others.
   one_more : (vec code_entry).parse old ≡ with_front front (items_at P (suc (count - (i + 1))) at)
   one_more =
@@ -91,7 +91,7 @@ module _ (old start at : Input) (count i : ℕ) (front : List (Placed Body)) (co
   -- An error of an entry is an error of the list of bodies.
   pub bodies_fault : (f : Error) → HasReason (body_reasons P (HasEntryBlocks at) at) f → HasReason (bodies_reasons old) f
   bodies_fault = reason_implied (body_reasons P (HasEntryBlocks at) at) (bodies_reasons old) (record {
-    malformed = λ place h. (one_more ∙ rw h.0 refl, omega (arith, h.1));
+    malformed = λ place h. (one_more ∙ rw h.0 refl, omega (arith, h.1, forward));
     component = λ h. h;
     locals = λ place h.
         let from_start : HasManyLocals start place = many_later start at place later h.0 in

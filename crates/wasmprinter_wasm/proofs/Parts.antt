@@ -46,8 +46,8 @@ module _ (old mid part new : Input) (size : ℕ) (size_read : u32.parse old ≡ 
       let same : f.text ≡ part.bytes = sym f.spelled.1 in
       (s.text, s.parts ∙ ap (λ (bs : List ℕ). s.text ++ bs) (f.parts ∙ ap (λ (bs : List ℕ). bs ++ new.bytes) same), begins ∙ s.ends, s.spelled)
 
-  -- The part ends no later than the whole.
-  pub part_within : end_of part ≤ end_of old
+  -- The part starts no earlier and ends no later than the whole.
+  pub part_within : (old.place ≤ part.place) × (end_of part ≤ end_of old)
   part_within =
       let (text, split, after, spelled) = old_parts in
       omega (arith, ap length split, after, length-append text (part.bytes ++ new.bytes), length-append part.bytes new.bytes)

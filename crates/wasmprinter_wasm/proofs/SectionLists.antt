@@ -37,7 +37,7 @@ pub list_fault : {A : Type 0} (g : Grammar A) (made : List A → Section) (items
     → HasReason (reader_reasons ((vec g).parse at ≡ None) (BeginsList g.parse at) at) f → HasReason (whole_reasons (alone (vec g)) made items functions at) f
 list_fault g made items functions listed counts at f h =
     grown_fault g made items functions listed counts at f
-    (part_fault ((vec g).parse at ≡ None) (BeginsList g.parse at) ((vec g).parse at ≡ None) (CountsItems at) at at (λ none. none) (λ b. b.counts) refl f h)
+    (part_fault ((vec g).parse at ≡ None) (BeginsList g.parse at) ((vec g).parse at ≡ None) (CountsItems at) at at (λ none. none) (λ b. b.counts) refl (omega arith) f h)
 
 -- If an allocation failed for a list with items, this is a reason for `Memory` of the section.
 pub list_grown : {A : Type 0} (g : Grammar A) (made : List A → Section) (items functions : Type 0) → items

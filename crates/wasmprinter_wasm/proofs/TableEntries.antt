@@ -1,5 +1,5 @@
 -- Entries of tables, which are selected by their first byte.
-use Rattle.std.proofs.Common.{◌≡◌, ℕ, ◌<◌, Bool, true, false, List, [], ◌∷◌, length, Option, Some, None, refl, ap, ◌∙◌, arith, length-append, eqb}
+use Rattle.std.proofs.Common.{◌≡◌, ℕ, ◌<◌, Bool, true, false, List, [], ◌∷◌, length, Option, Some, None, refl, ap, ◌∙◌, arith, length-append, eqb, ◌≤◌}
 use Rattle.std.specs.Prelude.{slice_get, Result, Ok, Err}
 use Rattle.std.proofs.lemmas.Bool.{lt-ltb, ne_eqb}
 use Rattle.wasmprinter_spec.specs.Grammar.{Input, input, Grammar, ◌>>=◌, some_is, seq, map_value, choose, Placed, value_with_place}
@@ -100,17 +100,17 @@ pub initialised_entry : {X : Type 0} (view : X → Placed (Table (Placed Operato
 initialised_entry view at new b s is (Ok x) h = entry_first at 0x40 (s ∙ ap (λ (n : ℕ). Some n) is) ∙ h
 initialised_entry view at new b s is (Err f) h =
     let same = entry_first at 0x40 (s ∙ ap (λ (n : ℕ). Some n) is) in
-    part_fault ((value_with_place (table_by 0x40)).parse at ≡ None) (TableGrows at) ((value_with_place table).parse at ≡ None) (TableGrows at) at at (λ none. same ∙ none) (λ more. more) refl f h
+    part_fault ((value_with_place (table_by 0x40)).parse at ≡ None) (TableGrows at) ((value_with_place table).parse at ≡ None) (TableGrows at) at at (λ none. same ∙ none) (λ more. more) refl (omega arith) f h
 
 -- An error of the initialiser, after 40 00 and a type, is an error of the entry.
 pub initialiser_fault : (at a b c : Input) (x y : ℕ) (t : TableType) → (only 0x40).parse at ≡ Some (x, a) → (only 0x00).parse a ≡ Some (y, b) → table_type.parse b ≡ Some (t, c)
-    → end_of c ≡ end_of at → (f : Error) → HasReason (reader_reasons (expression.parse c ≡ None) (HasBlock c) c) f
+    → end_of c ≡ end_of at → at.place ≤ c.place → (f : Error) → HasReason (reader_reasons (expression.parse c ≡ None) (HasBlock c) c) f
     → HasReason (reader_reasons ((value_with_place (table_by 0x40)).parse at ≡ None) (TableGrows at) at) f
-initialiser_fault at a b c x y t first second type ends =
+initialiser_fault at a b c x y t first second type ends forward =
     part_fault (expression.parse c ≡ None) (HasBlock c) ((value_with_place (table_by 0x40)).parse at ≡ None) (TableGrows at) c at (λ none. rw (first, second, type, none) refl)
     (λ more. record {
       value = x;
       after = a;
       read = first;
       holds = record { value = y; after = b; read = second; holds = record { value = t; after = c; read = type; holds = more } };
-    }) ends
+    }) ends forward

@@ -1,5 +1,5 @@
 -- Bodies with more locals than are allowed.
-use Rattle.std.proofs.Common.{◌≡◌, ℕ, ◌<◌, List, [], Some, None, refl, sym, ap, subst, ◌∙◌, arith}
+use Rattle.std.proofs.Common.{◌≡◌, ℕ, ◌<◌, List, [], Some, None, refl, sym, ap, subst, ◌∙◌, arith, ◌≤◌}
 use Rattle.wasmprinter_spec.specs.Grammar.{Input, input, ◌>>=◌, bind_some, some_is, seq, Placed, value_with_place}
 use Rattle.wasmprinter_spec.specs.Sized.{front_at, alone}
 use Rattle.wasmprinter_spec.specs.Name.{u32, vec}
@@ -71,9 +71,9 @@ module _ (at mid : Input) (locals : Entries) (read : (vec (value_with_place loca
       )
 
   -- An error of the expression is an error of the body.
-  pub body_fault : end_of mid ≡ end_of at → (f : Error) → HasReason (reader_reasons (expression.parse mid ≡ None) (HasBlock mid) mid) f → HasReason (body_reasons (value_with_place body).parse (HasBlocks at) at) f
-  body_fault ends = reason_implied (reader_reasons (expression.parse mid ≡ None) (HasBlock mid) mid) (body_reasons (value_with_place body).parse (HasBlocks at) at) (record {
-    malformed = λ place h. (rw (read, h.0) refl, omega (arith, h.1, ends));
+  pub body_fault : end_of mid ≡ end_of at → at.place ≤ mid.place → (f : Error) → HasReason (reader_reasons (expression.parse mid ≡ None) (HasBlock mid) mid) f → HasReason (body_reasons (value_with_place body).parse (HasBlocks at) at) f
+  body_fault ends forward = reason_implied (reader_reasons (expression.parse mid ≡ None) (HasBlock mid) mid) (body_reasons (value_with_place body).parse (HasBlocks at) at) (record {
+    malformed = λ place h. (rw (read, h.0) refl, omega (arith, h.1, ends, forward));
     component = λ h. h;
     locals = λ place h. absurd h;
     functions = λ count h. h;

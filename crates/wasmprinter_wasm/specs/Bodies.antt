@@ -7,7 +7,7 @@ use Rattle.wasmprinter_spec.specs.Name.{u32, vec}
 use Rattle.wasmprinter_spec.specs.Placed.{Body}
 use Rattle.wasmprinter_spec.specs.Binary.Code.{body, code_entry}
 use Rattle.wasmprinter_spec.specs.Limits.{local_count, most_locals}
-use Rattle.wasmprinter_bytes.specs.Reads.{end_of}
+use Rattle.wasmprinter_bytes.specs.Reads.{IsPlaceIn}
 use Rattle.wasmprinter_bytes.specs.declared.error.Error.{Error}
 use Rattle.wasmprinter_bytes.specs.Reasons.{Reasons, HasReason}
 use Rattle.wasmprinter_wasm.specs.Growing.{HasBlocks}
@@ -28,7 +28,7 @@ pub record HasEntryBlocks (at : Input) : Type 0 where
 -- body that the bytes encode, if they encode one, has them; or an allocation failed, and `grows` holds.
 abbrev pub body_reasons : (Input → Option (Placed Body × Input)) → Type 0 → Input → Reasons
 body_reasons parse grows at = record {
-  malformed = λ place. (parse at ≡ None) × (place ≤ end_of at);
+  malformed = λ place. (parse at ≡ None) × IsPlaceIn at place;
   component = ⊥;
   locals = λ place. HasManyLocals at place × ((x : Placed Body × Input) → parse at ≡ Some x → IsOver place x.0);
   functions = λ count. ⊥;
@@ -52,7 +52,7 @@ TakesEntry old r new = TakesBodyBy code_entry.parse HasEntryBlocks old r new
 -- The reasons for errors when the bodies of a code section are read.
 abbrev pub bodies_reasons : Input → Reasons
 bodies_reasons at = record {
-  malformed = λ place. ((vec code_entry).parse at ≡ None) × (place ≤ end_of at);
+  malformed = λ place. ((vec code_entry).parse at ≡ None) × IsPlaceIn at place;
   component = ⊥;
   locals = λ place. HasManyLocals at place × ((x : List (Placed Body) × Input) → (vec code_entry).parse at ≡ Some x → FirstIsOver place x.0);
   functions = λ count. ⊥;

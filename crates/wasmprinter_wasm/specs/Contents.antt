@@ -8,7 +8,7 @@ use Rattle.wasmprinter_spec.specs.Sections.{CustomSection, TypeSection, ImportSe
 use Rattle.wasmprinter_spec.specs.Sections.{ExportSection, StartSection, ElementSection, DataCountSection, CodeSection, DataSection}
 use Rattle.wasmprinter_spec.specs.Sections.{Kind, Content, content, holds, content_of, Section as SectionValue}
 use Rattle.wasmprinter_spec.specs.Limits.{local_count, most_locals, most_functions, HasNoEmptyInit}
-use Rattle.wasmprinter_bytes.specs.Reads.{end_of}
+use Rattle.wasmprinter_bytes.specs.Reads.{IsPlaceIn}
 use Rattle.wasmprinter_bytes.specs.declared.error.Error.{Error}
 use Rattle.wasmprinter_bytes.specs.declared.error.Malformed.{Malformed}
 use Rattle.wasmprinter_bytes.specs.Reasons.{Reasons, HasReason}
@@ -82,7 +82,7 @@ pub record AreTooMany (at : Input) (count : ℕ) : Type 0 where
 -- The reasons for errors when the type indices of a function section are read.
 abbrev pub indices_reasons : Input → Reasons
 indices_reasons at = record {
-  malformed = λ place. ((vec u32).parse at ≡ None) × (place ≤ end_of at);
+  malformed = λ place. ((vec u32).parse at ≡ None) × IsPlaceIn at place;
   component = ⊥;
   locals = λ place. ⊥;
   functions = λ count. AreTooMany at count;
@@ -107,7 +107,7 @@ pub record CountStands (at : Input) (count : ℕ) : Type 0 where
 -- reason about the content is a statement about the section that the bytes encode, if they encode one.
 abbrev pub whole_reasons : {C : Type 0} → Remainder C → (C → SectionValue) → Type 0 → Type 0 → Input → Reasons
 whole_reasons {C} w made items functions at = record {
-  malformed = λ place. (w.parse at ≡ None) × (place ≤ end_of at);
+  malformed = λ place. (w.parse at ≡ None) × IsPlaceIn at place;
   component = ⊥;
   locals = λ place. HasManyLocals at place × ((x : C) → w.parse at ≡ Some x → HasOver place (made x));
   functions =
@@ -123,7 +123,7 @@ content_reasons kind at = whole_reasons (content kind) (holds kind) (HoldsItems 
 -- The bytes encode the value and nothing after it; or, on an error, they do not encode a value.
 abbrev pub ReadsAll : {X A : Type 0} → (X → A) → (Input → Option A) → Input → Result X Malformed → Type 0
 ReadsAll view parse at (Ok x) = parse at ≡ Some (view x)
-ReadsAll view parse at (Err e) = (parse at ≡ None) × (e.place ≤ end_of at)
+ReadsAll view parse at (Err e) = (parse at ≡ None) × IsPlaceIn at e.place
 
 -- The bytes encode content of this kind, which is within the limits; or the error has its reason.
 abbrev pub TakesHeld : (kind : Kind) → {X : Type 0} → (X → Content kind) → Input → Result X Error → Type 0

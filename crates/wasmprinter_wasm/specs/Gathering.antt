@@ -1,5 +1,5 @@
 -- The contents of the sections of a module, gathered by kind.
-use Rattle.std.specs.Prelude.{◌≡◌, ℕ, ◌+◌, ◌<◌, ◌≤◌, List, [], ◌∷◌, ◌++◌, length, true, Option, Some, None, Result, Ok, Err}
+use Rattle.std.specs.Prelude.{◌≡◌, ℕ, ◌+◌, ◌<◌, List, [], ◌∷◌, ◌++◌, length, true, Option, Some, None, Result, Ok, Err}
 use Rattle.std.specs.List.{AllByRecursion}
 use Rattle.wasmprinter_spec.specs.Grammar.{Input, Placed}
 use Rattle.wasmprinter_spec.specs.Repeated.{until_end}
@@ -11,7 +11,7 @@ use Rattle.wasmprinter_spec.specs.Sections.{ExportSection, StartSection, Element
 use Rattle.wasmprinter_spec.specs.Sections.{Kind, Content, Section, holds, section_kind, section, rank, rank_after, are_above, place_after, customs_after}
 use Rattle.wasmprinter_spec.specs.Binary.{types_in, imports_in, type_indices_in, tables_in, memories_in, tags_in, globals_in, exports_in, start_in, elements_in, data_count_in, bodies_in, datas_in, customs_in, counts_data}
 use Rattle.wasmprinter_spec.specs.Limits.{most_functions}
-use Rattle.wasmprinter_bytes.specs.Reads.{end_of}
+use Rattle.wasmprinter_bytes.specs.Reads.{IsPlaceIn}
 use Rattle.wasmprinter_bytes.specs.declared.error.Error.{Error}
 use Rattle.wasmprinter_bytes.specs.Reasons.{Reasons, HasReason}
 use Rattle.wasmprinter_wasm.specs.Refusals.{HasManyLocals, HasEmptyInit, BeginsSection, KeepsSome, FirstIsOver, FirstIsEmpty}
@@ -151,7 +151,7 @@ item_count_in ss =
 -- The reason for each error of reading sections up to the end of the bytes.
 abbrev pub sections_reasons : Input → Reasons
 sections_reasons at = record {
-  malformed = λ place. ((ss : List Section) → sections_at at ≡ Some ss → are_above 0 ss ≡ true → ⊥) × (place ≤ end_of at);
+  malformed = λ place. ((ss : List Section) → sections_at at ≡ Some ss → are_above 0 ss ≡ true → ⊥) × IsPlaceIn at place;
   component = ⊥;
   locals =
       λ place. HasManyLocals at place

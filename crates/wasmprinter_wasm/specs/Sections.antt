@@ -1,11 +1,11 @@
 -- Reading one section.
-use Rattle.std.specs.Prelude.{◌≡◌, ℕ, ◌<◌, ◌≤◌, Option, Some, None, Result, Ok, Err}
+use Rattle.std.specs.Prelude.{◌≡◌, ℕ, ◌<◌, Option, Some, None, Result, Ok, Err}
 use Rattle.wasmprinter_spec.specs.Grammar.{Input, ◌>>=◌}
 use Rattle.wasmprinter_spec.specs.Sections.{CustomSection, TypeSection, ImportSection, FunctionSection, TableSection, MemorySection, TagSection, GlobalSection}
 use Rattle.wasmprinter_spec.specs.Sections.{ExportSection, StartSection, ElementSection, DataCountSection, CodeSection, DataSection}
 use Rattle.wasmprinter_spec.specs.Sections.{Kind, content, holds, section, Section as SectionValue}
 use Rattle.wasmprinter_spec.specs.Limits.{most_functions}
-use Rattle.wasmprinter_bytes.specs.Reads.{end_of}
+use Rattle.wasmprinter_bytes.specs.Reads.{IsPlaceIn}
 use Rattle.wasmprinter_bytes.specs.declared.error.Error.{Error}
 use Rattle.wasmprinter_bytes.specs.declared.error.Error.TheVariants.{Malformed as AtPlace}
 use Rattle.wasmprinter_bytes.specs.Reasons.{Reasons, HasReason}
@@ -43,7 +43,7 @@ TakesContent place None at (Err e) = e ≡ AtPlace place
 -- The reason for each error of reading a section.
 abbrev pub section_reasons : Input → Reasons
 section_reasons at = record {
-  malformed = λ place. (section.parse at ≡ None) × (place ≤ end_of at);
+  malformed = λ place. (section.parse at ≡ None) × IsPlaceIn at place;
   component = ⊥;
   locals = λ place. HasManyLocals at place × ((x : SectionValue × Input) → section.parse at ≡ Some x → HasOver place x.0);
   functions =

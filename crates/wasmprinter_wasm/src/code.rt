@@ -1,5 +1,5 @@
 //! The code section (section 5.5, "Code Section"): bodies of functions, each with its locals and an expression.
-ghost use Rattle.std.specs.Prelude.{◌≡◌, ◌<◌, ◌↔◌, IsTrue};
+ghost use Rattle.std.specs.Prelude.{◌≡◌, ◌<◌, ◌≤◌, ◌↔◌, IsTrue};
 ghost use Rattle.wasmprinter_spec.specs.Grammar.{value_with_place};
 ghost use Rattle.wasmprinter_spec.specs.Binary.Code.{local_entry};
 ghost use Rattle.wasmprinter_spec.specs.Instructions.{roles};
@@ -119,6 +119,7 @@ impl<'a> Body<'a> {
     fn read(alloc: Global, cursor: &mut Cursor<'a>) -> Result<Self, Error>
         ensures reads { TakesBody cursor.old result cursor.new }
         ensures end { end_of cursor.new ≡ end_of cursor.old }
+        ensures forward { cursor.old.place ≤ cursor.new.place }
     {
         let place = cursor.place();
         let locals = read_items(cursor)?;
@@ -137,6 +138,7 @@ impl<'a> Body<'a> {
     fn read_entry(alloc: Global, cursor: &mut Cursor<'a>) -> Result<Self, Error>
         ensures reads { TakesEntry cursor.old result cursor.new }
         ensures end { end_of cursor.new ≡ end_of cursor.old }
+        ensures forward { cursor.old.place ≤ cursor.new.place }
     {
         let size = cursor.u32()?;
         let mut part = cursor.part(size as usize)?;
@@ -212,6 +214,7 @@ impl<'a> BodyParts<'a> for Body<'a> {
 fn read_bodies<'a>(alloc: Global, cursor: &mut Cursor<'a>) -> Result<Vec<Body<'a>>, Error>
     ensures reads { TakesBodies (λ v. v.items) cursor.old result cursor.new }
     ensures end { end_of cursor.new ≡ end_of cursor.old }
+    ensures forward { cursor.old.place ≤ cursor.new.place }
 {
     let count = cursor.u32()?;
     let mut bodies = Vec::new(alloc);

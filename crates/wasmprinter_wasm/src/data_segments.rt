@@ -1,5 +1,5 @@
 //! The data section and the data count section (section 5.5, "Data Section" and "Data Count Section").
-ghost use Rattle.std.specs.Prelude.{◌≡◌, ◌<◌, Some};
+ghost use Rattle.std.specs.Prelude.{◌≡◌, ◌<◌, ◌≤◌, Some};
 ghost use Rattle.wasmprinter_spec.specs.Grammar.{value_with_place};
 ghost use Rattle.wasmprinter_spec.specs.Binary.DataSegments.{data_mode, byte_vec, segment, data_count_section};
 ghost use Rattle.wasmprinter_spec.specs.Sections.{DataSection};
@@ -65,6 +65,7 @@ impl<'a> DataMode<'a> {
         requires { flags < 3 }
         ensures reads { Takes data_mode_view (data_mode flags).parse (DataModeGrows flags) cursor.old result cursor.new }
         ensures end { end_of cursor.new ≡ end_of cursor.old }
+        ensures forward { cursor.old.place ≤ cursor.new.place }
     {
         match flags {
             ACTIVE => {

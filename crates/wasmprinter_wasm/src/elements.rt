@@ -1,5 +1,5 @@
 //! The element section (section 5.5, "Element Section").
-ghost use Rattle.std.specs.Prelude.{◌≡◌};
+ghost use Rattle.std.specs.Prelude.{◌≡◌, ◌≤◌};
 ghost use Rattle.wasmprinter_spec.specs.Grammar.{value_with_place};
 ghost use Rattle.wasmprinter_spec.specs.Binary.Elements.{element as element_grammar, function_items, expression_items};
 ghost use Rattle.wasmprinter_spec.specs.Sections.{ElementSection};
@@ -94,6 +94,7 @@ impl<'a> ElementMode<'a> {
     fn read(alloc: Global, flags: u32, cursor: &mut Cursor<'a>) -> Result<Self, Error>
         ensures reads { Takes element_mode_view (mode_by flags).parse (ModeGrows flags) cursor.old result cursor.new }
         ensures end { end_of cursor.new ≡ end_of cursor.old }
+        ensures forward { cursor.old.place ≤ cursor.new.place }
     {
         let is_explicit = has_bit(flags, EXPLICIT_BIT);
         if has_bit(flags, INACTIVE_BIT) {
@@ -121,6 +122,7 @@ impl<'a> ElementItems<'a> {
     fn read_expressions(alloc: Global, ty: RefType, cursor: &mut Cursor<'a>) -> Result<Self, Error>
         ensures reads { Takes element_items_view (expression_items (ref_view ty)).parse CountsItems cursor.old result cursor.new }
         ensures end { end_of cursor.new ≡ end_of cursor.old }
+        ensures forward { cursor.old.place ≤ cursor.new.place }
     {
         let expressions = read_grown_list(alloc, cursor)?;
         Ok(ElementItems::Expressions(ty, expressions))
@@ -130,6 +132,7 @@ impl<'a> ElementItems<'a> {
     fn read(alloc: Global, flags: u32, cursor: &mut Cursor<'a>) -> Result<Self, Error>
         ensures reads { Takes element_items_view (items_by flags).parse (ItemsGrow flags) cursor.old result cursor.new }
         ensures end { end_of cursor.new ≡ end_of cursor.old }
+        ensures forward { cursor.old.place ≤ cursor.new.place }
     {
         let is_omitted = is_kind_omitted(flags);
         if has_bit(flags, EXPRESSIONS_BIT) {

@@ -1,7 +1,7 @@
 //! Checks for a specific byte, and for the end of a section's content.
-ghost use Rattle.std.specs.Prelude.{◌≡◌, ◌≤◌, [], MatchResult};
+ghost use Rattle.std.specs.Prelude.{◌≡◌, [], MatchResult};
 ghost use Rattle.wasmprinter_spec.specs.FirstByte.{only};
-ghost use Rattle.wasmprinter_bytes.specs.Reads.{Decodes, end_of};
+ghost use Rattle.wasmprinter_bytes.specs.Reads.{Decodes, IsPlaceIn};
 
 use wasmprinter_bytes::Malformed;
 use wasmprinter_bytes::bytes::Cursor;
@@ -12,7 +12,7 @@ use wasmprinter_bytes::bytes::Cursor;
 ///
 /// `Malformed` if bytes remain, with the place of the first.
 pub fn expect_end(cursor: &Cursor) -> Result<(), Malformed>
-    ensures { MatchResult result (λ _. cursor.now.bytes ≡ []) (λ e. (cursor.now.bytes ≡ [] → ⊥) × (e.place ≤ end_of cursor.now)) }
+    ensures { MatchResult result (λ _. cursor.now.bytes ≡ []) (λ e. (cursor.now.bytes ≡ [] → ⊥) × IsPlaceIn cursor.now e.place) }
 {
     if cursor.is_empty() {
         Ok(())

@@ -1,5 +1,5 @@
 //! The function section (section 5.5, "Function Section").
-ghost use Rattle.std.specs.Prelude.{◌≡◌};
+ghost use Rattle.std.specs.Prelude.{◌≡◌, ◌≤◌};
 ghost use Rattle.wasmprinter_spec.specs.Sections.{FunctionSection};
 ghost use Rattle.wasmprinter_bytes.specs.Reads.{end_of};
 ghost use Rattle.wasmprinter_wasm.specs.Contents.{TakesIndices, TakesHeld};
@@ -17,6 +17,7 @@ const MOST_FUNCTIONS: u32 = 1_000_000;
 fn read_type_indices(alloc: Global, cursor: &mut Cursor) -> Result<Vec<u32>, Error>
     ensures reads { TakesIndices (λ v. v.items) cursor.old result cursor.new }
     ensures end { end_of cursor.new ≡ end_of cursor.old }
+    ensures forward { cursor.old.place ≤ cursor.new.place }
 {
     let indices = read_items::<u32>(cursor)?;
     let count = indices.len();

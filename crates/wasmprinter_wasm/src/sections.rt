@@ -1,5 +1,5 @@
 //! Sections (section 5.5, "Sections"): an id, a size, and content of exactly that many bytes.
-ghost use Rattle.std.specs.Prelude.{◌≡◌, None};
+ghost use Rattle.std.specs.Prelude.{◌≡◌, ◌≤◌, None};
 ghost use Rattle.wasmprinter_spec.specs.Sections.{kind_of, section_kind, rank, place_after};
 ghost use Rattle.wasmprinter_bytes.specs.Reads.{end_of};
 ghost use Rattle.wasmprinter_wasm.specs.Places.{place_view};
@@ -131,6 +131,7 @@ impl<'a> Section<'a> {
     pub(crate) fn read(alloc: Global, cursor: &mut Cursor<'a>) -> Result<Self, Error>
         ensures reads { TakesSection cursor.old result cursor.new }
         ensures end { end_of cursor.new ≡ end_of cursor.old }
+        ensures forward { cursor.old.place ≤ cursor.new.place }
     {
         let place = cursor.place();
         let id = cursor.u8()?;

@@ -1,5 +1,5 @@
 //! The table section (section 5.5, "Table Section").
-ghost use Rattle.std.specs.Prelude.{◌≡◌, ◌↔◌, IsTrue};
+ghost use Rattle.std.specs.Prelude.{◌≡◌, ◌≤◌, ◌↔◌, IsTrue};
 ghost use Rattle.wasmprinter_spec.specs.Grammar.{value_with_place};
 ghost use Rattle.wasmprinter_spec.specs.Binary.Tables.{table_by, table as table_grammar};
 ghost use Rattle.wasmprinter_spec.specs.Sections.{TableSection};
@@ -71,6 +71,7 @@ impl<'a> Table<'a> {
     fn read_initialised(alloc: Global, cursor: &mut Cursor<'a>) -> Result<Self, Error>
         ensures reads { Takes (λ t. t) (value_with_place (table_by 0x40)).parse TableGrows cursor.old result cursor.new }
         ensures end { end_of cursor.new ≡ end_of cursor.old }
+        ensures forward { cursor.old.place ≤ cursor.new.place }
     {
         let place = cursor.place();
         read_only(cursor, WITH_INIT)?;

@@ -8,6 +8,7 @@ pub loop-preserved : goal.loop-preserved
 loop-preserved g c = record {
   rest = rw c.in_ok-push.ensures.items (front_more g.T.GrownIn.parse c.loop.grown.items c.in_ok-count.count c.loop.counter c.loop.cursor c.in_ok-read.field-0 c.read.new.cursor _ (omega arith) c.in_ok-read.ensures.reads c.loop.invariant.rest);
   end = omega (arith, c.in_ok-read.ensures.end, c.loop.invariant.end);
+  forward = omega (arith, c.in_ok-read.ensures.forward, c.loop.invariant.forward);
 }
 
 pub returns-in_err-read-clause-reads : goal.returns-in_err-read-clause-reads
@@ -15,7 +16,7 @@ returns-in_err-read-clause-reads g c =
     let p = err_from_is_err_and c.from_residual-in_err-read.result c.from_residual-in_err-read.ensures.1 in
     rw (p.1, p.2)
     (list_fault g.T.GrownIn.parse c.args.cursor.now c.u32.new.self c.loop.cursor c.in_ok-count.count c.loop.counter c.loop.grown.items c.in_ok-count.ensures.reads (omega arith) c.loop.invariant.rest
-    (g.T.GrownIn.grows c.loop.cursor) (omega (arith, c.loop.invariant.end, c.in_ok-count.ensures.end)) c.in_err-read.field-0.0 c.in_err-read.ensures.reads)
+    (g.T.GrownIn.grows c.loop.cursor) (omega (arith, c.loop.invariant.end, c.in_ok-count.ensures.end)) (omega (arith, c.loop.invariant.forward, c.in_ok-count.ensures.forward)) c.in_err-read.field-0.0 c.in_err-read.ensures.reads)
 
 pub returns-in_err-push-clause-reads : goal.returns-in_err-push-clause-reads
 returns-in_err-push-clause-reads g c =

@@ -1,4 +1,4 @@
-use Rattle.std.proofs.Common.{◌≡◌, ◌-◌}
+use Rattle.std.proofs.Common.{◌≡◌, ◌≤◌, ◌-◌}
 use Rattle.wasmprinter_spec.specs.Repeated.{items_at}
 use Rattle.wasmprinter_bytes.specs.Reads.{end_of}
 use Rattle.wasmprinter_bytes.proofs.Fronts.{with_front}
@@ -8,4 +8,5 @@ abbrev pub invariant-loop : goal.invariant-loop
 invariant-loop g l = record {
   rest : with_front l.grown.items (items_at g.T.GrownIn.parse (l.count - l.counter) l.cursor) ≡ items_at g.T.GrownIn.parse l.count l.initial.cursor;
   end : end_of l.cursor ≡ end_of l.initial.cursor;
+  forward : l.initial.cursor.place ≤ l.cursor.place;
 }

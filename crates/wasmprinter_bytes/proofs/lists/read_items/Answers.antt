@@ -9,6 +9,7 @@ pub loop-preserved : goal.loop-preserved
 loop-preserved g c = record {
   rest = skip_more g.T.Decode.parse c.in_ok-count.count c.loop.counter c.loop.cursor _ c.read.new.cursor _ (omega arith) c.in_ok-read.ensures.reads c.loop.invariant.rest;
   end = omega (arith, c.in_ok-read.ensures.end, c.loop.invariant.end);
+  forward = omega (arith, c.in_ok-read.ensures.forward, c.loop.invariant.forward);
 }
 
 pub invariant_of-result : goal.invariant_of-result
@@ -22,6 +23,7 @@ returns g c = record {
       (skip_end g.T.Decode.parse c.in_ok-count.count c.loop.counter c.loop.cursor _ (omega arith) c.loop.invariant.rest);
   within = search rules;
   end = search rules;
+  forward = search rules;
 }
 
 pub returns-in_err-read : goal.returns-in_err-read
@@ -33,4 +35,5 @@ returns-in_err-read g c = record {
       (skip_none g.T.Decode.parse c.in_ok-count.count c.loop.counter c.loop.cursor (skip_at g.T.Decode.parse c.in_ok-count.count c.fork-start.result) (omega arith) c.in_err-read.ensures.reads c.loop.invariant.rest));
   within = search rules;
   end = search rules;
+  forward = search rules;
 }

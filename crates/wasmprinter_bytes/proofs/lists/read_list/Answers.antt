@@ -7,6 +7,7 @@ pub loop-preserved : goal.loop-preserved
 loop-preserved g c = record {
   rest = rw c.in_ok-push.ensures.items (front_more g.T.DecodeIn.parse c.loop.values.items c.in_ok-count.count c.loop.counter c.loop.cursor c.in_ok-read.field-0 c.read.new.cursor _ (omega arith) c.in_ok-read.ensures.reads c.loop.invariant.rest);
   end = omega (arith, c.in_ok-read.ensures.end, c.loop.invariant.end);
+  forward = omega (arith, c.in_ok-read.ensures.forward, c.loop.invariant.forward);
   first = inr (first_stands g.T.DecodeIn.parse c.u32.new.self c.loop.cursor (c.in_ok-read.field-0, c.read.new.cursor) c.loop.invariant.first c.in_ok-read.ensures.reads);
 }
 

@@ -9,6 +9,7 @@ returns-in_ok-read_type_index c = record {
       c.in-Some.ensures c.if-first-eq-EMPTY.false (sym c.if-begins_type.ensures) c.in_ok-read_type_index.ensures.reads;
   within = search rules;
   end = search rules;
+  forward = search rules;
 }
 
 pub returns-in_ok-read_type : goal.returns-in_ok-read_type
@@ -17,4 +18,5 @@ returns-in_ok-read_type c = record {
       c.in-Some.ensures c.if-first-eq-EMPTY.false (sym c.if-begins_type.ensures) c.in_ok-read_type.ensures.reads;
   within = search rules;
   end = search rules;
+  forward = search rules;
 }

@@ -16,4 +16,5 @@ returns c = record {
   reads = reads_made catch_of_view catch_view seen_made catch.parse c.args.cursor.now c.read_items.new.cursor c.read_items.result c.read_items.ensures.reads;
   within = search rules;
   end = search rules;
+  forward = search rules;
 }

@@ -10,4 +10,5 @@ returns c = record {
   reads = reads_made field_of_view field_view field_seen field.parse c.args.cursor.now c.read_items.new.cursor c.read_items.result c.read_items.ensures.reads;
   within = search rules;
   end = search rules;
+  forward = search rules;
 }

@@ -14,4 +14,5 @@ returns-in_ok-read_type_index-in-None c = record {
       (index_takes_byte c.args.cursor.now index c.in_ok-read_type_index-in-None.ensures.reads);
   within = search rules;
   end = search rules;
+  forward = search rules;
 }

@@ -10,4 +10,5 @@ returns c = record {
   reads = reads_made type_of_view type_view type_seen val_type.parse c.args.cursor.now c.read_items.new.cursor c.read_items.result c.read_items.ensures.reads;
   within = search rules;
   end = search rules;
+  forward = search rules;
 }

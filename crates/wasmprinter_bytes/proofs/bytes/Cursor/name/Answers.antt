@@ -11,6 +11,7 @@ returns-in-Ok c = record {
       rw (c.in_ok-len.ensures.reads, c.in_ok-bytes.ensures.reads, u) (ap (λ (t : List ℕ). Some (t, c.take.new.self)) (sym c.in-Ok.ensures.cases.0));
   within = search rules;
   end = search rules;
+  forward = search rules;
 }
 
 pub returns-in-Err : goal.returns-in-Err
@@ -20,4 +21,5 @@ returns-in-Err c = record {
       rw (c.in_ok-len.ensures.reads, c.in_ok-bytes.ensures.reads, u) refl;
   within = search rules;
   end = search rules;
+  forward = search rules;
 }

@@ -10,6 +10,7 @@ pub loop-preserved : goal.loop-preserved
 loop-preserved c = record {
   rest = skip_more subtype.parse c.args.count c.loop.counter c.loop.cursor _ c.read.new.cursor _ (omega arith) c.in_ok-read.ensures.reads c.loop.invariant.rest;
   end = omega (arith, c.in_ok-read.ensures.end, c.loop.invariant.end);
+  forward = omega (arith, c.in_ok-read.ensures.forward, c.loop.invariant.forward);
 }
 
 pub invariant_of-result : goal.invariant_of-result
@@ -24,6 +25,7 @@ returns c = record {
       (skip_end subtype.parse c.args.count c.loop.counter c.loop.cursor _ (omega arith) c.loop.invariant.rest);
   within = search rules;
   end = search rules;
+  forward = search rules;
 }
 
 pub returns-in_err-read : goal.returns-in_err-read
@@ -36,4 +38,5 @@ returns-in_err-read c = record {
       (skip_none subtype.parse c.args.count c.loop.counter c.loop.cursor (skip_at subtype.parse c.args.count c.fork-start.result) (omega arith) c.in_err-read.ensures.reads c.loop.invariant.rest));
   within = search rules;
   end = search rules;
+  forward = search rules;
 }

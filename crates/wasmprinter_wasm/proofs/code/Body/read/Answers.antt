@@ -11,4 +11,4 @@ pub returns-in_err-code-clause-reads : goal.returns-in_err-code-clause-reads
 returns-in_err-code-clause-reads c =
     let (fault, failed, is) = err_from_is_err_and c.from_residual-in_err-code.result c.from_residual-in_err-code.ensures.1 in
     rw (failed, is)
-    (body_fault c.args.cursor.now c.read_items.new.cursor c.in_ok-locals.locals c.in_ok-locals.ensures.reads c.in_ok-locals.ensures.end c.in_err-code.field-0.0 c.in_err-code.ensures.reads)
+    (body_fault c.args.cursor.now c.read_items.new.cursor c.in_ok-locals.locals c.in_ok-locals.ensures.reads c.in_ok-locals.ensures.end c.in_ok-locals.ensures.forward c.in_err-code.field-0.0 c.in_err-code.ensures.reads)

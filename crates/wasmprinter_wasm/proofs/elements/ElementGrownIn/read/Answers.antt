@@ -19,7 +19,7 @@ returns-in_err-mode-clause-reads c =
     (part_fault ((mode_by c.in_ok-flags.flags).parse c.u32.new.self ≡ None) (ModeGrows c.in_ok-flags.flags c.u32.new.self)
     ((value_with_place element).parse c.args.cursor.now ≡ None) (ElementGrows c.args.cursor.now) c.u32.new.self c.args.cursor.now
     (element_no_mode c.args.cursor.now c.u32.new.self c.in_ok-flags.flags c.in_ok-flags.ensures.reads (omega arith))
-    (λ more. record { value = c.in_ok-flags.flags; after = c.u32.new.self; read = c.in_ok-flags.ensures.reads; holds = inl more }) c.in_ok-flags.ensures.end
+    (λ more. record { value = c.in_ok-flags.flags; after = c.u32.new.self; read = c.in_ok-flags.ensures.reads; holds = inl more }) c.in_ok-flags.ensures.end c.in_ok-flags.ensures.forward
     c.in_err-mode.field-0.0 c.in_err-mode.ensures.reads)
 
 pub returns-in_err-items-clause-reads : goal.returns-in_err-items-clause-reads
@@ -34,7 +34,7 @@ returns-in_err-items-clause-reads c =
       after = c.u32.new.self;
       read = c.in_ok-flags.ensures.reads;
       holds = inr (record { value = element_mode_view c.in_ok-mode.mode; after = c.read.new.cursor; read = c.in_ok-mode.ensures.reads; holds = more });
-    }) (c.in_ok-mode.ensures.end ∙ c.in_ok-flags.ensures.end) c.in_err-items.field-0.0 c.in_err-items.ensures.reads)
+    }) (c.in_ok-mode.ensures.end ∙ c.in_ok-flags.ensures.end) (omega (arith, c.in_ok-flags.ensures.forward, c.in_ok-mode.ensures.forward)) c.in_err-items.field-0.0 c.in_err-items.ensures.reads)
 
 pub returns-clause-reads : goal.returns-clause-reads
 returns-clause-reads c =

@@ -1,4 +1,4 @@
-use Rattle.std.proofs.Common.{◌≡◌, None, refl}
+use Rattle.std.proofs.Common.{◌≡◌, None, refl, arith}
 use Rattle.std.proofs.lemmas.Result.{err_from_is_err_and}
 use Rattle.wasmprinter_spec.specs.Name.{vec}
 use Rattle.wasmprinter_spec.specs.Instructions.{expression}
@@ -18,5 +18,5 @@ returns-in_err-expressions-clause-reads c =
     let (fault, failed, is) = err_from_is_err_and c.from_residual.result c.from_residual.ensures.1 in
     rw (failed, is)
     (part_fault ((vec expression).parse c.args.cursor.now ≡ None) (CountsItems c.args.cursor.now) ((expression_items (ref_view c.args.ty)).parse c.args.cursor.now ≡ None) (CountsItems c.args.cursor.now)
-    c.args.cursor.now c.args.cursor.now (λ none. expressions_none (ref_view c.args.ty) c.args.cursor.now none) (λ more. more) refl
+    c.args.cursor.now c.args.cursor.now (λ none. expressions_none (ref_view c.args.ty) c.args.cursor.now none) (λ more. more) refl (omega arith)
     c.in_err-expressions.field-0.0 c.in_err-expressions.ensures.reads)

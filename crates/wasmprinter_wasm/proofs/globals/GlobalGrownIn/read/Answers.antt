@@ -14,4 +14,4 @@ returns-in_err-init-clause-reads c =
     let (fault, failed, is) = err_from_is_err_and c.from_residual-in_err-init.result c.from_residual-in_err-init.ensures.1 in
     rw (failed, is)
     (part_fault (expression.parse c.read.new.cursor ≡ None) (HasBlock c.read.new.cursor) ((value_with_place global).parse c.args.cursor.now ≡ None) (GlobalGrows c.args.cursor.now) c.read.new.cursor c.args.cursor.now
-    (λ none. rw (c.in_ok-ty.ensures.reads, none) refl) (λ more. record { value = global_type_view c.in_ok-ty.ty; after = c.read.new.cursor; read = c.in_ok-ty.ensures.reads; holds = more }) c.in_ok-ty.ensures.end c.in_err-init.field-0.0 c.in_err-init.ensures.reads)
+    (λ none. rw (c.in_ok-ty.ensures.reads, none) refl) (λ more. record { value = global_type_view c.in_ok-ty.ty; after = c.read.new.cursor; read = c.in_ok-ty.ensures.reads; holds = more }) c.in_ok-ty.ensures.end c.in_ok-ty.ensures.forward c.in_err-init.field-0.0 c.in_err-init.ensures.reads)
