@@ -43,7 +43,7 @@ typedef struct WasmprinterOptions {
 /* The statuses that the printing functions return. Each error stores a detail, which is 0 unless stated otherwise. */
 enum {
     WASMPRINTER_OK = 0,
-    WASMPRINTER_MALFORMED = 1,          /* not in the binary format; detail: the place of the first unexpected byte, number or entry */
+    WASMPRINTER_MALFORMED = 1,          /* not in the binary format; detail: a place, see below */
     WASMPRINTER_COMPONENT = 2,          /* a component, not a module */
     WASMPRINTER_TOO_MANY_LOCALS = 3,    /* more than 50,000 locals in a function; detail: the place of its body */
     WASMPRINTER_TOO_MANY_FUNCTIONS = 4, /* more than 1,000,000 functions; detail: their number */
@@ -56,6 +56,14 @@ enum {
     WASMPRINTER_MEMORY = 11,            /* an allocation failed */
     WASMPRINTER_INVALID_INDENT = 12     /* the indent is not UTF-8 */
 };
+
+/* The place of WASMPRINTER_MALFORMED is that of the first unexpected byte, number or entry, or of bytes whose encoded length exceeds the bytes
+ * that remain. In these cases it is another place:
+ * - A byte or number is missing: the end of the body, of the section or of the module.
+ * - A float, a vector or a list of lanes is cut off: its first byte.
+ * - The preamble is another one or is cut off: 0.
+ * - A name is not UTF-8: the first byte of its length.
+ * - Two sections disagree about a count: the end of the module. */
 
 /* Prints the text of a module to `out`, as snprintf does: writes as many of the first bytes of the text as fit, and stores the length of
  * the whole text. The text is truncated if *length > out_len. A call with out_len 0 only measures.

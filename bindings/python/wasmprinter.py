@@ -55,7 +55,7 @@ class Error(Exception):
 
 
 class Malformed(Error, status=1):
-    """The bytes are not in the binary format. `detail` is the byte offset of the first unexpected byte, number or entry."""
+    """The bytes are not in the binary format. `detail` is a byte offset, as wasmprinter.h describes it."""
 
 
 class Component(Error, status=2):

@@ -7,7 +7,7 @@ use std::fmt;
 #[derive(Clone, Copy, Debug, PartialEq, Eq, Hash)]
 #[non_exhaustive]
 pub enum Error {
-    /// The bytes are not in the binary format. `place` is the offset of the first unexpected byte, number or entry.
+    /// The bytes are not in the binary format. `place` is as `wasmprinter.h` describes it.
     Malformed { place: u64 },
     /// The bytes are marked as a component.
     Component,

@@ -12,15 +12,20 @@ pub enum Error {
     /// The bytes are not in the binary format.
     Malformed {
         /// The offset of the first unexpected byte, number or entry, or of bytes whose encoded length exceeds the
-        /// bytes that remain. If something is missing, the end of the section, of the body or of the module. If two
-        /// sections disagree about a count, the end of the module.
+        /// bytes that remain. In these cases it is another offset:
+        ///
+        /// - A byte or number is missing: the end of the body, of the section or of the module.
+        /// - A float, a vector or a list of lanes is cut off: its first byte.
+        /// - The preamble is another one or is cut off: 0.
+        /// - A name is not UTF-8: the first byte of its length.
+        /// - Two sections disagree about a count: the end of the module.
         place: u64,
     },
     /// The bytes are marked as a component.
     Component,
     /// A function has too many locals. Parameters are not counted.
     TooManyLocals {
-        /// The offset of the function's body.
+        /// The offset of the body of the first such function.
         place: u64,
     },
     /// The module defines too many functions.
@@ -35,12 +40,12 @@ pub enum Error {
     },
     /// Operators are folded, and a `try`, `catch`, `catch_all` or `delegate` would be printed.
     FoldLegacy {
-        /// The offset of the operator.
+        /// The offset of the first such operator, in the order of the bytes.
         place: u64,
     },
     /// Operators are folded, and folded text has nowhere to put a branch hint.
     FoldHint {
-        /// The offset of the hint's first byte.
+        /// The offset of the first byte of the first such hint, in the order of the operators.
         place: u64,
     },
     /// A subsection of `dylink.0` has an unknown id.

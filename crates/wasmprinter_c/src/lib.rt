@@ -208,8 +208,7 @@ fn print_by(
 ///
 /// # Errors
 ///
-/// - 1: the bytes are not in the binary format. The detail is the place of the first unexpected byte, number or
-///   entry.
+/// - 1: the bytes are not in the binary format. The detail is a place, as `include/wasmprinter.h` describes it.
 /// - 2: the bytes are marked as a component. This error takes precedence over all others.
 /// - 3: a function has more than 50,000 locals. The detail is the place of its body.
 /// - 4: the module has more than 1,000,000 functions. The detail is their number.

@@ -1,5 +1,5 @@
 //! The likely positions of items in the list of items with names. A position is only a hint: each lookup verifies it.
-ghost use Rattle.std.specs.Prelude.{◌≡◌, ◌<◌, ◌≤◌, ◌+◌, ◌-◌, [], length, max, IfOk, IfErr, OnOk, OnErr, IsOk};
+ghost use Rattle.std.specs.Prelude.{◌≡◌, ◌<◌, ◌≤◌, ◌+◌, ◌-◌, [], length, max, OnOk, OnErr, IsOk};
 
 use crate::store::{Place, StoredName};
 use std::alloc::{AllocError, Global};
@@ -17,9 +17,9 @@ struct Beginnings {
 }
 
 impl Beginnings {
-    /// Adds an item after the items so far. Only the first `limit` functions or types get a start of their own: a module
-    /// may name a local of its last function only, and memory must grow with the names, not with the functions. So the
-    /// caller passes the number of names.
+    /// Adds an item after the items so far. `limit` is the number of names, and at most that many functions or types get
+    /// a start of their own: a module may name a local of its last function only, and memory must grow with the names,
+    /// not with the functions.
     ///
     /// # Errors
     ///
