@@ -1,14 +1,15 @@
 #!/usr/bin/env -S python3 -B
-"""Checks that no kind of module takes `printwasm` longer, or more memory, than its bytes and those of its text grow.
+"""Checks that the time and memory of `printwasm` grow no faster than the bytes of a module and its text.
 
 tools/growth.py [--quick] [--only WORD] [--program PATH] [--jobs N]
     Generates modules of all shapes in three sizes (n, 2n and 4n items), prints each with several sets of options, and divides the least processor
-    time of five runs, and the peak of memory, by the bytes of module and text together. From one size to the next, this quotient may grow by at
-    most a quarter. n is 10,000, or more until a run takes 50 ms. Where that is not reached, the time is not judged, and the table says so.
+    time of up to five runs (fewer if they take 5 s together), and the peak of memory, by the bytes of module and text together. From one size to
+    the next, this quotient may grow by at most a quarter. n is 10,000, and is doubled until a run takes 75 ms, module and text have 16 MB, or the
+    printer's limits are reached. If a size takes less than 50 ms, its time is not judged, and the table says so.
     A measurement above the bound is repeated alone, at most three times. A run is stopped after 60 s, which counts as a failure.
     Prints a line for each shape and set of options, then a summary. The status is 1 if a ratio is above the bound or a run fails.
 tools/growth.py --allocations [..]
-    Prints how many allocations each further item costs instead. Needs valgrind.
+    Prints how many allocations each further item costs instead. The status is 1 if a shape needs more than three. Needs valgrind.
 tools/growth.py --validate COMMAND
     Runs a validator on small modules of all shapes instead, and reports those for which its answer is not the expected one. The command used is
     `wasm-tools validate --features all`.
@@ -42,7 +43,7 @@ MOST_ALLOCATIONS = 3  # for each item; more are reported
 VALIDATED_ITEMS = 600
 FLAT = ("--offsets", "--name-unnamed", "--color")
 MODES = ((), ("--fold",), ("--fold", *FLAT), ("--skeleton",))
-NAME_WIDTH, OPTIONS_WIDTH = 28, 14
+NAME_WIDTH, OPTIONS_WIDTH = 28, 18
 HEADS = "items | MB of module and text | processor seconds | MB of memory | greatest ratio of time | of memory"
 
 
@@ -63,7 +64,7 @@ class Plan:
 def short(options):
     """Returns the options in a few words."""
     if len(options) > 1:
-        return "all" if "--fold" in options else "all but --fold"
+        return "all but --skeleton" if "--fold" in options else "all flat"
     return options[0] if options else "none"
 
 
@@ -137,8 +138,8 @@ def summary(all_series, plan):
     if not ratios:
         return f"{shapes} shapes, nothing judged, {failed} failed"
     ratio, kind, series = max(ratios, key=lambda entry: entry[0])
-    greatest = f"the greatest ratio is {ratio:.2f} ({kind}, {series.shape}, options: {short(series.options)})"
-    return f"{shapes} shapes, {len(all_series)} lines: {greatest}; {above} above {BOUND}, {failed} failed"
+    worst = f"the greatest ratio is {ratio:.2f} ({kind}, {series.shape}, options: {short(series.options)})"
+    return f"{shapes} shapes, {len(all_series)} lines: {worst}; {above} above {BOUND}, {failed} failed"
 
 
 def check_growth(names, plan, jobs):
@@ -210,11 +211,17 @@ def arguments():
 def main():
     given = arguments()
     names = [name for name in SHAPES if given.only in name]
+    if not names:
+        print(f"growth: no shape contains {given.only}", file=sys.stderr)
+        return 2
     if given.list:
         print("\n".join(f"{name}: {SHAPES[name].summary}" for name in names))
         return 0
     if given.write:
         name, items, path = given.write
+        if name not in SHAPES:
+            print(f"growth: no shape {name}", file=sys.stderr)
+            return 2
         with open(path, "wb") as file:
             file.write(SHAPES[name].make(int(items)))
         return 0

@@ -219,13 +219,13 @@ def unreachable_drops(n):
 
 @shape()
 def nops_drops(n):
-    """`nop`s, then as many `drop`s: as above"""
+    """`nop`s, then as many `drop`s: each search passes over all earlier nodes and finds too few results"""
     return one_body(UNREACHABLE + NOP * n + DROP * n)
 
 
 @shape()
 def constants_short(n):
-    """calls of 1,000 parameters after 999 constants: as above"""
+    """calls of 1,000 parameters after 999 constants: each search passes over all earlier nodes and finds too few results"""
     return one_body(UNREACHABLE + CONST * ONE_SHORT + call(0) * n, callees=[func_type(MOST_PARAMS)])
 
 

@@ -121,4 +121,5 @@ def measure_again(program, shape, series, runs):
     with tempfile.TemporaryDirectory() as folder:
         for size in series.sizes:
             path, _ = written(shape, size.items, folder)
+            size.spent = 0.0
             repeat(program, series.options, path, size, runs, folder)

@@ -1,6 +1,6 @@
--- The outcome of a run that ends with an error.
-use Rattle.std.specs.Prelude.{◌≡◌, ℕ, List, Option, Some, None}
-use Rattle.std.proofs.Common.{sym, ◌∙◌, arith}
+-- The outcome of a run that ends with an error, and of one that may.
+use Rattle.std.specs.Prelude.{◌≡◌, ℕ, ◌⊎◌, List, Option, Some, None, Result, Ok, Err, IfOk, IfErr}
+use Rattle.std.proofs.Common.{sym, ◌∙◌, arith, inl, inr}
 use Rattle.wasmprinter_bytes.specs.declared.error.Error.{Error}
 use Rattle.wasmprinter.specs.TextOfFile.{Reading}
 use Rattle.printwasm.specs.Words.{named_file, choice_of}
@@ -21,3 +21,9 @@ refusal_told gives takes reports renders words file error named fails told = rec
   quiet = λ e. absurd (omega (arith, e));
   refused = λ e. (file, error, named, fails, told);
 }
+
+-- Two facts about a value and two about an error lead to one of two conclusions.
+pub by_result : {X E : Type 0} (r : Result X E) (P Q : X → Type 0) (S T : E → Type 0) (A B : Type 0) → IfOk r P → IfOk r Q → IfErr r S → IfErr r T →
+    ((x : X) → P x → Q x → A) → ((e : E) → S e → T e → B) → A ⊎ B
+by_result (Ok x) P Q S T A B p q s t f g = inl (f x p q)
+by_result (Err e) P Q S T A B p q s t f g = inr (g e s t)

@@ -101,7 +101,19 @@ pub record HasOutcome {W V : Type 0} (gives : List ℕ → Reading) (takes : Tex
       × FailsToWrite (choice_of words) (gives file) takes out new_out error
       × ReportsError reports err new_err renders error
 
+-- The arguments were read as words, and the run with these words has its outcome.
+abbrev pub RunsWithWords : {I A W V : Type 0} → (I → Option (String A) → I → Type 0) → Result I IoError → (List ℕ → Reading)
+    → TextWrite W → TextWrite V → Rendering Error → W → W → V → V → ℕ → Type 0
+RunsWithWords next_gives args gives takes reports renders out new_out err new_err status =
+    (words : List (List ℕ)) × AreWordsOf next_gives args words
+    × HasOutcome gives takes reports renders words out new_out err new_err status
+
 -- The words can't be read. The error was reported, the output is unchanged, and the status is `refused_status`.
 abbrev pub RefusesArguments : {W V : Type 0} → IoError → TextWrite V → Rendering WordsError → W → W → V → V → ℕ → Type 0
 RefusesArguments error reports renders out new_out err new_err status =
     ReportsError reports err new_err renders (words_error error) × (new_out ≡ out) × (status ≡ refused_status)
+
+-- The arguments can't be read as words, for an error that was reported.
+abbrev pub RefusesToRead : {I W V : Type 0} → Result I IoError → TextWrite V → Rendering WordsError → W → W → V → V → ℕ → Type 0
+RefusesToRead args reports renders out new_out err new_err status =
+    (error : IoError) × CannotReadWords args error × RefusesArguments error reports renders out new_out err new_err status

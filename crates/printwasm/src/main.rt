@@ -10,17 +10,17 @@ mod system;
 #[cfg(test)]
 mod tests;
 
-use program::{start, words_of};
+use program::launch;
 use rendering::ByDisplay;
 use std::env;
 use std::process::ExitCode;
 
 fn main(rt: HostRuntime) -> ExitCode {
-    start(
+    launch(
         &rt,
         &ByDisplay,
         rt.alloc(),
-        words_of(rt.alloc(), env::args(&rt)),
+        env::args(&rt),
         &mut rt.stdout(),
         &mut rt.stderr(),
     )

@@ -1,11 +1,11 @@
 //! The program's behavior for its arguments, generic over the source of files, the texts of errors and the two
 //! sinks.
-ghost use Rattle.std.specs.Prelude.{◌≡◌, ◌↔◌, Ok, map, option_copied, OnOk, IfOk, IfErr, IsErrOf, string_bytes};
+ghost use Rattle.std.specs.Prelude.{◌≡◌, ◌↔◌, ◌⊎◌, Ok, map, option_copied, OnOk, IfOk, IfErr, IsErrOf, string_bytes};
 ghost use Rattle.std.specs.Iterator.{IsFinite};
 ghost use Rattle.std.specs.Process.{exit_status};
 ghost use Rattle.wasmprinter_spec.specs.Binary.{IsComponent};
 ghost use Rattle.printwasm.specs.Words.{AreWordsOf, CannotReadWords, is_option, is_known, named_file, has, choice_of};
-ghost use Rattle.printwasm.specs.Outcome.{IsTextBy, GivesText, GivesNoText, WritesModuleText, FailsToWrite, ReportsError, HasOutcome, RefusesArguments};
+ghost use Rattle.printwasm.specs.Outcome.{IsTextBy, GivesText, GivesNoText, WritesModuleText, FailsToWrite, ReportsError, HasOutcome, RunsWithWords, RefusesArguments, RefusesToRead};
 ghost use Rattle.printwasm.specs.Outcome.{refused_status};
 ghost use Rattle.wasmprinter.specs.Outcome.{HasListedTextCause, IsSoundTextRefusal};
 
@@ -67,6 +67,32 @@ impl Model for Choice {
     ghost view = { λ c. record { options = c.config; colored = c.is_colored } };
 }
 
+/// Runs the program with all its arguments, of which the first is its own name, and returns the exit status.
+pub fn launch<S, R, I, O, E>(
+    source: &S,
+    renderer: &R,
+    alloc: Global,
+    args: io::Result<I>,
+    out: &mut O,
+    err: &mut E,
+) -> ExitCode
+where
+    S: Source,
+    R: Render<Error> + Render<WordsError>,
+    I: Iterator<Item = String>,
+    O: Sink,
+    E: Sink,
+    requires can { IfOk args I.can_next }
+    requires finite { IfOk args (λ all. IsFinite (I.remaining all)) }
+    ensures { RunsWithWords I.next_gives args (S.gives source.now) O.takes E.takes
+        (⟦<R as Render<Error>>⟧.renders renderer.now) out.old out.new err.old err.new (exit_status result)
+        ⊎ RefusesToRead args E.takes (⟦<R as Render<WordsError>>⟧.renders renderer.now)
+        out.old out.new err.old err.new (exit_status result) }
+{
+    let words = words_of(alloc, args);
+    start(source, renderer, alloc, words, out, err)
+}
+
 /// Runs the program with its words, or with the error for which they can't be read, and returns the exit status.
 /// `words` does not contain the program's name: it is the result of [`words_of`].
 pub fn start<S, R, O, E>(
@@ -82,10 +108,11 @@ where
     R: Render<Error> + Render<WordsError>,
     O: Sink,
     E: Sink,
-    ensures runs { IfOk words (λ all. HasOutcome (S.gives source.now) O.takes E.takes (⟦<R as Render<Error>>⟧.renders renderer.now)
-        (map string_bytes all.items) out.old out.new err.old err.new (exit_status result)) }
-    ensures refuses { IfErr words (λ error. RefusesArguments error E.takes (⟦<R as Render<WordsError>>⟧.renders renderer.now)
+    ensures runs { IfOk words (λ all. HasOutcome (S.gives source.now) O.takes E.takes
+        (⟦<R as Render<Error>>⟧.renders renderer.now) (map string_bytes all.items)
         out.old out.new err.old err.new (exit_status result)) }
+    ensures refuses { IfErr words (λ error. RefusesArguments error E.takes
+        (⟦<R as Render<WordsError>>⟧.renders renderer.now) out.old out.new err.old err.new (exit_status result)) }
 {
     let status = match words {
         Ok(words) => run(source, renderer, alloc, &words, out, err),

@@ -1,6 +1,6 @@
 //! Runs of the program over files that the tests write. Expected texts are typed by hand.
 
-use crate::program::{run, start, words_of};
+use crate::program::{launch, run};
 use crate::rendering::ByDisplay;
 use crate::system::Sink;
 use std::alloc::{AllocError, Global};
@@ -519,10 +519,9 @@ fn keeps_its_status_if_errors_can_not_be_written(rt: HostRuntime) -> Result<(), 
 /// reports this text.
 fn starts(rt: &HostRuntime, words: &[&str], status: u8, text: &str) -> Result<bool, Fail> {
     let args = Ok(strings_of(rt.alloc(), words)?.into_iter());
-    let words = words_of(rt.alloc(), args);
     let mut out = Vec::new(rt.alloc());
     let mut err = Vec::new(rt.alloc());
-    let code = start(rt, &ByDisplay, rt.alloc(), words, &mut out, &mut err);
+    let code = launch(rt, &ByDisplay, rt.alloc(), args, &mut out, &mut err);
     Ok(code == ExitCode::from(status) && out.is_empty() && err.as_slice() == text.as_bytes())
 }
 
@@ -564,10 +563,9 @@ fn starts_with_all_words_but_its_name(rt: HostRuntime) -> Result<(), Fail> {
 /// and reports this text.
 fn refuses_to_start(rt: &HostRuntime, error: io::Error, text: &str) -> bool {
     let args: io::Result<env::Args> = Err(error);
-    let words = words_of(rt.alloc(), args);
     let mut out = Vec::new(rt.alloc());
     let mut err = Vec::new(rt.alloc());
-    let code = start(rt, &ByDisplay, rt.alloc(), words, &mut out, &mut err);
+    let code = launch(rt, &ByDisplay, rt.alloc(), args, &mut out, &mut err);
     code == ExitCode::from(1) && out.is_empty() && err.as_slice() == text.as_bytes()
 }
 

@@ -4,7 +4,7 @@ use Rattle.std.proofs.lemmas.List.{same_from_push, drop_at, take_at, append-nil,
 use Rattle.std.proofs.Math.Seq.{take-append-add}
 use Rattle.wasmprinter_spec.specs.Folding.Arities.{greatest}
 use Rattle.wasmprinter_spec.specs.Folding.Tree.{NodesOf, Nil, Snoc, row_of_both, front, last, count, OperandsOf, operand_search, with_operands}
-use Rattle.wasmprinter_spec.proofs.Folding.{row_of_both-front-last, AreLast-operand_search}
+use Rattle.wasmprinter_spec.proofs.Folding.{row_of_both-front-last}
 use Rattle.wasmprinter_fold.specs.declared.nodes.NodeText.{NodeText}
 use Rattle.wasmprinter_fold.specs.declared.nodes.Node.{Node}
 use Rattle.wasmprinter_fold.specs.declared.nodes.builder.Frame.{Frame}
@@ -13,11 +13,11 @@ use Rattle.wasmprinter_fold.specs.declared.nodes.builder.Arm.TheVariants as arm
 use Rattle.wasmprinter_fold.specs.declared.nodes.candidates.Candidate.{Candidate}
 use Rattle.wasmprinter_fold.specs.declared.nodes.candidates.Cut.{Cut}
 use Rattle.wasmprinter_fold.specs.Postorder.{postorder}
-use Rattle.wasmprinter_fold.specs.Candidates.{width, candidates, with_candidate, left_by, taken_by, counted_by, IsCut, IsPlace, IsEndOf, IsLimited, IsOpenRow}
+use Rattle.wasmprinter_fold.specs.Candidates.{width, candidates, with_candidate, IsCut, IsOperandsCut, IsEndOf, IsLimited, IsOpenRow}
 use Rattle.wasmprinter_fold.specs.Building.{OpenNodes, Top, InBlock, InThen, InElse, state_at, state_after_end, state_after_else}
 use Rattle.wasmprinter_fold.specs.Frames.{State, base, base_candidates, frame_in, frames, AreLimited, StandsAt, with_node, with_case, with_block}
 use Rattle.wasmprinter_fold.proofs.Postorders.{length-postorder, postorder-row_of_both, count-row_of_both}
-use Rattle.wasmprinter_fold.proofs.Candidates.{length-candidates, width-row_of_both, take-candidates, AreLast-taken, with_operands-taken, counted_by-limited, left-limited, front-limited}
+use Rattle.wasmprinter_fold.proofs.Candidates.{length-candidates, width-row_of_both, take-candidates, left-limited, front-limited}
 
 -- ---- The innermost block
 
@@ -35,14 +35,14 @@ is_top (InThen o b d x y q) rest t e = let p = same_from_push _ _ _ _ e in (sym 
 is_top (InElse o b d x y q) rest t e = let p = same_from_push _ _ _ _ e in (sym p.0, sym p.1)
 
 -- The innermost frame says where the candidates of the open part begin.
-part-top : (o : OpenNodes NodeText) (rest : List Frame) (t : Frame) → IsTop o rest t → t.part ≡ length (base_candidates o)
+part-top : (o : OpenNodes NodeText) (rest : List Frame) (t : Frame) → IsTop o rest t → t.candidates_start ≡ length (base_candidates o)
 part-top Top rest t h = absurd h
-part-top (InBlock o b x q) rest t h = ap (λ (u : Frame). u.part) h.1
-part-top (InThen o b d x y q) rest t h = ap (λ (u : Frame). u.part) h.1
-part-top (InElse o b d x y q) rest t h = ap (λ (u : Frame). u.part) h.1
+part-top (InBlock o b x q) rest t h = ap (λ (u : Frame). u.candidates_start) h.1
+part-top (InThen o b d x y q) rest t h = ap (λ (u : Frame). u.candidates_start) h.1
+part-top (InElse o b d x y q) rest t h = ap (λ (u : Frame). u.candidates_start) h.1
 
 pub part_some : (o : OpenNodes NodeText) (all rest : List Frame) (t : Frame) → all ≡ frames o → all ≡ rest ++ t ∷ []
-    → t.part ≡ length (base_candidates o)
+    → t.candidates_start ≡ length (base_candidates o)
 part_some o all rest t e h = part-top o rest t (is_top o rest t (sym e ∙ h))
 
 pub part_none : (o : OpenNodes NodeText) (all : List Frame) → all ≡ frames o → length all ≡ 0 → 0 ≡ length (base_candidates o)
@@ -122,7 +122,7 @@ module _ (nodes : List Node) (row : List Candidate) (blocks : List Frame) (s : S
 
 -- ---- A plain operator
 
--- What adding a plain operator needs and gives, if the nodes after the cut are its operands.
+-- The premises and results of adding a plain operator, if the nodes after the cut are its operands.
 pub record AddsPlain (nodes : List Node) (row : List Candidate) (blocks : List Frame) (s : State) (x : NodeText) (operands own part : ℕ) (cut : Cut)
     (results : ℕ) : Type 0 where
   pub before : NodesOf NodeText
@@ -134,35 +134,32 @@ pub record AddsPlain (nodes : List Node) (row : List Candidate) (blocks : List F
       → StandsAt new more blocks (state_at s.outer (with_operands s.groups x own (operand_search operands s.groups)))
 
 module _ (nodes : List Node) (row : List Candidate) (blocks : List Frame) (s : State) (h : StandsAt nodes row blocks s) (x : NodeText)
-    (operands own part end : ℕ) (most : own ≤ greatest) (begins : part ≡ length (base_candidates s.outer)) (ends : end ≡ length nodes) (cut : Cut) (results : ℕ)
-    (place : (first : ℕ) (f : NodesOf NodeText) → IsEndOf (drop part row) end first f → IsPlace first f own (operand_search operands f) cut results) where
+    (operands own part end : ℕ) (begins : part ≡ length (base_candidates s.outer)) (ends : end ≡ length nodes) (cut : Cut) (results : ℕ)
+    (most : results ≤ greatest)
+    (found : (first : ℕ) (f : NodesOf NodeText) → IsEndOf (drop part row) end first f → IsOperandsCut first f own (operand_search operands f) cut results) where
   pub adds_plain : AddsPlain nodes row blocks s x operands own part cut results
   adds_plain =
-      let o : OperandsOf NodeText = operand_search operands s.groups in
-      let b : NodesOf NodeText = left_by s.groups o in
-      let t : NodesOf NodeText = taken_by o in
-      let split : s.groups ≡ row_of_both b t = AreLast-taken s.groups o (AreLast-operand_search operands s.groups) in
-      let at : IsPlace (length (base s.outer)) s.groups own o cut results =
-      place (length (base s.outer)) s.groups (is_end nodes row blocks s h part end begins ends) in
+      let at = found (length (base s.outer)) s.groups (is_end nodes row blocks s h part end begins ends) in
+      let b : NodesOf NodeText = at.before in
+      let t : NodesOf NodeText = at.taken in
       record {
         before = b;
-        fits = cut_fits nodes row blocks s h b t split part begins cut at.cuts;
-        within = kept_fits nodes row blocks s h b t split part begins cut at.cuts;
-        open_row = open_after nodes row blocks s h b t split part begins cut at.cuts;
+        fits = cut_fits nodes row blocks s h b t at.whole part begins cut at.cuts;
+        within = kept_fits nodes row blocks s h b t at.whole part begins cut at.cuts;
+        open_row = open_after nodes row blocks s h b t at.whole part begins cut at.cuts;
         stands =
             λ new more e m.
             let P : NodesOf NodeText → Type 0 = λ f. StandsAt new more blocks (state_at s.outer f) in
-            subst P (sym (with_operands-taken s.groups x own o))
+            subst P (sym (at.folds x))
             (record {
               rows =
                   e
-                  ∙ (ap (λ (r : ℕ). with_node nodes x r cut.start) at.counts
-                  ∙ wrapped (base s.outer) b t x (counted_by own o) cut.start nodes (two_rows nodes (base s.outer) s.groups b t h.rows split)
-                  (cut_at nodes row blocks s h b t split part begins cut at.cuts));
-              open_row = m ∙ ap (λ (r : ℕ). base_candidates s.outer ++ with_candidate (length (base s.outer)) b r) at.counts;
+                  ∙ wrapped (base s.outer) b t x results cut.start nodes (two_rows nodes (base s.outer) s.groups b t h.rows at.whole)
+                  (cut_at nodes row blocks s h b t at.whole part begins cut at.cuts);
+              open_row = m;
               open_blocks = h.open_blocks;
               outer_limited = h.outer_limited;
-              limited = (left-limited s.groups b t split h.limited, counted_by-limited own o most);
+              limited = (left-limited s.groups b t at.whole h.limited, most);
             });
       }
 
@@ -170,12 +167,12 @@ module _ (nodes : List Node) (row : List Candidate) (blocks : List Frame) (s : S
 
 pub opens_block : (nodes : List Node) (row : List Candidate) (blocks : List Frame) (s : State) → StandsAt nodes row blocks s
     → (start part own : ℕ) (x : NodeText) → own ≤ greatest → start ≡ length nodes → part ≡ length row → (new : List Frame)
-    → new ≡ blocks ++ record { arm = arm.Block; head = x; results = own; operands_start = start; start = start; part = part } ∷ []
+    → new ≡ blocks ++ record { arm = arm.Block; head = x; results = own; operands_start = start; start = start; candidates_start = part } ∷ []
     → StandsAt nodes row new (state_at (InBlock s.outer s.groups x own) Nil)
 opens_block nodes row blocks s h start part own x most here width new e =
     let all : List Node = base s.outer ++ postorder s.groups in
     let row_is : List Candidate = base_candidates s.outer ++ candidates (length (base s.outer)) s.groups in
-    let frame : ℕ → ℕ → ℕ → Frame = λ a b c. record { arm = arm.Block; head = x; results = own; operands_start = a; start = b; part = c } in
+    let frame : ℕ → ℕ → ℕ → Frame = λ a b c. record { arm = arm.Block; head = x; results = own; operands_start = a; start = b; candidates_start = c } in
     record {
       rows = h.rows ∙ sym (append-nil all);
       open_row = h.open_row ∙ sym (append-nil row_is);
@@ -192,7 +189,7 @@ opens_block nodes row blocks s h start part own x most here width new e =
 pub opens_if : (nodes : List Node) (row : List Candidate) (blocks : List Frame) (s : State) → StandsAt nodes row blocks s
     → (outer start own : ℕ) (x y : NodeText) → own ≤ greatest → outer ≡ length (base_candidates s.outer) → (cut : Cut)
     → IsCut (length (base s.outer)) (front s.groups) cut → start ≡ length nodes → (more : List Candidate) → more ≡ take (outer + cut.kept) row → (new : List Frame)
-    → new ≡ blocks ++ record { arm = arm.Then y; head = x; results = own; operands_start = cut.start; start = start; part = outer + cut.kept } ∷ []
+    → new ≡ blocks ++ record { arm = arm.Then y; head = x; results = own; operands_start = cut.start; start = start; candidates_start = outer + cut.kept } ∷ []
     → StandsAt nodes more new (state_at (InThen s.outer (front s.groups) (last s.groups) x y own) Nil)
 opens_if nodes row blocks s h outer start own x y most begins cut is here more m new e =
     let g : NodesOf NodeText = s.groups in
@@ -204,7 +201,7 @@ opens_if nodes row blocks s h outer start own x y most begins cut is here more m
     let at : cut.start ≡ length (base s.outer ++ postorder (front g)) = cut_at nodes row blocks s h (front g) (last g) whole outer begins cut is in
     let part : outer + cut.kept ≡ length (base_candidates s.outer ++ candidates (length (base s.outer)) (front g)) =
     sym (length-take-le (outer + cut.kept) row fits) ∙ ap length kept in
-    let frame : ℕ → ℕ → ℕ → Frame = λ a b c. record { arm = arm.Then y; head = x; results = own; operands_start = a; start = b; part = c } in
+    let frame : ℕ → ℕ → ℕ → Frame = λ a b c. record { arm = arm.Then y; head = x; results = own; operands_start = a; start = b; candidates_start = c } in
     record {
       rows = split ∙ sym (append-nil ((base s.outer ++ postorder (front g)) ++ postorder (last g)));
       open_row = m ∙ (kept ∙ sym (append-nil (base_candidates s.outer ++ candidates (length (base s.outer)) (front g))));
@@ -228,7 +225,7 @@ pub record Closes (nodes : List Node) (row : List Candidate) (rest : List Frame)
   pub before : NodesOf NodeText
   pub open_blocks : rest ≡ frames outer
   pub open_row : (part : ℕ) → part ≡ length (base_candidates outer)
-      → IsOpenRow (take t.part row) part t.operands_start (base_candidates outer) (length (base outer)) before
+      → IsOpenRow (take t.candidates_start row) part t.operands_start (base_candidates outer) (length (base outer)) before
   pub stands : (new : List Node) (more : List Candidate) → new ≡ with_block nodes t
       → more ≡ base_candidates outer ++ with_candidate (length (base outer)) before t.results → StandsAt new more rest s
 
@@ -236,7 +233,7 @@ pub record Closes (nodes : List Node) (row : List Candidate) (rest : List Frame)
 pub record Turned (nodes : List Node) (row : List Candidate) (rest : List Frame) (t : Frame) (case otherwise : NodeText) (s : State) : Type 0 where
   pub fits : t.start ≤ length nodes
   pub stands : (mid : List Node) → mid ≡ with_node nodes case 0 t.start
-      → StandsAt mid (take t.part row) (rest ++ record t { arm = arm.Else otherwise; start = length mid } ∷ []) s
+      → StandsAt mid (take t.candidates_start row) (rest ++ record t { arm = arm.Else otherwise; start = length mid } ∷ []) s
 
 Closes-at : (o : OpenNodes NodeText) (b d f : NodesOf NodeText) (a : Arm) (x : NodeText) (q : ℕ) (nodes : List Node) (row : List Candidate) (s : State)
     → AreLimited o → IsLimited b → q ≤ greatest
@@ -311,7 +308,7 @@ Turned-at o b d f x y z q nodes row limited e r =
                 ap (take (length kept)) r
                 ∙ (take_at kept (candidates (length ((base o ++ postorder b) ++ postorder d)) f) (length kept) refl ∙ sym (append-nil kept));
             open_blocks =
-                ap (λ (n : ℕ). frames o ++ record { arm = arm.Else z; head = x; results = q; operands_start = length (base o ++ postorder b); start = n; part = length kept } ∷ [])
+                ap (λ (n : ℕ). frames o ++ record { arm = arm.Else z; head = x; results = q; operands_start = length (base o ++ postorder b); start = n; candidates_start = length kept } ∷ [])
                 (ap length (m ∙ case));
             outer_limited = limited;
             limited = tt;

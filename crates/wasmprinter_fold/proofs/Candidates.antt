@@ -12,7 +12,7 @@ use Rattle.wasmprinter_spec.proofs.Folding.{AreLast, AreLast-operand_search}
 use Rattle.wasmprinter_fold.specs.declared.nodes.NodeText.{NodeText}
 use Rattle.wasmprinter_fold.specs.declared.nodes.candidates.Candidate.{Candidate}
 use Rattle.wasmprinter_fold.specs.declared.nodes.candidates.Taken.TheVariants as taken
-use Rattle.wasmprinter_fold.specs.Candidates.{width, candidate_after, candidates, with_candidate, total_of, sum_at, IsSplit, outcome, left_by, taken_by, counted_by, IsCut, IsPlace, IsEndOf, IsLimited, IsOpenRow}
+use Rattle.wasmprinter_fold.specs.Candidates.{width, candidate_after, candidates, with_candidate, total_of, sum_at, IsSplit, outcome, IsCut, IsOperandsCut, IsEndOf, IsLimited, IsOpenRow}
 
 by_le : {A : Type 0} (a b : ℕ) → (a ≤ b → A) → (b < a → A) → A
 by_le a b f g = ⊎_elim (λ h. f h.1) (λ h. g h.1) (leb_tells a b)
@@ -275,7 +275,7 @@ module _ (first operands limit index : ℕ) (f : NodesOf NodeText) (ne : operand
       (ap outcome (searches operands ne)
       ∙ outcome-over limit operands f (operands_from operands 0 f) is_found (λ e. h (total-at ∙ e)) nm)
 
--- ---- The place of operands
+-- ---- Where operands begin
 
 -- Operands that were found are at least one node.
 abbrev pub TakesSome : OperandsOf NodeText → Type 0
@@ -306,22 +306,6 @@ takes_some : (wanted : ℕ) (f : NodesOf NodeText) → TakesSome (operand_search
 takes_some zero f = tt
 takes_some (suc n) f = takes_some-from (suc n) 0 f
 
-pub AreLast-taken : (f : NodesOf NodeText) (o : OperandsOf NodeText) → AreLast f o → f ≡ row_of_both (left_by f o) (taken_by o)
-AreLast-taken f (Fit before run) h = h
-AreLast-taken f Overshot h = refl
-AreLast-taken f TooFew h = refl
-
-pub with_operands-taken : (f : NodesOf NodeText) (x : NodeText) (own : ℕ) (o : OperandsOf NodeText)
-    → with_operands f x own o ≡ Snoc (left_by f o) x (counted_by own o) (taken_by o)
-with_operands-taken f x own (Fit before run) = refl
-with_operands-taken f x own Overshot = refl
-with_operands-taken f x own TooFew = refl
-
-pub counted_by-limited : (own : ℕ) (o : OperandsOf NodeText) → own ≤ greatest → counted_by own o ≤ greatest
-counted_by-limited own (Fit before run) h = h
-counted_by-limited own Overshot h = omega arith
-counted_by-limited own TooFew h = h
-
 pub left-limited : (f b : NodesOf NodeText) (t : NodesOf NodeText) → f ≡ row_of_both b t → IsLimited f → IsLimited b
 left-limited f b Nil e h = subst IsLimited e h
 left-limited f b (Snoc t x r held) e h =
@@ -335,7 +319,7 @@ front-limited (Snoc b x r held) h = h.0
 -- The index of the first operand is that of a candidate, which says where it begins.
 pub record Begins (first kept own : ℕ) (f : NodesOf NodeText) (o : OperandsOf NodeText) : Type 0 where
   pub fits : kept < length (candidates first f)
-  pub place : (d : Candidate) → IsPlace first f own o (record { kept = kept; start = (get_or (candidates first f) kept d).start }) own
+  pub cut : (d : Candidate) → IsOperandsCut first f own o (record { kept = kept; start = (get_or (candidates first f) kept d).start }) own
 
 positive : (f : NodesOf NodeText) → f ≢ Nil → 0 < width f
 positive Nil ne = absurd (ne refl)
@@ -348,8 +332,11 @@ begins-at first kept own f (Fit before run) last some e =
     let wide : 0 < width run = positive run some in
     record {
       fits = omega (arith, length-candidates first f, ap width last, width-row_of_both before run, here, wide);
-      place =
+      cut =
           λ d. record {
+            before = before;
+            taken = run;
+            whole = last;
             cuts = record {
               kept = here;
               start =
@@ -357,7 +344,7 @@ begins-at first kept own f (Fit before run) last some e =
                   ∙ (ap (λ (g : NodesOf NodeText). (get_or (candidates first g) (width before) d).start) last
                   ∙ start-candidate first before d run some);
             };
-            counts = refl;
+            folds = λ head. refl;
           };
     }
 begins-at first kept own f Overshot last some e = absurd cc
@@ -369,17 +356,21 @@ begins first kept own operands f e =
     begins-at first kept own f (operand_search operands f) (AreLast-operand_search operands f) (takes_some operands f) e
 
 -- An operator that takes no node comes after all of them.
-pub place-over : (first own kept start : ℕ) (f : NodesOf NodeText) (o : OperandsOf NodeText) → taken.Overshot ≡ outcome o
-    → kept ≡ length (candidates first f) → start ≡ first + count f → IsPlace first f own o (record { kept = kept; start = start }) greatest
-place-over first own kept start f (Fit before run) e k s = absurd cc
-place-over first own kept start f Overshot e k s = record { cuts = record { kept = k ∙ length-candidates first f; start = s }; counts = refl }
-place-over first own kept start f TooFew e k s = absurd cc
+module _ (first kept start : ℕ) (f : NodesOf NodeText) (k : kept ≡ length (candidates first f)) (s : start ≡ first + count f) where
+  whole_cut : IsCut first f (record { kept = kept; start = start })
+  whole_cut = record { kept = k ∙ length-candidates first f; start = s }
 
-pub place-few : (first own kept start : ℕ) (f : NodesOf NodeText) (o : OperandsOf NodeText) → taken.TooFew ≡ outcome o
-    → kept ≡ length (candidates first f) → start ≡ first + count f → IsPlace first f own o (record { kept = kept; start = start }) own
-place-few first own kept start f (Fit before run) e k s = absurd cc
-place-few first own kept start f Overshot e k s = absurd cc
-place-few first own kept start f TooFew e k s = record { cuts = record { kept = k ∙ length-candidates first f; start = s }; counts = refl }
+  pub cut-over : (own : ℕ) (o : OperandsOf NodeText) → taken.Overshot ≡ outcome o
+      → IsOperandsCut first f own o (record { kept = kept; start = start }) greatest
+  cut-over own (Fit before run) e = absurd cc
+  cut-over own Overshot e = record { before = f; taken = Nil; whole = refl; cuts = whole_cut; folds = λ head. refl }
+  cut-over own TooFew e = absurd cc
+
+  pub cut-few : (own : ℕ) (o : OperandsOf NodeText) → taken.TooFew ≡ outcome o
+      → IsOperandsCut first f own o (record { kept = kept; start = start }) own
+  cut-few own (Fit before run) e = absurd cc
+  cut-few own Overshot e = absurd cc
+  cut-few own TooFew e = record { before = f; taken = Nil; whole = refl; cuts = whole_cut; folds = λ head. refl }
 
 -- The predicate of an `if` is the last node.
 pub cut-last : (row before : List Candidate) (predicate : Candidate) (end first : ℕ) (f : NodesOf NodeText) → IsEndOf row end first f

@@ -1,7 +1,7 @@
 -- The candidates of a row: where each of its nodes begins, and the sum of results up to it.
 use Rattle.std.specs.Prelude.{◌≡◌, ℕ, suc, ◌+◌, ◌<◌, ◌≤◌, List, [], ◌∷◌, ◌++◌, length, slice_index_or}
 use Rattle.wasmprinter_spec.specs.Folding.Arities.{greatest}
-use Rattle.wasmprinter_spec.specs.Folding.Tree.{NodesOf, Nil, Snoc, count, results_of, OperandsOf, Fit, Overshot, TooFew}
+use Rattle.wasmprinter_spec.specs.Folding.Tree.{NodesOf, Nil, Snoc, row_of_both, count, results_of, OperandsOf, Fit, Overshot, TooFew, with_operands}
 use Rattle.wasmprinter_fold.specs.declared.nodes.NodeText.{NodeText}
 use Rattle.wasmprinter_fold.specs.declared.nodes.candidates.Candidate.{Candidate}
 use Rattle.wasmprinter_fold.specs.declared.nodes.candidates.Cut.{Cut}
@@ -49,31 +49,19 @@ outcome (Fit before run) = taken.From (width before)
 outcome Overshot = taken.Overshot
 outcome TooFew = taken.TooFew
 
--- The nodes that a plain operator leaves in the row, those that it takes, and the results that its node counts for.
-abbrev pub left_by : NodesOf NodeText → OperandsOf NodeText → NodesOf NodeText
-left_by f (Fit before run) = before
-left_by f Overshot = f
-left_by f TooFew = f
-
-abbrev pub taken_by : OperandsOf NodeText → NodesOf NodeText
-taken_by (Fit before run) = run
-taken_by Overshot = Nil
-taken_by TooFew = Nil
-
-abbrev pub counted_by : ℕ → OperandsOf NodeText → ℕ
-counted_by results (Fit before run) = results
-counted_by results Overshot = greatest
-counted_by results TooFew = results
-
--- The place after these nodes of a row.
+-- The position after these nodes of a row.
 pub record IsCut (first : ℕ) (before : NodesOf NodeText) (cut : Cut) : Type 0 where
   pub kept : cut.kept ≡ width before
   pub start : cut.start ≡ first + count before
 
--- The place where the operands of a plain operator begin, and the number of results of its node.
-pub record IsPlace (first : ℕ) (f : NodesOf NodeText) (own : ℕ) (o : OperandsOf NodeText) (cut : Cut) (results : ℕ) : Type 0 where
-  pub cuts : IsCut first (left_by f o) cut
-  pub counts : results ≡ counted_by own o
+-- The position at which the operands of a plain operator begin, given the outcome of the search for them, and the number
+-- of results that its node counts for.
+pub record IsOperandsCut (first : ℕ) (f : NodesOf NodeText) (own : ℕ) (o : OperandsOf NodeText) (cut : Cut) (results : ℕ) : Type 0 where
+  pub before : NodesOf NodeText
+  pub taken : NodesOf NodeText
+  pub whole : f ≡ row_of_both before taken
+  pub cuts : IsCut first before cut
+  pub folds : (head : NodeText) → with_operands f head own o ≡ Snoc before head results taken
 
 -- The candidates are those of a row, after whose last node no other node follows.
 pub record IsEndOf (row : List Candidate) (end first : ℕ) (f : NodesOf NodeText) : Type 0 where

@@ -41,7 +41,7 @@ frame_in o before cases arm head results =
       results = results;
       operands_start = length (base o ++ postorder before);
       start = length ((base o ++ postorder before) ++ postorder cases);
-      part = length (base_candidates o ++ candidates (length (base o)) before);
+      candidates_start = length (base_candidates o ++ candidates (length (base o)) before);
     }
 
 -- The frames of the open blocks, innermost last.

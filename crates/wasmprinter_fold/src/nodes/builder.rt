@@ -5,7 +5,7 @@ ghost use Rattle.wasmprinter_fold.specs.Postorder.{IsPostorder, forest_of};
 ghost use Rattle.wasmprinter_fold.specs.Frames.{with_node, with_case, with_block, frames, base_candidates};
 ghost use Rattle.wasmprinter_fold.specs.declared.nodes.NodeText.{NodeText};
 
-use crate::nodes::candidates::{Candidate, place_of, predicate_of, push_candidate};
+use crate::nodes::candidates::{Candidate, operands_cut, predicate_of, push_candidate};
 use crate::nodes::{Node, NodeText};
 use std::alloc::{AllocError, Global};
 
@@ -34,13 +34,13 @@ pub struct Frame {
     /// The index of the first node of its open part.
     pub start: usize,
     /// The index of the first candidate of its open part.
-    pub part: usize,
+    pub candidates_start: usize,
 }
 
 /// Builds the nodes of a list of operators, one operator after another.
 ///
 /// All nodes are in one list, and no node is ever moved: an operator is added after its operands, and its size
-/// counts them. Operands are searched in a second list, which has an entry for each node that no other node holds yet.
+/// counts them. Operands are searched in a second list, which has an entry for each node that a later operator may take.
 /// After an error the nodes are unusable until the list is cleared.
 #[derive(Drop)]
 pub struct Builder {
@@ -85,12 +85,12 @@ fn wrap_block(nodes: &mut Vec<Node>, frame: Frame) -> Result<(), AllocError>
 }
 
 /// Returns the index of the first candidate of the open part.
-fn open_part(blocks: &[Frame]) -> usize
+fn open_candidates_start(blocks: &[Frame]) -> usize
     requires { (o : OpenNodes NodeText) × (blocks.now ≡ frames o) }
     ensures { (o : OpenNodes NodeText) → blocks.now ≡ frames o → result ≡ length (base_candidates o) }
 {
     match blocks.split_last() {
-        Some((frame, _)) => frame.part,
+        Some((frame, _)) => frame.candidates_start,
         None => 0,
     }
 }
@@ -138,12 +138,12 @@ impl Builder {
         requires { (s : State) × Stands self.old s }
         ensures { OnOk result ((s : State) → Stands self.old s → Stands self.new (step s (Plain head operands results))) }
     {
-        let part = open_part(&self.frames);
+        let part = open_candidates_start(&self.frames);
         let end = self.nodes.len();
-        let (place, counted) = place_of(&self.candidates[part..], end, operands, results);
-        wrap(&mut self.nodes, head, counted, place.start)?;
-        self.candidates.truncate(part + place.kept);
-        push_candidate(&mut self.candidates, part, place.start, counted)
+        let (cut, counted) = operands_cut(&self.candidates[part..], end, operands, results);
+        wrap(&mut self.nodes, head, counted, cut.start)?;
+        self.candidates.truncate(part + cut.kept);
+        push_candidate(&mut self.candidates, part, cut.start, counted)
     }
 
     /// Opens a block.
@@ -162,7 +162,7 @@ impl Builder {
             results,
             operands_start: start,
             start,
-            part: self.candidates.len(),
+            candidates_start: self.candidates.len(),
         })?;
         Ok(())
     }
@@ -182,18 +182,18 @@ impl Builder {
         requires { (s : State) × Stands self.old s }
         ensures { OnOk result ((s : State) → Stands self.old s → Stands self.new (step s (OpensIf head then results))) }
     {
-        let outer = open_part(&self.frames);
+        let outer = open_candidates_start(&self.frames);
         let start = self.nodes.len();
         let predicate = predicate_of(&self.candidates[outer..], start);
-        let part = outer + predicate.kept;
-        self.candidates.truncate(part);
+        let candidates_start = outer + predicate.kept;
+        self.candidates.truncate(candidates_start);
         self.frames.push(Frame {
             arm: Arm::Then(then),
             head,
             results,
             operands_start: predicate.start,
             start,
-            part,
+            candidates_start,
         })?;
         Ok(())
     }
@@ -213,7 +213,7 @@ impl Builder {
             match frame.arm {
                 Arm::Then(then) => {
                     wrap(&mut self.nodes, then, 0, frame.start)?;
-                    self.candidates.truncate(frame.part);
+                    self.candidates.truncate(frame.candidates_start);
                     let start = self.nodes.len();
                     self.frames.push(Frame {
                         arm: Arm::Else(otherwise),
@@ -238,8 +238,8 @@ impl Builder {
     {
         if let Some(frame) = self.frames.pop() {
             wrap_block(&mut self.nodes, frame)?;
-            self.candidates.truncate(frame.part);
-            let part = open_part(&self.frames);
+            self.candidates.truncate(frame.candidates_start);
+            let part = open_candidates_start(&self.frames);
             push_candidate(
                 &mut self.candidates,
                 part,

@@ -4,7 +4,7 @@ ghost use Rattle.std.specs.List.Sorted.{IsNonDecreasingBy};
 ghost use Rattle.wasmprinter_spec.specs.Folding.Tree.{NodesOf, operand_search, front};
 ghost use Rattle.wasmprinter_fold.specs.declared.nodes.NodeText.{NodeText};
 ghost use Rattle.wasmprinter_fold.specs.declared.nodes.candidates.Candidate.{Candidate};
-ghost use Rattle.wasmprinter_fold.specs.Candidates.{candidates, with_candidate, total_of, outcome, IsSplit, IsCut, IsPlace, IsEndOf, IsOpenRow};
+ghost use Rattle.wasmprinter_fold.specs.Candidates.{candidates, with_candidate, total_of, outcome, IsSplit, IsCut, IsOperandsCut, IsEndOf, IsOpenRow};
 
 use std::alloc::AllocError;
 
@@ -13,7 +13,7 @@ use std::alloc::AllocError;
 pub struct Candidate {
     /// The index of its first node: the first one that it holds, or itself if it holds none.
     pub start: usize,
-    /// The sum of the results of the nodes of its part up to this one, which is included.
+    /// The sum of the results of the candidates of its part, up to and including this one.
     pub sum: u128,
 }
 
@@ -28,7 +28,7 @@ pub enum Taken {
     TooFew,
 }
 
-/// A place between two candidates.
+/// A position between two candidates.
 #[derive(Clone, Copy, Debug)]
 pub struct Cut {
     /// The number of candidates before it.
@@ -92,10 +92,10 @@ pub fn find_operands(row: &[Candidate], operands: u32) -> Taken
 
 /// Returns where the operands of a plain operator begin, and the number of results of its node. `end` is the number of
 /// all nodes.
-pub fn place_of(row: &[Candidate], end: usize, operands: u32, results: u32) -> (Cut, u32)
+pub fn operands_cut(row: &[Candidate], end: usize, operands: u32, results: u32) -> (Cut, u32)
     requires { (first : ℕ) × (f : NodesOf NodeText) × IsEndOf row.now end first f }
     ensures { (first : ℕ) (f : NodesOf NodeText) → IsEndOf row.now end first f →
-        IsPlace first f results (operand_search operands f) result.0 result.1 }
+        IsOperandsCut first f results (operand_search operands f) result.0 result.1 }
 {
     let whole = Cut {
         kept: row.len(),
@@ -135,7 +135,7 @@ pub fn predicate_of(row: &[Candidate], end: usize) -> Cut
 /// Adds a candidate with this number of results, whose first node has the index `start`, to the part that begins with
 /// the candidate of index `part`.
 ///
-/// The sum is the number of values of at most `start` nodes, so it is less than 2^96.
+/// The sum is that of the results of at most `start + 1` nodes, so it is less than 2^97.
 pub fn push_candidate(
     all: &mut Vec<Candidate>,
     part: usize,

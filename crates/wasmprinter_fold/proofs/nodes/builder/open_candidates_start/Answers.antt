@@ -1,5 +1,5 @@
 use Rattle.wasmprinter_fold.proofs.Blocks.{part_some, part_none}
-use Rattle.wasmprinter_fold.proofs.nodes.builder.open_part.Goals as goal
+use Rattle.wasmprinter_fold.proofs.nodes.builder.open_candidates_start.Goals as goal
 
 pub returns-in-Some : goal.returns-in-Some
 returns-in-Some c = λ o e. part_some o _ _ _ e c.in-Some.ensures.cases.0
