@@ -55,7 +55,7 @@ const FIRST_PREFIX: u32 = 0xfb;
 const CONSTANTS: u32 = 8;
 
 /// The bytes of these constants, `i32.const 0` each.
-const EIGHT: &[u8] = &[
+const CONSTANT_BYTES: &[u8] = &[
     0x41, 0x00, 0x41, 0x00, 0x41, 0x00, 0x41, 0x00, 0x41, 0x00, 0x41, 0x00, 0x41, 0x00, 0x41, 0x00,
 ];
 
@@ -159,7 +159,7 @@ fn node_row<'a>(alloc: Global, title: &'a str, words: &str) -> Result<Option<Row
     let Some(node) = node_in(words) else {
         return Ok(None);
     };
-    let mut operators = Vec::from_slice(alloc, EIGHT)?;
+    let mut operators = Vec::from_slice(alloc, CONSTANT_BYTES)?;
     if !push_bytes(&mut operators, node.digits)? {
         return Ok(None);
     }

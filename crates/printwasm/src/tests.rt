@@ -492,7 +492,7 @@ fn keeps_status(
 /// Words for which nothing is printed, with the exit status and the report.
 type Unmet = (Words, u8, &'static str);
 
-/// Words of each kind.
+/// A file that can't be read, and no file.
 const UNMET: &[Unmet] = &[(&["no such file"], 1, UNREADABLE), (&[], 2, USAGE)];
 
 /// Returns the first words with which the program does not keep its status for a sink that is full from the start

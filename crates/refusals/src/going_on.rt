@@ -1,4 +1,4 @@
-//! Trackers that are used further after a failed allocation. A line feed that failed is written again, and the later
+//! Trackers that are used after a failed allocation. A line feed that failed is written again, and the later
 //! lines are recorded. The characters of a word before a failure are kept.
 
 use crate::ending::Ending;

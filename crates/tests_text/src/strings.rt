@@ -43,7 +43,7 @@ enum Kind {
 const KINDS: &[Kind] = &[Kind::Letters, Kind::MostlyLetters, Kind::Any];
 
 /// Ranges of lengths, in bytes or characters, around the multiples of the lengths at which the printer divides a
-/// string: 85 bytes of a byte string, and 256 characters of a text.
+/// string: 85 bytes of a byte string, and 256 characters of a text. Also around 64.
 const LENGTHS: &[(u32, u32)] = &[
     (0, 1),
     (62, 66),

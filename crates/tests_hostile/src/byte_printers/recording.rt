@@ -41,7 +41,7 @@ impl ByteRecorder {
     }
 
     /// Records a call, and returns an error if this is the call that fails.
-    fn answer(&mut self, call: Call) -> io::Result<()> {
+    fn record(&mut self, call: Call) -> io::Result<()> {
         self.calls.push(call)?;
         match self.failure {
             Some((number, kind)) if number == self.calls.len() => Err(io::Error::new(kind, WORDS)),
@@ -52,17 +52,17 @@ impl ByteRecorder {
 
 impl Write for ByteRecorder {
     fn write(&mut self, buf: &[u8]) -> io::Result<usize> {
-        self.answer(Call::Write(buf.len()))?;
+        self.record(Call::Write(buf.len()))?;
         self.bytes.extend_from_slice(buf)?;
         Ok(buf.len())
     }
 
     fn flush(&mut self) -> io::Result<()> {
-        self.answer(Call::Flush)
+        self.record(Call::Flush)
     }
 
     fn write_all(&mut self, buf: &[u8]) -> io::Result<()> {
-        self.answer(Call::WriteAll(buf.len()))?;
+        self.record(Call::WriteAll(buf.len()))?;
         self.bytes.extend_from_slice(buf)?;
         Ok(())
     }
