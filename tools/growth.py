@@ -19,7 +19,7 @@ tools/growth.py --list
     Prints the shapes instead.
 
 It is not part of the gate. Needs python3 and GNU time (`apt-get install time`); without it, each peak of memory is at least that of python3.
-On four cores a whole run takes XXX minutes, and XXX with --quick, which has fewer runs, options and items.
+With --quick, which has fewer runs and items, it takes ten minutes with --jobs 2. A whole run takes several times as long.
 """
 
 import argparse
@@ -52,12 +52,11 @@ class Plan:
 
     def __init__(self, program, quick):
         self.program = program
-        self.modes = MODES[:2] if quick else MODES
         self.least, self.runs = (0.02, 2) if quick else (0.05, 5)
 
     def modes_of(self, shape):
         """Returns the sets of options for a shape. Where folding is refused, the others of the set remain."""
-        modes = self.modes if shape.folds else [tuple(o for o in mode if o != "--fold") for mode in self.modes]
+        modes = MODES if shape.folds else [tuple(o for o in mode if o != "--fold") for mode in MODES]
         return list(dict.fromkeys(modes))
 
 
