@@ -9,9 +9,10 @@ import tempfile
 
 from feature_texts import FEATURES
 from prover import Scratch, prove
-from report import head, table
+from report import head
 from rows import Case
 from running import found, run, write
+from tables import table
 from texts import ASSEMBLERS
 
 WORDS = {"reads": "read", "unread": "not read"}
@@ -38,7 +39,7 @@ def main(root, work):
         lines.append([group, name, f"`{shown_text(text)}`", WORDS.get(case.held, "over the limit of steps"), *accepted(case.text)])
     covered = sum(case.held == "reads" for case in cases)
     print(head(root) + f"{len(cases)} features, of which `read` covers {covered}.\n")
-    print(table(["", "feature", "text", "`read`", *(name for name, _, _ in ASSEMBLERS)], lines), end="")
+    print(table(["part", "feature", "text", "`read`", *(name for name, _, _ in ASSEMBLERS)], lines), end="")
 
 
 if __name__ == "__main__":

@@ -2,7 +2,7 @@
 
 import re
 
-from reasons import heads
+from scope import heads
 from texts import fault, shown
 from wast import Unreadable, trees
 

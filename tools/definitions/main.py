@@ -8,7 +8,7 @@ import os
 import sys
 
 from prover import Scratch, control, prove
-from reasons import scope_reasons
+from scope import scope_reasons
 from report import whole
 from rows import Case
 from running import limited
@@ -139,6 +139,14 @@ def collected_cases(work, folders):
     return collected
 
 
+def mark_unparsed(cases):
+    """Takes out of scope the texts of modules that do not parse. No text reads as such a module, and both sides of the row are `None`."""
+    parsed = {it.data for it in cases if it.label.kind == "module" and it.held == "parses"}
+    for case in cases:
+        if case.label.kind == "text" and case.data not in parsed:
+            case.held, case.label.reasons = "unread", {"the module does not parse (see below)"}
+
+
 def keep_disagreed(work, cases):
     """Writes the text and the bytes of each case that disagrees to the folder `disagreed`."""
     folder = os.path.join(work, "disagreed")
@@ -159,6 +167,7 @@ def main(root, work, *folders):
     if len(texts) > 1:
         control(scratch, texts[0], texts[-1])
     prove(scratch, collected.cases)
+    mark_unparsed(collected.cases)
     text, disagreed = whole(root, collected)
     keep_disagreed(work, disagreed)
     with open(os.path.join(work, "tables.md"), "w", encoding="utf-8") as file:

@@ -6,15 +6,10 @@ import os
 
 from judged import judgement
 from running import run, version
+from tables import table
 
 KINDS = {"text": "texts beside modules", "module": "modules", "malformed text": "texts called malformed", "malformed module": "modules called malformed"}
 EXPECTED = {"text": ("same", "same_without_customs"), "module": ("parses",), "malformed text": ("unread",), "malformed module": ("refused",)}
-
-
-def table(heads, lines):
-    """Returns a table with these headings and rows."""
-    rows = [[str(cell).replace("|", "\\|") for cell in cells] for cells in [heads, ["---"] * len(heads), *lines]]
-    return "\n".join("| " + " | ".join(cells) + " |" for cells in rows) + "\n"
 
 
 def verdict(case):

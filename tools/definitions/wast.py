@@ -2,7 +2,7 @@
 
 import re
 
-TOKEN = re.compile(rb'[\s]+|;;[^\n\r]*|"(?:[^"\\]|\\.)*"|[()]|(?:(?!;;|\(;)[^\s()"])+|\(;', re.DOTALL)
+TOKEN = re.compile(rb'[\s]+|;;[^\n\r]*|\$?"(?:[^"\\]|\\.)*"|[()]|(?:(?!;;|\(;)[^\s()"])+|\(;', re.DOTALL)
 ESCAPES = {b"t": b"\t", b"n": b"\n", b"r": b"\r", b'"': b'"', b"'": b"'", b"\\": b"\\"}
 ESCAPE = re.compile(rb"\\(?:u\{([0-9a-fA-F_]+)\}|([0-9a-fA-F]{2})|(.))", re.DOTALL)
 
