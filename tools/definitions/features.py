@@ -15,7 +15,7 @@ from running import found, run, write
 from tables import table
 from texts import ASSEMBLERS
 
-WORDS = {"reads": "read", "unread": "not read"}
+UNLISTED = "**not listed**"
 
 
 def accepted(text):
@@ -35,8 +35,9 @@ def main(root, work):
     prove(Scratch(root, os.path.join(work, "scratch")), cases)
     lines = []
     for case in cases:
-        group, name, text = case.label
-        lines.append([group, name, f"`{shown_text(text)}`", WORDS.get(case.held, "over the limit of steps"), *accepted(case.text)])
+        part, name, text, why = case.label
+        verdict = "read" if case.held == "reads" and not why else f"not read: {why}" if case.held == "unread" and why else UNLISTED
+        lines.append([part, name, f"`{shown_text(text)}`", verdict, *accepted(case.text)])
     covered = sum(case.held == "reads" for case in cases)
     print(head(root) + f"{len(cases)} features, of which `read` covers {covered}.\n")
     print(table(["part", "feature", "text", "`read`", *(name for name, _, _ in ASSEMBLERS)], lines), end="")

@@ -40,8 +40,8 @@ class Scratch:
         with open(self.log, encoding="utf-8", errors="replace") as log:
             output = log.read()
         faults = [(int(number), int(row), message) for number, row, message in FAULT.findall(output)]
-        if (status == 0) == bool(faults):
-            raise RuntimeError(f"`rt check` ended with the status {status}, and names {len(faults)} rows: see {self.log}")
+        if status == 0 and faults:
+            raise RuntimeError(f"`rt check` succeeds, but names {len(faults)} rows: see {self.log}")
         return status == 0, faults
 
     def forget(self):
@@ -61,28 +61,48 @@ def packed(cases, limit, size):
     return lists
 
 
+def without_faults(packets, faults):
+    """Marks the cases whose rows were not proved, and returns the packets without them."""
+    for number, row, message in faults:
+        case = packets[number][row]
+        case.tried, case.limit = case.tried + 1, case.limit or LIMIT in message
+    failed = {(number, row) for number, row, _ in faults}
+    left = {number: [case for row, case in enumerate(cases) if (number, row) not in failed] for number, cases in packets.items()}
+    return {number: cases for number, cases in left.items() if cases}
+
+
+def prove_halves(scratch, cases):
+    """Proves cases of which `rt check` proves not all and names none, in two halves. A case alone counts as over the limit."""
+    if len(cases) == 1:
+        cases[0].limit = True
+        return
+    middle = len(cases) // 2
+    prove_batch(scratch, [cases[:middle]])
+    prove_batch(scratch, [cases[middle:]])
+
+
 def prove_batch(scratch, packets):
     """Proves the rows of a batch. Rows that are not proved are taken out, until `rt check` accepts all others."""
     left = dict(enumerate(packets))
     while left:
         is_proved, faults = scratch.check(left)
-        for number, row, message in faults:
-            case = left[number][row]
-            case.tried, case.limit = case.tried + 1, case.limit or LIMIT in message
-        failed = {(number, row) for number, row, _ in faults}
+        cases = [it for packet in left.values() for it in packet]
         if is_proved:
-            for case in (it for cases in left.values() for it in cases):
+            for case in cases:
                 case.held = case.statements[case.tried]
             return
-        left = {number: [case for row, case in enumerate(cases) if (number, row) not in failed] for number, cases in left.items()}
-        left = {number: cases for number, cases in left.items() if cases}
+        if not faults:
+            prove_halves(scratch, cases)
+            return
+        left = without_faults(left, faults)
 
 
 def control(scratch, true_case, other):
     """Checks that a text beside another module is not proved, so that an accepted row says something."""
     case = Case(None, ("same",), true_case.text, other.data)
-    if scratch.check({0: [case]})[0]:
-        raise RuntimeError("the prover accepts a text beside another module")
+    is_proved, faults = scratch.check({0: [case]})
+    if is_proved or len(faults) != 1:
+        raise RuntimeError("the prover does not refuse a text beside another module")
 
 
 def prove(scratch, cases):

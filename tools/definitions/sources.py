@@ -8,8 +8,9 @@ from running import read
 from wasm import MAGIC, members
 from wast import Unreadable, module_parts, strings_of, trees
 
-SUITES = ("assert_malformed", "assert_invalid", "assert_unlinkable", "assert_trap", "assert_uninstantiable")
+ASSERTIONS = ("assert_malformed", "assert_invalid", "assert_unlinkable", "assert_trap", "assert_uninstantiable")
 TEXTS = (".wast", ".wat", ".txt")
+TESTED = (b"wat2wasm", b"run-roundtrip", b"run-objdump")  # the tools whose tests in wabt are texts of modules
 MODULE = re.compile(rb"\s*\(module\b")
 
 
@@ -49,7 +50,7 @@ def script_items(source, path, content):
         head = group[0] if isinstance(group, list) and group else b""
         if head == b"module":
             found.append(module_item(source, path, content[start:end], group, None))
-        elif isinstance(head, bytes) and head.decode("utf-8", "replace") in SUITES and isinstance(group[1], list) and group[1][0] == b"module":
+        elif isinstance(head, bytes) and head.decode("utf-8", "replace") in ASSERTIONS and isinstance(group[1], list) and group[1][0] == b"module":
             inside = content[start + 1:end - 1]
             module = next(it for it in trees(inside) if isinstance(it[0], list))
             message = strings_of(group[2:]).decode("utf-8", "replace") if head == b"assert_malformed" else None
@@ -60,7 +61,7 @@ def script_items(source, path, content):
 def wabt_item(source, path, content):
     """Returns the text of a test of wabt, a file whose lines for the test runner are comments. Returns `None` for tests of other tools."""
     head = content.split(b"\n\n")[0]
-    if b";;; TOOL: wat2wasm" not in head and b";;; TOOL: run-roundtrip" not in head and b";;; TOOL: run-objdump" not in head:
+    if not any(b";;; TOOL: " + tool in head for tool in TESTED):
         return None
     return Item(source, path, content, True, expects_error=b";;; ERROR:" in head)
 
