@@ -47,9 +47,9 @@ def has_table_init(fields):
     return False
 
 
-def has_long_offset(fields):
-    """Reports whether a segment has an offset of no operator or of several."""
-    return any(heads(field, b"offset") for field in heads(fields, b"elem") + heads(fields, b"data"))
+def has_long_expression(fields):
+    """Reports whether a segment has an offset or an item of no operator or of several: only these have the word before them."""
+    return any(heads(field, b"offset") or heads(field, b"item") for field in heads(fields, b"elem") + heads(fields, b"data"))
 
 
 def text_judgement(case):
@@ -57,8 +57,8 @@ def text_judgement(case):
     fields = fields_of(case.data)
     if case.label.maker.startswith("wasm2wat") and has_table_init(fields):
         return "fault of wasm2wat: it leaves out the initialiser of a table"
-    if case.label.maker.startswith("wasm2wat") and has_long_offset(fields):
-        return "fault of wasm2wat: it writes an offset of no operator, or of several, without `(offset ..)`"
+    if case.label.maker.startswith("wasm2wat") and has_long_expression(fields):
+        return "fault of wasm2wat: it writes an offset or an item of no operator, or of several, without `(offset ..)` or `(item ..)`"
     message = fault(case.data)
     if case.held == "unread" and "unknown type" in message:
         return "documented: the module uses a type that is not declared, and such a text is not read"
