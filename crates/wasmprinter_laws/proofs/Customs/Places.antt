@@ -14,7 +14,7 @@ use Rattle.wasmprinter_laws.proofs.Customs.Notes.{at_place, raw_customs-append, 
 abbrev pub all_places : List (Option Kind)
 all_places = None ∷ map Some section_order
 
-abbrev over : List (Option Kind) → List CustomEntry → List CustomEntry
+abbrev pub over : List (Option Kind) → List CustomEntry → List CustomEntry
 over [] cs = []
 over (p ∷ ps) cs = at_place p cs ++ over ps cs
 
@@ -95,7 +95,7 @@ is_among_all (Some CustomSection) h = absurd cc
 is_among_all (Some DataCountSection) h = absurd cc
 is_among_all _ h = refl
 
-over_all : (low : ℕ) (cs : List CustomEntry) → AreInOrder low cs → over all_places cs ≡ cs
+pub over_all : (low : ℕ) (cs : List CustomEntry) → AreInOrder low cs → over all_places cs ≡ cs
 over_all low [] h = refl
 over_all low (c ∷ cs) (from, any, others) =
     first_over all_places 0 c cs refl (is_among_all c.after any) others ∙ ap (λ t. c ∷ t) (over_all (place_rank c.after) cs others)
