@@ -3,7 +3,7 @@ use Rattle.std.proofs.Common.{◌≡◌, ℕ, suc, ◌+◌, ◌-◌, ◌≤◌, 
 use Rattle.std.proofs.lemmas.List.{same_from_push, drop_at, take_at, append-nil, length-take-le}
 use Rattle.std.proofs.Math.Seq.{take-append-add}
 use Rattle.wasmprinter_spec.specs.Folding.Arities.{greatest}
-use Rattle.wasmprinter_spec.specs.Folding.Tree.{NodesOf, Nil, Snoc, row_of_both, front, last, count, OperandsOf, operand_search, with_operands}
+use Rattle.wasmprinter_spec.specs.Folding.Tree.{NodesOf, Nil, Snoc, row_of_both, front, last, count, operand_search, with_operands}
 use Rattle.wasmprinter_spec.proofs.Folding.{row_of_both-front-last}
 use Rattle.wasmprinter_fold.specs.declared.nodes.NodeText.{NodeText}
 use Rattle.wasmprinter_fold.specs.declared.nodes.Node.{Node}
@@ -13,7 +13,7 @@ use Rattle.wasmprinter_fold.specs.declared.nodes.builder.Arm.TheVariants as arm
 use Rattle.wasmprinter_fold.specs.declared.nodes.candidates.Candidate.{Candidate}
 use Rattle.wasmprinter_fold.specs.declared.nodes.candidates.Cut.{Cut}
 use Rattle.wasmprinter_fold.specs.Postorder.{postorder}
-use Rattle.wasmprinter_fold.specs.Candidates.{width, candidates, with_candidate, IsCut, IsOperandsCut, IsEndOf, IsLimited, IsOpenRow}
+use Rattle.wasmprinter_fold.specs.Candidates.{width, candidate_after, candidates, IsCut, IsOperandsCut, IsEndOf, IsLimited}
 use Rattle.wasmprinter_fold.specs.Building.{OpenNodes, Top, InBlock, InThen, InElse, state_at, state_after_end, state_after_else}
 use Rattle.wasmprinter_fold.specs.Frames.{State, base, base_candidates, frame_in, frames, AreLimited, StandsAt, with_node, with_case, with_block}
 use Rattle.wasmprinter_fold.proofs.Postorders.{length-postorder, postorder-row_of_both, count-row_of_both}
@@ -117,9 +117,6 @@ module _ (nodes : List Node) (row : List Candidate) (blocks : List Frame) (s : S
     kept_fits =
         omega (arith, begins, is.kept, ap length h.open_row, length-append (base_candidates s.outer) (candidates (length (base s.outer)) s.groups), length-candidates (length (base s.outer)) s.groups, ap width whole, width-row_of_both b parts)
 
-    pub open_after : IsOpenRow (take (part + cut.kept) row) part cut.start (base_candidates s.outer) (length (base s.outer)) b
-    open_after = record { whole = kept_row; begins = begins; ends = is.start; limited = left-limited s.groups b parts whole h.limited }
-
 -- ---- A plain operator
 
 -- The premises and results of adding a plain operator, if the nodes after the cut are its operands.
@@ -128,9 +125,10 @@ pub record AddsPlain (nodes : List Node) (row : List Candidate) (blocks : List F
   pub before : NodesOf NodeText
   pub fits : cut.start ≤ length nodes
   pub within : part + cut.kept ≤ length row
-  pub open_row : IsOpenRow (take (part + cut.kept) row) part cut.start (base_candidates s.outer) (length (base s.outer)) before
+  pub cuts : IsCut (length (base s.outer)) before cut
+  pub limited : IsLimited before
   pub stands : (new : List Node) (more : List Candidate) → new ≡ with_node nodes x results cut.start
-      → more ≡ base_candidates s.outer ++ with_candidate (length (base s.outer)) before results
+      → more ≡ take (part + cut.kept) row ++ candidate_after (length (base s.outer)) before results ∷ []
       → StandsAt new more blocks (state_at s.outer (with_operands s.groups x own (operand_search operands s.groups)))
 
 module _ (nodes : List Node) (row : List Candidate) (blocks : List Frame) (s : State) (h : StandsAt nodes row blocks s) (x : NodeText)
@@ -146,9 +144,11 @@ module _ (nodes : List Node) (row : List Candidate) (blocks : List Frame) (s : S
         before = b;
         fits = cut_fits nodes row blocks s h b t at.whole part begins cut at.cuts;
         within = kept_fits nodes row blocks s h b t at.whole part begins cut at.cuts;
-        open_row = open_after nodes row blocks s h b t at.whole part begins cut at.cuts;
+        cuts = at.cuts;
+        limited = left-limited s.groups b t at.whole h.limited;
         stands =
             λ new more e m.
+            let next : Candidate = candidate_after (length (base s.outer)) b results in
             let P : NodesOf NodeText → Type 0 = λ f. StandsAt new more blocks (state_at s.outer f) in
             subst P (sym (at.folds x))
             (record {
@@ -156,7 +156,10 @@ module _ (nodes : List Node) (row : List Candidate) (blocks : List Frame) (s : S
                   e
                   ∙ wrapped (base s.outer) b t x results cut.start nodes (two_rows nodes (base s.outer) s.groups b t h.rows at.whole)
                   (cut_at nodes row blocks s h b t at.whole part begins cut at.cuts);
-              open_row = m;
+              open_row =
+                  m
+                  ∙ (ap (λ (l : List Candidate). l ++ next ∷ []) (kept_row nodes row blocks s h b t at.whole part begins cut at.cuts)
+                  ∙ append_assoc (base_candidates s.outer) (candidates (length (base s.outer)) b) (next ∷ []));
               open_blocks = h.open_blocks;
               outer_limited = h.outer_limited;
               limited = (left-limited s.groups b t at.whole h.limited, most);
@@ -224,10 +227,12 @@ pub record Closes (nodes : List Node) (row : List Candidate) (rest : List Frame)
   pub outer : OpenNodes NodeText
   pub before : NodesOf NodeText
   pub open_blocks : rest ≡ frames outer
-  pub open_row : (part : ℕ) → part ≡ length (base_candidates outer)
-      → IsOpenRow (take t.candidates_start row) part t.operands_start (base_candidates outer) (length (base outer)) before
+  pub part_fits : length (base_candidates outer) ≤ length (take t.candidates_start row)
+  pub open_end : (part : ℕ) → part ≡ length (base_candidates outer)
+      → IsEndOf (drop part (take t.candidates_start row)) t.operands_start (length (base outer)) before
+  pub limited : IsLimited before
   pub stands : (new : List Node) (more : List Candidate) → new ≡ with_block nodes t
-      → more ≡ base_candidates outer ++ with_candidate (length (base outer)) before t.results → StandsAt new more rest s
+      → more ≡ take t.candidates_start row ++ candidate_after (length (base outer)) before t.results ∷ [] → StandsAt new more rest s
 
 -- The first case of an `if` is closed and the second one opened.
 pub record Turned (nodes : List Node) (row : List Candidate) (rest : List Frame) (t : Frame) (case otherwise : NodeText) (s : State) : Type 0 where
@@ -244,26 +249,35 @@ Closes-at : (o : OpenNodes NodeText) (b d f : NodesOf NodeText) (a : Arm) (x : N
     → Closes nodes row (frames o) (frame_in o b d a x q) s
 Closes-at o b d f a x q nodes row s outer limited most e r held case is =
     let kept : List Candidate = base_candidates o ++ candidates (length (base o)) b in
+    let kept_is : take (length kept) row ≡ kept =
+    ap (take (length kept)) r ∙ take_at kept (candidates (length ((base o ++ postorder b) ++ postorder d)) f) (length kept) refl in
+    let next : Candidate = candidate_after (length (base o)) b q in
     record {
       fits = omega (arith, ap length e, length-append ((base o ++ postorder b) ++ postorder d) (postorder f));
       in_order = omega (arith, length-append (base o ++ postorder b) (postorder d));
       outer = o;
       before = b;
       open_blocks = refl;
-      open_row =
+      part_fits = omega (arith, ap length kept_is, length-append (base_candidates o) (candidates (length (base o)) b));
+      open_end =
           λ part p. record {
-            whole = ap (take (length kept)) r ∙ take_at kept (candidates (length ((base o ++ postorder b) ++ postorder d)) f) (length kept) refl;
-            begins = p;
+            whole =
+                ap (λ (n : ℕ). drop n (take (length kept) row)) p
+                ∙ (ap (drop (length (base_candidates o))) kept_is
+                ∙ drop_at (base_candidates o) (candidates (length (base o)) b) (length (base_candidates o)) refl);
             ends = length-append (base o) (postorder b) ∙ ap (λ (n : ℕ). length (base o) + n) (length-postorder b);
-            limited = limited;
           };
+      limited = limited;
       stands =
           λ new more n m.
           let P : State → Type 0 = λ t. StandsAt new more (frames o) t in
           subst P (sym is)
           (record {
             rows = n ∙ wrapped (base o) b held x q _ _ case refl;
-            open_row = m;
+            open_row =
+                m
+                ∙ (ap (λ (l : List Candidate). l ++ next ∷ []) kept_is
+                ∙ append_assoc (base_candidates o) (candidates (length (base o)) b) (next ∷ []));
             open_blocks = refl;
             outer_limited = outer;
             limited = (limited, most);

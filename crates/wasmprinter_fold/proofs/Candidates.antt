@@ -1,18 +1,19 @@
 -- The candidates of a row, and the search for operands among them.
-use Rattle.std.proofs.Common.{◌≡◌, ◌≢◌, ℕ, zero, suc, ◌+◌, ◌-◌, ◌*◌, ◌<◌, ◌≤◌, Bool, true, false, cond, ltb, eqb, leb, min, ⊎_elim, List, [], ◌∷◌, ◌++◌, length, take, drop, get_or, refl, sym, ◌∙◌, ap, subst, ◌^◌, ◌⊎◌, inl, inr, arith, append_assoc, length-append}
+use Rattle.std.proofs.Common.{◌≡◌, ◌≢◌, ℕ, zero, suc, ◌+◌, ◌-◌, ◌*◌, ◌<◌, ◌≤◌, Bool, true, false, cond, ltb, eqb, leb, min, ⊎_elim, List, [], ◌∷◌, ◌++◌, length, take, get_or, refl, sym, ◌∙◌, ap, subst, ◌^◌, ◌⊎◌, inl, inr, arith, append_assoc, length-append}
 use Rattle.std.proofs.lemmas.Bool.{ne_eqb, eqb-true, eqb-false, le-ltb, ltb-true, ltb-false, le-leb, lt-leb, cond-true, cond-false}
 use Rattle.std.proofs.lemmas.Bool.Decides.{leb_tells}
-use Rattle.std.proofs.lemmas.List.{take_at, drop_at, append-nil, get_or_append_left, same_from_push}
+use Rattle.std.proofs.lemmas.List.{take_at, append-nil, get_or_append_left, same_from_push}
 use Rattle.std.proofs.Math.Seq.{get_or-append_seam}
 use Rattle.std.specs.List.Sorted.{IsNonDecreasingBy}
 use Rattle.std.proofs.lemmas.List.Sorted.{IsNonDecreasingBy-short, IsNonDecreasingBy-push}
 use Rattle.wasmprinter_spec.specs.Folding.Arities.{greatest, saturating_sum}
-use Rattle.wasmprinter_spec.specs.Folding.Tree.{NodesOf, Nil, Snoc, row_of_both, count, front, results_of, OperandsOf, Fit, Overshot, TooFew, with_last, operands_from, operand_search, with_operands}
+use Rattle.wasmprinter_spec.specs.Folding.Tree.{NodesOf, Nil, Snoc, row_of_both, count, front, results_of, OperandsOf, Fit, Overshot, TooFew, with_last, operands_from, operand_search}
 use Rattle.wasmprinter_spec.proofs.Folding.{AreLast, AreLast-operand_search}
 use Rattle.wasmprinter_fold.specs.declared.nodes.NodeText.{NodeText}
 use Rattle.wasmprinter_fold.specs.declared.nodes.candidates.Candidate.{Candidate}
+use Rattle.wasmprinter_fold.specs.declared.nodes.candidates.Cut.{Cut}
 use Rattle.wasmprinter_fold.specs.declared.nodes.candidates.Taken.TheVariants as taken
-use Rattle.wasmprinter_fold.specs.Candidates.{width, candidate_after, candidates, with_candidate, total_of, sum_at, IsSplit, outcome, IsCut, IsOperandsCut, IsEndOf, IsLimited, IsOpenRow}
+use Rattle.wasmprinter_fold.specs.Candidates.{width, candidate_after, candidates, total_of, sum_at, IsSplit, outcome, IsCut, IsOperandsCut, IsEndOf, IsLimited}
 
 by_le : {A : Type 0} (a b : ℕ) → (a ≤ b → A) → (b < a → A) → A
 by_le a b f g = ⊎_elim (λ h. f h.1) (λ h. g h.1) (leb_tells a b)
@@ -36,6 +37,17 @@ total-push (y ∷ (z ∷ zs)) x = total-push (z ∷ zs) x
 pub total-candidates : (first : ℕ) (f : NodesOf NodeText) → total_of (candidates first f) ≡ results_of f
 total-candidates first Nil = refl
 total-candidates first (Snoc b h r held) = total-push (candidates first b) (candidate_after first b r)
+
+-- The last candidate of a row, and those before it.
+pub earlier-is : (first : ℕ) (f : NodesOf NodeText) (row earlier : List Candidate) (last : Candidate) → row ≡ candidates first f → row ≡ earlier ++ last ∷ []
+    → earlier ≡ candidates first (front f)
+earlier-is first Nil row earlier last h e = absurd (omega (arith, ap length (sym h ∙ e), length-append earlier (last ∷ [])))
+earlier-is first (Snoc b x r held) row earlier last h e =
+    sym (same_from_push (candidates first b) earlier (candidate_after first b r) last (sym h ∙ e)).0
+
+pub last-is : (first : ℕ) (f : NodesOf NodeText) (row earlier : List Candidate) (last : Candidate) → row ≡ candidates first f → row ≡ earlier ++ last ∷ []
+    → last.sum ≡ results_of f
+last-is first f row earlier last h e = sym (total-push earlier last) ∙ (ap total_of (sym e ∙ h) ∙ total-candidates first f)
 
 -- The sum of the last candidate is that of the row.
 last-sum : (first : ℕ) (f : NodesOf NodeText) (d : Candidate) → 0 < length (candidates first f)
@@ -108,6 +120,10 @@ within-all limit (Snoc b h r held) le = cond-true (leb (results_of b + r) limit)
 
 within-fewer : (limit : ℕ) (b held : NodesOf NodeText) (h : NodeText) (r : ℕ) → limit < results_of b + r → within limit (Snoc b h r held) ≡ within limit b
 within-fewer limit b held h r lt = cond-false (leb (results_of b + r) limit) (Snoc b h r held) (within limit b) (lt-leb (results_of b + r) limit lt)
+
+within-front : (limit : ℕ) (f : NodesOf NodeText) → limit < results_of f → within limit f ≡ within limit (front f)
+within-front limit Nil lt = refl
+within-front limit (Snoc b h r held) lt = within-fewer limit b held h r lt
 
 -- A split of the candidates comes after these nodes.
 pub split-is : (first limit index : ℕ) (f : NodesOf NodeText) → IsSplit (candidates first f) limit index → index ≡ width (within limit f)
@@ -240,13 +256,18 @@ pub search-none : (operands : ℕ) (f : NodesOf NodeText) → operands ≡ 0 →
 search-none zero f e = refl
 search-none (suc n) f e = absurd (omega (arith, e))
 
+pub search-empty : (operands first : ℕ) (f : NodesOf NodeText) → length (candidates first f) ≡ 0 → taken.TooFew ≡ outcome (operand_search operands f)
+search-empty zero first Nil e = refl
+search-empty (suc n) first Nil e = refl
+search-empty operands first (Snoc b h r held) e = absurd (omega (arith, e, length-append (candidates first b) (candidate_after first b r ∷ [])))
+
 pub search-few : (operands : ℕ) (f : NodesOf NodeText) → operands ≤ greatest → results_of f < operands
     → taken.TooFew ≡ outcome (operand_search operands f)
 search-few zero f most less = refl
 search-few (suc n) f most less = sym (ap outcome (few (suc n) 0 f most (omega (arith, less))))
 
 module _ (first operands limit index : ℕ) (f : NodesOf NodeText) (ne : operands ≢ 0) (most : operands ≤ greatest)
-    (sums : limit + operands ≡ results_of f) (split : IsSplit (candidates first f) limit index) where
+    (sums : limit + operands ≡ results_of f) (split : IsSplit (candidates first (front f)) limit index) where
   is_found : IsFound limit operands f (operands_from operands 0 f)
   is_found = found limit operands 0 f most (omega (arith, ne)) (omega (arith, sums))
 
@@ -254,13 +275,18 @@ module _ (first operands limit index : ℕ) (f : NodesOf NodeText) (ne : operand
   searches zero z = absurd (z refl)
   searches (suc n) z = refl
 
+  same : within limit f ≡ within limit (front f)
+  same = within-front limit f (omega (arith, sums, ne))
+
   at : index ≡ width (within limit f)
-  at = split-is first limit index f split
+  at = split-is first limit index (front f) split ∙ ap width (sym same)
 
-  total-at : total_of (take index (candidates first f)) ≡ results_of (within limit f)
-  total-at = ap (λ (n : ℕ). total_of (take n (candidates first f))) at ∙ total-within first limit f
+  total-at : total_of (take index (candidates first (front f))) ≡ results_of (within limit f)
+  total-at =
+      ap (λ (n : ℕ). total_of (take n (candidates first (front f)))) (split-is first limit index (front f) split)
+      ∙ (total-within first limit (front f) ∙ ap results_of (sym same))
 
-  pub search-found : (total_of (take index (candidates first f)) ≡ limit) ⊎ (operands ≡ greatest)
+  pub search-found : (total_of (take index (candidates first (front f))) ≡ limit) ⊎ (operands ≡ greatest)
       → taken.From index ≡ outcome (operand_search operands f)
   search-found h =
       ap taken.From at
@@ -268,7 +294,7 @@ module _ (first operands limit index : ℕ) (f : NodesOf NodeText) (ne : operand
       (ap outcome (searches operands ne)
       ∙ outcome-found limit operands f (operands_from operands 0 f) is_found (⊎_elim (λ e. inl (sym total-at ∙ e)) (λ e. inr e) h))
 
-  pub search-over : total_of (take index (candidates first f)) ≢ limit → operands ≢ greatest
+  pub search-over : total_of (take index (candidates first (front f))) ≢ limit → operands ≢ greatest
       → taken.Overshot ≡ outcome (operand_search operands f)
   search-over h nm =
       sym
@@ -319,7 +345,8 @@ front-limited (Snoc b x r held) h = h.0
 -- The index of the first operand is that of a candidate, which says where it begins.
 pub record Begins (first kept own : ℕ) (f : NodesOf NodeText) (o : OperandsOf NodeText) : Type 0 where
   pub fits : kept < length (candidates first f)
-  pub cut : (d : Candidate) → IsOperandsCut first f own o (record { kept = kept; start = (get_or (candidates first f) kept d).start }) own
+  pub cut : (d : Candidate)
+      → IsOperandsCut first f own o (record { kept = kept; start = (get_or (candidates first f) kept d).start; sum = total_of (take kept (candidates first f)) }) own
 
 positive : (f : NodesOf NodeText) → f ≢ Nil → 0 < width f
 positive Nil ne = absurd (ne refl)
@@ -343,6 +370,10 @@ begins-at first kept own f (Fit before run) last some e =
                   ap (λ (i : ℕ). (get_or (candidates first f) i d).start) here
                   ∙ (ap (λ (g : NodesOf NodeText). (get_or (candidates first g) (width before) d).start) last
                   ∙ start-candidate first before d run some);
+              sum =
+                  ap (λ (i : ℕ). total_of (take i (candidates first f))) here
+                  ∙ (ap (λ (g : NodesOf NodeText). total_of (take (width before) (candidates first g))) last
+                  ∙ (ap total_of (take-candidates first before run) ∙ total-candidates first before));
             };
             folds = λ head. refl;
           };
@@ -355,38 +386,39 @@ pub begins : (first kept own operands : ℕ) (f : NodesOf NodeText) → taken.Fr
 begins first kept own operands f e =
     begins-at first kept own f (operand_search operands f) (AreLast-operand_search operands f) (takes_some operands f) e
 
--- An operator that takes no node comes after all of them.
-module _ (first kept start : ℕ) (f : NodesOf NodeText) (k : kept ≡ length (candidates first f)) (s : start ≡ first + count f) where
-  whole_cut : IsCut first f (record { kept = kept; start = start })
-  whole_cut = record { kept = k ∙ length-candidates first f; start = s }
-
-  pub cut-over : (own : ℕ) (o : OperandsOf NodeText) → taken.Overshot ≡ outcome o
-      → IsOperandsCut first f own o (record { kept = kept; start = start }) greatest
-  cut-over own (Fit before run) e = absurd cc
-  cut-over own Overshot e = record { before = f; taken = Nil; whole = refl; cuts = whole_cut; folds = λ head. refl }
-  cut-over own TooFew e = absurd cc
-
-  pub cut-few : (own : ℕ) (o : OperandsOf NodeText) → taken.TooFew ≡ outcome o
-      → IsOperandsCut first f own o (record { kept = kept; start = start }) own
-  cut-few own (Fit before run) e = absurd cc
-  cut-few own Overshot e = absurd cc
-  cut-few own TooFew e = record { before = f; taken = Nil; whole = refl; cuts = whole_cut; folds = λ head. refl }
-
--- The predicate of an `if` is the last node.
-pub cut-last : (row before : List Candidate) (predicate : Candidate) (end first : ℕ) (f : NodesOf NodeText) → IsEndOf row end first f
-    → row ≡ before ++ predicate ∷ [] → IsCut first (front f) (record { kept = length before; start = predicate.start })
-cut-last row before predicate end first Nil h e = absurd (omega (arith, ap length (sym h.whole ∙ e), length-append before (predicate ∷ [])))
-cut-last row before predicate end first (Snoc b x r held) h e =
-    let same = same_from_push (candidates first b) before (candidate_after first b r) predicate (sym h.whole ∙ e) in
+-- The position after all nodes.
+pub end-is : (row : List Candidate) (end first sum : ℕ) (f : NodesOf NodeText) → IsEndOf row end first f → sum ≡ total_of row
+    → IsCut first f (record { kept = length row; start = end; sum = sum })
+end-is row end first sum f h s =
     record {
-      kept = ap length (sym same.0) ∙ length-candidates first b;
-      start = ap (λ (c : Candidate). c.start) (sym same.1);
+      kept = ap length h.whole ∙ length-candidates first f;
+      start = h.ends;
+      sum = s ∙ (ap total_of h.whole ∙ total-candidates first f);
     }
 
-pub cut-none : (row : List Candidate) (end first : ℕ) (f : NodesOf NodeText) → IsEndOf row end first f → length row ≡ 0
-    → IsCut first (front f) (record { kept = 0; start = end })
-cut-none row end first Nil h e = record { kept = refl; start = h.ends }
-cut-none row end first (Snoc b x r held) h e =
+-- An operator that takes no node comes after all of them.
+module _ (first own : ℕ) (f : NodesOf NodeText) (cut : Cut) (cuts : IsCut first f cut) where
+  pub cut-over : (o : OperandsOf NodeText) → taken.Overshot ≡ outcome o → IsOperandsCut first f own o cut greatest
+  cut-over (Fit before run) e = absurd cc
+  cut-over Overshot e = record { before = f; taken = Nil; whole = refl; cuts = cuts; folds = λ head. refl }
+  cut-over TooFew e = absurd cc
+
+  pub cut-few : (o : OperandsOf NodeText) → taken.TooFew ≡ outcome o → IsOperandsCut first f own o cut own
+  cut-few (Fit before run) e = absurd cc
+  cut-few Overshot e = absurd cc
+  cut-few TooFew e = record { before = f; taken = Nil; whole = refl; cuts = cuts; folds = λ head. refl }
+
+-- The predicate of an `if` is the last node.
+pub front-ends : (row before : List Candidate) (predicate : Candidate) (first : ℕ) (f : NodesOf NodeText) → row ≡ candidates first f
+    → row ≡ before ++ predicate ∷ [] → IsEndOf before predicate.start first (front f)
+front-ends row before predicate first Nil h e = absurd (omega (arith, ap length (sym h ∙ e), length-append before (predicate ∷ [])))
+front-ends row before predicate first (Snoc b x r held) h e =
+    let same = same_from_push (candidates first b) before (candidate_after first b r) predicate (sym h ∙ e) in
+    record { whole = sym same.0; ends = ap (λ (c : Candidate). c.start) (sym same.1) }
+
+pub front-none : (row : List Candidate) (end first : ℕ) (f : NodesOf NodeText) → IsEndOf row end first f → length row ≡ 0 → IsEndOf row end first (front f)
+front-none row end first Nil h e = h
+front-none row end first (Snoc b x r held) h e =
     absurd (omega (arith, e, ap length h.whole, length-append (candidates first b) (candidate_after first b r ∷ [])))
 
 -- ---- One more candidate
@@ -396,27 +428,12 @@ pub limited-results : (f : NodesOf NodeText) → IsLimited f → results_of f �
 limited-results Nil h = omega arith
 limited-results (Snoc b x r held) h = omega (arith, limited-results b h.0, h.1)
 
-module _ (all before : List Candidate) (part start first : ℕ) (f : NodesOf NodeText) (h : IsOpenRow all part start before first f) where
-  pub part_within : part ≤ length all
-  part_within = omega (arith, h.begins, ap length h.whole, length-append before (candidates first f))
+pub sum_fits : (first results : ℕ) (f : NodesOf NodeText) (cut : Cut) → IsCut first f cut → IsLimited f → cut.start < 2 ^ 64 → results < 2 ^ 32
+    → cut.sum + results < 2 ^ 128
+sum_fits first results f cut is limited s r = omega (arith, is.sum, limited-results f limited, is.start, s, r)
 
-  pub total-open : total_of (drop part all) ≡ results_of f
-  total-open =
-      ap (λ (n : ℕ). total_of (drop n all)) h.begins
-      ∙ (ap (λ (l : List Candidate). total_of (drop (length before) l)) h.whole
-      ∙ (ap total_of (drop_at before (candidates first f) (length before) refl)
-      ∙ total-candidates first f))
-
-  pub sum_fits : start < 2 ^ 64 → (results : ℕ) → results < 2 ^ 32 → total_of (drop part all) + results < 2 ^ 128
-  sum_fits s results r = omega (arith, total-open, limited-results f h.limited, h.ends, s, r)
-
-  pub pushed : (new : List Candidate) (sum results : ℕ) → sum ≡ total_of (drop part all) + results
-      → new ≡ all ++ record { start = start; sum = sum } ∷ [] → new ≡ before ++ with_candidate first f results
-  pushed new sum results s e =
-      let next : Candidate = candidate_after first f results in
-      let same : record { start = start; sum = sum } ≡ next =
-      ap (λ (n : ℕ). record { start = n; sum = sum }) h.ends
-      ∙ ap (λ (n : ℕ). record { start = first + count f; sum = n }) (s ∙ ap (λ (n : ℕ). n + results) total-open) in
-      e
-      ∙ (ap (λ (c : Candidate). all ++ c ∷ []) same
-      ∙ (ap (λ (l : List Candidate). l ++ next ∷ []) h.whole ∙ append_assoc before (candidates first f) (next ∷ [])))
+pub next-is : (first results : ℕ) (f : NodesOf NodeText) (cut : Cut) → IsCut first f cut
+    → record { start = cut.start; sum = cut.sum + results } ≡ candidate_after first f results
+next-is first results f cut is =
+    ap (λ (n : ℕ). record { start = n; sum = cut.sum + results }) is.start
+    ∙ ap (λ (n : ℕ). record { start = first + count f; sum = n + results }) is.sum

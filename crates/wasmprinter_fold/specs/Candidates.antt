@@ -23,10 +23,6 @@ abbrev pub candidates : ℕ → NodesOf NodeText → List Candidate
 candidates first Nil = []
 candidates first (Snoc before head results held) = candidates first before ++ candidate_after first before results ∷ []
 
--- The candidates of a row and of one more node.
-abbrev pub with_candidate : ℕ → NodesOf NodeText → ℕ → List Candidate
-with_candidate first f results = candidates first f ++ candidate_after first f results ∷ []
-
 -- The sum of the last candidate, or 0.
 abbrev pub total_of : List Candidate → ℕ
 total_of [] = 0
@@ -53,6 +49,7 @@ outcome TooFew = taken.TooFew
 pub record IsCut (first : ℕ) (before : NodesOf NodeText) (cut : Cut) : Type 0 where
   pub kept : cut.kept ≡ width before
   pub start : cut.start ≡ first + count before
+  pub sum : cut.sum ≡ results_of before
 
 -- The position at which the operands of a plain operator begin, given the outcome of the search for them, and the number
 -- of results that its node counts for.
@@ -72,10 +69,3 @@ pub record IsEndOf (row : List Candidate) (end first : ℕ) (f : NodesOf NodeTex
 abbrev pub IsLimited : NodesOf NodeText → Type 0
 IsLimited Nil = Unit {0}
 IsLimited (Snoc before head results held) = IsLimited before × (results ≤ greatest)
-
--- The candidates from index `part` on are those of a row, and the next node has the index `start`.
-pub record IsOpenRow (all : List Candidate) (part start : ℕ) (before : List Candidate) (first : ℕ) (f : NodesOf NodeText) : Type 0 where
-  pub whole : all ≡ before ++ candidates first f
-  pub begins : part ≡ length before
-  pub ends : start ≡ first + count f
-  pub limited : IsLimited f

@@ -5,7 +5,7 @@ ghost use Rattle.wasmprinter_fold.specs.Postorder.{IsPostorder, forest_of};
 ghost use Rattle.wasmprinter_fold.specs.Frames.{with_node, with_case, with_block, frames, base_candidates};
 ghost use Rattle.wasmprinter_fold.specs.declared.nodes.NodeText.{NodeText};
 
-use crate::nodes::candidates::{Candidate, operands_cut, predicate_of, push_candidate};
+use crate::nodes::candidates::{Candidate, end_of, operands_cut, predicate_of, push_candidate};
 use crate::nodes::{Node, NodeText};
 use std::alloc::{AllocError, Global};
 
@@ -143,7 +143,7 @@ impl Builder {
         let (cut, counted) = operands_cut(&self.candidates[part..], end, operands, results);
         wrap(&mut self.nodes, head, counted, cut.start)?;
         self.candidates.truncate(part + cut.kept);
-        push_candidate(&mut self.candidates, part, cut.start, counted)
+        push_candidate(&mut self.candidates, cut, counted)
     }
 
     /// Opens a block.
@@ -240,12 +240,8 @@ impl Builder {
             wrap_block(&mut self.nodes, frame)?;
             self.candidates.truncate(frame.candidates_start);
             let part = open_candidates_start(&self.frames);
-            push_candidate(
-                &mut self.candidates,
-                part,
-                frame.operands_start,
-                frame.results,
-            )?;
+            let cut = end_of(&self.candidates[part..], frame.operands_start);
+            push_candidate(&mut self.candidates, cut, frame.results)?;
         }
         Ok(())
     }

@@ -1,10 +1,10 @@
 //! The nodes that the next operators may take as operands, and the search for operands among them.
-ghost use Rattle.std.specs.Prelude.{◌≡◌, ℕ, ◌+◌, ◌++◌, List, OnOk};
+ghost use Rattle.std.specs.Prelude.{◌≡◌, ℕ, List, [], ◌∷◌, ◌++◌, OnOk};
 ghost use Rattle.std.specs.List.Sorted.{IsNonDecreasingBy};
 ghost use Rattle.wasmprinter_spec.specs.Folding.Tree.{NodesOf, operand_search, front};
 ghost use Rattle.wasmprinter_fold.specs.declared.nodes.NodeText.{NodeText};
 ghost use Rattle.wasmprinter_fold.specs.declared.nodes.candidates.Candidate.{Candidate};
-ghost use Rattle.wasmprinter_fold.specs.Candidates.{candidates, with_candidate, total_of, outcome, IsSplit, IsCut, IsOperandsCut, IsEndOf, IsOpenRow};
+ghost use Rattle.wasmprinter_fold.specs.Candidates.{candidates, candidate_after, total_of, outcome, IsSplit, IsCut, IsOperandsCut, IsEndOf, IsLimited};
 
 use std::alloc::AllocError;
 
@@ -28,14 +28,19 @@ pub enum Taken {
     TooFew,
 }
 
-/// A position between two candidates.
+/// A position in a row of candidates: between two of them, before the first or after the last.
 #[derive(Clone, Copy, Debug)]
 pub struct Cut {
     /// The number of candidates before it.
     pub kept: usize,
     /// The index of the first node after it.
     pub start: usize,
+    /// The sum of the results of the candidates before it.
+    pub sum: u128,
 }
+
+/// The search for operands passes this many candidates before its step grows by one.
+const CANDIDATES_PER_STEP: usize = 4;
 
 /// Returns the sum of the results of a row.
 fn total(row: &[Candidate]) -> u128
@@ -49,23 +54,22 @@ fn total(row: &[Candidate]) -> u128
 
 /// Returns the number of candidates whose sum is at most `limit`.
 ///
-/// The search begins at the end of the row and doubles its step. So it looks at O(log n) candidates, where n is the
-/// number of those that it does not count.
+/// The search begins at the end of the row, and its step grows with the number of candidates that it has passed. It
+/// looks at O(log n) candidates, where n is the number of those that it does not count.
 fn count_within(row: &[Candidate], limit: u128) -> usize
     requires { IsNonDecreasingBy (λ (c : Candidate). c.sum) row.now }
     ensures { IsSplit row.now limit result }
 {
     let mut low = 0;
     let mut high = row.len();
-    let mut step: usize = 1;
     'probes: while low < high {
+        let step = (row.len() - high) / CANDIDATES_PER_STEP + 1;
         let half = (high - low) / 2;
         let middle = high - step.min(half + 1);
         if row[middle].sum <= limit {
             low = middle + 1;
         } else {
             high = middle;
-            step = step.saturating_mul(2);
         }
     }
     low
@@ -76,17 +80,30 @@ pub fn find_operands(row: &[Candidate], operands: u32) -> Taken
     requires { (first : ℕ) × (f : NodesOf NodeText) × (row.now ≡ candidates first f) }
     ensures { (first : ℕ) (f : NodesOf NodeText) → row.now ≡ candidates first f → result ≡ outcome (operand_search operands f) }
 {
-    let all = total(row);
+    let Some((last, earlier)) = row.split_last() else {
+        return Taken::TooFew;
+    };
     let needed = u128::from(operands);
-    if operands == 0 || all < needed {
+    if operands == 0 || last.sum < needed {
         return Taken::TooFew;
     }
-    let limit = all - needed;
-    let kept = count_within(row, limit);
-    if total(&row[..kept]) == limit || operands == u32::MAX {
+    let limit = last.sum - needed;
+    let kept = count_within(earlier, limit);
+    if total(&earlier[..kept]) == limit || operands == u32::MAX {
         Taken::From(kept)
     } else {
         Taken::Overshot
+    }
+}
+
+/// Returns the position after the last candidate of a row. `end` is the number of all nodes.
+pub fn end_of(row: &[Candidate], end: usize) -> Cut
+    ensures { (first : ℕ) (f : NodesOf NodeText) → IsEndOf row.now end first f → IsCut first f result }
+{
+    Cut {
+        kept: row.len(),
+        start: end,
+        sum: total(row),
     }
 }
 
@@ -97,20 +114,17 @@ pub fn operands_cut(row: &[Candidate], end: usize, operands: u32, results: u32) 
     ensures { (first : ℕ) (f : NodesOf NodeText) → IsEndOf row.now end first f →
         IsOperandsCut first f results (operand_search operands f) result.0 result.1 }
 {
-    let whole = Cut {
-        kept: row.len(),
-        start: end,
-    };
     match find_operands(row, operands) {
         Taken::From(kept) => (
             Cut {
                 kept,
                 start: row[kept].start,
+                sum: total(&row[..kept]),
             },
             results,
         ),
-        Taken::Overshot => (whole, u32::MAX),
-        Taken::TooFew => (whole, results),
+        Taken::Overshot => (end_of(row, end), u32::MAX),
+        Taken::TooFew => (end_of(row, end), results),
     }
 }
 
@@ -121,32 +135,22 @@ pub fn predicate_of(row: &[Candidate], end: usize) -> Cut
     ensures { (first : ℕ) (f : NodesOf NodeText) → IsEndOf row.now end first f → IsCut first (front f) result }
 {
     match row.split_last() {
-        Some((predicate, before)) => Cut {
-            kept: before.len(),
-            start: predicate.start,
-        },
-        None => Cut {
-            kept: 0,
-            start: end,
-        },
+        Some((predicate, before)) => end_of(before, predicate.start),
+        None => end_of(row, end),
     }
 }
 
-/// Adds a candidate with this number of results, whose first node has the index `start`, to the part that begins with
-/// the candidate of index `part`.
+/// Adds a candidate with this number of results, whose first node is the first one after the cut.
 ///
-/// The sum is that of the results of at most `start + 1` nodes, so it is less than 2^97.
-pub fn push_candidate(
-    all: &mut Vec<Candidate>,
-    part: usize,
-    start: usize,
-    results: u32,
-) -> Result<(), AllocError>
-    requires { (before : List Candidate) × (first : ℕ) × (f : NodesOf NodeText) × IsOpenRow all.old.items part start before first f }
-    ensures { OnOk result ((before : List Candidate) (first : ℕ) (f : NodesOf NodeText) →
-        IsOpenRow all.old.items part start before first f → all.new.items ≡ before ++ with_candidate first f results) }
+/// Its sum is that of the results of at most `cut.start + 1` nodes, so it is less than 2^97.
+pub fn push_candidate(all: &mut Vec<Candidate>, cut: Cut, results: u32) -> Result<(), AllocError>
+    requires { (first : ℕ) × (f : NodesOf NodeText) × IsCut first f cut × IsLimited f }
+    ensures { OnOk result ((first : ℕ) (f : NodesOf NodeText) →
+        IsCut first f cut → all.new.items ≡ all.old.items ++ candidate_after first f results ∷ []) }
 {
-    let sum = total(&all[part..]) + u128::from(results);
-    all.push(Candidate { start, sum })?;
+    all.push(Candidate {
+        start: cut.start,
+        sum: cut.sum + u128::from(results),
+    })?;
     Ok(())
 }

@@ -6,7 +6,6 @@ probes-preserved-then-row-middle c =
     record {
       ordered = omega arith;
       within = c.probes.invariant.within;
-      step = c.probes.invariant.step;
       below = λ k i. omega (arith, c.requires k (c.probes.high - c.min.result) (record { start = 0; sum = 0 }) (omega (arith, i)) (omega arith));
       above = c.probes.invariant.above;
     }
@@ -16,7 +15,6 @@ probes-preserved c =
     record {
       ordered = omega arith;
       within = omega arith;
-      step = omega (arith, c.saturating_mul-step.ensures, c.probes.invariant.step);
       below = c.probes.invariant.below;
       above = λ k i j. omega (arith, c.requires (c.probes.high - c.min.result) k (record { start = 0; sum = 0 }) i j);
     }

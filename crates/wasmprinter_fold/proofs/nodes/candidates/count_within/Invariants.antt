@@ -7,7 +7,6 @@ invariant-probes l =
     record {
       ordered : l.low ≤ l.high;
       within : l.high ≤ length l.row;
-      step : 0 < l.step;
       below : (k : ℕ) → k < l.low → sum_at l.row k ≤ l.limit;
       above : (k : ℕ) → l.high ≤ k → k < length l.row → l.limit < sum_at l.row k;
     }

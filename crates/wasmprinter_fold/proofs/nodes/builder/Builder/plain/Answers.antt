@@ -1,9 +1,9 @@
-use Rattle.std.proofs.Common.{◌≤◌, ◌+◌, List, arith, ◌∙◌, length, sym, subst}
+use Rattle.std.proofs.Common.{◌≤◌, ◌+◌, List, [], ◌∷◌, ◌++◌, arith, ap, ◌∙◌, length}
 use Rattle.std.proofs.lemmas.List.{take_rest}
 use Rattle.std.proofs.lemmas.Result.{on_ok_weaker}
 use Rattle.wasmprinter_fold.specs.declared.nodes.candidates.Candidate.{Candidate}
-use Rattle.wasmprinter_fold.specs.Candidates.{IsOpenRow}
-use Rattle.wasmprinter_fold.specs.Frames.{base, base_candidates}
+use Rattle.wasmprinter_fold.specs.Candidates.{candidate_after}
+use Rattle.wasmprinter_fold.specs.Frames.{base}
 use Rattle.wasmprinter_fold.proofs.Blocks.{is_end, adds_plain}
 use Rattle.wasmprinter_fold.proofs.nodes.builder.Builder.plain.Goals as goal
 
@@ -39,9 +39,7 @@ push_candidate-requires c =
     let cut = rw (c.deref-2.ensures.value, take_rest) at c.operands_cut-counted.ensures in
     let adds =
     adds_plain _ _ _ _ h c.args.head _ c.args.results _ _ part (omega (arith, c.len-end.ensures, c.args.self.now.nodes.ok.0)) _ _ (omega arith) cut in
-    let P : List Candidate → Type 0 =
-    λ l. IsOpenRow l c.open_candidates_start-part.result c.operands_cut-counted.result.0.start (base_candidates s.outer) (length (base s.outer)) adds.before in
-    (base_candidates s.outer, length (base s.outer), adds.before, subst P (sym c.truncate.ensures.items) adds.open_row)
+    (length (base s.outer), adds.before, adds.cuts, adds.limited)
 
 pub returns : goal.returns
 returns c =
@@ -51,8 +49,8 @@ returns c =
     let cut = rw (c.deref-2.ensures.value, take_rest) at c.operands_cut-counted.ensures in
     let adds =
     adds_plain _ _ _ _ h c.args.head _ c.args.results _ _ part (omega (arith, c.len-end.ensures, c.args.self.now.nodes.ok.0)) _ _ (omega arith) cut in
-    let P : List Candidate → Type 0 =
-    λ l. IsOpenRow l c.open_candidates_start-part.result c.operands_cut-counted.result.0.start (base_candidates s.outer) (length (base s.outer)) adds.before in
+    let next : Candidate = candidate_after (length (base s.outer)) adds.before c.operands_cut-counted.result.1 in
     adds.stands _ _ c.in_ok-wrap.ensures
-    (e (base_candidates s.outer) (length (base s.outer)) adds.before (subst P (sym c.truncate.ensures.items) adds.open_row)))
+    (◌∙◌ {b = c.truncate.new.self.items ++ next ∷ []} (e (length (base s.outer)) adds.before adds.cuts)
+    (ap (λ (l : List Candidate). l ++ next ∷ []) c.truncate.ensures.items)))
     c.push_candidate.ensures
