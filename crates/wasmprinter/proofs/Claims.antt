@@ -1,7 +1,7 @@
 -- If no claim was answered yes, the layout is that of a module of which no custom section is claimed.
 use Rattle.std.specs.Prelude.{◌≡◌, ℕ, ◌+◌, List, [], ◌∷◌, ◌++◌, flat_map, ◌||◌, map, codes, Bool, true, false, Option, Some, None, refl}
 use Rattle.std.specs.List.{AllByRecursion}
-use Rattle.std.proofs.Common.{sym, ap, ap₂, ◌∙◌, subst}
+use Rattle.std.proofs.Common.{sym, ap, ◌∙◌, subst, true≢false}
 use Rattle.wasmprinter_spec.specs.Call.{Call, Text, Newline, Line, Start, Claim, IsUnclaimed, calls_of_bytes, atoms}
 use Rattle.wasmprinter_spec.specs.Kinds.{Kind}
 use Rattle.wasmprinter_spec.specs.Placed.{CustomEntry, PlacedModule}
@@ -12,9 +12,10 @@ use Rattle.wasmprinter_spec.specs.Piece.{Piece, Begin, EndLine, Open, all_calls}
 use Rattle.wasmprinter_spec.specs.Layout.{early_scope, section_pieces, section_order, section_parts, module_parts, module_pieces_of, module_pieces_with, module_pieces, layout, refusal}
 use Rattle.wasmprinter_spec.specs.Layout.Groups.{close, has_break, group_at}
 use Rattle.wasmprinter_spec.specs.Layout.Identifiers.{leading_id_and_name_pieces}
-use Rattle.wasmprinter_spec.specs.Layout.Customs.{Part, Shown, Stops, Laid, laid_parts, custom_part, same_place, parts_at}
+use Rattle.wasmprinter_spec.specs.Layout.Customs.{Part, Shown, Stops, Laid, before_laid, laid_parts, custom_part, same_place, parts_at}
 use Rattle.wasmprinter_spec.proofs.Each.{all_both, all_parts}
 use Rattle.wasmprinter_print.specs.EffectLaws.{all_calls-append}
+use Rattle.wasmprinter_sections.proofs.Joined.{laid_after, joined-append}
 use Rattle.wasmprinter.specs.Printed.{no_claims}
 
 -- ---- Calls that are alike
@@ -55,10 +56,6 @@ module _ (o : Options) where
   abbrev AreUnclaimedIn : List Piece → Type 0
   AreUnclaimedIn ps = AllByRecursion IsUnclaimed (all_calls o ps)
 
-  abbrev IsUnclaimedPart : Part → Type 0
-  IsUnclaimedPart (Shown ps) = AreUnclaimedIn ps
-  IsUnclaimedPart (Stops ps id) = AreUnclaimedIn ps
-
   pieces_front : (ps qs : List Piece) → AreUnclaimedIn (ps ++ qs) → AreUnclaimedIn ps
   pieces_front ps qs h =
       (all_parts IsUnclaimed (all_calls o ps) (all_calls o qs) (subst (λ (cs : List Call). AllByRecursion IsUnclaimed cs) (all_calls-append o ps qs) h)).0
@@ -67,86 +64,104 @@ module _ (o : Options) where
   pieces_after ps qs h =
       (all_parts IsUnclaimed (all_calls o ps) (all_calls o qs) (subst (λ (cs : List Call). AllByRecursion IsUnclaimed cs) (all_calls-append o ps qs) h)).1
 
-  parts_unclaimed : (parts : List Part) → (laid_parts parts).refused ≡ None → AreUnclaimedIn (laid_parts parts).pieces → AllByRecursion IsUnclaimedPart parts
-  parts_unclaimed [] e h = tt
-  parts_unclaimed (Shown ps ∷ parts) e h =
-      (pieces_front ps (laid_parts parts).pieces h, parts_unclaimed parts e (pieces_after ps (laid_parts parts).pieces h))
-  parts_unclaimed (Stops ps id ∷ parts) e h = absurd cc
+  -- The layouts of both are the same if no claim of the first was answered yes.
+  abbrev AreAlike : List Part → List Part → Type 0
+  AreAlike xs ys = AreUnclaimedIn (laid_parts xs).pieces → laid_parts xs ≡ laid_parts ys
 
-  -- If the part of a custom section has no claim that was answered yes, the answer for this section is no.
-  answered_no : (answer : Bool) (c : CustomEntry) → IsUnclaimedPart (custom_part o.skeleton answer c) → answer ≡ false
-  answered_no true c h = h.0
-  answered_no false c h = refl
+  part_alike : (p : Part) {xs ys : List Part} → AreAlike xs ys → AreAlike (p ∷ xs) (p ∷ ys)
+  part_alike (Shown ps) {xs} f h = ap (before_laid ps) (f (pieces_after ps (laid_parts xs).pieces h))
+  part_alike (Stops ps id) f h = refl
 
-  -- If no claim at one place was answered yes, the parts at that place are those without claims.
-  place_same : (answers : Answers) (place : Option Kind) (n : ℕ) (cs : List CustomEntry) → AllByRecursion IsUnclaimedPart (parts_at o.skeleton answers place n cs) →
-      parts_at o.skeleton answers place n cs ≡ parts_at o.skeleton no_claims place n cs
-  place_same answers place n [] h = refl
-  place_same answers place n (c ∷ cs) h = by (same_place c.after place) (λ others. place_same answers place (n + 1) cs others) refl
+  custom_alike : (answer : Bool) (c : CustomEntry) {xs ys : List Part} → AreAlike xs ys →
+      AreAlike (custom_part o.skeleton answer c ∷ xs) (custom_part o.skeleton false c ∷ ys)
+  custom_alike true c f h = absurd (true≢false h.0)
+  custom_alike false c f h = part_alike (custom_part o.skeleton false c) f h
+
+  -- The layout after a list of parts, and the whole.
+  laid_alike : (l : Laid) (xs ys : List Part) → AreAlike xs ys → AreUnclaimedIn (laid_after l.pieces l.refused (laid_parts xs)).pieces →
+      laid_after l.pieces l.refused (laid_parts xs) ≡ laid_after l.pieces l.refused (laid_parts ys)
+  laid_alike l xs ys f h = by l.refused h
     where
-      by : (t : Bool) → (AllByRecursion IsUnclaimedPart (parts_at o.skeleton answers place (n + 1) cs) → parts_at o.skeleton answers place (n + 1) cs ≡ parts_at o.skeleton no_claims place (n + 1) cs) →
-          same_place c.after place ≡ t → parts_at o.skeleton answers place n (c ∷ cs) ≡ parts_at o.skeleton no_claims place n (c ∷ cs)
-      by true others e =
-          let parts : AllByRecursion IsUnclaimedPart (custom_part o.skeleton (answers n) c ∷ parts_at o.skeleton answers place (n + 1) cs) = rw e at h in
-          rw (e, answered_no (answers n) c parts.0, others parts.1) refl
-      by false others e =
-          let parts : AllByRecursion IsUnclaimedPart (parts_at o.skeleton answers place (n + 1) cs) = rw e at h in
-          rw (e, others parts) refl
+      by : (r : Option ℕ) → AreUnclaimedIn (laid_after l.pieces r (laid_parts xs)).pieces →
+          laid_after l.pieces r (laid_parts xs) ≡ laid_after l.pieces r (laid_parts ys)
+      by None h = ap (before_laid l.pieces) (f (pieces_after l.pieces (laid_parts xs).pieces h))
+      by (Some id) h = refl
 
-  abbrev IsSameIf : List Part → List Part → Type 0
-  IsSameIf xs ys = AllByRecursion IsUnclaimedPart xs → xs ≡ ys
+  laid_front : (l k : Laid) → AreUnclaimedIn (laid_after l.pieces l.refused k).pieces → AreUnclaimedIn l.pieces
+  laid_front l k h = by l.refused h
+    where
+      by : (r : Option ℕ) → AreUnclaimedIn (laid_after l.pieces r k).pieces → AreUnclaimedIn l.pieces
+      by None h = pieces_front l.pieces k.pieces h
+      by (Some id) h = h
 
-  both_same : {xs ys zs ws : List Part} → IsSameIf xs ys → IsSameIf zs ws → IsSameIf (xs ++ zs) (ys ++ ws)
-  both_same {xs} {zs = zs} f g h = ap₂ (λ (ps qs : List Part). ps ++ qs) (f (all_parts IsUnclaimedPart xs zs h).0) (g (all_parts IsUnclaimedPart xs zs h).1)
+  both_alike : {xs ys zs ws : List Part} → AreAlike xs ys → AreAlike zs ws → AreAlike (xs ++ zs) (ys ++ ws)
+  both_alike {xs} {ys} {zs} {ws} f g h =
+      let k : AreUnclaimedIn (laid_after (laid_parts xs).pieces (laid_parts xs).refused (laid_parts zs)).pieces =
+      subst (λ (l : Laid). AreUnclaimedIn l.pieces) (joined-append xs zs) h in
+      joined-append xs zs
+      ∙ (laid_alike (laid_parts xs) zs ws g k
+      ∙ (ap (λ (l : Laid). laid_after l.pieces l.refused (laid_parts ws)) (f (laid_front (laid_parts xs) (laid_parts zs) k))
+      ∙ sym (joined-append ys ws)))
 
-  field_same : (p : Part) {xs ys : List Part} → IsSameIf xs ys → IsSameIf (p ∷ xs) (p ∷ ys)
-  field_same p f h = ap (λ (ps : List Part). p ∷ ps) (f h.1)
+  -- The custom sections at one place.
+  place_alike : (answers : Answers) (place : Option Kind) (n : ℕ) (cs : List CustomEntry) →
+      AreAlike (parts_at o.skeleton answers place n cs) (parts_at o.skeleton no_claims place n cs)
+  place_alike answers place n [] h = refl
+  place_alike answers place n (c ∷ cs) h = by (same_place c.after place) refl
+    where
+      others : AreAlike (parts_at o.skeleton answers place (n + 1) cs) (parts_at o.skeleton no_claims place (n + 1) cs)
+      others = place_alike answers place (n + 1) cs
 
-  -- The same for all parts of a module.
+      by : (t : Bool) → same_place c.after place ≡ t →
+          laid_parts (parts_at o.skeleton answers place n (c ∷ cs)) ≡ laid_parts (parts_at o.skeleton no_claims place n (c ∷ cs))
+      by true e = rw e (custom_alike (answers n) c others (rw e at h))
+      by false e = rw e (others (rw e at h))
+
+  -- All parts of a module.
   module _ (answers : Answers) (names : Names) (m : PlacedModule) where
-    customs_same : (place : Option Kind) → IsSameIf (parts_at o.skeleton answers place 0 m.customs) (parts_at o.skeleton no_claims place 0 m.customs)
-    customs_same place h = place_same answers place 0 m.customs h
+    customs_alike : (place : Option Kind) → AreAlike (parts_at o.skeleton answers place 0 m.customs) (parts_at o.skeleton no_claims place 0 m.customs)
+    customs_alike place = place_alike answers place 0 m.customs
 
-    section_same : (k : Kind) → IsSameIf (section_parts o (early_scope o names m) m answers k) (section_parts o (early_scope o names m) m no_claims k)
-    section_same k = field_same (Shown (section_pieces o (early_scope o names m) m k)) (customs_same (Some k))
+    section_alike : (k : Kind) → AreAlike (section_parts o (early_scope o names m) m answers k) (section_parts o (early_scope o names m) m no_claims k)
+    section_alike k = part_alike (Shown (section_pieces o (early_scope o names m) m k)) (customs_alike (Some k))
 
-    sections_same : (ks : List Kind) →
-        IsSameIf (flat_map (section_parts o (early_scope o names m) m answers) ks) (flat_map (section_parts o (early_scope o names m) m no_claims) ks)
-    sections_same [] h = refl
-    sections_same (k ∷ ks) h = both_same (section_same k) (sections_same ks) h
+    sections_alike : (ks : List Kind) →
+        AreAlike (flat_map (section_parts o (early_scope o names m) m answers) ks) (flat_map (section_parts o (early_scope o names m) m no_claims) ks)
+    sections_alike [] h = refl
+    sections_alike (k ∷ ks) = both_alike (section_alike k) (sections_alike ks)
 
-    parts_same : IsSameIf (module_parts o answers names m) (module_parts o no_claims names m)
+    parts_alike : AreAlike (module_parts o answers names m) (module_parts o no_claims names m)
     unfolding module_parts
-    parts_same = both_same (customs_same None) (sections_same section_order)
+    parts_alike = both_alike (customs_alike None) (sections_alike section_order)
 
   -- If the pieces of a module have no claim that was answered yes, neither have the pieces inside its group.
-  inner_unclaimed : (names : Names) (size : ℕ) (ps : List Piece) → AreUnclaimedIn (module_pieces_of o names size ps None) → AreUnclaimedIn ps
+  inner_unclaimed : (names : Names) (size : ℕ) (ps : List Piece) (refused : Option ℕ) → AreUnclaimedIn (module_pieces_of o names size ps refused) → AreUnclaimedIn ps
   unfolding group_at
-  inner_unclaimed names size ps h =
+  inner_unclaimed names size ps None h =
       let id_and_name : List Piece = leading_id_and_name_pieces names.module_name in
       let closing : List Piece = close (Some size) 0 (o.offsets || has_break (id_and_name ++ ps)) in
       let front : List Piece = Begin 0 ∷ (Open (codes "module") ∷ []) in
       let inner : AreUnclaimedIn (id_and_name ++ ps) =
       pieces_front (id_and_name ++ ps) closing (pieces_front ((id_and_name ++ ps) ++ closing) (EndLine ∷ []) (pieces_after front (((id_and_name ++ ps) ++ closing) ++ (EndLine ∷ [])) h)) in
       pieces_after id_and_name ps inner
+  inner_unclaimed names size ps (Some id) h =
+      let front : List Piece = Begin 0 ∷ (Open (codes "module") ∷ leading_id_and_name_pieces names.module_name) in
+      pieces_after front ps h
 
-  whole_unclaimed_in : (names : Names) (size : ℕ) (l : Laid) → l.refused ≡ None → AreUnclaimedIn (module_pieces_of o names size l.pieces l.refused) → AreUnclaimedIn l.pieces
-  whole_unclaimed_in names size l e h = inner_unclaimed names size l.pieces (rw e at h)
-
--- The layout is that of a module of which no custom section is claimed, and no `dylink.0` section is refused in it.
+-- The layout, and its end, are those of a module of which no custom section is claimed.
 pub record IsSame (o : Options) (answers : Answers) (m : PlacedModule) : Type 0 where
   pub layout : layout o answers m ≡ layout o no_claims m
-  pub refusal : refusal o no_claims m ≡ None
+  pub refusal : refusal o answers m ≡ refusal o no_claims m
 
--- If no section is refused and no claim was answered yes, the layout is the one without claims.
-pub unclaimed_layout : (o : Options) (answers : Answers) (m : PlacedModule) → refusal o answers m ≡ None → AllByRecursion IsUnclaimed (layout o answers m) → IsSame o answers m
+-- If no claim was answered yes, the layout is the one without claims.
+pub unclaimed_layout : (o : Options) (answers : Answers) (m : PlacedModule) → AllByRecursion IsUnclaimed (layout o answers m) → IsSame o answers m
 unfolding layout module_pieces module_pieces_with
-unclaimed_layout o answers m e h =
+unclaimed_layout o answers m h =
     let names : Names = module_names o.synthesizes m in
     let laid : Laid = laid_parts (module_parts o answers names m) in
-    let same : module_parts o answers names m ≡ module_parts o no_claims names m =
-    parts_same o answers names m (parts_unclaimed o (module_parts o answers names m) e (whole_unclaimed_in o names m.size laid e h)) in
+    let same : laid ≡ laid_parts (module_parts o no_claims names m) =
+    parts_alike o answers names m (inner_unclaimed o names m.size laid.pieces laid.refused h) in
     record {
-      layout = ap (λ (ps : List Part). all_calls o (module_pieces_of o names m.size (laid_parts ps).pieces (laid_parts ps).refused)) same;
-      refusal = ap (λ (ps : List Part). (laid_parts ps).refused) (sym same) ∙ e;
+      layout = ap (λ (l : Laid). all_calls o (module_pieces_of o names m.size l.pieces l.refused)) same;
+      refusal = ap (λ (l : Laid). l.refused) same;
     }

@@ -32,13 +32,13 @@ printed_in_colors o bytes old new empty v =
     let laid : List Call = layout by no_claims v.placed in
     let handed : new ≡ colored_text v.calls = colored_run old new v.calls v.run ∙ ap (λ t. t ++ colored_text v.calls) empty in
     let is : new ≡ colored_text laid = handed ∙ alike_colored v.calls laid (v.alike ∙ ap atoms own.layout) in
-    let accepted : refusal (in_colors o false) no_claims v.placed ≡ None = refusal-color o false true no_claims v.placed ∙ own.refusal in
+    let accepted : refusal (in_colors o false) no_claims v.placed ≡ None = refusal-color o false true no_claims v.placed ∙ (sym own.refusal ∙ v.accepted) in
     record {
       placed = v.placed;
       spelled = v.spelled;
       within = v.within;
       foldable = v.foldable;
-      accepted = own.refusal;
+      accepted = sym own.refusal ∙ v.accepted;
       is = is;
       bare = λ spaces.
           module_text o bytes v.placed v.spelled v.within v.foldable accepted (uncolor new)

@@ -49,10 +49,10 @@ printed m colors o bytes placed answers spelled within foldable accepted made =
       bare = λ spaces. texts_contain_colors prints_plain_text bytes placed by answers spelled spaces;
       uncolored = uncolored;
       reads = λ indexed whole spaces asked.
-          let own = unclaimed_layout by answers placed accepted (alike_unclaimed made.calls (layout by answers placed) made.alike asked) in
+          let own = unclaimed_layout by answers placed (alike_unclaimed made.calls (layout by answers placed) made.alike asked) in
           ap read (ap uncolor (same ∙ ap text_of own.layout) ∙ color_adds_sequences prints_plain_text bytes placed by no_claims spelled spaces)
           ∙ reads_back bytes placed plainly no_claims spelled indexed within.tables whole refl spaces (λ n. refl) (foldable_in o false placed foldable)
-          (refusal-color o false colors no_claims placed ∙ own.refusal);
+          (refusal-color o false colors no_claims placed ∙ (sym own.refusal ∙ accepted));
       hints = λ hs whole spaces given.
           ap text_hints (uncolored spaces)
           ∙ hints_stay bytes placed plainly answers hs spelled whole refl spaces (foldable_in o false placed foldable) (refusal-color o false colors answers placed ∙ accepted) given;

@@ -2,6 +2,7 @@ pub mod Claims
 pub mod ColorRefusals
 pub mod Colors
 pub mod FindingSteps
+pub mod FirstUnknown
 pub mod FoundLines
 pub mod Gained
 pub mod Headline

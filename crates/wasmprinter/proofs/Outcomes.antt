@@ -19,7 +19,7 @@ use Rattle.std.specs.declared.io.Error.{Error as IoError}
 use Rattle.wasmprinter_wasm.specs.Decoding.{IsRefusal}
 use Rattle.wasmprinter_sections.specs.Endings.{PrintsLaid}
 use Rattle.wasmprinter_sections.specs.Sections.{module_laid}
-use Rattle.wasmprinter_spec.specs.Call.{Call}
+use Rattle.wasmprinter_spec.specs.Call.{Call, IsUnclaimed}
 use Rattle.wasmprinter_spec.specs.Folding.Refusals.{IsFoldable}
 use Rattle.wasmprinter_fold.specs.Refused.{HasFoldReason}
 use Rattle.wasmprinter.specs.Printed.{Printed}
@@ -30,7 +30,8 @@ use Rattle.wasmprinter_custom.specs.Views.{NamedItem, name_at}
 use Rattle.wasmprinter_flat.specs.OpenLabels.Scan.{Scan, names_of}
 use Rattle.wasmprinter.proofs.Headline.{printed}
 use Rattle.wasmprinter.proofs.Named.{shown_names, one_module}
-use Rattle.wasmprinter.proofs.Subsections.{refusal_unknown, refused_unknown, made_refused}
+use Rattle.wasmprinter.proofs.Subsections.{refusal_unknown, made_refused}
+use Rattle.wasmprinter.proofs.Texts.{first_unclaimed}
 
 -- Bytes that encode a module are not marked as a component.
 not_component : (bytes : List ℕ) (placed : PlacedModule) → Spells bytes placed → IsComponent bytes → ⊥
@@ -205,12 +206,14 @@ fold_unmarked o bytes placed r e spelled h f = (λ q. absurd (unmarked r e h f q
     unmarked (Ok x) e h f q = absurd f
     unmarked (Err y) e h f q = let same : y ≡ Component = cc in no_reason e (sym f ∙ same) h
 
--- If a printer fails only because of failed allocations, the error that is returned for its error has its cause.
-pub growth_cause : {P : Type 0} (m : Meaning P) (o : Options) (bytes : List ℕ) (old new : P) (e : Error) → HasListedCause m o bytes old new e → HasListedTextCause o bytes (without_printer e)
-growth_cause m o bytes old new (Printer x) h = λ placed s. tt
-growth_cause m o bytes old new Memory h = λ placed s. tt
-growth_cause m o bytes old new (DylinkSubsection id) h = λ placed s. refused_unknown m old new id placed.customs (h placed s)
-growth_cause m o bytes old new _ h = h
+-- If a printer never claims a section and fails only because of failed allocations, the error that is returned for its
+-- error has its cause.
+pub growth_cause : {P : Type 0} (m : Meaning P) (colors : Bool) (o : Options) → ((s : P) (c : Call) (t : P) → m.after s c t → IsUnclaimed c) → (bytes : List ℕ)
+    (old new : P) (e : Error) → Leaves m colors o bytes old new e → HasListedCause m o bytes old new e → HasListedTextCause o bytes (without_printer e)
+growth_cause m colors o never bytes old new (Printer x) l h = λ placed s. tt
+growth_cause m colors o never bytes old new Memory l h = λ placed s. tt
+growth_cause m colors o never bytes old new (DylinkSubsection id) l h = first_unclaimed m colors o never bytes old new id l
+growth_cause m colors o never bytes old new _ l h = h
 
 -- That error is true of the bytes.
 pub growth_true : (o : Options) (bytes : List ℕ) (e : Error) → IsSoundRefusal o bytes e → IsSoundTextRefusal o bytes (without_printer e)

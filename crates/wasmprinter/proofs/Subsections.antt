@@ -139,11 +139,6 @@ asked o answers m id h = (module_if o answers m id (module_names o.synthesizes m
 pub refusal_unknown : (o : Options) (answers : Answers) (m : PlacedModule) (id : ℕ) → refusal o answers m ≡ Some id → AnyIsUnknown id m.customs
 refusal_unknown o answers m id h = forgets id m.customs (pieces_of (module_parts o answers (module_names o.synthesizes m) m)) (asked o answers m id h)
 
-pub refused_unknown : {P : Type 0} (m : Meaning P) (old new : P) (id : ℕ) (cs : List CustomEntry) → AnyIsRefused m old new id cs → AnyIsUnknown id cs
-refused_unknown m old new id [] h = absurd h
-refused_unknown m old new id (c ∷ cs) (inl r) = inl r.unknown
-refused_unknown m old new id (c ∷ cs) (inr h) = inr (refused_unknown m old new id cs h)
-
 -- ---- The calls end with the claim for it
 
 module _ {P : Type 0} (meaning : Meaning P) (old new : P) (o : Options) (id : ℕ) where

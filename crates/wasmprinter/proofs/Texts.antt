@@ -20,9 +20,12 @@ use Rattle.wasmprinter_spec.specs.Text.Hints.{text_hints}
 use Rattle.wasmprinter_print.specs.TextOnly.{text_only}
 use Rattle.wasmprinter_print.proofs.TextRuns.{takes_none, text_is_gained}
 use Rattle.wasmprinter.specs.Plain.{appends}
+use Rattle.wasmprinter.specs.Outcome.{FirstIsUnknown, MadeUpTo, WhilePrinting}
 use Rattle.wasmprinter.specs.Printed.{Printed, IsTextOf, HasText, no_claims}
 use Rattle.wasmprinter.proofs.Claims.{IsSame, alike_unclaimed, unclaimed_layout}
+use Rattle.wasmprinter.proofs.FirstUnknown.{first_refused}
 use Rattle.wasmprinter.proofs.Headline.{foldable_in}
+use Rattle.wasmprinter.proofs.Named.{one_module}
 
 -- A printer that never claims a section has claimed no section in any run of calls.
 pub none_claimed : {P : Type 0} (m : Meaning P) → ((s : P) (c : Call) (t : P) → m.after s c t → IsUnclaimed c) → (old new : P) (calls : List Call) → Run m old calls new →
@@ -34,8 +37,22 @@ none_claimed m never old new (c ∷ calls) r = (never old c r.0 r.1.step, none_c
 pub unclaimed_printed : {P : Type 0} (m : Meaning P) (colors : Bool) (o : Options) → ((s : P) (c : Call) (t : P) → m.after s c t → IsUnclaimed c) →
     (bytes : List ℕ) (old new : P) → (v : Printed m colors o bytes old new) → IsSame (in_colors o colors) v.answers v.placed
 unclaimed_printed m colors o never bytes old new v =
-    unclaimed_layout (in_colors o colors) v.answers v.placed v.accepted
+    unclaimed_layout (in_colors o colors) v.answers v.placed
     (alike_unclaimed v.calls (layout (in_colors o colors) v.answers v.placed) v.alike (none_claimed m never old new v.calls v.run))
+
+-- If printing to such a printer ended at a refused section, that is the first section of the module that is refused for
+-- an unknown subsection.
+pub first_unclaimed : {P : Type 0} (m : Meaning P) (colors : Bool) (o : Options) → ((s : P) (c : Call) (t : P) → m.after s c t → IsUnclaimed c) →
+    (bytes : List ℕ) (old new : P) (id : ℕ) → WhilePrinting o bytes (MadeUpTo m old new id (in_colors o colors)) →
+    (placed : PlacedModule) → Spells bytes placed → FirstIsUnknown id placed.customs
+first_unclaimed m colors o never bytes old new id h placed s =
+    let by : Options = in_colors o colors in
+    let calls : List Call = h.left.made.calls in
+    let own : IsSame by h.answers h.placed =
+    unclaimed_layout by h.answers h.placed
+    (alike_unclaimed calls (layout by h.answers h.placed) h.left.made.alike (none_claimed m never old new calls h.left.made.run)) in
+    subst (λ (n : PlacedModule). FirstIsUnknown id n.customs) (one_module bytes h.placed placed h.spelled s)
+    (first_refused by bytes h.placed id h.spelled (sym own.refusal ∙ h.left.ends))
 
 -- The calls are those of the layout without colors, however text is split. No section of it is claimed or refused.
 pub record IsPlainly (o : Options) (calls : List Call) (placed : PlacedModule) : Type 0 where
@@ -48,7 +65,7 @@ pub plainly_printed : {P : Type 0} (m : Meaning P) (o : Options) → ((s : P) (c
     (v : Printed m false o bytes old new) → IsPlainly o v.calls v.placed
 plainly_printed m o never bytes old new v =
     let own : IsSame (in_colors o false) v.answers v.placed = unclaimed_printed m false o never bytes old new v in
-    record { accepted = own.refusal; alike = v.alike ∙ ap atoms own.layout }
+    record { accepted = sym own.refusal ∙ v.accepted; alike = v.alike ∙ ap atoms own.layout }
 
 -- The text of the layout without claims is that of the module.
 abbrev pub module_text : (o : Options) (bytes : List ℕ) (placed : PlacedModule) → Spells bytes placed → IsWithinLimits placed → IsFoldable o placed →

@@ -1,5 +1,5 @@
 -- The reasons for the errors of printing, and the state of the printer after each error.
-use Rattle.std.specs.Prelude.{◌≡◌, ◌<◌, ◌⊎◌, List, [], ◌∷◌, ◌++◌, ℕ, Bool, true, false, length, Some}
+use Rattle.std.specs.Prelude.{◌≡◌, ◌≢◌, ◌<◌, ◌⊎◌, List, [], ◌∷◌, ◌++◌, ℕ, Bool, true, false, length, Some}
 use Rattle.std.specs.declared.io.Error.{Error as IoError}
 use Rattle.wasmprinter_spec.specs.Binary.{Spells, IsComponent}
 use Rattle.wasmprinter_spec.specs.Placed.{CustomEntry, PlacedModule}
@@ -23,6 +23,14 @@ use Rattle.wasmprinter_wasm.specs.Decoding.{HoldsSome, module_reasons}
 abbrev pub AnyIsUnknown : ℕ → List CustomEntry → Type 0
 AnyIsUnknown id [] = ⊥
 AnyIsUnknown id (c ∷ cs) = (custom_role_of c.section.value ≡ Refused id) ⊎ AnyIsUnknown id cs
+
+-- The first of these custom sections that is refused for an unknown subsection is refused for the subsection with this
+-- id.
+abbrev pub FirstIsUnknown : ℕ → List CustomEntry → Type 0
+FirstIsUnknown id [] = ⊥
+FirstIsUnknown id (c ∷ cs) =
+    (custom_role_of c.section.value ≡ Refused id)
+    ⊎ (((i : ℕ) → custom_role_of c.section.value ≢ Refused i) × FirstIsUnknown id cs)
 
 -- The printer did not claim this `dylink.0` section, which has an unknown subsection with this id.
 pub record IsRefused {P : Type 0} (m : Meaning P) (old new : P) (id : ℕ) (c : CustomEntry) : Type 0 where
@@ -131,11 +139,11 @@ HasListedCause m o bytes old new e =
     HasPrintReason (print_reasons o placed (PrinterFailed m old new) (λ id. AnyIsRefused m old new id placed.customs)) (causes (MayGrow o placed) placed) e
 
 -- The same for text that is built in memory: an allocation may fail for any module, no printer fails, and no
--- section is claimed.
+-- section is claimed. So the first section with an unknown subsection, in the order of the bytes, is refused.
 abbrev pub HasListedTextCause : Options → List ℕ → Error → Type 0
 HasListedTextCause o bytes e =
     (placed : PlacedModule) → Spells bytes placed →
-    HasPrintReason (print_reasons o placed (λ x. ⊥) (λ id. AnyIsUnknown id placed.customs)) (causes (Unit {0}) placed) e
+    HasPrintReason (print_reasons o placed (λ x. ⊥) (λ id. FirstIsUnknown id placed.customs)) (causes (Unit {0}) placed) e
 
 -- The error that is returned for an error of a printer that keeps its text in memory. `Printer` becomes `Memory`,
 -- since such a printer fails only if an allocation fails.

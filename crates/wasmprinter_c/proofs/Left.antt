@@ -16,8 +16,7 @@ use Rattle.wasmprinter.specs.Printed.{Printed}
 use Rattle.wasmprinter.specs.Outcome.{HasListedCause, Leaves, LeavesBeginning}
 use Rattle.wasmprinter.proofs.Claims.{alike_unclaimed}
 use Rattle.wasmprinter.proofs.Prefixes.{broken_alike}
-use Rattle.wasmprinter.proofs.Texts.{none_claimed}
-use Rattle.wasmprinter.proofs.Subsections.{refused_unknown}
+use Rattle.wasmprinter.proofs.Texts.{none_claimed, first_unclaimed}
 use Rattle.wasmprinter_c.specs.Over.{over}
 use Rattle.wasmprinter_c.specs.Copied.{copied_meaning}
 use Rattle.wasmprinter_c.specs.Lines.{entries}
@@ -82,7 +81,7 @@ module _ (old : Copier) (fresh : IsFresh old) where
     buffer_cause (EmptyTableInit place) l h = h
     buffer_cause (FoldLegacy place) l h = h
     buffer_cause (FoldHint place) l h = h
-    buffer_cause (DylinkSubsection id) l h = λ placed s. refused_unknown copied_meaning old new id placed.customs (h placed s)
+    buffer_cause (DylinkSubsection id) l h = first_unclaimed copied_meaning false o claims_never bytes old new id l
     buffer_cause (Printer x) l h = λ placed s. too_long x l
     buffer_cause Memory l h = λ placed s. inl (h placed s)
     buffer_cause _ l h = absurd l

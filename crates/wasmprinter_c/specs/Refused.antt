@@ -9,7 +9,7 @@ use Rattle.wasmprinter_spec.specs.Limits.{IsWithinLimits}
 use Rattle.wasmprinter_spec.specs.Call.{Call, IsUnclaimed, atoms, text_of}
 use Rattle.wasmprinter_spec.specs.Options.{Options, Answers, defaults, in_colors}
 use Rattle.wasmprinter_spec.specs.Layout.{layout, refusal}
-use Rattle.wasmprinter.specs.Outcome.{HasPrintReason, print_reasons, causes, AnyIsUnknown, MayGrow, IsSoundRefusal, WhilePrinting}
+use Rattle.wasmprinter.specs.Outcome.{HasPrintReason, print_reasons, causes, FirstIsUnknown, MayGrow, IsSoundRefusal, WhilePrinting}
 use Rattle.wasmprinter_c.specs.Over.{over}
 
 -- The number of an error.
@@ -58,11 +58,12 @@ pub record IsTooLong (o : Options) (bytes : List ℕ) : Type 0 where
   pub long : 2 ^ 64 ≤ length (text_of (layout (in_colors o false) answers placed))
 
 -- If the bytes encode a module, the error has one of the causes of `HasListedCause`. The printer fails only if the text
--- is too long. An allocation may also fail for a copy of the indent.
+-- is too long. No section is claimed, so the first section with an unknown subsection is refused. An allocation may also
+-- fail for a copy of the indent.
 abbrev pub HasBufferCause : Options → List ℕ → Error → Type 0
 HasBufferCause o bytes e =
     (placed : PlacedModule) → Spells bytes placed →
-    HasPrintReason (print_reasons o placed (λ x. IsTooLong o bytes) (λ id. AnyIsUnknown id placed.customs))
+    HasPrintReason (print_reasons o placed (λ x. IsTooLong o bytes) (λ id. FirstIsUnknown id placed.customs))
     (causes (MayGrow o placed ⊎ IsCopied o.indent) placed) e
 
 -- The error is true of the bytes, as for `Config::print`, or the indent was not copied because an allocation

@@ -11,7 +11,8 @@ returns-in-Ok-clause-printed c =
 
 pub returns-in-Err-clause-caused : goal.returns-in-Err-clause-caused
 returns-in-Err-clause-caused c =
-    subst (HasListedTextCause c.args.self.now c.args.wasm.now) (sym c.without_printer.ensures) (growth_cause _ c.args.self.now c.args.wasm.now _ c.print.new.printer c.in-Err.error c.in-Err.ensures.caused)
+    subst (HasListedTextCause c.args.self.now c.args.wasm.now) (sym c.without_printer.ensures)
+    (growth_cause _ _ c.args.self.now (λ s c t h. h.1) c.args.wasm.now _ c.print.new.printer c.in-Err.error c.in-Err.ensures.left c.in-Err.ensures.caused)
 
 pub returns-in-Err-clause-refused : goal.returns-in-Err-clause-refused
 returns-in-Err-clause-refused c =

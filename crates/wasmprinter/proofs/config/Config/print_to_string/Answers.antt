@@ -1,4 +1,6 @@
 use Rattle.std.proofs.Common.{sym, subst}
+use Rattle.wasmprinter_print.proofs.TextRuns.{takes_none}
+use Rattle.wasmprinter.specs.Plain.{appends}
 use Rattle.wasmprinter.specs.Outcome.{HasListedTextCause, IsSoundTextRefusal}
 use Rattle.wasmprinter.proofs.Outcomes.{growth_cause, growth_true}
 use Rattle.wasmprinter.proofs.Texts.{printed_text}
@@ -10,7 +12,8 @@ returns-in-Ok-clause-printed c =
 
 pub returns-in-Err-clause-caused : goal.returns-in-Err-clause-caused
 returns-in-Err-clause-caused c =
-    subst (HasListedTextCause c.args.self.now c.args.wasm.now) (sym c.without_printer.ensures) (growth_cause _ c.args.self.now c.args.wasm.now _ c.print.new.printer c.in-Err.error c.in-Err.ensures.caused)
+    subst (HasListedTextCause c.args.self.now c.args.wasm.now) (sym c.without_printer.ensures)
+    (growth_cause _ _ c.args.self.now (takes_none appends) c.args.wasm.now _ c.print.new.printer c.in-Err.error c.in-Err.ensures.left c.in-Err.ensures.caused)
 
 pub returns-in-Err-clause-refused : goal.returns-in-Err-clause-refused
 returns-in-Err-clause-refused c =

@@ -2,6 +2,7 @@
 use Rattle.std.proofs.Common.{rules, ◌≡◌, string_bytes, sym, ap, ◌∙◌, subst}
 use Rattle.wasmprinter_writers.specs.Cuts.{lines_at_starts}
 use Rattle.wasmprinter_writers.specs.Tracked.{without_lines}
+use Rattle.wasmprinter_writers.proofs.LineRuns.{claims_never}
 use Rattle.wasmprinter_bytes.specs.declared.error.Error.TheVariants.{Memory}
 use Rattle.wasmprinter.specs.Lined.{HasLinesBy, LeavesStorage}
 use Rattle.wasmprinter.specs.Outcome.{HasListedTextCause, IsSoundTextRefusal, without_printer}
@@ -37,7 +38,7 @@ returns-in-Ok-clause-left c =
 pub returns-in-Err-clause-caused : goal.returns-in-Err-clause-caused
 returns-in-Err-clause-caused c =
     subst (HasListedTextCause c.args.self.now c.args.wasm.now) (sym c.without_printer.ensures)
-    (growth_cause _ c.args.self.now c.args.wasm.now _ c.print-printed.new.printer c.in-Err.error c.in-Err.ensures.caused)
+    (growth_cause _ _ c.args.self.now claims_never c.args.wasm.now _ c.print-printed.new.printer c.in-Err.error c.in-Err.ensures.left c.in-Err.ensures.caused)
 
 pub returns-in-Err-clause-refused : goal.returns-in-Err-clause-refused
 returns-in-Err-clause-refused c =
