@@ -29,3 +29,5 @@ mod refusals;
 mod rows;
 #[cfg(test)]
 mod setters;
+#[cfg(test)]
+mod storage;

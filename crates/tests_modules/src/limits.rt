@@ -42,28 +42,34 @@ pub const MODULE_OF_MOST_FUNCTIONS: Parts = &[
     Copies(MOST_FUNCTIONS, &[0x02, 0x00, 0x0b]),
 ];
 
+/// A module whose function has one local more than `MOST_LOCALS`.
+pub const ONE_LOCAL_TOO_MANY: Parts = &[
+    Bytes(PREAMBLE),
+    Bytes(&[0x01, 0x04, 0x01, 0x60, 0x00, 0x00]),
+    Bytes(&[0x03, 0x02, 0x01, 0x00]),
+    Bytes(&[0x0a, 0x08, 0x01, 0x06, 0x01, 0xd1, 0x86, 0x03, 0x7f, 0x0b]),
+];
+
+/// A module that defines one function more than `MOST_FUNCTIONS`.
+pub const ONE_FUNCTION_TOO_MANY: Parts = &[
+    Bytes(PREAMBLE),
+    Bytes(&[0x01, 0x04, 0x01, 0x60, 0x00, 0x00]),
+    Bytes(&[0x03, 0xc4, 0x84, 0x3d, 0xc1, 0x84, 0x3d]), // a size of 1,000,004, and the count
+    Copies(1_000_001, &[0x00]),
+    Bytes(&[0x0a, 0xc6, 0x8d, 0xb7, 0x01, 0xc1, 0x84, 0x3d]), // a size of 3,000,006, and the count
+    Copies(1_000_001, &[0x02, 0x00, 0x0b]),
+];
+
 /// Modules with one more local and one more function than are accepted, each with the error.
 const ONE_MORE: &[RefusedRow] = &[
     (
         "50,001 locals",
-        &[
-            Bytes(PREAMBLE),
-            Bytes(&[0x01, 0x04, 0x01, 0x60, 0x00, 0x00]),
-            Bytes(&[0x03, 0x02, 0x01, 0x00]),
-            Bytes(&[0x0a, 0x08, 0x01, 0x06, 0x01, 0xd1, 0x86, 0x03, 0x7f, 0x0b]),
-        ],
+        ONE_LOCAL_TOO_MANY,
         Refusal::TooManyLocals { place: 22 },
     ),
     (
         "1,000,001 functions",
-        &[
-            Bytes(PREAMBLE),
-            Bytes(&[0x01, 0x04, 0x01, 0x60, 0x00, 0x00]),
-            Bytes(&[0x03, 0xc4, 0x84, 0x3d, 0xc1, 0x84, 0x3d]), // a size of 1,000,004, and the count
-            Copies(1_000_001, &[0x00]),
-            Bytes(&[0x0a, 0xc6, 0x8d, 0xb7, 0x01, 0xc1, 0x84, 0x3d]), // a size of 3,000,006, and the count
-            Copies(1_000_001, &[0x02, 0x00, 0x0b]),
-        ],
+        ONE_FUNCTION_TOO_MANY,
         Refusal::TooManyFunctions { count: 1_000_001 },
     ),
 ];

@@ -119,7 +119,7 @@ fn refuses_malformed_modules(rt: HostRuntime) -> Result<(), Fail> {
 }
 
 /// The preamble of a component.
-const COMPONENT: &[u8] = &[0x00, 0x61, 0x73, 0x6d, 0x0d, 0x00, 0x01, 0x00];
+pub const COMPONENT: &[u8] = &[0x00, 0x61, 0x73, 0x6d, 0x0d, 0x00, 0x01, 0x00];
 
 /// The 92 bytes that follow the preamble of a component.
 const COMPONENT_CONTENT: &[u8] = &[
