@@ -1,8 +1,9 @@
 //! Writers over other writers. They forward each call once and unchanged, and return its result.
 
 use crate::byte_printers::scripted::{Asked, Scripted};
+use crate::byte_printers::writers::digits;
 use crate::layout::KINDS;
-use std::alloc::{AllocError, Global};
+use std::alloc::Global;
 use std::io;
 use std::io::{ErrorKind, Write};
 use std::test::Fail;
@@ -25,7 +26,7 @@ enum Way {
 const WAYS: &[Way] = &[Way::Itself, Way::Colored, Way::Uncolored];
 
 /// A call on a writer.
-#[derive(Clone, Copy)]
+#[derive(Clone, Copy, Debug)]
 enum Call {
     /// A write of a whole piece.
     All,
@@ -187,20 +188,35 @@ fn flushes_the_writer_and_returns_its_result(rt: HostRuntime) -> Result<(), Fail
     Ok(())
 }
 
-/// Returns bytes repeated a thousand times.
-fn long_piece(alloc: Global, bytes: &[u8]) -> Result<Vec<u8>, AllocError> {
-    let mut piece = Vec::new(alloc);
-    for _ in 0..1_000 {
-        piece.extend_from_slice(bytes)?;
+/// The calls with a piece.
+const WRITES: &[Call] = &[Call::All, Call::Part];
+
+/// The lengths of long pieces in bytes.
+const LONG: &[u32] = &[4_999, 5_000, 5_001, 300_000];
+
+/// Returns the first of these calls with a piece that is not forwarded once and unchanged, or whose error is not
+/// returned, and its way. Returns `None` if there is no such call.
+fn first_cut(
+    alloc: Global,
+    ways: &[Way],
+    calls: &[Call],
+    piece: &[u8],
+) -> io::Result<Option<(Call, Way)>> {
+    for call in calls {
+        if let Some(way) = first_other(alloc, ways, *call, piece)? {
+            return Ok(Some((*call, way)));
+        }
     }
-    Ok(piece)
+    Ok(None)
 }
 
 #[test]
 fn forwards_a_long_piece_whole(rt: HostRuntime) -> Result<(), Fail> {
-    let piece = long_piece(rt.alloc(), PIECES)?;
-    let other = first_other(rt.alloc(), WAYS, Call::All, &piece)?;
-    assert!(rt; other.is_none(), "{other:?}");
-    assert_eq!(rt; piece.len(), 300_000);
+    for len in LONG {
+        let piece = digits(rt.alloc(), *len)?;
+        let cut = first_cut(rt.alloc(), WAYS, WRITES, piece.as_bytes())?;
+        assert!(rt; cut.is_none(), "{len} bytes: {cut:?}");
+        assert_eq!(rt; piece.len() as u64, u64::from(*len));
+    }
     Ok(())
 }

@@ -11,8 +11,11 @@ use std::test::Fail;
 use wasmprinter::print::{Ansi, NoColor};
 use wasmprinter::{Print, PrintFmtWrite, PrintIoWrite, PrintTermcolor};
 
-/// The lengths of pieces in bytes: the least ones, those around the sizes of usual buffers, and one of 1 MiB.
-const LENGTHS: &[u32] = &[0, 1, 4_095, 4_096, 4_097, 65_535, 65_536, 65_537, 1_048_576];
+/// The lengths of pieces in bytes: the least ones, those around the sizes of usual buffers and around 5,000, and one
+/// of 1 MiB.
+const LENGTHS: &[u32] = &[
+    0, 1, 4_095, 4_096, 4_097, 4_999, 5_000, 5_001, 65_535, 65_536, 65_537, 1_048_576,
+];
 
 /// The length of a piece for which errors of all kinds are tried.
 const SHORT: u32 = 3;
