@@ -117,8 +117,9 @@ uint32_t wasmprinter_version(void);
 
 /* ---- The same functions for pointers that may be null.
  *
- * `wasm`, `indent`, `out` and `lines` may be null if their length is 0, such as `data()` of an empty vector in C++. `options` may be
- * null for the default. `length`, `count` and `detail` may be null if their value is not needed. */
+ * `wasm`, `indent`, `out` and `lines` may be null, such as `data()` of an empty vector in C++ or the result of a failed `malloc`. The length
+ * of a null pointer counts as 0, whatever is passed. `options` may be null for the default. `length`, `count` and `detail` may be null if
+ * their value is not needed. */
 
 static inline uint32_t wasmprinter_print_nullable(const uint8_t *wasm, size_t wasm_len, const WasmprinterOptions *options,
                                                   const uint8_t *indent, size_t indent_len, uint8_t *out, size_t out_len,
@@ -128,9 +129,9 @@ static inline uint32_t wasmprinter_print_nullable(const uint8_t *wasm, size_t wa
     uint8_t no_text = 0;
     size_t own_length = 0;
     uint64_t own_detail = 0;
-    return wasmprinter_print(wasm != NULL ? wasm : &no_input, wasm_len, options != NULL ? options : &no_options,
-                             indent != NULL ? indent : &no_input, indent_len, out != NULL ? out : &no_text, out_len,
-                             length != NULL ? length : &own_length, detail != NULL ? detail : &own_detail);
+    return wasmprinter_print(wasm != NULL ? wasm : &no_input, wasm != NULL ? wasm_len : 0, options != NULL ? options : &no_options,
+                             indent != NULL ? indent : &no_input, indent != NULL ? indent_len : 0, out != NULL ? out : &no_text,
+                             out != NULL ? out_len : 0, length != NULL ? length : &own_length, detail != NULL ? detail : &own_detail);
 }
 
 static inline uint32_t wasmprinter_print_lines_nullable(const uint8_t *wasm, size_t wasm_len, const WasmprinterOptions *options,
@@ -144,15 +145,16 @@ static inline uint32_t wasmprinter_print_lines_nullable(const uint8_t *wasm, siz
     size_t own_length = 0;
     size_t own_count = 0;
     uint64_t own_detail = 0;
-    return wasmprinter_print_lines(wasm != NULL ? wasm : &no_input, wasm_len, options != NULL ? options : &no_options,
-                                   indent != NULL ? indent : &no_input, indent_len, out != NULL ? out : &no_text, out_len,
-                                   lines != NULL ? lines : &no_line, lines_len, length != NULL ? length : &own_length,
-                                   count != NULL ? count : &own_count, detail != NULL ? detail : &own_detail);
+    return wasmprinter_print_lines(wasm != NULL ? wasm : &no_input, wasm != NULL ? wasm_len : 0, options != NULL ? options : &no_options,
+                                   indent != NULL ? indent : &no_input, indent != NULL ? indent_len : 0, out != NULL ? out : &no_text,
+                                   out != NULL ? out_len : 0, lines != NULL ? lines : &no_line, lines != NULL ? lines_len : 0,
+                                   length != NULL ? length : &own_length, count != NULL ? count : &own_count,
+                                   detail != NULL ? detail : &own_detail);
 }
 
 static inline size_t wasmprinter_error_text_nullable(uint32_t status, uint64_t detail, uint8_t *out, size_t out_len) {
     uint8_t no_text = 0;
-    return wasmprinter_error_text(status, detail, out != NULL ? out : &no_text, out_len);
+    return wasmprinter_error_text(status, detail, out != NULL ? out : &no_text, out != NULL ? out_len : 0);
 }
 
 #ifdef __cplusplus

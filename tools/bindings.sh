@@ -18,6 +18,12 @@ cc -std=c99 "$@" bindings/c/test.c "$work/libwasmprinter.a" -o "$work/test_c"
 c++ -std=c++17 "$@" -x c++ bindings/c/test.c -x none "$work/libwasmprinter.a" -o "$work/test_cpp"
 "$work/test_c" bindings/rows.txt
 "$work/test_cpp" bindings/rows.txt
+cc -std=c99 "$@" bindings/c/nullable.c -o "$work/nullable_c"
+c++ -std=c++17 "$@" -x c++ bindings/c/nullable.c -o "$work/nullable_cpp"
+"$work/nullable_c"
+"$work/nullable_cpp"
+cc -std=c99 "$@" -Wl,--wrap=malloc,--wrap=realloc bindings/c/memory.c "$work/libwasmprinter.a" -o "$work/memory"
+"$work/memory"
 cc -std=c99 "$@" -c bindings/c/fuzz.c -o "$work/fuzz.o"
 cc -std=c99 "$@" bindings/c/example.c "$work/libwasmprinter.a" -o "$work/example_c"
 c++ -std=c++17 "$@" bindings/cpp/example.cpp -L"$work" -lwasmprinter -Wl,-rpath,"$work" -o "$work/example_cpp"

@@ -284,6 +284,24 @@ static void check_null(void) {
     expect(title, wasmprinter_error_text_nullable(WASMPRINTER_OK, 0, NULL, 0) == strlen("success"), "length of a description");
 }
 
+/* Checks that a null pointer counts as empty, whatever length is passed with it. */
+static void check_null_with_lengths(void) {
+    const char *title = "null pointers with lengths";
+    const uint8_t *module = (const uint8_t *)"\0asm\1\0\0\0\1\4\1\x60\0";
+    const size_t module_len = 14; /* with the zero byte at the end of the string */
+    const char *text = "(module\n(type (;0;) (func))\n)\n";
+    const size_t some = 4096;
+    size_t length = GUARD;
+    size_t count = GUARD;
+    uint32_t status = wasmprinter_print_nullable(NULL, module_len, NULL, NULL, some, NULL, some, NULL, NULL);
+    expect(title, status == WASMPRINTER_MALFORMED, "status of no bytes");
+    status = wasmprinter_print_nullable(module, module_len, NULL, NULL, some, NULL, some, &length, NULL);
+    expect(title, status == WASMPRINTER_OK && length == strlen(text), "length");
+    status = wasmprinter_print_lines_nullable(module, module_len, NULL, NULL, some, NULL, some, NULL, some, NULL, &count, NULL);
+    expect(title, status == WASMPRINTER_OK && count == 3, "count of lines");
+    expect(title, wasmprinter_error_text_nullable(WASMPRINTER_OK, 0, NULL, some) == strlen("success"), "length of a description");
+}
+
 /* Checks an indent with a zero byte, which the row file can't hold. */
 static void check_zero_byte(void) {
     static const char module[] = "\0asm\1\0\0\0\1\4\1\x60\0"; /* with the zero byte at the end of the string */
@@ -319,6 +337,7 @@ int main(int argc, char **argv) {
     check_file(file);
     fclose(file);
     check_null();
+    check_null_with_lengths();
     check_zero_byte();
     check_other_statuses();
     expect("the library", wasmprinter_version() == WASMPRINTER_VERSION, "version");
