@@ -57,7 +57,7 @@ def replaced(text, old, new):
 
 
 def apply(crate, lines):
-    """Applies the lines of an edit to copies of the crate's files."""
+    """Applies the lines of an edit to copies of the crate's files, and returns the copies."""
     originals, copies, file, old = {}, {}, None, None
     for line in lines:
         if (path := value(line, "file")) is not None:
@@ -77,6 +77,7 @@ def apply(crate, lines):
         raise BadEdit("an old text without a new one")
     if originals == copies:
         raise BadEdit("nothing changes")
+    return copies
 
 
 def main():
@@ -99,4 +100,5 @@ def main():
     sys.exit(1 if bad or not total else 0)
 
 
-main()
+if __name__ == "__main__":
+    main()
