@@ -64,29 +64,20 @@ module _ (o : Options) where
   pieces_after ps qs h =
       (all_parts IsUnclaimed (all_calls o ps) (all_calls o qs) (subst (λ (cs : List Call). AllByRecursion IsUnclaimed cs) (all_calls-append o ps qs) h)).1
 
-  -- The layouts of both are the same if no claim of the first was answered yes.
-  abbrev AreAlike : List Part → List Part → Type 0
-  AreAlike xs ys = AreUnclaimedIn (laid_parts xs).pieces → laid_parts xs ≡ laid_parts ys
+  -- The layouts of both lists are the same if no claim of the first was answered yes.
+  record AreAlike (xs ys : List Part) : Type 0 where
+    same : AreUnclaimedIn (laid_parts xs).pieces → laid_parts xs ≡ laid_parts ys
 
   part_alike : (p : Part) {xs ys : List Part} → AreAlike xs ys → AreAlike (p ∷ xs) (p ∷ ys)
-  part_alike (Shown ps) {xs} f h = ap (before_laid ps) (f (pieces_after ps (laid_parts xs).pieces h))
-  part_alike (Stops ps id) f h = refl
+  part_alike (Shown ps) {xs} f = record { same = λ h. ap (before_laid ps) (f.same (pieces_after ps (laid_parts xs).pieces h)) }
+  part_alike (Stops ps id) f = record { same = λ h. refl }
 
   custom_alike : (answer : Bool) (c : CustomEntry) {xs ys : List Part} → AreAlike xs ys →
       AreAlike (custom_part o.skeleton answer c ∷ xs) (custom_part o.skeleton false c ∷ ys)
-  custom_alike true c f h = absurd (true≢false h.0)
-  custom_alike false c f h = part_alike (custom_part o.skeleton false c) f h
+  custom_alike true c f = record { same = λ h. absurd (true≢false h.0) }
+  custom_alike false c f = part_alike (custom_part o.skeleton false c) f
 
-  -- The layout after a list of parts, and the whole.
-  laid_alike : (l : Laid) (xs ys : List Part) → AreAlike xs ys → AreUnclaimedIn (laid_after l.pieces l.refused (laid_parts xs)).pieces →
-      laid_after l.pieces l.refused (laid_parts xs) ≡ laid_after l.pieces l.refused (laid_parts ys)
-  laid_alike l xs ys f h = by l.refused h
-    where
-      by : (r : Option ℕ) → AreUnclaimedIn (laid_after l.pieces r (laid_parts xs)).pieces →
-          laid_after l.pieces r (laid_parts xs) ≡ laid_after l.pieces r (laid_parts ys)
-      by None h = ap (before_laid l.pieces) (f (pieces_after l.pieces (laid_parts xs).pieces h))
-      by (Some id) h = refl
-
+  -- If no claim of a joined layout was answered yes, none of its first part was.
   laid_front : (l k : Laid) → AreUnclaimedIn (laid_after l.pieces l.refused k).pieces → AreUnclaimedIn l.pieces
   laid_front l k h = by l.refused h
     where
@@ -94,28 +85,38 @@ module _ (o : Options) where
       by None h = pieces_front l.pieces k.pieces h
       by (Some id) h = h
 
+  -- The second part of a joined layout, if the first is not refused, can be replaced by one that is alike.
+  laid_alike : (l : Laid) (xs ys : List Part) → AreAlike xs ys → AreUnclaimedIn (laid_after l.pieces l.refused (laid_parts xs)).pieces →
+      laid_after l.pieces l.refused (laid_parts xs) ≡ laid_after l.pieces l.refused (laid_parts ys)
+  laid_alike l xs ys f h = by l.refused h
+    where
+      by : (r : Option ℕ) → AreUnclaimedIn (laid_after l.pieces r (laid_parts xs)).pieces →
+          laid_after l.pieces r (laid_parts xs) ≡ laid_after l.pieces r (laid_parts ys)
+      by None h = ap (before_laid l.pieces) (f.same (pieces_after l.pieces (laid_parts xs).pieces h))
+      by (Some id) h = refl
+
   both_alike : {xs ys zs ws : List Part} → AreAlike xs ys → AreAlike zs ws → AreAlike (xs ++ zs) (ys ++ ws)
-  both_alike {xs} {ys} {zs} {ws} f g h =
-      let k : AreUnclaimedIn (laid_after (laid_parts xs).pieces (laid_parts xs).refused (laid_parts zs)).pieces =
-      subst (λ (l : Laid). AreUnclaimedIn l.pieces) (joined-append xs zs) h in
-      joined-append xs zs
-      ∙ (laid_alike (laid_parts xs) zs ws g k
-      ∙ (ap (λ (l : Laid). laid_after l.pieces l.refused (laid_parts ws)) (f (laid_front (laid_parts xs) (laid_parts zs) k))
-      ∙ sym (joined-append ys ws)))
+  both_alike {xs} {ys} {zs} {ws} f g = record {
+    same =
+        λ h.
+        let k : AreUnclaimedIn (laid_after (laid_parts xs).pieces (laid_parts xs).refused (laid_parts zs)).pieces =
+        subst (λ (l : Laid). AreUnclaimedIn l.pieces) (joined-append xs zs) h in
+        joined-append xs zs
+        ∙ (laid_alike (laid_parts xs) zs ws g k
+        ∙ (ap (λ (l : Laid). laid_after l.pieces l.refused (laid_parts ws)) (f.same (laid_front (laid_parts xs) (laid_parts zs) k))
+        ∙ sym (joined-append ys ws)));
+  }
 
   -- The custom sections at one place.
   place_alike : (answers : Answers) (place : Option Kind) (n : ℕ) (cs : List CustomEntry) →
       AreAlike (parts_at o.skeleton answers place n cs) (parts_at o.skeleton no_claims place n cs)
-  place_alike answers place n [] h = refl
-  place_alike answers place n (c ∷ cs) h = by (same_place c.after place) refl
+  place_alike answers place n [] = record { same = λ h. refl }
+  place_alike answers place n (c ∷ cs) = by (same_place c.after place) (place_alike answers place (n + 1) cs) refl
     where
-      others : AreAlike (parts_at o.skeleton answers place (n + 1) cs) (parts_at o.skeleton no_claims place (n + 1) cs)
-      others = place_alike answers place (n + 1) cs
-
-      by : (t : Bool) → same_place c.after place ≡ t →
-          laid_parts (parts_at o.skeleton answers place n (c ∷ cs)) ≡ laid_parts (parts_at o.skeleton no_claims place n (c ∷ cs))
-      by true e = rw e (custom_alike (answers n) c others (rw e at h))
-      by false e = rw e (others (rw e at h))
+      by : (t : Bool) → AreAlike (parts_at o.skeleton answers place (n + 1) cs) (parts_at o.skeleton no_claims place (n + 1) cs) →
+          same_place c.after place ≡ t → AreAlike (parts_at o.skeleton answers place n (c ∷ cs)) (parts_at o.skeleton no_claims place n (c ∷ cs))
+      by true others e = rw e (custom_alike (answers n) c others)
+      by false others e = rw e others
 
   -- All parts of a module.
   module _ (answers : Answers) (names : Names) (m : PlacedModule) where
@@ -127,7 +128,7 @@ module _ (o : Options) where
 
     sections_alike : (ks : List Kind) →
         AreAlike (flat_map (section_parts o (early_scope o names m) m answers) ks) (flat_map (section_parts o (early_scope o names m) m no_claims) ks)
-    sections_alike [] h = refl
+    sections_alike [] = record { same = λ h. refl }
     sections_alike (k ∷ ks) = both_alike (section_alike k) (sections_alike ks)
 
     parts_alike : AreAlike (module_parts o answers names m) (module_parts o no_claims names m)
@@ -160,7 +161,7 @@ unclaimed_layout o answers m h =
     let names : Names = module_names o.synthesizes m in
     let laid : Laid = laid_parts (module_parts o answers names m) in
     let same : laid ≡ laid_parts (module_parts o no_claims names m) =
-    parts_alike o answers names m (inner_unclaimed o names m.size laid.pieces laid.refused h) in
+    (parts_alike o answers names m).same (inner_unclaimed o names m.size laid.pieces laid.refused h) in
     record {
       layout = ap (λ (l : Laid). all_calls o (module_pieces_of o names m.size l.pieces l.refused)) same;
       refusal = ap (λ (l : Laid). l.refused) same;
