@@ -50,7 +50,7 @@ enum {
     WASMPRINTER_EMPTY_TABLE_INIT = 5,   /* a table whose initialiser has no operators; detail: the place of the table */
     WASMPRINTER_FOLD_LEGACY = 6,        /* only with `fold`: a legacy exception operator; detail: its place */
     WASMPRINTER_FOLD_HINT = 7,          /* only with `fold`: a branch hint that has no position in folded text; detail: its place */
-    WASMPRINTER_DYLINK_SUBSECTION = 8,  /* an unknown subsection of `dylink.0`; detail: its id */
+    WASMPRINTER_DYLINK_SUBSECTION = 8,  /* an unknown subsection of `dylink.0`; detail: the id of the first */
     WASMPRINTER_UNREADABLE = 9,         /* never returned: no function reads a file */
     WASMPRINTER_TOO_LONG = 10,          /* the text has more than SIZE_MAX bytes */
     WASMPRINTER_MEMORY = 11,            /* an allocation failed */
@@ -118,8 +118,9 @@ uint32_t wasmprinter_version(void);
 /* ---- The same functions for pointers that may be null.
  *
  * `wasm`, `indent`, `out` and `lines` may be null, such as `data()` of an empty vector in C++ or the result of a failed `malloc`. The length
- * of a null pointer counts as 0, whatever is passed. `options` may be null for the default. `length`, `count` and `detail` may be null if
- * their value is not needed. */
+ * of a null pointer counts as 0, whatever is passed. So nothing is written if `out` is null, even if *length <= out_len, and a null `indent`
+ * is an empty indent, not the default. `options` may be null for the default. `length`, `count` and `detail` may be null if their value is
+ * not needed. */
 
 static inline uint32_t wasmprinter_print_nullable(const uint8_t *wasm, size_t wasm_len, const WasmprinterOptions *options,
                                                   const uint8_t *indent, size_t indent_len, uint8_t *out, size_t out_len,

@@ -1,6 +1,6 @@
 #!/bin/sh
 # Tests the bindings in bindings/: builds the library, and checks in C, C++, Rust and Python that every row of bindings/rows.txt prints as
-# typed. Uses the machine's `cc`, `c++`, `cargo --offline` and `python3`. Fails if one of them is missing or if a row differs.
+# typed. It also checks the wrappers of the header without the library (nullable.c), and lets allocations fail (memory.c). Uses the machine's `cc`, `c++`, `cargo --offline` and `python3`. Fails if one of them is missing or if a row differs.
 set -eu
 cd "$(dirname "$0")/.."
 for tool in cc c++ cargo python3; do

@@ -3,7 +3,7 @@
 
 A log is the output of `rt ci` or of `rt must-fail`. For each file crates/*/must-fail/*.edit it has a line with the first goal that failed. The table
 has the clause that the file names, and the function and the goal that the prover names. Its last column says whether this is a goal of the same function. The
-status is 1 if a log has no line for a mutant, or if a proof file no longer fits the code of the mutant, so that no goal failed.
+status is 1 if no log has a line for a mutant, or if a proof file no longer fits the code of the mutant, so that no goal failed.
 """
 
 import pathlib
@@ -15,7 +15,7 @@ from edits import ROOT, apply, value
 REFUSED = re.compile(r"^rt: must-fail (\w+)/([\w-]+)\.edit: refused, as it must be: (.*)$")
 AT_SOURCE = re.compile(r"(?:note|error): (src/[\w/]+\.rt):(\d+):\d+: .*?\(`([^`]+)`\)")
 IN_PROOF = re.compile(r"\./proofs/([\w/]+)/(?:Answers|Invariants)\.antt:\d+:\d+: (?:error|note): `([^`]+)`")
-FUNCTION = re.compile(r"^\s*(?:pub(?:\(\w+\))? )?(?:const )?fn (\w+)")
+FUNCTION = re.compile(r'^\s*(?:pub(?:\(\w+\))? )?(?:const )?(?:unsafe )?(?:extern "C" )?fn (\w+)')
 SHAPE = re.compile(r"can be named from here|has no field|is not in scope|no goal")
 
 

@@ -1,11 +1,14 @@
-/* memory: lets each allocation of a print fail in turn. Linked with --wrap=malloc and --wrap=realloc, so that the calls of the library come
- * here. For C99. */
+/* memory: lets each allocation of a print fail in turn. Linked with --wrap=malloc and --wrap=realloc, so that the library's allocations call
+ * the functions below. For C99. */
 #include "checked.h"
 
 #include <stdio.h>
 #include <stdlib.h>
 
 enum { ROOM = 4096, ALL = -1 };
+
+/* Forty spaces. */
+#define INDENT "                                        "
 
 void *__real_malloc(size_t size);
 void *__real_realloc(void *old, size_t size);
@@ -38,15 +41,26 @@ static void expect(bool is_right, const char *title, const char *what) {
     }
 }
 
-/* Prints with every number of allowed allocations, until none is refused. Each failure must be reported, and leave the buffer as it was. */
-static void check(const char *title, const Input *input, const char *text, unsigned at_least) {
+/* Returns the number of bytes that a buffer has in common with a text. */
+static size_t prefix_of(const uint8_t *out, const char *text) {
+    size_t len = 0;
+    while (text[len] != '\0' && out[len] == (uint8_t)text[len]) {
+        len++;
+    }
+    return len;
+}
+
+/* Prints with every number of allowed allocations, until none is refused. Each failure must be reported. It leaves the buffer unchanged or,
+ * if operators are folded, with a prefix of the text. */
+static void check(const char *title, const Input *input, const char *text, bool has_lines, unsigned at_least) {
     static uint8_t out[ROOM];
+    static WasmprinterLine lines[ROOM];
     unsigned failures = 0;
     for (bool is_done = false; !is_done; failures++) {
         memset(out, GUARD, sizeof out);
         refused = 0;
         allowed = (long)failures;
-        Outcome outcome = print_text(input, out, sizeof out);
+        Outcome outcome = has_lines ? print_lines(input, out, sizeof out, lines, ROOM) : print_text(input, out, sizeof out);
         allowed = ALL;
         is_done = refused == 0;
         if (is_done) {
@@ -54,7 +68,8 @@ static void check(const char *title, const Input *input, const char *text, unsig
             expect(is_over(out, sizeof out, sizeof out, text, strlen(text)), title, "text");
         } else {
             expect(outcome.status == WASMPRINTER_MEMORY && outcome.length == 0 && outcome.detail == 0, title, "error");
-            expect(is_unchanged(out, 0, sizeof out), title, "buffer after an error");
+            size_t written = input->options.fold ? prefix_of(out, text) : 0;
+            expect(is_unchanged(out, written, sizeof out), title, "buffer after an error");
         }
     }
     expect(failures > at_least, title, "number of failures");
@@ -62,13 +77,17 @@ static void check(const char *title, const Input *input, const char *text, unsig
 }
 
 int main(void) {
-    static const char empty[] = "\0asm\1\0\0";                /* with the zero byte at the end of the string */
-    static const char typed[] = "\0asm\1\0\0\0\1\4\1\x60\0"; /* the same */
-    static const char indent[] = "                                        ";
-    const Input nothing = {(const uint8_t *)empty, sizeof empty, {false, false, false, false}, (const uint8_t *)indent, sizeof indent - 1};
-    const Input type = {(const uint8_t *)typed, sizeof typed, {false, false, false, false}, (const uint8_t *)indent, sizeof indent - 1};
-    check("a long indent and an empty module", &nothing, "(module)\n", 1);
-    check("a long indent and a type", &type, "(module\n                                        (type (;0;) (func))\n)\n", 1);
+    /* Each module ends with the zero byte at the end of its string. */
+    static const char empty[] = "\0asm\1\0\0";
+    static const char typed[] = "\0asm\1\0\0\0\1\4\1\x60\0";
+    static const char text[] = "(module\n" INDENT "(type (;0;) (func))\n)\n";
+    const Input nothing = {(const uint8_t *)empty, sizeof empty, {false, false, false, false}, (const uint8_t *)INDENT, sizeof INDENT - 1};
+    const Input flat = {(const uint8_t *)typed, sizeof typed, {false, false, false, false}, (const uint8_t *)INDENT, sizeof INDENT - 1};
+    const Input folded = {(const uint8_t *)typed, sizeof typed, {false, false, false, true}, (const uint8_t *)INDENT, sizeof INDENT - 1};
+    check("a long indent and an empty module", &nothing, "(module)\n", false, 1);
+    check("a long indent and a type", &flat, text, false, 2);
+    check("the same with lines", &flat, text, true, 2);
+    check("the same, folded", &folded, text, false, 2);
     printf("memory: %u differences\n", failed);
     return failed == 0 ? 0 : 1;
 }

@@ -9,6 +9,7 @@ use Rattle.wasmprinter_spec.specs.ModuleNames.{module_names}
 use Rattle.wasmprinter_spec.specs.Options.{Options}
 use Rattle.wasmprinter_spec.specs.Piece.{Piece}
 use Rattle.wasmprinter_spec.specs.Customs.{CustomRole, Silent, Listed, Linked, Refused, Raw, Malformed, custom_role_of}
+use Rattle.wasmprinter_spec.specs.Customs.Dylink.{first_some}
 use Rattle.wasmprinter_spec.specs.Layout.Declarations.{Scope}
 use Rattle.wasmprinter_spec.specs.Layout.{early_scope, section_order, section_parts, module_parts, refusal}
 use Rattle.wasmprinter_spec.specs.Layout.Customs.{Part, Shown, Stops, laid_parts, role_part, custom_part, same_place, parts_at}
@@ -18,15 +19,10 @@ use Rattle.wasmprinter_laws.proofs.Ranges.{ranged}
 use Rattle.wasmprinter_laws.proofs.Customs.Notes.{at_place}
 use Rattle.wasmprinter_laws.proofs.Customs.Places.{all_places, over, over_all}
 
--- The first of two optional ids.
-abbrev first_of : Option ℕ → Option ℕ → Option ℕ
-first_of None second = second
-first_of (Some id) second = Some id
-
--- Choosing the first id is associative.
-first-assoc : (a b c : Option ℕ) → first_of (first_of a b) c ≡ first_of a (first_of b c)
-first-assoc None b c = refl
-first-assoc (Some id) b c = refl
+-- The first of three optional ids.
+first_some-assoc : (a b c : Option ℕ) → first_some (first_some a b) c ≡ first_some a (first_some b c)
+first_some-assoc None b c = refl
+first_some-assoc (Some id) b c = refl
 
 -- ---- The first refused section of a list
 
@@ -42,7 +38,7 @@ id_of c = refused_id (custom_role_of c.section.value)
 -- The id for which the first refused section is refused.
 abbrev first_id : List CustomEntry → Option ℕ
 first_id [] = None
-first_id (c ∷ cs) = first_of (id_of c) (first_id cs)
+first_id (c ∷ cs) = first_some (id_of c) (first_id cs)
 
 -- A role with an id is that of a section that is refused for this id. A role without an id is not that of a refused
 -- section.
@@ -55,16 +51,16 @@ known_role (Refused i) e id = absurd cc
 known_role _ e id = λ h. absurd cc
 
 -- The first refused section of two joined lists is that of the first list, or that of the second if the first has none.
-first_id-append : (xs ys : List CustomEntry) → first_id (xs ++ ys) ≡ first_of (first_id xs) (first_id ys)
+first_id-append : (xs ys : List CustomEntry) → first_id (xs ++ ys) ≡ first_some (first_id xs) (first_id ys)
 first_id-append [] ys = refl
-first_id-append (c ∷ xs) ys = ap (first_of (id_of c)) (first_id-append xs ys) ∙ sym (first-assoc (id_of c) (first_id xs) (first_id ys))
+first_id-append (c ∷ xs) ys = ap (first_some (id_of c)) (first_id-append xs ys) ∙ sym (first_some-assoc (id_of c) (first_id xs) (first_id ys))
 
 -- The id that `first_id` gives satisfies `FirstIsUnknown`.
 first_unknown : (id : ℕ) (cs : List CustomEntry) → first_id cs ≡ Some id → FirstIsUnknown id cs
 first_unknown id [] e = absurd cc
 first_unknown id (c ∷ cs) e = by (id_of c) refl e (λ others. first_unknown id cs others)
   where
-    by : (own : Option ℕ) → id_of c ≡ own → first_of own (first_id cs) ≡ Some id → (first_id cs ≡ Some id → FirstIsUnknown id cs) →
+    by : (own : Option ℕ) → id_of c ≡ own → first_some own (first_id cs) ≡ Some id → (first_id cs ≡ Some id → FirstIsUnknown id cs) →
         FirstIsUnknown id (c ∷ cs)
     by (Some i) is e after = inl (refused_role (custom_role_of c.section.value) i is ∙ ap (λ (n : ℕ). Refused n) (some_is i id e))
     by None is e after = inr (known_role (custom_role_of c.section.value) is, after e)
@@ -76,14 +72,14 @@ abbrev refused_in : List Part → Option ℕ
 refused_in parts = (laid_parts parts).refused
 
 -- The layout of two joined lists ends at the refusal of the first list, or at that of the second if the first has none.
-refused-append : (xs ys : List Part) → refused_in (xs ++ ys) ≡ first_of (refused_in xs) (refused_in ys)
+refused-append : (xs ys : List Part) → refused_in (xs ++ ys) ≡ first_some (refused_in xs) (refused_in ys)
 refused-append [] ys = refl
 refused-append (Shown ps ∷ xs) ys = refused-append xs ys
 refused-append (Stops ps id ∷ xs) ys = refl
 
 -- The layout ends at the part of a refused section. After any other part of a section, it continues with the others.
 role_refused : (skeleton : Bool) (claim : Piece) (c : CustomEntry) (r : CustomRole) (parts : List Part) →
-    refused_in (role_part skeleton claim c r ∷ parts) ≡ first_of (refused_id r) (refused_in parts)
+    refused_in (role_part skeleton claim c r ∷ parts) ≡ first_some (refused_id r) (refused_in parts)
 role_refused skeleton claim c Silent parts = refl
 role_refused skeleton claim c (Listed fields) parts = refl
 role_refused skeleton claim c (Linked ss) parts = refl
@@ -102,7 +98,7 @@ place_refused skeleton place n (c ∷ cs) = by (same_place c.after place) (place
 
     by : (t : Bool) → refused_in others ≡ first_id (at_place place cs) →
         refused_in (cond t (custom_part skeleton false c ∷ others) others) ≡ first_id (cond t (c ∷ at_place place cs) (at_place place cs))
-    by true rest = role_refused skeleton _ c (custom_role_of c.section.value) others ∙ ap (first_of (id_of c)) rest
+    by true rest = role_refused skeleton _ c (custom_role_of c.section.value) others ∙ ap (first_some (id_of c)) rest
     by false rest = rest
 
 -- The parts of sections end at the first refused section in the order of these kinds.
@@ -111,7 +107,7 @@ sections_refused : (o : Options) (s : Scope) (m : PlacedModule) (ks : List Kind)
 sections_refused o s m [] = refl
 sections_refused o s m (k ∷ ks) =
     refused-append (section_parts o s m no_claims k) (flat_map (section_parts o s m no_claims) ks)
-    ∙ ap₂ first_of (place_refused o.skeleton (Some k) 0 m.customs) (sections_refused o s m ks)
+    ∙ ap₂ first_some (place_refused o.skeleton (Some k) 0 m.customs) (sections_refused o s m ks)
     ∙ sym (first_id-append (at_place (Some k) m.customs) (over (map Some ks) m.customs))
 
 -- The layout ends at the first refused section in the order of the places.
@@ -120,7 +116,7 @@ unfolding module_parts
 module_refused o m =
     let s : Scope = early_scope o (module_names o.synthesizes m) m in
     refused-append (parts_at o.skeleton no_claims None 0 m.customs) (flat_map (section_parts o s m no_claims) section_order)
-    ∙ ap₂ first_of (place_refused o.skeleton None 0 m.customs) (sections_refused o s m section_order)
+    ∙ ap₂ first_some (place_refused o.skeleton None 0 m.customs) (sections_refused o s m section_order)
     ∙ sym (first_id-append (at_place None m.customs) (over (map Some section_order) m.customs))
 
 -- If no section is claimed and the layout ends with a refusal, it ends at the first refused section of the module.

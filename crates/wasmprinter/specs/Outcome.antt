@@ -139,7 +139,7 @@ HasListedCause m o bytes old new e =
     HasPrintReason (print_reasons o placed (PrinterFailed m old new) (λ id. AnyIsRefused m old new id placed.customs)) (causes (MayGrow o placed) placed) e
 
 -- The same for text that is built in memory: an allocation may fail for any module, no printer fails, and no
--- section is claimed. So the first section with an unknown subsection, in the order of the bytes, is refused.
+-- section is claimed. So the error names the first section that is refused, in the order of the bytes.
 abbrev pub HasListedTextCause : Options → List ℕ → Error → Type 0
 HasListedTextCause o bytes e =
     (placed : PlacedModule) → Spells bytes placed →

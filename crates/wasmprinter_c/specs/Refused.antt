@@ -58,8 +58,8 @@ pub record IsTooLong (o : Options) (bytes : List ℕ) : Type 0 where
   pub long : 2 ^ 64 ≤ length (text_of (layout (in_colors o false) answers placed))
 
 -- If the bytes encode a module, the error has one of the causes of `HasListedCause`. The printer fails only if the text
--- is too long. No section is claimed, so the first section with an unknown subsection is refused. An allocation may also
--- fail for a copy of the indent.
+-- is too long. No section is claimed, so the error names the first section that is refused. An allocation may also fail
+-- for a copy of the indent.
 abbrev pub HasBufferCause : Options → List ℕ → Error → Type 0
 HasBufferCause o bytes e =
     (placed : PlacedModule) → Spells bytes placed →

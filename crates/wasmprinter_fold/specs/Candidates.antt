@@ -60,7 +60,7 @@ pub record IsOperandsCut (first : ℕ) (f : NodesOf NodeText) (own : ℕ) (o : O
   pub cuts : IsCut first before cut
   pub folds : (head : NodeText) → with_operands f head own o ≡ Snoc before head results taken
 
--- The candidates are those of a row, after whose last node no other node follows.
+-- The candidates are those of a row, and the node after the row has the index `end`.
 pub record IsEndOf (row : List Candidate) (end first : ℕ) (f : NodesOf NodeText) : Type 0 where
   pub whole : row ≡ candidates first f
   pub ends : end ≡ first + count f

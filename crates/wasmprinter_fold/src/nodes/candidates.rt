@@ -1,5 +1,5 @@
 //! The nodes that the next operators may take as operands, and the search for operands among them.
-ghost use Rattle.std.specs.Prelude.{◌≡◌, ℕ, List, [], ◌∷◌, ◌++◌, OnOk};
+ghost use Rattle.std.specs.Prelude.{◌≡◌, ◌≤◌, ℕ, List, [], ◌∷◌, ◌++◌, OnOk};
 ghost use Rattle.std.specs.List.Sorted.{IsNonDecreasingBy};
 ghost use Rattle.wasmprinter_spec.specs.Folding.Tree.{NodesOf, operand_search, front};
 ghost use Rattle.wasmprinter_fold.specs.declared.nodes.NodeText.{NodeText};
@@ -39,8 +39,8 @@ pub struct Cut {
     pub sum: u128,
 }
 
-/// The search for operands passes this many candidates before its step grows by one.
-const CANDIDATES_PER_STEP: usize = 4;
+/// The search for operands looks at this many candidates one by one before its step grows. Most operators take fewer.
+const NEAREST: usize = 4;
 
 /// Returns the sum of the results of a row.
 fn total(row: &[Candidate]) -> u128
@@ -52,10 +52,17 @@ fn total(row: &[Candidate]) -> u128
     }
 }
 
+/// Returns the step of the search after it has passed this many candidates: one at first, and then as many.
+fn step_after(passed: usize) -> usize
+    ensures { 1 ≤ result }
+{
+    if passed < NEAREST { 1 } else { passed }
+}
+
 /// Returns the number of candidates whose sum is at most `limit`.
 ///
-/// The search begins at the end of the row, and its step grows with the number of candidates that it has passed. It
-/// looks at O(log n) candidates, where n is the number of those that it does not count.
+/// The search begins at the end of the row. It looks at the nearest candidates one by one, and then doubles its
+/// distance from the end. So it looks at O(log n) candidates, where n is the number of those that it does not count.
 fn count_within(row: &[Candidate], limit: u128) -> usize
     requires { IsNonDecreasingBy (λ (c : Candidate). c.sum) row.now }
     ensures { IsSplit row.now limit result }
@@ -63,9 +70,8 @@ fn count_within(row: &[Candidate], limit: u128) -> usize
     let mut low = 0;
     let mut high = row.len();
     'probes: while low < high {
-        let step = (row.len() - high) / CANDIDATES_PER_STEP + 1;
         let half = (high - low) / 2;
-        let middle = high - step.min(half + 1);
+        let middle = high - step_after(row.len() - high).min(half + 1);
         if row[middle].sum <= limit {
             low = middle + 1;
         } else {
@@ -96,7 +102,7 @@ pub fn find_operands(row: &[Candidate], operands: u32) -> Taken
     }
 }
 
-/// Returns the position after the last candidate of a row. `end` is the number of all nodes.
+/// Returns the position after the last candidate of a row. `end` is the index of the node after the row.
 pub fn end_of(row: &[Candidate], end: usize) -> Cut
     ensures { (first : ℕ) (f : NodesOf NodeText) → IsEndOf row.now end first f → IsCut first f result }
 {
@@ -140,7 +146,7 @@ pub fn predicate_of(row: &[Candidate], end: usize) -> Cut
     }
 }
 
-/// Adds a candidate with this number of results, whose first node is the first one after the cut.
+/// Adds a candidate with this number of results. Its node, with the nodes that it holds, starts at the cut.
 ///
 /// Its sum is that of the results of at most `cut.start + 1` nodes, so it is less than 2^97.
 pub fn push_candidate(all: &mut Vec<Candidate>, cut: Cut, results: u32) -> Result<(), AllocError>
