@@ -10,7 +10,7 @@ segments: each file that names the example. A list is a block that starts with t
       Layout/Operators
 
 A line `names` has a regular expression, and starts a new example. A block without this line continues the last example. A line that ends with a
-colon names a folder. Each line after it, indented, has names of files in the folder, and after two spaces or more a remark. A name without a
+colon names a folder. Each line after it, indented, has names of files in the folder, and after at least 2 spaces a remark. A name without a
 dot gets the suffix of its folder: `.rt` in `src`, `.antt` in `specs` and `proofs`. A name with `*` stands for all files that it matches and that
 name the example. It must not match code, definitions or proofs of the library or of the programs: these are listed one by one.
 
