@@ -4,17 +4,17 @@
 A recipe says which files a change touches, such as a new kind of section. Its lists are those of an example that is there already, such as data
 segments: each file that names the example. A list is a block that starts with three backticks and `recipe`:
 
-    names FenceShape|Shape::Fence
+    names FenceShape | Shape::Fence
     crates/wasmprinter_spec/specs:
       Row Shapes             the shape, and which immediates have it
       Layout/Operators
 
-A line `names` has a regular expression, and starts a new example. A block without this line continues the last example. A line that ends with a
-colon names a folder. Each line after it, indented, has names of files in the folder, and after at least 2 spaces a remark. A name without a
+A line `names` has regular expressions with ` | ` between them, and starts a new example. A block without this line continues the last example. A
+line that ends with a colon names a folder. Each line after it, indented, has names of files in the folder, and after at least 2 spaces a remark. A name without a
 dot gets the suffix of its folder: `.rt` in `src`, `.antt` in `specs` and `proofs`. A name with `*` stands for all files that it matches and that
 name the example. It must not match code, definitions or proofs of the library or of the programs: these are listed one by one.
 
-A file names an example if its path or a line of its text matches the expression. The pages with recipes are left out. The status is 1 if
+A file names an example if its path or a line of its text matches one of the expressions. The pages with recipes are left out. The status is 1 if
 
 - a file names an example and is not in the example's lists;
 - a listed file does not exist, does not name the example, or is listed twice;
@@ -50,13 +50,17 @@ PLACEHOLDER = re.compile(r"\bNAME\b|/[Xx]\b")
 
 
 class Example:
-    """An example of a recipe: where it is named first, the expression, and the listed names with the lines that have them."""
+    """An example of a recipe: where it is named first, its expressions, and the listed files with the lines that have them."""
 
-    def __init__(self, where, heading, pattern):
+    def __init__(self, where, heading, expressions):
         self.where = where
         self.heading = heading
-        self.pattern = pattern
+        self.expressions = [re.compile(expression, re.MULTILINE) for expression in expressions.split(" | ")]
         self.listed = []
+
+    def is_named(self, path, text):
+        """Reports whether the path or the text names the example."""
+        return any(expression.search(path) or expression.search(text) for expression in self.expressions)
 
 
 class BadLine(Exception):
@@ -134,7 +138,7 @@ def examples(page):
             where = f"{page}:{number}"
             try:
                 if line.strip().startswith("names "):
-                    found.append(Example(where, heading, re.compile(line.strip()[len("names ") :], re.MULTILINE)))
+                    found.append(Example(where, heading, line.strip()[len("names ") :]))
                     folder = None
                 else:
                     folder = read_line(found[-1], folder, where, line[indent:])
@@ -145,7 +149,7 @@ def examples(page):
 
 def faults(example, texts):
     """Returns the differences between the lists of an example and the files that name it."""
-    naming = {path for path, text in texts.items() if example.pattern.search(path) or example.pattern.search(text)}
+    naming = {path for path, text in texts.items() if example.is_named(path, text)}
     found, seen, missing = [], set(), set(naming)
     for where, name in example.listed:
         if name in seen:
