@@ -1,14 +1,14 @@
 #!/usr/bin/env python3
-"""Checks that every deliberately wrong implementation still applies: crates/*/must-fail/*.edit and crates/*/wrong-bodies/*.edit.
+"""Checks that every mutant, a deliberately wrong implementation, still applies: crates/*/must-fail/*.edit and crates/*/mutants/*.edit.
 
-An edit of `must-fail/` first names the clause that rejects it: `clause: FUNCTION`, or `clause: FUNCTION, NAME` if the function has several. Then an
+A file of `must-fail/` first names the clause that rejects it: `clause: FUNCTION`, or `clause: FUNCTION, NAME` if the function has several. Then an
 edit names a file of its crate by a line `file: PATH`, and changes it by pairs of lines `old: TEXT` and `new: TEXT`, in order: each later pair
 applies to the result of the earlier ones. Nothing is written: the pairs are applied to a copy of the file in memory. An edit is bad if it names
 no clause of a function of its crate although it is one of the gate's, if it names no file of its crate or has no pair, if a line `old:` has no line `new:` after it, if an
 old text does not occur exactly once, or if the result is the original. Prints each bad edit and the counts. The status is 1 if an edit is bad,
 or if there are no edits.
 
-The prover does not run here: tools/wrong-bodies.sh and the gate check that it rejects the edits.
+The prover does not run here: tools/mutants.sh and the gate check that it rejects the mutants.
 """
 
 import pathlib
@@ -83,7 +83,7 @@ def apply(crate, lines):
 def main():
     counts = {}
     bad = 0
-    for folder in ("must-fail", "wrong-bodies"):
+    for folder in ("must-fail", "mutants"):
         paths = sorted(ROOT.glob(f"crates/*/{folder}/*.edit"))
         counts[folder] = len(paths)
         for path in paths:

@@ -28,7 +28,7 @@ inputs() {
     rt version
     crates
     for crate in $(crates | sed 's/[: ].*//'); do
-        find "crates/$crate" \( -name out -o -name must-fail -o -name wrong-bodies \) -prune -o -type f -print | LC_ALL=C sort | xargs sha256sum
+        find "crates/$crate" \( -name out -o -name must-fail -o -name mutants \) -prune -o -type f -print | LC_ALL=C sort | xargs sha256sum
     done
 }
 work=$(mktemp -d)
