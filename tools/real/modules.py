@@ -45,14 +45,19 @@ def newest(tool):
     return max(known, key=lambda path: int(path.rsplit("-", 1)[1]), default=found(tool))
 
 
+def compilation(compiler, words):
+    """Returns the command of a compiler. It has an empty path, since clang runs a `wasm-opt` that it finds there."""
+    return ["env", "PATH=", compiler, "--target=wasm32", *words]
+
+
 def compiled(folder, missing):
     """Returns the modules compiled from the sources in `c`. Appends the reason to `missing` if one can't be compiled."""
     made = []
     for name, source, words in COMPILED:
         compiler, out = newest("clang++" if source.endswith("cpp") else "clang"), os.path.join(folder, f"c-{name}.wasm")
         words = words.split()
-        linked = [] if "-c" in words else LINKED
-        ran = run([compiler, "--target=wasm32", *linked, *words, os.path.join(HERE, "c", source), "-o", out]) if compiler else None
+        linked = [] if "-c" in words else [f"-fuse-ld={newest('wasm-ld')}", *LINKED]
+        ran = run(compilation(compiler, [*linked, *words, os.path.join(HERE, "c", source), "-o", out])) if compiler else None
         if ran is None or ran.status != 0:
             missing.append(f"`{name}` couldn't be compiled: {ran.fault() if ran else 'no clang'}")
         else:
