@@ -1,20 +1,21 @@
-"""main.py PROGRAM WORK: makes the modules, prints each with every set of options, reassembles and compares the texts, and prints the tables.
+"""main.py PROGRAM WORK DATA: makes the modules, prints each with every set of options, reassembles and compares the texts, and writes the tables.
 
 tools/real.sh calls it and documents it.
 """
 
-import datetime
 import multiprocessing
 import os
-import platform
 import shutil
 import sys
 import tempfile
+import time
 
 from modules import all_modules, newest
+from origin import head
 from printing import printed_texts
 from readers import READERS, Original, assembled
 from running import found, limited, run, version
+from summary import summary
 from tables import failures, groups, messages, notes, refusals
 from wasm import Malformed
 
@@ -31,14 +32,14 @@ class Result:
         self.group, self.row, self.path, self.size = module.group, module.row, module.path, module.size
         self.name = os.path.basename(module.path)
         self.sets, self.refused, self.failed = printed.sets, printed.refused, printed.failed
-        self.verdicts, self.judged = [], ""
+        self.verdicts, self.judged = [], judged(module.path) if found("wasm-tools") else ""
 
 
 def judged(path):
-    """Returns the result of `wasm-tools` for a module that printwasm or an assembler refuses."""
+    """Returns what `wasm-tools` says of a module: it is valid, only printable, or refused."""
     if run([found("wasm-tools"), "validate", "--features", FEATURES, path]).status == 0:
         return "valid"
-    return "not valid, but it prints them" if run([found("wasm-tools"), "print", path, "-o", os.devnull]).status == 0 else "refused too"
+    return "printable" if run([found("wasm-tools"), "print", path, "-o", os.devnull]).status == 0 else "refused"
 
 
 def chosen(module, printed):
@@ -58,8 +59,6 @@ def examined(program, module):
             for reader in READERS:
                 if reader.path:
                     result.verdicts += [(reader.name, words, assembled(original, reader, words, text)) for words, text in chosen(module, printed).items()]
-        if found("wasm-tools") and (printed.refused or any(verdict.word == "refused" for _, _, verdict in result.verdicts)):
-            result.judged = judged(module.path)
     except Malformed as fault:
         result.failed.append(f"printwasm prints it, but its sections are malformed: {fault}")
     finally:
@@ -75,41 +74,30 @@ def worked(job):
     return examined(program, module)
 
 
-def machine():
-    """Returns a description of the machine: its processors, memory and kernel."""
-    with open("/proc/cpuinfo", encoding="utf-8") as info:
-        models = [line.split(":", 1)[1].strip() for line in info if line.startswith("model name")]
-    memory = os.sysconf("SC_PAGE_SIZE") * os.sysconf("SC_PHYS_PAGES") / 2**30
-    return f"{models[0] if models else platform.machine()}, {os.cpu_count()} processors, {memory:.1f} GiB of memory, Linux {platform.release()}"
-
-
-def head(program, started, missing):
-    """Returns the head of the tables: the date, the machine, the versions, and what could not be made."""
+def versions():
+    """Returns the name and version of each tool."""
     clang = newest("clang")
-    versions = [f"{name} {version(name)}" for name in ("wasm-tools", "wat2wasm", "wasm-as")]
-    versions.append(run([clang, "--version"]).out.decode().splitlines()[0] if clang else "no clang")
-    lines = [f"Date: {started:%Y-%m-%d}. Machine: {machine()}.", f"Versions: {', '.join(versions)}. Program: {os.environ.get('PROGRAM_IS', program)}.", *missing]
-    return "\n".join(lines) + "\n\n"
+    known = [f"{name} {version(name)}" for name in ("wasm-tools", "wat2wasm", "wasm-as")]
+    return [*known, run([clang, "--version"]).out.decode().splitlines()[0] if clang else "no clang"]
 
 
-def whole(results, program, started, missing):
-    """Returns all tables with their headings."""
-    readers = [reader.name for reader in READERS if reader.path]
-    sets, modules = sum(it.sets for it in results), len(results)
-    texts = sum(len(it.verdicts) for it in results)
-    parts = [head(program, started, missing), f"{modules:,} modules, {sets:,} texts printed, {texts:,} texts assembled.\n\n", groups(results, readers)]
-    parts += ["### What printwasm refuses\n\n", refusals(results), "\n### Checks of texts that failed\n\n", failures(results)]
-    parts += ["\n### What assemblers refuse\n\n", messages(results, ("refused",))]
-    parts += ["\n### Where modules differ, or can't be compared\n\n", messages(results, ("differs", "unknown"))]
-    parts += ["\n### Names and custom sections\n\n", notes(results)]
-    return "".join(parts)
+def details(results, readers):
+    """Returns the tables after the summary, with their headings."""
+    parts = ["## What printwasm refuses\n\n", refusals(results), "\n## Checks of texts that failed\n\n", failures(results)]
+    parts += ["\n## What assemblers refuse\n\n", messages(results, ("refused",))]
+    parts += ["\n## Where modules differ, or can't be compared\n\n", messages(results, ("alike", "differs", "unknown"))]
+    parts += ["\n## Names and custom sections\n\n", notes(results), "\n", groups(results, readers)]
+    return "".join(parts).rstrip("\n") + "\n"
 
 
-def main(program, work):
-    started, missing = datetime.date.today(), []
-    modules = all_modules(work, missing)
-    only = os.environ.get("ONLY")
-    modules = [it for it in modules if not only or only in it.path or only in it.group]
+INTRODUCTION = """# Texts of real modules, assembled by other tools
+
+[REAL-FILES](../REAL-FILES.md) says what is compared and what the words mean.
+"""
+
+
+def process(program, modules):
+    """Processes all modules, the largest first, in several processes, and returns the results in the order of the modules."""
     order = sorted(range(len(modules)), key=lambda at: -modules[at].size)
     results = [None] * len(modules)
     with multiprocessing.Pool(int(os.environ.get("JOBS", os.cpu_count() or 1)), limited) as pool:
@@ -117,9 +105,20 @@ def main(program, work):
             results[at] = result
             if count % 200 == 199:
                 print(f"real: {count + 1} of {len(modules)}", file=sys.stderr, flush=True)
-    text = whole(results, program, started, missing)
-    with open(os.path.join(work, "tables.md"), "w", encoding="utf-8") as file:
-        file.write(text)
+    return results
+
+
+def main(program, work, data):
+    started, missing = time.monotonic(), []
+    modules = all_modules(work, missing)
+    only = os.environ.get("ONLY")
+    results = process(program, [it for it in modules if not only or only in it.path or only in it.group])
+    readers = [reader.name for reader in READERS if reader.path]
+    minutes = (time.monotonic() - started) / 60
+    first = head("tools/real.sh", program, versions()) + f"It took {minutes:.0f} minutes.\n" + "".join(f"{line}.\n" for line in missing)
+    text = f"{INTRODUCTION}{first}\n{summary(results, readers)}\n"
+    with open(data, "w", encoding="utf-8") as file:
+        file.write(text + details(results, readers))
     print(text, end="")
 
 

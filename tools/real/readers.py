@@ -2,18 +2,20 @@
 
 The sections of two modules are compared byte for byte, first unchanged and then normalised. Normalising encodes numbers in the fewest bytes,
 drops empty sections, and so on. For `wasm-tools parse` and `wat2wasm` it is `wasm-tools print` followed by `wasm-tools parse`. `wasm-as`
-generates code of its own, so for it normalising is `wasm-opt` without passes, which reads and writes as `wasm-as` does. Since `wat2wasm` and
-`wasm-as` encode some things by rules of their own, the module that they make of our text is also compared with the module that they make of
-the text of `wasm-tools print` for the same module and options.
+generates code of its own, so for it normalising may start with `wasm-opt` without passes, which reads and writes as `wasm-as` does. If that
+isn't enough, `wasm-opt -O1` optimises both modules: their code is equivalent if they are then equal. Since `wat2wasm` and `wasm-as` encode some
+things by rules of their own, the module that they make of our text is also compared with the module that they make of the text of
+`wasm-tools print` for the same module and options.
 """
 
 import hashlib
+import itertools
 import os
 
 from running import found, read, run
 from wasm import Malformed, custom_sections, names, plain_sections
 
-SECTION = "custom type import function table memory global export start element code data datacount tag".split()
+LINE = 80  # the length to which a line is cut before it is compared
 PEER_WORDS = {"--name-unnamed": "--name-unnamed", "--fold": "--fold-instructions"}
 # All features except compact imports: with `--enable-all`, imports are written in a form that is out of scope.
 WABT = tuple(f"--enable-{it}" for it in "threads function-references code-metadata gc custom-page-sizes wide-arithmetic".split())
@@ -42,21 +44,36 @@ class Verdict:
         self.word, self.why, self.notes = word, why, tuple(notes)
 
 
+def printed(source, folder):
+    """Returns the path of the text that `wasm-tools print` gives of a module, and `None`; or `None` and the error."""
+    text = os.path.join(folder, "norm.wat")
+    ran = run([found("wasm-tools"), "print", source, "-o", text])
+    return (text, None) if ran.status == 0 else (None, ran.fault())
+
+
 def roundtrip(source, folder):
     """Returns a module printed and parsed by `wasm-tools`, and `None`; or `None` and the error."""
-    text, out = os.path.join(folder, "norm.wat"), os.path.join(folder, "norm.wasm")
-    for command in ([found("wasm-tools"), "print", source, "-o", text], [found("wasm-tools"), "parse", text, "-o", out]):
-        ran = run(command)
-        if ran.status != 0:
-            return None, ran.fault()
-    return read(out), None
-
-
-def rewritten(source, folder):
-    """Returns a module read and written by `wasm-opt`, and `None`; or `None` and the error."""
+    text, fault = printed(source, folder)
+    if text is None:
+        return None, fault
     out = os.path.join(folder, "norm.wasm")
-    ran = run([found("wasm-opt"), "-all", "-n", "-q", source, "-o", out])
+    ran = run([found("wasm-tools"), "parse", text, "-o", out])
     return (read(out), None) if ran.status == 0 else (None, ran.fault())
+
+
+def optimised(source, folder, *passes):
+    """Returns the path of a module read and written by `wasm-opt`, and `None`; or `None` and the error."""
+    out = os.path.join(folder, "opt.wasm")
+    ran = run([found("wasm-opt"), "-all", "-n", "-q", *passes, source, "-o", out])
+    return (out, None) if ran.status == 0 else (None, ran.fault())
+
+
+def lines(source, folder):
+    """Returns the lines of the text of a module without names and custom sections, or no lines if `wasm-tools` refuses it."""
+    bare = os.path.join(folder, "bare.wasm")
+    ran = run([found("wasm-tools"), "strip", "--all", source, "-o", bare])
+    text, _ = printed(bare if ran.status == 0 else source, folder)
+    return [line.strip()[:LINE] for line in read(text).decode("utf-8", "replace").splitlines()] if text else []
 
 
 class Original:
@@ -66,17 +83,45 @@ class Original:
         self.path, self.folder, self.wasm = path, folder, read(path)
         self.plain, self.normal, self.known, self.binaries = plain_sections(self.wasm), {}, {}, {}
 
-    def normalised(self, reader, path):
-        """Returns the normalised sections of a module, or `None`, and the error of normalising, or `None`."""
-        wasm, fault = (rewritten if reader.name == "wasm-as" else roundtrip)(path, self.folder)
+    def normalised(self, path, passes):
+        """Returns the normalised sections of a module, or `None`, and the error of normalising, or `None`.
+
+        `passes` are those of `wasm-opt`, which reads and writes the module first, or `None` if it does not. It keeps numbers in more bytes than
+        they need if a module has debug information; `wasm-tools` writes them in the fewest.
+        """
+        source, fault = (path, None) if passes is None else optimised(path, self.folder, *passes)
+        wasm, fault = roundtrip(source, self.folder) if source else (None, fault)
         return (plain_sections(wasm) if wasm is not None else None), fault
 
-    def own(self, reader):
+    def own(self, passes):
         """Returns the normalised sections of the original, and the error, as `normalised` does."""
-        way = reader.name == "wasm-as"
-        if way not in self.normal:
-            self.normal[way] = self.normalised(reader, self.path)
-        return self.normal[way]
+        if passes not in self.normal:
+            self.normal[passes] = self.normalised(self.path, passes)
+        return self.normal[passes]
+
+    def is_equal(self, path, passes, unchanged=()):
+        """Reports whether the original, normalised, is equal to sections that are given, or to another module after that is normalised too."""
+        ours = self.own(passes)[0]
+        return ours is not None and (ours in unchanged or ours == self.normalised(path, passes)[0])
+
+    def is_normal(self, reader, path):
+        """Reports whether another module is equal to the original after both are normalised in the way of its assembler."""
+        known = plain_sections(read(path)), self.normalised(path, None)[0]
+        ours = self.own(None)[0]
+        if ours is not None and ours in known:
+            return True
+        # reading a module of `wasm-as` by `wasm-opt` may change it
+        return reader.name == "wasm-as" and self.is_equal(path, (), known)
+
+    def difference(self, reader, path):
+        """Returns the first lines in which the texts of the original and of another module differ. `wasm-opt` rewrites both for `wasm-as`."""
+        both = []
+        for source in (self.path, path):
+            if reader.name == "wasm-as":
+                source = optimised(source, self.folder)[0] or source
+            both.append(lines(source, self.folder))
+        pairs = itertools.zip_longest(*both, fillvalue="")
+        return next((f"{ours} / {theirs}" for ours, theirs in pairs if ours != theirs), "the texts of `wasm-tools print` are equal")
 
     def by_other_text(self, reader, words):
         """Returns the sections that an assembler makes of the text of `wasm-tools print` with the same options, or `None`."""
@@ -93,20 +138,6 @@ class Original:
             ran = run(command)
             self.binaries[reader.name] = None if ran.status == 0 else ran.fault()
         return self.binaries[reader.name]
-
-
-def first_difference(ours, theirs):
-    """Describes the first difference between two lists of sections."""
-    kinds = [kind for kind, _ in ours], [kind for kind, _ in theirs]
-    if kinds[0] != kinds[1]:
-        missing = [SECTION[k] if k < len(SECTION) else str(k) for k in kinds[0] if k not in kinds[1]]
-        extra = [SECTION[k] if k < len(SECTION) else str(k) for k in kinds[1] if k not in kinds[0]]
-        return f"sections: missing {' '.join(missing) or 'none'}, extra {' '.join(extra) or 'none'}"
-    for (kind, a), (_, b) in zip(ours, theirs):
-        if a != b:
-            at = next((i for i, (x, y) in enumerate(zip(a, b)) if x != y), min(len(a), len(b)))
-            return f"section {SECTION[kind]}: byte {at} of {len(a)} and {len(b)}: {a[at - 2 if at > 2 else 0:at + 6].hex()} and {b[at - 2 if at > 2 else 0:at + 6].hex()}"
-    return "nothing"
 
 
 def name_notes(original, again, synthesized):
@@ -139,17 +170,14 @@ def compared(original, reader, words, path):
     again = plain_sections(read(path))
     if again == original.plain:
         return Verdict("same")
-    ours, fault = original.own(reader)
-    theirs, other_fault = (None, None) if ours is None else original.normalised(reader, path)
-    if ours is not None and ours in (again, theirs):
+    if original.is_normal(reader, path):
         return Verdict("normal")
+    if reader.name == "wasm-as" and original.is_equal(path, ("-O1",)):
+        return Verdict("equivalent", "generates other code, which is the same after `wasm-opt -O1`")
     if reader.name != "wasm-tools" and again == original.by_other_text(reader, words):
-        return Verdict("alike")
-    if ours is None:
-        return Verdict("unknown", f"can't normalise the original: {fault}")
-    if theirs is None:
-        return Verdict("unknown", f"can't normalise the assembled module: {other_fault}")
-    return Verdict("differs", first_difference(ours, theirs))
+        return Verdict("alike", original.difference(reader, path))
+    fault = original.own(None)[1]
+    return Verdict("unknown", f"can't normalise the original: {fault}") if fault else Verdict("differs", original.difference(reader, path))
 
 
 def noted(original, reader, words, verdict, path):

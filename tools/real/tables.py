@@ -2,9 +2,15 @@
 
 import collections
 
-from reasons import INVALID, general, note_reason, reason
+from reasons import UNEXPLAINED, general, note_reason, reason
 
-WORDS = ("same", "normal", "alike", "differs", "unknown", "refused")
+WORDS = ("same", "normal", "equivalent", "alike", "differs", "unknown", "refused")
+JUDGED = {
+    "valid": "`wasm-tools validate` accepts it",
+    "printable": "`wasm-tools validate` rejects it, `wasm-tools print` prints it",
+    "refused": "`wasm-tools print` refuses it",
+    "": "not judged",
+}
 
 
 def table(heads, lines):
@@ -41,11 +47,11 @@ def groups(results, readers):
     named = collections.OrderedDict()
     for it in results:
         named.setdefault(it.group, []).append(it)
-    return "".join(f"### {group[0].upper()}{group[1:]}\n\n{rows(its, readers)}\n" for group, its in named.items())
+    return "".join(f"## {group[0].upper()}{group[1:]}\n\n{rows(its, readers)}\n" for group, its in named.items())
 
 
 def refusals(results):
-    """Returns the table of the errors of printwasm, with the result of `wasm-tools` for the same bytes."""
+    """Returns the table of the errors of printwasm, with what `wasm-tools` says of the same bytes."""
     found = collections.OrderedDict()
     for it in results:
         for words, fault in it.refused.items():
@@ -54,8 +60,8 @@ def refusals(results):
     for (fault, judged), its in sorted(found.items(), key=lambda pair: -len(pair[1])):
         modules = {it.path for it, _ in its}
         smallest = min((it for it, _ in its), key=lambda it: it.size)
-        lines.append([f"`{fault}`", judged, len(modules), len(its), f"{smallest.row}, {smallest.name}, {smallest.size} bytes"])
-    return table(["error of printwasm", "wasm-tools on these bytes", "modules", "sets", "smallest module"], lines) if lines else "None.\n"
+        lines.append([f"`{fault}`", JUDGED[judged], len(modules), len(its), f"{smallest.row}, {smallest.name}, {smallest.size} bytes"])
+    return table(["error of printwasm", "what `wasm-tools` says", "modules", "sets", "smallest module"], lines) if lines else "None.\n"
 
 
 def failures(results):
@@ -64,23 +70,27 @@ def failures(results):
     return table(["module", "file", "bytes", "failed check"], lines[:100]) if lines else "None.\n"
 
 
+def message_key(reader, it, verdict):
+    """Returns the reason for a verdict, its message without places and numbers, and what the assembler's own reader says of the bytes."""
+    also = verdict.notes[0].split(":")[0] if verdict.word == "refused" and verdict.notes else ""
+    why = reason(reader, verdict, it.judged)
+    message = "" if verdict.word in ("alike", "differs") and why != UNEXPLAINED else general(verdict.why)
+    return reader, verdict.word, why, message, also
+
+
 def messages(results, words):
     """Returns the table of the messages for these verdicts, one row for each kind of message, with its reason."""
     found = collections.OrderedDict()
     for it in results:
         for reader, options, verdict in it.verdicts:
             if verdict.word in words:
-                why = reason(reader, verdict.why, it.judged)
-                message = "" if verdict.word == "differs" or why == INVALID else general(verdict.why)
-                also = verdict.notes[0].split(":")[0] if verdict.word == "refused" and verdict.notes else ""
-                key = (reader, why, message, also)
-                found.setdefault(key, []).append((it, options, verdict))
+                found.setdefault(message_key(reader, it, verdict), []).append((it, options, verdict))
     lines = []
-    for (reader, why, message, also), its in sorted(found.items(), key=lambda pair: (pair[0][0], pair[0][1], -len(pair[1]))):
+    for (reader, word, why, message, also), its in sorted(found.items(), key=lambda pair: (pair[0][:3], -len(pair[1]))):
         smallest, options, verdict = min(its, key=lambda entry: entry[0].size)
-        shown = f"`{message or (verdict.why if verdict.word == 'differs' else general(verdict.why))}`"
-        lines.append([reader, why, shown, also, len({it.path for it, _, _ in its}), len(its), f"{smallest.row} ({smallest.name}) {' '.join(options)}"])
-    return table(["assembler", "reason", "message", "binary input", "modules", "texts", "smallest module"], lines) if lines else "None.\n"
+        place = f"{smallest.row} ({smallest.name}) {' '.join(options)}"
+        lines.append([reader, word, why, f"`{message or verdict.why}`", also, len({it.path for it, _, _ in its}), len(its), place])
+    return table(["assembler", "result", "reason", "message or first difference", "binary input", "modules", "texts", "smallest module"], lines) if lines else "None.\n"
 
 
 def notes(results):
