@@ -1,13 +1,12 @@
-"""main.py PROGRAM WORK REAL [FILE..]: measures, and prints the tables. tools/speed.sh calls it and documents it."""
+"""main.py PROGRAM WORK REAL DATA [FILE..]: measures, and writes the tables. tools/speed.sh calls it and documents it."""
 
-import datetime
 import os
-import platform
 import sys
 
-from measure import GNU_TIME, measured
+from measure import GNU_TIME, VALGRIND, measured
 from module import module
-from tables import JUDGED, Row, compared, faults, growth, memories, missed, sizes, times
+from origin import head
+from tables import JUDGED, Row, faults, growth, instructions, memories, missed, sizes, summary, times
 from tools import all_tools
 
 EMPTY = b"\0asm\1\0\0\0"
@@ -40,29 +39,26 @@ def real_files(folder):
     return sorted((p for p in paths if os.path.isfile(p) and os.path.getsize(p) > JUDGED), key=lambda p: (os.path.getsize(p), p))
 
 
+def short_names(paths):
+    """Returns a name for each path: that of the file, with as many of its folders as make it differ from all others."""
+    parts, names = [path.split(os.sep) for path in paths], []
+    for own in parts:
+        others = [other for other in parts if other is not own]
+        count = next((n for n in range(1, len(own)) if not any(other[-n:] == own[-n:] for other in others)), len(own))
+        names.append("/".join(own[-count:]))
+    return names
+
+
 def all_files(work, real, given):
     """Returns all files to measure, without duplicates."""
     others = list(dict.fromkeys(os.path.realpath(p) for p in given + real_files(real)))
-    return made_files(work) + [(os.path.basename(p), p, False) for p in others]
+    return made_files(work) + [(name, path, False) for name, path in zip(short_names(others), others)]
 
 
-def machine():
-    """Returns a description of the machine: its processors, memory and kernel."""
-    with open("/proc/cpuinfo", encoding="utf-8") as info:
-        models = [line.split(":", 1)[1].strip() for line in info if line.startswith("model name")]
-    memory = os.sysconf("SC_PAGE_SIZE") * os.sysconf("SC_PHYS_PAGES") / 2**30
-    return f"{models[0] if models else platform.machine()}, {os.cpu_count()} processors, {memory:.1f} GiB of memory, Linux {platform.release()}"
+INTRODUCTION = """# Time and memory of printwasm and of other printers
 
-
-def head(tools, started):
-    """Returns the head of the tables: the date, the machine, the versions, and which programs are missing."""
-    lines = [f"Date: {started:%Y-%m-%d}. Machine: {machine()}."]
-    lines.append("Versions: " + ", ".join(f"{tool.name} {tool.version()}" for tool in tools) + ".")
-    missing = [name for name in ("wasm-tools", "wasm2wat") if name not in [tool.name for tool in tools]]
-    lines += [f"`{name}` is missing, so it has no columns." for name in missing]
-    if not GNU_TIME:
-        lines.append("GNU time is missing, so each peak of memory is reported as at least that of python3.")
-    return "\n".join(lines) + "\n"
+[SPEED](../SPEED.md) says what is measured and how to read the tables.
+"""
 
 
 def load(load_before):
@@ -70,6 +66,14 @@ def load(load_before):
     load_after = os.getloadavg()[0]
     noisy = " **The machine did other things as well, so the times are noisy.**" if load_before > 0.7 or load_after > 1.7 else ""
     return f"Load of the machine at the beginning {load_before:.2f}, at the end {load_after:.2f} (1 is this script's own).{noisy}\n"
+
+
+def missing(tools):
+    """Returns a line for each tool that is missing."""
+    names = [name for name in ("wasm-tools", "wasm2wat") if name not in [tool.name for tool in tools]]
+    lines = [f"`{name}` is missing, so it has no columns.\n" for name in names]
+    lines += [] if GNU_TIME else ["GNU time is missing, so each peak of memory is reported as at least that of python3.\n"]
+    return "".join(lines + ([] if VALGRIND else ["Instructions were not counted.\n"]))
 
 
 def measured_rows(files, tools, mode, work):
@@ -82,34 +86,31 @@ def measured_rows(files, tools, mode, work):
 
 
 def tables_of(mode, rows, tools):
-    """Returns the four tables of one mode."""
+    """Returns the tables of one mode."""
     names = [tool.name for tool in tools]
-    kinds = (("Sizes", sizes), ("Time", times), ("Memory", memories), ("Growth", growth))
-    return "".join(f"### {word}, {mode}\n\n{made(rows, names)}\n" for word, made in kinds)
+    kinds = (("Sizes", sizes), ("Time", times), ("Instructions", instructions), ("Memory", memories), ("Growth", growth))
+    return "".join(f"## {word}, {mode}\n\n{made(rows, names)}\n" for word, made in kinds)
 
 
 def part(title, lines, none=""):
     """Returns a part of the output: its title and its lines as a list, or `none` if there are no lines. If both are empty, returns no text."""
     content = "".join(f"- {line}\n" for line in lines) or none
-    return f"### {title}\n\n{content}\n" if content else ""
+    return f"## {title}\n\n{content}\n" if content else ""
 
 
-def main(program, work, real, *given):
-    started, load_before = datetime.date.today(), os.getloadavg()[0]
-    tools = all_tools(program)
+def main(program, work, real, data, *given):
+    load_before, tools = os.getloadavg()[0], all_tools(program)
     files = all_files(work, real, list(given))
-    body, lines, failed, summary = "", [], [], []
-    for mode in ("flat", "folded"):
-        rows = measured_rows(files, tools, mode, work)
-        body += tables_of(mode, rows, tools)
-        lines += missed(rows, mode)
-        failed += faults(rows, mode)
-        summary += [compared(rows, mode, tool.name) for tool in tools[1:]]
-    whole = head(tools, started) + load(load_before) + "\n" + body
-    whole += part("Peers that failed", failed) + part("Where printwasm is slower", summary) + part("Limits missed", lines, "None.\n")
-    whole = whole.rstrip("\n") + "\n"
-    written(os.path.join(work, "tables.md"), whole.encode())
-    print(whole, end="")
+    modes = {mode: measured_rows(files, tools, mode, work) for mode in ("flat", "folded")}
+    versions = [f"{tool.name} {tool.version()}" for tool in tools[1:]]
+    text = f"{INTRODUCTION}{head('tools/speed.sh', program, versions)}{load(load_before)}{missing(tools)}\n## Summary\n\n"
+    text += "printwasm divided by the other printer: the least, the median and the greatest, of the files of over 100 KB.\n\n"
+    text += summary(modes, [tool.name for tool in tools])
+    details = "".join(tables_of(mode, rows, tools) for mode, rows in modes.items())
+    details += part("Peers that failed", [line for mode, rows in modes.items() for line in faults(rows, mode)])
+    details += part("Limits missed", [line for mode, rows in modes.items() for line in missed(rows, mode)], "None.\n")
+    written(data, (text + "\n" + details.rstrip("\n") + "\n").encode())
+    print(text, end="")
 
 
 main(*sys.argv[1:])

@@ -1,6 +1,7 @@
-"""Runs the programs on a file, and measures their time and their peak of memory."""
+"""Runs the programs on a file, and measures their time, their peak of memory and their instructions."""
 
 import os
+import re
 import shutil
 import signal
 import subprocess
@@ -18,14 +19,18 @@ def gnu_time():
 
 
 GNU_TIME = gnu_time()
+VALGRIND = None if os.environ.get("INSTRUCTIONS") == "no" else shutil.which("valgrind")
+COUNTING = ["--tool=cachegrind", "--cache-sim=no", "--cachegrind-out-file=/dev/null", "--trace-children=yes"]
+COUNTED = re.compile(r"I\s+refs:\s+([\d,]+)")
 
 
 class Result:
-    """The best of several runs: elapsed seconds, processor seconds, bytes of memory at the peak, bytes of text; or the error of a run."""
+    """The best of several runs: elapsed seconds, processor seconds, bytes of memory at the peak, bytes of text, instructions (0 if they are not
+    counted); or the error of a run."""
 
     def __init__(self):
         self.wall = self.cpu = float("inf")
-        self.memory = self.text = 0
+        self.memory = self.text = self.instructions = 0
         self.fault = None
 
 
@@ -60,38 +65,57 @@ def removed(path):
         os.remove(path)
 
 
-def one_run(tool, mode, source, folder, result, with_memory):
-    """Runs a program once, and records either its memory or its time. GNU time starts the run that measures memory, so its time would differ."""
-    text = os.path.join(folder, "text")
-    peak = os.path.join(folder, "peak")
-    removed(text)
-    command = tool.command(mode, source, text)
-    if with_memory and GNU_TIME:
-        command = [GNU_TIME, "-q", "-o", peak, "-f", "%M", *command]
-    status, wall, usage = spawn(command, folder, os.devnull if tool.writes else text)
-    if status != 0:
-        result.fault = fault(folder, status)
-        return
-    result.text = os.path.getsize(text)
-    if not with_memory:
+def started(command, kind, report):
+    """Returns the command of a run of some kind. GNU time or valgrind starts it if they are needed, and writes to `report`."""
+    if kind == "memory" and GNU_TIME:
+        return [GNU_TIME, "-q", "-o", report, "-f", "%M", *command]
+    return [VALGRIND, *COUNTING, f"--log-file={report}", *command] if kind == "instructions" else command
+
+
+def record(result, kind, wall, usage, report):
+    """Records what a run of some kind measures. Only a run that nothing else starts says something of time."""
+    if kind == "time":
         result.wall = min(result.wall, wall)
         result.cpu = min(result.cpu, usage.ru_utime + usage.ru_stime)
-    elif GNU_TIME:
-        with open(peak, encoding="ascii") as report:
-            result.memory = int(report.read()) * 1024
-    else:
+    elif kind == "memory" and not GNU_TIME:
         result.memory = usage.ru_maxrss * 1024
+    else:
+        with open(report, encoding="utf-8") as file:
+            words = file.read()
+        if kind == "memory":
+            result.memory = int(words) * 1024
+        else:
+            counts = COUNTED.findall(words)
+            result.instructions = int(counts[-1].replace(",", "")) if counts else 0
+
+
+def one_run(tool, mode, kind, source, folder, result):
+    """Runs a program once, and records its time, its memory or its instructions. A failed run under valgrind is no error of the program."""
+    text, report = os.path.join(folder, "text"), os.path.join(folder, "report")
+    removed(text)
+    removed(report)
+    command = started(tool.command(mode, source, text), kind, report)
+    status, wall, usage = spawn(command, folder, os.devnull if tool.writes else text)
+    if status == 0:
+        result.text = os.path.getsize(text)
+        record(result, kind, wall, usage, report)
+    elif kind != "instructions":
+        result.fault = fault(folder, status)
+
+
+def kinds_of_runs(source):
+    """Returns the kind of each run on a file, in order."""
+    times = 3 if os.path.getsize(source) > 5_000_000 else 5
+    return ["time"] * times + ["memory"] + (["instructions"] if VALGRIND else [])
 
 
 def measured(tools, mode, source, folder):
     """Returns the results of all tools on a file, by name. The runs of the tools alternate, so that other load of the machine affects all."""
     results = {tool.name: Result() for tool in tools}
-    runs = 3 if os.path.getsize(source) > 5_000_000 else 5
-    for run in range(runs + 1):
+    for kind in kinds_of_runs(source):
         for tool in tools:
-            result = results[tool.name]
-            if result.fault is None:
-                one_run(tool, mode, source, folder, result, run == runs)
-    for name in ("text", "peak", "errors"):
+            if results[tool.name].fault is None:
+                one_run(tool, mode, kind, source, folder, results[tool.name])
+    for name in ("text", "report", "errors"):
         removed(os.path.join(folder, name))
     return results

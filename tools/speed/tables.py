@@ -16,11 +16,11 @@ class Row:
         return tool in self.results and self.results[tool].fault is None
 
     def ratio(self, field, peer):
-        """Returns our value divided by a peer's, or `None` if one of them failed or the peer's value is 0."""
+        """Returns our value divided by a peer's, or `None` if one of them failed or has no value."""
         if not self.ok("printwasm") or not self.ok(peer):
             return None
-        theirs = getattr(self.results[peer], field)
-        return getattr(self.results["printwasm"], field) / theirs if theirs else None
+        ours, theirs = getattr(self.results["printwasm"], field), getattr(self.results[peer], field)
+        return ours / theirs if ours and theirs else None
 
     def share(self, tool, start=0):
         """Returns the peak of memory minus `start`, divided by the bytes of module and text together. Returns `None` for small files."""
@@ -37,7 +37,7 @@ def digits(value):
 
 
 def millions(value):
-    return digits(value / 1e6)
+    return digits(value / 1e6 if value is not None else None)
 
 
 def table(heads, lines):
@@ -65,6 +65,17 @@ def times(rows, tools):
     for row in rows:
         ratios = [digits(row.ratio(field, p)) for field in ("wall", "cpu") for p in peers]
         lines.append([row.name, millions(row.size), *each(row, tools, lambda r: digits(r.wall)), *ratios])
+    return table(heads, lines)
+
+
+def instructions(rows, tools):
+    """Returns the table of instructions in millions, with the ratios of ours to the peers'."""
+    peers = tools[1:]
+    heads = ["file", *(f"{t} millions" for t in tools), *(f"ours / {p}" for p in peers)]
+    lines = []
+    for row in rows:
+        counts = each(row, tools, lambda r: millions(r.instructions or None))
+        lines.append([row.name, *counts, *(digits(row.ratio("instructions", p)) for p in peers)])
     return table(heads, lines)
 
 
@@ -142,11 +153,19 @@ def faults(rows, mode):
     return [f"{row.name}, {mode}: {tool} failed: {row.results[tool].fault}" for row, tool in failed]
 
 
-def compared(rows, mode, peer):
-    """Returns on how many files printwasm is slower than a peer, and the file with the largest ratio."""
-    judged = [(row.ratio("wall", peer), row.name) for row in rows if row.size > JUDGED and row.ratio("wall", peer) is not None]
-    if not judged:
-        return f"{mode}: no file to compare with {peer}"
-    slower, (least, _), (most, name) = [r for r, _ in judged if r > 1], min(judged), max(judged)
-    ratios = f"its time is {digits(least)} to {digits(most)} of {peer}'s, the most on {name}"
-    return f"{mode}: printwasm is slower than {peer} on {len(slower)} of {len(judged)} files of over 100 KB; {ratios}"
+def span(rows, field, peer):
+    """Returns the least, the median and the greatest of our ratios to a peer, of files over 100 KB, with the file of the greatest."""
+    ratios = sorted((row.ratio(field, peer), row.name) for row in rows if row.size > JUDGED and row.ratio(field, peer) is not None)
+    if not ratios:
+        return "-"
+    return f"{digits(ratios[0][0])}, {digits(ratios[len(ratios) // 2][0])}, {digits(ratios[-1][0])} ({ratios[-1][1]})"
+
+
+def summary(modes, tools):
+    """Returns the table of the ratios of each mode to each peer. `modes` has the rows of each mode."""
+    heads, lines = ["text, peer", "files", "time", "processor time", "instructions", "memory"], []
+    for mode, rows in modes.items():
+        for peer in tools[1:]:
+            files = sum(row.size > JUDGED and row.ratio("wall", peer) is not None for row in rows)
+            lines.append([f"{mode}, {peer}", str(files), *(span(rows, field, peer) for field in ("wall", "cpu", "instructions", "memory"))])
+    return table(heads, lines)
