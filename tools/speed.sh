@@ -12,7 +12,8 @@
 #   DATA          the data file (default: docs/data/speed.md)
 #   PEERS         a folder that is searched for `wasm-tools` and `wasm2wat` before the path (default: that of tools/real.sh, if it exists)
 #   SIZES         the sizes of the generated modules in KB (default: "100 1000 10000")
-#   INSTRUCTIONS  `no`: instructions are not counted. Counting takes about 25 times as long as a run
+#   INSTRUCTIONS  the size in MB of the largest module for which instructions are counted (default: 20; 0: none). Counting takes about 25
+#                 times as long as a run
 #
 # Needs python3. Uses `wasm-tools` and `wasm2wat` (Debian: `apt-get install wasm-tools wabt`, the first in newer releases only); a missing one
 # has no columns. Uses GNU time and valgrind (`apt-get install time valgrind`); without the first, each peak of memory is reported as at least

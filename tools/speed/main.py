@@ -73,7 +73,7 @@ def missing(tools):
     names = [name for name in ("wasm-tools", "wasm2wat") if name not in [tool.name for tool in tools]]
     lines = [f"`{name}` is missing, so it has no columns.\n" for name in names]
     lines += [] if GNU_TIME else ["GNU time is missing, so each peak of memory is reported as at least that of python3.\n"]
-    return "".join(lines + ([] if VALGRIND else ["Instructions were not counted.\n"]))
+    return "".join(lines + ([] if VALGRIND else ["valgrind is missing, so instructions were not counted.\n"]))
 
 
 def measured_rows(files, tools, mode, work):

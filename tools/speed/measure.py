@@ -19,7 +19,8 @@ def gnu_time():
 
 
 GNU_TIME = gnu_time()
-VALGRIND = None if os.environ.get("INSTRUCTIONS") == "no" else shutil.which("valgrind")
+VALGRIND = shutil.which("valgrind")
+COUNTED_MB = float(os.environ.get("INSTRUCTIONS", "20"))  # the size of the largest module for which instructions are counted
 COUNTING = ["--tool=cachegrind", "--cache-sim=no", "--cachegrind-out-file=/dev/null", "--trace-children=yes"]
 COUNTED = re.compile(r"I\s+refs:\s+([\d,]+)")
 
@@ -105,8 +106,9 @@ def one_run(tool, mode, kind, source, folder, result):
 
 def kinds_of_runs(source):
     """Returns the kind of each run on a file, in order."""
-    times = 3 if os.path.getsize(source) > 5_000_000 else 5
-    return ["time"] * times + ["memory"] + (["instructions"] if VALGRIND else [])
+    size = os.path.getsize(source)
+    counts = VALGRIND and size <= COUNTED_MB * 1e6
+    return ["time"] * (3 if size > 5_000_000 else 5) + ["memory"] + (["instructions"] if counts else [])
 
 
 def measured(tools, mode, source, folder):
