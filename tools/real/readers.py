@@ -3,7 +3,7 @@
 The sections of two modules are compared byte for byte, first unchanged and then normalised. Normalising encodes numbers in the fewest bytes,
 drops empty sections, and so on. For `wasm-tools parse` and `wat2wasm` it is `wasm-tools print` followed by `wasm-tools parse`. `wasm-as`
 generates code of its own, so for it normalising may start with `wasm-opt` without passes, which reads and writes as `wasm-as` does. If that
-isn't enough, `wasm-opt -O1` optimises both modules: their code is equivalent if they are then equal. Since `wat2wasm` and `wasm-as` encode some
+isn't enough, `wasm-opt -O1` optimises both modules, without removing unused functions: their code is equivalent if they are then equal. Since `wat2wasm` and `wasm-as` encode some
 things by rules of their own, the module that they make of our text is also compared with the module that they make of the text of
 `wasm-tools print` for the same module and options.
 """
@@ -15,6 +15,7 @@ import os
 from running import found, read, run
 from wasm import Malformed, custom_sections, names, plain_sections
 
+OPTIMISING = ("-O1", "--skip-pass=remove-unused-module-elements")  # the skipped pass would empty a module that exports nothing
 LINE = 80  # the length to which a line is cut before it is compared
 PEER_WORDS = {"--name-unnamed": "--name-unnamed", "--fold": "--fold-instructions"}
 # All features except compact imports: with `--enable-all`, imports are written in a form that is out of scope.
@@ -172,7 +173,7 @@ def compared(original, reader, words, path):
         return Verdict("same")
     if original.is_normal(reader, path):
         return Verdict("normal")
-    if reader.name == "wasm-as" and original.is_equal(path, ("-O1",)):
+    if reader.name == "wasm-as" and original.is_equal(path, OPTIMISING):
         return Verdict("equivalent", "generates other code, which is the same after `wasm-opt -O1`")
     if reader.name != "wasm-tools" and again == original.by_other_text(reader, words):
         return Verdict("alike", original.difference(reader, path))
