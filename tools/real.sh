@@ -15,6 +15,7 @@
 #               whose compiler or package is missing are left out
 #   JOBS        the number of modules that are processed at once (default: the number of processors)
 #   ONLY        a word: only modules with this word in their path or in the name of their group are processed
+#   QUICK       a number N: only one module in N of the large groups is processed, and none over 1 MB
 #   MEMORY_GB   the limit of memory of each program that is run, in GiB (default: 4)
 set -eu
 root=$(cd "$(dirname "$0")/.." && pwd)

@@ -6,7 +6,7 @@ import os
 import platform
 import subprocess
 
-SETTINGS = ("INSTRUCTIONS", "JOBS", "MEMORY_GB", "ONLY", "SIZES")  # the variables that a command shows if they are set
+SETTINGS = ("INSTRUCTIONS", "JOBS", "MEMORY_GB", "ONLY", "QUICK", "SIZES")  # the variables that a command shows if they are set
 
 
 def git(folder, *words):

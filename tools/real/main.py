@@ -23,6 +23,7 @@ FEW = ((), ("--name-unnamed", "--fold", "--offsets"))  # the sets whose texts ar
 MANY = ("sets of small ones", "objects in archives")  # the large groups
 FEATURES = "all,-shared-everything-threads"  # the features with which `wasm-tools validate` runs: all except those out of scope of printwasm
 LARGE = 30_000_000  # bytes of text
+QUICK_SIZE = 1_000_000  # bytes of the largest module of a quick run
 
 
 class Result:
@@ -108,11 +109,24 @@ def process(program, modules):
     return results
 
 
+def selected(modules):
+    """Returns the modules that ONLY and QUICK leave."""
+    only, quick = os.environ.get("ONLY", ""), int(os.environ.get("QUICK", "0"))
+    modules = [it for it in modules if only in it.path or only in it.group]
+    if not quick:
+        return modules
+    many = [it for it in modules if it.group in MANY]
+    kept = {it.path for it in many[::quick]} | {it.path for it in modules if it.group not in MANY}
+    return [it for it in modules if it.path in kept and it.size <= QUICK_SIZE]
+
+
 def main(program, work, data):
     started, missing = time.monotonic(), []
     modules = all_modules(work, missing)
-    only = os.environ.get("ONLY")
-    results = process(program, [it for it in modules if not only or only in it.path or only in it.group])
+    chosen_ones = selected(modules)
+    if len(chosen_ones) < len(modules):
+        missing.append(f"These are {len(chosen_ones):,} of {len(modules):,} modules")
+    results = process(program, chosen_ones)
     readers = [reader.name for reader in READERS if reader.path]
     minutes = (time.monotonic() - started) / 60
     first = head("tools/real.sh", program, versions()) + f"It took {minutes:.0f} minutes.\n" + "".join(f"{line}.\n" for line in missing)

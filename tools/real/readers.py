@@ -3,9 +3,9 @@
 The sections of two modules are compared byte for byte, first unchanged and then normalised. Normalising encodes numbers in the fewest bytes,
 drops empty sections, and so on. For `wasm-tools parse` and `wat2wasm` it is `wasm-tools print` followed by `wasm-tools parse`. `wasm-as`
 generates code of its own, so for it normalising may start with `wasm-opt` without passes, which reads and writes as `wasm-as` does. If that
-isn't enough, `wasm-opt -O1` optimises both modules, without removing unused functions: their code is equivalent if they are then equal. Since `wat2wasm` and `wasm-as` encode some
-things by rules of their own, the module that they make of our text is also compared with the module that they make of the text of
-`wasm-tools print` for the same module and options.
+isn't enough, `wasm-opt -O1` optimises both modules, without removing unused functions: their code is equivalent if they are then equal. Since
+`wat2wasm` and `wasm-as` encode some things by rules of their own, the module that they make of our text is also compared with the module that
+they make of the text of `wasm-tools print` for the same module and options.
 """
 
 import hashlib
