@@ -10,7 +10,8 @@
 #
 #   PRINTWASM   the program (default: crates/printwasm/out/printwasm; the README says how it is built)
 #   PROGRAM_IS  words that describe the program in the data file, besides its commit
-#   DATA        the data file (default: docs/data/real-files.md; if ONLY is set, real-files.md in the folder of the other files)
+#   DATA        the data file (default: docs/data/real-files.md; if ONLY or QUICK is set, real-files.md in the folder of the
+#               other files)
 #   PEERS       a folder with `wasm-tools`, `wat2wasm`, `wasm2wat`, `wasm-as` and `wasm-opt`. If set, nothing is installed, and modules
 #               whose compiler or package is missing are left out
 #   JOBS        the number of modules that are processed at once (default: the number of processors)
@@ -22,7 +23,7 @@ root=$(cd "$(dirname "$0")/.." && pwd)
 program=${PRINTWASM:-$root/crates/printwasm/out/printwasm}
 work=${TMPDIR:-/tmp}/wasmprinter-real
 data=$root/docs/data/real-files.md
-[ -z "${ONLY:-}" ] || data=$work/real-files.md
+[ -z "${ONLY:-}${QUICK:-}" ] || data=$work/real-files.md
 data=${DATA:-$data}
 if [ ! -x "$program" ]; then
     echo "real: $program is missing: build it (see the README), or set PRINTWASM to a program" >&2
