@@ -50,8 +50,8 @@ pub trait DecodeIn<'a>: Drop {
 ///
 /// # Errors
 ///
-/// - `Malformed` if the bytes do not encode the count or one of the values, with the place of the
-///   first unexpected byte or number.
+/// - `Malformed` if the bytes do not encode the count or one of the values, with a place
+///   as [`Error::Malformed`](crate::Error::Malformed) describes it.
 /// - `Memory` if an allocation fails. Nothing is allocated before a first value is read.
 pub fn read_list<'a, T: DecodeIn<'a>>(
     alloc: Global,
@@ -144,8 +144,8 @@ pub fn no_items<'a, T: Decode>(cursor: &Cursor<'a>) -> Items<'a, T>
 ///
 /// # Errors
 ///
-/// `Malformed` if the bytes do not encode the count or one of the values, with the place of the
-/// first unexpected byte or number.
+/// `Malformed` if the bytes do not encode the count or one of the values, with a place
+/// as [`Error::Malformed`](crate::Error::Malformed) describes it.
 pub fn read_items<'a, T: Decode>(cursor: &mut Cursor<'a>) -> Result<Items<'a, T>, Malformed>
     ensures { Decodes (λ t. t) (vec_at T.parse) cursor.old result cursor.new }
 {

@@ -336,7 +336,8 @@ impl<'a> SubTypes<'a> {
     ///
     /// # Errors
     ///
-    /// `Malformed` if the bytes do not encode a subtype, with the place of the first unexpected byte or number.
+    /// `Malformed` if the bytes do not encode a subtype, with a place as
+    /// [`Error::Malformed`](wasmprinter_bytes::Error::Malformed) describes it.
     pub fn read_one(cursor: &mut Cursor<'a>) -> Result<Self, Malformed>
         ensures { Decodes (λ t. t) (items_at subtype.parse 1) cursor.old result cursor.new }
     {
@@ -347,8 +348,8 @@ impl<'a> SubTypes<'a> {
     ///
     /// # Errors
     ///
-    /// `Malformed` if the bytes do not encode the count or one of the types, with the place of the
-    /// first unexpected byte or number.
+    /// `Malformed` if the bytes do not encode the count or one of the types, with a place
+    /// as [`Error::Malformed`](wasmprinter_bytes::Error::Malformed) describes it.
     pub fn read(cursor: &mut Cursor<'a>) -> Result<Self, Malformed>
         ensures { Decodes (λ t. t) (vec subtype).parse cursor.old result cursor.new }
     {

@@ -99,8 +99,8 @@ impl<'a> Expression<'a> {
     ///
     /// # Errors
     ///
-    /// - `Malformed` if the bytes do not encode well-nested operators with their `end`, with the place of the first
-    ///   unexpected byte, number or operator.
+    /// - `Malformed` if the bytes do not encode well-nested operators with their `end`, with a place as
+    ///   [`Error::Malformed`](wasmprinter_bytes::Error::Malformed) describes it.
     /// - `Memory` if an allocation fails. Only an expression that contains a block allocates.
     pub fn read(alloc: Global, cursor: &mut Cursor<'a>) -> Result<Self, Error>
         ensures reads { Takes (λ e. e) expression.parse HasBlock cursor.old result cursor.new }

@@ -324,8 +324,8 @@ impl<'a> Operator<'a> {
 ///
 /// # Errors
 ///
-/// `Malformed`, with the place of the opcode if the table does not list it, and otherwise with the place of the first
-/// unexpected byte or number.
+/// `Malformed`, with the place of the opcode if the table does not list it, and otherwise with a place as
+/// [`Error::Malformed`](wasmprinter_bytes::Error::Malformed) describes it.
 pub fn read_operator<'a>(cursor: &mut Cursor<'a>) -> Result<Operator<'a>, Malformed>
     ensures { Decodes (λ o. o) operator.parse cursor.old result cursor.new }
 {

@@ -228,8 +228,8 @@ fn read_bodies<'a>(alloc: Global, cursor: &mut Cursor<'a>) -> Result<Vec<Body<'a
 ///
 /// # Errors
 ///
-/// - `Malformed` if the bytes do not encode a list of bodies and nothing after it, with the place of the first
-///   unexpected byte, number or operator.
+/// - `Malformed` if the bytes do not encode a list of bodies and nothing after it, with a place as
+///   [`Error::Malformed`](wasmprinter_bytes::Error::Malformed) describes it.
 /// - `TooManyLocals` if a body has more than 50,000 locals, not counting parameters, with the
 ///   place of the first such body.
 /// - `Memory` if an allocation fails.

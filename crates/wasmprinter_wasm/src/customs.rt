@@ -37,7 +37,8 @@ impl<'a> Custom<'a> {
     ///
     /// # Errors
     ///
-    /// `Malformed` if the content does not begin with a name, with the place of the first unexpected byte or number.
+    /// `Malformed` if the content does not begin with a name, with a place as
+    /// [`Error::Malformed`](wasmprinter_bytes::Error::Malformed) describes it.
     pub fn read(cursor: &mut Cursor<'a>) -> Result<Self, Malformed>
         ensures { ReadsAll (λ c. c) custom_section.parse cursor.old result }
     {

@@ -134,8 +134,8 @@ impl<'a> Data<'a> {
 ///
 /// # Errors
 ///
-/// - `Malformed` if the bytes do not encode a list of data segments and nothing after it, with the place of the first
-///   unexpected byte, number or operator.
+/// - `Malformed` if the bytes do not encode a list of data segments and nothing after it, with a place as
+///   [`Error::Malformed`](wasmprinter_bytes::Error::Malformed) describes it.
 /// - `Memory` if an allocation fails.
 pub fn read_data<'a>(alloc: Global, cursor: &mut Cursor<'a>) -> Result<Vec<Data<'a>>, Error>
     ensures { TakesHeld DataSection (λ v. v.items) cursor.old result }
@@ -149,8 +149,8 @@ pub fn read_data<'a>(alloc: Global, cursor: &mut Cursor<'a>) -> Result<Vec<Data<
 ///
 /// # Errors
 ///
-/// `Malformed` if the bytes do not encode a number and nothing after it, with the place of the first
-/// unexpected byte or number.
+/// `Malformed` if the bytes do not encode a number and nothing after it, with a place as
+/// [`Error::Malformed`](wasmprinter_bytes::Error::Malformed) describes it.
 pub fn read_data_count(cursor: &mut Cursor) -> Result<u32, Malformed>
     ensures { ReadsAll (λ n. Some n) data_count_section.parse cursor.old result }
 {

@@ -221,8 +221,8 @@ impl<'a> Element<'a> {
 ///
 /// # Errors
 ///
-/// - `Malformed` if the bytes do not encode a list of element segments and nothing after it, with the place of the
-///   first unexpected byte, number or operator.
+/// - `Malformed` if the bytes do not encode a list of element segments and nothing after it, with a place
+///   as [`Error::Malformed`](wasmprinter_bytes::Error::Malformed) describes it.
 /// - `Memory` if an allocation fails.
 pub fn read_elements<'a>(alloc: Global, cursor: &mut Cursor<'a>) -> Result<Vec<Element<'a>>, Error>
     ensures { TakesHeld ElementSection (λ v. v.items) cursor.old result }

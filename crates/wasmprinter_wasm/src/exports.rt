@@ -124,8 +124,8 @@ impl<'a> Export<'a> {
 ///
 /// # Errors
 ///
-/// - `Malformed` if the bytes do not encode a list of exports and nothing after it, with the place of the first
-///   unexpected byte or number.
+/// - `Malformed` if the bytes do not encode a list of exports and nothing after it, with a place as
+///   [`Error::Malformed`](wasmprinter_bytes::Error::Malformed) describes it.
 /// - `Memory` if an allocation fails.
 pub fn read_exports<'a>(alloc: Global, cursor: &mut Cursor<'a>) -> Result<Vec<Export<'a>>, Error>
     ensures { TakesHeld ExportSection (λ v. v.items) cursor.old result }

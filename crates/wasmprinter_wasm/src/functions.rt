@@ -35,8 +35,8 @@ fn read_type_indices(alloc: Global, cursor: &mut Cursor) -> Result<Vec<u32>, Err
 ///
 /// # Errors
 ///
-/// - `Malformed` if the bytes do not encode a list of type indices and nothing after it, with the place of the first
-///   unexpected byte or number.
+/// - `Malformed` if the bytes do not encode a list of type indices and nothing after it, with a place as
+///   [`Error::Malformed`](wasmprinter_bytes::Error::Malformed) describes it.
 /// - `TooManyFunctions` if there are more than 1,000,000.
 /// - `Memory` if an allocation fails.
 pub fn read_functions(alloc: Global, cursor: &mut Cursor) -> Result<Vec<u32>, Error>

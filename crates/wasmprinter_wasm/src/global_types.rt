@@ -22,7 +22,8 @@ impl GlobalType {
     ///
     /// # Errors
     ///
-    /// `Malformed` if the bytes do not encode a global type, with the place of the first unexpected byte or number.
+    /// `Malformed` if the bytes do not encode a global type, with a place as
+    /// [`Error::Malformed`](wasmprinter_bytes::Error::Malformed) describes it.
     pub fn read(cursor: &mut Cursor) -> Result<GlobalType, Malformed>
         ensures { Decodes global_type_view global_type_grammar.parse cursor.old result cursor.new }
     {

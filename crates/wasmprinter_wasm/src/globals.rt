@@ -75,8 +75,8 @@ impl<'a> Global<'a> {
 ///
 /// # Errors
 ///
-/// - `Malformed` if the bytes do not encode a list of globals and nothing after it, with the place of the first
-///   unexpected byte, number or operator.
+/// - `Malformed` if the bytes do not encode a list of globals and nothing after it, with a place as
+///   [`Error::Malformed`](wasmprinter_bytes::Error::Malformed) describes it.
 /// - `Memory` if an allocation fails.
 pub fn read_globals<'a>(alloc: Allocator, cursor: &mut Cursor<'a>) -> Result<Vec<Global<'a>>, Error>
     ensures { TakesHeld GlobalSection (λ v. v.items) cursor.old result }

@@ -145,8 +145,8 @@ impl<'a> Import<'a> {
 ///
 /// # Errors
 ///
-/// - `Malformed` if the bytes do not encode a list of imports and nothing after it, with the place of the first
-///   unexpected byte or number.
+/// - `Malformed` if the bytes do not encode a list of imports and nothing after it, with a place as
+///   [`Error::Malformed`](wasmprinter_bytes::Error::Malformed) describes it.
 /// - `Memory` if an allocation fails.
 pub fn read_imports<'a>(alloc: Global, cursor: &mut Cursor<'a>) -> Result<Vec<Import<'a>>, Error>
     ensures { TakesHeld ImportSection (λ v. v.items) cursor.old result }

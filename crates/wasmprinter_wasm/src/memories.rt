@@ -127,8 +127,8 @@ impl Memory {
 ///
 /// # Errors
 ///
-/// - `Malformed` if the bytes do not encode a list of memory types and nothing after it, with the place of the first
-///   unexpected byte or number.
+/// - `Malformed` if the bytes do not encode a list of memory types and nothing after it, with a place as
+///   [`Error::Malformed`](wasmprinter_bytes::Error::Malformed) describes it.
 /// - `Memory` if an allocation fails.
 pub fn read_memories(alloc: Global, cursor: &mut Cursor) -> Result<Vec<Memory>, Error>
     ensures { TakesHeld MemorySection (λ v. v.items) cursor.old result }

@@ -47,8 +47,8 @@ impl Start {
 ///
 /// # Errors
 ///
-/// `Malformed` if the bytes do not encode a function index and nothing after it, with the place of the first
-/// unexpected byte or number.
+/// `Malformed` if the bytes do not encode a function index and nothing after it, with a place as
+/// [`Error::Malformed`](wasmprinter_bytes::Error::Malformed) describes it.
 pub fn read_start(cursor: &mut Cursor) -> Result<Start, Malformed>
     ensures { ReadsAll (λ s. Some s) start_section.parse cursor.old result }
 {

@@ -37,7 +37,8 @@ impl TableType {
     ///
     /// # Errors
     ///
-    /// `Malformed` if the bytes do not encode a table type, with the place of the first unexpected byte or number.
+    /// `Malformed` if the bytes do not encode a table type, with a place as
+    /// [`Error::Malformed`](wasmprinter_bytes::Error::Malformed) describes it.
     pub fn read(cursor: &mut Cursor) -> Result<TableType, Malformed>
         ensures { Decodes table_type_view table_type_grammar.parse cursor.old result cursor.new }
     {

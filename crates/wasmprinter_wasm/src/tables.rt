@@ -132,8 +132,8 @@ fn empty_table(tables: &[Table]) -> Option<u64>
 ///
 /// # Errors
 ///
-/// - `Malformed` if the bytes do not encode a list of tables and nothing after it, with the place of the first
-///   unexpected byte, number or operator.
+/// - `Malformed` if the bytes do not encode a list of tables and nothing after it, with a place as
+///   [`Error::Malformed`](wasmprinter_bytes::Error::Malformed) describes it.
 /// - `EmptyTableInit` if the initialiser of a table has no operators, with the place of the first such table.
 /// - `Memory` if an allocation fails.
 pub fn read_tables<'a>(alloc: Global, cursor: &mut Cursor<'a>) -> Result<Vec<Table<'a>>, Error>

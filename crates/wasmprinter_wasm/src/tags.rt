@@ -70,8 +70,8 @@ impl Tag {
 ///
 /// # Errors
 ///
-/// - `Malformed` if the bytes do not encode a list of tags and nothing after it, with the place of the first
-///   unexpected byte or number.
+/// - `Malformed` if the bytes do not encode a list of tags and nothing after it, with a place as
+///   [`Error::Malformed`](wasmprinter_bytes::Error::Malformed) describes it.
 /// - `Memory` if an allocation fails.
 pub fn read_tags(alloc: Global, cursor: &mut Cursor) -> Result<Vec<Tag>, Error>
     ensures { TakesHeld TagSection (λ v. v.items) cursor.old result }

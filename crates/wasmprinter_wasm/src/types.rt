@@ -152,8 +152,8 @@ impl<'a> Types<'a> {
     ///
     /// # Errors
     ///
-    /// - `Malformed` if the bytes do not encode a list of groups and nothing after it, with the place of the first
-    ///   unexpected byte or number.
+    /// - `Malformed` if the bytes do not encode a list of groups and nothing after it, with a place as
+    ///   [`Error::Malformed`](wasmprinter_bytes::Error::Malformed) describes it.
     /// - `Memory` if an allocation fails.
     pub fn read(alloc: Global, cursor: &mut Cursor<'a>) -> Result<Self, Error>
         ensures { TakesHeld TypeSection (λ t. t) cursor.old result }
