@@ -13,14 +13,20 @@ import sys
 from edits import ROOT, apply, value
 
 REFUSED = re.compile(r"^rt: must-fail (\w+)/([\w-]+)\.edit: refused, as it must be: (.*)$")
-AT_SOURCE = re.compile(r"(?:note|error): (src/[\w/]+\.rt):(\d+):\d+: .*?\(`([^`]+)`\)")
+AT_SOURCE = re.compile(r"(?:note|error): (src/[\w/]+\.rt):(\d+):\d+: .*?\(`([^`]+)")
 IN_PROOF = re.compile(r"\./proofs/([\w/]+)/(?:Answers|Invariants)\.antt:\d+:\d+: (?:error|note): `([^`]+)`")
 FUNCTION = re.compile(r'^\s*(?:pub(?:\(\w+\))? )?(?:const )?(?:unsafe )?(?:extern "C" )?fn (\w+)')
 SHAPE = re.compile(r"can be named from here|has no field|is not in scope|no goal")
 
 
 def function_at(lines, number):
-    """Returns the name of the last function that starts at or before a line."""
+    """Returns the name of the function at a line: the one whose comments, attributes or head are there, or else the last one before."""
+    for line in lines[number - 1 :]:
+        found = FUNCTION.match(line)
+        if found:
+            return found.group(1)
+        if not line.lstrip().startswith(("//", "#[")):
+            break
     for line in reversed(lines[:number]):
         found = FUNCTION.match(line)
         if found:
