@@ -11,7 +11,7 @@ segments: each file that names the example. A list is a block that starts with t
 
 A line `names` has regular expressions with ` | ` between them, and starts a new example. A block without this line continues the last example. A
 line that ends with a colon names a folder. Each line after it, indented, has names of files in the folder, and after at least 2 spaces a remark. A name without a
-dot gets the suffix of its folder: `.rt` in `src`, `.antt` in `specs` and `proofs`. A name with `*` stands for all files that it matches and that
+dot gets the suffix of its folder: `.rt` in `src`, `.antt` in `specs` and `proofs`. A name with `*` means all files that it matches and that
 name the example. It must not match code, definitions or proofs of the library or of the programs: these are listed one by one.
 
 A file names an example if its path or a line of its text matches one of the expressions. The pages with recipes are left out. The status is 1 if
@@ -165,7 +165,7 @@ def faults(example, texts):
 
 
 def expanded(path):
-    """Returns the paths that a path with alternatives in braces stands for."""
+    """Returns the paths that a path with alternatives in braces means."""
     found = re.search(r"\{([^{}]*)\}", path)
     if not found:
         return [path]
@@ -181,7 +181,7 @@ def exists(path, known):
 
 
 def dead_paths(page, known):
-    """Returns the paths in a page of which no file exists. Paths with a name in capitals, such as NAME, stand for others."""
+    """Returns the paths in a page of which no file exists. Paths with a name in capitals, such as NAME, are examples of others."""
     found = []
     for number, line in enumerate((ROOT / page).read_text(encoding="utf-8").split("\n"), 1):
         for span in SPAN.findall(line):
