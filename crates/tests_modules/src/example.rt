@@ -1,4 +1,4 @@
-//! The examples of the README and of docs/LIBRARY.md.
+//! The examples of docs/LIBRARY.md.
 
 use std::alloc::Global;
 use std::io;

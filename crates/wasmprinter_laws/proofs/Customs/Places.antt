@@ -14,6 +14,7 @@ use Rattle.wasmprinter_laws.proofs.Customs.Notes.{at_place, raw_customs-append, 
 abbrev pub all_places : List (Option Kind)
 all_places = None ∷ map Some section_order
 
+-- The custom sections at these places, in the order of this list
 abbrev pub over : List (Option Kind) → List CustomEntry → List CustomEntry
 over [] cs = []
 over (p ∷ ps) cs = at_place p cs ++ over ps cs
