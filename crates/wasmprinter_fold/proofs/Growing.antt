@@ -94,3 +94,7 @@ ends_role r s x then otherwise counts h e =
 -- Equal roles and counts lead to equal counts of labels.
 pub same_counts : (a b : Role) (x y : Option ℕ) (k l : List (Option ℕ)) → a ≡ b → x ≡ y → k ≡ l → labels_after a x k ≡ labels_after b y l
 same_counts a b x y k l p q r = rw (p, q, r) refl
+
+-- A plain operator opens and closes no block.
+pub plain_labels : (r : OpsRole) (s : Role) (x : Option ℕ) (l : List (Option ℕ)) → r ≡ ops.Plain → role_view r ≡ s → labels_after s x l ≡ l
+plain_labels r s x l p e = ap (λ (q : Role). labels_after q x l) (sym e ∙ ap role_view p)

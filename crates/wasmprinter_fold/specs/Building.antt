@@ -15,6 +15,7 @@ pub data OpenNodes (H : Type 0) : Type 0 where
   InThen : OpenNodes H → NodesOf H → NodesOf H → H → H → ℕ → OpenNodes H
   InElse : OpenNodes H → NodesOf H → NodesOf H → H → H → ℕ → OpenNodes H
 
+-- The state between two operators: the open blocks, and the nodes of the innermost open part.
 pub record StateOf (H : Type 0) : Type 0 where
   pub outer : OpenNodes H
   pub groups : NodesOf H
@@ -28,9 +29,11 @@ pub data Step (H : Type 0) : Type 0 where
   Else : H → Step H
   Ends : Step H
 
+-- The state with these open blocks and these nodes.
 abbrev pub state_at : {H : Type 0} → OpenNodes H → NodesOf H → StateOf H
 state_at o f = record { outer = o; groups = f }
 
+-- The state before the first operator.
 abbrev pub start : {H : Type 0} → StateOf H
 start = state_at Top Nil
 
@@ -57,6 +60,7 @@ step s (OpensIf head case results) = state_at (InThen s.outer (front s.groups) (
 step s (Else otherwise) = state_after_else otherwise s.outer s.groups
 step s Ends = state_after_end s.outer s.groups
 
+-- The state after operators with these steps.
 abbrev pub run_all : {H : Type 0} → StateOf H → List (Step H) → StateOf H
 run_all s [] = s
 run_all s (t ∷ ts) = run_all (step s t) ts
@@ -70,5 +74,6 @@ step_of f row.OpensIf x = OpensIf (f (Of x)) (f (ThenCase x)) x.results
 step_of f row.Else x = Else (f (ElseCase x))
 step_of f _ x = Ends
 
+-- The steps of operators. `f` gives the heads their form.
 abbrev pub steps : {H : Type 0} → (Head → H) → List Item → List (Step H)
 steps f xs = map (λ x. step_of f (role x) x) xs

@@ -13,6 +13,7 @@ use Rattle.wasmprinter_fold.specs.Candidates.{candidates, IsLimited}
 use Rattle.wasmprinter_fold.specs.Postorder.{postorder}
 use Rattle.wasmprinter_fold.specs.Building.{OpenNodes, Top, InBlock, InThen, InElse, StateOf}
 
+-- A state whose heads are the texts of nodes, as the program keeps them.
 abbrev pub State : Type 0
 State = StateOf NodeText
 
@@ -66,6 +67,7 @@ pub record StandsAt (nodes : List Node) (row : List Candidate) (blocks : List Fr
   pub outer_limited : AreLimited s.outer
   pub limited : IsLimited s.groups
 
+-- The lists of the builder represent this state.
 abbrev pub Stands : Builder → State → Type 0
 Stands b s = StandsAt b.nodes.items b.candidates.items b.frames.items s
 

@@ -29,6 +29,7 @@ pub record ShowsIn (buffer : List ℕ) (b : Builder) (s : StateOf Shown) : Type 
   pub inside : AllState (IsIn buffer) state
   pub shows : map_state (shown_of_head buffer) state ≡ s
 
+-- The tree has open blocks and nodes whose printed texts are those of the state.
 abbrev pub Shows : GrowingTree → StateOf Shown → Type 0
 Shows t s = ShowsIn t.texts.bytes t.builder s
 

@@ -2,6 +2,8 @@
 use Rattle.wasmprinter_spec.specs.Folding.Tree.{NodesOf, Nil, Snoc}
 use Rattle.wasmprinter_fold.specs.Building.{OpenNodes, Top, InBlock, InThen, InElse, StateOf, Step, Plain, Opens, OpensIf, Else, Ends}
 
+-- Each head in the nodes has the property P. `AllOpen`, `AllState` and `AllStep` state this of open blocks, of a
+-- state and of a step.
 abbrev pub AllNodes : {H : Type 0} → (H → Type 0) → NodesOf H → Type 0
 AllNodes P Nil = Unit {0}
 AllNodes P (Snoc before head results held) = AllNodes P before × P head × AllNodes P held

@@ -2,6 +2,8 @@
 use Rattle.wasmprinter_spec.specs.Folding.Tree.{NodesOf, Nil, Snoc, OperandsOf, Fit, Overshot, TooFew}
 use Rattle.wasmprinter_fold.specs.Building.{OpenNodes, Top, InBlock, InThen, InElse, StateOf, Step, Plain, Opens, OpensIf, Else, Ends}
 
+-- The nodes with `v` of each head. `map_operands`, `map_open`, `map_state` and `map_step` replace the heads in the
+-- result of a search for operands, in open blocks, in a state and in a step.
 abbrev pub map_nodes : {H K : Type 0} → (H → K) → NodesOf H → NodesOf K
 map_nodes v Nil = Nil
 map_nodes v (Snoc before head results held) = Snoc (map_nodes v before) (v head) results (map_nodes v held)

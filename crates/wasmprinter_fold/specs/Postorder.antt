@@ -4,6 +4,7 @@ use Rattle.wasmprinter_spec.specs.Folding.Tree.{NodesOf, Nil, Snoc, count}
 use Rattle.wasmprinter_fold.specs.declared.nodes.NodeText.{NodeText}
 use Rattle.wasmprinter_fold.specs.declared.nodes.Node.{Node}
 
+-- The list of all nodes, at every depth.
 abbrev pub postorder : NodesOf NodeText → List Node
 postorder Nil = []
 postorder (Snoc before head results parts) =
@@ -20,6 +21,7 @@ parts_at_last (suc n) (Snoc before head results parts) =
 abbrev pub grow : NodesOf NodeText → Node → NodesOf NodeText
 grow f n = let c = parts_at_last (n.size - 1) f in Snoc c.0 n.head n.results c.1
 
+-- The nodes with those of the list, one after the other.
 abbrev pub grow_all : NodesOf NodeText → List Node → NodesOf NodeText
 grow_all f [] = f
 grow_all f (n ∷ ns) = grow_all (grow f n) ns

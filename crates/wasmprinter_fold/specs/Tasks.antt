@@ -28,6 +28,7 @@ module _ (form : Form) (nesting : ℕ) (buffer : List ℕ) where
   task_rest (task.One head held leads depth) = pieces_of_row held.now false (depth + 1) ++ (Shut ∷ [])
   task_rest task.Close = []
 
+  -- The pieces of a task.
   abbrev pub task_pieces : Task → List Piece
   task_pieces t = task_front t ++ task_rest t
 
@@ -43,11 +44,14 @@ pub record IsSoundRow (buffer : List ℕ) (bound : ℕ) (nodes : List Node) (dep
   pub texts : AreIn buffer (forest_of nodes)
   pub room : depth + length nodes ≤ bound
 
+-- The rows of the task are sound (`IsSoundRow`), and the text of its head is in the buffer. The second argument is
+-- the bound.
 abbrev pub IsSound : List ℕ → ℕ → Task → Type 0
 IsSound buffer bound (task.Row nodes first depth) = IsSoundRow buffer bound nodes.now depth
 IsSound buffer bound (task.One head held leads depth) = IsIn buffer head × IsSoundRow buffer bound held.now (depth + 1)
 IsSound buffer bound task.Close = Unit {0}
 
+-- Each task is sound.
 abbrev pub AllSound : List ℕ → ℕ → List Task → Type 0
 AllSound buffer bound [] = Unit {0}
 AllSound buffer bound (t ∷ ts) = IsSound buffer bound t × AllSound buffer bound ts
@@ -85,6 +89,7 @@ rest_of (task.Row nodes first depth) = length nodes.now
 rest_of (task.One head held leads depth) = suc (length held.now)
 rest_of task.Close = 0
 
+-- An upper bound of the number of steps that these tasks take.
 abbrev pub steps_left : List Task → ℕ
 steps_left [] = 0
 steps_left (t ∷ ts) = steps_of t + steps_left ts

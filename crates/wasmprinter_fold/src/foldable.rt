@@ -2,7 +2,7 @@
 //! no branch hints on operators whose folded text has no place for them.
 
 mod check;
-pub mod hints;
+mod hints;
 mod legacy;
 mod lists;
 

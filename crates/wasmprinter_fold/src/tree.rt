@@ -17,7 +17,7 @@ use crate::arities::callees::CalleeTypes;
 use crate::arities::counts::Counts;
 use crate::arities::labels::LabelCounts;
 use crate::arities::operators::counts;
-use crate::node_text::texts::Texts;
+use crate::node_text::texts::{HintedOperator, Texts};
 use crate::nodes::Builder;
 use std::alloc::{AllocError, Global};
 use wasmprinter_custom::FunctionHints;
@@ -25,7 +25,6 @@ use wasmprinter_flat::open_labels::OpenLabels;
 use wasmprinter_flat::operators::Setting;
 use wasmprinter_ops::expression::Expression;
 use wasmprinter_ops::opcode::{Listed, Role};
-use wasmprinter_ops::operator::Operator;
 use wasmprinter_text::signature::Signatures;
 
 /// The nodes of the operators so far, their texts, and the number of values that the labels of the open blocks
@@ -81,9 +80,7 @@ impl GrowingTree {
         &mut self,
         setting: &Setting<'_, S>,
         labels: &OpenLabels<'_, '_>,
-        operator: &Operator<'_>,
-        place: u64,
-        hint: Option<bool>,
+        next: HintedOperator<'_, '_>,
         counts: Counts,
     ) -> Result<(), AllocError>
         requires room { length labels.now.labels + 1 < 2 ^ 64 }
@@ -91,12 +88,10 @@ impl GrowingTree {
         ensures color { self.new.texts.color ≡ self.old.texts.color }
         ensures labels { self.new.labels ≡ self.old.labels }
         ensures steps { OnOk result (GrowsByStep self.old self.new (Plain
-            (shown_operator self.old.texts.color (setting_with_names S.signature_at setting.now labels.now) labels.now place hint operator.now)
+            (shown_operator self.old.texts.color (setting_with_names S.signature_at setting.now labels.now) labels.now next.entry.place next.entry.hint next.entry.operator.now)
             counts.operands counts.results)) }
     {
-        let head = self
-            .texts
-            .write_operator(setting, labels, operator, place, hint)?;
+        let head = self.texts.write_operator(setting, labels, next)?;
         self.builder.plain(head, counts.operands, counts.results)
     }
 
@@ -105,9 +100,7 @@ impl GrowingTree {
         &mut self,
         setting: &Setting<'_, S>,
         labels: &OpenLabels<'_, '_>,
-        operator: &Operator<'_>,
-        place: u64,
-        hint: Option<bool>,
+        next: HintedOperator<'_, '_>,
         counts: Counts,
     ) -> Result<(), AllocError>
         requires room { length labels.now.labels + 1 < 2 ^ 64 }
@@ -115,12 +108,10 @@ impl GrowingTree {
         ensures color { self.new.texts.color ≡ self.old.texts.color }
         ensures labels { self.new.labels ≡ self.old.labels }
         ensures steps { OnOk result (GrowsByStep self.old self.new (Opens
-            (shown_operator self.old.texts.color (setting_with_names S.signature_at setting.now labels.now) labels.now place hint operator.now)
+            (shown_operator self.old.texts.color (setting_with_names S.signature_at setting.now labels.now) labels.now next.entry.place next.entry.hint next.entry.operator.now)
             counts.results)) }
     {
-        let head = self
-            .texts
-            .write_operator(setting, labels, operator, place, hint)?;
+        let head = self.texts.write_operator(setting, labels, next)?;
         self.builder.open(head, counts.results)
     }
 
@@ -129,9 +120,7 @@ impl GrowingTree {
         &mut self,
         setting: &Setting<'_, S>,
         labels: &OpenLabels<'_, '_>,
-        operator: &Operator<'_>,
-        place: u64,
-        hint: Option<bool>,
+        next: HintedOperator<'_, '_>,
         counts: Counts,
     ) -> Result<(), AllocError>
         requires room { length labels.now.labels + 1 < 2 ^ 64 }
@@ -139,13 +128,11 @@ impl GrowingTree {
         ensures color { self.new.texts.color ≡ self.old.texts.color }
         ensures labels { self.new.labels ≡ self.old.labels }
         ensures steps { OnOk result (GrowsByStep self.old self.new (OpensIf
-            (shown_operator self.old.texts.color (setting_with_names S.signature_at setting.now labels.now) labels.now place hint operator.now)
-            (shown_keyword self.old.texts.color place (codes "then")) counts.results)) }
+            (shown_operator self.old.texts.color (setting_with_names S.signature_at setting.now labels.now) labels.now next.entry.place next.entry.hint next.entry.operator.now)
+            (shown_keyword self.old.texts.color next.entry.place (codes "then")) counts.results)) }
     {
-        let head = self
-            .texts
-            .write_operator(setting, labels, operator, place, hint)?;
-        let then = self.texts.write_keyword("then", place)?;
+        let head = self.texts.write_operator(setting, labels, next)?;
+        let then = self.texts.write_keyword("then", next.place)?;
         self.builder.open_if(head, then, counts.results)
     }
 
@@ -178,9 +165,7 @@ impl GrowingTree {
         &mut self,
         setting: &Setting<'_, S>,
         labels: &OpenLabels<'_, '_>,
-        operator: &Operator<'_>,
-        place: u64,
-        hint: Option<bool>,
+        next: HintedOperator<'_, '_>,
         counts: Counts,
     ) -> Result<(), AllocError>
         requires room { length labels.now.labels + 1 < 2 ^ 64 }
@@ -188,13 +173,14 @@ impl GrowingTree {
         ensures color { self.new.texts.color ≡ self.old.texts.color }
         ensures labels { self.new.labels ≡ self.old.labels }
         ensures steps { OnOk result (GrowsByStep self.old self.new (operator_step self.old.texts.color
-            (setting_with_names S.signature_at setting.now labels.now) labels.now place hint operator.now (counts_view counts))) }
+            (setting_with_names S.signature_at setting.now labels.now) labels.now next.entry.place next.entry.hint next.entry.operator.now (counts_view counts))) }
     {
+        let operator = next.operator;
         match operator.opcode.role() {
-            Role::Plain => self.plain(setting, labels, operator, place, hint, counts),
-            Role::Opens => self.open(setting, labels, operator, place, hint, counts),
-            Role::OpensIf => self.open_if(setting, labels, operator, place, hint, counts),
-            Role::Else => self.turn(place),
+            Role::Plain => self.plain(setting, labels, next, counts),
+            Role::Opens => self.open(setting, labels, next, counts),
+            Role::OpensIf => self.open_if(setting, labels, next, counts),
+            Role::Else => self.turn(next.place),
             Role::OpensTry | Role::Catches | Role::CatchesAll | Role::Delegates | Role::Ends => {
                 self.end()
             }
@@ -208,23 +194,24 @@ impl GrowingTree {
         setting: &Setting<'_, S>,
         labels: &OpenLabels<'_, '_>,
         own: Option<u32>,
-        operator: &Operator<'_>,
-        place: u64,
-        hint: Option<bool>,
+        next: HintedOperator<'_, '_>,
     ) -> Result<(), AllocError>
         requires room { length labels.now.labels + 1 < 2 ^ 64 }
         requires shows { (s : StateOf Shown) × Shows self.old s }
         ensures color { self.new.texts.color ≡ self.old.texts.color }
-        ensures labels { OnOk result (self.new.labels ≡ labels_after (role_of operator.now.opcode)
-            (label_of_block (signatures_within callees.now own) operator.now) self.old.labels) }
+        ensures labels { OnOk result (self.new.labels ≡ labels_after (role_of next.entry.operator.now.opcode)
+            (label_of_block (signatures_within callees.now own) next.entry.operator.now) self.old.labels) }
         ensures steps { OnOk result (GrowsByStep self.old self.new (operator_step self.old.texts.color
-            (setting_with_names S.signature_at setting.now labels.now) labels.now place hint operator.now
-            (counts_of (signatures_within callees.now own) self.old.labels operator.now))) }
+            (setting_with_names S.signature_at setting.now labels.now) labels.now next.entry.place next.entry.hint next.entry.operator.now
+            (counts_of (signatures_within callees.now own) self.old.labels next.entry.operator.now))) }
     {
+        let operator = next.operator;
         let counts = counts(callees, own, &self.labels, operator);
-        self.add(setting, labels, operator, place, hint, counts)?;
-        self.labels
-            .advance(operator.opcode.role(), label_of_block(callees, operator))
+        self.add(setting, labels, next, counts)?;
+        match operator.opcode.role() {
+            Role::Plain => Ok(()),
+            role => self.labels.advance(role, label_of_block(callees, operator)),
+        }
     }
 
     /// Folds the operators of an expression. `own` is the number of results of the enclosing function: 0 in a constant
@@ -259,7 +246,12 @@ impl GrowingTree {
                 return Ok(false);
             }
             let hint = take_hint(&mut hints, place.saturating_sub(setting.body));
-            self.fold_next(callees, setting, labels, own, &operator, place, hint)?;
+            let next = HintedOperator {
+                operator: &operator,
+                place,
+                hint,
+            };
+            self.fold_next(callees, setting, labels, own, next)?;
             labels.advance(role);
         }
         Ok(true)

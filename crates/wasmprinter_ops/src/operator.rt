@@ -303,7 +303,8 @@ fn read_memory_lane<'a>(cursor: &mut Cursor<'a>) -> Result<Immediates<'a>, Malfo
 }
 
 impl<'a> Operator<'a> {
-    /// Reads the immediates of the opcode at `place`.
+    /// Reads the immediates of the opcode at `place`. The most frequent shapes have their own arms, so that their
+    /// immediates are not copied from the result of [`Immediates::read`].
     #[inline(always)]
     fn read_after(cursor: &mut Cursor<'a>, place: u64, opcode: Opcode) -> Result<Self, Malformed>
         requires { place ≤ cursor.now.place }
@@ -315,7 +316,13 @@ impl<'a> Operator<'a> {
         let Some(shape) = opcode.shape() else {
             return Err(Malformed { place });
         };
-        let immediates = Immediates::read(cursor, shape)?;
+        let immediates = match shape {
+            Shape::None => Immediates::None,
+            Shape::Index(_) | Shape::DefaultIndex(_) => Immediates::Index(cursor.u32()?),
+            Shape::Memory(_) => Immediates::Memory(MemArg::read(cursor)?),
+            Shape::I32 => Immediates::I32(cursor.s32()?),
+            _ => Immediates::read(cursor, shape)?,
+        };
         Ok(Operator { opcode, immediates })
     }
 }

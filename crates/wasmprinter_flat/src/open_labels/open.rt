@@ -178,6 +178,7 @@ impl<'n, 'a> OpenLabels<'n, 'a> {
     }
 
     /// Moves past an operator with the role.
+    #[inline]
     pub fn advance(&mut self, role: Role)
         requires { self.old.count + 1 < 2 ^ 64 }
         ensures { self.new ≡ after_operator (role_view role) self.old }

@@ -10,29 +10,10 @@ ghost use Rattle.wasmprinter_ops.specs.Shapes.{role_view};
 ghost use Rattle.wasmprinter_fold.specs.Refused.{error_of_first};
 
 use wasmprinter_bytes::Error;
-use wasmprinter_custom::{FunctionHints, Hint, Hints, is_hint_section};
+use wasmprinter_custom::{FunctionHints, Hint, is_hint_section};
 use wasmprinter_ops::opcode::{Listed, Role};
+use wasmprinter_wasm::hints::hints_of;
 use wasmprinter_wasm::{Body, CustomEntry, ExternKind, Fields, Module};
-
-/// Returns the branch hints of a module's custom sections: those of the last hint section.
-pub fn hints_of<'a>(customs: &[CustomEntry<'a>]) -> Hints<'a>
-    ensures { result ≡ hints_of customs.now }
-{
-    let mut last = None;
-    for entry in customs {
-        if is_hint_section(entry.section.name()) {
-            last = Some(&entry.section);
-        }
-    }
-    match last {
-        Some(section) => {
-            let content = section.cursor();
-            prove!(content.end() <= u64::MAX);
-            Hints::of_section(content.place(), content.rest())
-        }
-        None => Hints::none(),
-    }
-}
 
 /// Reports whether there is a hint section among the custom sections.
 fn has_hints(customs: &[CustomEntry<'_>]) -> bool

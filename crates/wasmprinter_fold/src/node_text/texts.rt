@@ -17,6 +17,17 @@ use wasmprinter_print::sequences::{
 use wasmprinter_print::{Print, PrintOptions, Printer};
 use wasmprinter_text::signature::Signatures;
 
+/// An operator of a list, with its place and its branch hint.
+#[derive(Clone, Copy)]
+pub struct HintedOperator<'o, 'a> {
+    /// The operator.
+    pub operator: &'o Operator<'a>,
+    /// The byte offset of the operator from the start of the module.
+    pub place: u64,
+    /// Whether the operator's branch is hinted as taken, or `None` if it has no hint.
+    pub hint: Option<bool>,
+}
+
 /// The texts of nodes, one after another in one buffer, with or without the ANSI escape sequences of their styles.
 ///
 /// As a printer it appends to the last text and claims no custom section. A call fails only if an allocation fails,
@@ -146,20 +157,18 @@ impl Texts {
         &mut self,
         setting: &Setting<'_, S>,
         labels: &OpenLabels<'_, '_>,
-        operator: &Operator<'_>,
-        place: u64,
-        hint: Option<bool>,
+        next: HintedOperator<'_, '_>,
     ) -> Result<NodeText, AllocError>
         requires { length labels.now.labels + 1 < 2 ^ 64 }
         ensures color { self.new.color ≡ self.old.color }
         ensures grows { GrowsText self.old.bytes self.new.bytes }
         ensures inside { IfOk result (λ head. IsIn self.new.bytes head) }
-        ensures shows { IfOk result (λ head. shown_of_head self.new.bytes head ≡ shown_of_calls place hint self.old.color
-            (all_calls defaults (word_pieces_with_names S.signature_at setting.now labels.now operator.now))) }
+        ensures shows { IfOk result (λ head. shown_of_head self.new.bytes head ≡ shown_of_calls next.entry.place next.entry.hint self.old.color
+            (all_calls defaults (word_pieces_with_names S.signature_at setting.now labels.now next.entry.operator.now))) }
     {
         let start = self.begin();
-        self.push_operator(setting, labels, operator)?;
-        Ok(self.head(start, place, hint))
+        self.push_operator(setting, labels, next.operator)?;
+        Ok(self.head(start, next.place, next.hint))
     }
 
     /// Writes the text of the node of a case of an `if`, which is its keyword, and returns its head.

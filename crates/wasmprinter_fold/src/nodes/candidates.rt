@@ -1,10 +1,10 @@
 //! The nodes that the next operators may take as operands, and the search for operands among them.
-ghost use Rattle.std.specs.Prelude.{◌≡◌, ◌≤◌, ℕ, List, [], ◌∷◌, ◌++◌, OnOk};
+ghost use Rattle.std.specs.Prelude.{◌≡◌, ◌≤◌, ◌<◌, ℕ, List, [], ◌∷◌, ◌++◌, length, OnOk};
 ghost use Rattle.std.specs.List.Sorted.{IsNonDecreasingBy};
 ghost use Rattle.wasmprinter_spec.specs.Folding.Tree.{NodesOf, operand_search, front};
 ghost use Rattle.wasmprinter_fold.specs.declared.nodes.NodeText.{NodeText};
 ghost use Rattle.wasmprinter_fold.specs.declared.nodes.candidates.Candidate.{Candidate};
-ghost use Rattle.wasmprinter_fold.specs.Candidates.{candidates, candidate_after, total_of, outcome, IsSplit, IsCut, IsOperandsCut, IsEndOf, IsLimited};
+ghost use Rattle.wasmprinter_fold.specs.Candidates.{candidates, candidate_after, total_of, sum_at, outcome, IsSplit, IsCut, IsOperandsCut, IsEndOf, IsLimited};
 
 use std::alloc::AllocError;
 
@@ -39,7 +39,7 @@ pub struct Cut {
     pub sum: u128,
 }
 
-/// The search for operands looks at this many candidates one by one before its step grows. Most operators take fewer.
+/// The search for operands looks at this many candidates one by one before its step grows.
 const NEAREST: usize = 4;
 
 /// Returns the sum of the results of a row.
@@ -52,26 +52,22 @@ fn total(row: &[Candidate]) -> u128
     }
 }
 
-/// Returns the step of the search after it has passed this many candidates: one at first, and then as many.
-fn step_after(passed: usize) -> usize
-    ensures { 1 ≤ result }
-{
-    if passed < NEAREST { 1 } else { passed }
-}
-
-/// Returns the number of candidates whose sum is at most `limit`.
+/// Returns the number of candidates whose sum is at most `limit`. The sums from `end` on are greater.
 ///
-/// The search begins at the end of the row. It looks at the nearest candidates one by one, and then doubles its
-/// distance from the end. So it looks at O(log n) candidates, where n is the number of those that it does not count.
-fn count_within(row: &[Candidate], limit: u128) -> usize
-    requires { IsNonDecreasingBy (λ (c : Candidate). c.sum) row.now }
+/// The search doubles its distance from the end of the row. So it looks at O(log n) candidates, where n is the number
+/// of those that it does not count.
+fn count_within_far(row: &[Candidate], limit: u128, end: usize) -> usize
+    requires rising { IsNonDecreasingBy (λ (c : Candidate). c.sum) row.now }
+    requires within { end ≤ length row.now }
+    requires above { (k : ℕ) → end ≤ k → k < length row.now → limit < sum_at row.now k }
     ensures { IsSplit row.now limit result }
 {
     let mut low = 0;
-    let mut high = row.len();
+    let mut high = end;
     'probes: while low < high {
         let half = (high - low) / 2;
-        let middle = high - step_after(row.len() - high).min(half + 1);
+        let passed = row.len() - high;
+        let middle = high - passed.max(1).min(half + 1);
         if row[middle].sum <= limit {
             low = middle + 1;
         } else {
@@ -79,6 +75,22 @@ fn count_within(row: &[Candidate], limit: u128) -> usize
         }
     }
     low
+}
+
+/// Returns the number of candidates whose sum is at most `limit`.
+fn count_within(row: &[Candidate], limit: u128) -> usize
+    requires { IsNonDecreasingBy (λ (c : Candidate). c.sum) row.now }
+    ensures { IsSplit row.now limit result }
+{
+    let first = row.len().saturating_sub(NEAREST);
+    let mut end = row.len();
+    'nearest: while end > first {
+        if row[end - 1].sum <= limit {
+            return end;
+        }
+        end -= 1;
+    }
+    count_within_far(row, limit, end)
 }
 
 /// Searches a row for the operands of an operator that takes `operands` values.

@@ -1,20 +1,17 @@
 use Rattle.std.proofs.Common.{arith, ◌-◌}
 use Rattle.wasmprinter_fold.proofs.nodes.candidates.count_within.Goals as goal
 
-pub probes-preserved-then-row-middle : goal.probes-preserved-then-row-middle
-probes-preserved-then-row-middle c =
+pub returns-then-row-end : goal.returns-then-row-end
+returns-then-row-end c =
     record {
-      ordered = omega arith;
-      within = c.probes.invariant.within;
-      below = λ k i. omega (arith, c.requires k (c.probes.high - c.min.result) (record { start = 0; sum = 0 }) (omega (arith, i)) (omega arith));
-      above = c.probes.invariant.above;
+      within = c.nearest.invariant.within;
+      below = λ k i. omega (arith, c.requires k (c.nearest.end - 1) (record { start = 0; sum = 0 }) (omega (arith, i)) (omega arith));
+      above = c.nearest.invariant.above;
     }
 
-pub probes-preserved : goal.probes-preserved
-probes-preserved c =
+pub nearest-preserved : goal.nearest-preserved
+nearest-preserved c =
     record {
-      ordered = omega arith;
       within = omega arith;
-      below = c.probes.invariant.below;
-      above = λ k i j. omega (arith, c.requires (c.probes.high - c.min.result) k (record { start = 0; sum = 0 }) i j);
+      above = λ k i j. omega (arith, c.requires (c.nearest.end - 1) k (record { start = 0; sum = 0 }) i j);
     }

@@ -1,15 +1,13 @@
-use Rattle.std.proofs.Common.{ℕ, ◌-◌, ◌<◌, ◌≤◌, length}
+use Rattle.std.proofs.Common.{ℕ, ◌<◌, ◌≤◌, length}
 use Rattle.wasmprinter_fold.specs.Candidates.{sum_at}
 use Rattle.wasmprinter_fold.proofs.nodes.candidates.count_within.Given as goal
 
-abbrev pub invariant-probes : goal.invariant-probes
-invariant-probes l =
+abbrev pub invariant-nearest : goal.invariant-nearest
+invariant-nearest l =
     record {
-      ordered : l.low ≤ l.high;
-      within : l.high ≤ length l.row;
-      below : (k : ℕ) → k < l.low → sum_at l.row k ≤ l.limit;
-      above : (k : ℕ) → l.high ≤ k → k < length l.row → l.limit < sum_at l.row k;
+      within : l.end ≤ length l.row;
+      above : (k : ℕ) → l.end ≤ k → k < length l.row → l.limit < sum_at l.row k;
     }
 
-abbrev pub decreases-probes : goal.decreases-probes
-decreases-probes l = l.high - l.low
+abbrev pub decreases-nearest : goal.decreases-nearest
+decreases-nearest l = l.end

@@ -13,9 +13,9 @@ returns-in-Plain-clause-steps g c =
     let color = c.args.self.now.texts.color in
     let x =
     shown_operator color (setting_with_names g.S.Signatures.signature_at c.args.setting.now c.args.labels.now) c.args.labels.now
-    c.args.place c.args.hint c.args.operator.now in
-    let then = shown_keyword color c.args.place (codes "then") in
-    let otherwise = shown_keyword color c.args.place (codes "else") in
+    c.args.next.place c.args.next.hint c.args.next.operator.now in
+    let then = shown_keyword color c.args.next.place (codes "then") in
+    let otherwise = shown_keyword color c.args.next.place (codes "else") in
     same_step c.plain.result c.args.self.now c.plain.new.self _ _
     (by_role (role_view c.role.result) _ x then otherwise (counts_view c.args.counts) (c.role.ensures ∙ ap (λ (o : Operator). role_of o.opcode) c.operator.view_is))
     (rw (c.in-Plain.is) c.plain.ensures.steps)
@@ -25,9 +25,9 @@ returns-in-Opens-clause-steps g c =
     let color = c.args.self.now.texts.color in
     let x =
     shown_operator color (setting_with_names g.S.Signatures.signature_at c.args.setting.now c.args.labels.now) c.args.labels.now
-    c.args.place c.args.hint c.args.operator.now in
-    let then = shown_keyword color c.args.place (codes "then") in
-    let otherwise = shown_keyword color c.args.place (codes "else") in
+    c.args.next.place c.args.next.hint c.args.next.operator.now in
+    let then = shown_keyword color c.args.next.place (codes "then") in
+    let otherwise = shown_keyword color c.args.next.place (codes "else") in
     same_step c.open.result c.args.self.now c.open.new.self _ _
     (by_role (role_view c.role.result) _ x then otherwise (counts_view c.args.counts) (c.role.ensures ∙ ap (λ (o : Operator). role_of o.opcode) c.operator.view_is))
     (rw (c.in-Opens.is) c.open.ensures.steps)
@@ -37,9 +37,9 @@ returns-in-OpensIf-clause-steps g c =
     let color = c.args.self.now.texts.color in
     let x =
     shown_operator color (setting_with_names g.S.Signatures.signature_at c.args.setting.now c.args.labels.now) c.args.labels.now
-    c.args.place c.args.hint c.args.operator.now in
-    let then = shown_keyword color c.args.place (codes "then") in
-    let otherwise = shown_keyword color c.args.place (codes "else") in
+    c.args.next.place c.args.next.hint c.args.next.operator.now in
+    let then = shown_keyword color c.args.next.place (codes "then") in
+    let otherwise = shown_keyword color c.args.next.place (codes "else") in
     same_step c.open_if.result c.args.self.now c.open_if.new.self _ _
     (by_role (role_view c.role.result) _ x then otherwise (counts_view c.args.counts) (c.role.ensures ∙ ap (λ (o : Operator). role_of o.opcode) c.operator.view_is))
     (rw (c.in-OpensIf.is) c.open_if.ensures.steps)
@@ -49,9 +49,9 @@ returns-in-Else-clause-steps g c =
     let color = c.args.self.now.texts.color in
     let x =
     shown_operator color (setting_with_names g.S.Signatures.signature_at c.args.setting.now c.args.labels.now) c.args.labels.now
-    c.args.place c.args.hint c.args.operator.now in
-    let then = shown_keyword color c.args.place (codes "then") in
-    let otherwise = shown_keyword color c.args.place (codes "else") in
+    c.args.next.place c.args.next.hint c.args.next.operator.now in
+    let then = shown_keyword color c.args.next.place (codes "then") in
+    let otherwise = shown_keyword color c.args.next.place (codes "else") in
     same_step c.turn.result c.args.self.now c.turn.new.self _ _
     (by_role (role_view c.role.result) _ x then otherwise (counts_view c.args.counts) (c.role.ensures ∙ ap (λ (o : Operator). role_of o.opcode) c.operator.view_is))
     (rw (c.in-Else.is) c.turn.ensures.steps)
@@ -61,9 +61,9 @@ returns-in-OpensTry g c =
     let color = c.args.self.now.texts.color in
     let x =
     shown_operator color (setting_with_names g.S.Signatures.signature_at c.args.setting.now c.args.labels.now) c.args.labels.now
-    c.args.place c.args.hint c.args.operator.now in
-    let then = shown_keyword color c.args.place (codes "then") in
-    let otherwise = shown_keyword color c.args.place (codes "else") in
+    c.args.next.place c.args.next.hint c.args.next.operator.now in
+    let then = shown_keyword color c.args.next.place (codes "then") in
+    let otherwise = shown_keyword color c.args.next.place (codes "else") in
     record {
       color = c.end.ensures.color;
       labels = c.end.ensures.labels;

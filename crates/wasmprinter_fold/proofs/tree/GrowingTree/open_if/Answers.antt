@@ -20,5 +20,5 @@ returns-clause-steps g c =
     shows-step third c.args.self.now.builder c.open_if.new.self (OpensIf head then c.args.counts.results) _ s
     (in_grown second third head k.grows e.inside, k.inside)
     (ap₂ (λ (x y : Shown). OpensIf x y c.args.counts.results) (shown_grown second third head k.grows e.inside ∙ e.shows)
-    (k.shows ∙ ap (λ (color : Bool). shown_keyword color c.args.place (codes "then")) e.color)) f
+    (k.shows ∙ ap (λ (color : Bool). shown_keyword color c.args.next.place (codes "then")) e.color)) f
     (shows-more second third c.args.self.now.builder s k.grows (shows-more first second c.args.self.now.builder s e.grows h))) c.open_if.ensures

@@ -4,10 +4,10 @@ use Rattle.wasmprinter_fold.proofs.node_text.texts.Texts.write_operator.Goals as
 
 pub returns-clause-inside : goal.returns-clause-inside
 returns-clause-inside g c =
-    entered_in c.args.self.now c.begin-start.new.self _ c.args.place c.begin-start.result c.args.hint _ c.begin-start.ensures.buffer c.begin-start.ensures.start
+    entered_in c.args.self.now c.begin-start.new.self _ c.args.next.place c.begin-start.result c.args.next.hint _ c.begin-start.ensures.buffer c.begin-start.ensures.start
     (made_adds _ _ _ c.in_ok-push_operator.ensures.made) c.head.result c.head.ensures
 
 pub returns-clause-shows : goal.returns-clause-shows
 returns-clause-shows g c =
-    entered_shown c.args.self.now c.begin-start.new.self _ c.args.place c.begin-start.result c.args.hint _ c.begin-start.ensures.buffer c.begin-start.ensures.start
+    entered_shown c.args.self.now c.begin-start.new.self _ c.args.next.place c.begin-start.result c.args.next.hint _ c.begin-start.ensures.buffer c.begin-start.ensures.start
     (made_adds _ _ _ c.in_ok-push_operator.ensures.made) c.head.result c.head.ensures
