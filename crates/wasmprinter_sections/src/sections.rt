@@ -17,8 +17,8 @@ use crate::imports::write_imports;
 use crate::scope::Scope;
 use crate::start::write_start;
 use crate::types::write_type_groups;
-use wasmprinter_fold::foldable::hints::hints_of;
 use wasmprinter_print::FoldingOutput;
+use wasmprinter_wasm::hints::hints_of;
 use wasmprinter_wasm::{ExternKind, Fields, Module, SectionKind};
 
 /// Writes the functions that the module defines, with their branch hints. Their indices follow those of the

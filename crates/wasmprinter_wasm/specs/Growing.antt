@@ -54,6 +54,7 @@ ItemsGrow flags at = ExpressionsGrow (holds_expressions flags) (omits_kind flags
 abbrev pub SegmentGrows : ℕ → Input → Type 0
 SegmentGrows flags at = ModeGrows flags at ⊎ After (mode_by flags).parse (λ _. ItemsGrow flags) at
 
+-- Reading an element segment may allocate for its mode or its items.
 abbrev pub ElementGrows : Input → Type 0
 ElementGrows at = After u32.parse SegmentGrows at
 

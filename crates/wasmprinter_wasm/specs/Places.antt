@@ -19,5 +19,6 @@ section_kind_view k.Element = ElementSection
 section_kind_view k.Code = CodeSection
 section_kind_view k.Data = DataSection
 
+-- The kind of the section that a custom section follows, if there is one.
 abbrev pub place_view : Option SectionKind → Option Kind
 place_view after = option_map section_kind_view after

@@ -22,6 +22,7 @@ use Rattle.wasmprinter_wasm.specs.declared.data_segments.DataMode.TheVariants as
 abbrev pub Constant : Type 0
 Constant = List (Placed Operator)
 
+-- The operators of an expression, and those of each of several (`constants_of`).
 abbrev pub constant_of : Closed (Placed Operator) → Constant
 constant_of e = e.items
 
@@ -56,9 +57,10 @@ data_mode_view (d.Active memory offset) = ActiveData memory (constant_of offset)
 
 -- ---- Element segments after their flags, which are below 8
 
--- The flags, bit by bit. Bit 0 is set if the segment is passive or declarative, and clear if it is active. Bit 1 is
--- set if an active segment has an explicit table index, or if an inactive one is declarative. Bit 2 is set if the
--- items are expressions, and clear if they are function indices.
+-- The flags, bit by bit. Bit 0 (`is_inactive`) is set if the segment is passive or declarative, and clear if it is
+-- active. Bit 1 (`is_explicit`) is set if an active segment has an explicit table index, or if an inactive one is
+-- declarative. Bit 2 (`holds_expressions`) is set if the items are expressions, and clear if they are function
+-- indices.
 abbrev pub is_inactive : ℕ → Bool
 is_inactive flags = has_bit 0 flags
 

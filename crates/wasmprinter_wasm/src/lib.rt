@@ -14,6 +14,7 @@ mod function;
 mod functions;
 mod global_types;
 mod globals;
+pub mod hints;
 mod imports;
 mod limits;
 mod memories;
