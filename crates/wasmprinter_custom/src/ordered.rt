@@ -1,5 +1,5 @@
 //! The names of a module, ordered by the places of its items, while they are added.
-ghost use Rattle.std.specs.Prelude.{◌≡◌, ◌<◌, ◌++◌, ◌∷◌, ◌↔◌, List, [], length, vec_len, vec_capacity, is_some, true};
+ghost use Rattle.std.specs.Prelude.{◌≡◌, ◌<◌, ◌++◌, ◌∷◌, ◌↔◌, List, [], length, is_some, true};
 ghost use Rattle.std.specs.Prelude.{slice_index_or, slice_set, IfSome, IfOk, OnOk, OnErr, IsOk, IsTrue, MatchOption, Some, None, false};
 ghost use Rattle.std.specs.Ordering.{is_lt};
 ghost use Rattle.wasmprinter_custom.specs.Lookups.{Ascends, AllAreBefore, AreDisjoint, Gains, stored_at};
@@ -72,12 +72,13 @@ impl<'a> NamesInOrder<'a> {
     pub(crate) fn into_list(self, alloc: Global) -> Result<Vec<(Place, StoredName<'a>)>, AllocError>
         ensures all { IfOk result (λ list. (q : Place) → stored_at list.items q ≡ stored_at self.entry q) }
         ensures ascend { IfOk result (λ list. Ascends list.items) }
-        ensures exact { IfOk result (λ list. vec_capacity list ≡ vec_len list) }
         ensures needed { self.entry ≡ [] → IsOk result }
     {
         let NamesInOrder { ascending, late } = self;
         if late.is_empty() {
-            without_spare(ascending)
+            let mut names = ascending;
+            names.shrink_to_fit();
+            Ok(names)
         } else {
             merge(alloc, ascending, late)
         }
@@ -105,27 +106,6 @@ fn replace<'a>(list: &mut Vec<(Place, StoredName<'a>)>, position: usize, stored:
     list[position].1 = stored;
 }
 
-/// Returns a list of names without its spare capacity.
-///
-/// # Errors
-///
-/// If an allocation fails: shrinking may need a new block. Without names nothing is allocated.
-fn without_spare<'a>(
-    list: Vec<(Place, StoredName<'a>)>,
-) -> Result<Vec<(Place, StoredName<'a>)>, AllocError>
-    ensures all { IfOk result (λ shrunk. shrunk.items ≡ list.entry.items) }
-    ensures exact { IfOk result (λ shrunk. vec_capacity shrunk ≡ vec_len shrunk) }
-    ensures needed { list.entry.items ≡ [] → IsOk result }
-{
-    let mut shrunk = list;
-    shrunk.shrink_to_fit();
-    if shrunk.capacity() == shrunk.len() {
-        Ok(shrunk)
-    } else {
-        Err(AllocError)
-    }
-}
-
 /// Merges the names of a list and those of a tree by the order of their places.
 ///
 /// # Errors
@@ -140,7 +120,6 @@ fn merge<'a>(
     requires disjoint { AreDisjoint list.items tree.entries }
     ensures all { IfOk result (λ all. (q : Place) → stored_at all.items q ≡ stored_at (tree.entry.entries ++ list.entry.items) q) }
     ensures ascend { IfOk result (λ all. Ascends all.items) }
-    ensures exact { IfOk result (λ all. vec_capacity all ≡ vec_len all) }
 {
     let mut all = Vec::with_capacity(alloc, list.len() + tree.len())?;
     let mut late = tree.into_iter();
@@ -156,7 +135,7 @@ fn merge<'a>(
         all.push(last)?;
         next = late.next();
     }
-    without_spare(all)
+    Ok(all)
 }
 
 /// Takes the name in `next` if its place is below this one.

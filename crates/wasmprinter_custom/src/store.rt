@@ -1,5 +1,5 @@
 //! The names of a module, by item.
-ghost use Rattle.std.specs.Prelude.{◌≡◌, ◌++◌, ◌∷◌, [], ℕ, List, map, not, vec_len, vec_capacity};
+ghost use Rattle.std.specs.Prelude.{◌≡◌, ◌++◌, ◌∷◌, [], ℕ, List, map, not};
 ghost use Rattle.std.specs.Prelude.{IfOk, OnOk, IsOk, option_map, option_copied};
 ghost use Rattle.wasmprinter_spec.specs.LabelNames.{is_clean, label_content};
 ghost use Rattle.wasmprinter_spec.specs.Names.Section.{Entry, entry_of, module_subsection, label_subsection};
@@ -208,8 +208,7 @@ impl<'a> Model for Names<'a> {
 
     ghost view = { λ n. map item_view n.entries.items };
 
-    ghost invariant = { λ n. Ascends n.entries.items × AreOfLabels (map item_view n.entries.items) × AreMarked n.entries.items n.named
-        × (vec_capacity n.entries ≡ vec_len n.entries) };
+    ghost invariant = { λ n. Ascends n.entries.items × AreOfLabels (map item_view n.entries.items) × AreMarked n.entries.items n.named };
 }
 
 impl Names<'_> {

@@ -1,6 +1,5 @@
 use Rattle.std.proofs.Common.{◌≡◌, ◌∷◌, ◌++◌, length, sym, ap, ◌∙◌, subst, arith}
 use Rattle.std.proofs.lemmas.List.{append-nil}
-use Rattle.std.proofs.lemmas.Result.{IfOk-weaker}
 use Rattle.std.specs.Option.{option_to_list}
 use Rattle.std.specs.Vec.Iter.{into_iter_items}
 use Rattle.wasmprinter_custom.specs.Lookups.{stored_at}
@@ -34,9 +33,7 @@ returns-clause-all c =
     let whole : c.loop-next.all.items ≡ before ++ left =
     sym (append-nil c.loop-next.all.items) ∙ ap (λ es. c.loop-next.all.items ++ es) (sym (c.loop-next.invariant.ended c.in_default-next.is))
     ∙ ap (λ o. c.loop-next.all.items ++ (option_to_list o ++ c.loop-next.late)) (sym c.in_default-next.is) ∙ c.loop-next.invariant.same in
-    IfOk-weaker c.without_spare.result (λ all. all.items ≡ c.loop-next.all.items) _
-    (λ all is q.
-    ap (λ es. stored_at es q) (is ∙ whole)
+    λ q.
+    ap (λ es. stored_at es q) whole
     ∙ merged c.args.list.items c.args.tree.entries before (into_iter_items c.loop-entry.entry-iterator) left _
-    c.loop-entry.invariant.len c.in-None.ensures.steps.0 c.loop-entry.invariant.waiting.merging q)
-    c.without_spare.ensures.all
+    c.loop-entry.invariant.len c.in-None.ensures.steps.0 c.loop-entry.invariant.waiting.merging q

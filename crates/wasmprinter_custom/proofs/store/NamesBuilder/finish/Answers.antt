@@ -10,7 +10,6 @@ invariant_of-result c =
       c.in_ok-entries.ensures.ascend,
       same_of_labels c.args.self.names items c.in_ok-entries.ensures.all c.args.self.of_labels,
       subst (λ es. AreMarked es c.marks_of-named.result) c.deref-2.ensures.value c.marks_of-named.ensures,
-      c.in_ok-entries.ensures.exact,
     )
 
 pub returns-clause-names : goal.returns-clause-names
