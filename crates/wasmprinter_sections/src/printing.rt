@@ -1,7 +1,7 @@
 //! Printing a module to a printer.
 ghost use Rattle.std.specs.Prelude.{◌≡◌, Bool, true, IfOk, IfErr};
 ghost use Rattle.wasmprinter_bytes.specs.declared.error.Error.TheVariants.{Memory};
-ghost use Rattle.wasmprinter_spec.specs.Options.{Answers, in_colors};
+ghost use Rattle.wasmprinter_spec.specs.Options.{Options, Answers, in_colors};
 ghost use Rattle.wasmprinter_flat.specs.OpenLabels.Scan.{names_of};
 ghost use Rattle.wasmprinter_sections.specs.Endings.{PrintsLaid};
 ghost use Rattle.wasmprinter_sections.specs.Sections.{module_laid, Folds};
@@ -76,8 +76,9 @@ pub fn print_module<'s, 'a, P: Print>(
     module: &'s Module<'a>,
     labels: OpenLabels<'s, 'a>,
 ) -> Result<(), Error>
-    ensures { (answers : Answers) × PrintsLaid P.meaning (in_colors options.now (P.colors p.old)) p.old p.new result
-        (module_laid (in_colors options.now (P.colors p.old)) answers (names_of labels.entry) module.now) }
+    ensures { let chosen : Options = in_colors options.now (P.colors p.old) in
+        (answers : Answers) × PrintsLaid P.meaning chosen p.old p.new result
+        (module_laid chosen answers (names_of labels.entry) module.now) }
 {
     let color = p.supports_async_color();
     let folder = folder_of(alloc, color, options, module)?;
