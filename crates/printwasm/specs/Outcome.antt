@@ -66,7 +66,8 @@ Rendering X = X → Option (List ℕ) → Type 0
 abbrev pub ReportsError : {V X : Type 0} → TextWrite V → V → V → Rendering X → X → Type 0
 ReportsError reports old new renders error = (text : Option (List ℕ)) × renders error text × IsWrittenOnce reports old new (error_line text)
 
--- The exit statuses.
+-- The exit statuses: the text was printed (`printed_status`); the module was not printed, or the arguments can't be
+-- read (`refused_status`); the words do not name one file, or one is an unknown option (`misused_status`).
 abbrev pub printed_status : ℕ
 printed_status = 0
 

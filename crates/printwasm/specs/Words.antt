@@ -17,6 +17,8 @@ is_option word = starts_with nat_eq word (codes "--")
 abbrev pub has : List (List ℕ) → List ℕ → Bool
 has words word = list_any (λ w. bytes_eq w word) words
 
+-- The options of the program: `offsets_option`, `skeleton_option`, `name_unnamed_option`, `fold_option` and
+-- `color_option`.
 abbrev pub offsets_option : List ℕ
 offsets_option = codes "--offsets"
 

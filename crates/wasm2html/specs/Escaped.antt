@@ -11,5 +11,6 @@ escape_byte b =
     else (if b == 34 then codes "&quot;"
     else b ∷ [])))
 
+-- The text with each byte escaped.
 abbrev pub escaped : List ℕ → List ℕ
 escaped text = flat_map escape_byte text

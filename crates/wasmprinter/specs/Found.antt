@@ -17,8 +17,8 @@ text_lines lines = map (λ line. (line.0, line.1.now)) lines
 abbrev pub place_at : List (Placed Operator) → ℕ → Option ℕ
 place_at operators number = option_map (λ (o : Placed Operator). o.place) (slice_get operators number)
 
--- For any lines: if a result is returned, its place is the place of the operator, and the line with its number
--- begins with that place.
+-- For any lines: if a result is returned, its place is the place of the operator, and the line with its number begins
+-- with that place. The order is: module, lines, number of the defined function, number of the operator in it, result.
 abbrev pub IsAtItsLine : PlacedModule → List TextLine → ℕ → ℕ → Option (ℕ × ℕ) → Type 0
 IsAtItsLine m lines function operator result =
     (number place : ℕ) → result ≡ Some (number, place) →
@@ -44,8 +44,8 @@ pub record AreLinesOf (m : PlacedModule) (lines : List TextLine) : Type 0 where
   -- The bytes encode a module whose text, appended to `old`, gives `storage` and these lines.
   pub given : HasLinesBy options bytes old storage lines
 
--- In all lines of the module, the line of an existing operator is found, and it is the only one with its place.
--- For an operator that does not exist, the result is `None`.
+-- In all lines of the module, the line of an existing operator is found, and it is the only one with its place. For
+-- an operator that does not exist, the result is `None`. The order is that of `IsAtItsLine`.
 abbrev pub FindsItsLine : PlacedModule → List TextLine → ℕ → ℕ → Option (ℕ × ℕ) → Type 0
 FindsItsLine m lines function operator result =
     AreLinesOf m lines →

@@ -31,7 +31,8 @@ pub record HasLinesBy (o : Options) (bytes old storage : List ℕ) (lines : List
   pub functions : o.skeleton ≡ false → o.folds ≡ false → (i : ℕ) (f : PlacedFunction) → slice_get printed.placed.functions i ≡ Some f →
       HasFunctionLines (hint_places printed.placed) (line_places lines) f
 
--- The same for the lines that begin at these offsets of the storage.
+-- `HasLinesBy` for the lines that begin at these offsets of the storage. The order is: options, bytes of the module,
+-- text before, text after, starts of lines.
 abbrev pub HasLinesAt : Options → List ℕ → List ℕ → List ℕ → List LineStart → Type 0
 HasLinesAt o bytes old storage starts = HasLinesBy o bytes old storage (lines_at_starts starts storage)
 
@@ -57,7 +58,8 @@ pub record GainsTextBefore (id : ℕ) (o : Options) (old new : List ℕ) (placed
   -- The text of the layout was appended.
   pub appended : new ≡ old ++ text_of (layout o answers placed)
 
--- The contents of the storage after an error.
+-- The contents of the storage after an error. The order is: options, bytes of the module, error, contents before,
+-- contents after.
 abbrev pub LeavesStorage : Options → List ℕ → Error → List ℕ → List ℕ → Type 0
 -- After an unknown subsection of a `dylink.0` section: the old text and the text before that section.
 LeavesStorage o bytes (DylinkSubsection id) old new = WhilePrinting o bytes (GainsTextBefore id (in_colors o false) old new)

@@ -46,7 +46,7 @@ pub record IsRefused {P : Type 0} (m : Meaning P) (old new : P) (id : ℕ) (c : 
   pub asked : atoms calls ≡ before ++ Claim c.section.value.name c.section.value.bytes.place c.section.value.bytes.value false ∷ []
 
 -- One of these sections has an unknown subsection with this id. The last call, apart from empty texts, asked whether
--- the printer claims the section, and returned false.
+-- the printer claims the section, and returned false. The two states are those before and after the calls.
 abbrev pub AnyIsRefused : {P : Type 0} → Meaning P → P → P → ℕ → List CustomEntry → Type 0
 AnyIsRefused m old new id [] = ⊥
 AnyIsRefused m old new id (c ∷ cs) = IsRefused m old new id c ⊎ AnyIsRefused m old new id cs
@@ -111,10 +111,9 @@ pub record PrinterFailed {P : Type 0} (m : Meaning P) (old new : P) (error : IoE
   -- increased by one, unless it had its greatest value.
   pub failed : Failed m before call error new
 
--- The reasons of decoding for bytes that encode this module: the first function with too many locals has its
--- body at this place; the module has `count` functions, which is too many; the first table with an empty initialiser is at
--- this place;
--- an allocation failed, under the condition `growth`.
+-- The reasons of decoding for bytes that encode this module: the first function with too many locals has its body at
+-- this place; the module has `count` functions, which is too many; the first table with an empty initialiser is at
+-- this place; an allocation failed, under the condition `growth`.
 abbrev pub causes : Type 0 → PlacedModule → Reasons
 causes growth placed = record {
   malformed = λ place. ⊥;
@@ -130,15 +129,16 @@ abbrev pub MayGrow : Options → PlacedModule → Type 0
 MayGrow o m = HoldsSome m ⊎ (o.folds ≡ true)
 
 -- What the error says of a module. If the bytes encode a module, the error has one of these causes: a limit or an
--- empty initialiser, as above; an allocation that failed, only if the module holds something that is kept or operators
--- are folded; a subsection of a `dylink.0` section that the printer does not claim; an operator or a hint that can't be
--- folded; a call on the printer that failed with exactly this error.
+-- empty initialiser (`causes`); an allocation that failed, only if the module holds something that is kept or
+-- operators are folded; a subsection of a `dylink.0` section that the printer does not claim; an operator or a hint
+-- that can't be folded; a call on the printer that failed with exactly this error. The order is: meaning, options,
+-- bytes, states of the printer before and after, error.
 abbrev pub HasListedCause : {P : Type 0} → Meaning P → Options → List ℕ → P → P → Error → Type 0
 HasListedCause m o bytes old new e =
     (placed : PlacedModule) → Spells bytes placed →
     HasPrintReason (print_reasons o placed (PrinterFailed m old new) (λ id. AnyIsRefused m old new id placed.customs)) (causes (MayGrow o placed) placed) e
 
--- The same for text that is built in memory: an allocation may fail for any module, no printer fails, and no
+-- `HasListedCause` for text that is built in memory: an allocation may fail for any module, no printer fails, and no
 -- section is claimed. So the error names the first section that is refused, in the order of the bytes.
 abbrev pub HasListedTextCause : Options → List ℕ → Error → Type 0
 HasListedTextCause o bytes e =
@@ -237,7 +237,8 @@ each_reason so = record {
 }
 
 -- Either no call was made, or operators are folded and the calls that were made are a prefix of the layout, once each
--- text is cut into single bytes.
+-- text is cut into single bytes. The order is: meaning, whether the printer can write colors as text, options, bytes,
+-- states of the printer before and after.
 abbrev pub LeavesBeginning : {P : Type 0} → Meaning P → Bool → Options → List ℕ → P → P → Type 0
 LeavesBeginning m colors o bytes old new =
     (new ≡ old)

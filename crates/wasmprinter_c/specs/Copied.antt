@@ -20,6 +20,8 @@ Starts old place new =
     × (old.count < 2 ^ 64 - 1 →
     (new.lines.now ≡ over_from old.count (entry place old.written ∷ []) old.lines.now) × (new.count ≡ old.count + 1))
 
+-- The call succeeded: it wrote a text or a line feed, or it started a line. A style changes nothing, and no custom
+-- section is claimed.
 abbrev pub CopiedAfter : Copier → Call → Copier → Type 0
 CopiedAfter old (Text bytes) new = Grows old bytes new
 CopiedAfter old Newline new = Grows old (10 ∷ []) new

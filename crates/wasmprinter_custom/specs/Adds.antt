@@ -20,6 +20,8 @@ AddsUpTo l at old new end = ((l.read at).1 ≡ end) × Grows old new (l.read at)
 abbrev pub WantsMemory : Lenient Entry → Input → Type 0
 WantsMemory l at = (l.read at).0 ≢ []
 
+-- The effect of a reader that returned this error. For `Malformed`, the entries before the error in the bytes were
+-- added. `Memory` is returned only if reading gives an entry, and no other error is returned.
 abbrev pub AddsBefore : Lenient Entry → Input → NamesBuilder → NamesBuilder → Error → Type 0
 AddsBefore l at old new (Malformed place) = AddsUpTo l at old new None
 AddsBefore l at old new Memory = WantsMemory l at
@@ -39,6 +41,8 @@ AddsAll at old new = (gives : List Entry) → GivesNames at gives → Grows old 
 abbrev pub GivesSome : Input → Type 0
 GivesSome at = (gives : List Entry) → GivesNames at gives → gives ≢ []
 
+-- The effect of reading all subsections with this error. For `Malformed`, the entries were added. `Memory` is
+-- returned only if some subsection has an entry, and no other error is returned.
 abbrev pub AddsAllBefore : Input → NamesBuilder → NamesBuilder → Error → Type 0
 AddsAllBefore at old new (Malformed place) = AddsAll at old new
 AddsAllBefore at old new Memory = GivesSome at

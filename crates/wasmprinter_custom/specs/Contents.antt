@@ -3,6 +3,7 @@ use Rattle.wasmprinter_spec.specs.Customs.Dylink as d
 use Rattle.wasmprinter_custom.specs.declared.dylink.Content.{Content}
 use Rattle.wasmprinter_custom.specs.declared.dylink.Content.TheVariants.{MemInfo, Needed, Exports, Imports, RuntimePath}
 
+-- The content that the program's value represents.
 abbrev pub content_view : Content → d.SubsectionContent
 content_view (MemInfo m) = d.Sizes m
 content_view (Needed names) = d.Needed names

@@ -3,6 +3,7 @@
 use Rattle.std.specs.Prelude.{List, [], ◌∷◌, Option, Some, None}
 use Rattle.wasmprinter_spec.specs.Customs.Hints.{FunctionHints}
 
+-- The next entry, if there is one, and those after it.
 abbrev pub entries_left : Option FunctionHints → List FunctionHints → List FunctionHints
 entries_left None after = []
 entries_left (Some entry) after = entry ∷ after

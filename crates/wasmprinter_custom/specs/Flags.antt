@@ -3,6 +3,7 @@ use Rattle.std.specs.Prelude.{ℕ, ◌-◌, List, [], ◌∷◌, if◌then◌els
 use Rattle.wasmprinter_spec.specs.Layout.Customs.{has_flag}
 use Rattle.wasmprinter_custom.specs.declared.flags.SymbolFlags.{SymbolFlags}
 
+-- The number whose bits are the flags.
 abbrev pub bits_of : SymbolFlags → ℕ
 bits_of flags = flags.0
 

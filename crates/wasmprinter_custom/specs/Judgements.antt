@@ -16,6 +16,7 @@ abbrev pub HasKnownId : Found → Type 0
 HasKnownId (f.Known s) = d.other_of s.value ≡ None
 HasKnownId (f.Other place id) = Unit {0}
 
+-- The result of reading the section that the program's value represents.
 abbrev pub judgement_view : DylinkContents → d.Judged
 judgement_view (j.Whole ss) = d.Whole ss
 judgement_view (j.Unknown id) = d.Unknown id

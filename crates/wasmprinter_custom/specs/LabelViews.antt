@@ -3,5 +3,6 @@ use Rattle.wasmprinter_custom.specs.Views.{name_view}
 use Rattle.wasmprinter_custom.specs.Labels.{NamedLabel}
 use Rattle.wasmprinter_custom.specs.declared.store.LabelName.{LabelName}
 
+-- The function, the number and the name of the label.
 abbrev pub label_view : LabelName → NamedLabel
 label_view l = record { function = l.function; number = l.number; name = name_view l.name }

@@ -3,6 +3,7 @@ use Rattle.wasmprinter_spec.specs.Customs as d
 use Rattle.wasmprinter_custom.specs.declared.role.CustomRole.{CustomRole}
 use Rattle.wasmprinter_custom.specs.declared.role.CustomRole.TheVariants as r
 
+-- The role that the program's value represents.
 abbrev pub role_view : CustomRole → d.CustomRole
 role_view r.Silent = d.Silent
 role_view (r.Producers fields) = d.Listed fields

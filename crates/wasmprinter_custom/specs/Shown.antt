@@ -13,10 +13,12 @@ use Rattle.wasmprinter_custom.specs.declared.identifiers.Identifiers.{Identifier
 abbrev pub synthesized_name : ℕ → ℕ → Named
 synthesized_name s number = record { given = None; content = index_content (group_of s) number }
 
+-- The synthesized identifier of an item without a name, if identifiers are synthesized.
 abbrev pub synthesized_view : Bool → ℕ → ℕ → Option Named
 synthesized_view true s number = Some (synthesized_name s number)
 synthesized_view false s number = None
 
+-- The identifier that the program's value represents.
 abbrev pub identifier_view : Identifier → Named
 identifier_view (Given name) = name_view name
 identifier_view (Synthesized space number) = synthesized_name (id_of space) number

@@ -2,6 +2,7 @@
 use Rattle.std.specs.Prelude.{List, []}
 use Rattle.wasmprinter_spec.specs.Customs.Dylink.{Subsection, Judged, Whole}
 
+-- The subsections, none if the section is not well-formed or has an unknown id.
 abbrev pub subsections_in : Judged → List Subsection
 subsections_in (Whole ss) = ss
 subsections_in _ = []

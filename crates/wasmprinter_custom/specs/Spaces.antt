@@ -4,6 +4,7 @@ use Rattle.wasmprinter_spec.specs.Names.Section.{function_subsection, local_subs
 use Rattle.wasmprinter_custom.specs.declared.space.Space.{Space}
 use Rattle.wasmprinter_custom.specs.declared.space.Space.TheVariants.{Func, Local, Label, Types, Table, Memory, Global, Elem, Data, Field, Tag}
 
+-- The id of the subsection.
 abbrev pub id_of : Space → ℕ
 id_of Func = function_subsection
 id_of Local = local_subsection

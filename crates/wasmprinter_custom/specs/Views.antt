@@ -11,10 +11,12 @@ use Rattle.wasmprinter_custom.specs.declared.store.Place.{Place}
 use Rattle.wasmprinter_custom.specs.declared.store.Name.{Name}
 use Rattle.wasmprinter_custom.specs.declared.store.StoredName.{StoredName}
 
+-- The order of given names: by the subsection, then by the function or type, then by the name.
 abbrev pub given_cmp : Given → Given → Ordering
 given_cmp a b =
     ordering_then (nat_cmp a.subsection b.subsection) (ordering_then (nat_cmp a.outer b.outer) (slice_cmp nat_cmp a.name.now b.name.now))
 
+-- The order of items: by the subsection, then by the function or type, then by the index.
 abbrev pub place_cmp : Place → Place → Ordering
 place_cmp a b = ordering_then (nat_cmp a.subsection b.subsection) (ordering_then (nat_cmp a.outer b.outer) (nat_cmp a.index b.index))
 
@@ -23,9 +25,11 @@ abbrev pub content_or : {Z : Type 0} → Option (String Z) → List ℕ → List
 content_or (Some text) name = string_bytes text
 content_or None name = name
 
+-- The name that an entry of the store represents, with the content of its identifier.
 abbrev pub stored_view : StoredName → Named
 stored_view n = record { given = Some n.given.now; content = content_or n.marked n.given.now }
 
+-- The name that a lookup in the store returns, with the content of its identifier.
 abbrev pub name_view : Name → Named
 name_view n = record { given = Some n.given.now; content = n.content.now }
 
@@ -36,6 +40,7 @@ pub record NamedItem : Type 0 where
   pub index : ℕ
   pub name : Named
 
+-- The named item that an entry of the store represents. `items_view` gives those of all entries.
 abbrev pub item_view : Place × StoredName → NamedItem
 item_view e = record { subsection = e.0.subsection; outer = e.0.outer; index = e.0.index; name = stored_view e.1 }
 

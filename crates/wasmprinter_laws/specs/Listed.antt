@@ -16,20 +16,24 @@ FitsSigned n z = (neg_ℤ (pos (2 ^ n)) ≤ℤ z) × (z <ℤ pos (2 ^ n))
 abbrev pub IsU32 : ℕ → Type 0
 IsU32 n = n < 2 ^ 32
 
+-- A number of 8 bits
 abbrev pub IsByte : ℕ → Type 0
 IsByte n = n < 256
 
+-- The type indices in a block type are numbers of 32 bits.
 abbrev pub IsBlockInRange : BlockType → Type 0
 IsBlockInRange Empty = Unit {0}
 IsBlockInRange (Value t) = IsDeclaredVal (2 ^ 32) t
 IsBlockInRange (OfType n) = IsU32 n
 
+-- The tag and the label of a catch clause are numbers of 32 bits.
 abbrev pub IsCatchInRange : Catch → Type 0
 IsCatchInRange (One t l) = IsU32 t × IsU32 l
 IsCatchInRange (OneRef t l) = IsU32 t × IsU32 l
 IsCatchInRange (All l) = IsU32 l
 IsCatchInRange (AllRef l) = IsU32 l
 
+-- The exponent of the alignment is below 64, the memory is a number of 32 bits and the offset one of 64 bits.
 pub record IsMemArgInRange (m : MemArg) : Type 0 where
   pub exponent : m.exponent < 64
   pub memory : IsU32 m.memory
@@ -65,6 +69,8 @@ abbrev pub IsSignatureInRange : Option FuncType → Type 0
 IsSignatureInRange None = Unit {0}
 IsSignatureInRange (Some t) = IsDeclaredFunc (2 ^ 32) t
 
+-- The type indices in the signature of each function type are in range. The argument gives the signatures by type
+-- indices.
 abbrev pub AreSignaturesInRange : (ℕ → Option FuncType) → Type 0
 AreSignaturesInRange signature = (i : ℕ) → IsSignatureInRange (signature i)
 

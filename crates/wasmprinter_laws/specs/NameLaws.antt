@@ -40,9 +40,11 @@ pub record IsEntry (e : Entry) : Type 0 where
   pub index : IsU32 e.index
   pub name : IsUtf8 e.name
 
+-- Each entry has an index of 32 bits and a name in UTF-8.
 abbrev pub AreEntries : List Entry → Type 0
 AreEntries entries = AllByRecursion IsEntry entries
 
+-- The entries that the bytes of a name section give have indices of 32 bits and names in UTF-8.
 abbrev pub BytesGiveEntries : Type 0
 BytesGiveEntries = (at : Input) (entries : List Entry) → AreBytes at.bytes → GivesNames at entries → AreEntries entries
 

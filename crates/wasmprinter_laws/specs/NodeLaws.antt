@@ -26,6 +26,7 @@ pub record NodeRow : Type 0 where
   pub front : Forest
   pub nodes : NodesOf Forest
 
+-- The row with these items before its first node, and with these nodes
 abbrev pub node_row : Forest → NodesOf Forest → NodeRow
 node_row f ns = record { front = f; nodes = ns }
 
@@ -35,6 +36,7 @@ abbrev pub is_node_head : GroupHead → Bool
 is_node_head PartHead = false
 is_node_head _ = true
 
+-- The content of a group is that of a node.
 abbrev pub is_node : Forest → Bool
 is_node (Word w f) = is_node_head (head w)
 is_node _ = false

@@ -91,7 +91,8 @@ abbrev pub AreNodesOf : Option (NodesOf Forest) → Option Nodes → Type 0
 AreNodesOf found expected =
     (t : Nodes) × (expected ≡ Some t) × (option_map (with_heads (λ f. Some f)) found ≡ Some (with_heads (λ h. items_in (head_text defaults h)) t))
 
--- The scope of the trees of a module: its types and identifiers, and the index of the first function that it defines
+-- The scope of the trees of a module: its types and identifiers, which are synthesized for items without a name if
+-- the first argument is `true`, and the index of the first function that it defines
 abbrev pub tree_scope : Bool → PlacedModule → Scope
 tree_scope synthesizes m =
     scope_of (all_types (groups_of m.types)) (module_names synthesizes m) (length (imported_types func_import (without_places m.imports))) None

@@ -211,10 +211,12 @@ effect_then m o {e = e} {f} v w = effect_then_by m o e.refused e f refl v w
 
 -- ---- parts of a layout
 
+-- One layout, and then another, unless the first ends at a refusal. The first argument is that refusal.
 abbrev laid_by : Option ℕ → Laid → Laid → Laid
 laid_by None l k = record { pieces = l.pieces ++ k.pieces; refused = k.refused }
 laid_by (Some id) l k = l
 
+-- Pieces, and then a layout.
 abbrev after_pieces : List Piece → Laid → Laid
 after_pieces xs l = record { pieces = xs ++ l.pieces; refused = l.refused }
 

@@ -16,6 +16,7 @@ pub record State (P : Type 0) : Type 0 where
   pub error : Option Halt
   pub begun : Bool
 
+-- The state with these fields.
 abbrev pub state : {P : Type 0} → P → Option Halt → Bool → State P
 state printer error begun = record { printer = printer; error = error; begun = begun }
 
@@ -57,7 +58,8 @@ HasEffectFrom m folds a (Some x) t e = (t.printer ≡ a.printer) × (t.error ≡
 pub record HasEffect {P : Type 0} (m : Meaning P) (o : Options) (a t : State P) (e : Effect) : Type 0 where
   pub made : HasEffectFrom m o.folds a a.error t e
 
--- The effects of calls, of pieces and of parts.
+-- The effects of calls (`of_calls`), of pieces (`of_pieces`), of pieces up to a refusal (`of_laid`) and of parts
+-- (`of_parts`).
 abbrev pub of_calls : List Call → Effect
 of_calls l = record { layout = l; lines = false; refused = None }
 

@@ -66,6 +66,7 @@ abbrev pub ending_of : Error → Ending
 ending_of (Printer e) = AtCall e
 ending_of _ = Never
 
+-- The ending of a function with this result.
 abbrev pub outcome : {T : Type 0} → Result T Error → Ending
 outcome (Ok x) = Through
 outcome (Err e) = ending_of e

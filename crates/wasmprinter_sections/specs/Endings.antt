@@ -16,6 +16,7 @@ ending_after folds (Printer e) = AtCall e
 ending_after folds Memory = when_out_of_memory folds
 ending_after folds _ = Never
 
+-- How the calls end, by the result of the function. The first argument says whether operators are folded.
 abbrev pub ending_by : {T : Type 0} → Bool → Result T Error → Ending
 ending_by folds (Ok x) = Through
 ending_by folds (Err e) = ending_after folds e
@@ -28,6 +29,7 @@ ErrorAgreesWithRefusal (Printer e) refused = Unit {0}
 ErrorAgreesWithRefusal Memory refused = Unit {0}
 ErrorAgreesWithRefusal _ refused = ⊥
 
+-- The result agrees with the refusal at which the layout ends, if it ends at one.
 abbrev pub AgreesWithRefusal : {T : Type 0} → Result T Error → Option ℕ → Type 0
 AgreesWithRefusal (Ok x) refused = refused ≡ None
 AgreesWithRefusal (Err e) refused = ErrorAgreesWithRefusal e refused

@@ -20,6 +20,7 @@ IsOutside low high p = (p < low) ⊎ (high ≤ p)
 
 -- ---- Bodies
 
+-- The list of the place, empty if there is none.
 abbrev pub place_if_any : Option ℕ → List ℕ
 place_if_any None = []
 place_if_any (Some place) = place ∷ []
@@ -34,14 +35,17 @@ body_places b = b.place ∷ (locals_places b.value.locals ++ (places b.value.ope
 
 -- ---- All other places
 
--- All types of an explicit `(rec ..)` have the same place.
+-- The places of the lines of the types in a group that starts at `place`. All types of an explicit `(rec ..)` have
+-- the same place. A single type by itself has no line of its own in the group.
 abbrev pub member_places : Bool → ℕ → List SubType → List ℕ
 member_places true place ts = map (λ t. place + 2) ts
 member_places false place ts = []
 
+-- The place of a group of types and, if it is an explicit `(rec ..)`, a place for each of its types.
 abbrev pub group_places : Placed TypeGroup → List ℕ
 group_places g = g.place ∷ member_places g.value.written g.place g.value.types
 
+-- The place of the start function, if there is one.
 abbrev pub start_places : Option (Placed ℕ) → List ℕ
 start_places None = []
 start_places (Some start) = start.place ∷ []

@@ -32,10 +32,14 @@ magic = 0x00 ∷ 0x61 ∷ 0x73 ∷ 0x6d ∷ []
 abbrev pub preamble_bytes : List ℕ
 preamble_bytes = magic ++ (0x01 ∷ 0x00 ∷ 0x00 ∷ 0x00 ∷ [])
 
+-- The preamble of a module (section 5.5, "Modules"): the magic and the version.
 abbrev pub preamble : Grammar (List ℕ)
 preamble = try_map (λ bytes. if bytes_eq bytes preamble_bytes then Some bytes else None) (take_bytes 8)
 
--- The content of the section of each kind.
+-- The content of the section of each kind among these sections, or the empty list or `None` if there is no such
+-- section: `types_in`, `imports_in`, `type_indices_in` (the type of each defined function), `tables_in`,
+-- `memories_in`, `tags_in`, `globals_in`, `exports_in`, `start_in`, `elements_in`, `data_count_in`, `bodies_in` and
+-- `datas_in`.
 abbrev pub types_in : List Section → List (Placed TypeGroup)
 types_in ss = content_in TypeSection [] ss
 
@@ -75,6 +79,7 @@ bodies_in ss = content_in CodeSection [] ss
 abbrev pub datas_in : List Section → List (Placed (Data (Placed Operator)))
 datas_in ss = content_in DataSection [] ss
 
+-- The custom sections among these sections, in order.
 abbrev pub customs_in : List Section → List CustomEntry
 customs_in ss = customs_after None ss
 

@@ -2,6 +2,7 @@
 -- occur only in strings and comments.
 use Rattle.std.specs.Prelude.{ℕ, Bool, cond, ◌==◌, ◌||◌, nat_lt, nat_le}
 
+-- A class of bytes.
 pub data Class : Type 0 where
   Space : Class
   Tab : Class
@@ -18,12 +19,15 @@ pub data Class : Type 0 where
   Control : Class  -- occurs only in comments
   Foreign : Class  -- a byte of a character beyond ASCII
 
+-- The byte is a line feed or a carriage return.
 abbrev pub is_feed : ℕ → Bool
 is_feed b = (b == 10) || (b == 13)
 
+-- The byte is one of `,` `[` `]` `{` `}`.
 abbrev pub is_reserved : ℕ → Bool
 is_reserved b = (b == 44) || (b == 91) || (b == 93) || (b == 123) || (b == 125)
 
+-- The byte is a control character: below the space, or delete.
 abbrev pub is_control : ℕ → Bool
 is_control b = nat_lt b 32 || (b == 127)
 

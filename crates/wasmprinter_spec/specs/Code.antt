@@ -17,6 +17,7 @@ pub record Chunk : Type 0 where
   pub arguments : Forest
   pub hints : List Forest
 
+-- The operator with these rows and these items, and without hints.
 abbrev pub chunk : List Row → Forest → Chunk
 chunk rs f = record { rows = rs; arguments = f; hints = [] }
 
@@ -33,9 +34,11 @@ pub record Code : Type 0 where
   pub front : Forest
   pub instructions : List Instruction
 
+-- The code with these items before its first operator, and with these instructions.
 abbrev pub code_of : Forest → List Instruction → Code
 code_of f is = record { front = f; instructions = is }
 
+-- The code with one more item at its front.
 abbrev pub with_front : (Forest → Forest) → Option Code → Option Code
 with_front item c = option_map (λ c. code_of (item c.front) c.instructions) c
 
@@ -43,7 +46,8 @@ with_front item c = option_map (λ c. code_of (item c.front) c.instructions) c
 abbrev pub only_instructions : Code → Option (List Instruction)
 only_instructions c = elim c.front as (λ f. Option (List Instruction)) [ End ↦ Some c.instructions | _ ↦ None ]
 
--- The items after an operator's word, up to the next operator, belong to the operator.
+-- Code with the word w before it, given the rows of this word. The items after an operator's word, up to the next
+-- operator, belong to the operator.
 abbrev pub with_word : List Row → List ℕ → Option Code → Option Code
 with_word [] w c = with_front (Word w) c
 with_word (r ∷ rs) w c = option_map (λ c. code_of End (Flat (chunk (r ∷ rs) c.front) ∷ c.instructions)) c
@@ -110,6 +114,7 @@ pub data GroupHead : Type 0 where
   ElseHead : GroupHead
   OperatorHead : Row → List Row → GroupHead
 
+-- The kind of a group whose first word has these rows: an operator if there is a row, otherwise a part.
 abbrev pub head_by : List Row → GroupHead
 head_by [] = PartHead
 head_by (r ∷ rs) = OperatorHead r rs
@@ -128,6 +133,8 @@ with_instruction i c = option_map (λ is. code_of End (i ∷ is)) (only_instruct
 abbrev pub branch : (List Chunk → Instruction) → Option Code → Option Code → Option Code
 branch make inner rest = inner >>= only_instructions >>= chunks_of_instructions >>= if_nested >>= λ cs. rest >>= with_instruction (make cs)
 
+-- Code with one more group before it, by the kind of the group. `item` is the group as an item, `inner` its content
+-- as code, and `rest` the code after it.
 abbrev pub with_group : GroupHead → (Forest → Forest) → Option Code → Option Code → Option Code
 with_group PartHead item inner rest = with_front item rest
 with_group ThenHead item inner rest = branch Then inner rest
@@ -136,9 +143,11 @@ with_group (OperatorHead r rs) item inner rest = inner >>= folded_instruction r.
 
 -- ---- Hints
 
+-- The name of the annotation is that of branch hints.
 abbrev pub is_hint : List ℕ → Bool
 is_hint id = bytes_eq id (codes "metadata.code.branch_hint")
 
+-- The operator with one more hint before it. A hint is the content of its annotation.
 abbrev pub with_hint_group : Forest → Chunk → Chunk
 with_hint_group h c = record c { hints = h ∷ c.hints }
 
@@ -153,6 +162,7 @@ hint_first h is = is
 abbrev pub with_hint : Forest → Code → Code
 with_hint h c = elim c.front as (λ f. Code) [ End ↦ code_of End (hint_first h c.instructions) | _ ↦ c ]
 
+-- Code with one more annotation before it, whose content is h. The first argument says whether it is a hint.
 abbrev pub with_note : Bool → Forest → Option Code → Option Code
 with_note true h c = option_map (with_hint h) c
 with_note false h c = c

@@ -22,9 +22,12 @@ abbrev pub sequence_length_in : List (List ℕ) → List ℕ → ℕ
 sequence_length_in [] text = 0
 sequence_length_in (s ∷ ss) text = cond (starts_with nat_eq text s) (length s) (sequence_length_in ss text)
 
+-- The length of the ANSI escape sequence with which the text begins, or 0 if it begins with no sequence.
 abbrev pub sequence_length : List ℕ → ℕ
 sequence_length text = sequence_length_in sequences text
 
+-- The text without sequences, from the byte b on. The first argument is the length of the sequence that begins with
+-- b, or 0. `rest k` is the text after b, without its next k bytes and then without each sequence.
 abbrev pub uncolor_step : ℕ → ℕ → (ℕ → List ℕ) → List ℕ
 uncolor_step zero b rest = b ∷ rest 0
 uncolor_step (suc k) b rest = rest k

@@ -11,7 +11,8 @@ pub mod Producers
 pub mod Dylink
 pub mod Hints
 
--- The names of the known custom sections.
+-- The names of the known custom sections: `name_section` (appendix "Name Section" of the standard), `hint_section`
+-- (Code Metadata), `producers_section` and `dylink_section` (tool conventions).
 abbrev pub name_section : List ℕ
 name_section = codes "name"
 
@@ -33,10 +34,12 @@ pub data CustomRole : Type 0 where
   Raw : CustomRole
   Malformed : CustomRole  -- raw, after a line that reports its error
 
+-- The role of a `producers` section by its fields; `None` if its data has an error.
 abbrev pub producers_role : Option (List Field) → CustomRole
 producers_role None = Malformed
 producers_role (Some fields) = if are_runs fields then Listed fields else Raw
 
+-- The role of a `dylink.0` section by the result of reading its data.
 abbrev pub dylink_role : Judged → CustomRole
 dylink_role (Whole subsections) = Linked subsections
 dylink_role (Unknown id) = Refused id
@@ -56,6 +59,7 @@ pub record RawCustom : Type 0 where
   pub name : List ℕ
   pub bytes : List ℕ
 
+-- The custom section as one that a text must repeat.
 abbrev pub raw_custom : CustomEntry → RawCustom
 raw_custom c = record { after = c.after; name = c.section.value.name; bytes = c.section.value.bytes.value }
 

@@ -17,6 +17,7 @@ after_first_byte h = map_value (λ x. x.1) (seq byte h)
 
 -- A value of `h b`, where b is the first of the bytes that encode the value.
 module _ {A : Type 0} (h : ℕ → Grammar A) where
+  -- There is a first byte b, and the bytes, b included, encode the value by `h b`.
   abbrev pub Peeked : ℕ → List ℕ → A → Type 0
   Peeked p [] a = ⊥
   Peeked p (b ∷ bs) a = (h b).spells p (b ∷ bs) a
@@ -25,10 +26,13 @@ module _ {A : Type 0} (h : ℕ → Grammar A) where
   abbrev pub shorter : ℕ → A × Input → Option (A × Input)
   shorter n x = if nat_lt (length x.1.bytes) n then Some x else None
 
+  -- Reads, from bytes that start at the given offset, a value of the grammar that h gives for the first byte. The
+  -- first byte is a part of what that grammar reads.
   abbrev pub by_first_byte_of : ℕ → List ℕ → Option (A × Input)
   by_first_byte_of p [] = None
   by_first_byte_of p (b ∷ bs) = (h b).parse (input p (b ∷ bs)) >>= shorter (length (b ∷ bs))
 
+  -- Reads a value of the grammar that h gives for the first byte of the input.
   abbrev pub by_first_byte_at : Input → Option (A × Input)
   by_first_byte_at at = by_first_byte_of at.place at.bytes
 
@@ -65,5 +69,6 @@ module _ {A : Type 0} (h : ℕ → Grammar A) where
       ap (by_first_byte_of at.place) s.parts ∙ complete_of at.place s.text x.1.bytes x.0 s.spelled
       ∙ ap (λ (q : ℕ). Some (x.0, input q x.1.bytes)) (sym s.ends)
 
+  -- A value of the grammar that h gives for the first of the bytes that encode the value.
   abbrev pub by_first_byte : Grammar A
   by_first_byte = record { spells = Peeked; parse = by_first_byte_at; sound = by_first_byte_sound; complete = by_first_byte_complete }

@@ -92,6 +92,7 @@ bits_by_halving fraction (suc exponents) exponent n =
 unfoldable pub bits_of : Width → ℕ → Option ℕ
 bits_of w n = if nat_lt n (2 ^ w.fraction) then Some n else bits_by_halving w.fraction (greatest_exponent w - 1) 1 n
 
+-- The bits of the finite number of that many units, or `None` if there is no such number.
 abbrev pub bits_with_units : Width → Option ℕ → Option ℕ
 bits_with_units w None = None
 bits_with_units w (Some n) = bits_of w n
@@ -113,6 +114,7 @@ pub record Split : Type 0 where
   pub before : List ℕ
   pub after : Option (List ℕ)
 
+-- The split with the byte b before it.
 abbrev pub split_after : ℕ → Split → Split
 split_after b s = record { before = b ∷ s.before; after = s.after }
 
@@ -121,6 +123,7 @@ abbrev pub split_at : (ℕ → Bool) → List ℕ → Split
 split_at p [] = record { before = []; after = None }
 split_at p (b ∷ bs) = cond (p b) (record { before = []; after = Some bs }) (split_after b (split_at p bs))
 
+-- The byte is a point.
 abbrev pub is_point : ℕ → Bool
 is_point b = b == 46
 
@@ -142,11 +145,12 @@ abbrev pub significand_of : Option ℕ → Option (List ℕ) → Option (ℕ × 
 significand_of None after = None
 significand_of (Some n) after = with_digits_after n after
 
--- An exponent by its sign, as numbers of doublings and of halvings.
+-- An exponent without the sign -, as the number of doublings and the number of halvings, which is 0.
 abbrev pub steps_up : Option ℕ → Option (ℕ × ℕ)
 steps_up None = None
 steps_up (Some n) = Some (n, 0)
 
+-- An exponent after the sign -, as the number of doublings, which is 0, and the number of halvings.
 abbrev pub steps_down : Option ℕ → Option (ℕ × ℕ)
 steps_down None = None
 steps_down (Some n) = Some (0, n)
@@ -172,6 +176,7 @@ hexfloat bs =
     let m : Split = split_at is_point c.before in
     scaled_by (significand_of (numeral 16 m.before) m.after) (exponent_of c.after)
 
+-- The second list begins with the first.
 abbrev pub begins_with : List ℕ → List ℕ → Bool
 begins_with front bs = bytes_eq (take (length front) bs) front
 

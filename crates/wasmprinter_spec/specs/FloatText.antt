@@ -34,11 +34,12 @@ abbrev pub after_point : List ℕ → List ℕ
 after_point [] = []
 after_point (d ∷ ds) = 46 ∷ (d ∷ ds)
 
--- The text of a normal number, with its leading 1, which the bits do not encode.
+-- The text of a normal number, with its leading 1, which the bits do not encode. The numbers are the exponent and the
+-- fraction in its bits.
 abbrev pub normal_text : Width → ℕ → ℕ → List ℕ
 normal_text w exponent fraction = codes "0x1" ++ (after_point (fraction_digits w fraction) ++ (112 ∷ exponent_text exponent (bias w)))
 
--- How often n is doubled until it reaches the limit.
+-- How often n is doubled until it reaches the limit, but at most as often as the first argument says.
 unfoldable pub doublings : ℕ → ℕ → ℕ → ℕ
 doublings zero limit n = 0
 doublings (suc most) limit n = cond (nat_lt n limit) (suc (doublings most limit (2 * n))) 0
@@ -51,23 +52,25 @@ shift w fraction = doublings w.fraction (2 ^ w.fraction) fraction
 abbrev pub shifted_fraction : Width → ℕ → ℕ
 shifted_fraction w fraction = fraction * 2 ^ shift w fraction - 2 ^ w.fraction
 
--- The text of a subnormal number. It has a point even if no digit follows.
+-- The text of a subnormal number, by its fraction. It has a point even if no digit follows.
 abbrev pub subnormal_text : Width → ℕ → List ℕ
 subnormal_text w fraction =
     codes "0x1." ++ (fraction_digits w (shifted_fraction w fraction) ++ (112 ∷ exponent_text 1 (bias w + shift w fraction)))
 
--- Infinity, a canonical NaN, or any other NaN with its payload.
+-- Infinity, a canonical NaN, or any other NaN with its payload, by the fraction.
 abbrev pub special_text : Width → ℕ → List ℕ
 special_text w fraction =
     if fraction == 0 then codes "inf"
     else (if fraction == canonical_payload w then codes "nan"
     else codes "nan:0x" ++ digits 16 false fraction)
 
+-- The text of a finite number without a sign, by the exponent and the fraction in its bits.
 abbrev pub finite_text : Width → ℕ → ℕ → List ℕ
 finite_text w exponent fraction =
     if exponent == 0 then (if fraction == 0 then codes "0x0p+0" else subnormal_text w fraction)
     else normal_text w exponent fraction
 
+-- The text of a float without a sign, by the exponent and the fraction in its bits.
 unfoldable pub unsigned_text : Width → ℕ → ℕ → List ℕ
 unsigned_text w exponent fraction = if exponent == greatest_exponent w then special_text w fraction else finite_text w exponent fraction
 
@@ -79,19 +82,21 @@ float_text w bits =
 
 -- ---- The calls
 
--- The comment after infinity and after NaN.
+-- The comment after infinity and after NaN, by whether the number is negative and by its fraction.
 abbrev pub remark : Bool → ℕ → List ℕ
 remark negative fraction = if fraction == 0 then (if negative then codes "(;=-inf;)" else codes "(;=inf;)") else codes "(;=NaN;)"
 
--- The calls for infinity or NaN: a literal, and then the comment.
+-- The calls for infinity or NaN: a literal, and then the comment. The second argument says whether the number is
+-- negative.
 abbrev pub special_calls : Width → Bool → ℕ → List Call
 special_calls w negative fraction =
     Start Literal ∷ (Text (special_text w fraction ++ codes " ") ∷ (Start Comment ∷ (Text (remark negative fraction) ∷ (Start Reset ∷ []))))
 
+-- The calls for a finite number without a sign: a literal.
 abbrev pub finite_calls : Width → ℕ → ℕ → List Call
 finite_calls w exponent fraction = Start Literal ∷ (Text (finite_text w exponent fraction) ∷ (Start Reset ∷ []))
 
--- The calls without the sign, which the comment repeats.
+-- The calls without the sign, which the comment repeats: `negative` says whether the number has one.
 unfoldable pub unsigned_calls : Width → Bool → ℕ → ℕ → List Call
 unsigned_calls w negative exponent fraction =
     if exponent == greatest_exponent w then special_calls w negative fraction else finite_calls w exponent fraction

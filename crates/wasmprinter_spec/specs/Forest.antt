@@ -13,26 +13,31 @@ pub data Forest : Type 0 where
   Group : Forest → Forest → Forest
   Note : List ℕ → Forest → Forest → Forest  -- an annotation: its name and its content
 
--- The open rows, the innermost first. They are built from the right: a closing parenthesis opens a row to its
--- left. If parentheses do not match, there is no row.
+-- The open rows, the innermost first. They are built from the right: a right parenthesis opens a row (`close_group`),
+-- and the left parenthesis or the start of an annotation to the left of this row makes it a group (`open_group`) or
+-- an annotation (`open_note`). If parentheses do not match, there is no row.
 abbrev pub open_group : List Forest → List Forest
 open_group [] = []
 open_group (f ∷ []) = []
 open_group (f ∷ g ∷ rest) = Group f g ∷ rest
 
+-- The open rows after the start of an annotation with this name.
 abbrev pub open_note : List ℕ → List Forest → List Forest
 open_note id [] = []
 open_note id (f ∷ []) = []
 open_note id (f ∷ g ∷ rest) = Note id f g ∷ rest
 
+-- The open rows after a right parenthesis.
 abbrev pub close_group : List Forest → List Forest
 close_group [] = []
 close_group (f ∷ rest) = End ∷ (f ∷ rest)
 
+-- The open rows with one more item at the start of the innermost row.
 abbrev pub with_item : (Forest → Forest) → List Forest → List Forest
 with_item item [] = []
 with_item item (f ∷ rest) = item f ∷ rest
 
+-- The open rows after one more token, which is to the left of those so far.
 abbrev pub place : Token → List Forest → List Forest
 place token.left rows = open_group rows
 place (token.left_note id) rows = open_note id rows
@@ -43,10 +48,12 @@ place (token.string s) rows = with_item (String s) rows
 place token.reserved rows = with_item Reserved rows
 place token.bad rows = []
 
+-- The open rows of the tokens.
 abbrev pub grow : List Token → List Forest
 grow [] = End ∷ []
 grow (t ∷ ts) = place t (grow ts)
 
+-- The row, if exactly one is left.
 abbrev pub the_one : List Forest → Option Forest
 the_one [] = None
 the_one (f ∷ []) = Some f

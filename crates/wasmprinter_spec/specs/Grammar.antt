@@ -1,7 +1,7 @@
 -- Grammars over bytes. A grammar states twice which bytes encode a value: `spells` is a relation in the style of
 -- the standard (section 5.1, "Conventions"), and `parse` reads a value from the front of the bytes. `sound` and
 -- `complete` prove that the two agree. So by a grammar that is built from these combinators, each byte string
--- encodes at most one value.
+-- encodes at most one value. A lemma whose name ends in `_sound` or `_complete` is this field of a grammar.
 use Rattle.std.specs.Prelude.{◌≡◌, ℕ, List, [], ◌∷◌, ◌++◌, ◌+◌, length, Bool, true, false, Option, Some, None, refl}
 use Rattle.std.proofs.Common.{sym, ap, subst, ◌∙◌, arith, append_assoc}
 use Rattle.std.proofs.lemmas.List.{length-append}
@@ -12,6 +12,7 @@ pub record Input : Type 0 where
   pub place : ℕ
   pub bytes : List ℕ
 
+-- The input that starts at this place and consists of these bytes.
 abbrev pub input : ℕ → List ℕ → Input
 input p bytes = record { place = p; bytes = bytes }
 
@@ -37,30 +38,39 @@ pub record Remainder (A : Type 0) : Type 1 where
   pub sound : (at : Input) (a : A) → parse at ≡ Some a → spells at.place at.bytes a
   pub complete : (at : Input) (a : A) → spells at.place at.bytes a → parse at ≡ Some a
 
+-- `f` of the value, or `None` if there is no value.
 infixl 10 ◌>>=◌
 abbrev pub ◌>>=◌ : {A B : Type 0} → Option A → (A → Option B) → Option B
 (Some x) >>= f = f x
 None >>= f = None
 
+-- A value of `r >>= f` is the value of f for the value of r.
 pub bind_some : {A B : Type 0} (r : Option A) (f : A → Option B) (y : B) → (r >>= f) ≡ Some y → (x : A) × (r ≡ Some x) × (f x ≡ Some y)
 bind_some (Some x) f y e = (x, refl, e)
 bind_some None f y e = absurd cc
 
+-- Two equal options have equal values.
 pub some_is : {A : Type 0} (x y : A) → ◌≡◌ {A = Option A} (Some x) (Some y) → x ≡ y
 some_is x y e = cc
 
 -- ---- A byte
 
+-- The bytes are the byte b alone. The arguments are the offset where the bytes start, the bytes and the value, as for
+-- every relation `spells`.
 abbrev pub Byte : ℕ → List ℕ → ℕ → Type 0
 Byte p text b = text ≡ b ∷ []
 
+-- Reads a byte from bytes that start at the given offset: the byte and the input after it, or `None` if there is no
+-- byte.
 abbrev pub byte_of : ℕ → List ℕ → Option (ℕ × Input)
 byte_of p [] = None
 byte_of p (b ∷ rest) = Some (b, input (p + 1) rest)
 
+-- Reads a byte from the input.
 abbrev pub byte_at : Input → Option (ℕ × Input)
 byte_at at = byte_of at.place at.bytes
 
+-- The lemma `byte_sound` for an input given by its place and its bytes.
 byte_sound_of : (p : ℕ) (bytes : List ℕ) (x : ℕ × Input) → byte_of p bytes ≡ Some x → Spans Byte (input p bytes) x
 byte_sound_of p [] x e = absurd cc
 byte_sound_of p (b ∷ rest) x e =
@@ -76,15 +86,18 @@ byte_complete at x s =
     let l : x.1.place ≡ at.place + 1 = s.ends ∙ ap (λ (t : List ℕ). at.place + length t) s.spelled in
     ap (byte_of at.place) e ∙ ap (λ (p : ℕ). Some (x.0, input p x.1.bytes)) (sym l)
 
+-- A byte, which encodes itself (section 5.2 of the standard, "Bytes").
 abbrev pub byte : Grammar ℕ
 byte = record { spells = Byte; parse = byte_at; sound = byte_sound; complete = byte_complete }
 
 -- ---- A value and then another, whose grammar may depend on the first: a kind and its content, a count and the items
 
 module _ {A B : Type 0} (g : Grammar A) (h : A → Grammar B) where
+  -- The bytes are those of x.0 by g, followed by those of x.1 by `h x.0`.
   abbrev pub Seq : ℕ → List ℕ → A × B → Type 0
   Seq p text x = (t u : List ℕ) × (text ≡ t ++ u) × g.spells p t x.0 × (h x.0).spells (p + length t) u x.1
 
+  -- Reads a value of g, and then a value of the grammar that h gives for it.
   abbrev pub seq_at : Input → Option ((A × B) × Input)
   seq_at at = g.parse at >>= λ a. (h a.0).parse a.1 >>= λ b. Some ((a.0, b.0), b.1)
 
@@ -121,15 +134,18 @@ module _ {A B : Type 0} (g : Grammar A) (h : A → Grammar B) where
       }) in
       rw (e, f) refl
 
+  -- A value of g, and then a value of the grammar that h gives for it.
   abbrev pub seq : Grammar (A × B)
   seq = record { spells = Seq; parse = seq_at; sound = seq_sound; complete = seq_complete }
 
 -- ---- The values of another grammar under a partial function
 
 module _ {A B : Type 0} (f : A → Option B) (g : Grammar A) where
+  -- The bytes encode, by g, a value that f maps to b.
   abbrev pub Mapped : ℕ → List ℕ → B → Type 0
   Mapped p text b = (a : A) × (f a ≡ Some b) × g.spells p text a
 
+  -- Reads a value of g and applies f to it; `None` if f has no value there.
   abbrev pub try_map_at : Input → Option (B × Input)
   try_map_at at = g.parse at >>= λ a. f a.0 >>= λ b. Some (b, a.1)
 
@@ -148,6 +164,7 @@ module _ {A B : Type 0} (f : A → Option B) (g : Grammar A) where
       g.complete at (value, x.1) (record { text = s.text; parts = s.parts; ends = s.ends; spelled = spelled }) in
       rw (e, maps) refl
 
+  -- The values of g under f. Bytes of a value where f has no value encode nothing.
   abbrev pub try_map : Grammar B
   try_map = record { spells = Mapped; parse = try_map_at; sound = try_map_sound; complete = try_map_complete }
 
@@ -158,9 +175,11 @@ map_value f g = try_map (λ a. Some (f a)) g
 -- ---- A value that the empty byte string encodes
 
 module _ {A : Type 0} (a : A) where
+  -- There are no bytes, and the value is a.
   abbrev pub Nothing : ℕ → List ℕ → A → Type 0
   Nothing p text b = (text ≡ []) × (b ≡ a)
 
+  -- Reads no byte and returns a.
   abbrev pub nothing_at : Input → Option (A × Input)
   nothing_at at = Some (a, at)
 
@@ -176,6 +195,7 @@ module _ {A : Type 0} (a : A) where
       let same : at ≡ x.1 = ap (λ (p : ℕ). input p at.bytes) (sym l) ∙ ap (λ (bs : List ℕ). input x.1.place bs) e in
       ap (λ (y : Input). Some (a, y)) same ∙ ap (λ (v : A). Some (v, x.1)) (sym s.spelled.1)
 
+  -- The value a, encoded by the empty byte string.
   abbrev pub succeed : Grammar A
   succeed = record { spells = Nothing; parse = nothing_at; sound = nothing_sound; complete = nothing_complete }
 
@@ -188,6 +208,7 @@ module _ {A : Type 0} where
   pub never_complete : (at : Input) (x : A × Input) → Spans {A = A} (λ p text a. ⊥) at x → None ≡ Some x
   never_complete at x s = absurd s.spelled
 
+-- No bytes encode a value.
 abbrev pub fail : {A : Type 0} → Grammar A
 fail {A} = record { spells = λ p text a. ⊥; parse = λ at. None; sound = never_sound; complete = never_complete }
 
@@ -198,14 +219,17 @@ choose false g h = h
 
 -- ---- A value with the place of its first byte
 
+-- A value and its place: the offset of its first byte from the start of the module.
 pub record Placed (A : Type 0) : Type 0 where
   pub place : ℕ
   pub value : A
 
 module _ {A : Type 0} (g : Grammar A) where
+  -- The bytes encode the value of x by g, and the place of x is the offset p where they start.
   abbrev pub IsPlaced : ℕ → List ℕ → Placed A → Type 0
   IsPlaced p text x = (x.place ≡ p) × g.spells p text x.value
 
+  -- Reads a value of g and returns it with the place where it starts.
   abbrev pub value_with_place_at : Input → Option (Placed A × Input)
   value_with_place_at at = g.parse at >>= λ a. Some (record { place = at.place; value = a.0 }, a.1)
 
@@ -224,6 +248,7 @@ module _ {A : Type 0} (g : Grammar A) where
       let moved : ℕ → Option (Placed A × Input) = λ p. Some (record { place = p; value = x.0.value }, x.1) in
       rw e (ap moved (sym s.spelled.0))
 
+  -- The values of g, each with its place.
   abbrev pub value_with_place : Grammar (Placed A)
   value_with_place =
       record { spells = IsPlaced; parse = value_with_place_at; sound = value_with_place_sound; complete = value_with_place_complete }
@@ -241,5 +266,6 @@ module _ {A : Type 0} (g : Grammar A) (S : ℕ → List ℕ → A → Type 0)
   with_spelling_complete at x s =
       g.complete at x (record { text = s.text; parts = s.parts; ends = s.ends; spelled = said at.place s.text x.0 s.spelled })
 
+  -- The grammar with the relation S and the `parse` of g. By `says` and `said`, S is equivalent to the relation of g.
   abbrev pub with_spelling : Grammar A
   with_spelling = record { spells = S; parse = g.parse; sound = with_spelling_sound; complete = with_spelling_complete }

@@ -14,6 +14,7 @@ pub record OperatorHint : Type 0 where
   pub operator : ℕ
   pub taken : Bool
 
+-- The hint on operator k of the function with index f.
 abbrev pub operator_hint : ℕ → ℕ → Bool → OperatorHint
 operator_hint f k taken = record { function = f; operator = k; taken = taken }
 
@@ -22,6 +23,7 @@ abbrev pub number_at : ℕ → ℕ → List (Placed Operator) → Option ℕ
 number_at place k [] = None
 number_at place k (o ∷ os) = if o.place == place then Some k else number_at place (k + 1) os
 
+-- The hint h in the body b of the function with index f; `None` if no operator begins at the offset of the hint.
 abbrev pub hint_in : ℕ → Placed Body → Placed Hint → Option OperatorHint
 hint_in f b h = option_map (λ k. operator_hint f k h.value.taken) (number_at (b.place + h.value.offset) 0 b.value.operators)
 
@@ -29,6 +31,8 @@ hint_in f b h = option_map (λ k. operator_hint f k h.value.taken) (number_at (b
 abbrev pub body_at : ℕ → List PlacedFunction → ℕ → Option (Placed Body)
 body_at imports fs f = if nat_lt f imports then None else option_map (λ x. x.body) (slice_get fs (f - imports))
 
+-- The hints of one entry, in order; `None` if its function has no body, or if no operator begins at the offset of a
+-- hint.
 abbrev pub entry_hints : ℕ → List PlacedFunction → FunctionHints → Option (List OperatorHint)
 entry_hints imports fs e = body_at imports fs e.function >>= λ b. each (hint_in e.function b) e.hints
 
@@ -44,6 +48,7 @@ rise [] = true
 rise (a ∷ []) = true
 rise (a ∷ b ∷ bs) = nat_lt a b && rise (b ∷ bs)
 
+-- The offsets of the hints of each entry increase.
 abbrev pub offsets_rise : List FunctionHints → Bool
 offsets_rise [] = true
 offsets_rise (e ∷ es) = rise (map (λ h. h.value.offset) e.hints) && offsets_rise es

@@ -12,10 +12,12 @@ use Rattle.wasmprinter_spec.specs.Forest.{Forest, End, Word, Name}
 abbrev pub Identifiers : Type 0
 Identifiers = List (Option (List ℕ))
 
+-- The declaration has the identifier `id`.
 abbrev pub declares : List ℕ → Option (List ℕ) → Bool
 declares id None = false
 declares id (Some s) = bytes_eq s id
 
+-- One of the declarations has the identifier `id`.
 abbrev pub is_declared : List ℕ → Identifiers → Bool
 is_declared id [] = false
 is_declared id (d ∷ ds) = cond (declares id d) true (is_declared id ds)

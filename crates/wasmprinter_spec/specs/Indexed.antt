@@ -16,6 +16,7 @@ use Rattle.wasmprinter_spec.specs.Module.{Function, Module, imported_types, func
 -- ---- Types: each type index in them is below the number of types
 
 module _ (types : ℕ) where
+  -- The heap type is abstract, or its type index is declared.
   abbrev pub IsDeclaredHeap : HeapType → Type 0
   IsDeclaredHeap any_type.Exn = Unit {0}
   IsDeclaredHeap any_type.Array = Unit {0}
@@ -31,6 +32,9 @@ module _ (types : ℕ) where
   IsDeclaredHeap any_type.NoExn = Unit {0}
   IsDeclaredHeap (Index i) = i < types
 
+  -- Each type index in the reference type is declared. `IsDeclaredVal`, `IsDeclaredStorage`, `IsDeclaredField`,
+  -- `IsDeclaredFunc` and `IsDeclaredComposite` say the same of a value type, a storage type, a field, a function type
+  -- and a composite type.
   abbrev pub IsDeclaredRef : RefType → Type 0
   IsDeclaredRef r = IsDeclaredHeap r.heap
 
@@ -59,6 +63,7 @@ module _ (types : ℕ) where
   IsDeclaredComposite (ArrayComposite f) = IsDeclaredField f
   IsDeclaredComposite (StructComposite fs) = AllByRecursion IsDeclaredField fs
 
+  -- Each supertype is declared, and so is each type index in the composite type.
   pub record IsDeclaredSub (t : SubType) : Type 0 where
     pub supertypes : AllByRecursion (λ i. i < types) t.supertypes
     pub composite : IsDeclaredComposite t.composite
@@ -94,15 +99,18 @@ IsIndex c Data n = n < c.data_segments
 IsIndex c Local n = n < c.locals
 IsIndex c Label n = Unit {0}
 
+-- There is a function type.
 abbrev pub IsFunctionType : Option FuncType → Type 0
 IsFunctionType None = ⊥
 IsFunctionType (Some t) = Unit {0}
 
+-- The block type is that of no result, or of a declared value type, or the index of a function type.
 abbrev pub IsBlockType : Counts → BlockType → Type 0
 IsBlockType c Empty = Unit {0}
 IsBlockType c (Value t) = IsDeclaredVal c.types t
 IsBlockType c (OfType n) = IsFunctionType (c.signature n)
 
+-- The tag of the catch clause, if it has one, is declared.
 abbrev pub IsCatch : Counts → Catch → Type 0
 IsCatch c (One t l) = t < c.tags
 IsCatch c (OneRef t l) = t < c.tags
@@ -149,15 +157,18 @@ abbrev pub AreDeclaredBy : Counts → Option Row → Immediates → Type 0
 AreDeclaredBy c None i = ⊥
 AreDeclaredBy c (Some r) i = AreDeclared c r.shape i
 
+-- The opcode is listed, the immediates have its shape, and each of their indices is declared.
 abbrev pub IsIndexedOperator : Counts → Operator → Type 0
 IsIndexedOperator c o = AreDeclaredBy c (by_opcode o.opcode) o.immediates
 
 -- ---- Functions
 
+-- The number of parameters of the function type, 0 if there is no function type.
 abbrev pub parameter_count : Option FuncType → ℕ
 parameter_count None = 0
 parameter_count (Some t) = length t.params
 
+-- The number of types of all groups.
 abbrev pub type_count : Module → ℕ
 type_count m = length (all_types m.types)
 
@@ -185,6 +196,7 @@ counts_in m f = record (counts_of m) { locals = parameter_count (signature_at (a
 abbrev pub NamesFunction : Module → ℕ → Type 0
 NamesFunction m i = (t : FuncType) × (signature_at (all_types m.types) i ≡ Some t)
 
+-- The type index is that of a function type, and the types of the locals and the operators use declared indices only.
 pub record IsIndexedFunction (m : Module) (f : Function) : Type 0 where
   pub type_index : NamesFunction m f.type_index
   pub locals : AllByRecursion (IsDeclaredVal (type_count m)) f.locals
@@ -198,18 +210,22 @@ space_of MemoryKind = Memory
 space_of GlobalKind = Global
 space_of TagKind = Tag
 
+-- The exported item is declared.
 abbrev pub IsIndexedExport : Module → Export → Type 0
 IsIndexedExport m e = IsIndex (counts_of m) (space_of e.kind) e.index
 
+-- The start function is declared, if there is one.
 abbrev pub IsStart : Module → Option ℕ → Type 0
 IsStart m None = Unit {0}
 IsStart m (Some i) = IsIndex (counts_of m) Func i
 
 -- ---- The other parts of a module
 
+-- Each operator of an expression outside functions uses declared indices only.
 abbrev pub IsIndexedExpression : Module → List Operator → Type 0
 IsIndexedExpression m os = AllByRecursion (IsIndexedOperator (counts_of m)) os
 
+-- The type of an import uses declared type indices only. The type of a function or a tag is a function type.
 abbrev pub IsIndexedExtern : Module → ExternType → Type 0
 IsIndexedExtern m (FuncExtern i) = NamesFunction m i
 IsIndexedExtern m (TableExtern t) = IsDeclaredRef (type_count m) t.element
@@ -217,38 +233,47 @@ IsIndexedExtern m (MemoryExtern t) = Unit {0}
 IsIndexedExtern m (GlobalExtern t) = IsDeclaredVal (type_count m) t.type
 IsIndexedExtern m (TagExtern i) = NamesFunction m i
 
+-- The type of the import is `IsIndexedExtern`.
 abbrev pub IsIndexedImport : Module → Import → Type 0
 IsIndexedImport m i = IsIndexedExtern m i.type
 
+-- The initialiser, if there is one, uses declared indices only.
 abbrev pub IsIndexedInit : Module → Option (List Operator) → Type 0
 IsIndexedInit m None = Unit {0}
 IsIndexedInit m (Some os) = IsIndexedExpression m os
 
+-- The type of the elements and the initialiser use declared indices only.
 pub record IsIndexedTable (m : Module) (t : placed.Table Operator) : Type 0 where
   pub element : IsDeclaredRef (type_count m) t.type.element
   pub init : IsIndexedInit m t.init
 
+-- The type and the initialiser use declared indices only.
 pub record IsIndexedGlobal (m : Module) (g : placed.Global Operator) : Type 0 where
   pub type : IsDeclaredVal (type_count m) g.type.type
   pub init : IsIndexedExpression m g.init
 
+-- The table and the offset of an active segment use declared indices only.
 abbrev pub IsIndexedMode : Module → ElementMode Operator → Type 0
 IsIndexedMode m Passive = Unit {0}
 IsIndexedMode m Declared = Unit {0}
 IsIndexedMode m (Active t os) = IsIndex (counts_of m) Table t × IsIndexedExpression m os
 
+-- The function indices are declared, or the reference type and the expressions use declared indices only.
 abbrev pub AreIndexedItems : Module → Items Operator → Type 0
 AreIndexedItems m (Functions is) = AllByRecursion (IsIndex (counts_of m) Func) is
 AreIndexedItems m (Expressions t es) = IsDeclaredRef (type_count m) t × AllByRecursion (IsIndexedExpression m) es
 
+-- The mode and the items use declared indices only.
 pub record IsIndexedElement (m : Module) (e : Element Operator) : Type 0 where
   pub mode : IsIndexedMode m e.mode
   pub items : AreIndexedItems m e.items
 
+-- The memory of an active segment is declared, and its offset uses declared indices only.
 abbrev pub IsIndexedDataMode : Module → DataMode Operator → Type 0
 IsIndexedDataMode m PassiveData = Unit {0}
 IsIndexedDataMode m (ActiveData memory os) = IsIndex (counts_of m) Memory memory × IsIndexedExpression m os
 
+-- The mode of the data segment uses declared indices only.
 abbrev pub IsIndexedData : Module → placed.Data Operator → Type 0
 IsIndexedData m d = IsIndexedDataMode m d.mode
 

@@ -22,6 +22,7 @@ use Rattle.wasmprinter_spec.specs.NestingSteps.{stops_at_end, nested_to_end}
 abbrev pub is_prefix : ℕ → Bool
 is_prefix b = (b == 0xfb) || ((b == 0xfc) || ((b == 0xfd) || (b == 0xfe)))
 
+-- An opcode after its first byte b: if b is a prefix, the number of the opcode follows; otherwise b is the opcode.
 abbrev pub numbered_opcode : ℕ → Grammar Opcode
 numbered_opcode b = choose (is_prefix b) (map_value (opcode b) u32) (succeed (opcode 0 b))
 
@@ -34,6 +35,7 @@ abbrev pub block_type_by : ℕ → Grammar BlockType
 block_type_by b =
     choose (b == 0x40) (map_value (λ x. Empty) byte) (choose (begins_val_type b) (map_value Value val_type) (map_value OfType signed_index))
 
+-- A block type (section 5.4, "Control Instructions").
 abbrev pub block_type : Grammar BlockType
 block_type = by_first_byte block_type_by
 
@@ -47,9 +49,11 @@ catch_by k =
     choose (k == 0) (tag_and_label One)
     (choose (k == 1) (tag_and_label OneRef) (choose (k == 2) (map_value All u32) (choose (k == 3) (map_value AllRef u32) fail)))
 
+-- A catch clause (section 5.4, "Control Instructions").
 abbrev pub catch : Grammar Catch
 catch = after_first_byte catch_by
 
+-- An unsigned integer of 64 bits (the standard's `u64`).
 abbrev pub u64 : Grammar ℕ
 u64 = unsigned 64
 
@@ -61,6 +65,7 @@ mem_arg_by n =
     choose (nat_lt n 64) (map_value (mem_arg_of n 0) u64)
     (choose (nat_lt n 128) (map_value (λ x. mem_arg_of (n - 64) x.0 x.1) (seq u32 (λ _. u64))) fail)
 
+-- A memory operand.
 abbrev pub mem_arg : Grammar MemArg
 mem_arg = map_value (λ x. x.1) (seq u32 mem_arg_by)
 
@@ -116,6 +121,7 @@ immediates F64Shape = map_value F64 (float_bits 8)
 immediates VectorShape = map_value Bytes (take_bytes 16)
 immediates LanesShape = map_value Bytes (take_bytes 16)
 
+-- The immediates of the shape of the row. If there is no row, no bytes encode immediates.
 abbrev pub immediates_of_row : Option Row → Grammar Immediates
 immediates_of_row None = fail
 immediates_of_row (Some r) = immediates r.shape
@@ -135,9 +141,11 @@ pub record Closed (A : Type 0) : Type 0 where
   pub items : List A
   pub end : ℕ
 
+-- The role of the operator in the nesting of blocks.
 abbrev pub role_at : Placed Operator → Role
 role_at o = role_of o.value.opcode
 
+-- The role of each operator.
 abbrev pub roles : List (Placed Operator) → List Role
 roles ops = map role_at ops
 
@@ -157,15 +165,20 @@ operator_takes p text o s =
     let (_, _, (first, number, front_joined, one_byte, _)) = code in
     omega (arith, ap length joined, length-append front back, ap length front_joined, length-append first number, ap length one_byte)
 
+-- The open blocks after one more operator; `Stop` if it closes the expression, `Never` if it may not occur here.
 abbrev pub advance_by : Open → Placed Operator → Move Open
 advance_by s o = advance s (role_at o)
 
+-- Operators up to the `end` that closes the expression.
 abbrev pub up_to_end : Grammar (Ended (Placed Operator))
 up_to_end = items_by_steps (value_with_place operator) advance_by operator_takes at_start
 
+-- The operators before the last one, and the place of the last one, which is the `end`.
 abbrev pub closed_of_ended : Ended (Placed Operator) → Closed (Placed Operator)
 closed_of_ended x = record { items = x.items; end = x.last.place }
 
+-- An expression, read operator by operator: operators up to the `end` that closes the expression, and the place of
+-- this `end`.
 abbrev pub closed_grammar : Grammar (Closed (Placed Operator))
 closed_grammar = map_value closed_of_ended up_to_end
 
@@ -183,6 +196,7 @@ stops-roles (o ∷ ops) last s =
 
 -- ---- The only operator with the role `Ends` is 0B
 
+-- The role is `Ends`, that of the operator `end`.
 abbrev is_end : Role → Bool
 is_end Ends = true
 is_end _ = false
@@ -191,6 +205,7 @@ is_end _ = false
 abbrev fits_end : Row → Bool
 fits_end r = cond (is_end r.role) ((r.prefix == 0) && (r.number == end_byte)) true
 
+-- `fits_end` of each row.
 abbrev all_fit : List Row → Bool
 all_fit [] = true
 all_fit (r ∷ rs) = fits_end r && all_fit rs

@@ -1,6 +1,7 @@
 -- The kinds of sections (section 5.5 of the standard, "Sections").
 use Rattle.std.specs.Prelude.{Bool, true, false}
 
+-- A kind of section. The standard gives each kind an id (`kind_of` in `Sections`).
 pub data Kind : Type 0 where
   CustomSection : Kind
   TypeSection : Kind
@@ -17,6 +18,7 @@ pub data Kind : Type 0 where
   CodeSection : Kind
   DataSection : Kind
 
+-- The two kinds are equal.
 abbrev pub same_kind : Kind → Kind → Bool
 same_kind CustomSection CustomSection = true
 same_kind TypeSection TypeSection = true

@@ -13,6 +13,8 @@ is_clean (b ∷ bs) = not (b == 35)
 abbrev pub label_content : ℕ → List ℕ → List ℕ
 label_content n s = cond (is_clean s) s (codes "#label" ++ (decimal n ++ (32 ∷ s)))
 
+-- The identifier of the block that is opened as number n, with d blocks around it, by its name if it has one. The
+-- first argument says whether identifiers are synthesized.
 abbrev pub label_named : Bool → ℕ → ℕ → Option (List ℕ) → Label
 label_named synthesizes n d (Some s) = Some (record { given = Some s; content = label_content n s })
 label_named true n d None = Some (record { given = None; content = codes "#label" ++ decimal d })

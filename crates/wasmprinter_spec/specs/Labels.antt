@@ -10,6 +10,7 @@ pub record Named : Type 0 where
   pub given : Option (List ℕ)
   pub content : List ℕ
 
+-- A label: its identifier, or `None` if it has none.
 abbrev pub Label : Type 0
 Label = Option Named
 
@@ -17,6 +18,7 @@ Label = Option Named
 abbrev pub LabelNaming : Type 0
 LabelNaming = ℕ → ℕ → Label
 
+-- There are two names, and they are equal.
 abbrev pub same_name : Option (List ℕ) → Option (List ℕ) → Bool
 same_name (Some s) (Some t) = bytes_eq s t
 same_name _ _ = false
@@ -26,6 +28,7 @@ abbrev pub hides : Named → Label → Bool
 hides n None = false
 hides n (Some m) = same_name m.given n.given
 
+-- One of the labels has the name that n was given.
 abbrev pub is_hidden : Named → List Label → Bool
 is_hidden n [] = false
 is_hidden n (x ∷ xs) = hides n x || is_hidden n xs
@@ -43,11 +46,14 @@ pub data Target : Type 0 where
   Own : Target
   Nothing : Target
 
+-- The meaning of a label index, seen from inside one more block. The label x of that block joins those that are
+-- nested further in than the meant block.
 abbrev pub after : Label → Target → Target
 after x (Around y further) = Around y (x ∷ further)
 after x Own = Own
 after x Nothing = Nothing
 
+-- The meaning of the label index where these labels are open, the innermost first.
 abbrev pub target : ℕ → List Label → Target
 target zero [] = Own
 target (suc l) [] = Nothing

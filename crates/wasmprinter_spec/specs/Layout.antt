@@ -111,7 +111,8 @@ module_parts o answers names m = parts_by (folding_of o m) o answers names m
 
 -- ---- The module
 
--- The pieces of a module: all of them, or those up to the refusal of a custom section.
+-- The pieces of a module, given those of its parts: all of them, or those up to the refusal of a custom section.
+-- `size` is the number of bytes of the module.
 abbrev pub module_pieces_of : Options → Names → ℕ → List Piece → Option ℕ → List Piece
 module_pieces_of o names size ps None =
     Begin 0 ∷ (group_at o.offsets size 0 (codes "module") (leading_id_and_name_pieces names.module_name ++ ps) ++ (EndLine ∷ []))

@@ -15,6 +15,8 @@ IsUnsigned bits (b ∷ bs) n =
     ((b < 128) × (b < 2 ^ bits) × (bs ≡ []) × (n ≡ b))
     ⊎ ((128 ≤ b) × (7 < bits) × (high : ℕ) × (n ≡ b - 128 + 128 * high) × IsUnsigned (bits - 7) bs high)
 
+-- Reads an unsigned integer of the given number of bits (first argument) from bytes that start at the given offset
+-- (second argument).
 abbrev pub unsigned_of : ℕ → ℕ → List ℕ → Option (ℕ × Input)
 unsigned_of bits p [] = None
 unsigned_of bits p (b ∷ rest) =
@@ -22,9 +24,12 @@ unsigned_of bits p (b ∷ rest) =
     else (if nat_lt 7 bits then (unsigned_of (bits - 7) (p + 1) rest >>= λ h. Some (b - 128 + 128 * h.0, h.1)) else None)
 
 module _ (bits : ℕ) where
+  -- The bytes encode the unsigned integer n of the given number of bits. The first argument is the offset where the
+  -- bytes start.
   abbrev pub Unsigned : ℕ → List ℕ → ℕ → Type 0
   Unsigned p text n = IsUnsigned bits text n
 
+  -- Reads an unsigned integer from the input.
   abbrev pub unsigned_at : Input → Option (ℕ × Input)
   unsigned_at at = unsigned_of bits at.place at.bytes
 
@@ -87,6 +92,8 @@ IsSigned bits (b ∷ bs) n =
     ⊎ (((64 ≤ b) × (b < 128) × (127 - b < 2 ^ (bits - 1)) × (bs ≡ []) × (n ≡ negsuc (127 - b)))
     ⊎ ((128 ≤ b) × (7 < bits) × (high : ℤ) × (n ≡ pos (b - 128) +ℤ pos 128 *ℤ high) × IsSigned (bits - 7) bs high))
 
+-- Reads a signed integer of the given number of bits (first argument) from bytes that start at the given offset
+-- (second argument).
 abbrev pub signed_of : ℕ → ℕ → List ℕ → Option (ℤ × Input)
 signed_of bits p [] = None
 signed_of bits p (b ∷ rest) =
@@ -95,9 +102,12 @@ signed_of bits p (b ∷ rest) =
     else (if nat_lt 7 bits then (signed_of (bits - 7) (p + 1) rest >>= λ h. Some (pos (b - 128) +ℤ pos 128 *ℤ h.0, h.1)) else None))
 
 module _ (bits : ℕ) where
+  -- The bytes encode the signed integer n of the given number of bits. The first argument is the offset where the
+  -- bytes start.
   abbrev pub Signed : ℕ → List ℕ → ℤ → Type 0
   Signed p text n = IsSigned bits text n
 
+  -- Reads a signed integer from the input.
   abbrev pub signed_at : Input → Option (ℤ × Input)
   signed_at at = signed_of bits at.place at.bytes
 

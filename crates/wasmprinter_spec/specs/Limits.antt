@@ -7,16 +7,20 @@ use Rattle.wasmprinter_spec.specs.Grammar.{Placed}
 use Rattle.wasmprinter_spec.specs.Operator.{Operator}
 use Rattle.wasmprinter_spec.specs.Placed.{LocalEntry, PlacedFunction, PlacedModule}
 
+-- The most locals of a function, not counting parameters.
 abbrev pub most_locals : ℕ
 most_locals = 50000
 
+-- The most functions that a module defines.
 abbrev pub most_functions : ℕ
 most_functions = 1000000
 
+-- The number of locals in these groups.
 abbrev pub local_count : List (Placed LocalEntry) → ℕ
 local_count [] = 0
 local_count (e ∷ es) = e.value.count + local_count es
 
+-- The function has at most `most_locals` locals, not counting parameters.
 abbrev pub HasFewLocals : PlacedFunction → Type 0
 HasFewLocals f = local_count f.body.value.locals ≤ most_locals
 

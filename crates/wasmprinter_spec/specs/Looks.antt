@@ -8,6 +8,7 @@ pub record Look : Type 0 where
   pub bold : Bool
   pub intense : Bool
 
+-- The look of text without a color, neither bold nor intense.
 abbrev pub bare_look : Look
 bare_look = record { color = None; bold = false; intense = false }
 
@@ -15,6 +16,7 @@ bare_look = record { color = None; bold = false; intense = false }
 abbrev pub reset_sequence : List ℕ
 reset_sequence = introducer ++ codes "0m"
 
+-- The sequence for bold text.
 abbrev pub bold_sequence : List ℕ
 bold_sequence = introducer ++ codes "1m"
 
@@ -24,10 +26,12 @@ abbrev pub foreground : ℕ → Bool → List ℕ
 foreground c false = introducer ++ (codes "3" ++ (decimal c ++ codes "m"))
 foreground c true = introducer ++ (codes "38;5;" ++ (decimal (8 + c) ++ codes "m"))
 
+-- The sequence for bold text, if the text is bold.
 abbrev pub bold_sequences : Bool → List (List ℕ)
 bold_sequences true = bold_sequence ∷ []
 bold_sequences false = []
 
+-- The sequence of the color, if there is one. The second argument says whether the color is intense.
 abbrev pub color_sequences : Option ℕ → Bool → List (List ℕ)
 color_sequences (Some c) intense = foreground c intense ∷ []
 color_sequences None intense = []

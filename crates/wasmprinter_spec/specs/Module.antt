@@ -31,6 +31,7 @@ pub record Module : Type 0 where
   pub data_segments : List (Data Operator)
   pub customs : List RawCustom
 
+-- The values without their places.
 abbrev pub without_places : {A : Type 0} → List (Placed A) → List A
 without_places xs = map (λ x. x.value) xs
 
@@ -43,6 +44,7 @@ abbrev pub locals_of : List (Placed LocalEntry) → List ValType
 locals_of [] = []
 locals_of (e ∷ es) = replicate e.value.count e.value.type ++ locals_of es
 
+-- The function without the places, and with each local listed by itself.
 abbrev pub function_of : PlacedFunction → Function
 function_of f = record {
   type_index = f.type_index;
@@ -50,28 +52,35 @@ function_of f = record {
   operators = without_places f.body.value.operators;
 }
 
+-- The table without the places of the operators of its initialiser.
 abbrev pub table_without_places : Table (Placed Operator) → Table Operator
 table_without_places t = table_of t.type (option_map without_places t.init)
 
+-- The global without the places of the operators of its initialiser.
 abbrev pub global_without_places : Global (Placed Operator) → Global Operator
 global_without_places g = global_of g.type (without_places g.init)
 
+-- The mode of an element segment without the places of the operators of its offset.
 abbrev pub mode_without_places : ElementMode (Placed Operator) → ElementMode Operator
 mode_without_places Passive = Passive
 mode_without_places Declared = Declared
 mode_without_places (Active table offset) = Active table (without_places offset)
 
+-- The items of an element segment without the places of their operators.
 abbrev pub items_without_places : Items (Placed Operator) → Items Operator
 items_without_places (Functions is) = Functions is
 items_without_places (Expressions t es) = Expressions t (map without_places es)
 
+-- The element segment without places, and without whether the bytes name its table.
 abbrev pub element_without_places : ElementEntry → Element Operator
 element_without_places e = element_of (mode_without_places e.element.mode) (items_without_places e.element.items)
 
+-- The mode of a data segment without the places of the operators of its offset.
 abbrev pub data_mode_without_places : DataMode (Placed Operator) → DataMode Operator
 data_mode_without_places PassiveData = PassiveData
 data_mode_without_places (ActiveData memory offset) = ActiveData memory (without_places offset)
 
+-- The data segment without the places of the operators of its offset.
 abbrev pub data_without_places : Data (Placed Operator) → Data Operator
 data_without_places d = data_of (data_mode_without_places d.mode) d.bytes
 
@@ -98,14 +107,18 @@ module_of m = record {
 
 -- ---- The imports of each kind: in each index space, imports come first (section 2.5.1 of the standard, "Indices")
 
+-- The list with the value before it, if there is one.
 abbrev pub with_first_if_any : {A : Type 0} → Option A → List A → List A
 with_first_if_any None xs = xs
 with_first_if_any (Some x) xs = x ∷ xs
 
+-- The values of f for the items of the list, in order. Items where f has no value are left out.
 abbrev pub values_some : {A B : Type 0} → (A → Option B) → List A → List B
 values_some f [] = []
 values_some f (x ∷ xs) = with_first_if_any (f x) (values_some f xs)
 
+-- The type of an import, if it is one of the kind: for `func_import` the type index of a function, for
+-- `table_import`, `memory_import` and `global_import` the type, for `tag_import` the type index of a tag.
 abbrev pub func_import : ExternType → Option ℕ
 func_import (FuncExtern i) = Some i
 func_import _ = None

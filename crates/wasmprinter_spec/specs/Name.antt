@@ -14,6 +14,7 @@ u32 = unsigned 32
 abbrev pub vec : {A : Type 0} → Grammar A → Grammar (List A)
 vec g = vec_of u32 g
 
+-- The bytes, if they are UTF-8.
 abbrev pub checked_text : List ℕ → Option (List ℕ)
 checked_text bytes = if is_utf8 bytes then Some bytes else None
 

@@ -109,6 +109,7 @@ pub record AreApart (n : Names) : Type 0 where
   pub locals : (f : ℕ) → AreDistinct (n.locals f)
   pub labels : (f : ℕ) → labels.AreLabelsApart (n.labels f)
 
+-- The name is UTF-8, if there is one.
 abbrev pub IsGiven : Option (List ℕ) → Type 0
 IsGiven None = Unit {0}
 IsGiven (Some s) = IsUtf8 s
@@ -124,6 +125,7 @@ abbrev pub IsNamedIfAny : Option Named → Type 0
 IsNamedIfAny None = Unit {0}
 IsNamedIfAny (Some n) = IsNamed n
 
+-- Each identifier is `IsNamed`.
 pub record AreNamed (n : Names) : Type 0 where
   pub module_name : IsNamedIfAny n.module_name
   pub items : (space : Space) (i : ℕ) → IsNamedIfAny (n.items space i)

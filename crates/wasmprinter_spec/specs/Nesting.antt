@@ -65,6 +65,7 @@ pub record Open : Type 0 where
   pub innermost : Frame
   pub outer : List Frame
 
+-- The open blocks with this innermost one, and these around it from the inside out.
 abbrev pub open_frames : Frame → List Frame → Open
 open_frames f fs = record { innermost = f; outer = fs }
 
@@ -72,10 +73,13 @@ open_frames f fs = record { innermost = f; outer = fs }
 abbrev pub at_start : Open
 at_start = open_frames InBlock []
 
+-- The open blocks after the innermost one is closed; `Stop` if no block is around it. The argument lists the blocks
+-- around it.
 abbrev pub move_outwards : List Frame → Move Open
 move_outwards [] = Stop
 move_outwards (f ∷ fs) = On (open_frames f fs)
 
+-- The open blocks after an operator with this effect on the innermost one.
 abbrev pub move_by_turn : Turn → Open → Move Open
 move_by_turn Stay s = On s
 move_by_turn (Enter f) s = On (open_frames f (s.innermost ∷ s.outer))

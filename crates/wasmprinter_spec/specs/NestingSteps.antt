@@ -9,9 +9,11 @@ use Rattle.wasmprinter_spec.specs.Nesting.{FramePart, Sequence, Handlers, Nests,
 
 -- ---- Well-nested roles leave the open blocks as they are
 
+-- From the open blocks f and fs on, each of the roles xs leads to next open blocks, and `last` closes the expression.
 abbrev runs : Frame → List Frame → List Role → Role → Bool
 runs f fs xs last = stops advance (open_frames f fs) xs last
 
+-- The open block is a `try` or one of its `catch` handlers, so that handlers may follow.
 abbrev Handles : Frame → Type 0
 Handles InBlock = ⊥
 Handles InIf = ⊥

@@ -5,12 +5,15 @@ use Rattle.std.specs.Char.{digit_value}
 use Rattle.std.specs.Str.Parse.{digits_value}
 use Rattle.wasmprinter_spec.specs.Grammar.{◌>>=◌}
 
+-- The byte is an underscore.
 abbrev pub is_underscore : ℕ → Bool
 is_underscore b = b == 95
 
+-- The byte is a digit of the base.
 abbrev pub is_digit : ℕ → ℕ → Bool
 is_digit base b = nat_lt (digit_value b) base
 
+-- The first byte is a digit of the base; `false` for the empty text.
 abbrev pub begins_with_digit : ℕ → List ℕ → Bool
 begins_with_digit base [] = false
 begins_with_digit base (b ∷ bs) = is_digit base b
@@ -26,6 +29,7 @@ abbrev pub is_numeral : ℕ → List ℕ → Bool
 is_numeral base [] = false
 is_numeral base (b ∷ bs) = is_digit base b && follows_digit base bs
 
+-- The text without its underscores.
 abbrev pub without_underscores : List ℕ → List ℕ
 without_underscores [] = []
 without_underscores (b ∷ bs) = cond (is_underscore b) (without_underscores bs) (b ∷ without_underscores bs)
@@ -44,7 +48,7 @@ natural (b ∷ c ∷ bs) = if (b == 48) && (c == 120) then numeral 16 bs else nu
 abbrev pub number_below : ℕ → ℕ → Option ℕ
 number_below bits n = if nat_lt n (2 ^ bits) then Some n else None
 
--- Unsigned integers of 8, 32 and 64 bits (the standard's `uN`).
+-- Unsigned integers of 8, 32 and 64 bits (the standard's `uN`): `u8`, `u32` and `u64`.
 abbrev pub u8 : List ℕ → Option ℕ
 u8 w = natural w >>= number_below 8
 
@@ -67,15 +71,21 @@ exponent_of w = u64 w >>= exponent_below 64
 abbrev pub as_signed : ℕ → ℕ → ℤ
 as_signed bits n = if nat_lt n (2 ^ (bits - 1)) then pos n else (pos n -ℤ pos (2 ^ bits))
 
+-- The number after the sign +, which must be below 2 ^ (bits - 1). The first argument is the number of bits.
 abbrev pub positive : ℕ → ℕ → Option ℤ
 positive bits n = if nat_lt n (2 ^ (bits - 1)) then Some (pos n) else None
 
+-- The negative of the number after the sign -, which must be at most 2 ^ (bits - 1). The first argument is the number
+-- of bits.
 abbrev pub negative : ℕ → ℕ → Option ℤ
 negative bits n = if nat_le n (2 ^ (bits - 1)) then Some (neg_ℤ (pos n)) else None
 
+-- The number without a sign, which must be below 2 ^ bits, as a signed one (`as_signed`). The first argument is the
+-- number of bits.
 abbrev pub unsigned_integer : ℕ → ℕ → Option ℤ
 unsigned_integer bits n = if nat_lt n (2 ^ bits) then Some (as_signed bits n) else None
 
+-- `f` of the number, or `None` if there is no number.
 abbrev pub with_number : (ℕ → Option ℤ) → Option ℕ → Option ℤ
 with_number f None = None
 with_number f (Some n) = f n

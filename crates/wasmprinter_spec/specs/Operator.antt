@@ -8,6 +8,7 @@ pub record Opcode : Type 0 where
   pub prefix : ℕ
   pub number : ℕ
 
+-- The opcode with this prefix, or 0, and this number.
 abbrev pub opcode : ℕ → ℕ → Opcode
 opcode p n = record { prefix = p; number = n }
 
@@ -33,6 +34,7 @@ pub record MemArg : Type 0 where
   pub memory : ℕ
   pub offset : ℕ
 
+-- The memory operand with this exponent of the alignment, this memory and this offset.
 abbrev pub mem_arg_of : ℕ → ℕ → ℕ → MemArg
 mem_arg_of exponent memory offset = record { exponent = exponent; memory = memory; offset = offset }
 

@@ -71,11 +71,13 @@ unfoldable pub place_text : Option ℕ → List ℕ
 place_text (Some p) = codes "(;@" ++ (left_in place_width (digits 16 false p) ++ codes ";)")
 place_text None = replicate 11 32
 
+-- The calls for the place with which a line begins. The first argument says whether lines begin with their places.
 abbrev pub place_calls : Bool → Option ℕ → List Call
 place_calls false place = []
 place_calls true (Some p) = Start Comment ∷ (Text (place_text (Some p)) ∷ (Start Reset ∷ []))
 place_calls true None = Text (place_text None) ∷ []
 
+-- The calls for a text in a style.
 abbrev pub calls_in_style : Style → List ℕ → List Call
 calls_in_style style s = Start style ∷ (Text s ∷ (Start Reset ∷ []))
 
@@ -84,9 +86,11 @@ abbrev pub after_spaces : List (List ℕ) → List ℕ
 after_spaces [] = []
 after_spaces (w ∷ ws) = 32 ∷ (w ++ after_spaces ws)
 
+-- A token for each word.
 abbrev pub word_tokens : List (List ℕ) → List Token
 word_tokens ws = map token.word ws
 
+-- The byte of a branch hint: 1 if the branch is likely, otherwise 0.
 abbrev pub flag_byte : Bool → ℕ
 flag_byte true = 1
 flag_byte false = 0
@@ -160,13 +164,16 @@ piece_tokens (HintAnnotation taken) =
     token.left_note (codes "metadata.code.branch_hint") ∷ (token.string (flag_byte taken ∷ []) ∷ (token.right ∷ []))
 piece_tokens _ = []
 
+-- The text of a piece.
 abbrev pub text : Options → Piece → List ℕ
 text o p = text_of (calls o p)
 
+-- The calls of pieces, in order.
 abbrev pub all_calls : Options → List Piece → List Call
 all_calls o [] = []
 all_calls o (p ∷ ps) = calls o p ++ all_calls o ps
 
+-- The tokens of pieces, in order.
 abbrev pub all_tokens : List Piece → List Token
 all_tokens [] = []
 all_tokens (p ∷ ps) = piece_tokens p ++ all_tokens ps

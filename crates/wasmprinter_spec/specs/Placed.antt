@@ -12,6 +12,7 @@ pub record TypeGroup : Type 0 where
   pub written : Bool
   pub types : List SubType
 
+-- The group of these types. The first argument says whether it is written as a group (`rec`).
 abbrev pub type_group : Bool → List SubType → TypeGroup
 type_group written ts = record { written = written; types = ts }
 
@@ -43,6 +44,7 @@ pub record Import : Type 0 where
   pub name : List ℕ
   pub type : ExternType
 
+-- The import from this module (first argument), with this name in it and of this type.
 abbrev pub import_of : List ℕ → List ℕ → ExternType → Import
 import_of m n t = record { source = m; name = n; type = t }
 
@@ -51,6 +53,7 @@ pub record Custom : Type 0 where
   pub name : List ℕ
   pub bytes : Placed (List ℕ)
 
+-- The custom section with this name, and with these bytes after the name.
 abbrev pub custom_of : List ℕ → Placed (List ℕ) → Custom
 custom_of n bytes = record { name = n; bytes = bytes }
 
@@ -60,6 +63,7 @@ pub record CustomEntry : Type 0 where
   pub after : Option Kind
   pub section : Placed Custom
 
+-- The custom section with its position: the kind of the last section before it that is not empty, or `None`.
 abbrev pub custom_entry : Option Kind → Placed Custom → CustomEntry
 custom_entry k c = record { after = k; section = c }
 
@@ -70,6 +74,7 @@ pub record Table (O : Type 0) : Type 0 where
   pub type : TableType
   pub init : Option (List O)
 
+-- The table of this type, with or without an initialiser.
 abbrev pub table_of : {O : Type 0} → TableType → Option (List O) → Table O
 table_of t init = record { type = t; init = init }
 
@@ -78,6 +83,7 @@ pub record Global (O : Type 0) : Type 0 where
   pub type : GlobalType
   pub init : List O
 
+-- The global of this type, with its initialiser.
 abbrev pub global_of : {O : Type 0} → GlobalType → List O → Global O
 global_of t init = record { type = t; init = init }
 
@@ -97,6 +103,7 @@ pub record Element (O : Type 0) : Type 0 where
   pub mode : ElementMode O
   pub items : Items O
 
+-- The element segment with this mode and these items.
 abbrev pub element_of : {O : Type 0} → ElementMode O → Items O → Element O
 element_of mode items = record { mode = mode; items = items }
 
@@ -105,6 +112,7 @@ pub record ElementEntry : Type 0 where
   pub names_table : Bool
   pub element : Element (Placed Operator)
 
+-- The element segment, of which the bytes name the table or not.
 abbrev pub entry_of : Bool → Element (Placed Operator) → ElementEntry
 entry_of names e = record { names_table = names; element = e }
 
@@ -118,6 +126,7 @@ pub record Data (O : Type 0) : Type 0 where
   pub mode : DataMode O
   pub bytes : List ℕ
 
+-- The data segment with this mode and these bytes.
 abbrev pub data_of : {O : Type 0} → DataMode O → List ℕ → Data O
 data_of mode bytes = record { mode = mode; bytes = bytes }
 

@@ -41,6 +41,7 @@ pub record Fields : Type 0 where
   pub elements : List Forest
   pub data_segments : List Forest
 
+-- No fields of any kind.
 abbrev pub no_fields : Fields
 no_fields = record {
   types = [];
@@ -94,6 +95,7 @@ fields _ = None
 abbrev pub identifiers_of : List Forest → Identifiers
 identifiers_of fs = map (λ f. (identifier_in_front f).0) fs
 
+-- The two kinds are equal.
 abbrev pub same_kind : ExternKind → ExternKind → Bool
 same_kind FuncKind FuncKind = true
 same_kind TableKind TableKind = true
@@ -174,6 +176,7 @@ abbrev pub module_fields : Forest → Option Forest
 module_fields (Group (Word w f) End) = if bytes_eq w (codes "module") then Some (identifier_in_front f).1 else None
 module_fields _ = None
 
+-- The module of a text that has these nested groups and no annotations. It has no custom sections.
 abbrev pub read_forest : Forest → Option Module
 read_forest f = module_fields f >>= fields >>= module_of_fields
 
@@ -181,6 +184,7 @@ read_forest f = module_fields f >>= fields >>= module_of_fields
 abbrev pub read_customs : Forest → Option (List RawCustom)
 read_customs f = each (λ c. read_custom (without_annotations c)) (customs f)
 
+-- The module of a text with these nested groups, with its custom sections.
 abbrev pub read_groups : Forest → Option Module
 read_groups f = read_forest (without_annotations f) >>= λ m. read_customs f >>= λ cs. Some (record m { customs = cs })
 

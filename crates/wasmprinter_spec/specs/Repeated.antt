@@ -26,6 +26,7 @@ module _ {A : Type 0} (g : Grammar A) where
   AreItems p text [] = text ≡ []
   AreItems p text (x ∷ xs) = (t u : List ℕ) × (text ≡ t ++ u) × g.spells p t x × AreItems (p + length t) u xs
 
+  -- The bytes encode n items, one after the other. The first argument is n.
   abbrev pub Times : ℕ → ℕ → List ℕ → List A → Type 0
   Times n p text xs = (length xs ≡ n) × AreItems p text xs
 
@@ -73,6 +74,7 @@ module _ {A : Type 0} (g : Grammar A) where
   times_complete n at x s =
       rw (← s.spelled.0) (items_complete x.0 at x.1 (record { text = s.text; parts = s.parts; ends = s.ends; spelled = s.spelled.1 }))
 
+  -- The grammar of n items, one after the other.
   abbrev pub times : ℕ → Grammar (List A)
   times n = record { spells = Times n; parse = items_at g.parse n; sound = times_sound n; complete = times_complete n }
 
@@ -136,6 +138,7 @@ module _ {A : Type 0} (g : Grammar A) where
       let r : entries_at n after ≡ Some xs = entries_complete xs n after (omega (arith, less)) all_spelled in
       rw (ne_eqb (length at.bytes) 0 (λ z. omega arith), p, lt-ltb (length u) (length at.bytes) less, r) refl
 
+  -- The grammar of items that all bytes of the input encode, one after the other, each by at least one byte.
   abbrev pub until_end : Remainder (List A)
   until_end = record {
     spells = Entries;

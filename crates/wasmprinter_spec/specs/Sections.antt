@@ -90,6 +90,7 @@ content DataSection = data_section
 pub data Section : Type 0 where
   holds : (kind : Kind) → Content kind → Section
 
+-- The kind of the section.
 abbrev pub section_kind : Section → Kind
 section_kind (holds kind x) = kind
 
@@ -143,6 +144,7 @@ content_in kind none (s ∷ ss) = content_in kind (some_or (content_of kind s) n
 
 -- ---- Custom sections among the others
 
+-- The list is not empty.
 abbrev pub is_filled : {A : Type 0} → List A → Bool
 is_filled [] = false
 is_filled (x ∷ xs) = true
@@ -169,6 +171,8 @@ is_place DataSection xs = is_filled xs
 abbrev pub place_after : Option Kind → Section → Option Kind
 place_after last (holds kind x) = if is_place kind x then Some kind else last
 
+-- The custom section c, if there is one, and then the custom sections `cs`. `last` is the position of c (`after` of
+-- `CustomEntry`).
 abbrev pub with_custom : Option Kind → Option (Placed Custom) → List CustomEntry → List CustomEntry
 with_custom last None cs = cs
 with_custom last (Some c) cs = custom_entry last c ∷ cs

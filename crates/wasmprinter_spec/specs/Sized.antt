@@ -10,9 +10,11 @@ use Rattle.wasmprinter_spec.specs.Choices.{untested}
 
 -- n bytes, which encode themselves.
 module _ (n : ℕ) where
+  -- There are n bytes, and the value is these bytes.
   abbrev pub Front : ℕ → List ℕ → List ℕ → Type 0
   Front p text bytes = (length text ≡ n) × (bytes ≡ text)
 
+  -- Reads n bytes; `None` if there are fewer.
   abbrev pub front_at : Input → Option (List ℕ × Input)
   front_at at = if nat_lt (length at.bytes) n then None else Some (take n at.bytes, input (at.place + n) (drop n at.bytes))
 
@@ -38,15 +40,18 @@ module _ (n : ℕ) where
       let l : at.place + n ≡ x.1.place = ap (λ (k : ℕ). at.place + k) (sym len) ∙ sym s.ends in
       rw (long, t, d, l) refl
 
+  -- The grammar of n bytes, which encode themselves.
   abbrev pub take_bytes : Grammar (List ℕ)
   take_bytes = record { spells = Front; parse = front_at; sound = front_sound; complete = front_complete }
 
 -- A value that exactly n bytes encode.
 module _ {A : Type 0} (w : Remainder A) where
   module _ (n : ℕ) where
+    -- There are n bytes, and all of them encode the value by w.
     abbrev pub Exactly : ℕ → List ℕ → A → Type 0
     Exactly p text a = (length text ≡ n) × w.spells p text a
 
+    -- Reads n bytes, all of which must encode a value of w.
     abbrev pub exactly_at : Input → Option (A × Input)
     exactly_at at = front_at n at >>= λ x. w.parse (input at.place x.0) >>= λ a. Some (a, x.1)
 
@@ -66,6 +71,7 @@ module _ {A : Type 0} (w : Remainder A) where
         let a : w.parse (input at.place s.text) ≡ Some x.0 = w.complete (input at.place s.text) x.0 s.spelled.1 in
         rw (f, a) refl
 
+    -- The values of w that exactly n bytes encode.
     abbrev pub exactly : Grammar A
     exactly = record { spells = Exactly; parse = exactly_at; sound = exactly_sound; complete = exactly_complete }
 
@@ -76,6 +82,7 @@ value_at_end (b ∷ bs) a = None
 
 -- A value of g that all bytes encode: no byte remains after it.
 module _ {A : Type 0} (g : Grammar A) where
+  -- Reads a value of g; `None` if a byte remains after it.
   abbrev pub alone_at : Input → Option A
   alone_at at = g.parse at >>= λ x. value_at_end x.1.bytes x.0
 
@@ -98,14 +105,17 @@ module _ {A : Type 0} (g : Grammar A) where
       (record { text = at.bytes; parts = sym (append-nil at.bytes); ends = refl; spelled = s }) in
       rw e refl
 
+  -- The values of g, each encoded by all bytes of the input.
   abbrev pub alone : Remainder A
   alone = record { spells = g.spells; parse = alone_at; sound = alone_sound; complete = alone_complete }
 
 -- A value, and then another, which all other bytes encode.
 module _ {A B : Type 0} (g : Grammar A) (w : Remainder B) where
+  -- The bytes are those of x.0 by g, followed by those of x.1 by w.
   abbrev pub Headed : ℕ → List ℕ → A × B → Type 0
   Headed p text x = (t u : List ℕ) × (text ≡ t ++ u) × g.spells p t x.0 × w.spells (p + length t) u x.1
 
+  -- Reads a value of g, and then a value of w up to the end of the input.
   abbrev pub seq_to_end_at : Input → Option (A × B)
   seq_to_end_at at = g.parse at >>= λ a. w.parse a.1 >>= λ b. Some (a.0, b)
 
@@ -126,6 +136,7 @@ module _ {A B : Type 0} (g : Grammar A) (w : Remainder B) where
       let f : w.parse mid ≡ Some x.1 = w.complete mid x.1 second_spelled in
       rw (e, f) refl
 
+  -- A value of g, and then a value of w up to the end of the input.
   abbrev pub seq_to_end : Remainder (A × B)
   seq_to_end = record { spells = Headed; parse = seq_to_end_at; sound = seq_to_end_sound; complete = seq_to_end_complete }
 
@@ -133,6 +144,7 @@ module _ {A B : Type 0} (g : Grammar A) (w : Remainder B) where
 abbrev pub AllLeft : ℕ → List ℕ → Placed (List ℕ) → Type 0
 AllLeft p text x = (x.place ≡ p) × (x.value ≡ text)
 
+-- Reads all bytes of the input and returns them with the place of the first.
 abbrev pub remaining_bytes_at : Input → Option (Placed (List ℕ))
 remaining_bytes_at at = Some (record { place = at.place; value = at.bytes })
 
@@ -144,15 +156,18 @@ remaining_bytes_sound at x e =
 pub remaining_bytes_complete : (at : Input) (x : Placed (List ℕ)) → AllLeft at.place at.bytes x → remaining_bytes_at at ≡ Some x
 remaining_bytes_complete at x s = rw (← s.0, ← s.1) refl
 
+-- The grammar of all remaining bytes, which encode themselves, with the place of the first.
 abbrev pub remaining_bytes : Remainder (Placed (List ℕ))
 remaining_bytes =
     record { spells = AllLeft; parse = remaining_bytes_at; sound = remaining_bytes_sound; complete = remaining_bytes_complete }
 
 -- A value that all bytes encode, with the place of the first.
 module _ {A : Type 0} (w : Remainder A) where
+  -- All bytes encode the value of x by w, and the place of x is the offset p where they start.
   abbrev pub PlacedWhole : ℕ → List ℕ → Placed A → Type 0
   PlacedWhole p text x = (x.place ≡ p) × w.spells p text x.value
 
+  -- Reads a value of w up to the end of the input and returns it with the place where it starts.
   abbrev pub whole_with_place_at : Input → Option (Placed A)
   whole_with_place_at at = w.parse at >>= λ a. Some (record { place = at.place; value = a })
 
@@ -165,15 +180,19 @@ module _ {A : Type 0} (w : Remainder A) where
   pub whole_with_place_complete : (at : Input) (x : Placed A) → PlacedWhole at.place at.bytes x → whole_with_place_at at ≡ Some x
   whole_with_place_complete at x s = rw (w.complete at x.value s.1, ← s.0) refl
 
+  -- The values of w, each with its place.
   abbrev pub whole_with_place : Remainder (Placed A)
   whole_with_place =
       record { spells = PlacedWhole; parse = whole_with_place_at; sound = whole_with_place_sound; complete = whole_with_place_complete }
 
 -- The values of w under a partial function, which also takes the place where the bytes end.
 module _ {A B : Type 0} (f : ℕ → A → Option B) (w : Remainder A) where
+  -- All bytes encode, by w, a value that f maps to b. The first argument of f is the place where the bytes end.
   abbrev pub Concluded : ℕ → List ℕ → B → Type 0
   Concluded p text b = (a : A) × (f (p + length text) a ≡ Some b) × w.spells p text a
 
+  -- Reads a value of w up to the end of the input, and applies f to the place of the end and to the value; `None` if
+  -- f has no value there.
   abbrev pub try_map_by_end_at : Input → Option B
   try_map_by_end_at at = w.parse at >>= λ a. f (at.place + length at.bytes) a
 
@@ -185,6 +204,7 @@ module _ {A B : Type 0} (f : ℕ → A → Option B) (w : Remainder A) where
   pub try_map_by_end_complete : (at : Input) (b : B) → Concluded at.place at.bytes b → try_map_by_end_at at ≡ Some b
   try_map_by_end_complete at b s = let (value, maps, spelled) = s in rw (w.complete at value spelled) maps
 
+  -- The values of w under f. Bytes of a value where f has no value encode nothing.
   abbrev pub try_map_by_end : Remainder B
   try_map_by_end =
       record { spells = Concluded; parse = try_map_by_end_at; sound = try_map_by_end_sound; complete = try_map_by_end_complete }

@@ -13,6 +13,7 @@ pub data Move (S : Type 0) : Type 0 where
   Stop : Move S
   Never : Move S
 
+-- `f s` for the next state s, `x` for the end of the items, `y` for a refusal.
 abbrev pub by_move : {S X : Type 0} → Move S → (S → X) → X → X → X
 by_move (On s) f x y = f s
 by_move Stop f x y = x
@@ -23,6 +24,7 @@ pub record Ended (A : Type 0) : Type 0 where
   pub items : List A
   pub last : A
 
+-- These items, and the last item after them.
 abbrev pub list_with_last : {A : Type 0} → List A → A → Ended A
 list_with_last xs x = record { items = xs; last = x }
 
@@ -157,6 +159,8 @@ module _ {A S : Type 0} (g : Grammar A) (step : S → A → Move S)
       (λ t k. items_by_steps_complete_of xs last n t (p + length head) tail u rest (omega arith) others last_there k)
       ∙ ap (λ (q : ℕ). Some (list_with_last (x ∷ xs) last, input q rest)) places
 
+  -- Reads items from the state s on, up to the item at which the state stops. There are at most as many items as
+  -- bytes.
   abbrev pub items_by_steps_at : S → Input → Option (Ended A × Input)
   items_by_steps_at s at = items_by_steps_of (suc (length at.bytes)) s at
 
@@ -173,6 +177,7 @@ module _ {A S : Type 0} (g : Grammar A) (step : S → A → Move S)
       ∙ items_by_steps_complete_of x.0.items x.0.last (suc (length at.bytes)) s at.place t u x.1.bytes lt items last stop
       ∙ ap (λ (q : ℕ). Some (x.0, input q x.1.bytes)) there
 
+  -- Items from the state s on, up to the item at which the state stops.
   abbrev pub items_by_steps : S → Grammar (Ended A)
   items_by_steps s =
       record { spells = Stepped s; parse = items_by_steps_at s; sound = items_by_steps_sound s; complete = items_by_steps_complete s }

@@ -37,9 +37,11 @@ abbrev pub first : (Row → Bool) → List Row → Option Row
 first p [] = None
 first p (r ∷ rs) = cond (p r) (Some r) (first p rs)
 
+-- The row has the word w.
 abbrev pub has_word : List ℕ → Row → Bool
 has_word w r = bytes_eq r.word w
 
+-- The row is that of the opcode o.
 abbrev pub has_opcode : Opcode → Row → Bool
 has_opcode o r = (r.prefix == o.prefix) && (r.number == o.number)
 
@@ -52,6 +54,7 @@ rows_of w = filter (has_word w) table
 abbrev pub by_opcode : Opcode → Option Row
 by_opcode o = first (has_opcode o) table
 
+-- The word of the row, empty if there is no row.
 abbrev pub word_of_row : Option Row → List ℕ
 word_of_row None = []
 word_of_row (Some r) = r.word
@@ -60,6 +63,7 @@ word_of_row (Some r) = r.word
 abbrev pub word_of : Opcode → List ℕ
 word_of o = word_of_row (by_opcode o)
 
+-- The role of the row, `Plain` if there is no row.
 abbrev pub role_of_row : Option Row → Role
 role_of_row None = Plain
 role_of_row (Some r) = r.role
@@ -68,6 +72,7 @@ role_of_row (Some r) = r.role
 abbrev pub role_of : Opcode → Role
 role_of o = role_of_row (by_opcode o)
 
+-- The shape of the immediates of the row, if there is one.
 abbrev pub shape_of_row : Option Row → Option Shape
 shape_of_row None = None
 shape_of_row (Some r) = Some r.shape
@@ -76,6 +81,7 @@ shape_of_row (Some r) = Some r.shape
 abbrev pub shape_of : Opcode → Option Shape
 shape_of o = shape_of_row (by_opcode o)
 
+-- The arity of the row, if there is one.
 abbrev pub arity_of_row : Option Row → Option Arity
 arity_of_row None = None
 arity_of_row (Some r) = Some r.arity

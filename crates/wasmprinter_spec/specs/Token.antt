@@ -45,6 +45,7 @@ pub data Mode : Type 0 where
   BeforeBrace : RunKind → List ℕ → Mode
   InBrace : RunKind → List ℕ → List ℕ → Mode
 
+-- The tokens of the bytes that follow, by the mode in which these bytes begin.
 abbrev pub Next : Type 0
 Next = Mode → List Token
 
@@ -60,6 +61,7 @@ abbrev pub is_name : List ℕ → Bool
 is_name [] = false
 is_name (b ∷ bs) = is_utf8 (b ∷ bs)
 
+-- The tokens of a quoted string with the content s, by the kind of token that it becomes, and then the tokens ts.
 abbrev pub quoted_tokens : RunKind → List ℕ → List Token → List Token
 quoted_tokens AsWord s ts = bad ∷ ts
 quoted_tokens AsName s ts = (if is_name s then name s else reserved) ∷ ts
@@ -68,6 +70,8 @@ quoted_tokens AsString s ts = string s ∷ ts
 
 -- ---- Between tokens
 
+-- The tokens from a byte on if no token is open. The arguments here and below are the class of the byte, the byte,
+-- and the tokens of the bytes after it.
 abbrev pub clear : Class → ℕ → Next → List Token
 clear Space b k = k Clear
 clear Tab b k = k Clear
@@ -94,11 +98,13 @@ delimits Right = true
 delimits Semicolon = true
 delimits _ = false
 
--- A byte directly after another token; `reserved` comes first unless the byte delimits the token.
+-- A byte directly after another token; `reserved` comes first unless the byte delimits the token, as the first
+-- argument says.
 abbrev pub touch : Bool → Class → ℕ → Next → List Token
 touch true c b k = clear c b k
 touch false c b k = reserved ∷ clear c b k
 
+-- A byte after the run s of identifier characters, which becomes a token of the kind p.
 abbrev pub in_run : RunKind → List ℕ → Class → ℕ → Next → List Token
 in_run p s Backslash b k = k (InRun p (s ++ (b ∷ [])))
 in_run p s Dollar b k = k (InRun p (s ++ (b ∷ [])))
@@ -115,6 +121,7 @@ after_dollar At b k = k (InRun AsName (b ∷ []))
 after_dollar Plain b k = k (InRun AsName (b ∷ []))
 after_dollar c b k = reserved ∷ clear c b k
 
+-- A byte after a left parenthesis.
 abbrev pub after_left : Class → ℕ → Next → List Token
 after_left Semicolon b k = k (InBlock 0)
 after_left At b k = k AfterLeftAt
@@ -131,28 +138,34 @@ after_left_at c b k = left ∷ (reserved ∷ clear c b k)
 
 -- ---- Comments
 
+-- A byte after a semicolon, which is a reserved token if no second semicolon follows.
 abbrev pub after_semicolon : Class → ℕ → Next → List Token
 after_semicolon Semicolon b k = k InLine
 after_semicolon c b k = reserved ∷ clear c b k
 
+-- A byte in a line comment (section 6.2 of the standard, "Comments").
 abbrev pub in_line : Class → Next → List Token
 in_line Feed k = k Clear
 in_line _ k = k InLine
 
+-- The tokens after the end of a block comment that is inside this number of others.
 abbrev pub close_block : ℕ → Next → List Token
 close_block zero k = k Clear
 close_block (suc n) k = k (InBlock n)
 
+-- A byte in a block comment that is inside n others (section 6.2, "Comments").
 abbrev pub in_block : ℕ → Class → Next → List Token
 in_block n Left k = k (InBlockLeft n)
 in_block n Semicolon k = k (InBlockSemicolon n)
 in_block n _ k = k (InBlock n)
 
+-- A byte after a left parenthesis in a block comment, where a semicolon begins a nested comment.
 abbrev pub in_block_left : ℕ → Class → Next → List Token
 in_block_left n Semicolon k = k (InBlock (suc n))
 in_block_left n Left k = k (InBlockLeft n)
 in_block_left n _ k = k (InBlock n)
 
+-- A byte after a semicolon in a block comment, where a right parenthesis ends the comment.
 abbrev pub in_block_semicolon : ℕ → Class → Next → List Token
 in_block_semicolon n Right k = close_block n k
 in_block_semicolon n Semicolon k = k (InBlockSemicolon n)
@@ -161,6 +174,8 @@ in_block_semicolon n _ k = k (InBlock n)
 
 -- ---- Quoted strings
 
+-- A byte in a quoted string after the content s (section 6.3 of the standard, "Strings"). p is the kind of token that
+-- the string becomes.
 abbrev pub in_quoted : RunKind → List ℕ → Class → ℕ → Next → List Token
 in_quoted p s Quote b k = quoted_tokens p s (k Tight)
 in_quoted p s Backslash b k = k (InEscape p s)
@@ -169,6 +184,7 @@ in_quoted p s Control b k = bad ∷ k Clear
 in_quoted p s Tab b k = bad ∷ k Clear
 in_quoted p s _ b k = k (InQuoted p (s ++ (b ∷ [])))
 
+-- The forms of an escape in a quoted string (section 6.3, "Strings"), by the byte after the backslash.
 pub data Escape : Type 0 where
   Char : ℕ → Escape  -- a letter or a sign that represents a character
   Digit : ℕ → Escape  -- a hexadecimal digit
@@ -183,35 +199,44 @@ escape b =
     (if (b == 34) || (b == 39) || (b == 92) then Char b else
     (if nat_lt (digit_value b) 16 then Digit (digit_value b) else Wrong)))))
 
+-- The byte after a backslash, by its meaning. p and s are as for `in_quoted`, here and below.
 abbrev pub in_escape : RunKind → List ℕ → Escape → Next → List Token
 in_escape p s (Char c) k = k (InQuoted p (s ++ (c ∷ [])))
 in_escape p s (Digit h) k = k (InHex p s h)
 in_escape p s Braced k = k (BeforeBrace p s)
 in_escape p s Wrong k = bad ∷ k Clear
 
--- The second hexadecimal digit of a byte.
+-- The byte after h, the first hexadecimal digit of an escape. The fourth argument says whether the byte is the second
+-- digit.
 abbrev pub in_hex : RunKind → List ℕ → ℕ → Bool → ℕ → Next → List Token
 in_hex p s h true b k = k (InQuoted p (s ++ ((h * 16 + digit_value b) ∷ [])))
 in_hex p s h false b k = bad ∷ k Clear
 
+-- The byte after `\u`, which must be a left brace, as the third argument says.
 abbrev pub before_brace : RunKind → List ℕ → Bool → Next → List Token
 before_brace p s true k = k (InBrace p s [])
 before_brace p s false k = bad ∷ k Clear
 
+-- The end of an escape `\u{..}` for the character n, whose UTF-8 continues the content. The third argument says
+-- whether n is a Unicode scalar value.
 abbrev pub with_char : RunKind → List ℕ → Bool → ℕ → Next → List Token
 with_char p s true n k = k (InQuoted p (s ++ encode_utf8 n))
 with_char p s false n k = bad ∷ k Clear
 
+-- The end of an escape `\u{..}`. The third argument is the number that its digits represent, or `None` if they are
+-- not a numeral.
 abbrev pub end_brace : RunKind → List ℕ → Option ℕ → Next → List Token
 end_brace p s (Some n) k = with_char p s (scalar n) n k
 end_brace p s None k = bad ∷ k Clear
 
+-- A byte after the digits d of an escape `\u{..}`. The fourth argument says whether it is the right brace.
 abbrev pub in_brace : RunKind → List ℕ → List ℕ → Bool → ℕ → Next → List Token
 in_brace p s d true b k = end_brace p s (numeral 16 d) k
 in_brace p s d false b k = k (InBrace p s (d ++ (b ∷ [])))
 
 -- ---- All modes
 
+-- The tokens from a byte on in this mode.
 abbrev pub step : Mode → ℕ → Next → List Token
 step Clear b k = clear (class b) b k
 step Tight b k = touch (delimits (class b)) (class b) b k

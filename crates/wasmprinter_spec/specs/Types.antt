@@ -22,6 +22,7 @@ pub record RefType : Type 0 where
   pub nullable : Bool
   pub heap : HeapType
 
+-- The reference type that is nullable or not, to this heap type.
 abbrev pub ref_type : Bool → HeapType → RefType
 ref_type null h = record { nullable = null; heap = h }
 
@@ -45,6 +46,7 @@ pub record FieldType : Type 0 where
   pub storage : StorageType
   pub mutable : Bool
 
+-- The field type that is mutable or not, with this storage type.
 abbrev pub field_type : Bool → StorageType → FieldType
 field_type mut s = record { storage = s; mutable = mut }
 
@@ -65,6 +67,7 @@ pub record SubType : Type 0 where
   pub supertypes : List ℕ
   pub composite : CompositeType
 
+-- The subtype that is final or not, with these supertypes and this composite type.
 abbrev pub sub_type : Bool → List ℕ → CompositeType → SubType
 sub_type final supers c = record { final = final; supertypes = supers; composite = c }
 
@@ -79,6 +82,7 @@ pub record Limits : Type 0 where
   pub min : ℕ
   pub max : Option ℕ
 
+-- The limits with this minimum and, if there is one, this maximum.
 abbrev pub limits_of : ℕ → Option ℕ → Limits
 limits_of min max = record { min = min; max = max }
 
@@ -90,6 +94,7 @@ pub record MemoryType : Type 0 where
   pub limits : Limits
   pub page : Option ℕ
 
+-- The memory type with these fields: `wide`, `shared`, the limits and the exponent of the page size.
 abbrev pub memory_type_of : Bool → Bool → Limits → Option ℕ → MemoryType
 memory_type_of wide shared l page = record { wide = wide; shared = shared; limits = l; page = page }
 
@@ -99,6 +104,7 @@ pub record TableType : Type 0 where
   pub limits : Limits
   pub element : RefType
 
+-- The table type with these fields: `wide`, the limits and the type of the elements.
 abbrev pub table_type_of : Bool → Limits → RefType → TableType
 table_type_of wide l t = record { wide = wide; limits = l; element = t }
 
@@ -107,6 +113,7 @@ pub record GlobalType : Type 0 where
   pub mutable : Bool
   pub type : ValType
 
+-- The global type that is mutable or not, with this value type.
 abbrev pub global_type_of : Bool → ValType → GlobalType
 global_type_of mut t = record { mutable = mut; type = t }
 
@@ -128,6 +135,7 @@ pub data ExternType : Type 0 where
 
 -- ---- Types by their indices
 
+-- The lists joined, in order.
 abbrev pub concat : {A : Type 0} → List (List A) → List A
 concat [] = []
 concat (xs ∷ xss) = xs ++ concat xss
@@ -136,10 +144,12 @@ concat (xs ∷ xss) = xs ++ concat xss
 abbrev pub all_types : List (List SubType) → List SubType
 all_types groups = concat groups
 
+-- The function type in the composite type, or `None` if it is not a function type.
 abbrev pub func_type_of : CompositeType → Option FuncType
 func_type_of (FuncComposite t) = Some t
 func_type_of _ = None
 
+-- The function type in the subtype; `None` if there is no subtype, or if it is not a function type.
 abbrev pub signature_of : Option SubType → Option FuncType
 signature_of None = None
 signature_of (Some t) = func_type_of t.composite
@@ -148,10 +158,12 @@ signature_of (Some t) = func_type_of t.composite
 abbrev pub signature_at : List SubType → ℕ → Option FuncType
 signature_at types i = signature_of (slice_get types i)
 
+-- The fields of the structure type, or `None` if the composite type is not a structure type.
 abbrev pub fields_of : CompositeType → Option (List FieldType)
 fields_of (StructComposite fs) = Some fs
 fields_of _ = None
 
+-- The fields of the structure type in the subtype; `None` if there is no subtype, or if it is not a structure type.
 abbrev pub structure_of : Option SubType → Option (List FieldType)
 structure_of None = None
 structure_of (Some t) = fields_of t.composite

@@ -1,6 +1,7 @@
 -- Names for numbers in contracts: bytes of ASCII characters, and sizes of the buffer in which quoted strings are made.
 use Rattle.std.specs.Prelude.{ℕ}
 
+-- The characters `space`, `dollar`, `backslash` and `letter_p`.
 abbrev pub space : ℕ
 space = 32
 

@@ -36,6 +36,7 @@ module _ (names : Names) (w : List ℕ) where
   unnamed_pieces before.Open t = type_list names (t ∷ [])
   unnamed_pieces b t = first_pieces b t
 
+  -- The pieces of a variable, with its identifier if it has one.
   abbrev pub variable_pieces : Before → Option Named → ValType → List Piece
   variable_pieces b (Some n) t = front_pieces b ++ variables_pieces names w (Alone n t)
   variable_pieces b None t = unnamed_pieces b t

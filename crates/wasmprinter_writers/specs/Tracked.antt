@@ -44,5 +44,6 @@ abbrev pub with_line_if : Bool → Tracked → Option ℕ → Tracked
 with_line_if true t place = record { text = t.text; lines = t.lines; new_line = true; lost = true }
 with_line_if false t place = record { text = t.text; lines = t.lines ++ (place, []) ∷ []; new_line = true; lost = t.lost }
 
+-- The tracker after a line start. If another line has just started, the new line is lost.
 abbrev pub with_line : Tracked → Option ℕ → Tracked
 with_line t place = with_line_if t.new_line t place

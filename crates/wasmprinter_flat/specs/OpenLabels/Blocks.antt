@@ -7,6 +7,7 @@ use Rattle.wasmprinter_flat.specs.declared.open_labels.named_blocks.NamedBlock.{
 use Rattle.wasmprinter_flat.specs.declared.open_labels.named_blocks.NameAt.{NameAt}
 use Rattle.wasmprinter_flat.specs.declared.open_labels.named_blocks.NameAt.TheVariants.{Shown, Hidden, Unnamed}
 
+-- The block that the program's value represents.
 abbrev pub block_view : NamedBlock → Block
 block_view b = record { depth = b.depth; alike = b.alike; name = name_view b.name }
 

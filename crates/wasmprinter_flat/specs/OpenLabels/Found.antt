@@ -2,12 +2,14 @@
 use Rattle.std.specs.Prelude.{ℕ, ◌-◌, List, Bool, true, false, ◌||◌, length, Some, None}
 use Rattle.wasmprinter_spec.specs.Labels.{Label, Named, is_hidden, Target, Around, Own, Nothing, target}
 
+-- The block that a label index refers to, and how the label is printed.
 pub data Found : Type 0 where
   ByName : Named → Found  -- an enclosing block that this identifier refers to
   ByNumber : Found  -- an enclosing block whose identifier an inner block shadows, or the body
   ToBlock : ℕ → Found  -- an enclosing block without an identifier, by its number, counted from 1, outermost first
   ToNothing : Found
 
+-- The meaning of an enclosing block with this identifier. The second argument says whether an inner block shadows it.
 abbrev pub found_named : Named → Bool → Found
 found_named n true = ByNumber
 found_named n false = ByName n

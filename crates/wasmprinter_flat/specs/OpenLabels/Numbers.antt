@@ -7,6 +7,7 @@ use Rattle.std.specs.Cmp.Lexicographic.{slice_cmp}
 use Rattle.std.specs.BTreeMap.{BTreeMap, get_by}
 use Rattle.wasmprinter_flat.specs.declared.open_labels.numbers.NumberedLabel.{NumberedLabel}
 
+-- The name that the label was given.
 abbrev pub given_of : NumberedLabel → List ℕ
 given_of x = x.label.name.given.now
 
@@ -21,6 +22,8 @@ pub record IsNumbering (numbers : BTreeMap (Bor (List ℕ)) ℕ) (xs : List Numb
   pub apart : (q r : List ℕ) (n : ℕ) → number_of numbers q ≡ Some n → number_of numbers r ≡ Some n → q ≡ r
   pub few : (q : List ℕ) (n : ℕ) → number_of numbers q ≡ Some n → n < length xs
 
+-- The number of each label is below the number of labels, and two labels have the same number if and only if they
+-- have the same given name.
 pub record AreNumbered (xs : List NumberedLabel) : Type 0 where
   pub few : All (λ x. x.alike < length xs) xs
   pub same : All (λ x. All (λ y. (x.alike == y.alike) ≡ bytes_eq (given_of x) (given_of y)) xs) xs

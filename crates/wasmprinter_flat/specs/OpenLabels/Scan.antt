@@ -41,6 +41,7 @@ abbrev pub after_opening : Scan → Scan
 after_opening s =
     record { named = s.named; synthesizes = s.synthesizes; function = s.function; count = suc s.count; labels = own_label s ∷ s.labels }
 
+-- The list without its first label.
 abbrev pub without_first : List Label → List Label
 without_first [] = []
 without_first (x ∷ xs) = xs

@@ -15,9 +15,11 @@ pub record Stack : Type 0 where
   pub blocks : List Block
   pub limit : ℕ
 
+-- The number of blocks around each block.
 abbrev pub depths : List Block → List ℕ
 depths bs = map (λ b. b.depth) bs
 
+-- Each number is below d.
 abbrev pub AreBelow : ℕ → List ℕ → Type 0
 AreBelow d [] = Unit {0}
 AreBelow d (x ∷ xs) = (x < d) × AreBelow d xs
@@ -51,6 +53,8 @@ pub record StandsAtDepth (bs : List Block) (d : ℕ) (b : Block) (hidden : Bool)
 abbrev pub unnamed_label : Bool → ℕ → Label
 unnamed_label synthesizes d = label_named synthesizes 0 d None
 
+-- The label of the block at depth d: the name of the first of these blocks if it is at this depth, otherwise a label
+-- without a name.
 abbrev pub label_here : Bool → ℕ → List Block → Label
 label_here synthesizes d [] = unnamed_label synthesizes d
 label_here synthesizes d (b ∷ bs) = if b.depth == d then Some b.name else unnamed_label synthesizes d

@@ -4,6 +4,7 @@ use Rattle.wasmprinter_flat.specs.OpenLabels.Found.{Found, ByName, ByNumber, ToB
 use Rattle.wasmprinter_flat.specs.declared.open_labels.open.LabelRef.{LabelRef}
 use Rattle.wasmprinter_flat.specs.declared.open_labels.open.LabelRef.TheVariants as meant
 
+-- The meaning that the program's value represents.
 abbrev pub found_view : LabelRef → Found
 found_view (meant.ByName identifier) = ByName (identifier_view identifier)
 found_view meant.ByNumber = ByNumber

@@ -6,5 +6,6 @@ use Rattle.wasmprinter_spec.specs.Sized.{seq_to_end, remaining_bytes, try_map_by
 use Rattle.wasmprinter_spec.specs.Name.{name}
 use Rattle.wasmprinter_spec.specs.Placed.{Custom, custom_of}
 
+-- The content of a custom section, with the place of its first byte.
 abbrev pub custom_section : Remainder (Placed Custom)
 custom_section = whole_with_place (try_map_by_end (λ end x. Some (custom_of x.0 x.1)) (seq_to_end name remaining_bytes))

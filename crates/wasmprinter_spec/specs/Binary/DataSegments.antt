@@ -20,11 +20,14 @@ data_mode flags =
     (choose (flags == 1) (succeed PassiveData)
     (choose (flags == 2) (map_value (λ x. ActiveData x.0 x.1) (seq u32 (λ _. constant))) fail))
 
+-- A data segment: the flags, the memory and the offset that they call for, and the bytes.
 abbrev pub segment : Grammar (Data (Placed Operator))
 segment = map_value (λ (_, (mode, bytes)). data_of mode bytes) (seq u32 (λ flags. seq (data_mode flags) (λ _. byte_vec)))
 
+-- The content of a data section.
 abbrev pub data_section : Remainder (List (Placed (Data (Placed Operator))))
 data_section = alone (vec (value_with_place segment))
 
+-- The content of a data count section (section 5.5, "Data Count Section").
 abbrev pub data_count_section : Remainder (Option ℕ)
 data_count_section = alone (map_value Some u32)

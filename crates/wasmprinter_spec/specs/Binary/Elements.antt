@@ -26,12 +26,16 @@ function_items = map_value Functions (vec u32)
 abbrev pub items_of_kind : Grammar (Items (Placed Operator))
 items_of_kind = map_value (λ x. x.1) (seq (only 0x00) (λ _. function_items))
 
+-- A list of expressions of the reference type t.
 abbrev pub expression_items : RefType → Grammar (Items (Placed Operator))
 expression_items t = map_value (Expressions t) (vec constant)
 
+-- A reference type, and a list of expressions of this type.
 abbrev pub items_of_type : Grammar (Items (Placed Operator))
 items_of_type = map_value (λ x. x.1) (seq reference_type expression_items)
 
+-- An element segment after its flags: a mode and items of these grammars. The first argument says whether the bytes
+-- name its table.
 abbrev pub segment : Bool → Grammar (ElementMode (Placed Operator)) → Grammar (Items (Placed Operator)) → Grammar ElementEntry
 segment names modes contents = map_value (λ (mode, items). entry_of names (element_of mode items)) (seq modes (λ _. contents))
 
@@ -48,8 +52,10 @@ element_after flags =
     (choose (flags == 6) (segment true active_in items_of_type)
     (choose (flags == 7) (segment false (succeed Declared) items_of_type) fail)))))))
 
+-- An element segment.
 abbrev pub element : Grammar ElementEntry
 element = map_value (λ x. x.1) (seq u32 element_after)
 
+-- The content of an element section.
 abbrev pub element_section : Remainder (List (Placed ElementEntry))
 element_section = alone (vec (value_with_place element))

@@ -5,5 +5,6 @@ use Rattle.wasmprinter_spec.specs.Grammar.{Remainder}
 use Rattle.wasmprinter_spec.specs.Sized.{alone}
 use Rattle.wasmprinter_spec.specs.Name.{u32, vec}
 
+-- The content of a function section.
 abbrev pub function_section : Remainder (List ℕ)
 function_section = alone (vec u32)

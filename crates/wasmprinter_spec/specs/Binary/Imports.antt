@@ -21,11 +21,14 @@ extern_type_after kind =
     (choose (kind == 3) (map_value GlobalExtern global_type)
     (choose (kind == 4) (map_value TagExtern tag) fail))))
 
+-- An external type: the byte of its kind, and the type.
 abbrev pub extern_type : Grammar ExternType
 extern_type = after_first_byte extern_type_after
 
+-- An import: the name of the module, the name of the item in it, and the external type.
 abbrev pub import : Grammar Import
 import = map_value (λ (source, (field, type)). import_of source field type) (seq name (λ _. seq name (λ _. extern_type)))
 
+-- The content of an import section.
 abbrev pub import_section : Remainder (List (Placed Import))
 import_section = alone (vec (value_with_place import))

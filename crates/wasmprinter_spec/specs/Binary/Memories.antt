@@ -12,6 +12,7 @@ use Rattle.wasmprinter_spec.specs.Binary.Limits.{has_bit, limits}
 abbrev pub page_exponent : ℕ → Option ℕ
 page_exponent n = if nat_lt n 64 then Some n else None
 
+-- The exponent of the page size, if the argument says that it follows.
 abbrev pub page : Bool → Grammar (Option ℕ)
 page true = map_value Some (try_map page_exponent u32)
 page false = succeed None
@@ -24,8 +25,10 @@ memory_type_after flags =
     (map_value (λ (limits, page). memory_type_of (has_bit 2 flags) (has_bit 1 flags) limits page)
     (seq (limits (has_bit 0 flags)) (λ _. page (has_bit 3 flags)))) fail
 
+-- A memory type: the flags, the limits, and the exponent of the page size if it follows.
 abbrev pub memory_type : Grammar MemoryType
 memory_type = after_first_byte memory_type_after
 
+-- The content of a memory section.
 abbrev pub memory_section : Remainder (List (Placed MemoryType))
 memory_section = alone (vec (value_with_place memory_type))

@@ -4,5 +4,6 @@ use Rattle.wasmprinter_spec.specs.Grammar.{Remainder, map_value, Placed, value_w
 use Rattle.wasmprinter_spec.specs.Sized.{alone}
 use Rattle.wasmprinter_spec.specs.Name.{u32}
 
+-- The content of a start section.
 abbrev pub start_section : Remainder (Option (Placed ℕ))
 start_section = alone (map_value Some (value_with_place u32))

@@ -31,8 +31,10 @@ table_by b =
     (seq (only 0x40) (λ _. seq (only 0x00) (λ _. seq table_type (λ _. constant)))))
     (map_value (λ t. table_of t None) table_type)
 
+-- A table, with or without an initialiser.
 abbrev pub table : Grammar (Table (Placed Operator))
 table = by_first_byte table_by
 
+-- The content of a table section.
 abbrev pub table_section : Remainder (List (Placed (Table (Placed Operator))))
 table_section = alone (vec (value_with_place table))

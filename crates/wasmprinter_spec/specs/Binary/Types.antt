@@ -9,6 +9,7 @@ use Rattle.wasmprinter_spec.specs.Types.{StorageType, Val, I8, I16, FieldType, f
 use Rattle.wasmprinter_spec.specs.Binary.ValTypes.{lookup, value_if_any, val_type, val_type_after}
 use Rattle.wasmprinter_spec.specs.Placed.{TypeGroup, type_group}
 
+-- The packed type of the byte, or `None` for any other byte.
 abbrev pub packed_type_of : ℕ → Option StorageType
 packed_type_of b = lookup ((0x78, I8) ∷ (0x77, I16) ∷ []) b
 
@@ -16,6 +17,7 @@ packed_type_of b = lookup ((0x78, I8) ∷ (0x77, I16) ∷ []) b
 abbrev pub storage_type_after : ℕ → Grammar StorageType
 storage_type_after b = choose (is_some (packed_type_of b)) (value_if_any (packed_type_of b)) (map_value Val (val_type_after b))
 
+-- A storage type (section 5.3, "Composite Types").
 abbrev pub storage_type : Grammar StorageType
 storage_type = after_first_byte storage_type_after
 
@@ -23,6 +25,7 @@ storage_type = after_first_byte storage_type_after
 abbrev pub mutability : Grammar Bool
 mutability = try_map (λ b. lookup ((0x00, false) ∷ (0x01, true) ∷ []) b) byte
 
+-- A field type: a storage type, and whether the field is mutable.
 abbrev pub field : Grammar FieldType
 field = map_value (λ x. field_type x.1 x.0) (seq storage_type (λ _. mutability))
 
@@ -37,6 +40,7 @@ composite_after b =
     (choose (b == 0x5f) (map_value StructComposite (vec field))
     (choose (b == 0x60) (map_value FuncComposite signature) fail))
 
+-- A composite type (section 5.3, "Composite Types").
 abbrev pub composite : Grammar CompositeType
 composite = after_first_byte composite_after
 
@@ -52,6 +56,7 @@ sub_type_after b =
     (choose (b == 0x4f) (sub_type_parts true)
     (map_value final_type (composite_after b)))
 
+-- A subtype (section 5.3, "Recursive Types").
 abbrev pub subtype : Grammar SubType
 subtype = after_first_byte sub_type_after
 
@@ -61,8 +66,10 @@ group_after b =
     choose (b == 0x4e) (map_value (type_group true) (vec subtype))
     (map_value (λ t. type_group false (t ∷ [])) (sub_type_after b))
 
+-- A group of types, the standard's recursive type (section 5.3, "Recursive Types").
 abbrev pub group : Grammar TypeGroup
 group = after_first_byte group_after
 
+-- The content of a type section.
 abbrev pub type_section : Remainder (List (Placed TypeGroup))
 type_section = alone (vec (value_with_place group))

@@ -10,15 +10,18 @@ abbrev pub lookup : {A : Type 0} → List (ℕ × A) → ℕ → Option A
 lookup [] b = None
 lookup (row ∷ rows) b = cond (b == row.0) (Some row.1) (lookup rows b)
 
+-- The number type or the vector type of the byte, or `None` for any other byte.
 abbrev pub number_type_of : ℕ → Option ValType
 number_type_of b = lookup ((0x7f, I32) ∷ (0x7e, I64) ∷ (0x7d, F32) ∷ (0x7c, F64) ∷ (0x7b, V128) ∷ []) b
 
+-- The abstract heap type of the byte, or `None` for any other byte.
 abbrev pub abstract_heap_of : ℕ → Option HeapType
 abstract_heap_of b =
     lookup (
     (0x69, Exn) ∷ (0x6a, Array) ∷ (0x6b, Struct) ∷ (0x6c, I31) ∷ (0x6d, Eq) ∷ (0x6e, Any)
     ∷ (0x6f, Extern) ∷ (0x70, Func) ∷ (0x71, NoAny) ∷ (0x72, NoExtern) ∷ (0x73, NoFunc) ∷ (0x74, NoExn) ∷ []) b
 
+-- The number, if it is not negative.
 abbrev pub non_negative : ℤ → Option ℕ
 non_negative (pos n) = Some n
 non_negative (negsuc n) = None
@@ -37,6 +40,7 @@ value_if_any (Some a) = succeed a
 abbrev pub heap_type_by : ℕ → Grammar HeapType
 heap_type_by b = choose (is_some (abstract_heap_of b)) (try_map abstract_heap_of byte) (map_value Index signed_index)
 
+-- A heap type (section 5.3, "Heap Types").
 abbrev pub heap_type : Grammar HeapType
 heap_type = by_first_byte heap_type_by
 
@@ -48,6 +52,7 @@ ref_type_after b =
     (choose (b == 0x63) (map_value (ref_type true) heap_type)
     (map_value (ref_type true) (value_if_any (abstract_heap_of b))))
 
+-- A reference type (section 5.3, "Reference Types").
 abbrev pub reference_type : Grammar RefType
 reference_type = after_first_byte ref_type_after
 
@@ -55,6 +60,7 @@ reference_type = after_first_byte ref_type_after
 abbrev pub val_type_after : ℕ → Grammar ValType
 val_type_after b = choose (is_some (number_type_of b)) (value_if_any (number_type_of b)) (map_value Ref (ref_type_after b))
 
+-- A value type (section 5.3, "Value Types").
 abbrev pub val_type : Grammar ValType
 val_type = after_first_byte val_type_after
 

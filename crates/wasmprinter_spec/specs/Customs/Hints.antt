@@ -17,6 +17,7 @@ pub record FunctionHints : Type 0 where
   pub function : ℕ
   pub hints : List (Placed Hint)
 
+-- Whether the branch is likely, by the byte of a hint; `None` for a byte other than 00 and 01.
 abbrev pub flag : ℕ → Option Bool
 flag b = if b == 0 then Some false else (if b == 1 then Some true else None)
 
@@ -25,25 +26,30 @@ abbrev pub hint : Grammar Hint
 hint =
     map_value (λ (offset, (_, taken)). record { offset = offset; taken = taken }) (seq u32 (λ _. seq (only 1) (λ _. try_map flag byte)))
 
--- The greatest number of functions, and that of hints in a function. More of either is an error.
+-- The greatest number of functions (`most_hinted_functions`), and that of hints in a function (`most_hints`). More of
+-- either is an error.
 abbrev pub most_hinted_functions : ℕ
 most_hinted_functions = 1000000
 
 abbrev pub most_hints : ℕ
 most_hints = 131071
 
+-- The list, if it has at most n elements.
 abbrev pub at_most : {A : Type 0} → ℕ → List A → Option (List A)
 at_most n xs = if nat_le (length xs) n then Some xs else None
 
+-- The index of a function, and its hints.
 abbrev pub function_hints : Grammar FunctionHints
 function_hints =
     map_value (λ x. record { function = x.0; hints = x.1 }) (seq u32 (λ _. try_map (at_most most_hints) (vec (value_with_place hint))))
 
+-- The data of a hint section: the hints of each function.
 abbrev pub hint_section : Remainder (List FunctionHints)
 hint_section = alone (try_map (at_most most_hinted_functions) (vec function_hints))
 
 -- ---- The hints of a module
 
+-- The list, empty if there is none.
 abbrev pub or_none : {A : Type 0} → Option (List A) → List A
 or_none None = []
 or_none (Some xs) = xs
@@ -52,11 +58,12 @@ or_none (Some xs) = xs
 abbrev pub hints_given : Placed (List ℕ) → List FunctionHints
 hints_given d = or_none (hint_section.parse (input d.place d.value))
 
--- The last section with this name, which is the one that counts.
+-- The last section with this name, which is the one that counts, or `last` if no section has it.
 abbrev pub last_named : List ℕ → Option Custom → List CustomEntry → Option Custom
 last_named n last [] = last
 last_named n last (c ∷ cs) = last_named n (if bytes_eq c.section.value.name n then Some c.section.value else last) cs
 
+-- The hints of the section, if there is one.
 abbrev pub hints_by : Option Custom → List FunctionHints
 hints_by None = []
 hints_by (Some c) = hints_given c.bytes
@@ -72,6 +79,7 @@ abbrev pub next_hints : ℕ → List FunctionHints → List (Placed Hint)
 next_hints i [] = []
 next_hints i (e ∷ es) = if e.function == i then e.hints else []
 
+-- The entries that are left after the function with index i.
 abbrev pub hints_after : ℕ → List FunctionHints → List FunctionHints
 hints_after i [] = []
 hints_after i (e ∷ es) = if e.function == i then es else e ∷ es
@@ -81,6 +89,7 @@ abbrev pub next_hint : ℕ → List (Placed Hint) → Option (Placed Hint)
 next_hint offset [] = None
 next_hint offset (h ∷ hs) = if h.value.offset == offset then Some h else None
 
+-- The hints that are left after the operator at this offset.
 abbrev pub hint_after : ℕ → List (Placed Hint) → List (Placed Hint)
 hint_after offset [] = []
 hint_after offset (h ∷ hs) = if h.value.offset == offset then hs else h ∷ hs

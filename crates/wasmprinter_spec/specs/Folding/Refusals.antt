@@ -13,6 +13,7 @@ use Rattle.wasmprinter_spec.specs.Folding.Code.{is_try}
 
 -- ---- The lists of operators that are printed
 
+-- Operators with their places, in their flat order.
 abbrev pub Operators : Type 0
 Operators = List (Placed Operator)
 

@@ -18,6 +18,7 @@ pub data NodesOf (H : Type 0) : Type 0 where
   Nil : NodesOf H
   Snoc : NodesOf H → H → ℕ → NodesOf H → NodesOf H
 
+-- Nodes of a module, which have the heads of `Head`.
 abbrev pub Nodes : Type 0
 Nodes = NodesOf Head
 
@@ -54,16 +55,17 @@ pub data OperandsOf (H : Type 0) : Type 0 where
   Overshot : OperandsOf H  -- a sum exceeded the needed number first
   TooFew : OperandsOf H  -- no run has the needed number
 
+-- The result of the search for operands among these nodes.
 abbrev pub Operands : Type 0
 Operands = OperandsOf Head
 
--- One more operand at the end.
+-- One more operand at the end, with its head, its number of results and the nodes inside it.
 abbrev pub with_last : {H : Type 0} → H → ℕ → NodesOf H → OperandsOf H → OperandsOf H
 with_last head results held (Fit before run) = Fit before (Snoc run head results held)
 with_last head results held Overshot = Overshot
 with_last head results held TooFew = TooFew
 
--- The shortest run of last nodes whose results, with `sum` more, are exactly the number that is needed.
+-- The shortest run of last nodes whose results, with `sum` more, are exactly the number that is needed (`wanted`).
 abbrev pub operands_from : {H : Type 0} → ℕ → ℕ → NodesOf H → OperandsOf H
 operands_from wanted sum Nil = TooFew
 operands_from wanted sum (Snoc before head results held) =

@@ -16,6 +16,7 @@ use Rattle.wasmprinter_spec.specs.Layout.DataSegments.{shown_bytes}
 
 -- ---- Raw sections
 
+-- The word of the kind in a position `(after ..)`, empty for kinds that are no position.
 abbrev pub place_word : Kind → List ℕ
 place_word TypeSection = codes "type"
 place_word ImportSection = codes "import"
@@ -31,6 +32,7 @@ place_word CodeSection = codes "code"
 place_word DataSection = codes "data"
 place_word _ = []
 
+-- A group of two words.
 abbrev pub two_words : List ℕ → List ℕ → List Piece
 two_words v w = OpenPlain v ∷ (Gap ∷ (Word w ∷ (Shut ∷ [])))
 
@@ -39,6 +41,8 @@ unfoldable pub place_pieces : Option Kind → List Piece
 place_pieces None = two_words (codes "before") (codes "first")
 place_pieces (Some kind) = two_words (codes "after") (place_word kind)
 
+-- A custom section as raw bytes, in a line of its own. The first argument, here and below, says whether the text is a
+-- skeleton, which has `...` in place of the bytes.
 unfoldable pub raw_pieces : Bool → CustomEntry → List Piece
 raw_pieces skeleton c =
     let s : Custom = c.section.value in
@@ -54,7 +58,7 @@ malformed_pieces skeleton c =
 
 -- ---- Lines of an annotation
 
--- An annotation whose lines are nested like those of a group.
+-- An annotation with the name w, whose lines are nested like those of a group.
 abbrev pub note : List ℕ → List Piece → List Piece
 note w ps = OpenAnnotation w ∷ (ps ++ close None 1 (has_break ps))
 
@@ -62,17 +66,20 @@ note w ps = OpenAnnotation w ∷ (ps ++ close None 1 (has_break ps))
 abbrev pub gap_quoted : List ℕ → List Piece
 gap_quoted s = Gap ∷ (Quoted (chars s) ∷ [])
 
+-- Quoted strings, with a space before each.
 unfoldable pub gap_quoted_list : List (List ℕ) → List Piece
 gap_quoted_list [] = []
 gap_quoted_list (s ∷ ss) = gap_quoted s ++ gap_quoted_list ss
 
 -- ---- `producers`
 
+-- The values of the field with this name, each on a line of its own.
 unfoldable pub values_pieces : List ℕ → List (Placed Value) → List Piece
 values_pieces field [] = []
 values_pieces field (v ∷ vs) =
     Break (Some v.place) 2 ∷ (OpenAnnotationWord field ∷ (gap_quoted v.value.name ++ (gap_quoted v.value.version ++ (Shut ∷ values_pieces field vs))))
 
+-- The values of all fields.
 unfoldable pub fields_pieces : List Field → List Piece
 fields_pieces [] = []
 fields_pieces (f ∷ fs) = values_pieces f.name f.values ++ fields_pieces fs
@@ -86,7 +93,7 @@ flag_words =
     ∷ (0x10, codes "undefined") ∷ (0x20, codes "exported") ∷ (0x40, codes "explicit-name")
     ∷ (0x80, codes "no-strip") ∷ (0x100, codes "tls") ∷ (0x200, codes "absolute") ∷ []
 
--- The bit is set.
+-- The bit is set in the flags.
 abbrev pub has_flag : ℕ → ℕ → Bool
 has_flag flags bit = ((flags / bit) % 2) == 1
 
@@ -96,29 +103,34 @@ flags_by [] rest = cond (rest == 0) [] (Gap ∷ (Word (codes "0x" ++ digits 16 f
 flags_by (row ∷ rows) rest =
     if has_flag rest row.0 then Gap ∷ (Word row.1 ∷ flags_by rows (rest - row.0)) else flags_by rows rest
 
+-- The words of flags.
 unfoldable pub flags_pieces : ℕ → List Piece
 flags_pieces flags = flags_by flag_words flags
 
--- A space and two numbers in a group, unless both are 0.
+-- A space and two numbers in a group with the word w, unless both are 0.
 unfoldable pub sizes_group : List ℕ → ℕ → ℕ → List Piece
 sizes_group w a b =
     cond ((a == 0) && (b == 0)) [] (Gap ∷ (OpenPlain w ∷ (Gap ∷ (Word (decimal a) ∷ (Gap ∷ (Word (decimal b) ∷ (Shut ∷ [])))))))
 
+-- The line of the memory and the table space. The first argument is the place of the subsection, here and below.
 unfoldable pub sizes_pieces : ℕ → MemInfo → List Piece
 sizes_pieces place m =
     Break (Some place) 2
     ∷ (Open (codes "mem-info") ∷ (sizes_group (codes "memory") m.memory_size m.memory_alignment
     ++ (sizes_group (codes "table") m.table_size m.table_alignment ++ (Shut ∷ []))))
 
+-- A line of quoted names after the word w.
 unfoldable pub names_pieces : List ℕ → ℕ → List (List ℕ) → List Piece
 names_pieces w place ns = Break (Some place) 2 ∷ (Open w ∷ (gap_quoted_list ns ++ (Shut ∷ [])))
 
+-- The exported symbols with their flags, each on a line of its own.
 unfoldable pub exports_pieces : ℕ → List ExportInfo → List Piece
 exports_pieces place [] = []
 exports_pieces place (e ∷ es) =
     Break (Some place) 2
     ∷ (OpenGap (codes "export-info") ∷ (Quoted (chars e.name) ∷ (flags_pieces e.flags ++ (Shut ∷ exports_pieces place es))))
 
+-- The imported symbols with their flags, each on a line of its own.
 unfoldable pub import_infos_pieces : ℕ → List ImportInfo → List Piece
 import_infos_pieces place [] = []
 import_infos_pieces place (i ∷ is) =
@@ -135,6 +147,7 @@ content_pieces place (Imports is) = import_infos_pieces place is
 content_pieces place (Paths ps) = names_pieces (codes "runtime-path") place ps
 content_pieces place (Other id) = []
 
+-- The lines of all subsections.
 unfoldable pub subsections_pieces : List Subsection → List Piece
 subsections_pieces [] = []
 subsections_pieces (s ∷ ss) = content_pieces s.place s.value ++ subsections_pieces ss
@@ -146,6 +159,8 @@ pub data Part : Type 0 where
   Shown : List Piece → Part
   Stops : List Piece → ℕ → Part
 
+-- A custom section that the printer does not claim, by its role. `claim` is the piece that asks whether the printer
+-- claims it.
 abbrev pub role_part : Bool → Piece → CustomEntry → CustomRole → Part
 role_part skeleton claim c Silent = Shown (claim ∷ [])
 role_part skeleton claim c (Listed fields) =
@@ -162,6 +177,7 @@ custom_part skeleton answer c =
     let claim : Piece = Claimed s.name s.bytes.place s.bytes.value answer in
     if answer then Shown (claim ∷ []) else role_part skeleton claim c (custom_role_of s)
 
+-- The two positions among the other sections are equal.
 abbrev pub same_place : Option Kind → Option Kind → Bool
 same_place None None = true
 same_place (Some j) (Some k) = same_kind j k
@@ -182,9 +198,11 @@ pub record Laid : Type 0 where
   pub pieces : List Piece
   pub refused : Option ℕ
 
+-- Pieces, and then those up to the first refusal.
 abbrev pub before_laid : List Piece → Laid → Laid
 before_laid ps l = record l { pieces = ps ++ l.pieces }
 
+-- The pieces of parts up to the first refusal.
 abbrev pub laid_parts : List Part → Laid
 laid_parts [] = record { pieces = []; refused = None }
 laid_parts (Shown ps ∷ parts) = before_laid ps (laid_parts parts)

@@ -28,6 +28,7 @@ pub record Scope : Type 0 where
   pub function : ℕ
   pub folding : Option Folding
 
+-- The scope with these types and identifiers, this function, and this folding if there is one.
 abbrev pub scope_of : List SubType → Names → ℕ → Option Folding → Scope
 scope_of ts names f folding = record { types = ts; names = names; function = f; folding = folding }
 

@@ -8,6 +8,7 @@ use Rattle.wasmprinter_spec.specs.Piece.{Piece, Break, Gap, Word, Quoted}
 use Rattle.wasmprinter_spec.specs.Layout.Groups.{line_group_gap}
 use Rattle.wasmprinter_spec.specs.Layout.Declarations.{Scope, item_index}
 
+-- The word of the kind.
 unfoldable pub kind_word : ExternKind → List ℕ
 kind_word FuncKind = codes "func"
 kind_word TableKind = codes "table"
@@ -15,6 +16,7 @@ kind_word MemoryKind = codes "memory"
 kind_word GlobalKind = codes "global"
 kind_word TagKind = codes "tag"
 
+-- The index of the exported item of this kind.
 unfoldable pub extern_index_pieces : Scope → ExternKind → ℕ → List Piece
 extern_index_pieces s TagKind n = Word (decimal n) ∷ []
 extern_index_pieces s kind n = item_index s (space_of kind) n
@@ -23,5 +25,6 @@ extern_index_pieces s kind n = item_index s (space_of kind) n
 abbrev pub export_parts : Scope → Export → List Piece
 export_parts s e = Quoted (chars e.name) ∷ (Gap ∷ line_group_gap (kind_word e.kind) (extern_index_pieces s e.kind e.index))
 
+-- The field of an export, on a line of its own.
 unfoldable pub export_pieces : Scope → Placed Export → List Piece
 export_pieces s e = Break (Some e.place) 1 ∷ line_group_gap (codes "export") (export_parts s e.value)

@@ -22,6 +22,7 @@ unfoldable pub constant_by : Option Folding → Setting → List (Placed Operato
 constant_by None s os = expression_pieces s os
 constant_by (Some f) s os = folded_list f (Some 0) s [] os
 
+-- An expression of a field, flat or folded, at this nesting depth.
 unfoldable pub constant_pieces : Scope → ℕ → List (Placed Operator) → List Piece
 constant_pieces s nesting os = constant_by s.folding (in_line s nesting) os
 
@@ -35,11 +36,11 @@ abbrev pub grouped_pieces : Scope → ℕ → List (Placed Operator) → List Pi
 grouped_pieces s nesting (o ∷ []) = expression_pieces (in_line s nesting) (o ∷ [])
 grouped_pieces s nesting os = constant_pieces s nesting os
 
--- The content of the group of an expression.
+-- The content of the group of an expression, which has the word w unless it is a single operator.
 abbrev pub group_parts : Scope → ℕ → List ℕ → List (Placed Operator) → List Piece
 group_parts s nesting w os = word_unless_one w os ++ grouped_pieces s nesting os
 
--- An expression in a group at this nesting depth.
+-- An expression in a group with the word w at this nesting depth.
 unfoldable pub constant_group : Scope → ℕ → List ℕ → List (Placed Operator) → List Piece
 constant_group s nesting w os =
     let ps : List Piece = group_parts s (nesting + 1) w os in OpenUnnamed ∷ (ps ++ close None nesting (has_break ps))

@@ -88,8 +88,8 @@ has_line_comment [] = false
 has_line_comment (a ∷ []) = false
 has_line_comment (a ∷ b ∷ cs) = ((a == 59) && (b == 59)) || has_line_comment (b ∷ cs)
 
--- The closing parenthesis of a node must not be inside a line comment: if nothing else comes between, a new line
--- begins.
+-- The closing parenthesis of a node must not be inside a line comment: if nothing else comes between, as the first
+-- argument says, a new line begins. The other arguments are the text of the node, its place and its nesting depth.
 abbrev pub comment_end : Bool → List ℕ → ℕ → ℕ → List Piece
 comment_end true s place nesting = cond (has_line_comment s) (Break (Some place) nesting ∷ []) []
 comment_end false s place nesting = []
@@ -99,8 +99,8 @@ abbrev pub node_hint : Options → Form → Bool → ℕ → ℕ → Option (Pla
 node_hint o form first place nesting None = []
 node_hint o form first place nesting (Some h) = before_word form first place nesting ++ Word (text o (HintAnnotation h.value.taken)) ∷ []
 
--- Nodes in a row, at this nesting depth. `first` says that they are the first on their line. The nodes inside a
--- node are one level deeper.
+-- Nodes in a row, at this nesting depth. `color` says whether their texts have ANSI escape sequences. `first` says
+-- that they are the first on their line. The nodes inside a node are one level deeper.
 unfoldable pub node_pieces : Options → Bool → Form → Bool → ℕ → Nodes → List Piece
 node_pieces o color form first nesting Nil = []
 node_pieces o color form first nesting (Snoc before head results held) =

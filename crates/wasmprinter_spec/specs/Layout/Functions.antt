@@ -31,7 +31,8 @@ local_line names place (g ∷ gs) = Break place 2 ∷ (variables_pieces names (c
 unfoldable pub local_pieces : Names → ℕ → ℕ → List (Placed LocalEntry) → List Piece
 local_pieces names f count es = local_line names (locals_place es) (variable_groups (names.locals f) count (locals_of es))
 
--- The header of a function or a tag: its declaration, and its type.
+-- The header of a function or a tag with index i: its declaration, and its type, whose parameters have the
+-- identifiers of function f, or none.
 unfoldable pub header_pieces : Scope → Space → Option ℕ → ℕ → ℕ → List Piece
 header_pieces s space f i type_index = item_declaration s space i ++ (Gap ∷ type_use s f type_index)
 
@@ -50,7 +51,7 @@ unfoldable pub body_by : Option Folding → Option ℕ → Setting → List (Pla
 body_by None own s hs os = operators_pieces s hs true 0 [] os
 body_by (Some f) own s hs os = folded_list f own s hs os
 
--- The operators of a function of the type, with these hints.
+-- The operators of a function of the type with this index, with these hints.
 unfoldable pub body_pieces : Scope → ℕ → List (Placed Hint) → Placed Body → List Piece
 body_pieces s type_index hs b = body_by s.folding (result_count s type_index) (over_lines s b.place) hs b.value.operators
 

@@ -3,20 +3,23 @@
 use Rattle.std.specs.Prelude.{ℕ, ◌+◌, List, [], ◌∷◌, ◌++◌, Option, Some, None, Bool, true, false, ◌||◌, cond}
 use Rattle.wasmprinter_spec.specs.Piece.{Piece, Break, Open, OpenGap, Shut}
 
+-- A line begins with the piece.
 abbrev pub breaks : Piece → Bool
 breaks (Break place nesting) = true
 breaks _ = false
 
+-- A line begins in the pieces.
 abbrev pub has_break : List Piece → Bool
 has_break [] = false
 has_break (p ∷ ps) = cond (breaks p) true (has_break ps)
 
--- The closing parenthesis, on a line of its own or not. `nesting` is the nesting depth of the group itself.
+-- The closing parenthesis, on a line of its own, as the last argument says, or not. `place` is the place of that
+-- line, if it has one, and `nesting` the nesting depth of the group itself.
 abbrev pub close : Option ℕ → ℕ → Bool → List Piece
 close place nesting true = Break place nesting ∷ (Shut ∷ [])
 close place nesting false = Shut ∷ []
 
--- A group, which closes on a line of its own if a line begins in it.
+-- A group with the keyword w at this nesting depth, which closes on a line of its own if a line begins in it.
 unfoldable pub group : ℕ → List ℕ → List Piece → List Piece
 group nesting w ps = Open w ∷ (ps ++ close None nesting (has_break ps))
 
@@ -24,10 +27,12 @@ group nesting w ps = Open w ∷ (ps ++ close None nesting (has_break ps))
 unfoldable pub group_gap : ℕ → List ℕ → List Piece → List Piece
 group_gap nesting w ps = OpenGap w ∷ (ps ++ close None nesting (has_break ps))
 
--- A group that closes at a place: on a line of its own if a line begins in it or if lines begin with their places.
+-- A group that closes at a place: on a line of its own if a line begins in it or if lines begin with their places
+-- (the first argument). The second and third arguments are the place and the nesting depth of the group.
 unfoldable pub group_at : Bool → ℕ → ℕ → List ℕ → List Piece → List Piece
 group_at offsets place nesting w ps = Open w ∷ (ps ++ close (Some place) nesting (offsets || has_break ps))
 
+-- A group as in `group_at`, with a space after its keyword.
 unfoldable pub group_gap_at : Bool → ℕ → ℕ → List ℕ → List Piece → List Piece
 group_gap_at offsets place nesting w ps = OpenGap w ∷ (ps ++ close (Some place) nesting (offsets || has_break ps))
 
@@ -35,6 +40,7 @@ group_gap_at offsets place nesting w ps = OpenGap w ∷ (ps ++ close (Some place
 unfoldable pub line_group : List ℕ → List Piece → List Piece
 line_group w ps = Open w ∷ (ps ++ (Shut ∷ []))
 
+-- A group within one line, with a space after its keyword.
 unfoldable pub line_group_gap : List ℕ → List Piece → List Piece
 line_group_gap w ps = OpenGap w ∷ (ps ++ (Shut ∷ []))
 

@@ -20,9 +20,11 @@ pub record Numbers : Type 0 where
   pub globals : ℕ
   pub tags : ℕ
 
+-- There are no earlier imports.
 abbrev pub no_numbers : Numbers
 no_numbers = record { functions = 0; tables = 0; memories = 0; globals = 0; tags = 0 }
 
+-- The number of earlier imports of the kind of this one, which is the index of this one.
 abbrev pub number_of : ExternType → Numbers → ℕ
 number_of (FuncExtern i) n = n.functions
 number_of (TableExtern t) n = n.tables
@@ -30,6 +32,7 @@ number_of (MemoryExtern t) n = n.memories
 number_of (GlobalExtern t) n = n.globals
 number_of (TagExtern i) n = n.tags
 
+-- The numbers with this import too.
 abbrev pub numbers_after : ExternType → Numbers → Numbers
 numbers_after (FuncExtern i) n = record n { functions = n.functions + 1 }
 numbers_after (TableExtern t) n = record n { tables = n.tables + 1 }
@@ -46,6 +49,7 @@ extern_parts s n (MemoryExtern t) = declared_memory s n t
 extern_parts s n (GlobalExtern t) = declared_global s n t
 extern_parts s n (TagExtern i) = header_pieces s Tag None n i
 
+-- The inner group of an import: the word of the kind, the declaration with index n, and the type.
 unfoldable pub extern_pieces : Scope → ℕ → ExternType → List Piece
 extern_pieces s n (FuncExtern i) = line_group_gap (codes "func") (extern_parts s n (FuncExtern i))
 extern_pieces s n (TableExtern t) = line_group_gap (codes "table") (extern_parts s n (TableExtern t))
@@ -57,9 +61,11 @@ extern_pieces s n (TagExtern i) = line_group_gap (codes "tag") (extern_parts s n
 abbrev pub import_parts : Scope → ℕ → Import → List Piece
 import_parts s n i = Quoted (chars i.source) ∷ (Gap ∷ (Quoted (chars i.name) ∷ (Gap ∷ extern_pieces s n i.type)))
 
+-- The field of the import with index n, on a line of its own.
 unfoldable pub import_pieces : Scope → ℕ → Placed Import → List Piece
 import_pieces s n i = Break (Some i.place) 1 ∷ line_group_gap (codes "import") (import_parts s n i.value)
 
+-- The fields of imports. The second argument has the numbers of the imports before these.
 unfoldable pub imports_pieces : Scope → Numbers → List (Placed Import) → List Piece
 imports_pieces s n [] = []
 imports_pieces s n (i ∷ is) = import_pieces s (number_of i.value.type n) i ++ imports_pieces s (numbers_after i.value.type n) is

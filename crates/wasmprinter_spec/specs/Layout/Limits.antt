@@ -8,6 +8,7 @@ abbrev pub wide_pieces : Bool → List Piece
 wide_pieces true = TypeWordGap (codes "i64") ∷ []
 wide_pieces false = []
 
+-- The maximum size in decimal, if there is one.
 abbrev pub max_words : Option ℕ → List (List ℕ)
 max_words None = []
 max_words (Some n) = decimal n ∷ []

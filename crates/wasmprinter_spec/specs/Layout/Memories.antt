@@ -9,6 +9,7 @@ use Rattle.wasmprinter_spec.specs.Layout.Groups.{line_group_gap}
 use Rattle.wasmprinter_spec.specs.Layout.Limits.{wide_pieces, limits_pieces}
 use Rattle.wasmprinter_spec.specs.Layout.Declarations.{Scope, item_declaration}
 
+-- The word `shared`, if threads may share the memory.
 abbrev pub shared_pieces : Bool → List Piece
 shared_pieces true = GapTypeWord (codes "shared") ∷ []
 shared_pieces false = []
@@ -17,10 +18,12 @@ shared_pieces false = []
 abbrev pub page_parts : ℕ → List Piece
 page_parts e = Word (codes "0x" ++ digits 16 false (2 ^ e)) ∷ []
 
+-- The group of the page size, if the exponent is given.
 abbrev pub page_pieces : Option ℕ → List Piece
 page_pieces None = []
 page_pieces (Some e) = Gap ∷ line_group_gap (codes "pagesize") (page_parts e)
 
+-- A memory type.
 unfoldable pub memory_type_pieces : MemoryType → List Piece
 memory_type_pieces m = wide_pieces m.wide ++ (limits_pieces m.limits ++ (shared_pieces m.shared ++ page_pieces m.page))
 
@@ -28,5 +31,6 @@ memory_type_pieces m = wide_pieces m.wide ++ (limits_pieces m.limits ++ (shared_
 abbrev pub declared_memory : Scope → ℕ → MemoryType → List Piece
 declared_memory s i m = item_declaration s Memory i ++ (Gap ∷ memory_type_pieces m)
 
+-- The field of the memory with index i, on a line of its own.
 unfoldable pub memory_pieces : Scope → ℕ → Placed MemoryType → List Piece
 memory_pieces s i m = Break (Some m.place) 1 ∷ line_group_gap (codes "memory") (declared_memory s i m.value)

@@ -54,39 +54,45 @@ abbrev pub named_pieces : ℕ → Named → Bool → List Piece
 named_pieces l n true = Number l ∷ []
 named_pieces l n false = label_name_pieces n.given l n
 
--- The label l, where d blocks are open.
+-- The label l, where d blocks are open. `inner` are the labels that are nested further in (`labels_inside`), and the
+-- last argument is the meaning of l.
 abbrev pub target_pieces : List labels.Label → ℕ → ℕ → Target → List Piece
 target_pieces inner d l (Around (Some n) further) = named_pieces l n (is_hidden n further || is_hidden n inner)
 target_pieces inner d l (Around None further) = Number l ∷ (BlockComment true (64 ∷ decimal (d - l)) ∷ [])
 target_pieces inner d l Own = Number l ∷ []
 target_pieces inner d l Nothing = Word (decimal l) ∷ (BlockComment false (codes " INVALID ") ∷ [])
 
+-- A space and the label l, which counts from the open labels xs. `inner` is that of `target_pieces`.
 unfoldable pub label_pieces : List labels.Label → List labels.Label → ℕ → List Piece
 label_pieces inner xs l = Gap ∷ target_pieces inner (length xs) l (target l xs)
 
+-- The labels of `br_table`, of which l is the last. The other arguments are those of `label_pieces`.
 unfoldable pub labels_pieces : List labels.Label → List labels.Label → List ℕ → ℕ → List Piece
 labels_pieces inner xs [] l = label_pieces inner xs l
 labels_pieces inner xs (m ∷ ms) l = label_pieces inner xs m ++ labels_pieces inner xs ms l
 
 -- ---- Blocks
 
--- The comment of a block whose label has no identifier. Blocks are counted from 1.
+-- The comment of the block with number d, whose label has no identifier. Blocks are counted from 1.
 unfoldable pub ending_pieces : Form → labels.Label → ℕ → List Piece
 ending_pieces form (Some n) d = []
 ending_pieces OverLines None d = Gap ∷ (LineComment (codes "label = @" ++ decimal d) ∷ [])
 ending_pieces InLine None d = Gap ∷ (BlockComment true (codes " label = @" ++ (decimal d ++ codes " ")) ∷ [])
 
+-- A space and a block type, or nothing for the empty block type.
 unfoldable pub block_pieces : Setting → BlockType → List Piece
 block_pieces s Empty = []
 block_pieces s (Value t) = Gap ∷ line_group_gap (codes "result") (val_pieces s.names t)
 block_pieces s (OfType n) = Gap ∷ type_use_pieces s.names None n (s.signature n)
 
+-- A catch clause in a group. `inner` and `xs` are those of `label_pieces`, here and below.
 unfoldable pub catch_pieces : Setting → List labels.Label → List labels.Label → Catch → List Piece
 catch_pieces s inner xs (One t l) = line_group (codes "catch") (Gap ∷ (named_index s row.Tag t ++ label_pieces inner xs l))
 catch_pieces s inner xs (OneRef t l) = line_group (codes "catch_ref") (Gap ∷ (named_index s row.Tag t ++ label_pieces inner xs l))
 catch_pieces s inner xs (All l) = line_group (codes "catch_all") (label_pieces inner xs l)
 catch_pieces s inner xs (AllRef l) = line_group (codes "catch_all_ref") (label_pieces inner xs l)
 
+-- Catch clauses, with a space before each.
 unfoldable pub catches_pieces : Setting → List labels.Label → List labels.Label → List Catch → List Piece
 catches_pieces s inner xs [] = []
 catches_pieces s inner xs (c ∷ cs) = Gap ∷ (catch_pieces s inner xs c ++ catches_pieces s inner xs cs)
@@ -117,22 +123,26 @@ select_pieces names ts = Gap ∷ line_group (codes "result") (type_list names ts
 
 -- ---- Memory operands
 
--- An offset of 0 and the natural alignment are omitted.
+-- A space and an offset. An offset of 0 is omitted.
 unfoldable pub offset_pieces : ℕ → List Piece
 offset_pieces n = cond (n == 0) [] (Gap ∷ (Word (codes "offset=" ++ decimal n) ∷ []))
 
+-- A space and an alignment, by its exponent. The natural alignment is omitted.
 unfoldable pub align_pieces : ℕ → ℕ → List Piece
 align_pieces natural exponent = cond (exponent == natural) [] (Gap ∷ (Word (codes "align=" ++ decimal (2 ^ exponent)) ∷ []))
 
+-- A memory operand: the memory, which is omitted if it is 0, the offset and the alignment. `natural` is the exponent
+-- of the natural alignment.
 unfoldable pub mem_arg_pieces : Setting → ℕ → MemArg → List Piece
 mem_arg_pieces s natural m = default_index_pieces s row.Memory m.memory ++ (offset_pieces m.offset ++ align_pieces natural m.exponent)
 
 -- ---- Vectors
 
--- An unsigned number in decimal.
+-- A space and an unsigned number in decimal.
 unfoldable pub lane_pieces : ℕ → List Piece
 lane_pieces k = Gap ∷ (Word (decimal k) ∷ [])
 
+-- Lane numbers, with a space before each.
 unfoldable pub lanes_pieces : List ℕ → List Piece
 lanes_pieces [] = []
 lanes_pieces (k ∷ ks) = lane_pieces k ++ lanes_pieces ks
@@ -151,6 +161,7 @@ unfoldable pub hex_words : List ℕ → List (List ℕ)
 hex_words (a ∷ b ∷ c ∷ d ∷ bs) = hex_word (a ∷ (b ∷ (c ∷ (d ∷ [])))) ∷ hex_words bs
 hex_words _ = []
 
+-- The bits of a vector as four integers of 32 bits, in hexadecimal.
 unfoldable pub vector_pieces : List ℕ → List Piece
 vector_pieces bs = GapTypeWord (codes "i32x4") ∷ (GapLiterals (hex_words bs) ∷ [])
 
@@ -204,12 +215,15 @@ level Delegates d = d - 1
 level Ends d = d - 1
 level _ d = d
 
--- A line break or a space before an operator's word. In one line, nothing comes before the first.
+-- A line break or a space before an operator's word. In one line, nothing comes before the first operator, as the
+-- second argument says. The numbers are the operator's place and its nesting depth.
 abbrev pub before_word : Form → Bool → ℕ → ℕ → List Piece
 before_word OverLines first place nesting = Break (Some place) nesting ∷ []
 before_word InLine true place nesting = []
 before_word InLine false place nesting = Gap ∷ []
 
+-- An operator with its immediates. `first` says whether it is the first of its list, `own` is the label of the block
+-- that it opens, if it opens one, and the labels `xs` are open.
 unfoldable pub operator_pieces : Setting → Bool → labels.Label → List labels.Label → Placed Operator → List Piece
 operator_pieces s first own xs o =
     let role : Role = role_of o.value.opcode in

@@ -40,11 +40,13 @@ module _ (names : Names) where
 
   -- ---- Composite types
 
+  -- A storage type.
   unfoldable pub storage_pieces : StorageType → List Piece
   storage_pieces (Val t) = val_pieces names t
   storage_pieces I8 = Word (codes "i8") ∷ []
   storage_pieces I16 = Word (codes "i16") ∷ []
 
+  -- A storage type, in a group `mut` if the field is mutable.
   abbrev pub field_pieces_by : Bool → StorageType → List Piece
   field_pieces_by true s = OpenPlain (codes "mut") ∷ (Gap ∷ (storage_pieces s ++ (Shut ∷ [])))
   field_pieces_by false s = storage_pieces s
@@ -53,6 +55,7 @@ module _ (names : Names) where
   unfoldable pub field_pieces : Option Named → FieldType → List Piece
   field_pieces n f = Gap ∷ (identifier_gap_pieces n ++ field_pieces_by f.mutable f.storage)
 
+  -- A space and the group of a field of a structure type, with its identifier if it has one.
   unfoldable pub struct_field_pieces : Option Named → FieldType → List Piece
   struct_field_pieces n f = Gap ∷ (OpenPlain (codes "field") ∷ (field_pieces n f ++ (Shut ∷ [])))
 
@@ -65,6 +68,7 @@ module _ (names : Names) where
 
   -- ---- Subtypes
 
+  -- The word `final` and a space, if the type is final.
   abbrev pub final_pieces : Bool → List Piece
   final_pieces true = Word (codes "final") ∷ (Gap ∷ [])
   final_pieces false = []
@@ -74,6 +78,7 @@ module _ (names : Names) where
   supertype_pieces [] = []
   supertype_pieces (i ∷ is) = type_index_pieces names i ++ (Gap ∷ supertype_pieces is)
 
+  -- The group `sub` of the type with index i: whether it is final, its supertypes and its composite type.
   unfoldable pub sub_group : ℕ → Bool → List ℕ → CompositeType → List Piece
   sub_group i final supers c = line_group (codes "sub") (Gap ∷ (final_pieces final ++ (supertype_pieces supers ++ composite_pieces i c)))
 
@@ -82,6 +87,7 @@ module _ (names : Names) where
   sub_pieces_by i true [] c = composite_pieces i c
   sub_pieces_by i final supers c = sub_group i final supers c
 
+  -- The subtype with index i.
   unfoldable pub sub_pieces : ℕ → SubType → List Piece
   sub_pieces i t = sub_pieces_by i t.final t.supertypes t.composite
 
@@ -92,10 +98,12 @@ module _ (names : Names) where
   -- ---- Groups of types
 
   -- A type of an explicit `(rec ..)`, on a line of its own. The place of all these lines is that after the group's
-  -- first two bytes.
+  -- first two bytes; `place` is that of the group.
   unfoldable pub member_pieces : ℕ → ℕ → SubType → List Piece
   member_pieces place i t = Break (Some (place + 2)) 2 ∷ type_pieces i t
 
+  -- The types of a group, with indices from i on, in a group `rec` if the first argument says so. The second argument
+  -- is the place of the group.
   abbrev pub group_pieces_by : Bool → ℕ → ℕ → List SubType → List Piece
   group_pieces_by true place i ts = group 1 (codes "rec") (numbered_pieces (member_pieces place) i ts)
   group_pieces_by false place i ts = numbered_pieces type_pieces i ts

@@ -44,6 +44,7 @@ module _ (names : Names) where
   unfoldable pub type_index_pieces : ℕ → List Piece
   type_index_pieces n = index_pieces (names.items Types n) n
 
+  -- A heap type.
   unfoldable pub heap_pieces : HeapType → List Piece
   heap_pieces (Index n) = type_index_pieces n
   heap_pieces h = TypeWord (heap_word h) ∷ []
@@ -53,13 +54,16 @@ module _ (names : Names) where
   null_ref_pieces (Index n) = line_group (codes "ref") (Gap ∷ (Word (codes "null") ∷ (Gap ∷ heap_pieces (Index n))))
   null_ref_pieces h = TypeWord (ref_word h) ∷ []
 
+  -- A reference type that is nullable or not, to this heap type.
   abbrev pub ref_pieces_by : Bool → HeapType → List Piece
   ref_pieces_by true h = null_ref_pieces h
   ref_pieces_by false h = line_group_gap (codes "ref") (heap_pieces h)
 
+  -- A reference type.
   unfoldable pub ref_pieces : RefType → List Piece
   ref_pieces r = ref_pieces_by r.nullable r.heap
 
+  -- A value type.
   unfoldable pub val_pieces : ValType → List Piece
   val_pieces I32 = TypeWord (codes "i32") ∷ []
   val_pieces I64 = TypeWord (codes "i64") ∷ []

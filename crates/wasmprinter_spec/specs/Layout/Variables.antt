@@ -26,6 +26,7 @@ variable_groups named k [] = []
 variable_groups named k (t ∷ ts) = with_variable (named k) t (variable_groups named (k + 1) ts)
 
 module _ (names : Names) where
+  -- A group of variables after the word w, which is `param` or `local`.
   unfoldable pub variables_pieces : List ℕ → Variables → List Piece
   variables_pieces w (Alone n t) = line_group w (Gap ∷ (id_and_name_gap_pieces (Some n) ++ val_pieces names t))
   variables_pieces w (Together ts) = line_group w (type_list names ts)

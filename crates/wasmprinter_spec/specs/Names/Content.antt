@@ -45,6 +45,8 @@ content s given e =
     if not (is_clean e.name) || (is_counted s && is_among e.name given) then marked_content (group_of s) e.index e.name
     else e.name
 
+-- The name that the entry e of subsection s gives, with its content. `given` are the names that were given before in
+-- its space.
 abbrev pub entry_name : ℕ → List (List ℕ) → Entry → Named
 entry_name s given e = record { given = Some e.name; content = content s given e }
 
@@ -63,6 +65,7 @@ is_in s outer e = e.subsection == s && e.outer == outer
 abbrev pub entries_in : ℕ → ℕ → List Entry → List Entry
 entries_in s outer entries = filter (is_in s outer) entries
 
--- The name of an item, by all entries of a module.
+-- The name of an item, by all entries of a module. The numbers are the subsection, the function or type (`outer` of
+-- `Entry`) and the index.
 abbrev pub name_of : List Entry → ℕ → ℕ → ℕ → Option Named
 name_of entries s outer index = last_name s [] None (entries_in s outer entries) index

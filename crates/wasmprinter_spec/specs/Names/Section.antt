@@ -7,6 +7,9 @@ use Rattle.wasmprinter_spec.specs.Lenient.{Lenient, give, follow, one, repeat, w
 
 -- ---- The ids of subsections
 
+-- The standard has `module_subsection`, `function_subsection`, `local_subsection`, `type_subsection`,
+-- `field_subsection` and `tag_subsection`. The proposal adds `label_subsection`, `table_subsection`,
+-- `memory_subsection`, `global_subsection`, `elem_subsection` and `data_subsection`.
 abbrev pub module_subsection : ℕ
 module_subsection = 0
 
@@ -62,9 +65,11 @@ pub record Entry : Type 0 where
 abbrev pub association : Grammar (ℕ × List ℕ)
 association = seq u32 (λ _. name)
 
+-- The entry of subsection s for the index x.0 with the name x.1. `outer` is the function or type, as in `Entry`.
 abbrev pub entry_of : ℕ → ℕ → ℕ × List ℕ → Entry
 entry_of s outer x = record { subsection = s; outer = outer; index = x.0; name = x.1 }
 
+-- An association as an entry. The arguments are those of `entry_of`.
 abbrev pub entry : ℕ → ℕ → Lenient Entry
 entry s outer = one (λ x. entry_of s outer x ∷ []) association
 
@@ -102,6 +107,7 @@ subsection = follow byte (λ s. follow u32 (λ size. within (content s) size))
 abbrev pub subsections : ℕ → Lenient Entry
 subsections n = repeat (unless_ended subsection) n
 
+-- The lists joined, in order.
 abbrev pub all_of : List (List Entry) → List Entry
 all_of [] = []
 all_of (xs ∷ groups) = xs ++ all_of groups

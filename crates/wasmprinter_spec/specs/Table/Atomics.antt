@@ -5,9 +5,11 @@ use Rattle.std.specs.Prelude.{ℕ, List, [], ◌∷◌}
 use Rattle.wasmprinter_spec.specs.Row.{Row, FenceShape, MemoryShape, Arity, Fixed}
 use Rattle.wasmprinter_spec.specs.Table.Rows.{prefixed_row}
 
+-- An operator with a memory operand: the number after the prefix, the word, the natural exponent, and the arity.
 abbrev atomic : ℕ → String → ℕ → Arity → Row
 atomic n w natural a = prefixed_row 0xfe n w (MemoryShape natural) a
 
+-- The atomic operators.
 unfoldable pub atomic_rows : List Row
 atomic_rows =
     atomic 0x00 "memory.atomic.notify" 2 (Fixed 2 1) ∷

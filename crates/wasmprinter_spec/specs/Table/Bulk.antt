@@ -5,9 +5,11 @@ use Rattle.std.specs.Prelude.{ℕ, List, [], ◌∷◌}
 use Rattle.wasmprinter_spec.specs.Row.{Row, Table, Memory, Elem, Data, Shape, IndexShape, DefaultIndexShape, SegmentShape, CopyShape, Arity, Fixed}
 use Rattle.wasmprinter_spec.specs.Table.Rows.{prefixed_row}
 
+-- An operator after the prefix: its number, word, shape and arity.
 abbrev bulk : ℕ → String → Shape → Arity → Row
 bulk n w s a = prefixed_row 0xfc n w s a
 
+-- The operators on regions and segments, and those that grow, measure and fill a table.
 unfoldable pub bulk_rows : List Row
 bulk_rows =
     bulk 8 "memory.init" (SegmentShape Data Memory) (Fixed 3 0) ∷

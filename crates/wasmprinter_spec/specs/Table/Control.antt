@@ -4,6 +4,7 @@ use Rattle.std.specs.Prelude.{List, [], ◌∷◌}
 use Rattle.wasmprinter_spec.specs.Row.{Row, Types, Func, Tag, Label, NoneShape, BlockShape, TryTableShape, IndexShape, CallShape, BranchTableShape, CastShape, Fixed, OfCall, OfReturnCall, OfIndirectCall, OfReturnIndirectCall, OfThrow, OfReturn, OfBranch, OfBranchIf, OfBranchTable, OfBranchOnNull, OfBranchOnNonNull, OfBranchOnCast, OfBlock, Opens, OpensIf, OpensTry, Else, Catches, CatchesAll, Delegates, Ends}
 use Rattle.wasmprinter_spec.specs.Table.Rows.{control, prefixed_row, plain}
 
+-- The control operators.
 unfoldable pub control_rows : List Row
 control_rows =
     plain 0x00 "unreachable" NoneShape (Fixed 0 0) ∷

@@ -5,7 +5,8 @@ use Rattle.std.specs.Prelude.{ℕ, List, [], ◌∷◌}
 use Rattle.wasmprinter_spec.specs.Row.{Row, Memory, DefaultIndexShape, MemoryShape, Fixed}
 use Rattle.wasmprinter_spec.specs.Table.Rows.{plain}
 
--- Takes an address, gives the value at that address.
+-- Takes an address, gives the value at that address. The arguments here and below are the opcode, the word and the
+-- natural exponent.
 abbrev load : ℕ → String → ℕ → Row
 load n w natural = plain n w (MemoryShape natural) (Fixed 1 1)
 
@@ -13,6 +14,7 @@ load n w natural = plain n w (MemoryShape natural) (Fixed 1 1)
 abbrev store : ℕ → String → ℕ → Row
 store n w natural = plain n w (MemoryShape natural) (Fixed 2 0)
 
+-- The loads, the stores, and the operators on the size of a memory.
 unfoldable pub memory_rows : List Row
 memory_rows =
     load 0x28 "i32.load" 2 ∷

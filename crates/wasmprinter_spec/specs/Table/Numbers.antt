@@ -5,15 +5,19 @@ use Rattle.std.specs.Prelude.{ℕ, List, [], ◌∷◌, ◌++◌}
 use Rattle.wasmprinter_spec.specs.Row.{Row, Shape, NoneShape, I32Shape, I64Shape, F32Shape, F64Shape, Fixed}
 use Rattle.wasmprinter_spec.specs.Table.Rows.{plain, prefixed_row}
 
+-- Takes nothing, gives its immediate. The arguments here and below are the opcode's number and the word.
 abbrev constant : ℕ → String → Shape → Row
 constant n w s = plain n w s (Fixed 0 1)
 
+-- Takes one operand, gives one result.
 abbrev unary : ℕ → String → Row
 unary n w = plain n w NoneShape (Fixed 1 1)
 
+-- Takes two operands, gives one result.
 abbrev binary : ℕ → String → Row
 binary n w = plain n w NoneShape (Fixed 2 1)
 
+-- After the prefix FC: takes one operand, gives one result.
 abbrev saturating : ℕ → String → Row
 saturating n w = prefixed_row 0xfc n w NoneShape (Fixed 1 1)
 
@@ -180,6 +184,7 @@ conversion_rows =
     wide 22 "i64.mul_wide_u" 2 ∷
     []
 
+-- The operators on numbers.
 unfoldable pub number_rows : List Row
 unfolding comparison_rows arithmetic_rows conversion_rows
 number_rows = comparison_rows ++ (arithmetic_rows ++ conversion_rows)

@@ -5,9 +5,11 @@ use Rattle.std.specs.Prelude.{ℕ, List, [], ◌∷◌, true, false}
 use Rattle.wasmprinter_spec.specs.Row.{Row, Types, Func, Elem, Data, Shape, NoneShape, IndexShape, PairShape, FieldShape, CountShape, HeapShape, RefShape, Arity, Fixed, OfStruct, OfCount}
 use Rattle.wasmprinter_spec.specs.Table.Rows.{prefixed_row, plain}
 
+-- An operator after the prefix FB: its number, word, shape and arity.
 abbrev aggregate : ℕ → String → Shape → Arity → Row
 aggregate n w s a = prefixed_row 0xfb n w s a
 
+-- The operators on references, structures and arrays.
 unfoldable pub reference_rows : List Row
 reference_rows =
     plain 0xd0 "ref.null" HeapShape (Fixed 0 1) ∷

@@ -8,10 +8,10 @@ use Rattle.wasmprinter_spec.specs.Row.{Row, Shape, Arity, Role, Plain}
 abbrev pub control : ℕ → String → Shape → Arity → Role → Row
 control n w s a r = record { prefix = 0; number = n; word = codes w; shape = s; arity = a; role = r }
 
--- An operator with a prefix.
+-- An operator with a prefix: the prefix, its number after the prefix, its word, shape and arity.
 abbrev pub prefixed_row : ℕ → ℕ → String → Shape → Arity → Row
 prefixed_row p n w s a = record { prefix = p; number = n; word = codes w; shape = s; arity = a; role = Plain }
 
--- An operator without a prefix.
+-- An operator without a prefix: its opcode, word, shape and arity.
 abbrev pub plain : ℕ → String → Shape → Arity → Row
 plain n w s a = prefixed_row 0 n w s a

@@ -4,6 +4,7 @@ use Rattle.std.specs.Prelude.{List, [], ◌∷◌}
 use Rattle.wasmprinter_spec.specs.Row.{Row, Local, Global, Table, NoneShape, IndexShape, SelectShape, Fixed}
 use Rattle.wasmprinter_spec.specs.Table.Rows.{plain}
 
+-- The operators on operands, variables and table elements.
 unfoldable pub variable_rows : List Row
 variable_rows =
     plain 0x1a "drop" NoneShape (Fixed 1 0) ∷

@@ -4,6 +4,8 @@ use Rattle.std.specs.Prelude.{ℕ, List, [], ◌∷◌, ◌++◌}
 use Rattle.wasmprinter_spec.specs.Row.{Row, NoneShape, Fixed}
 use Rattle.wasmprinter_spec.specs.Table.Rows.{prefixed_row}
 
+-- Operators without immediates that give one result. They take one operand (`unary`), two (`binary`) or three
+-- (`ternary`). The arguments are the number after the prefix and the word.
 abbrev unary : ℕ → String → Row
 unary n w = prefixed_row 0xfd n w NoneShape (Fixed 1 1)
 
@@ -13,6 +15,7 @@ binary n w = prefixed_row 0xfd n w NoneShape (Fixed 2 1)
 abbrev ternary : ℕ → String → Row
 ternary n w = prefixed_row 0xfd n w NoneShape (Fixed 3 1)
 
+-- The operators with the numbers 96 to 255, which are not relaxed.
 unfoldable pub exact_rows : List Row
 exact_rows =
     unary 96 "i8x16.abs" ∷
@@ -182,6 +185,7 @@ relaxed_rows =
     ternary 275 "i32x4.relaxed_dot_i8x16_i7x16_add_s" ∷
     []
 
+-- The operators on vectors with the numbers from 96 on.
 unfoldable pub vector_number_rows : List Row
 unfolding exact_rows relaxed_rows
 vector_number_rows = exact_rows ++ relaxed_rows

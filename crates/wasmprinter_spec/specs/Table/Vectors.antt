@@ -5,9 +5,12 @@ use Rattle.std.specs.Prelude.{ℕ, List, [], ◌∷◌}
 use Rattle.wasmprinter_spec.specs.Row.{Row, Shape, NoneShape, MemoryShape, MemoryLaneShape, LaneShape, VectorShape, LanesShape, Arity, Fixed}
 use Rattle.wasmprinter_spec.specs.Table.Rows.{prefixed_row}
 
+-- An operator after the prefix: its number, word, shape and arity.
 abbrev vector : ℕ → String → Shape → Arity → Row
 vector n w s a = prefixed_row 0xfd n w s a
 
+-- Operators without immediates that give one result. They take one operand (`unary`), two (`binary`) or three
+-- (`ternary`).
 abbrev unary : ℕ → String → Row
 unary n w = vector n w NoneShape (Fixed 1 1)
 
@@ -17,11 +20,11 @@ binary n w = vector n w NoneShape (Fixed 2 1)
 abbrev ternary : ℕ → String → Row
 ternary n w = vector n w NoneShape (Fixed 3 1)
 
--- Takes an address.
+-- Takes an address. The last argument, here and below, is the natural exponent.
 abbrev load : ℕ → String → ℕ → Row
 load n w natural = vector n w (MemoryShape natural) (Fixed 1 1)
 
--- These three take an address and a vector.
+-- These three take an address and a vector: `store`, `load_lane` and `store_lane`.
 abbrev store : ℕ → String → ℕ → Row
 store n w natural = vector n w (MemoryShape natural) (Fixed 2 0)
 
@@ -39,6 +42,7 @@ extract n w = vector n w LaneShape (Fixed 1 1)
 abbrev replace : ℕ → String → Row
 replace n w = vector n w LaneShape (Fixed 2 1)
 
+-- The operators on vectors with the numbers 0 to 95.
 unfoldable pub vector_rows : List Row
 vector_rows =
     load 0 "v128.load" 4 ∷

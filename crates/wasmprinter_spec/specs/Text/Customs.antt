@@ -10,6 +10,7 @@ use Rattle.wasmprinter_spec.specs.Customs.{RawCustom}
 use Rattle.wasmprinter_spec.specs.Text.Items.{lookup, one_word}
 use Rattle.wasmprinter_spec.specs.Text.DataSegments.{strings}
 
+-- The kind of a section by its word, or `None` for any other word.
 unfoldable pub section_of_word : List ℕ → Option Kind
 section_of_word w =
     lookup (
@@ -17,9 +18,11 @@ section_of_word w =
     ∷ (codes "memory", MemorySection) ∷ (codes "tag", TagSection) ∷ (codes "global", GlobalSection) ∷ (codes "export", ExportSection)
     ∷ (codes "start", StartSection) ∷ (codes "elem", ElementSection) ∷ (codes "code", CodeSection) ∷ (codes "data", DataSection) ∷ []) w
 
+-- The position before all other sections, if the word is `first`.
 abbrev pub first_word : List ℕ → Option (Option Kind)
 first_word w = if bytes_eq w (codes "first") then Some None else None
 
+-- The position after the sections of the kind with this word.
 abbrev pub kind_word : List ℕ → Option (Option Kind)
 kind_word w = option_map Some (section_of_word w)
 
@@ -29,6 +32,7 @@ custom_place (Word w f) =
     if bytes_eq w (codes "before") then one_word first_word f else (if bytes_eq w (codes "after") then one_word kind_word f else None)
 custom_place f = None
 
+-- A custom section, by the content of its annotation: a name, which must be UTF-8, a position, and strings.
 abbrev pub read_custom : Forest → Option RawCustom
 read_custom (String n (Group p f)) =
     if is_utf8 n then (custom_place p >>= λ k. strings f >>= λ bs. Some (record { after = k; name = n; bytes = bs })) else None

@@ -16,14 +16,17 @@ strings (String s f) = option_map (λ bs. s ++ bs) (strings f)
 strings _ = None
 
 module _ (c : Context) where
+  -- The segment with this mode and with the bytes of these strings.
   abbrev pub with_bytes : DataMode Operator → Forest → Option (Data Operator)
   with_bytes mode f = option_map (data_of mode) (strings f)
 
-  -- An offset in a group, and bytes.
+  -- An active segment in memory m: an offset in a group, and bytes.
   abbrev pub active_in : ℕ → Forest → Option (Data Operator)
   active_in m (Group g f) = expression_group c (codes "offset") g >>= λ offset. with_bytes (ActiveData m offset) f
   active_in m f = None
 
+  -- A segment without its identifier: passive if no group comes first; otherwise active in the memory of a group
+  -- `memory`, or in memory 0.
   abbrev pub segment : Forest → Option (Data Operator)
   segment (Group (Word w g) f) =
       if bytes_eq w (codes "memory") then index c.spaces.memories g >>= (λ m. active_in m f) else active_in 0 (Group (Word w g) f)

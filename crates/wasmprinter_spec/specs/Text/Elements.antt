@@ -14,12 +14,14 @@ use Rattle.wasmprinter_spec.specs.Text.Expressions.{expression_group}
 module _ (c : Context) where
   -- ---- Items
 
+  -- Function indices or identifiers of functions, one after the other.
   abbrev pub function_indices : Forest → Option (List ℕ)
   function_indices End = Some []
   function_indices (Word w f) = index c.spaces.functions (Word w End) >>= λ i. function_indices f >>= λ is. Some (i ∷ is)
   function_indices (Name s f) = index c.spaces.functions (Name s End) >>= λ i. function_indices f >>= λ is. Some (i ∷ is)
   function_indices _ = None
 
+  -- Items of a segment, each in a group, one after the other.
   abbrev pub expressions : Forest → Option (List (List Operator))
   expressions End = Some []
   expressions (Group g f) = expression_group c (codes "item") g >>= λ e. expressions f >>= λ es. Some (e ∷ es)
@@ -34,12 +36,13 @@ module _ (c : Context) where
   items (Word w f) = if bytes_eq w (codes "func") then option_map Functions (function_indices f) else typed_items (Word w f)
   items f = typed_items f
 
+  -- The segment with this mode and these items.
   abbrev pub with_mode : ElementMode Operator → Forest → Option (Element Operator)
   with_mode mode f = option_map (element_of mode) (items f)
 
   -- ---- Segments
 
-  -- An offset in a group, and items.
+  -- An active segment in table t: an offset in a group, and items.
   abbrev pub active_in : ℕ → Forest → Option (Element Operator)
   active_in t (Group g f) = expression_group c (codes "offset") g >>= λ offset. with_mode (Active t offset) f
   active_in t f = None

@@ -9,6 +9,7 @@ use Rattle.wasmprinter_spec.specs.Code.{chunks_of_forest}
 use Rattle.wasmprinter_spec.specs.Text.Operators.{read_operators}
 
 module _ (c : Context) where
+  -- The operators of an expression, folded ones in their flat order.
   abbrev pub expression : Forest → Option (List Operator)
   expression f = chunks_of_forest f >>= read_operators c
 

@@ -24,6 +24,7 @@ module _ (c : Context) where
     operators ← read_operators (record c { spaces = record c.spaces { locals = space } }) chunks
     Some (record { type_index = i; locals = types_of locals.0; operators = operators })
 
+  -- A function without its identifier: the group `type`, and then the parts of the function.
   abbrev pub function_of_type : Forest → Option Function
   function_of_type (Group (Word w t) f) = if bytes_eq w (codes "type") then index c.spaces.types t >>= (λ i. function_parts i f) else None
   function_of_type _ = None

@@ -11,6 +11,7 @@ use Rattle.wasmprinter_spec.specs.Text.Items.{identifier_in_front, leading_item}
 use Rattle.wasmprinter_spec.specs.Text.Types.{val_named, val_group, val_type}
 use Rattle.wasmprinter_spec.specs.Text.Expressions.{expression}
 
+-- The type of an immutable global, by a single word.
 abbrev pub global_named : List ℕ → Option GlobalType
 global_named w = option_map (global_type_of false) (val_named w)
 

@@ -16,6 +16,8 @@ use Rattle.wasmprinter_spec.specs.Text.Items.{each}
 abbrev pub header_words : List (List ℕ)
 header_words = codes "type" ∷ codes "param" ∷ codes "result" ∷ codes "local" ∷ []
 
+-- The items of a function from the first one that is not part of its header. A hint annotation is not part of a
+-- header; other annotations before the body are.
 abbrev pub body_of : Forest → Forest
 body_of (Name s f) = body_of f
 body_of (Note id g f) = if is_hint id then Note id g f else body_of f
@@ -35,6 +37,7 @@ chunk_hints function n (k ∷ ks) = do
   rest ← chunk_hints function (n + 1) ks
   Some (map (λ taken. operator_hint function n taken) flags ++ rest)
 
+-- The hints of the function with this index, by the content of its field after the word `func`.
 abbrev pub function_hints_in : ℕ → Forest → Option (List OperatorHint)
 function_hints_in function f = chunks_of_forest (body_of f) >>= chunk_hints function 0
 
@@ -59,6 +62,7 @@ field_hints i (Name s g) = field_hints i g
 field_hints i (Note id f g) = field_hints i g
 field_hints i _ = None
 
+-- The hints of the group `module`. Only annotations may occur before and after it.
 abbrev pub forest_hints : Forest → Option (List OperatorHint)
 forest_hints (Group (Word w f) g) = if bytes_eq w (codes "module") && is_empty g then field_hints 0 f else None
 forest_hints (Note id f g) = forest_hints g

@@ -20,9 +20,12 @@ pub record ImportField : Type 0 where
   pub name : List ℕ
   pub item : Forest
 
+-- The import with the name of its module m, its name n, the content f after the word of its kind, and the kind.
 abbrev pub field_of : List ℕ → List ℕ → Forest → ExternKind → ImportField
 field_of m n f kind = record { kind = kind; source = m; name = n; item = f }
 
+-- An import: two names, which must be UTF-8, and a group with the word of the kind. The content of the group is read
+-- later (`read_import`).
 abbrev pub import_field : Forest → Option ImportField
 import_field (String m (String n (Group (Word w f) End))) =
     if is_utf8 m && is_utf8 n then option_map (field_of m n f) (kind_of_word w) else None
@@ -36,5 +39,6 @@ extern_type c MemoryKind f = option_map MemoryExtern (memory_type f)
 extern_type c GlobalKind f = option_map GlobalExtern (global_type c f >>= value_at_end)
 extern_type c TagKind f = option_map TagExtern (type_index c f)
 
+-- An import with its type.
 abbrev pub read_import : Context → ImportField → Option Import
 read_import c i = extern_type c i.kind (identifier_in_front i.item).1 >>= λ t. Some (import_of i.source i.name t)

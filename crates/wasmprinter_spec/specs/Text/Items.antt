@@ -4,6 +4,7 @@ use Rattle.wasmprinter_spec.specs.Grammar.{◌>>=◌}
 use Rattle.wasmprinter_spec.specs.Forest.{Forest, End, Word, Name, Group}
 use Rattle.wasmprinter_spec.specs.IndexSpaces.{Identifiers}
 
+-- The first value, or the second one if there is no first.
 abbrev pub or_else : {A : Type 0} → Option A → Option A → Option A
 or_else (Some a) b = Some a
 or_else None b = b
@@ -25,11 +26,13 @@ one_word read _ = None
 
 -- Items that are words or groups, read by `word` and `group`.
 module _ {A : Type 0} (word : List ℕ → Option A) (group : Forest → Option A) where
+  -- A single item.
   abbrev pub one_item : Forest → Option A
   one_item (Word w End) = word w
   one_item (Group g End) = group g
   one_item _ = None
 
+  -- Items, one after the other.
   abbrev pub all_items : Forest → Option (List A)
   all_items End = Some []
   all_items (Word w f) = word w >>= λ x. all_items f >>= λ xs. Some (x ∷ xs)
@@ -54,6 +57,7 @@ value_at_end (x, _) = None
 
 -- ---- Groups of parameters, results, locals and fields
 
+-- These values before those that were read, and the items after them.
 abbrev pub more : {A : Type 0} → List A → Option (List A × Forest) → Option (List A × Forest)
 more xs None = None
 more xs (Some y) = Some (xs ++ y.0, y.1)
@@ -69,9 +73,11 @@ pub record Declaration (A : Type 0) : Type 0 where
   pub id : Option (List ℕ)
   pub type : A
 
+-- The declaration with this identifier, if there is one, and of this type.
 abbrev pub declaration : {A : Type 0} → Option (List ℕ) → A → Declaration A
 declaration id t = record { id = id; type = t }
 
+-- The element of a list with exactly one.
 abbrev pub the_only : {A : Type 0} → List A → Option A
 the_only (x ∷ []) = Some x
 the_only _ = None
@@ -81,8 +87,10 @@ abbrev pub declarations : {A : Type 0} → (Forest → Option (List A)) → Fore
 declarations read (Name s f) = read f >>= the_only >>= λ t. Some (declaration (Some s) t ∷ [])
 declarations read f = read f >>= λ ts. Some (map (λ t. declaration None t) ts)
 
+-- The identifier of each declaration, if it has one.
 abbrev pub ids_of : {A : Type 0} → List (Declaration A) → Identifiers
 ids_of ds = map (λ d. d.id) ds
 
+-- The type of each declaration.
 abbrev pub types_of : {A : Type 0} → List (Declaration A) → List A
 types_of ds = map (λ d. d.type) ds

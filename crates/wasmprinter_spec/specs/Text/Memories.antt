@@ -8,6 +8,7 @@ use Rattle.wasmprinter_spec.specs.Numeral.{exponent_of}
 use Rattle.wasmprinter_spec.specs.Text.Limits.{address_type, limits}
 use Rattle.wasmprinter_spec.specs.Text.Items.{identifier_in_front, one_word}
 
+-- Whether the first item is the word `shared`, and the items after that word.
 abbrev pub shared_in_front : Forest → Bool × Forest
 shared_in_front (Word w f) = if bytes_eq w (codes "shared") then (true, f) else (false, Word w f)
 shared_in_front f = (false, f)
@@ -18,6 +19,7 @@ page End = Some None
 page (Group (Word w f) End) = if bytes_eq w (codes "pagesize") then one_word exponent_of f >>= (λ e. Some (Some e)) else None
 page f = None
 
+-- A memory type: an address type, limits, `shared` or not, and a page size or none.
 abbrev pub memory_type : Forest → Option MemoryType
 memory_type f =
     let wide : Bool × Forest = address_type f in

@@ -33,9 +33,11 @@ labels ids (Word w f) = u32 w >>= λ l. labels ids f >>= λ ls. Some (l ∷ ls)
 labels ids (Name s f) = depth s ids >>= λ l. labels ids f >>= λ ls. Some (l ∷ ls)
 labels ids _ = None
 
+-- A single label.
 abbrev pub label : Identifiers → Forest → Option ℕ
 label ids f = labels ids f >>= the_only
 
+-- The labels before the last one, and the last one; `None` if there is no label.
 abbrev pub last_apart : List ℕ → Option (List ℕ × ℕ)
 last_apart [] = None
 last_apart (l ∷ []) = Some ([], l)
@@ -45,6 +47,7 @@ last_apart (l ∷ m ∷ ls) = option_map (λ x. (l ∷ x.0, x.1)) (last_apart (m
 abbrev pub id_of : Forest → Option (List ℕ)
 id_of f = (identifier_in_front f).0
 
+-- The items after a block's identifier, if it has one.
 abbrev pub after_id : Forest → Forest
 after_id f = (identifier_in_front f).1
 
@@ -70,6 +73,7 @@ block_type c (Group (Word v g) f) =
     else Some (Empty, Group (Word v g) f))
 block_type c f = Some (Empty, f)
 
+-- The immediates of a block with this type, if no item is left.
 abbrev pub block_alone : BlockType × Forest → Option Immediates
 block_alone (t, End) = Some (Block t)
 block_alone (t, _) = None
@@ -82,15 +86,18 @@ first_alone (Word w f) = Word w End
 first_alone (Name s f) = Name s End
 first_alone f = f
 
+-- The items after the first one, which is a word or an identifier. Other items stay as they are.
 abbrev pub after_first : Forest → Forest
 after_first (Word w f) = f
 after_first (Name s f) = f
 after_first f = f
 
+-- The catch clause that `make` gives for a tag and a label.
 abbrev pub tag_clause : (ℕ → ℕ → Catch) → Context → Identifiers → Forest → Option Catch
 tag_clause make c ids f =
     index_in c.spaces.tags (first_alone f) >>= λ t. label ids (after_first f) >>= λ l. Some (make t l)
 
+-- A catch clause with the word w (section 6.5 of the standard, "Control Instructions"), by the items after the word.
 abbrev pub clause : Context → Identifiers → List ℕ → Forest → Option Catch
 clause c ids w f =
     if bytes_eq w (codes "catch") then tag_clause One c ids f else
@@ -98,6 +105,7 @@ clause c ids w f =
     (if bytes_eq w (codes "catch_all") then option_map All (label ids f) else
     (if bytes_eq w (codes "catch_all_ref") then option_map AllRef (label ids f) else None)))
 
+-- Catch clauses, each in a group, one after the other.
 abbrev pub clauses : Context → Identifiers → Forest → Option (List Catch)
 clauses c ids End = Some []
 clauses c ids (Group (Word w g) f) = clause c ids w g >>= λ x. clauses c ids f >>= λ xs. Some (x ∷ xs)
@@ -105,6 +113,7 @@ clauses c ids _ = None
 
 -- ---- Immediates
 
+-- No immediates: no item is left.
 abbrev pub no_immediates : Forest → Option Immediates
 no_immediates End = Some NoImmediates
 no_immediates _ = None
@@ -126,6 +135,7 @@ two_indices c first second f = do
   n ← index_in (space_in c.spaces second) m.1
   Some (m.0, n)
 
+-- The immediates of two indices.
 abbrev pub pair : ℕ × ℕ → Immediates
 pair x = Indices x.0 x.1
 
@@ -173,6 +183,7 @@ heap_with null r = if same_flag r.nullable null then Some (Heap r.heap) else Non
 
 -- ---- Casts
 
+-- The immediates of a cast with label l, if there are exactly two reference types.
 abbrev pub two_types : ℕ → List RefType → Option Immediates
 two_types l (r ∷ t ∷ []) = Some (Cast l r t)
 two_types l _ = None
@@ -190,9 +201,11 @@ after_prefix [] w = Some w
 after_prefix (p ∷ ps) [] = None
 after_prefix (p ∷ ps) (b ∷ w) = if b == p then after_prefix ps w else None
 
+-- The digits after `offset=`, if the word begins so.
 abbrev pub offset_word : List ℕ → Option (List ℕ)
 offset_word w = after_prefix (codes "offset=") w
 
+-- The digits after `align=`, if the word begins so.
 abbrev pub align_word : List ℕ → Option (List ℕ)
 align_word w = after_prefix (codes "align=") w
 
@@ -207,6 +220,8 @@ abbrev pub offset_by : ℕ → ℕ → Option (List ℕ) → Forest → Forest �
 offset_by natural memory (Some digits) f rest = u64 digits >>= λ offset. alignment natural rest >>= λ e. Some (mem_arg_of e memory offset)
 offset_by natural memory None f rest = alignment natural f >>= λ e. Some (mem_arg_of e memory 0)
 
+-- The memory operand in this memory: an offset and an alignment, each of which may be absent. `natural` is the
+-- exponent of the natural alignment.
 abbrev pub with_memory : ℕ → ℕ → Forest → Option MemArg
 with_memory natural memory (Word w f) = offset_by natural memory (offset_word w) (Word w f) f
 with_memory natural memory f = offset_by natural memory None f f
@@ -254,6 +269,7 @@ vector_lane size w = option_map (λ z. bytes_of size (as_unsigned (8 * size) z))
 abbrev pub no_group : {A : Type 0} → Forest → Option A
 no_group f = None
 
+-- The immediates of these bytes, if there are 16.
 abbrev pub sixteen : List ℕ → Option Immediates
 sixteen bs = if length bs == 16 then Some (Bytes bs) else None
 
@@ -261,15 +277,18 @@ sixteen bs = if length bs == 16 then Some (Bytes bs) else None
 unfoldable pub lane_size : List ℕ → Option ℕ
 lane_size w = lookup ((codes "i8x16", 1) ∷ (codes "i16x8", 2) ∷ (codes "i32x4", 4) ∷ (codes "i64x2", 8) ∷ []) w
 
+-- A vector by the word of its integer shape and its lanes.
 abbrev pub vector : Forest → Option Immediates
 vector (Word w f) = lane_size w >>= λ size. all_items (vector_lane size) no_group f >>= λ ls. sixteen (concat ls)
 vector _ = None
 
+-- The 16 lane numbers of a shuffle.
 abbrev pub lanes : Forest → Option Immediates
 lanes f = all_items u8 no_group f >>= sixteen
 
 -- ---- Immediates by their shape
 
+-- The immediates of each shape, a line for each. `ids` are the identifiers of the open labels.
 abbrev pub immediates : Context → Identifiers → Shape → Forest → Option Immediates
 immediates c ids NoneShape f = no_immediates f
 immediates c ids FenceShape f = no_immediates f
@@ -319,6 +338,7 @@ first_reading c ids [] f = None
 first_reading c ids (r ∷ rs) f =
     or_else (option_map (λ i. (r, i)) (immediates c (labels_in_sight r.role ids) r.shape f)) (first_reading c ids rs f)
 
+-- The operator with the opcode of the row and these immediates.
 abbrev pub operator_of : Row × Immediates → Operator
 operator_of x = record { opcode = opcode x.0.prefix x.0.number; immediates = x.1 }
 
@@ -335,6 +355,7 @@ operators c ids (k ∷ ks) =
 abbrev pub are_nested : List Operator → Bool
 are_nested os = stops advance at_start (map (λ o. role_of o.opcode) os) Ends
 
+-- The operators, if they are well nested.
 abbrev pub if_nested : List Operator → Option (List Operator)
 if_nested os = if are_nested os then Some os else None
 

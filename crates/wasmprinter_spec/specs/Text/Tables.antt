@@ -19,6 +19,7 @@ module _ (c : Context) where
       let wide : Bool × Forest = address_type f in
       limits wide.1 >>= λ l. leading_item ref_named (ref_group c.spaces.types) l.1 >>= λ t. Some (table_type_of wide.0 l.0 t.0, t.1)
 
+  -- The initialiser, or none if no item is left.
   abbrev pub init : Forest → Option (Option (List Operator))
   init End = Some None
   init f = option_map Some (expression c f)

@@ -22,6 +22,8 @@ heap_number NoFunc = 10
 heap_number NoExn = 11
 heap_number (Index n) = 12 + n
 
+-- The two heap types are equal. `same_flag`, `same_type`, `same_types` and `same_func_type` compare flags, value
+-- types, lists of value types, and function types.
 abbrev pub same_heap : HeapType → HeapType → Bool
 same_heap a b = heap_number a == heap_number b
 
@@ -47,6 +49,7 @@ same_types _ _ = false
 abbrev pub same_func_type : FuncType → FuncType → Bool
 same_func_type s t = same_types s.params t.params && same_types s.results t.results
 
+-- The function type without parameters and without results.
 abbrev pub no_type : FuncType
 no_type = record { params = []; results = [] }
 

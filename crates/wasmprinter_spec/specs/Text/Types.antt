@@ -8,6 +8,7 @@ use Rattle.wasmprinter_spec.specs.Text.Items.{or_else, lookup, each, one_word, o
 
 -- ---- Value types
 
+-- The abstract heap type of the word (section 6.4, "Heap Types"), or `None` for any other word.
 unfoldable pub heap_of_word : List ℕ → Option HeapType
 heap_of_word w =
     lookup (
@@ -15,7 +16,8 @@ heap_of_word w =
     ∷ (codes "eq", Eq) ∷ (codes "any", Any) ∷ (codes "extern", Extern) ∷ (codes "func", Func)
     ∷ (codes "none", NoAny) ∷ (codes "noextern", NoExtern) ∷ (codes "nofunc", NoFunc) ∷ (codes "noexn", NoExn) ∷ []) w
 
--- Abbreviations of nullable reference types.
+-- The heap type of a nullable reference type by its abbreviation (section 6.4, "Reference Types"), or `None` for any
+-- other word.
 unfoldable pub ref_of_word : List ℕ → Option HeapType
 ref_of_word w =
     lookup (
@@ -23,13 +25,17 @@ ref_of_word w =
     ∷ (codes "eqref", Eq) ∷ (codes "anyref", Any) ∷ (codes "externref", Extern) ∷ (codes "funcref", Func)
     ∷ (codes "nullref", NoAny) ∷ (codes "nullexternref", NoExtern) ∷ (codes "nullfuncref", NoFunc) ∷ (codes "nullexnref", NoExn) ∷ []) w
 
+-- The number type or the vector type of the word (section 6.4, "Number Types" and "Vector Types"), or `None` for any
+-- other word.
 unfoldable pub number_of_word : List ℕ → Option ValType
 number_of_word w = lookup ((codes "i32", I32) ∷ (codes "i64", I64) ∷ (codes "f32", F32) ∷ (codes "f64", F64) ∷ (codes "v128", V128) ∷ []) w
 
+-- The packed type of the word, or `None` for any other word.
 unfoldable pub packed_of_word : List ℕ → Option StorageType
 packed_of_word w = lookup ((codes "i8", I8) ∷ (codes "i16", I16) ∷ []) w
 
--- The types that a single word represents.
+-- The types that a single word represents: reference types (`ref_named`), value types (`val_named`), storage types
+-- (`storage_named`) and immutable fields (`field_named`).
 abbrev pub ref_named : List ℕ → Option RefType
 ref_named w = option_map (ref_type true) (ref_of_word w)
 
@@ -43,9 +49,11 @@ abbrev pub field_named : List ℕ → Option FieldType
 field_named w = option_map (field_type false) (storage_named w)
 
 module _ (ids : Identifiers) where
+  -- A heap type: an index or an identifier of a type, or the word of an abstract heap type.
   abbrev pub heap_type : Forest → Option HeapType
   heap_type f = or_else (option_map Index (index ids f)) (one_word heap_of_word f)
 
+  -- The heap type after the word `null`.
   abbrev pub null_heap : Forest → Option HeapType
   null_heap (Word w f) = if bytes_eq w (codes "null") then heap_type f else None
   null_heap _ = None
@@ -54,27 +62,34 @@ module _ (ids : Identifiers) where
   abbrev pub ref_parts : Forest → Option RefType
   ref_parts f = or_else (option_map (ref_type false) (heap_type f)) (option_map (ref_type true) (null_heap f))
 
+  -- A reference type in parentheses, by the content of the group.
   abbrev pub ref_group : Forest → Option RefType
   ref_group (Word w f) = if bytes_eq w (codes "ref") then ref_parts f else None
   ref_group _ = None
 
+  -- A reference type.
   abbrev pub reference_type : Forest → Option RefType
   reference_type f = one_item ref_named ref_group f
 
+  -- A value type in parentheses, by the content of the group; it is a reference type.
   abbrev pub val_group : Forest → Option ValType
   val_group g = option_map Ref (ref_group g)
 
+  -- A value type.
   abbrev pub val_type : Forest → Option ValType
   val_type f = one_item val_named val_group f
 
+  -- Value types, one after the other.
   abbrev pub val_types : Forest → Option (List ValType)
   val_types f = all_items val_named val_group f
 
   -- ---- Composite types
 
+  -- A storage type in parentheses, by the content of the group; it is a reference type.
   abbrev pub storage_group : Forest → Option StorageType
   storage_group g = option_map Val (val_group g)
 
+  -- A storage type.
   abbrev pub storage_type : Forest → Option StorageType
   storage_type f = one_item storage_named storage_group f
 
@@ -85,12 +100,15 @@ module _ (ids : Identifiers) where
       then option_map (field_type true) (storage_type f) else option_map (field_type false) (storage_group (Word w f))
   field_group _ = None
 
+  -- A field type.
   abbrev pub field : Forest → Option FieldType
   field f = one_item field_named field_group f
 
+  -- Field types, one after the other.
   abbrev pub fields : Forest → Option (List FieldType)
   fields f = all_items field_named field_group f
 
+  -- The content of a group of parameters or locals: one with an identifier, or any number without.
   abbrev pub variables : Forest → Option (List (Declaration ValType))
   variables f = declarations val_types f
 
@@ -99,6 +117,7 @@ pub record Signature : Type 0 where
   pub params : List (Declaration ValType)
   pub results : List ValType
 
+-- The function type of the signature.
 abbrev pub type_of : Signature → FuncType
 type_of s = record { params = types_of s.params; results = s.results }
 
@@ -107,6 +126,7 @@ pub record Declared (A : Type 0) : Type 0 where
   pub type : A
   pub fields : Identifiers
 
+-- The declared type t, with these identifiers of its fields.
 abbrev pub with_fields : {A : Type 0} → Identifiers → A → Declared A
 with_fields ids t = record { type = t; fields = ids }
 
@@ -115,12 +135,14 @@ abbrev pub struct_of : List (Declaration FieldType) → Option (Declared Composi
 struct_of ds = option_map (λ ids. with_fields ids (StructComposite (types_of ds))) (index_space (ids_of ds))
 
 module _ (ids : Identifiers) where
+  -- A signature, and the items after it.
   abbrev pub signature : Forest → Option (Signature × Forest)
   signature f = do
     params ← groups (variables ids) (codes "param") f
     results ← groups (val_types ids) (codes "result") params.1
     Some (record { params = params.0; results = results.0 }, results.1)
 
+  -- A composite type, by the content of its group. Only the fields of a structure have identifiers.
   abbrev pub composite : Forest → Option (Declared CompositeType)
   composite (Word w f) =
       if bytes_eq w (codes "func") then signature f >>= value_at_end >>= (λ s. Some (with_fields [] (FuncComposite (type_of s)))) else
@@ -137,10 +159,12 @@ module _ (ids : Identifiers) where
   supertypes (Name s f) = index ids (Name s End) >>= λ i. supertypes f >>= λ x. Some (i ∷ x.0, x.1)
   supertypes _ = None
 
+  -- Supertypes and then a composite type, after the word `final`.
   abbrev pub final_supertypes : Forest → Option (List ℕ × Declared CompositeType)
   final_supertypes (Word w f) = if bytes_eq w (codes "final") then supertypes f else None
   final_supertypes _ = None
 
+  -- The subtype that is final or not, with these supertypes and this composite type.
   abbrev pub sub_from : Bool → List ℕ × Declared CompositeType → Declared SubType
   sub_from final x = with_fields x.1.fields (sub_type final x.0 x.1.type)
 
@@ -154,6 +178,7 @@ module _ (ids : Identifiers) where
       if bytes_eq w (codes "sub") then sub_parts f else option_map (λ c. with_fields c.fields (final_type c.type)) (composite (Word w f))
   subtype _ = None
 
+  -- A subtype in a group, after which no item is left.
   abbrev pub one_group : Forest → Option (Declared SubType)
   one_group (Group g End) = subtype g
   one_group _ = None
@@ -162,6 +187,7 @@ module _ (ids : Identifiers) where
   abbrev pub read_type : Forest → Option (Declared SubType)
   read_type f = one_group (identifier_in_front f).1
 
+  -- The types of a group, each of which may have an identifier.
   abbrev pub read_group : List Forest → Option (List (Declared SubType))
   read_group fs = each read_type fs
 
@@ -175,6 +201,7 @@ group_members _ = None
 abbrev pub group_types : List (List (Declared SubType)) → List (List SubType)
 group_types gs = map (λ g. map (λ d. d.type) g) gs
 
+-- The identifiers of the fields of the type, none if there is no type.
 abbrev pub declared_fields : Option (Declared SubType) → Identifiers
 declared_fields None = []
 declared_fields (Some d) = d.fields
