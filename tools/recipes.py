@@ -19,8 +19,7 @@ A file names an example if its path or a line of its text matches one of the exp
 - a file names an example and is not in the example's lists;
 - a listed file does not exist, does not name the example, or is listed twice;
 - a name with `*` matches no file that names the example, or a file that must be listed alone;
-- a line can't be read, or there are no recipes;
-- a page has a path in backquotes, such as `crates/NAME/src/lib.rt` or `NAME/src/{lib, main}.rt`, of a file that does not exist. The suffix may be missing.
+- a line can't be read, or there are no recipes.
 """
 
 import fnmatch
@@ -42,11 +41,6 @@ LISTED_ALONE = re.compile(r"crates/(wasmprinter(?!_samples/|_expecting/)\w*|prin
 SUFFIXES = {"src": ".rt", "specs": ".antt", "proofs": ".antt"}
 
 FENCE = "```"
-
-# A path in backquotes: from a folder at the top, or from a crate
-CRATES = "|".join(sorted(path.name for path in (ROOT / "crates").iterdir()))
-SPAN = re.compile(rf"`((?:crates|docs|tools|bench|bindings|include|{CRATES})/[^`]*)`")
-PLACEHOLDER = re.compile(r"\bNAME\b|/[Xx]\b")
 
 
 class Example:
@@ -164,42 +158,10 @@ def faults(example, texts):
     return found + [f"{example.where}: names the example and is not listed: {path}" for path in sorted(missing)]
 
 
-def expanded(path):
-    """Returns the paths that a path with alternatives in braces means."""
-    found = re.search(r"\{([^{}]*)\}", path)
-    if not found:
-        return [path]
-    return [longer for name in found.group(1).split(",") for longer in expanded(path[: found.start()] + name.strip() + path[found.end() :])]
-
-
-def exists(path, known):
-    """Reports whether there is a file or a folder with the path, perhaps without its suffix, below the top or below `crates`."""
-    for name in [folder + path + suffix for folder in ("", "crates/") for suffix in ("", ".rt", ".antt")]:
-        if fnmatch.filter(known, name) if "*" in name else name in known:
-            return True
-    return False
-
-
-def dead_paths(page, known):
-    """Returns the paths in a page of which no file exists. Paths with a name in capitals, such as NAME, are examples of others."""
-    found = []
-    for number, line in enumerate((ROOT / page).read_text(encoding="utf-8").split("\n"), 1):
-        for span in SPAN.findall(line):
-            if " " in re.sub(r"\{[^}]*\}", "", span) or PLACEHOLDER.search(span):
-                continue
-            found += [f"{page}:{number}: does not exist: {path}" for path in expanded(span.rstrip("/")) if not exists(path, known)]
-    return found
-
-
 def main():
     texts = files()
-    known = {parent.as_posix() for path in (*texts, *PAGES) for parent in (pathlib.PurePosixPath(path), *pathlib.PurePosixPath(path).parents)}
     bad = count = listed = 0
     for page in PAGES:
-        dead = dead_paths(page, known)
-        bad += len(dead)
-        for path in dead:
-            print(f"recipes: {path}")
         try:
             found = examples(page)
         except BadLine as reason:
