@@ -4,7 +4,7 @@ use Rattle.std.proofs.Common.{inr}
 use Rattle.wasmprinter_bytes.specs.declared.error.Error.{Error}
 use Rattle.wasmprinter_bytes.specs.declared.error.Error.TheVariants.{Component}
 use Rattle.wasmprinter_spec.specs.Binary.{IsComponent}
-use Rattle.wasmprinter.specs.Outcome.{HasListedTextCause, IsSoundTextRefusal}
+use Rattle.wasmprinter.specs.Outcome.{IsTextRefusal}
 use Rattle.wasmprinter.specs.TextOfFile.{Reading}
 use Rattle.wasmprinter.proofs.TextOfFile.{component_error}
 use Rattle.printwasm.specs.Words.{Choice}
@@ -18,7 +18,6 @@ gives_text choice view gives wasm (Err e) g h = tt
 
 -- If those bytes are refused, the file has no text for the same error.
 pub gives_no_text : {T : Type 0} (choice : Choice) (gives : Reading) (wasm : List ℕ) (r : Result T Error) →
-    gives (Some wasm) → IfErr r (IsSoundTextRefusal choice.options wasm) → IfErr r (HasListedTextCause choice.options wasm) →
-    (IsErrOf r Component ↔ IsComponent wasm) → IfErr r (GivesNoText choice gives)
-gives_no_text choice gives wasm (Ok t) g a b c = tt
-gives_no_text choice gives wasm (Err e) g a b c = inr (wasm, g, record { true_of = a; caused = b; component = component_error e c })
+    gives (Some wasm) → IfErr r (IsTextRefusal choice.options wasm) → (IsErrOf r Component ↔ IsComponent wasm) → IfErr r (GivesNoText choice gives)
+gives_no_text choice gives wasm (Ok t) g refused c = tt
+gives_no_text choice gives wasm (Err e) g refused c = inr (wasm, g, record { refused = refused; component = component_error e c })

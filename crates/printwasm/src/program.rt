@@ -7,7 +7,7 @@ ghost use Rattle.wasmprinter_spec.specs.Binary.{IsComponent};
 ghost use Rattle.printwasm.specs.Words.{AreWordsOf, CannotReadWords, is_option, is_known, named_file, has, choice_of};
 ghost use Rattle.printwasm.specs.Outcome.{IsTextBy, GivesText, GivesNoText, WritesModuleText, FailsToWrite, ReportsError, HasOutcome, RunsWithWords, RefusesArguments, RefusesToRead};
 ghost use Rattle.printwasm.specs.Outcome.{refused_status};
-ghost use Rattle.wasmprinter.specs.Outcome.{HasListedTextCause, IsSoundTextRefusal};
+ghost use Rattle.wasmprinter.specs.Outcome.{IsTextRefusal};
 
 use crate::rendering::{Render, WordsError};
 use crate::system::Sink;
@@ -250,8 +250,7 @@ fn text_of_file<S: Source>(
 /// Returns the text of a module.
 fn text_of(alloc: Global, choice: &Choice, wasm: &[u8]) -> Result<Vec<u8>, Error>
     ensures printed { IfOk result (λ text. IsTextBy choice.now wasm.now text.items) }
-    ensures caused { IfErr result (HasListedTextCause choice.now.options wasm.now) }
-    ensures refused { IfErr result (IsSoundTextRefusal choice.now.options wasm.now) }
+    ensures refused { IfErr result (IsTextRefusal choice.now.options wasm.now) }
     ensures component { IsErrOf result Error.Component ↔ IsComponent wasm.now }
 {
     if choice.is_colored {

@@ -23,7 +23,7 @@ use Rattle.wasmprinter_spec.specs.Call.{Call, IsUnclaimed}
 use Rattle.wasmprinter_spec.specs.Folding.Refusals.{IsFoldable}
 use Rattle.wasmprinter_fold.specs.Refused.{HasFoldReason}
 use Rattle.wasmprinter.specs.Printed.{Printed}
-use Rattle.wasmprinter.specs.Outcome.{HasListedCause, HasListedTextCause, IsSoundRefusal, IsSoundTextRefusal, IsLegacyAt, IsMisplacedAt, AnyIsRefused, MadeUpTo, Leaves, without_printer}
+use Rattle.wasmprinter.specs.Outcome.{HasListedCause, HasListedTextCause, IsSoundRefusal, IsSoundTextRefusal, IsPrintRefusal, IsTextRefusal, IsLegacyAt, IsMisplacedAt, AnyIsRefused, MadeUpTo, Leaves, without_printer}
 use Rattle.wasmprinter_spec.specs.Names.Content.{name_of}
 use Rattle.wasmprinter_spec.specs.ModuleNames.{name_entries, module_names}
 use Rattle.wasmprinter_custom.specs.Views.{NamedItem, name_at}
@@ -55,13 +55,17 @@ refusal_cause m o bytes old Memory h = λ placed s. inl (h.1 placed s)
 refusal_cause m o bytes old _ h = absurd h
 
 -- Each error of the decoder is true of the bytes.
-pub refusal_true : (o : Options) (bytes : List ℕ) (e : Error) → IsRefusal bytes e → IsSoundRefusal o bytes e
+refusal_true : (o : Options) (bytes : List ℕ) (e : Error) → IsRefusal bytes e → IsSoundRefusal o bytes e
 refusal_true o bytes (Printer x) h = absurd h
 refusal_true o bytes (DylinkSubsection id) h = absurd h
 refusal_true o bytes (FoldLegacy place) h = absurd h
 refusal_true o bytes (FoldHint place) h = absurd h
 refusal_true o bytes Memory h = inl h
 refusal_true o bytes _ h = h
+
+-- Each error of the decoder is a refusal of printing.
+pub print_refusal : {P : Type 0} (m : Meaning P) (o : Options) (bytes : List ℕ) (old : P) (e : Error) → IsRefusal bytes e → IsPrintRefusal m o bytes old old e
+print_refusal m o bytes old e h = record { true_of = refusal_true o bytes e h; caused = refusal_cause m o bytes old e h }
 
 -- Each error of the decoder leaves the printer unchanged.
 pub refusal_left : {P : Type 0} (m : Meaning P) (colors : Bool) (o : Options) (bytes : List ℕ) (old : P) (e : Error) → IsRefusal bytes e → Leaves m colors o bytes old old e
@@ -77,16 +81,20 @@ refusal_left m colors o bytes old _ h = absurd h
 
 module _ {P : Type 0} (m : Meaning P) (o : Options) (bytes : List ℕ) (placed : PlacedModule) (spelled : Spells bytes placed) (within : IsWithinLimits placed) (folds : o.folds ≡ true) (old : P) where
   -- Each error of folding has its cause.
-  pub fold_cause : (e : Error) → HasFoldReason o placed e → HasListedCause m o bytes old old e
+  fold_cause : (e : Error) → HasFoldReason o placed e → HasListedCause m o bytes old old e
   fold_cause (FoldLegacy place) h = λ other s. subst (λ (n : PlacedModule). IsLegacyAt o n place) (one_module bytes placed other spelled s) (folds, h)
   fold_cause (FoldHint place) h = λ other s. subst (λ (n : PlacedModule). IsMisplacedAt o n place) (one_module bytes placed other spelled s) (folds, h)
   fold_cause _ h = absurd h
 
   -- Each error of folding is true of the bytes.
-  pub fold_true : (e : Error) → HasFoldReason o placed e → IsSoundRefusal o bytes e
+  fold_true : (e : Error) → HasFoldReason o placed e → IsSoundRefusal o bytes e
   fold_true (FoldLegacy place) h = record { placed = placed; spelled = spelled; within = within; so = (folds, h) }
   fold_true (FoldHint place) h = record { placed = placed; spelled = spelled; within = within; so = (folds, h) }
   fold_true _ h = absurd h
+
+  -- Each error of folding is a refusal of printing.
+  pub fold_refusal : (e : Error) → HasFoldReason o placed e → IsPrintRefusal m o bytes old old e
+  fold_refusal e h = record { true_of = fold_true e h; caused = fold_cause e h }
 
   -- Each error of folding leaves the printer unchanged.
   pub fold_left : (colors : Bool) (e : Error) → HasFoldReason o placed e → Leaves m colors o bytes old old e
@@ -161,19 +169,24 @@ module _ {P : Type 0} (m : Meaning P) (colors : Bool) (o : Options) (bytes : Lis
         by_result (Ok x) v = tt
         by_result (Err e) v = by_error e v
 
-    -- Each error of printing has its cause: a failed call, a refused section, or a failed allocation.
-    pub ended_caused : AsLaid r → IfErr r (HasListedCause m o bytes old new)
-    ended_caused v =
-        with_folds (HasListedCause m o bytes old new) (λ x b other s. record { calls = b.calls; before = b.before; run = b.run; call = b.call; failed = b.failed })
-        (λ id u other s. subst (λ (n : PlacedModule). AnyIsRefused m old new id n.customs) (one_module bytes placed other spelled s) (made_refused m old new by id answers placed u))
-        (λ folds b other s. inr folds) v
-
-    -- Each error of printing is true of the bytes.
-    pub ended_true : AsLaid r → IfErr r (IsSoundRefusal o bytes)
-    ended_true v =
-        with_folds (IsSoundRefusal o bytes) (λ x b. record { placed = placed; spelled = spelled; within = within })
-        (λ id u. record { placed = placed; spelled = spelled; within = within; so = refusal_unknown by answers placed id u.ends })
-        (λ folds b. inr (folds, record { placed = placed; spelled = spelled; within = within })) v
+    -- Each error of printing is true of the bytes, and has its cause: a failed call, a refused section, or a failed
+    -- allocation.
+    pub ended_refusal : AsLaid r → IfErr r (IsPrintRefusal m o bytes old new)
+    ended_refusal v =
+        with_folds (IsPrintRefusal m o bytes old new)
+        (λ x b. record {
+          true_of = record { placed = placed; spelled = spelled; within = within };
+          caused = λ other s. record { calls = b.calls; before = b.before; run = b.run; call = b.call; failed = b.failed };
+        })
+        (λ id u. record {
+          true_of = record { placed = placed; spelled = spelled; within = within; so = refusal_unknown by answers placed id u.ends };
+          caused = λ other s.
+              subst (λ (n : PlacedModule). AnyIsRefused m old new id n.customs) (one_module bytes placed other spelled s) (made_refused m old new by id answers placed u);
+        })
+        (λ folds b. record {
+          true_of = inr (folds, record { placed = placed; spelled = spelled; within = within });
+          caused = λ other s. inr folds;
+        }) v
 
     -- After an error of printing, the calls that were made are those up to the error.
     pub ended_left : AsLaid r → IfErr r (Leaves m colors o bytes old new)
@@ -208,7 +221,7 @@ fold_unmarked o bytes placed r e spelled h f = (λ q. absurd (unmarked r e h f q
 
 -- If a printer never claims a section and fails only because of failed allocations, the error that is returned for its
 -- error has its cause.
-pub growth_cause : {P : Type 0} (m : Meaning P) (colors : Bool) (o : Options) → ((s : P) (c : Call) (t : P) → m.after s c t → IsUnclaimed c) → (bytes : List ℕ)
+growth_cause : {P : Type 0} (m : Meaning P) (colors : Bool) (o : Options) → ((s : P) (c : Call) (t : P) → m.after s c t → IsUnclaimed c) → (bytes : List ℕ)
     (old new : P) (e : Error) → Leaves m colors o bytes old new e → HasListedCause m o bytes old new e → HasListedTextCause o bytes (without_printer e)
 growth_cause m colors o never bytes old new (Printer x) l h = λ placed s. tt
 growth_cause m colors o never bytes old new Memory l h = λ placed s. tt
@@ -216,8 +229,13 @@ growth_cause m colors o never bytes old new (DylinkSubsection id) l h = first_un
 growth_cause m colors o never bytes old new _ l h = h
 
 -- That error is true of the bytes.
-pub growth_true : (o : Options) (bytes : List ℕ) (e : Error) → IsSoundRefusal o bytes e → IsSoundTextRefusal o bytes (without_printer e)
+growth_true : (o : Options) (bytes : List ℕ) (e : Error) → IsSoundRefusal o bytes e → IsSoundTextRefusal o bytes (without_printer e)
 growth_true o bytes (Printer x) h = inr h
 growth_true o bytes Memory (inl h) = inl h
 growth_true o bytes Memory (inr h) = inr h.1
 growth_true o bytes _ h = h
+
+-- That error is a refusal of printing to memory.
+pub text_refusal : {P : Type 0} (m : Meaning P) (colors : Bool) (o : Options) → ((s : P) (c : Call) (t : P) → m.after s c t → IsUnclaimed c) → (bytes : List ℕ)
+    (old new : P) (e : Error) → Leaves m colors o bytes old new e → IsPrintRefusal m o bytes old new e → IsTextRefusal o bytes (without_printer e)
+text_refusal m colors o never bytes old new e l h = record { true_of = growth_true o bytes e h.true_of; caused = growth_cause m colors o never bytes old new e l h.caused }

@@ -6,7 +6,7 @@ use Rattle.wasmprinter_bytes.specs.declared.error.Error.TheVariants.{Component}
 use Rattle.wasmprinter_spec.specs.Binary.{IsComponent}
 use Rattle.wasmprinter_spec.specs.Options.{Options}
 use Rattle.wasmprinter.specs.Printed.{HasText}
-use Rattle.wasmprinter.specs.Outcome.{HasListedTextCause, IsSoundTextRefusal}
+use Rattle.wasmprinter.specs.Outcome.{IsTextRefusal}
 use Rattle.wasmprinter.specs.TextOfFile.{Reading, IsTextOfFile, IsRefusedBy}
 
 abbrev error_or : {T E : Type 0} → E → Result T E → E
@@ -26,7 +26,6 @@ text_of_file view gives wasm (Err e) g h = tt
 
 -- If those bytes are refused, the file is refused with the same error.
 pub refused_of_file : {T : Type 0} (o : Options) (gives : Reading) (wasm : List ℕ) (r : Result T Error) →
-    gives (Some wasm) → IfErr r (IsSoundTextRefusal o wasm) → IfErr r (HasListedTextCause o wasm) → (IsErrOf r Component ↔ IsComponent wasm) →
-    IfErr r (IsRefusedBy o gives)
-refused_of_file o gives wasm (Ok t) g a b c = tt
-refused_of_file o gives wasm (Err e) g a b c = inr (wasm, g, record { true_of = a; caused = b; component = component_error e c })
+    gives (Some wasm) → IfErr r (IsTextRefusal o wasm) → (IsErrOf r Component ↔ IsComponent wasm) → IfErr r (IsRefusedBy o gives)
+refused_of_file o gives wasm (Ok t) g refused c = tt
+refused_of_file o gives wasm (Err e) g refused c = inr (wasm, g, record { refused = refused; component = component_error e c })

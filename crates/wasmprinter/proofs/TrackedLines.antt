@@ -21,7 +21,7 @@ use Rattle.wasmprinter_writers.proofs.LineRuns.{claims_never, run_tracks, run_te
 use Rattle.wasmprinter_laws.proofs.Lines.Starts.{lines_join}
 use Rattle.wasmprinter_laws.proofs.Lines.FunctionLines.{function_lines}
 use Rattle.wasmprinter.specs.Printed.{Printed, no_claims}
-use Rattle.wasmprinter.specs.Outcome.{Leaves, LeavesBeginning, IsSoundTextRefusal, without_printer}
+use Rattle.wasmprinter.specs.Outcome.{Leaves, LeavesBeginning, IsTextRefusal, without_printer}
 use Rattle.wasmprinter.specs.Lined.{HasLinesBy, GainsPrefix, LeavesStorage}
 use Rattle.wasmprinter.proofs.Claims.{alike_unclaimed}
 use Rattle.wasmprinter.proofs.Prefixes.{broken_alike}
@@ -160,9 +160,9 @@ module _ (o : Options) (bytes base text : List ℕ) (old t : Tracked) (is_old : 
       subst (λ (x : List ℕ). LeavesStorage o bytes e base x) (sym is_text)
       (subst (λ (s : Tracked). LeavesStorage o bytes e s.text t.text) is_old h)
 
-  -- If a module was printed, `Memory` for the entry of a line is true of its bytes.
-  pub printable : Printed tracked_meaning false o bytes old t → IsSoundTextRefusal o bytes Memory
-  printable v = inr (record { placed = v.placed; spelled = v.spelled; within = v.within })
+  -- If a module was printed, `Memory` for the entry of a line is a refusal of its bytes.
+  pub memory_refusal : Printed tracked_meaning false o bytes old t → IsTextRefusal o bytes Memory
+  memory_refusal v = record { true_of = inr (record { placed = v.placed; spelled = v.spelled; within = v.within }); caused = λ placed s. tt }
 
   -- If `finish` succeeds, the lines that begin at its places are those of the module.
   pub finished_lines : {T A : Type 0} (starts_of : T → List LineStart) (x : Result T A) → Printed tracked_meaning false o bytes old t →

@@ -192,6 +192,14 @@ abbrev pub IsSoundRefusal : Options → List ℕ → Error → Type 0
 IsSoundRefusal o bytes e =
     HasPrintReason (bytes_reasons o bytes (λ x. ArePrintable bytes)) (folding_reasons o bytes (module_reasons bytes (IsComponent bytes))) e
 
+-- Printing these bytes with these options is refused with this error. `old` and `new` are the states of the printer
+-- before and after the call.
+pub record IsPrintRefusal {P : Type 0} (m : Meaning P) (o : Options) (bytes : List ℕ) (old new : P) (e : Error) : Type 0 where
+  -- The error is true of the bytes, whether they encode a module or not.
+  pub true_of : IsSoundRefusal o bytes e
+  -- If the bytes encode a module, the error has a listed cause.
+  pub caused : HasListedCause m o bytes old new e
+
 -- The reasons for text that is built in memory: an allocation fails in the decoder, or the bytes encode a module
 -- within the limits.
 abbrev pub text_reasons : List ℕ → Reasons → Reasons
@@ -201,6 +209,13 @@ text_reasons bytes decoding = record decoding { memory = decoding.memory ⊎ Are
 -- printed, and no printer fails.
 abbrev pub IsSoundTextRefusal : Options → List ℕ → Error → Type 0
 IsSoundTextRefusal o bytes e = HasPrintReason (bytes_reasons o bytes (λ x. ⊥)) (text_reasons bytes (module_reasons bytes (IsComponent bytes))) e
+
+-- `IsPrintRefusal` for text that is built in memory.
+pub record IsTextRefusal (o : Options) (bytes : List ℕ) (e : Error) : Type 0 where
+  -- The error is true of the bytes, whether they encode a module or not.
+  pub true_of : IsSoundTextRefusal o bytes e
+  -- If the bytes encode a module, the error has a listed cause.
+  pub caused : HasListedTextCause o bytes e
 
 -- A module that the bytes encode was being printed, and `Left` describes the state.
 pub record WhilePrinting (o : Options) (bytes : List ℕ) (Left : PlacedModule → Answers → Type 0) : Type 0 where

@@ -6,7 +6,7 @@ use Rattle.wasmprinter_bytes.specs.declared.error.Error.TheVariants.{Component, 
 use Rattle.wasmprinter_spec.specs.Binary.{IsComponent}
 use Rattle.wasmprinter_spec.specs.Options.{Options}
 use Rattle.wasmprinter.specs.Printed.{HasText}
-use Rattle.wasmprinter.specs.Outcome.{HasListedTextCause, IsSoundTextRefusal}
+use Rattle.wasmprinter.specs.Outcome.{IsTextRefusal}
 
 -- The possible results of reading one file: its bytes, or `None` if reading fails.
 abbrev pub Reading : Type 1
@@ -18,10 +18,8 @@ IsTextOfFile gives text = (wasm : List ℕ) × gives (Some wasm) × HasText wasm
 
 -- With these options, these bytes are refused with this error.
 pub record AreRefused (o : Options) (wasm : List ℕ) (error : Error) : Type 0 where
-  -- The error is true of the bytes.
-  pub true_of : IsSoundTextRefusal o wasm error
-  -- If the bytes encode a module, the error has one of the listed causes.
-  pub caused : HasListedTextCause o wasm error
+  -- The error is true of the bytes. If they encode a module, the error has a listed cause.
+  pub refused : IsTextRefusal o wasm error
   -- The error is `Component` if and only if the bytes are marked as a component.
   pub component : (error ≡ Component) ↔ IsComponent wasm
 

@@ -2,7 +2,7 @@
 ghost use Rattle.std.specs.Prelude.{◌↔◌, IfOk, IfErr, IsErrOf};
 ghost use Rattle.wasmprinter_spec.specs.Binary.{IsComponent};
 ghost use Rattle.wasmprinter.specs.Colored.{HasColoredTextBy};
-ghost use Rattle.wasmprinter.specs.Outcome.{HasListedTextCause, IsSoundTextRefusal};
+ghost use Rattle.wasmprinter.specs.Outcome.{IsTextRefusal};
 
 use crate::ansi_text::AnsiText;
 use crate::config::Config;
@@ -19,8 +19,7 @@ impl Config {
     /// The errors of [`Config::print_to_string`].
     pub fn print_to_ansi(&self, alloc: Global, wasm: &[u8]) -> Result<Vec<u8>, Error>
         ensures printed { IfOk result (λ text. HasColoredTextBy self.now wasm.now text.items) }
-        ensures caused { IfErr result (HasListedTextCause self.now wasm.now) }
-        ensures refused { IfErr result (IsSoundTextRefusal self.now wasm.now) }
+        ensures refused { IfErr result (IsTextRefusal self.now wasm.now) }
         ensures component { IsErrOf result Error.Component ↔ IsComponent wasm.now }
     {
         let mut printer = AnsiText::new(alloc);

@@ -4,7 +4,7 @@ ghost use Rattle.wasmprinter_spec.specs.Binary.{IsComponent};
 ghost use Rattle.wasmprinter_spec.specs.Folding.Refusals.{IsFoldable};
 ghost use Rattle.wasmprinter_fold.specs.Refused.{HasFoldReason};
 ghost use Rattle.wasmprinter.specs.Printed.{Printed, IsTextOf};
-ghost use Rattle.wasmprinter.specs.Outcome.{HasListedCause, HasListedTextCause, IsSoundRefusal, IsSoundTextRefusal, Leaves};
+ghost use Rattle.wasmprinter.specs.Outcome.{IsPrintRefusal, IsTextRefusal, Leaves};
 
 use crate::in_memory::without_printer;
 use crate::plain::Plain;
@@ -138,10 +138,7 @@ impl Config {
     /// - `Printer`: a call on the printer failed. It holds the error of that call.
     pub fn print<P: Print>(&self, alloc: Global, wasm: &[u8], printer: &mut P) -> Result<(), Error>
         ensures printed { OnOk result (Printed P.meaning (P.colors printer.old) self.now wasm.now printer.old printer.new) }
-        // `caused`: if the bytes encode a module, the error has a listed cause. `refused`: the error is true of the
-        // bytes, whether they encode a module or not.
-        ensures caused { IfErr result (HasListedCause P.meaning self.now wasm.now printer.old printer.new) }
-        ensures refused { IfErr result (IsSoundRefusal self.now wasm.now) }
+        ensures refused { IfErr result (IsPrintRefusal P.meaning self.now wasm.now printer.old printer.new) }
         // The state of the printer after the error.
         ensures left { IfErr result (Leaves P.meaning (P.colors printer.old) self.now wasm.now printer.old printer.new) }
         ensures component { IsErrOf result Error.Component ↔ IsComponent wasm.now }
@@ -165,10 +162,7 @@ impl Config {
     /// text can't grow.
     pub fn print_to_string(&self, alloc: Global, wasm: &[u8]) -> Result<String, Error>
         ensures printed { IfOk result (λ text. IsTextOf self.now wasm.now (string_bytes text)) }
-        // `caused`: if the bytes encode a module, the error has a listed cause. `refused`: the error is true of the
-        // bytes, whether they encode a module or not.
-        ensures caused { IfErr result (HasListedTextCause self.now wasm.now) }
-        ensures refused { IfErr result (IsSoundTextRefusal self.now wasm.now) }
+        ensures refused { IfErr result (IsTextRefusal self.now wasm.now) }
         ensures component { IsErrOf result Error.Component ↔ IsComponent wasm.now }
     {
         let mut printer = Plain::new(alloc);

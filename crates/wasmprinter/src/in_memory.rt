@@ -3,7 +3,7 @@ ghost use Rattle.std.specs.Prelude.{◌≡◌, ◌↔◌, IfOk, IfErr, IsErrOf, 
 ghost use Rattle.wasmprinter_spec.specs.Binary.{IsComponent};
 ghost use Rattle.wasmprinter_spec.specs.Options.{defaults};
 ghost use Rattle.wasmprinter.specs.Printed.{HasText};
-ghost use Rattle.wasmprinter.specs.Outcome.{without_printer, HasListedTextCause, IsSoundTextRefusal};
+ghost use Rattle.wasmprinter.specs.Outcome.{without_printer, IsTextRefusal};
 
 use crate::config::Config;
 use std::alloc::Global;
@@ -30,8 +30,7 @@ pub(crate) fn without_printer(error: Error) -> Error
 /// The errors of [`Config::print_to_string`].
 pub fn print_bytes(alloc: Global, wasm: &[u8]) -> Result<String, Error>
     ensures printed { IfOk result (λ text. HasText wasm.now (string_bytes text)) }
-    ensures caused { IfErr result (HasListedTextCause defaults wasm.now) }
-    ensures refused { IfErr result (IsSoundTextRefusal defaults wasm.now) }
+    ensures refused { IfErr result (IsTextRefusal defaults wasm.now) }
     ensures component { IsErrOf result Error.Component ↔ IsComponent wasm.now }
 {
     Config::new().print_to_string(alloc, wasm)

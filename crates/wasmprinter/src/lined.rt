@@ -3,7 +3,7 @@ ghost use Rattle.std.specs.Prelude.{◌↔◌, IfOk, IfErr, IsErrOf, string_byte
 ghost use Rattle.wasmprinter_spec.specs.Binary.{IsComponent};
 ghost use Rattle.wasmprinter_writers.specs.Cuts.{IsCuttable};
 ghost use Rattle.wasmprinter.specs.Lined.{HasLinesBy, HasLinesAt, LeavesStorage};
-ghost use Rattle.wasmprinter.specs.Outcome.{HasListedTextCause, IsSoundTextRefusal};
+ghost use Rattle.wasmprinter.specs.Outcome.{IsTextRefusal};
 
 use crate::config::Config;
 use crate::in_memory::without_printer;
@@ -39,10 +39,7 @@ impl Config {
         ensures lines { IfOk result (λ starts.
             HasLinesAt self.now wasm.now (string_bytes storage.old) (string_bytes storage.new) starts.items) }
         ensures cuttable { IfOk result (λ starts. IsCuttable starts.items (string_bytes storage.new)) }
-        // `caused`: if the bytes encode a module, the error has a listed cause. `refused`: the error is true of the
-        // bytes, whether they encode a module or not.
-        ensures caused { IfErr result (HasListedTextCause self.now wasm.now) }
-        ensures refused { IfErr result (IsSoundTextRefusal self.now wasm.now) }
+        ensures refused { IfErr result (IsTextRefusal self.now wasm.now) }
         ensures component { IsErrOf result Error.Component ↔ IsComponent wasm.now }
         ensures left { IfErr result (λ e. LeavesStorage self.now wasm.now e (string_bytes storage.old) (string_bytes storage.new)) }
     {
@@ -75,10 +72,7 @@ impl Config {
         storage: &'a mut String,
     ) -> Result<OffsetsAndLines<'a>, Error>
         ensures lines { IfOk result (λ it. HasLinesBy self.now wasm.now (string_bytes storage.old) it.storage it.lines) }
-        // `caused`: if the bytes encode a module, the error has a listed cause. `refused`: the error is true of the
-        // bytes, whether they encode a module or not.
-        ensures caused { IfErr result (HasListedTextCause self.now wasm.now) }
-        ensures refused { IfErr result (IsSoundTextRefusal self.now wasm.now) }
+        ensures refused { IfErr result (IsTextRefusal self.now wasm.now) }
         ensures component { IsErrOf result Error.Component ↔ IsComponent wasm.now }
     {
         let starts = self.print_with_line_starts(alloc, wasm, storage)?;

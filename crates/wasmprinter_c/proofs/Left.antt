@@ -13,14 +13,14 @@ use Rattle.wasmprinter_spec.proofs.Texts.{alike_texts}
 use Rattle.wasmprinter_print.proofs.Prefixes.{broken_parts}
 use Rattle.wasmprinter_print.specs.Made.{Whole, Broken, Interrupted}
 use Rattle.wasmprinter.specs.Printed.{Printed}
-use Rattle.wasmprinter.specs.Outcome.{HasListedCause, Leaves, LeavesBeginning}
+use Rattle.wasmprinter.specs.Outcome.{HasListedCause, IsPrintRefusal, Leaves, LeavesBeginning}
 use Rattle.wasmprinter.proofs.Claims.{alike_unclaimed}
 use Rattle.wasmprinter.proofs.Prefixes.{broken_alike}
 use Rattle.wasmprinter.proofs.Texts.{none_claimed, first_unclaimed}
 use Rattle.wasmprinter_c.specs.Over.{over}
 use Rattle.wasmprinter_c.specs.Copied.{copied_meaning}
 use Rattle.wasmprinter_c.specs.Lines.{entries}
-use Rattle.wasmprinter_c.specs.Refused.{IsTooLong, HasBufferCause, HoldsPrefix, LeavesBuffer}
+use Rattle.wasmprinter_c.specs.Refused.{IsTooLong, HasBufferCause, IsBufferRefusal, HoldsPrefix, LeavesBuffer}
 use Rattle.wasmprinter_c.specs.declared.copier.Copier.{Copier}
 use Rattle.wasmprinter_c.proofs.Runs.{HasCopied, IsFresh, run_copied, claims_never}
 
@@ -135,10 +135,10 @@ module _ (old : Copier) (fresh : IsFresh old) where
     leaves_buffer Memory h = memory_left h
     leaves_buffer _ h = absurd h
 
-    pub if_err_caused : {T : Type 0} (r : Result T Error) → IfErr r (Leaves copied_meaning false o bytes old new) →
-        IfErr r (HasListedCause copied_meaning o bytes old new) → IfErr r (HasBufferCause o bytes)
-    if_err_caused (Ok x) l h = tt
-    if_err_caused (Err e) l h = buffer_cause e l h
+    pub if_err_refusal : {T : Type 0} (r : Result T Error) → IfErr r (Leaves copied_meaning false o bytes old new) →
+        IfErr r (IsPrintRefusal copied_meaning o bytes old new) → IfErr r (IsBufferRefusal o bytes)
+    if_err_refusal (Ok x) l h = tt
+    if_err_refusal (Err e) l h = record { true_of = h.true_of; caused = buffer_cause e l h.caused }
 
     pub if_err_left : {T : Type 0} (r : Result T Error) → IfErr r (Leaves copied_meaning false o bytes old new) →
         IfErr r (λ e. LeavesBuffer o bytes e old.out.now new.out.now)

@@ -6,11 +6,10 @@ use Rattle.wasmprinter_bytes.specs.declared.error.Error.TheVariants.{Malformed, 
 use Rattle.wasmprinter_spec.specs.Binary.{IsComponent}
 use Rattle.wasmprinter_spec.specs.Options.{Options}
 use Rattle.wasmprinter.specs.AnsiText.{ansi_text_meaning}
-use Rattle.wasmprinter.specs.Outcome.{IsSoundRefusal}
 use Rattle.wasmprinter.proofs.Outcomes.{refusal_cause}
 use Rattle.wasmprinter_c.specs.Over.{over}
 use Rattle.wasmprinter_c.specs.Printing.{HasLinesOver, HasTextOver}
-use Rattle.wasmprinter_c.specs.Refused.{number_of, detail_in, IsCopied, HasBufferCause, IsTrueOrUncopied, LeavesBuffer}
+use Rattle.wasmprinter_c.specs.Refused.{number_of, detail_in, IsCopied, HasBufferCause, IsBufferRefusal, IsTrueOrUncopied, LeavesBuffer}
 use Rattle.wasmprinter_c.specs.Outcomes.{IsOutcome}
 use Rattle.wasmprinter_c.specs.declared.copier.WasmprinterLine.{WasmprinterLine}
 use Rattle.wasmprinter_c.specs.declared.Outcome.{Outcome}
@@ -89,9 +88,9 @@ module _ (o : Options) (bytes old : List ℕ) (before : List WasmprinterLine) wh
   pub memory_outcome : ¬ IsComponent bytes → IsUtf8 o.indent → IsCopied o.indent → IsOutcome o bytes old old before before (number_of Memory) 0 0 (detail_in Memory)
   memory_outcome unmarked valid copied = error_outcome old before Memory (inr (refl, copied)) (λ placed s. inr copied) (inl refl) (λ c. absurd (unmarked c)) (λ n. valid)
 
-  pub refused_outcome : (new : List ℕ) (after : List WasmprinterLine) (e : Error) → ¬ IsComponent bytes → IsUtf8 o.indent → IsSoundRefusal o bytes e → HasBufferCause o bytes e →
+  pub refused_outcome : (new : List ℕ) (after : List WasmprinterLine) (e : Error) → ¬ IsComponent bytes → IsUtf8 o.indent → IsBufferRefusal o bytes e →
       LeavesBuffer o bytes e old new → IsOutcome o bytes old new before after (number_of e) 0 0 (detail_in e)
-  refused_outcome new after e unmarked valid is_so caused left = error_outcome new after e (inl is_so) caused left (λ c. absurd (unmarked c)) (λ n. valid)
+  refused_outcome new after e unmarked valid refused left = error_outcome new after e (inl refused.true_of) refused.caused left (λ c. absurd (unmarked c)) (λ n. valid)
 
   pub indent_outcome : ¬ IsComponent bytes → ¬ IsUtf8 o.indent → IsOutcome o bytes old old before before 12 0 0 0
   indent_outcome unmarked wrong = record {
@@ -124,12 +123,12 @@ module _ (bytes old new : List ℕ) (before after : List WasmprinterLine) (r : O
       IsOutcome p bytes old new before after (number_of e) 0 0 (detail_in e) → Comes p
   by_result p e is h = subst (λ (x : Outcome). IsOutcome p bytes old new before after x.status x.length x.count x.detail) (sym is) h
 
-  pub refused_by : (o p : Options) (e : Error) → o ≡ p → ¬ IsComponent bytes → IsUtf8 p.indent → IsSoundRefusal o bytes e → HasBufferCause o bytes e →
+  pub refused_by : (o p : Options) (e : Error) → o ≡ p → ¬ IsComponent bytes → IsUtf8 p.indent → IsBufferRefusal o bytes e →
       LeavesBuffer o bytes e old new → r ≡ record { status = number_of e; length = 0; count = 0; detail = detail_in e } → Comes p
-  refused_by o p e same unmarked valid is_so caused left is =
+  refused_by o p e same unmarked valid refused left is =
       by_result p e is
-      (refused_outcome p bytes old before new after e unmarked valid (subst (λ (x : Options). IsSoundRefusal x bytes e) same is_so)
-      (subst (λ (x : Options). HasBufferCause x bytes e) same caused) (subst (λ (x : Options). LeavesBuffer x bytes e old new) same left))
+      (refused_outcome p bytes old before new after e unmarked valid (subst (λ (x : Options). IsBufferRefusal x bytes e) same refused)
+      (subst (λ (x : Options). LeavesBuffer x bytes e old new) same left))
 
 module _ (bytes old : List ℕ) (before : List WasmprinterLine) (r : Outcome) where
   pub marked_by : (p : Options) → IsComponent bytes → r ≡ record { status = number_of Component; length = 0; count = 0; detail = detail_in Component } →

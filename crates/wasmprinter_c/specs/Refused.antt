@@ -66,6 +66,13 @@ HasBufferCause o bytes e =
     HasPrintReason (print_reasons o placed (λ x. IsTooLong o bytes) (λ id. FirstIsUnknown id placed.customs))
     (causes (MayGrow o placed ⊎ IsCopied o.indent) placed) e
 
+-- Printing these bytes over a buffer is refused with this error.
+pub record IsBufferRefusal (o : Options) (bytes : List ℕ) (e : Error) : Type 0 where
+  -- The error is true of the bytes, whether they encode a module or not.
+  pub true_of : IsSoundRefusal o bytes e
+  -- If the bytes encode a module, the error has one of the causes of `HasBufferCause`.
+  pub caused : HasBufferCause o bytes e
+
 -- The error is true of the bytes, as for `Config::print`, or the indent was not copied because an allocation
 -- failed.
 abbrev pub IsTrueOrUncopied : Options → List ℕ → Error → Type 0

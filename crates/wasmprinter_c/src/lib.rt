@@ -7,11 +7,10 @@
 ghost use Rattle.std.specs.Prelude.{◌≡◌, ◌↔◌, ◌⊎◌, IsTrue, OnOk, OnErr, IfOk, IfErr, IsErrOf, codes, length};
 ghost use Rattle.std.specs.Str.{IsUtf8};
 ghost use Rattle.wasmprinter_spec.specs.Binary.{IsComponent};
-ghost use Rattle.wasmprinter.specs.Outcome.{IsSoundRefusal};
 ghost use Rattle.wasmprinter_c.specs.Over.{over};
 ghost use Rattle.wasmprinter_c.specs.Messages.{message};
 ghost use Rattle.wasmprinter_c.specs.Printing.{chosen, HasTextOver, HasLinesOver};
-ghost use Rattle.wasmprinter_c.specs.Refused.{number_of, detail_in, IsCopied, HasBufferCause, LeavesBuffer, IsRefusedWith};
+ghost use Rattle.wasmprinter_c.specs.Refused.{number_of, detail_in, IsCopied, IsBufferRefusal, LeavesBuffer, IsRefusedWith};
 ghost use Rattle.wasmprinter_c.specs.Outcomes.{IsOutcome};
 ghost use Rattle.wasmprinter_c.specs.Statuses.{ok_status, component_status, indent_status, library_version};
 
@@ -119,8 +118,7 @@ fn print_to(
     ensures same_table { copier.new.lines.ghost_name ≡ copier.old.lines.ghost_name }
     ensures printed { OnOk result (HasLinesOver config.now wasm.now copier.old.out.now copier.new.out.now
         copier.old.lines.now copier.new.lines.now copier.new.written copier.new.count) }
-    ensures caused { IfErr result (HasBufferCause config.now wasm.now) }
-    ensures refused { IfErr result (IsSoundRefusal config.now wasm.now) }
+    ensures refused { IfErr result (IsBufferRefusal config.now wasm.now) }
     ensures left { IfErr result (λ e. LeavesBuffer config.now wasm.now e copier.old.out.now copier.new.out.now) }
     ensures component { IsErrOf result Error.Component ↔ IsComponent wasm.now }
 {
@@ -137,8 +135,7 @@ fn print_over(
     lines: &mut [WasmprinterLine],
 ) -> Result<Extent, Error>
     ensures printed { IfOk result (λ x. HasLinesOver config.now wasm.now out.old out.new lines.old lines.new x.length x.count) }
-    ensures caused { IfErr result (HasBufferCause config.now wasm.now) }
-    ensures refused { IfErr result (IsSoundRefusal config.now wasm.now) }
+    ensures refused { IfErr result (IsBufferRefusal config.now wasm.now) }
     ensures left { IfErr result (λ e. LeavesBuffer config.now wasm.now e out.old out.new) }
     ensures component { IsErrOf result Error.Component ↔ IsComponent wasm.now }
 {

@@ -22,4 +22,4 @@ returns c =
     c.in-Ok-indented.config (chosen c.args.options.now c.args.indent.now) c.in-Err.error
     (c.in-Ok-indented.ensures.chosen ∙ ap (chosen c.args.options.now) c.in-Ok.ensures.cases.0)
     (λ marked. true≢false (sym (c.is_component.ensures.1 marked) ∙ c.if-is_component.false)) c.in-Ok.ensures.cases.1
-    c.in-Err.ensures.refused c.in-Err.ensures.caused c.in-Err.ensures.left c.refused-in-Err.ensures
+    c.in-Err.ensures.refused c.in-Err.ensures.left c.refused-in-Err.ensures

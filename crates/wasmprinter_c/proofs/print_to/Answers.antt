@@ -1,6 +1,6 @@
 -- The state of the printer over a buffer after the calls.
 use Rattle.wasmprinter_c.proofs.Runs.{on_ok_over}
-use Rattle.wasmprinter_c.proofs.Left.{either_same, if_err_caused, if_err_left}
+use Rattle.wasmprinter_c.proofs.Left.{either_same, if_err_refusal, if_err_left}
 use Rattle.wasmprinter_c.proofs.print_to.Goals as goal
 
 pub returns-clause-same_buffer : goal.returns-clause-same_buffer
@@ -15,9 +15,9 @@ pub returns-clause-printed : goal.returns-clause-printed
 returns-clause-printed c =
     on_ok_over c.args.config.now c.args.wasm.now c.args.copier.now c.print.new.printer c.print.result (record { text = c.requires.no_text; lines = c.requires.no_line }) c.print.ensures.printed
 
-pub returns-clause-caused : goal.returns-clause-caused
-returns-clause-caused c =
-    if_err_caused c.args.copier.now (record { text = c.requires.no_text; lines = c.requires.no_line }) c.args.config.now c.args.wasm.now c.print.new.printer c.print.result c.print.ensures.left c.print.ensures.caused
+pub returns-clause-refused : goal.returns-clause-refused
+returns-clause-refused c =
+    if_err_refusal c.args.copier.now (record { text = c.requires.no_text; lines = c.requires.no_line }) c.args.config.now c.args.wasm.now c.print.new.printer c.print.result c.print.ensures.left c.print.ensures.refused
 
 pub returns-clause-left : goal.returns-clause-left
 returns-clause-left c =

@@ -12,4 +12,4 @@ pub returns-clause-refused : goal.returns-clause-refused
 returns-clause-refused g c =
     let gave : g.S.Source.gives c.args.source.now c.args.file.now (Some c.in_ok-wasm.wasm.items) = search rules in
     gives_no_text c.args.choice.now (g.S.Source.gives c.args.source.now c.args.file.now) c.in_ok-wasm.wasm.items c.text_of.result gave (rw c.deref.ensures.value at c.text_of.ensures.refused)
-    (rw c.deref.ensures.value at c.text_of.ensures.caused) (rw c.deref.ensures.value at c.text_of.ensures.component)
+    (rw c.deref.ensures.value at c.text_of.ensures.component)

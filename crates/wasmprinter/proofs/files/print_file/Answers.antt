@@ -15,5 +15,4 @@ pub returns-clause-refused : goal.returns-clause-refused
 returns-clause-refused g c =
     let gave : g.S.Source.gives c.args.source.now (path_bytes c.args.file) (Some c.in_ok-wasm.wasm.items) = search rules in
     refused_of_file defaults (g.S.Source.gives c.args.source.now (path_bytes c.args.file)) c.in_ok-wasm.wasm.items c.print_bytes.result gave
-    (rw c.deref.ensures.value at c.print_bytes.ensures.refused) (rw c.deref.ensures.value at c.print_bytes.ensures.caused)
-    (rw c.deref.ensures.value at c.print_bytes.ensures.component)
+    (rw c.deref.ensures.value at c.print_bytes.ensures.refused) (rw c.deref.ensures.value at c.print_bytes.ensures.component)

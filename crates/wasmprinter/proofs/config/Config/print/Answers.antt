@@ -1,63 +1,39 @@
-use Rattle.wasmprinter.specs.Outcome.{HasListedCause, IsSoundRefusal, Leaves}
+use Rattle.wasmprinter.specs.Outcome.{IsPrintRefusal, Leaves}
 use Rattle.std.proofs.Common.{ap, ◌∙◌}
 use Rattle.wasmprinter_spec.specs.Names.Section.{label_subsection}
 use Rattle.wasmprinter_bytes.specs.declared.error.Error.TheVariants.{Memory}
 use Rattle.wasmprinter.proofs.Named.{names_refusal, unnamed, not_ok}
-use Rattle.wasmprinter.proofs.Outcomes.{handed_on, refusal_cause, refusal_true, refusal_left, fold_cause, fold_true, fold_left, fold_unmarked, own_ended, ended_printed, ended_caused, ended_true, ended_left, ended_unmarked}
+use Rattle.wasmprinter.proofs.Outcomes.{handed_on, print_refusal, refusal_left, fold_refusal, fold_left, fold_unmarked, own_ended, ended_printed, ended_refusal, ended_left, ended_unmarked}
 use Rattle.wasmprinter.proofs.config.Config.print.Goals as goal
-
-pub returns-in_err-module-clause-caused : goal.returns-in_err-module-clause-caused
-returns-in_err-module-clause-caused g c =
-    handed_on (HasListedCause g.P.Print.meaning c.args.self.now c.args.wasm.now c.args.printer.now c.args.printer.now) c.from_residual.result c.in_err-module.field-0.0 c.from_residual.ensures.1
-    (refusal_cause g.P.Print.meaning c.args.self.now c.args.wasm.now c.args.printer.now c.in_err-module.field-0.0 c.in_err-module.ensures.refused)
 
 pub returns-in_err-module-clause-refused : goal.returns-in_err-module-clause-refused
 returns-in_err-module-clause-refused g c =
-    handed_on (IsSoundRefusal c.args.self.now c.args.wasm.now) c.from_residual.result c.in_err-module.field-0.0 c.from_residual.ensures.1
-    (refusal_true c.args.self.now c.args.wasm.now c.in_err-module.field-0.0 c.in_err-module.ensures.refused)
+    handed_on (IsPrintRefusal g.P.Print.meaning c.args.self.now c.args.wasm.now c.args.printer.now c.args.printer.now) c.from_residual.result c.in_err-module.field-0.0 c.from_residual.ensures.1
+    (print_refusal g.P.Print.meaning c.args.self.now c.args.wasm.now c.args.printer.now c.in_err-module.field-0.0 c.in_err-module.ensures.refused)
 
 pub returns-in_err-module-clause-left : goal.returns-in_err-module-clause-left
 returns-in_err-module-clause-left g c =
     handed_on (Leaves g.P.Print.meaning (g.P.Print.colors c.args.printer.now) c.args.self.now c.args.wasm.now c.args.printer.now c.args.printer.now) c.from_residual.result c.in_err-module.field-0.0 c.from_residual.ensures.1
     (refusal_left g.P.Print.meaning (g.P.Print.colors c.args.printer.now) c.args.self.now c.args.wasm.now c.args.printer.now c.in_err-module.field-0.0 c.in_err-module.ensures.refused)
 
-pub returns-in_err-names-clause-caused : goal.returns-in_err-names-clause-caused
-returns-in_err-names-clause-caused g c =
-    handed_on (HasListedCause g.P.Print.meaning c.args.self.now c.args.wasm.now c.args.printer.now c.args.printer.now) c.from_residual-in_err-names.result c.in_err-names.field-0.0 c.from_residual-in_err-names.ensures.1
-    (refusal_cause g.P.Print.meaning c.args.self.now c.args.wasm.now c.args.printer.now c.in_err-names.field-0.0
-    (rw c.in_err-names.ensures.memory (names_refusal c.args.wasm.now c.in_ok-module.module c.in_ok-module.ensures.ok.0 (λ none. not_ok (c.in_err-names.ensures.needed none)))))
-
 pub returns-in_err-names-clause-refused : goal.returns-in_err-names-clause-refused
 returns-in_err-names-clause-refused g c =
-    handed_on (IsSoundRefusal c.args.self.now c.args.wasm.now) c.from_residual-in_err-names.result c.in_err-names.field-0.0 c.from_residual-in_err-names.ensures.1
-    (refusal_true c.args.self.now c.args.wasm.now c.in_err-names.field-0.0
+    handed_on (IsPrintRefusal g.P.Print.meaning c.args.self.now c.args.wasm.now c.args.printer.now c.args.printer.now) c.from_residual-in_err-names.result c.in_err-names.field-0.0 c.from_residual-in_err-names.ensures.1
+    (print_refusal g.P.Print.meaning c.args.self.now c.args.wasm.now c.args.printer.now c.in_err-names.field-0.0
     (rw c.in_err-names.ensures.memory (names_refusal c.args.wasm.now c.in_ok-module.module c.in_ok-module.ensures.ok.0 (λ none. not_ok (c.in_err-names.ensures.needed none)))))
-
-pub returns-in_err-labels-clause-caused : goal.returns-in_err-labels-clause-caused
-returns-in_err-labels-clause-caused g c =
-    handed_on (HasListedCause g.P.Print.meaning c.args.self.now c.args.wasm.now c.args.printer.now c.args.printer.now) c.from_residual-in_err-labels.result Memory c.from_residual-in_err-labels.ensures.1
-    (refusal_cause g.P.Print.meaning c.args.self.now c.args.wasm.now c.args.printer.now Memory
-    (names_refusal c.args.wasm.now c.in_ok-module.module c.in_ok-module.ensures.ok.0
-    (λ none. not_ok (c.in_err-labels.ensures.needed (λ f n. c.in_ok-names.ensures.names label_subsection f n ∙ unnamed _ none label_subsection f n)))))
 
 pub returns-in_err-labels-clause-refused : goal.returns-in_err-labels-clause-refused
 returns-in_err-labels-clause-refused g c =
-    handed_on (IsSoundRefusal c.args.self.now c.args.wasm.now) c.from_residual-in_err-labels.result Memory c.from_residual-in_err-labels.ensures.1
-    (refusal_true c.args.self.now c.args.wasm.now Memory
+    handed_on (IsPrintRefusal g.P.Print.meaning c.args.self.now c.args.wasm.now c.args.printer.now c.args.printer.now) c.from_residual-in_err-labels.result Memory c.from_residual-in_err-labels.ensures.1
+    (print_refusal g.P.Print.meaning c.args.self.now c.args.wasm.now c.args.printer.now Memory
     (names_refusal c.args.wasm.now c.in_ok-module.module c.in_ok-module.ensures.ok.0
     (λ none. not_ok (c.in_err-labels.ensures.needed (λ f n. c.in_ok-names.ensures.names label_subsection f n ∙ unnamed _ none label_subsection f n)))))
-
-pub returns-in_err-check-clause-caused : goal.returns-in_err-check-clause-caused
-returns-in_err-check-clause-caused g c =
-    let o = c.args.self.now in
-    handed_on (HasListedCause g.P.Print.meaning o c.args.wasm.now c.args.printer.now c.args.printer.now) c.from_residual-in_err-check.result c.in_err-check.field-0.0 c.from_residual-in_err-check.ensures.1
-    (fold_cause g.P.Print.meaning o c.args.wasm.now c.in_ok-module.module c.in_ok-module.ensures.ok.0 c.in_ok-module.ensures.ok.1 c.in_err-check.ensures.refused.0 c.args.printer.now c.in_err-check.field-0.0 c.in_err-check.ensures.refused.1)
 
 pub returns-in_err-check-clause-refused : goal.returns-in_err-check-clause-refused
 returns-in_err-check-clause-refused g c =
     let o = c.args.self.now in
-    handed_on (IsSoundRefusal o c.args.wasm.now) c.from_residual-in_err-check.result c.in_err-check.field-0.0 c.from_residual-in_err-check.ensures.1
-    (fold_true g.P.Print.meaning o c.args.wasm.now c.in_ok-module.module c.in_ok-module.ensures.ok.0 c.in_ok-module.ensures.ok.1 c.in_err-check.ensures.refused.0 c.args.printer.now c.in_err-check.field-0.0 c.in_err-check.ensures.refused.1)
+    handed_on (IsPrintRefusal g.P.Print.meaning o c.args.wasm.now c.args.printer.now c.args.printer.now) c.from_residual-in_err-check.result c.in_err-check.field-0.0 c.from_residual-in_err-check.ensures.1
+    (fold_refusal g.P.Print.meaning o c.args.wasm.now c.in_ok-module.module c.in_ok-module.ensures.ok.0 c.in_ok-module.ensures.ok.1 c.in_err-check.ensures.refused.0 c.args.printer.now c.in_err-check.field-0.0 c.in_err-check.ensures.refused.1)
 
 pub returns-in_err-check-clause-left : goal.returns-in_err-check-clause-left
 returns-in_err-check-clause-left g c =
@@ -90,8 +66,7 @@ returns g c =
     let ended = own_ended m colors o bytes placed spelled within foldable old new answers r c.in_ok-labels.labels c.in_ok-names.names (ap (λ s. s.named) start) synthesizes c.in_ok-names.ensures.names laid.1 in
     record {
       printed = ended_printed m colors o bytes placed spelled within foldable old new answers r ended;
-      caused = ended_caused m colors o bytes placed spelled within foldable old new answers r ended;
-      refused = ended_true m colors o bytes placed spelled within foldable old new answers r ended;
+      refused = ended_refusal m colors o bytes placed spelled within foldable old new answers r ended;
       left = ended_left m colors o bytes placed spelled within foldable old new answers r ended;
       component = ended_unmarked m colors o bytes placed spelled within foldable old new answers r ended;
     }

@@ -1,8 +1,8 @@
 use Rattle.std.proofs.Common.{sym, subst}
 use Rattle.wasmprinter_print.proofs.TextRuns.{takes_none}
 use Rattle.wasmprinter.specs.Plain.{appends}
-use Rattle.wasmprinter.specs.Outcome.{HasListedTextCause, IsSoundTextRefusal}
-use Rattle.wasmprinter.proofs.Outcomes.{growth_cause, growth_true}
+use Rattle.wasmprinter.specs.Outcome.{IsTextRefusal}
+use Rattle.wasmprinter.proofs.Outcomes.{text_refusal}
 use Rattle.wasmprinter.proofs.Texts.{printed_text}
 use Rattle.wasmprinter.proofs.config.Config.print_to_string.Goals as goal
 
@@ -10,11 +10,7 @@ pub returns-in-Ok-clause-printed : goal.returns-in-Ok-clause-printed
 returns-in-Ok-clause-printed c =
     rw c.into_string.ensures (printed_text c.args.self.now c.args.wasm.now _ c.print.new.printer c.new-printer.ensures c.in-Ok.ensures.printed)
 
-pub returns-in-Err-clause-caused : goal.returns-in-Err-clause-caused
-returns-in-Err-clause-caused c =
-    subst (HasListedTextCause c.args.self.now c.args.wasm.now) (sym c.without_printer.ensures)
-    (growth_cause _ _ c.args.self.now (takes_none appends) c.args.wasm.now _ c.print.new.printer c.in-Err.error c.in-Err.ensures.left c.in-Err.ensures.caused)
-
 pub returns-in-Err-clause-refused : goal.returns-in-Err-clause-refused
 returns-in-Err-clause-refused c =
-    subst (IsSoundTextRefusal c.args.self.now c.args.wasm.now) (sym c.without_printer.ensures) (growth_true c.args.self.now c.args.wasm.now c.in-Err.error c.in-Err.ensures.refused)
+    subst (IsTextRefusal c.args.self.now c.args.wasm.now) (sym c.without_printer.ensures)
+    (text_refusal _ _ c.args.self.now (takes_none appends) c.args.wasm.now _ c.print.new.printer c.in-Err.error c.in-Err.ensures.left c.in-Err.ensures.refused)

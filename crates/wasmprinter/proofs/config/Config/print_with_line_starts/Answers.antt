@@ -5,9 +5,9 @@ use Rattle.wasmprinter_writers.specs.Tracked.{without_lines}
 use Rattle.wasmprinter_writers.proofs.LineRuns.{claims_never}
 use Rattle.wasmprinter_bytes.specs.declared.error.Error.TheVariants.{Memory}
 use Rattle.wasmprinter.specs.Lined.{HasLinesBy, LeavesStorage}
-use Rattle.wasmprinter.specs.Outcome.{HasListedTextCause, IsSoundTextRefusal, without_printer}
-use Rattle.wasmprinter.proofs.Outcomes.{growth_cause, growth_true}
-use Rattle.wasmprinter.proofs.TrackedLines.{told_as, handed_on_as, leaves_as, printed_leaves, printable, finished_lines, refusal_leaves}
+use Rattle.wasmprinter.specs.Outcome.{IsTextRefusal, without_printer}
+use Rattle.wasmprinter.proofs.Outcomes.{text_refusal}
+use Rattle.wasmprinter.proofs.TrackedLines.{told_as, handed_on_as, leaves_as, printed_leaves, memory_refusal, finished_lines, refusal_leaves}
 use Rattle.wasmprinter.proofs.config.Config.print_with_line_starts.Goals as goal
 
 pub returns-in-Ok-clause-lines : goal.returns-in-Ok-clause-lines
@@ -23,8 +23,8 @@ pub returns-in-Ok-clause-refused : goal.returns-in-Ok-clause-refused
 returns-in-Ok-clause-refused c =
     let base = string_bytes c.args.storage.now in
     let begun : c.new-printer.result ≡ without_lines base = c.new-printer.ensures ∙ ap (λ s. without_lines (string_bytes s)) c.replace-text.ensures.value in
-    told_as _ (λ e y h. search rules) c.finish-text.result.1 c.map_err.result c.map_err.ensures.cases (IsSoundTextRefusal c.args.self.now c.args.wasm.now)
-    (printable c.args.self.now c.args.wasm.now base (string_bytes c.finish-text.result.0) c.new-printer.result c.print-printed.new.printer begun c.finish-text.ensures.text c.in-Ok.ensures.printed)
+    told_as _ (λ e y h. search rules) c.finish-text.result.1 c.map_err.result c.map_err.ensures.cases (IsTextRefusal c.args.self.now c.args.wasm.now)
+    (memory_refusal c.args.self.now c.args.wasm.now base (string_bytes c.finish-text.result.0) c.new-printer.result c.print-printed.new.printer begun c.finish-text.ensures.text c.in-Ok.ensures.printed)
 
 pub returns-in-Ok-clause-left : goal.returns-in-Ok-clause-left
 returns-in-Ok-clause-left c =
@@ -35,14 +35,10 @@ returns-in-Ok-clause-left c =
     (leaves_as c.args.self.now c.args.wasm.now base text c.new-printer.result c.print-printed.new.printer begun c.finish-text.ensures.text Memory
     (printed_leaves c.args.self.now c.args.wasm.now c.new-printer.result c.print-printed.new.printer c.in-Ok.ensures.printed))
 
-pub returns-in-Err-clause-caused : goal.returns-in-Err-clause-caused
-returns-in-Err-clause-caused c =
-    subst (HasListedTextCause c.args.self.now c.args.wasm.now) (sym c.without_printer.ensures)
-    (growth_cause _ _ c.args.self.now claims_never c.args.wasm.now _ c.print-printed.new.printer c.in-Err.error c.in-Err.ensures.left c.in-Err.ensures.caused)
-
 pub returns-in-Err-clause-refused : goal.returns-in-Err-clause-refused
 returns-in-Err-clause-refused c =
-    subst (IsSoundTextRefusal c.args.self.now c.args.wasm.now) (sym c.without_printer.ensures) (growth_true c.args.self.now c.args.wasm.now c.in-Err.error c.in-Err.ensures.refused)
+    subst (IsTextRefusal c.args.self.now c.args.wasm.now) (sym c.without_printer.ensures)
+    (text_refusal _ _ c.args.self.now claims_never c.args.wasm.now _ c.print-printed.new.printer c.in-Err.error c.in-Err.ensures.left c.in-Err.ensures.refused)
 
 pub returns-in-Err-clause-left : goal.returns-in-Err-clause-left
 returns-in-Err-clause-left c =
