@@ -1,6 +1,6 @@
 #!/bin/sh
-# Tests the bindings in bindings/: builds the library, and checks in C, C++, Rust and Python that every row of bindings/rows.txt prints as
-# typed. It also checks the wrappers of the header without the library (nullable.c), and lets allocations fail (memory.c). Uses the machine's `cc`, `c++`, `cargo --offline` and `python3`. Fails if one of them is missing or if a row differs.
+# Tests the bindings in bindings/: builds the library, and checks in C, C++, Rust and Python that every case of bindings/cases.txt prints as
+# typed. It also checks the wrappers of the header without the library (nullable.c), and lets allocations fail (memory.c). Uses the machine's `cc`, `c++`, `cargo --offline` and `python3`. Fails if one of them is missing or if a case differs.
 set -eu
 cd "$(dirname "$0")/.."
 for tool in cc c++ cargo python3; do
@@ -16,8 +16,8 @@ sh tools/library.sh "$work" >"$work/log" 2>&1 || { cat "$work/log"; exit 1; }
 set -- -O2 -Wall -Wextra -Wpedantic -Werror -Iinclude
 cc -std=c99 "$@" bindings/c/test.c "$work/libwasmprinter.a" -o "$work/test_c"
 c++ -std=c++17 "$@" -x c++ bindings/c/test.c -x none "$work/libwasmprinter.a" -o "$work/test_cpp"
-"$work/test_c" bindings/rows.txt
-"$work/test_cpp" bindings/rows.txt
+"$work/test_c" bindings/cases.txt
+"$work/test_cpp" bindings/cases.txt
 cc -std=c99 "$@" bindings/c/nullable.c -o "$work/nullable_c"
 c++ -std=c++17 "$@" -x c++ bindings/c/nullable.c -o "$work/nullable_cpp"
 "$work/nullable_c"

@@ -1,4 +1,4 @@
-/* test FILE: checks every row of bindings/rows.txt. Prints each row that differs, and the counts; the status is 1 if a row differs. For C99
+/* test FILE: checks every case of bindings/cases.txt. Prints each case that differs, and the counts; the status is 1 if a case differs. For C99
  * and C++. */
 #include "checked.h"
 
@@ -13,8 +13,8 @@
 
 enum { MOST_LINES = 64, LINE_ROOM = 512, WASM_ROOM = 1 << 20, TEXT_ROOM = 4096 };
 
-/* A row: the input and the expected results. */
-typedef struct Row {
+/* A case: the input and the expected results. */
+typedef struct Case {
     char title[LINE_ROOM];
     Input input;
     uint8_t indent[LINE_ROOM];
@@ -24,9 +24,9 @@ typedef struct Row {
     char text[TEXT_ROOM]; /* the text in the buffer after the call */
     size_t text_len;
     WasmprinterLine lines[MOST_LINES];
-} Row;
+} Case;
 
-/* The names of the errors in the row file. */
+/* The names of the errors in the file of cases. */
 static const struct {
     const char *name;
     uint32_t status;
@@ -43,13 +43,13 @@ static const struct {
 };
 
 static uint8_t wasm[WASM_ROOM];
-static unsigned rows;
+static unsigned cases;
 static unsigned failed;
 
-/* Stops the test if the row file itself is wrong. */
+/* Stops the test if the file of cases itself is wrong. */
 static void expect_file(bool is_right, const char *line) {
     if (!is_right) {
-        fprintf(stderr, LANGUAGE ": the row file can't be read at: %s\n", line);
+        fprintf(stderr, LANGUAGE ": the file of cases can't be read at: %s\n", line);
         exit(2);
     }
 }
@@ -97,46 +97,46 @@ static void read_options(const char *words, WasmprinterOptions *options) {
 }
 
 /* Appends bytes to the text. */
-static void add_text(Row *row, const char *text, size_t len) {
-    expect_file(len <= TEXT_ROOM - row->text_len, text);
-    memcpy(row->text + row->text_len, text, len);
-    row->text_len += len;
+static void add_text(Case *test_case, const char *text, size_t len) {
+    expect_file(len <= TEXT_ROOM - test_case->text_len, text);
+    memcpy(test_case->text + test_case->text_len, text, len);
+    test_case->text_len += len;
 }
 
 /* Appends a line of the text, with its place. */
-static void read_text(Row *row, const char *line) {
+static void read_text(Case *test_case, const char *line) {
     const char *bar = strchr(line, '|');
-    expect_file(bar != NULL && row->outcome.count < MOST_LINES, line);
-    WasmprinterLine *entry = &row->lines[row->outcome.count++];
-    entry->start = row->text_len;
+    expect_file(bar != NULL && test_case->outcome.count < MOST_LINES, line);
+    WasmprinterLine *entry = &test_case->lines[test_case->outcome.count++];
+    entry->start = test_case->text_len;
     entry->place = bar == line ? 0 : strtoull(line, NULL, 16);
     entry->has_place = bar != line;
-    add_text(row, bar + 1, strlen(bar + 1));
-    add_text(row, "\n", 1);
-    row->outcome.length = row->text_len;
+    add_text(test_case, bar + 1, strlen(bar + 1));
+    add_text(test_case, "\n", 1);
+    test_case->outcome.length = test_case->text_len;
 }
 
-static void read_error(Row *row, const char *words) {
+static void read_error(Case *test_case, const char *words) {
     const char *rest = NULL;
     for (size_t i = 0; i < sizeof ERRORS / sizeof ERRORS[0] && rest == NULL; i++) {
         rest = after(ERRORS[i].name, words);
-        row->outcome.status = ERRORS[i].status;
+        test_case->outcome.status = ERRORS[i].status;
     }
     expect_file(rest != NULL, words);
     char *end;
-    row->outcome.detail = strtoull(rest, &end, 10);
+    test_case->outcome.detail = strtoull(rest, &end, 10);
     expect_file(end != rest && *end == ' ', words);
-    strcpy(row->error, end + 1);
+    strcpy(test_case->error, end + 1);
 }
 
-/* Reads a line of a row. */
-static void read_line(Row *row, const char *line) {
-    Input *input = &row->input;
+/* Reads a line of a case. */
+static void read_line(Case *test_case, const char *line) {
+    Input *input = &test_case->input;
     const char *words;
     if ((words = after("set", line)) != NULL) {
         read_options(words, &input->options);
     } else if ((words = after("indent", line)) != NULL) {
-        input->indent_len = read_bytes(words, row->indent, 0, sizeof row->indent);
+        input->indent_len = read_bytes(words, test_case->indent, 0, sizeof test_case->indent);
     } else if ((words = after("wasm", line)) != NULL) {
         input->wasm_len = read_bytes(words, wasm, input->wasm_len, sizeof wasm);
     } else if ((words = after("zeros", line)) != NULL) {
@@ -145,24 +145,24 @@ static void read_line(Row *row, const char *line) {
         memset(wasm + input->wasm_len, 0, zeros);
         input->wasm_len += zeros;
     } else if (after("places", line) != NULL) {
-        row->has_places = true;
+        test_case->has_places = true;
     } else if ((words = after("error", line)) != NULL) {
-        read_error(row, words);
+        read_error(test_case, words);
     } else if ((words = after("left", line)) != NULL) {
-        add_text(row, words, strlen(words));
+        add_text(test_case, words, strlen(words));
     } else {
-        read_text(row, line);
+        read_text(test_case, line);
     }
 }
 
-/* Starts a row with the default options. */
-static void start_row(Row *row, const char *title) {
-    memset(row, 0, sizeof *row);
-    strcpy(row->title, title);
-    memcpy(row->indent, WASMPRINTER_INDENT, WASMPRINTER_INDENT_LEN);
-    row->input.wasm = wasm;
-    row->input.indent = row->indent;
-    row->input.indent_len = WASMPRINTER_INDENT_LEN;
+/* Starts a case with the default options. */
+static void start_case(Case *test_case, const char *title) {
+    memset(test_case, 0, sizeof *test_case);
+    strcpy(test_case->title, title);
+    memcpy(test_case->indent, WASMPRINTER_INDENT, WASMPRINTER_INDENT_LEN);
+    test_case->input.wasm = wasm;
+    test_case->input.indent = test_case->indent;
+    test_case->input.indent_len = WASMPRINTER_INDENT_LEN;
 }
 
 /* Prints a message if a result is wrong. Returns whether it is right. */
@@ -174,52 +174,52 @@ static bool expect(const char *title, bool is_right, const char *what) {
     return is_right;
 }
 
-static bool expect_outcome(const Row *row, Outcome outcome, size_t count) {
-    return expect(row->title, outcome.status == row->outcome.status, "status") &&
-           expect(row->title, outcome.detail == row->outcome.detail, "detail") &&
-           expect(row->title, outcome.length == row->outcome.length, "length") &&
-           expect(row->title, outcome.count == count, "count of lines");
+static bool expect_outcome(const Case *test_case, Outcome outcome, size_t count) {
+    return expect(test_case->title, outcome.status == test_case->outcome.status, "status") &&
+           expect(test_case->title, outcome.detail == test_case->outcome.detail, "detail") &&
+           expect(test_case->title, outcome.length == test_case->outcome.length, "length") &&
+           expect(test_case->title, outcome.count == count, "count of lines");
 }
 
 /* Prints to a buffer of each size from 0 to one byte more than the text. */
-static void check_text(const Row *row) {
+static void check_text(const Case *test_case) {
     static uint8_t out[TEXT_ROOM + 1];
     bool is_right = true;
-    for (size_t room = 0; is_right && room <= row->text_len + 1; room++) {
+    for (size_t room = 0; is_right && room <= test_case->text_len + 1; room++) {
         memset(out, GUARD, sizeof out);
-        is_right = expect_outcome(row, print_text(&row->input, out, room), 0) &&
-                   expect(row->title, is_over(out, sizeof out, room, row->text, row->text_len), "text");
+        is_right = expect_outcome(test_case, print_text(&test_case->input, out, room), 0) &&
+                   expect(test_case->title, is_over(out, sizeof out, room, test_case->text, test_case->text_len), "text");
     }
 }
 
 /* Compares the first entries of the table. */
-static bool expect_lines(const Row *row, const WasmprinterLine *lines, size_t count) {
+static bool expect_lines(const Case *test_case, const WasmprinterLine *lines, size_t count) {
     bool is_right = true;
     for (size_t i = 0; is_right && i < count; i++) {
-        const WasmprinterLine *typed = &row->lines[i];
+        const WasmprinterLine *typed = &test_case->lines[i];
         bool is_place = lines[i].place == typed->place && lines[i].has_place == typed->has_place;
-        is_right = expect(row->title, lines[i].start == typed->start, "start of a line") &&
-                   expect(row->title, is_place || !row->has_places, "place");
+        is_right = expect(test_case->title, lines[i].start == typed->start, "start of a line") &&
+                   expect(test_case->title, is_place || !test_case->has_places, "place");
     }
     return is_right;
 }
 
 /* Prints with a table of each size from 0 to one line more than the text has. */
-static void check_lines(const Row *row) {
+static void check_lines(const Case *test_case) {
     static uint8_t out[TEXT_ROOM];
     WasmprinterLine lines[MOST_LINES + 1];
-    size_t count = row->outcome.count;
+    size_t count = test_case->outcome.count;
     bool is_right = true;
     for (size_t room = 0; is_right && room <= count + 1; room++) {
         memset(out, GUARD, sizeof out);
         memset(lines, GUARD, sizeof lines);
-        Outcome outcome = print_lines(&row->input, out, sizeof out, lines, room);
+        Outcome outcome = print_lines(&test_case->input, out, sizeof out, lines, room);
         size_t fits = room < count ? room : count;
         /* after an error the entries of the table are not specified */
-        size_t written = row->outcome.status == WASMPRINTER_OK ? fits : room;
-        is_right = expect_outcome(row, outcome, count) && expect_lines(row, lines, fits) &&
-                   expect(row->title, is_over(out, sizeof out, sizeof out, row->text, row->text_len), "text of the lines") &&
-                   expect(row->title, is_unchanged(lines, written * sizeof *lines, sizeof lines), "entry after the last line");
+        size_t written = test_case->outcome.status == WASMPRINTER_OK ? fits : room;
+        is_right = expect_outcome(test_case, outcome, count) && expect_lines(test_case, lines, fits) &&
+                   expect(test_case->title, is_over(out, sizeof out, sizeof out, test_case->text, test_case->text_len), "text of the lines") &&
+                   expect(test_case->title, is_unchanged(lines, written * sizeof *lines, sizeof lines), "entry after the last line");
     }
 }
 
@@ -234,38 +234,38 @@ static void check_error_text(const char *title, uint32_t status, uint64_t detail
     }
 }
 
-static void check(const Row *row) {
-    rows++;
-    check_text(row);
-    check_lines(row);
-    if (row->outcome.status != WASMPRINTER_OK) {
-        check_error_text(row->title, row->outcome.status, row->outcome.detail, row->error);
+static void check(const Case *test_case) {
+    cases++;
+    check_text(test_case);
+    check_lines(test_case);
+    if (test_case->outcome.status != WASMPRINTER_OK) {
+        check_error_text(test_case->title, test_case->outcome.status, test_case->outcome.detail, test_case->error);
     }
 }
 
-/* Reads and checks all rows of a file. */
+/* Reads and checks all cases of a file. */
 static void check_file(FILE *file) {
-    static Row row;
+    static Case test_case;
     char line[LINE_ROOM];
     bool is_open = false;
     while (fgets(line, sizeof line, file) != NULL) {
         char *end = strchr(line, '\n');
         expect_file(end != NULL, line);
         *end = '\0';
-        const char *title = after("row", line);
+        const char *title = after("case", line);
         if (title != NULL) {
             if (is_open) {
-                check(&row);
+                check(&test_case);
             }
-            start_row(&row, title);
+            start_case(&test_case, title);
             is_open = true;
         } else if (line[0] != '\0' && line[0] != '#') {
             expect_file(is_open, line);
-            read_line(&row, line);
+            read_line(&test_case, line);
         }
     }
     expect_file(is_open, "its end");
-    check(&row);
+    check(&test_case);
 }
 
 /* Checks calls with null pointers. */
@@ -302,25 +302,25 @@ static void check_null_with_lengths(void) {
     expect(title, wasmprinter_error_text_nullable(WASMPRINTER_OK, 0, NULL, some) == strlen("success"), "length of a description");
 }
 
-/* Checks an indent with a zero byte, which the row file can't hold. */
+/* Checks an indent with a zero byte, which the file of cases can't hold. */
 static void check_zero_byte(void) {
     static const char module[] = "\0asm\1\0\0\0\1\4\1\x60\0"; /* with the zero byte at the end of the string */
     static const char indent[] = {'\0', '\t'};
     static const char text[] = "(module\n\0\t(type (;0;) (func))\n)\n";
-    static Row row;
-    start_row(&row, "an indent with a zero byte");
+    static Case test_case;
+    start_case(&test_case, "an indent with a zero byte");
     memcpy(wasm, module, sizeof module);
-    row.input.wasm_len = sizeof module;
-    memcpy(row.indent, indent, sizeof indent);
-    row.input.indent_len = sizeof indent;
-    add_text(&row, text, sizeof text - 1);
-    row.outcome.length = row.text_len;
-    check_text(&row);
+    test_case.input.wasm_len = sizeof module;
+    memcpy(test_case.indent, indent, sizeof indent);
+    test_case.input.indent_len = sizeof indent;
+    add_text(&test_case, text, sizeof text - 1);
+    test_case.outcome.length = test_case.text_len;
+    check_text(&test_case);
 }
 
-/* Checks the descriptions of statuses that no row has. */
+/* Checks the descriptions of statuses that no case has. */
 static void check_other_statuses(void) {
-    const char *title = "statuses that no row has";
+    const char *title = "statuses that no case has";
     check_error_text(title, WASMPRINTER_OK, 0, "success");
     check_error_text(title, WASMPRINTER_UNREADABLE, 0, "the file can't be read");
     check_error_text(title, WASMPRINTER_TOO_LONG, 0, "the text is too long");
@@ -341,6 +341,6 @@ int main(int argc, char **argv) {
     check_zero_byte();
     check_other_statuses();
     expect("the library", wasmprinter_version() == WASMPRINTER_VERSION, "version");
-    printf(LANGUAGE ": %u rows, %u differences\n", rows, failed);
+    printf(LANGUAGE ": %u cases, %u differences\n", cases, failed);
     return failed == 0 ? 0 : 1;
 }

@@ -1,4 +1,4 @@
-"""Checks every row of bindings/rows.txt."""
+"""Checks every case of bindings/cases.txt."""
 
 import pathlib
 import pickle
@@ -7,13 +7,13 @@ import unittest
 
 import wasmprinter
 
-ROWS = pathlib.Path(__file__).resolve().parent.parent / "rows.txt"
+CASES = pathlib.Path(__file__).resolve().parent.parent / "cases.txt"
 EMPTY = b"\0asm\1\0\0\0"
 ONE_TYPE = EMPTY + b"\1\4\1\x60\0\0"
 
 
-class Row:
-    """A row: the input and the expected results."""
+class Case:
+    """A case: the input and the expected results."""
 
     def __init__(self, title):
         self.title = title
@@ -44,46 +44,46 @@ class Row:
             self.lines.append((int(place, 16) if place else None, text + "\n"))
 
 
-def rows():
+def cases():
     found = []
-    for line in ROWS.read_text(encoding="utf-8").split("\n"):
-        if line.startswith("row "):
-            found.append(Row(line[4:]))
+    for line in CASES.read_text(encoding="utf-8").split("\n"):
+        if line.startswith("case "):
+            found.append(Case(line[5:]))
         elif line and not line.startswith("#"):
             found[-1].read(line)
     return found
 
 
-class Rows(unittest.TestCase):
-    def test_each_row(self):
-        found = rows()
+class Cases(unittest.TestCase):
+    def test_each_case(self):
+        found = cases()
         self.assertGreater(len(found), 20)
-        for row in found:
-            with self.subTest(row.title):
-                self.check(row)
+        for case in found:
+            with self.subTest(case.title):
+                self.check(case)
 
-    def check(self, row):
-        if "\udcff" in row.options.get("indent", ""):
+    def check(self, case):
+        if "\udcff" in case.options.get("indent", ""):
             with self.assertRaises(UnicodeEncodeError):
-                wasmprinter.print_bytes(row.wasm, **row.options)
-        elif row.error is None:
-            self.assertEqual(wasmprinter.print_bytes(row.wasm, **row.options), "".join(text for _, text in row.lines))
-            lines = wasmprinter.print_lines(row.wasm, **row.options)
-            self.assertEqual([line.text for line in lines], [text for _, text in row.lines])
-            if row.has_places:
-                self.assertEqual([line.place for line in lines], [place for place, _ in row.lines])
+                wasmprinter.print_bytes(case.wasm, **case.options)
+        elif case.error is None:
+            self.assertEqual(wasmprinter.print_bytes(case.wasm, **case.options), "".join(text for _, text in case.lines))
+            lines = wasmprinter.print_lines(case.wasm, **case.options)
+            self.assertEqual([line.text for line in lines], [text for _, text in case.lines])
+            if case.has_places:
+                self.assertEqual([line.place for line in lines], [place for place, _ in case.lines])
         else:
-            name, detail, text = row.error
+            name, detail, text = case.error
             for function in (wasmprinter.print_bytes, wasmprinter.print_lines):
                 with self.assertRaises(wasmprinter.Error) as raised:
-                    function(row.wasm, **row.options)
+                    function(case.wasm, **case.options)
                 self.assertIs(type(raised.exception), getattr(wasmprinter, name))
                 self.assertEqual(raised.exception.detail, detail)
                 self.assertEqual(str(raised.exception), text)
 
 
 class Others(unittest.TestCase):
-    def test_errors_that_no_row_has(self):
+    def test_errors_that_no_case_has(self):
         self.assertEqual(str(wasmprinter.TooLong()), "the text is too long")
         self.assertEqual(str(wasmprinter.OutOfMemory()), "out of memory")
         self.assertTrue(issubclass(wasmprinter.OutOfMemory, MemoryError))

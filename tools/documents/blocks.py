@@ -9,7 +9,7 @@ SOURCES = {
     "bindings/README.md": ("bindings/c/example.c",),
     "CONTRIBUTING.md": ("crates/wasmprinter_flat/src/indices.rt", "crates/wasmprinter_custom/must-fail/identifier-is-the-raw-name.edit"),
 }
-MESSAGES = ("bindings/rows.txt", "bindings/c/test.c", "tools/program.sh", "crates/printwasm/src/tests.rt")  # tests with typed messages
+MESSAGES = ("bindings/cases.txt", "bindings/c/test.c", "tools/program.sh", "crates/printwasm/src/program_tests.rt")  # tests with typed messages
 
 PROVES = "proves, tests or builds, as the gate does"
 INSTALLS = "needs or changes the user's folders. tools/install.sh is run by hand (docs/TESTING.md)"

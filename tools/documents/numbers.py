@@ -32,8 +32,8 @@ def tests(tree, crate="*"):
 
 
 def names_of_refusals(tree):
-    """Returns the number of names that tools/refusals.sh tries."""
-    function = tree.first(r"^names\(\) \{[^\0]*?^\}", "tools/refusals.sh")
+    """Returns the number of names that tools/failing_allocations.sh tries."""
+    function = tree.first(r"^names\(\) \{[^\0]*?^\}", "tools/failing_allocations.sh")
     return len(subprocess.run(["sh", "-c", function + "\nnames"], capture_output=True, text=True, check=True).stdout.splitlines())
 
 
@@ -41,7 +41,7 @@ def of_checks(tree):
     """Returns the numbers of tests, mutants and shapes."""
     gate, others = len(tree.matching("crates/*/must-fail/*.edit")), len(tree.matching("crates/*/mutants/*.edit"))
     runs = len(tree.found("^(?:case_of|started|as_user) ", PROGRAM))
-    refused, shapes = len(tree.lines("crates/refusals/stdout")) - 1, len({**MODULE_SHAPES, **CODE_SHAPES})
+    refused, shapes = len(tree.lines("crates/failing_allocations/stdout")) - 1, len({**MODULE_SHAPES, **CODE_SHAPES})
     return [
         ("# mutants, deliberately", gate),
         (r"^\| \[Mutants\]\S* \| #, and", gate),
@@ -60,14 +60,14 @@ def of_checks(tree):
         (r"# shapes of modules \|", shapes),
         ("modules of # shapes, among", shapes),
         ("all # shapes", shapes),
-        ("0 to # bytes", tree.first(r"TEXT_LENGTHS: .*\[\(0, (\d+)\)", "crates/printwasm/src/edge.rt")),
+        ("0 to # bytes", tree.first(r"TEXT_LENGTHS: .*\[\(0, (\d+)\)", "crates/printwasm/src/io_tests.rt")),
         ("an indent of # bytes fail", len(tree.first('^#define INDENT "( *)"', "bindings/c/memory.c"))),
     ]
 
 
 def of_rows(tree):
     """Returns the numbers of rows and of their files."""
-    rows, bindings = len(tree.found("^(?:row|operator|node) ", ROWS + "*.txt")), len(tree.found("^row ", "bindings/rows.txt"))
+    rows, bindings = len(tree.found("^(?:row|operator|node) ", ROWS + "*.txt")), len(tree.found("^case ", "bindings/cases.txt"))
     return [
         (r"^\| \[Rows of files\]\S* \| # modules; ", rows),
         ("rows of .* files, # in all", rows),
@@ -75,7 +75,7 @@ def of_rows(tree):
         ("rows of # files", len(tree.matching(ROWS + "*.txt"))),
         ("`check_rows` has # functions", len(tree.found(r"^ *(?:pub(?:\(crate\))? )?fn ", "crates/check_rows/src/*.rt"))),
         (r"^\| \[Rows of files\].*; # in", bindings),
-        (r"`bindings/rows\.txt` has #", bindings),
+        (r"`bindings/cases\.txt` has #", bindings),
     ]
 
 

@@ -12,7 +12,7 @@ use Rattle.wasmprinter.specs.Colored.{HasColoredTextBy}
 use Rattle.wasmprinter.specs.TextOfFile.{Reading, IsRefusedBy}
 use Rattle.printwasm.specs.Words.{Choice, named_file, choice_of, AreWordsOf, CannotReadWords}
 use Rattle.printwasm.specs.Unread.{words_error}
-use Rattle.printwasm.specs.declared.rendering.WordsError.{WordsError}
+use Rattle.printwasm.specs.declared.error_lines.WordsError.{WordsError}
 
 -- The possible results of writing a text, with the states of the sink before and after. The text is `None` if no
 -- contract specifies it.

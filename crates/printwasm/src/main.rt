@@ -2,16 +2,16 @@
 //! WebAssembly module as text.
 #![tactic(auto)]
 
+mod error_lines;
 #[cfg(test)]
-mod edge;
+mod io_tests;
 mod program;
-mod rendering;
-mod system;
 #[cfg(test)]
-mod tests;
+mod program_tests;
+mod system;
 
+use error_lines::ByDisplay;
 use program::launch;
-use rendering::ByDisplay;
 use std::env;
 use std::process::ExitCode;
 

@@ -9,7 +9,7 @@ ghost use Rattle.printwasm.specs.Outcome.{IsTextBy, GivesText, GivesNoText, Writ
 ghost use Rattle.printwasm.specs.Outcome.{refused_status};
 ghost use Rattle.wasmprinter.specs.Outcome.{IsTextRefusal};
 
-use crate::rendering::{Render, WordsError};
+use crate::error_lines::{Render, WordsError};
 use crate::system::Sink;
 use std::alloc::Global;
 use std::io;

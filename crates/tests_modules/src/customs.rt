@@ -76,13 +76,13 @@ const SECTIONS: &[SectionRow] = &[
     (7, &[0x01, 0x01, 0x66, 0x00, 0x00]), // export
     (8, &[0x00]), // start
     (9, &[0x01, 0x01, 0x00, 0x01, 0x00]), // elem
-    // The count of data segments. It is never the place of a custom section.
+    // The count of data segments. It is never the section before a custom section.
     (12, &[0x01]),
     (10, &[0x01, 0x02, 0x00, 0x0b]), // code
     (11, &[0x01, 0x01, 0x01, 0x61]), // data
 ];
 
-/// The places of a custom section before all sections, and of one after each: the section before it.
+/// The positions of a custom section before all sections, and of one after each: the section before it.
 const EVERY_PLACE: &[Option<SectionKind>] = &[
     None,
     Some(SectionKind::Type),

@@ -1,5 +1,5 @@
 //! The text of the storage after each error of `Config::offsets_and_lines` and `Config::print_with_line_starts`, except
-//! `Memory`: tools/refusals.sh lets allocations fail. Expected texts are typed by hand.
+//! `Memory`: tools/failing_allocations.sh lets allocations fail. Expected texts are typed by hand.
 
 use crate::limits::{ONE_FUNCTION_TOO_MANY, ONE_LOCAL_TOO_MANY};
 use crate::lines::lines_by;

@@ -12,7 +12,7 @@ use Rattle.wasmprinter_spec.specs.Piece.{Piece, Begin, EndLine, Open, all_calls}
 use Rattle.wasmprinter_spec.specs.Layout.{early_scope, section_pieces, section_order, section_parts, module_parts, module_pieces_of, module_pieces_with, module_pieces, layout, refusal}
 use Rattle.wasmprinter_spec.specs.Layout.Groups.{close, has_break, group_at}
 use Rattle.wasmprinter_spec.specs.Layout.Identifiers.{leading_id_and_name_pieces}
-use Rattle.wasmprinter_spec.specs.Layout.Customs.{Part, Shown, Stops, Laid, before_laid, laid_parts, custom_part, same_place, parts_at}
+use Rattle.wasmprinter_spec.specs.Layout.Customs.{Part, Shown, Stops, Laid, before_laid, laid_parts, custom_part, same_after, parts_at}
 use Rattle.wasmprinter_spec.proofs.Each.{all_both, all_parts}
 use Rattle.wasmprinter_print.specs.EffectLaws.{all_calls-append}
 use Rattle.wasmprinter_sections.proofs.Joined.{laid_after, joined-append}
@@ -107,21 +107,21 @@ module _ (o : Options) where
         ∙ sym (joined-append ys ws)));
   }
 
-  -- The custom sections at one place.
-  place_alike : (answers : Answers) (place : Option Kind) (n : ℕ) (cs : List CustomEntry) →
+  -- The custom sections at one position.
+  after_alike : (answers : Answers) (place : Option Kind) (n : ℕ) (cs : List CustomEntry) →
       AreAlike (parts_at o.skeleton answers place n cs) (parts_at o.skeleton no_claims place n cs)
-  place_alike answers place n [] = record { same = λ h. refl }
-  place_alike answers place n (c ∷ cs) = by (same_place c.after place) (place_alike answers place (n + 1) cs) refl
+  after_alike answers place n [] = record { same = λ h. refl }
+  after_alike answers place n (c ∷ cs) = by (same_after c.after place) (after_alike answers place (n + 1) cs) refl
     where
       by : (t : Bool) → AreAlike (parts_at o.skeleton answers place (n + 1) cs) (parts_at o.skeleton no_claims place (n + 1) cs) →
-          same_place c.after place ≡ t → AreAlike (parts_at o.skeleton answers place n (c ∷ cs)) (parts_at o.skeleton no_claims place n (c ∷ cs))
+          same_after c.after place ≡ t → AreAlike (parts_at o.skeleton answers place n (c ∷ cs)) (parts_at o.skeleton no_claims place n (c ∷ cs))
       by true others e = rw e (custom_alike (answers n) c others)
       by false others e = rw e others
 
   -- All parts of a module.
   module _ (answers : Answers) (names : Names) (m : PlacedModule) where
     customs_alike : (place : Option Kind) → AreAlike (parts_at o.skeleton answers place 0 m.customs) (parts_at o.skeleton no_claims place 0 m.customs)
-    customs_alike place = place_alike answers place 0 m.customs
+    customs_alike place = after_alike answers place 0 m.customs
 
     section_alike : (k : Kind) → AreAlike (section_parts o (early_scope o names m) m answers k) (section_parts o (early_scope o names m) m no_claims k)
     section_alike k = part_alike (Shown (section_pieces o (early_scope o names m) m k)) (customs_alike (Some k))

@@ -27,8 +27,8 @@ both_end {xs} {ys} {zs} {ws} f g = record {
 }
 
 module _ (o : Options) (b c : Bool) (answers : Answers) (names : Names) (m : PlacedModule) where
-  customs_end : (place : Option Kind) → HaveSameEnd (parts_at o.skeleton answers place 0 m.customs) (parts_at o.skeleton answers place 0 m.customs)
-  customs_end place = record { end = refl }
+  customs_end : (after : Option Kind) → HaveSameEnd (parts_at o.skeleton answers after 0 m.customs) (parts_at o.skeleton answers after 0 m.customs)
+  customs_end after = record { end = refl }
 
   abbrev parts_by : Bool → Kind → List Part
   parts_by color = section_parts (in_colors o color) (early_scope (in_colors o color) names m) m answers

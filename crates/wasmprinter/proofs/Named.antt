@@ -6,7 +6,7 @@ use Rattle.std.proofs.lemmas.List.{length-append}
 use Rattle.wasmprinter_spec.specs.Grammar.{◌>>=◌, bind_some, some_is, Placed, input}
 use Rattle.wasmprinter_spec.specs.Choices.{tested}
 use Rattle.wasmprinter_spec.specs.Placed.{Custom, CustomEntry, PlacedFunction, PlacedModule}
-use Rattle.wasmprinter_spec.specs.Sections.{Kind, CustomSection, Section, section, are_above, place_after, with_custom, customs_after}
+use Rattle.wasmprinter_spec.specs.Sections.{Kind, CustomSection, Section, section, are_above, kind_after, with_custom, customs_after}
 use Rattle.wasmprinter_spec.specs.Repeated.{until_end}
 use Rattle.wasmprinter_spec.specs.Binary.{Spells, binary, customs_in, type_indices_in, bodies_in, data_count_in, datas_in, function_pairs, counts_data, module_from}
 use Rattle.wasmprinter_spec.specs.Names.{Naming, names_by}
@@ -47,7 +47,7 @@ custom_among last p before text [] s some = absurd (omega (arith, some))
 custom_among last p before text (x ∷ xs) s some =
     elim (picks CustomSection x) [
       | inl other ↦
-          let next : Option Kind = place_after last x in
+          let next : Option Kind = kind_after last x in
           let rest : HasCustom (input p ((before ++ s.0) ++ s.1)) =
           custom_among next p (before ++ s.0) s.1 xs
           (subst (λ (q : ℕ). (until_end section).spells q s.1 xs) (omega (arith, length-append before s.0)) s.5)

@@ -10,10 +10,10 @@ use Rattle.wasmprinter_spec.specs.Call.{Call, Claim, atoms}
 use Rattle.wasmprinter_spec.specs.Meaning.{Meaning}
 use Rattle.wasmprinter_spec.specs.Options.{Options, Answers}
 use Rattle.wasmprinter_spec.specs.Piece.{Piece, Begin, Open, Claimed, all_calls}
-use Rattle.wasmprinter_spec.specs.Customs.{CustomRole, Silent, Listed, Linked, Refused, Raw, Malformed, custom_role_of}
+use Rattle.wasmprinter_spec.specs.Customs.{CustomTreatment, Silent, ProducersFields, DylinkSubsections, Refused, Raw, Malformed, custom_treatment_of}
 use Rattle.wasmprinter_spec.specs.Layout.Identifiers.{leading_id_and_name_pieces}
 use Rattle.wasmprinter_spec.specs.Layout.{early_scope, section_pieces, section_order, section_parts, module_parts, module_pieces_of, module_pieces_with, module_pieces, layout, refusal}
-use Rattle.wasmprinter_spec.specs.Layout.Customs.{Part, Shown, Stops, Laid, laid_parts, role_part, custom_part, same_place, parts_at}
+use Rattle.wasmprinter_spec.specs.Layout.Customs.{Part, Shown, Stops, Laid, laid_parts, treatment_part, custom_part, same_after, parts_at}
 use Rattle.wasmprinter_print.specs.MadeLaws.{atoms-append}
 use Rattle.wasmprinter_print.specs.Made.{Whole}
 use Rattle.wasmprinter_print.specs.EffectLaws.{all_calls-append}
@@ -32,7 +32,7 @@ question c = Claimed c.section.value.name c.section.value.bytes.place c.section.
 
 -- The pieces end with the claim for this section, which is refused.
 record IsAsked (id : ℕ) (c : CustomEntry) (ps : List Piece) : Type 0 where
-  unknown : custom_role_of c.section.value ≡ Refused id
+  unknown : custom_treatment_of c.section.value ≡ Refused id
   front : List Piece
   ends : ps ≡ front ++ question c ∷ []
 
@@ -56,28 +56,28 @@ record GoesOn (part : Part) (others : List Part) (id : ℕ) : Type 0 where
 shown_on : (ps : List Piece) (others : List Part) (id : ℕ) → Stop others id → GoesOn (Shown ps) others id
 shown_on ps others id h = record { front = ps; pieces = refl; stops = h }
 
-role_stops : (skeleton : Bool) (c : CustomEntry) (r : CustomRole) (others : List Part) (id : ℕ) → custom_role_of c.section.value ≡ r →
-    Stop (role_part skeleton (question c) c r ∷ others) id →
-    IsAsked id c (pieces_of (role_part skeleton (question c) c r ∷ others)) ⊎ GoesOn (role_part skeleton (question c) c r) others id
-role_stops skeleton c Silent others id e h = inr (shown_on _ others id h)
-role_stops skeleton c (Listed fields) others id e h = inr (shown_on _ others id h)
-role_stops skeleton c (Linked ss) others id e h = inr (shown_on _ others id h)
-role_stops skeleton c (Refused i) others id e h = inl (record { unknown = e ∙ ap (λ (n : ℕ). Refused n) (some_is i id h); front = []; ends = refl })
-role_stops skeleton c Raw others id e h = inr (shown_on _ others id h)
-role_stops skeleton c Malformed others id e h = inr (shown_on _ others id h)
+treatment_stops : (skeleton : Bool) (c : CustomEntry) (r : CustomTreatment) (others : List Part) (id : ℕ) → custom_treatment_of c.section.value ≡ r →
+    Stop (treatment_part skeleton (question c) c r ∷ others) id →
+    IsAsked id c (pieces_of (treatment_part skeleton (question c) c r ∷ others)) ⊎ GoesOn (treatment_part skeleton (question c) c r) others id
+treatment_stops skeleton c Silent others id e h = inr (shown_on _ others id h)
+treatment_stops skeleton c (ProducersFields fields) others id e h = inr (shown_on _ others id h)
+treatment_stops skeleton c (DylinkSubsections ss) others id e h = inr (shown_on _ others id h)
+treatment_stops skeleton c (Refused i) others id e h = inl (record { unknown = e ∙ ap (λ (n : ℕ). Refused n) (some_is i id h); front = []; ends = refl })
+treatment_stops skeleton c Raw others id e h = inr (shown_on _ others id h)
+treatment_stops skeleton c Malformed others id e h = inr (shown_on _ others id h)
 
 custom_stops : (skeleton answer : Bool) (c : CustomEntry) (others : List Part) (id : ℕ) → Stop (custom_part skeleton answer c ∷ others) id →
     IsAsked id c (pieces_of (custom_part skeleton answer c ∷ others)) ⊎ GoesOn (custom_part skeleton answer c) others id
 custom_stops skeleton true c others id h = inr (shown_on _ others id h)
-custom_stops skeleton false c others id h = role_stops skeleton c (custom_role_of c.section.value) others id refl h
+custom_stops skeleton false c others id h = treatment_stops skeleton c (custom_treatment_of c.section.value) others id refl h
 
 module _ (skeleton : Bool) (answers : Answers) (place : Option Kind) (id : ℕ) where
   abbrev own_parts : ℕ → List CustomEntry → List Part
   own_parts n cs = parts_at skeleton answers place n cs
 
-  place_stops : (n : ℕ) (cs : List CustomEntry) → Stop (own_parts n cs) id → AnyIsAsked id cs (pieces_of (own_parts n cs))
-  place_stops n [] h = absurd cc
-  place_stops n (c ∷ cs) h = by (same_place c.after place) (λ rest. place_stops (n + 1) cs rest) refl
+  after_stops : (n : ℕ) (cs : List CustomEntry) → Stop (own_parts n cs) id → AnyIsAsked id cs (pieces_of (own_parts n cs))
+  after_stops n [] h = absurd cc
+  after_stops n (c ∷ cs) h = by (same_after c.after place) (λ rest. after_stops (n + 1) cs rest) refl
     where
       others : List Part
       others = own_parts (n + 1) cs
@@ -87,7 +87,7 @@ module _ (skeleton : Bool) (answers : Answers) (place : Option Kind) (id : ℕ) 
       here after part (inl a) = inl a
       here after part (inr g) = inr (subst (AnyIsAsked id cs) (sym g.pieces) (asked_after id cs g.front (pieces_of others) (after g.stops)))
 
-      by : (t : Bool) → (Stop others id → AnyIsAsked id cs (pieces_of others)) → same_place c.after place ≡ t → AnyIsAsked id (c ∷ cs) (pieces_of (own_parts n (c ∷ cs)))
+      by : (t : Bool) → (Stop others id → AnyIsAsked id cs (pieces_of others)) → same_after c.after place ≡ t → AnyIsAsked id (c ∷ cs) (pieces_of (own_parts n (c ∷ cs)))
       by true after e = rw e (here after (custom_part skeleton (answers n) c) (custom_stops skeleton (answers n) c others id (rw e at h)))
       by false after e = rw e (inr (after (rw e at h)))
 
@@ -110,7 +110,7 @@ module _ (o : Options) (answers : Answers) (m : PlacedModule) (id : ℕ) where
   }
 
   customs_if : (place : Option Kind) → IsAskedIf (parts_at o.skeleton answers place 0 m.customs)
-  customs_if place = record { stops = λ h. place_stops o.skeleton answers place id 0 m.customs h }
+  customs_if place = record { stops = λ h. after_stops o.skeleton answers place id 0 m.customs h }
 
   section_if : (names : Names) (k : Kind) → IsAskedIf (section_parts o (early_scope o names m) m answers k)
   section_if names k = record {
@@ -143,7 +143,7 @@ refusal_unknown o answers m id h = forgets id m.customs (pieces_of (module_parts
 
 module _ {P : Type 0} (meaning : Meaning P) (old new : P) (o : Options) (id : ℕ) where
   -- If pieces end with the claim for a refused section, their calls do.
-  ended : (c : CustomEntry) (front : List Piece) → custom_role_of c.section.value ≡ Refused id →
+  ended : (c : CustomEntry) (front : List Piece) → custom_treatment_of c.section.value ≡ Refused id →
       Whole meaning old new (all_calls o (front ++ question c ∷ [])) → IsRefused meaning old new id c
   ended c front unknown w =
       let last : List Call = Claim c.section.value.name c.section.value.bytes.place c.section.value.bytes.value false ∷ [] in

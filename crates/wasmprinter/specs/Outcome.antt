@@ -3,7 +3,7 @@ use Rattle.std.specs.Prelude.{◌≡◌, ◌≢◌, ◌<◌, ◌⊎◌, List, []
 use Rattle.std.specs.declared.io.Error.{Error as IoError}
 use Rattle.wasmprinter_spec.specs.Binary.{Spells, IsComponent}
 use Rattle.wasmprinter_spec.specs.Placed.{CustomEntry, PlacedModule}
-use Rattle.wasmprinter_spec.specs.Customs.{Refused, custom_role_of}
+use Rattle.wasmprinter_spec.specs.Customs.{Refused, custom_treatment_of}
 use Rattle.wasmprinter_spec.specs.Limits.{IsWithinLimits, most_functions}
 use Rattle.wasmprinter_spec.specs.Call.{Call, Claim, atoms}
 use Rattle.wasmprinter_spec.specs.Meaning.{Meaning, Run, Failed}
@@ -22,20 +22,20 @@ use Rattle.wasmprinter_wasm.specs.Decoding.{HoldsSome, module_reasons}
 -- is complete and precedes any malformed one.
 abbrev pub AnyIsUnknown : ℕ → List CustomEntry → Type 0
 AnyIsUnknown id [] = ⊥
-AnyIsUnknown id (c ∷ cs) = (custom_role_of c.section.value ≡ Refused id) ⊎ AnyIsUnknown id cs
+AnyIsUnknown id (c ∷ cs) = (custom_treatment_of c.section.value ≡ Refused id) ⊎ AnyIsUnknown id cs
 
 -- The first of these custom sections that is refused for an unknown subsection is refused for the subsection with this
 -- id.
 abbrev pub FirstIsUnknown : ℕ → List CustomEntry → Type 0
 FirstIsUnknown id [] = ⊥
 FirstIsUnknown id (c ∷ cs) =
-    (custom_role_of c.section.value ≡ Refused id)
-    ⊎ (((i : ℕ) → custom_role_of c.section.value ≢ Refused i) × FirstIsUnknown id cs)
+    (custom_treatment_of c.section.value ≡ Refused id)
+    ⊎ (((i : ℕ) → custom_treatment_of c.section.value ≢ Refused i) × FirstIsUnknown id cs)
 
 -- The printer did not claim this `dylink.0` section, which has an unknown subsection with this id.
 pub record IsRefused {P : Type 0} (m : Meaning P) (old new : P) (id : ℕ) (c : CustomEntry) : Type 0 where
   -- The section is refused because of its subsection with this id.
-  pub unknown : custom_role_of c.section.value ≡ Refused id
+  pub unknown : custom_treatment_of c.section.value ≡ Refused id
   -- The calls that were made.
   pub calls : List Call
   -- All of them succeeded, and they lead from `old` to `new`.

@@ -19,9 +19,6 @@ pub mod laws;
 mod lined;
 mod places;
 mod plain;
-pub mod print;
-pub mod text;
-pub mod wasm;
 
 pub use config::Config;
 pub use files::{Source, print_file};
@@ -30,3 +27,28 @@ pub use places::place_of;
 pub use print::{Print, PrintFmtWrite, PrintIoWrite, PrintTermcolor, PrintText};
 pub use wasmprinter_bytes::Error;
 pub use wasmprinter_writers::{LineStart, OffsetsAndLines};
+
+/// Printers: the destinations of a module's text.
+pub mod print {
+    pub use wasmprinter_print::{Print, PrintFmtWrite, PrintText, WriteText};
+    pub use wasmprinter_writers::{
+        Ansi, Color, ColorSpec, NoColor, PrintIoWrite, PrintTermcolor, WriteBytes, WriteColor,
+    };
+}
+
+/// Writing single values in the text format: floats and quoted strings.
+pub mod text {
+    pub use wasmprinter_text::value_printing::{write_bytes, write_f32, write_f64, write_quoted};
+}
+
+/// Decoding modules in the binary format, and reading the decoded modules.
+pub mod wasm {
+    pub use wasmprinter_custom::{Names, Space};
+    pub use wasmprinter_ops::blocks::{BlockType, Catch, Catches, Targets};
+    pub use wasmprinter_ops::expression::OperatorsReader;
+    pub use wasmprinter_ops::opcode::Opcode;
+    pub use wasmprinter_ops::operands::MemArg;
+    pub use wasmprinter_ops::operator::{Immediates, Operator};
+    pub use wasmprinter_ops::{HeapType, RefType, ValType, ValTypes};
+    pub use wasmprinter_wasm::{Body, Module, decode};
+}

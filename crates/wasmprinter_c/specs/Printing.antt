@@ -10,8 +10,8 @@ use Rattle.wasmprinter_c.specs.declared.WasmprinterOptions.{WasmprinterOptions}
 use Rattle.wasmprinter_c.specs.declared.copier.WasmprinterLine.{WasmprinterLine}
 
 -- The options that a caller chose, with this indent.
-abbrev pub chosen : WasmprinterOptions → List ℕ → Options
-chosen c indent = record defaults { offsets = c.offsets; skeleton = c.skeleton; synthesizes = c.name_unnamed; folds = c.fold; indent = indent }
+abbrev pub options_of : WasmprinterOptions → List ℕ → Options
+options_of c indent = record defaults { offsets = c.offsets; skeleton = c.skeleton; synthesizes = c.name_unnamed; folds = c.fold; indent = indent }
 
 -- The bytes encode a module, and its text was written over the buffer.
 pub record HasTextOver (o : Options) (bytes old new : List ℕ) (whole : ℕ) : Type 0 where

@@ -9,7 +9,7 @@ ghost use Rattle.std.specs.Str.{IsUtf8};
 ghost use Rattle.wasmprinter_spec.specs.Binary.{IsComponent};
 ghost use Rattle.wasmprinter_c.specs.Over.{over};
 ghost use Rattle.wasmprinter_c.specs.Messages.{message};
-ghost use Rattle.wasmprinter_c.specs.Printing.{chosen, HasTextOver, HasLinesOver};
+ghost use Rattle.wasmprinter_c.specs.Printing.{options_of, HasTextOver, HasLinesOver};
 ghost use Rattle.wasmprinter_c.specs.Refused.{number_of, detail_in, IsCopied, IsBufferRefusal, LeavesBuffer, IsRefusedWith};
 ghost use Rattle.wasmprinter_c.specs.Outcomes.{IsOutcome};
 ghost use Rattle.wasmprinter_c.specs.Statuses.{ok_status, component_status, indent_status, library_version};
@@ -81,7 +81,7 @@ fn is_default(indent: &str) -> bool
 
 /// Returns these options as a `Config`, with the default indent.
 fn config_of(options: &WasmprinterOptions) -> Config
-    ensures { result ≡ chosen options.now (codes "  ") }
+    ensures { result ≡ options_of options.now (codes "  ") }
 {
     let mut config = Config::new();
     config
@@ -95,7 +95,7 @@ fn config_of(options: &WasmprinterOptions) -> Config
 /// Returns these options as a `Config`, with a copy of an indent. The default indent is not copied. Returns an
 /// error if an allocation failed.
 fn indented(alloc: Global, options: &WasmprinterOptions, indent: &str) -> Result<Config, AllocError>
-    ensures chosen { IfOk result (λ config. config ≡ chosen options.now indent.now) }
+    ensures options_of { IfOk result (λ config. config ≡ options_of options.now indent.now) }
     ensures copied { OnErr result (IsCopied indent.now) }
 {
     let mut config = config_of(options);
@@ -169,7 +169,7 @@ fn print_by(
     out: &mut [u8],
     lines: &mut [WasmprinterLine],
 ) -> Outcome
-    ensures { IsOutcome (chosen options.now indent.now) wasm.now out.old out.new lines.old lines.new
+    ensures { IsOutcome (options_of options.now indent.now) wasm.now out.old out.new lines.old lines.new
         result.status result.length result.count result.detail }
 {
     if is_component(wasm) {
@@ -229,10 +229,10 @@ pub extern "C" fn wasmprinter_print(
     length: &mut usize,
     detail: &mut u64,
 ) -> u32
-    ensures printed { result ≡ ok_status → HasTextOver (chosen options.now indent.now) wasm.now out.old out.new length.new }
+    ensures printed { result ≡ ok_status → HasTextOver (options_of options.now indent.now) wasm.now out.old out.new length.new }
     // The 0 is the number of lines: this function writes no table of lines.
     ensures refused { ¬ (result ≡ ok_status) → ¬ (result ≡ indent_status) →
-        IsRefusedWith (chosen options.now indent.now) wasm.now out.old out.new result length.new 0 detail.new }
+        IsRefusedWith (options_of options.now indent.now) wasm.now out.old out.new result length.new 0 detail.new }
     ensures component { result ≡ component_status ↔ IsComponent wasm.now }
     ensures wrong_indent { result ≡ indent_status ↔ ((¬ IsComponent wasm.now) × (¬ IsUtf8 indent.now)) }
     ensures untouched { result ≡ indent_status → (out.new ≡ out.old) × (length.new ≡ 0) }
@@ -263,9 +263,9 @@ pub extern "C" fn wasmprinter_print_lines(
     detail: &mut u64,
 ) -> u32
     ensures printed { result ≡ ok_status →
-        HasLinesOver (chosen options.now indent.now) wasm.now out.old out.new lines.old lines.new length.new count.new }
+        HasLinesOver (options_of options.now indent.now) wasm.now out.old out.new lines.old lines.new length.new count.new }
     ensures refused { ¬ (result ≡ ok_status) → ¬ (result ≡ indent_status) →
-        IsRefusedWith (chosen options.now indent.now) wasm.now out.old out.new result length.new count.new detail.new }
+        IsRefusedWith (options_of options.now indent.now) wasm.now out.old out.new result length.new count.new detail.new }
     ensures component { result ≡ component_status ↔ IsComponent wasm.now }
     ensures wrong_indent { result ≡ indent_status ↔ ((¬ IsComponent wasm.now) × (¬ IsUtf8 indent.now)) }
     ensures untouched { result ≡ indent_status → (out.new ≡ out.old) × (length.new ≡ 0) × (count.new ≡ 0) }

@@ -10,7 +10,7 @@ use crate::copier::Copier;
 use wasmprinter::Error;
 use wasmprinter_print::Output;
 use wasmprinter_text::numbers::{write_decimal_between, write_hexadecimal_between};
-use wasmprinter_text::values::{Value, write_value};
+use wasmprinter_text::value_printing::{Value, write_value};
 
 /// The status after the module was printed.
 pub(crate) const PRINTED: u32 = 0;

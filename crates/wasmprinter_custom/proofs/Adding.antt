@@ -20,12 +20,12 @@ use Rattle.wasmprinter_spec.specs.Grammar.{some_is}
 use Rattle.wasmprinter_spec.specs.LabelNames.{label_content, label_named}
 use Rattle.wasmprinter_spec.specs.Names.Section.{Entry, label_subsection}
 use Rattle.wasmprinter_spec.specs.Names.Content.{is_among, entry_name, last_name, is_in, entries_in}
-use Rattle.wasmprinter_custom.specs.Views.{given_cmp, place_cmp, content_or, stored_view, item_view, items_view, name_at}
+use Rattle.wasmprinter_custom.specs.Views.{given_cmp, key_cmp, content_or, stored_view, item_view, items_view, name_at}
 use Rattle.wasmprinter_custom.specs.Lookups.{Gains, stored_at}
 use Rattle.wasmprinter_custom.specs.Labels.{AreOfLabels}
 use Rattle.wasmprinter_custom.specs.Holds.{names_given, Holds}
 use Rattle.wasmprinter_custom.specs.declared.store.Given.{Given}
-use Rattle.wasmprinter_custom.specs.declared.store.Place.{Place}
+use Rattle.wasmprinter_custom.specs.declared.store.Key.{Key}
 use Rattle.wasmprinter_custom.specs.declared.store.StoredName.{StoredName}
 use Rattle.wasmprinter_custom.specs.declared.store.NamesBuilder.{NamesBuilder}
 
@@ -47,8 +47,8 @@ eq_then3 a b c x y z p q r = eq_then a (ordering_then b c) ∙ ap (λ t. is_eq a
     assoc true v w = refl
     assoc false v w = refl
 
-pub same_place : (p q : Place) → is_at (place_cmp p) q ≡ ((nat_eq p.subsection q.subsection && nat_eq p.outer q.outer) && nat_eq p.index q.index)
-same_place p q =
+pub same_key : (p q : Key) → is_at (key_cmp p) q ≡ ((nat_eq p.subsection q.subsection && nat_eq p.outer q.outer) && nat_eq p.index q.index)
+same_key p q =
     eq_then3 (nat_cmp p.subsection q.subsection) (nat_cmp p.outer q.outer) (nat_cmp p.index q.index) _ _ _
     (eq_cmp p.subsection q.subsection) (eq_cmp p.outer q.outer) (eq_cmp p.index q.index)
 
@@ -69,16 +69,16 @@ and_right : (a b : Bool) → (a && b) ≡ true → b ≡ true
 and_right true b e = e
 and_right false b e = absurd (true≢false (sym e))
 
--- The name that the list has at a place is the name that its items have there.
+-- The name that the list has for a key is the name that its items have there.
 at_by : (b : Bool) (x : Named) (o r : Option Named) → o ≡ r → (if b then Some x else o) ≡ (if b then Some x else r)
 at_by true x o r e = refl
 at_by false x o r e = e
 
-pub name_at-lookup : (es : List (Place × StoredName)) (p : Place) → option_map stored_view (lookup (is_at (place_cmp p)) es) ≡ name_at (map item_view es) p.subsection p.outer p.index
+pub name_at-lookup : (es : List (Key × StoredName)) (p : Key) → option_map stored_view (lookup (is_at (key_cmp p)) es) ≡ name_at (map item_view es) p.subsection p.outer p.index
 name_at-lookup [] p = refl
 name_at-lookup (e ∷ es) p =
-    map_if stored_view (is_at (place_cmp p) e.0) e.1 (lookup (is_at (place_cmp p)) es)
-    ∙ ap (λ (t : Bool). if t then Some (stored_view e.1) else option_map stored_view (lookup (is_at (place_cmp p)) es)) (same_place p e.0 ∙ flip)
+    map_if stored_view (is_at (key_cmp p) e.0) e.1 (lookup (is_at (key_cmp p)) es)
+    ∙ ap (λ (t : Bool). if t then Some (stored_view e.1) else option_map stored_view (lookup (is_at (key_cmp p)) es)) (same_key p e.0 ∙ flip)
     ∙ at_by _ (stored_view e.1) _ _ (name_at-lookup es p)
   where
     eq_flip : (a b : ℕ) → nat_eq a b ≡ nat_eq b a
@@ -89,24 +89,24 @@ name_at-lookup (e ∷ es) p =
     flip = rw (eq_flip p.subsection e.0.subsection, eq_flip p.outer e.0.outer, eq_flip p.index e.0.index) refl
 
 -- The names of the items after an insertion.
-name_after : (a b : List (Place × StoredName)) (p q : Place) (x : StoredName) → Gains a b p x
-    → name_at (items_view b) q.subsection q.outer q.index ≡ (if is_at (place_cmp p) q then Some (stored_view x) else name_at (items_view a) q.subsection q.outer q.index)
+name_after : (a b : List (Key × StoredName)) (p q : Key) (x : StoredName) → Gains a b p x
+    → name_at (items_view b) q.subsection q.outer q.index ≡ (if is_at (key_cmp p) q then Some (stored_view x) else name_at (items_view a) q.subsection q.outer q.index)
 name_after a b p q x names =
-    sym (name_at-lookup b q) ∙ ap (λ (r : Option StoredName). option_map stored_view r) (names q) ∙ map_if stored_view (is_at (place_cmp p) q) x (stored_at a q)
-    ∙ ap (λ (r : Option Named). if is_at (place_cmp p) q then Some (stored_view x) else r) (name_at-lookup a q)
+    sym (name_at-lookup b q) ∙ ap (λ (r : Option StoredName). option_map stored_view r) (names q) ∙ map_if stored_view (is_at (key_cmp p) q) x (stored_at a q)
+    ∙ ap (λ (r : Option Named). if is_at (key_cmp p) q then Some (stored_view x) else r) (name_at-lookup a q)
 
 -- An insertion keeps the property that the identifiers of labels consist of their names and numbers.
-stays_of_labels : (a b : List (Place × StoredName)) (p : Place) (x : StoredName) → Gains a b p x
+stays_of_labels : (a b : List (Key × StoredName)) (p : Key) (x : StoredName) → Gains a b p x
     → (p.subsection ≡ label_subsection → content_or x.marked x.given.now ≡ label_content p.index x.given.now)
     → AreOfLabels (items_view a) → AreOfLabels (items_view b)
-stays_of_labels a b p x names content old f n y e synthesizes d = by (is_at (place_cmp p) q) refl (sym (name_after a b p q x names) ∙ e)
+stays_of_labels a b p x names content old f n y e synthesizes d = by (is_at (key_cmp p) q) refl (sym (name_after a b p q x names) ∙ e)
   where
-    q : Place
+    q : Key
     q = record { subsection = label_subsection; outer = f; index = n }
 
-    by : (hit : Bool) → is_at (place_cmp p) q ≡ hit → (if hit then Some (stored_view x) else name_at (items_view a) label_subsection f n) ≡ Some y → label_named synthesizes n d y.given ≡ Some y
+    by : (hit : Bool) → is_at (key_cmp p) q ≡ hit → (if hit then Some (stored_view x) else name_at (items_view a) label_subsection f n) ≡ Some y → label_named synthesizes n d y.given ≡ Some y
     by true t h =
-        let same = sym (same_place p q) ∙ t in
+        let same = sym (same_key p q) ∙ t in
         let s : p.subsection ≡ label_subsection = eqb-true p.subsection label_subsection (and_left (nat_eq p.subsection label_subsection) (nat_eq p.outer f) (and_left _ (nat_eq p.index n) same)) in
         let i : p.index ≡ n = eqb-true p.index n (and_right (nat_eq p.subsection label_subsection && nat_eq p.outer f) (nat_eq p.index n) same) in
         subst (λ (z : Named). label_named synthesizes n d z.given ≡ Some z) (some_is (stored_view x) y h)
@@ -114,21 +114,21 @@ stays_of_labels a b p x names content old f n y e synthesizes d = by (is_at (pla
     by false t h = old f n y h synthesizes d
 
 -- The same if the insertion may fail.
-pub keeps_of_labels : {X E : Type 0} (r : Result X E) (a b : List (Place × StoredName)) (p : Place) (x : StoredName) → OnOk r (Gains a b p x) → OnErr r (b ≡ a)
+pub keeps_of_labels : {X E : Type 0} (r : Result X E) (a b : List (Key × StoredName)) (p : Key) (x : StoredName) → OnOk r (Gains a b p x) → OnErr r (b ≡ a)
     → (p.subsection ≡ label_subsection → content_or x.marked x.given.now ≡ label_content p.index x.given.now)
     → AreOfLabels (items_view a) → AreOfLabels (items_view b)
 keeps_of_labels (Ok r) a b p x names same content old = stays_of_labels a b p x names content old
-keeps_of_labels (Err e) a b p x names same content old = subst (λ (es : List (Place × StoredName)). AreOfLabels (items_view es)) (sym same) old
+keeps_of_labels (Err e) a b p x names same content old = subst (λ (es : List (Key × StoredName)). AreOfLabels (items_view es)) (sym same) old
 
--- Two lists with the same name at each place have items with the same names.
-pub same_name_at : (a b : List (Place × StoredName)) → ((q : Place) → stored_at b q ≡ stored_at a q) → (s outer index : ℕ)
+-- Two lists with the same name for each key have items with the same names.
+pub same_name_at : (a b : List (Key × StoredName)) → ((q : Key) → stored_at b q ≡ stored_at a q) → (s outer index : ℕ)
     → name_at (items_view b) s outer index ≡ name_at (items_view a) s outer index
 same_name_at a b same s outer index = sym (name_at-lookup b q) ∙ ap (λ (r : Option StoredName). option_map stored_view r) (same q) ∙ name_at-lookup a q
   where
-    q : Place
+    q : Key
     q = record { subsection = s; outer = outer; index = index }
 
-pub same_of_labels : (a b : List (Place × StoredName)) → ((q : Place) → stored_at b q ≡ stored_at a q) → AreOfLabels (items_view a) → AreOfLabels (items_view b)
+pub same_of_labels : (a b : List (Key × StoredName)) → ((q : Key) → stored_at b q ≡ stored_at a q) → AreOfLabels (items_view a) → AreOfLabels (items_view b)
 same_of_labels a b same old f n x e = old f n x (sym (same_name_at a b same label_subsection f n) ∙ e)
 
 or_if : (b c : Bool) → (if b then true else c) ≡ (b || c)
@@ -181,7 +181,7 @@ same_space entries e s outer h =
 
 -- ---- One more entry in the store
 
-pub Holds-entry : (entries : List Entry) (a b : NamesBuilder) (e : Entry) (g : Given) (p : Place) (x : StoredName)
+pub Holds-entry : (entries : List Entry) (a b : NamesBuilder) (e : Entry) (g : Given) (p : Key) (x : StoredName)
     → (g.subsection ≡ e.subsection) × (g.outer ≡ e.outer) × (g.name.now ≡ e.name) → (p.subsection ≡ e.subsection) × (p.outer ≡ e.outer) × (p.index ≡ e.index)
     → set.Updates given_cmp a.given b.given g true → Gains a.names b.names p x
     → stored_view x ≡ entry_name e.subsection (names_given [] (entries_in e.subsection e.outer entries)) e
@@ -196,10 +196,10 @@ Holds-entry entries a b e g p x gs ps given names is h = record {
       ∙ among_by (entries_in q.subsection q.outer entries) e q.name.now (is_in q.subsection q.outer e)
       ∙ ap (λ (l : List Entry). is_among q.name.now (names_given [] l)) (sym (in_more q.subsection q.outer entries e));
   names = λ s o i.
-      let q : Place = record { subsection = s; outer = o; index = i } in
-      sym (name_at-lookup b.names q) ∙ ap (λ (r : Option StoredName). option_map stored_view r) (names q) ∙ map_if stored_view (is_at (place_cmp p) q) x (stored_at a.names q)
+      let q : Key = record { subsection = s; outer = o; index = i } in
+      sym (name_at-lookup b.names q) ∙ ap (λ (r : Option StoredName). option_map stored_view r) (names q) ∙ map_if stored_view (is_at (key_cmp p) q) x (stored_at a.names q)
       ∙ ap (λ (t : Bool). if t then Some (stored_view x) else option_map stored_view (stored_at a.names q))
-      (same_place p q ∙ ap (λ (k : ℕ). (nat_eq k s && nat_eq p.outer o) && nat_eq p.index i) ps.0
+      (same_key p q ∙ ap (λ (k : ℕ). (nat_eq k s && nat_eq p.outer o) && nat_eq p.index i) ps.0
       ∙ ap (λ (k : ℕ). (nat_eq e.subsection s && nat_eq k o) && nat_eq p.index i) ps.1 ∙ ap (λ (k : ℕ). (nat_eq e.subsection s && nat_eq e.outer o) && nat_eq k i) ps.2)
       ∙ ap (λ (r : Option Named). if is_in s o e && nat_eq e.index i then Some (stored_view x) else r) (name_at-lookup a.names q ∙ h.names s o i)
       ∙ name_by s (entries_in s o entries) e i (stored_view x) (is_in s o e) (λ t. is ∙ same_space entries e s o t)

@@ -1,7 +1,7 @@
 -- The words of flags and the remaining bits, as `flags_by` lays them out.
 use Rattle.std.specs.Prelude.{ℕ, ◌-◌, List, [], ◌∷◌, if◌then◌else◌}
 use Rattle.wasmprinter_spec.specs.Layout.Customs.{has_flag}
-use Rattle.wasmprinter_custom.specs.declared.flags.SymbolFlags.{SymbolFlags}
+use Rattle.wasmprinter_custom.specs.declared.symbol_flags.SymbolFlags.{SymbolFlags}
 
 -- The number whose bits are the flags.
 abbrev pub bits_of : SymbolFlags → ℕ

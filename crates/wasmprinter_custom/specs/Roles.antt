@@ -1,13 +1,13 @@
--- The role of a custom section that the program's value represents.
+-- The treatment of a custom section that the program's value represents.
 use Rattle.wasmprinter_spec.specs.Customs as d
-use Rattle.wasmprinter_custom.specs.declared.role.CustomRole.{CustomRole}
-use Rattle.wasmprinter_custom.specs.declared.role.CustomRole.TheVariants as r
+use Rattle.wasmprinter_custom.specs.declared.treatment.CustomTreatment.{CustomTreatment}
+use Rattle.wasmprinter_custom.specs.declared.treatment.CustomTreatment.TheVariants as r
 
--- The role that the program's value represents.
-abbrev pub role_view : CustomRole → d.CustomRole
-role_view r.Silent = d.Silent
-role_view (r.Producers fields) = d.Listed fields
-role_view (r.Dylink subsections) = d.Linked subsections
-role_view (r.Refused id) = d.Refused id
-role_view r.Raw = d.Raw
-role_view r.Malformed = d.Malformed
+-- The treatment that the program's value represents.
+abbrev pub treatment_view : CustomTreatment → d.CustomTreatment
+treatment_view r.Silent = d.Silent
+treatment_view (r.Producers fields) = d.ProducersFields fields
+treatment_view (r.Dylink subsections) = d.DylinkSubsections subsections
+treatment_view (r.Refused id) = d.Refused id
+treatment_view r.Raw = d.Raw
+treatment_view r.Malformed = d.Malformed

@@ -7,7 +7,7 @@ use Rattle.std.specs.Cmp.Lexicographic.{slice_cmp}
 use Rattle.std.specs.String.{string_bytes}
 use Rattle.wasmprinter_spec.specs.Labels.{Named}
 use Rattle.wasmprinter_custom.specs.declared.store.Given.{Given}
-use Rattle.wasmprinter_custom.specs.declared.store.Place.{Place}
+use Rattle.wasmprinter_custom.specs.declared.store.Key.{Key}
 use Rattle.wasmprinter_custom.specs.declared.store.Name.{Name}
 use Rattle.wasmprinter_custom.specs.declared.store.StoredName.{StoredName}
 
@@ -17,8 +17,8 @@ given_cmp a b =
     ordering_then (nat_cmp a.subsection b.subsection) (ordering_then (nat_cmp a.outer b.outer) (slice_cmp nat_cmp a.name.now b.name.now))
 
 -- The order of items: by the subsection, then by the function or type, then by the index.
-abbrev pub place_cmp : Place → Place → Ordering
-place_cmp a b = ordering_then (nat_cmp a.subsection b.subsection) (ordering_then (nat_cmp a.outer b.outer) (nat_cmp a.index b.index))
+abbrev pub key_cmp : Key → Key → Ordering
+key_cmp a b = ordering_then (nat_cmp a.subsection b.subsection) (ordering_then (nat_cmp a.outer b.outer) (nat_cmp a.index b.index))
 
 -- The text if there is one, and otherwise the name.
 abbrev pub content_or : {Z : Type 0} → Option (String Z) → List ℕ → List ℕ
@@ -41,10 +41,10 @@ pub record NamedItem : Type 0 where
   pub name : Named
 
 -- The named item that an entry of the store represents. `items_view` gives those of all entries.
-abbrev pub item_view : Place × StoredName → NamedItem
+abbrev pub item_view : Key × StoredName → NamedItem
 item_view e = record { subsection = e.0.subsection; outer = e.0.outer; index = e.0.index; name = stored_view e.1 }
 
-abbrev pub items_view : List (Place × StoredName) → List NamedItem
+abbrev pub items_view : List (Key × StoredName) → List NamedItem
 items_view names = map item_view names
 
 -- The name of an item.

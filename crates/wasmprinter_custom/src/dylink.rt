@@ -9,8 +9,8 @@ ghost use Rattle.wasmprinter_custom.specs.Flags.{bits_of};
 ghost use Rattle.wasmprinter_custom.specs.Judgements.{found_view, HasKnownId, judgement_view};
 
 use crate::dylink_names::DylinkNames;
-use crate::flags::SymbolFlags;
-use crate::items::{ItemsIn, ReadFrom};
+use crate::encoded_lists::{ItemsIn, ReadFrom};
+use crate::symbol_flags::SymbolFlags;
 use bitflags::Flags;
 use std::marker::Model;
 use wasmprinter_bytes::Malformed;

@@ -6,7 +6,7 @@ ghost use Rattle.wasmprinter_spec.specs.Customs.Hints.{next_hints, hints_after, 
 ghost use Rattle.wasmprinter_spec.specs.FirstByte.{only};
 ghost use Rattle.wasmprinter_bytes.specs.Reads.{Decodes};
 
-use crate::items::{ItemsIn, ReadFrom};
+use crate::encoded_lists::{ItemsIn, ReadFrom};
 use std::marker::Model;
 use wasmprinter_bytes::Malformed;
 use wasmprinter_bytes::bytes::Cursor;

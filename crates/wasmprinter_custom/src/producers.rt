@@ -2,10 +2,10 @@
 //! and versions of its values.
 ghost use Rattle.std.specs.Prelude.{◌≡◌};
 ghost use Rattle.wasmprinter_spec.specs.Grammar.{value_with_place};
-ghost use Rattle.wasmprinter_spec.specs.Customs.Producers.{value as value_grammar, field as field_grammar, producers, are_runs};
+ghost use Rattle.wasmprinter_spec.specs.Customs.Producers.{value as value_grammar, field as field_grammar, producers, have_id_names};
 
-use crate::items::{ItemsIn, ReadFrom};
-use crate::runs::is_id;
+use crate::encoded_lists::{ItemsIn, ReadFrom};
+use crate::identifier_chars::is_id;
 use std::marker::Model;
 use wasmprinter_bytes::Malformed;
 use wasmprinter_bytes::bytes::Cursor;
@@ -128,8 +128,8 @@ pub(crate) fn read_producers<'a>(section: Cursor<'a>) -> Option<Producers<'a>>
 }
 
 /// Reports whether the name of each field can be the first word of a group.
-pub(crate) fn are_runs(fields: Producers) -> bool
-    ensures { result ≡ are_runs fields.entry }
+pub(crate) fn have_id_names(fields: Producers) -> bool
+    ensures { result ≡ have_id_names fields.entry }
 {
     for field in fields {
         if !is_id(field.name()) {

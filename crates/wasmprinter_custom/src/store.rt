@@ -10,8 +10,8 @@ ghost use Rattle.wasmprinter_custom.specs.Lookups.{Ascends, AreMarked};
 ghost use Rattle.wasmprinter_custom.specs.Labels.{labels_in, Ascend, AreOfLabels};
 ghost use Rattle.wasmprinter_custom.specs.LabelViews.{label_view};
 
-use crate::guesses::Guesses;
-use crate::marks::{SUBSECTIONS, marks_of};
+use crate::likely_positions::Guesses;
+use crate::named_subsections::{SUBSECTIONS, marks_of};
 use crate::ordered::NamesInOrder;
 use crate::search::find;
 use crate::space::Space;
@@ -51,9 +51,9 @@ pub struct Given<'a> {
     name: &'a str,
 }
 
-/// An item of an index space.
+/// The key of a name: an item of an index space.
 #[derive(Clone, Copy, PartialEq, Eq, PartialOrd, Ord)]
-pub struct Place {
+pub struct Key {
     /// The id of the subsection that names items of the space.
     pub(crate) subsection: u8,
     /// The function of a local or a label, the type of a field, and 0 for all other items.
@@ -156,7 +156,7 @@ impl<'a> NamesBuilder<'a> {
             name,
         })?;
         let marked = marked_content(alloc, subsection, index, name, is_new)?;
-        let place = Place {
+        let key = Key {
             subsection,
             outer,
             index,
@@ -165,7 +165,7 @@ impl<'a> NamesBuilder<'a> {
             given: name,
             marked,
         };
-        self.names.insert(place, stored)?;
+        self.names.insert(key, stored)?;
         Ok(())
     }
 
@@ -195,8 +195,8 @@ impl<'a> NamesBuilder<'a> {
 /// The names of a module, which borrow from its bytes.
 #[derive(Drop)]
 pub struct Names<'a> {
-    /// The items that have names, in ascending order of their places.
-    entries: Vec<(Place, StoredName<'a>)>,
+    /// The items that have names, in ascending order of their keys.
+    entries: Vec<(Key, StoredName<'a>)>,
     /// The likely positions of items in the list.
     guesses: Guesses,
     /// For each subsection, by its id, whether one of the items belongs to it.
@@ -212,25 +212,25 @@ impl<'a> Model for Names<'a> {
 }
 
 impl Names<'_> {
-    /// Returns the name at a place. Returns at once if its subsection gives no names: each use of a local looks its
+    /// Returns the name of a key. Returns at once if its subsection gives no names: each use of a local looks its
     /// name up, and many modules name only functions.
     #[inline]
-    fn get(&self, place: Place) -> Option<Name<'_>>
-        ensures { option_map name_view result ≡ name_at self.now place.subsection place.outer place.index }
+    fn get(&self, key: Key) -> Option<Name<'_>>
+        ensures { option_map name_view result ≡ name_at self.now key.subsection key.outer key.index }
     {
-        if !self.named[usize::from(place.subsection)] {
+        if !self.named[usize::from(key.subsection)] {
             return None;
         }
-        self.look_up(place)
+        self.look_up(key)
     }
 
-    /// Searches for the name at a place.
+    /// Searches for the name of a key.
     #[inline(never)]
-    fn look_up(&self, place: Place) -> Option<Name<'_>>
-        ensures { option_map name_view result ≡ name_at self.now place.subsection place.outer place.index }
+    fn look_up(&self, key: Key) -> Option<Name<'_>>
+        ensures { option_map name_view result ≡ name_at self.now key.subsection key.outer key.index }
     {
-        let likely = self.guesses.likely(&self.entries, place);
-        find(&self.entries, likely, place).map(|stored| stored.name())
+        let likely = self.guesses.likely(&self.entries, key);
+        find(&self.entries, likely, key).map(|stored| stored.name())
     }
 
     /// Returns the identifier of an item, without its dollar sign, or `None` if the item has no name. `outer` is the
@@ -271,7 +271,7 @@ impl NameEntries for Names<'_> {
     fn name(&self, space: Space, outer: u64, index: u64) -> Option<Name<'_>>
         ensures { option_map name_view result ≡ name_at self.now (id_of space) (outer_of space outer) index }
     {
-        self.get(Place {
+        self.get(Key {
             subsection: space.subsection(),
             outer: if space.is_indirect() { outer } else { 0 },
             index,
@@ -285,11 +285,11 @@ impl NameEntries for Names<'_> {
         ensures needed { labels_in self.now ≡ [] → IsOk result }
     {
         let mut labels = Vec::new(alloc);
-        for (place, stored) in &self.entries {
-            if place.subsection == subsection::LABEL {
+        for (key, stored) in &self.entries {
+            if key.subsection == subsection::LABEL {
                 labels.push(LabelName {
-                    function: place.outer,
-                    number: place.index,
+                    function: key.outer,
+                    number: key.index,
                     name: stored.name(),
                 })?;
             }
@@ -300,7 +300,7 @@ impl NameEntries for Names<'_> {
     fn module_name(&self) -> Option<Name<'_>>
         ensures { option_map name_view result ≡ name_at self.now module_subsection 0 0 }
     {
-        self.get(Place {
+        self.get(Key {
             subsection: subsection::MODULE,
             outer: 0,
             index: 0,

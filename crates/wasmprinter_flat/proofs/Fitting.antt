@@ -9,7 +9,7 @@ use Rattle.wasmprinter_spec.specs.Types.{RefType, ValType}
 use Rattle.wasmprinter_spec.specs.Operator.{Opcode, BlockType, Catch, Immediates, NoImmediates, Block, TryTable, BranchTable, Types, Cast, Lane, I32, I64, F32, F64}
 use Rattle.wasmprinter_spec.specs.Table.{by_opcode, shape_of_row, shape_of}
 use Rattle.wasmprinter_spec.specs.Labels.{Label}
-use Rattle.wasmprinter_spec.specs.Piece.{Gap, Constant, Float}
+use Rattle.wasmprinter_spec.specs.Piece.{OneSpace, Constant, Float}
 use Rattle.wasmprinter_spec.specs.Layout.Identifiers.{leading_id_and_name_pieces}
 use Rattle.wasmprinter_spec.specs.Layout.ValTypes.{ref_pieces}
 use Rattle.wasmprinter_spec.specs.Layout.Operators.{Setting, block_pieces, ending_pieces, catches_pieces, label_pieces, labels_pieces, select_pieces, lane_pieces, immediate_pieces}
@@ -47,7 +47,7 @@ module _ (s : Setting) (inner xs : List Label) (own : Label) where
   select-out _ ts h = absurd cc
 
   pub cast-out : (shape : Shape) (l : ℕ) (r t : RefType) → HasShape shape (Cast l r t) →
-      immediate_pieces s inner xs own shape (Cast l r t) ≡ label_pieces inner xs l ++ (Gap ∷ (ref_pieces s.names r ++ (Gap ∷ ref_pieces s.names t)))
+      immediate_pieces s inner xs own shape (Cast l r t) ≡ label_pieces inner xs l ++ (OneSpace ∷ (ref_pieces s.names r ++ (OneSpace ∷ ref_pieces s.names t)))
   unfolding immediate_pieces
   cast-out CastShape l r t h = refl
   cast-out _ l r t h = absurd cc
@@ -67,12 +67,12 @@ module _ (s : Setting) (inner xs : List Label) (own : Label) where
   i64-out I64Shape z h = refl
   i64-out _ z h = absurd cc
 
-  pub f32-out : (shape : Shape) (bits : ℕ) → HasShape shape (F32 bits) → immediate_pieces s inner xs own shape (F32 bits) ≡ Gap ∷ (Float single bits ∷ [])
+  pub f32-out : (shape : Shape) (bits : ℕ) → HasShape shape (F32 bits) → immediate_pieces s inner xs own shape (F32 bits) ≡ OneSpace ∷ (Float single bits ∷ [])
   unfolding immediate_pieces
   f32-out F32Shape bits h = refl
   f32-out _ bits h = absurd cc
 
-  pub f64-out : (shape : Shape) (bits : ℕ) → HasShape shape (F64 bits) → immediate_pieces s inner xs own shape (F64 bits) ≡ Gap ∷ (Float double bits ∷ [])
+  pub f64-out : (shape : Shape) (bits : ℕ) → HasShape shape (F64 bits) → immediate_pieces s inner xs own shape (F64 bits) ≡ OneSpace ∷ (Float double bits ∷ [])
   unfolding immediate_pieces
   f64-out F64Shape bits h = refl
   f64-out _ bits h = absurd cc

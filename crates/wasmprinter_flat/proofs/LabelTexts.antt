@@ -2,7 +2,7 @@
 use Rattle.std.specs.Prelude.{◌≡◌, ℕ, List, [], ◌∷◌, ◌++◌, Bool, true, false, ◌||◌, codes, decimal, length, Some, None}
 use Rattle.std.proofs.Common.{refl, ap}
 use Rattle.wasmprinter_spec.specs.Labels.{Label, Named, is_hidden, Target, Around, Own, Nothing, target}
-use Rattle.wasmprinter_spec.specs.Piece.{Piece, Gap, Word, Number, BlockComment}
+use Rattle.wasmprinter_spec.specs.Piece.{Piece, OneSpace, Word, Number, BlockComment}
 use Rattle.wasmprinter_spec.specs.Layout.Operators.{label_name_pieces, named_pieces, target_pieces, label_pieces, labels_pieces}
 use Rattle.wasmprinter_flat.specs.OpenLabels.Found.{Found, ByName, ByNumber, ToBlock, ToNothing, found_named, found_by, found_among}
 
@@ -25,9 +25,9 @@ target-out inner d l Own = refl
 target-out inner d l Nothing = refl
 
 -- The pieces of a label are a space and the pieces of its meaning.
-pub label-out : (inner xs : List Label) (l : ℕ) → label_pieces inner xs l ≡ Gap ∷ found_pieces l (found_among inner xs l)
+pub label-out : (inner xs : List Label) (l : ℕ) → label_pieces inner xs l ≡ OneSpace ∷ found_pieces l (found_among inner xs l)
 unfolding label_pieces
-label-out inner xs l = ap (λ ps. Gap ∷ ps) (target-out inner (length xs) l (target l xs))
+label-out inner xs l = ap (λ ps. OneSpace ∷ ps) (target-out inner (length xs) l (target l xs))
 
 -- ---- Several labels
 

@@ -1,7 +1,7 @@
 //! The immediates of operators that open a block (section 6.5 of the WebAssembly Core Specification, "Control
 //! Instructions"): the block type, catch clauses, and the comment of the label.
 ghost use Rattle.std.specs.Prelude.{◌∷◌, ◌++◌, None, option_map};
-ghost use Rattle.wasmprinter_spec.specs.Piece.{Gap};
+ghost use Rattle.wasmprinter_spec.specs.Piece.{OneSpace};
 ghost use Rattle.wasmprinter_spec.specs.Row as row;
 ghost use Rattle.wasmprinter_spec.specs.Layout.Groups.{line_group};
 ghost use Rattle.wasmprinter_spec.specs.Layout.Operators.{named_index, label_pieces, ending_pieces, block_pieces};
@@ -85,7 +85,7 @@ fn write_tag_and_label<O: Output, S: Signatures>(
     label: u32,
 )
     ensures { O.wrote out.old out.new
-        (Gap ∷ (named_index (setting_in S.signature_at context.now) row.Tag tag
+        (OneSpace ∷ (named_index (setting_in S.signature_at context.now) row.Tag tag
         ++ label_pieces (labels_within context.now) (labels_around context.now) label)) }
 {
     write_operand(out, context, Space::Tag, tag);
@@ -102,7 +102,7 @@ fn write_tagged<O: Output, S: Signatures>(
     label: u32,
 )
     ensures { O.wrote out.old out.new
-        (line_group keyword.now (Gap ∷ (named_index (setting_in S.signature_at context.now) row.Tag tag
+        (line_group keyword.now (OneSpace ∷ (named_index (setting_in S.signature_at context.now) row.Tag tag
         ++ label_pieces (labels_within context.now) (labels_around context.now) label))) }
 {
     open_group(out, keyword);
@@ -151,7 +151,7 @@ fn write_clause<O: Output, S: Signatures>(
     clause: Catch,
 )
     ensures { O.wrote out.old out.new
-        (Gap ∷ catch_pieces_in S.signature_at context.now (catch_view clause)) }
+        (OneSpace ∷ catch_pieces_in S.signature_at context.now (catch_view clause)) }
 {
     write_space(out);
     write_catch(out, context, clause);

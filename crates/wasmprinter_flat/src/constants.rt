@@ -1,7 +1,7 @@
 //! Float immediates, by their bits (section 6.5 of the WebAssembly Core Specification, "Numeric Instructions").
 ghost use Rattle.std.specs.Prelude.{[], ◌∷◌};
 ghost use Rattle.wasmprinter_spec.specs.Float.{single, double};
-ghost use Rattle.wasmprinter_spec.specs.Piece.{Gap, Float};
+ghost use Rattle.wasmprinter_spec.specs.Piece.{OneSpace, Float};
 
 use wasmprinter_print::Output;
 use wasmprinter_text::floats::{write_double, write_single};
@@ -9,7 +9,7 @@ use wasmprinter_text::words::write_space;
 
 /// Writes a space and a 32-bit float.
 pub(crate) fn write_f32<O: Output>(out: &mut O, bits: u32)
-    ensures { O.wrote out.old out.new (Gap ∷ (Float single bits ∷ [])) }
+    ensures { O.wrote out.old out.new (OneSpace ∷ (Float single bits ∷ [])) }
 {
     write_space(out);
     write_single(out, bits);
@@ -17,7 +17,7 @@ pub(crate) fn write_f32<O: Output>(out: &mut O, bits: u32)
 
 /// Writes a space and a 64-bit float.
 pub(crate) fn write_f64<O: Output>(out: &mut O, bits: u64)
-    ensures { O.wrote out.old out.new (Gap ∷ (Float double bits ∷ [])) }
+    ensures { O.wrote out.old out.new (OneSpace ∷ (Float double bits ∷ [])) }
 {
     write_space(out);
     write_double(out, bits);

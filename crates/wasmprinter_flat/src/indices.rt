@@ -1,8 +1,8 @@
 //! Index immediates (section 6.5 of the WebAssembly Core Specification), each with a space before it.
 ghost use Rattle.std.specs.Prelude.{[], ◌∷◌, ◌++◌, codes, cond, ◌&&◌, ◌==◌};
-ghost use Rattle.wasmprinter_spec.specs.Piece.{Gap};
+ghost use Rattle.wasmprinter_spec.specs.Piece.{OneSpace};
 ghost use Rattle.wasmprinter_spec.specs.Row as row;
-ghost use Rattle.wasmprinter_spec.specs.Layout.Groups.{line_group_gap};
+ghost use Rattle.wasmprinter_spec.specs.Layout.Groups.{line_group_space};
 ghost use Rattle.wasmprinter_spec.specs.Layout.Identifiers.{index_pieces};
 ghost use Rattle.wasmprinter_spec.specs.Layout.Operators.{named_index, default_index_pieces, two_index_pieces};
 ghost use Rattle.wasmprinter_spec.specs.Layout.Operators.{type_and_field_pieces, lane_pieces};
@@ -26,7 +26,7 @@ pub(crate) fn write_operand<O: Output, S: Signatures>(
     index: u32,
 )
     ensures { O.wrote out.old out.new
-        (Gap ∷ named_index (setting_in S.signature_at context.now) (space_view space) index) }
+        (OneSpace ∷ named_index (setting_in S.signature_at context.now) (space_view space) index) }
 {
     write_space(out);
     write_index(out, context.identifier(space, index), u64::from(index));
@@ -71,7 +71,7 @@ fn write_field_index<O: Output, S: Signatures>(
     field: u32,
 )
     ensures { O.wrote out.old out.new
-        (Gap ∷ index_pieces ((names_in context.now).fields type_index field) field) }
+        (OneSpace ∷ index_pieces ((names_in context.now).fields type_index field) field) }
 {
     write_space(out);
     write_index(out, context.field(type_index, field), u64::from(field));
@@ -108,7 +108,7 @@ pub(crate) fn write_index_and_count<O: Output, S: Signatures>(
     count: u32,
 )
     ensures { O.wrote out.old out.new
-        (Gap ∷ (named_index (setting_in S.signature_at context.now) row.Types index ++ lane_pieces count)) }
+        (OneSpace ∷ (named_index (setting_in S.signature_at context.now) row.Types index ++ lane_pieces count)) }
 {
     write_operand(out, context, Space::Types, index);
     write_count(out, count);
@@ -123,7 +123,7 @@ pub(crate) fn write_call<O: Output, S: Signatures>(
 )
     ensures { O.wrote out.old out.new
         (default_index_pieces (setting_in S.signature_at context.now) row.Table table
-        ++ (Gap ∷ line_group_gap (codes "type") (type_index_pieces (names_in context.now) type_index))) }
+        ++ (OneSpace ∷ line_group_space (codes "type") (type_index_pieces (names_in context.now) type_index))) }
 {
     write_default_index(out, context, Space::Table, table);
     write_type_index(out, &context.identifiers(), type_index);
@@ -140,7 +140,7 @@ pub(crate) fn write_segment<O: Output, S: Signatures>(
 )
     ensures { O.wrote out.old out.new
         (default_index_pieces (setting_in S.signature_at context.now) (space_view spaces.1) target
-        ++ (Gap ∷ named_index (setting_in S.signature_at context.now) (space_view spaces.0) segment)) }
+        ++ (OneSpace ∷ named_index (setting_in S.signature_at context.now) (space_view spaces.0) segment)) }
 {
     write_default_index(out, context, spaces.1, target);
     write_operand(out, context, spaces.0, segment);

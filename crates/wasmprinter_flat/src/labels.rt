@@ -1,7 +1,7 @@
 //! Labels (section 6.5 of the WebAssembly Core Specification, "Labels"), each with a space before it: an
 //! identifier, or an index that counts the enclosing blocks from the innermost outward.
 ghost use Rattle.std.specs.Prelude.{[], ◌∷◌, ◌++◌, codes, decimal, true, false};
-ghost use Rattle.wasmprinter_spec.specs.Piece.{Gap, Word, Number, BlockComment};
+ghost use Rattle.wasmprinter_spec.specs.Piece.{OneSpace, Word, Number, BlockComment};
 ghost use Rattle.wasmprinter_spec.specs.Layout.Operators.{label_name_pieces, label_pieces, labels_pieces};
 ghost use Rattle.wasmprinter_custom.specs.Shown.{identifier_view};
 ghost use Rattle.wasmprinter_flat.specs.Contexts.{labels_around, labels_within};
@@ -23,7 +23,7 @@ use wasmprinter_text::words::write_space;
 /// the name differs from it. A synthesized identifier has the style of names.
 fn write_by_name<O: Output>(out: &mut O, identifier: Identifier<'_>, label: u32)
     ensures { O.wrote out.old out.new
-        (Gap ∷ label_name_pieces (identifier_view identifier.entry).given label (identifier_view identifier.entry)) }
+        (OneSpace ∷ label_name_pieces (identifier_view identifier.entry).given label (identifier_view identifier.entry)) }
 {
     write_space(out);
     match identifier {
@@ -35,7 +35,7 @@ fn write_by_name<O: Output>(out: &mut O, identifier: Identifier<'_>, label: u32)
 /// Writes the index of a label, with the number of its block in a comment.
 fn write_around<O: Output>(out: &mut O, label: u64, block: u64)
     ensures { O.wrote out.old out.new
-        (Gap ∷ (Number label ∷ (BlockComment true (codes "@" ++ decimal block) ∷ []))) }
+        (OneSpace ∷ (Number label ∷ (BlockComment true (codes "@" ++ decimal block) ∷ []))) }
 {
     write_space(out);
     write_number(out, label);
@@ -45,7 +45,7 @@ fn write_around<O: Output>(out: &mut O, label: u64, block: u64)
 /// Writes a number that does not refer to a label.
 fn write_invalid<O: Output>(out: &mut O, label: u64)
     ensures { O.wrote out.old out.new
-        (Gap ∷ (Word (decimal label) ∷ (BlockComment false (codes " INVALID ") ∷ []))) }
+        (OneSpace ∷ (Word (decimal label) ∷ (BlockComment false (codes " INVALID ") ∷ []))) }
 {
     write_space(out);
     write_number_word(out, label);

@@ -1,7 +1,7 @@
 //! Memory operands (section 6.5 of the WebAssembly Core Specification, "Memory Instructions"), with a space before
 //! each part.
 ghost use Rattle.std.specs.Prelude.{◌<◌, [], ◌∷◌, ◌++◌, decimal};
-ghost use Rattle.wasmprinter_spec.specs.Piece.{Gap, Word};
+ghost use Rattle.wasmprinter_spec.specs.Piece.{OneSpace, Word};
 ghost use Rattle.wasmprinter_spec.specs.Layout.Operators.{offset_pieces, align_pieces, mem_arg_pieces};
 ghost use Rattle.wasmprinter_flat.specs.Contexts.{setting_in};
 
@@ -16,7 +16,7 @@ use wasmprinter_text::words::write_space;
 
 /// Writes a space and a word that ends in a number.
 fn write_numbered<O: Output>(out: &mut O, word: &str, n: u64)
-    ensures { O.wrote out.old out.new (Gap ∷ (Word (word.now ++ decimal n) ∷ [])) }
+    ensures { O.wrote out.old out.new (OneSpace ∷ (Word (word.now ++ decimal n) ∷ [])) }
 {
     write_space(out);
     write_numbered_word(out, word, n);

@@ -1,7 +1,7 @@
 //! Type immediates (section 6.5 of the WebAssembly Core Specification), each with a space before it.
 ghost use Rattle.std.specs.Prelude.{◌≡◌, ◌∷◌, ◌++◌, codes};
-ghost use Rattle.wasmprinter_spec.specs.Piece.{Gap};
-ghost use Rattle.wasmprinter_spec.specs.Layout.Groups.{line_group_gap};
+ghost use Rattle.wasmprinter_spec.specs.Piece.{OneSpace};
+ghost use Rattle.wasmprinter_spec.specs.Layout.Groups.{line_group_space};
 ghost use Rattle.wasmprinter_spec.specs.Layout.Operators.{label_pieces, select_pieces};
 ghost use Rattle.wasmprinter_spec.specs.Layout.ValTypes.{heap_pieces, ref_pieces, val_pieces};
 ghost use Rattle.wasmprinter_spec.specs.Text.Items.{the_only};
@@ -21,14 +21,14 @@ use wasmprinter_text::types::{write_heap_type, write_ref_type, write_type_group,
 use wasmprinter_text::words::{open_group_space, write_close_paren, write_space};
 
 /// Writes one type as a result group.
-#[tactic(auto, unfolding(wasmprinter_spec::specs::Layout::Groups::line_group_gap))]
+#[tactic(auto, unfolding(wasmprinter_spec::specs::Layout::Groups::line_group_space))]
 pub(crate) fn write_result<O: Output>(
     out: &mut O,
     identifiers: &Identifiers<'_, '_>,
     value_type: ValType,
 )
     ensures { O.wrote out.old out.new
-        (Gap ∷ line_group_gap (codes "result") (val_pieces (names_of_identifiers identifiers.now) (type_view value_type))) }
+        (OneSpace ∷ line_group_space (codes "result") (val_pieces (names_of_identifiers identifiers.now) (type_view value_type))) }
 {
     write_space(out);
     open_group_space(out, "result");
@@ -65,7 +65,7 @@ pub(crate) fn write_select<O: Output>(
 /// Writes a heap type.
 pub(crate) fn write_heap<O: Output>(out: &mut O, identifiers: &Identifiers<'_, '_>, heap: HeapType)
     ensures { O.wrote out.old out.new
-        (Gap ∷ heap_pieces (names_of_identifiers identifiers.now) (heap_view heap)) }
+        (OneSpace ∷ heap_pieces (names_of_identifiers identifiers.now) (heap_view heap)) }
 {
     write_space(out);
     write_heap_type(out, identifiers, heap);
@@ -78,7 +78,7 @@ pub(crate) fn write_ref<O: Output>(
     ref_type: RefType,
 )
     ensures { O.wrote out.old out.new
-        (Gap ∷ ref_pieces (names_of_identifiers identifiers.now) (ref_view ref_type)) }
+        (OneSpace ∷ ref_pieces (names_of_identifiers identifiers.now) (ref_view ref_type)) }
 {
     write_space(out);
     write_ref_type(out, identifiers, ref_type);
@@ -92,8 +92,8 @@ fn write_refs<O: Output>(
     target: RefType,
 )
     ensures { O.wrote out.old out.new
-        (Gap ∷ (ref_pieces (names_of_identifiers identifiers.now) (ref_view source)
-        ++ (Gap ∷ ref_pieces (names_of_identifiers identifiers.now) (ref_view target)))) }
+        (OneSpace ∷ (ref_pieces (names_of_identifiers identifiers.now) (ref_view source)
+        ++ (OneSpace ∷ ref_pieces (names_of_identifiers identifiers.now) (ref_view target)))) }
 {
     write_ref(out, identifiers, source);
     write_ref(out, identifiers, target);
@@ -111,8 +111,8 @@ pub(crate) fn write_cast<O: Output, S: Signatures>(
 )
     ensures { O.wrote out.old out.new
         (label_pieces (labels_within context.now) (labels_around context.now) label
-        ++ (Gap ∷ (ref_pieces (names_in context.now) (source_type flags source)
-        ++ (Gap ∷ ref_pieces (names_in context.now) (target_type flags target))))) }
+        ++ (OneSpace ∷ (ref_pieces (names_in context.now) (source_type flags source)
+        ++ (OneSpace ∷ ref_pieces (names_in context.now) (target_type flags target))))) }
 {
     write_label(out, context, label);
     write_refs(

@@ -1,7 +1,7 @@
 //! Vectors and lanes (section 6.5 of the WebAssembly Core Specification, "Vector Instructions").
 ghost use Rattle.std.specs.Prelude.{[], ◌∷◌, reverse};
 ghost use Rattle.wasmprinter_spec.specs.Call.{Text};
-ghost use Rattle.wasmprinter_spec.specs.Piece.{GapLiterals, after_spaces};
+ghost use Rattle.wasmprinter_spec.specs.Piece.{SpaceLiterals, after_spaces};
 ghost use Rattle.wasmprinter_spec.specs.Layout.Operators.{lane_pieces, lanes_pieces, hex_digits, hex_word, hex_words, vector_pieces};
 ghost use Rattle.wasmprinter_text.specs.Numbers.{space};
 
@@ -57,7 +57,7 @@ fn write_hex_words<O: Output>(out: &mut O, bytes: &[u8])
 
 /// Writes 32-bit numbers in the style of literals, from their bytes, with a space before each.
 fn write_hex_literals<O: Output>(out: &mut O, bytes: &[u8])
-    ensures { O.wrote out.old out.new (GapLiterals (hex_words bytes.now) ∷ []) }
+    ensures { O.wrote out.old out.new (SpaceLiterals (hex_words bytes.now) ∷ []) }
 {
     out.start(Style::Literal);
     write_hex_words(out, bytes);

@@ -18,14 +18,14 @@ use Rattle.wasmprinter_fold.specs.Frames.{State, Stands}
 use Rattle.wasmprinter_fold.specs.Postorder.{IsPostorder, forest_of}
 use Rattle.wasmprinter_fold.proofs.Maps.{step-map}
 use Rattle.wasmprinter_fold.proofs.AllHeads.{all_step, AllState-weaker, map_state-same}
-use Rattle.wasmprinter_fold.specs.Shown.{Shown, shown_of_head, IsIn, AreIn}
+use Rattle.wasmprinter_fold.specs.Shown.{ShownNode, shown_of_head, IsIn, AreIn}
 use Rattle.wasmprinter_fold.specs.Buffers.{GrowsText}
 use Rattle.wasmprinter_fold.specs.declared.tree.GrowingTree.{GrowingTree}
 use Rattle.wasmprinter_fold.specs.Growing.{ShowsIn, GrowsByStep, shown_step}
 use Rattle.wasmprinter_fold.proofs.NodeTexts.{in_grown, shown_grown}
 
 -- The printed texts stay the same when the buffer grows.
-pub shows-more : (old new : List ℕ) (b : Builder) (s : StateOf Shown) → GrowsText old new → ShowsIn old b s → ShowsIn new b s
+pub shows-more : (old new : List ℕ) (b : Builder) (s : StateOf ShownNode) → GrowsText old new → ShowsIn old b s → ShowsIn new b s
 shows-more old new b s g h = record {
   state = h.state;
   stands = h.stands;
@@ -37,7 +37,7 @@ shows-more old new b s g h = record {
 }
 
 -- A step of the builder is a step of the printed texts.
-pub shows-step : (buffer : List ℕ) (b c : Builder) (x : Step NodeText) (y : Step Shown) (s : StateOf Shown) →
+pub shows-step : (buffer : List ℕ) (b c : Builder) (x : Step NodeText) (y : Step ShownNode) (s : StateOf ShownNode) →
     AllStep (IsIn buffer) x → map_step (shown_of_head buffer) x ≡ y → ((t : State) → Stands b t → Stands c (step t x)) → ShowsIn buffer b s → ShowsIn buffer c (step s y)
 shows-step buffer b c x y s i e f h = record {
   state = step h.state x;
@@ -55,33 +55,33 @@ only_top v (InThen o b d x y q) e = absurd cc
 only_top v (InElse o b d x y q) e = absurd cc
 
 -- The printed texts of nodes, when no block is open.
-pub record IsWholeTree (buffer : List ℕ) (nodes : List Node) (f : NodesOf Shown) : Type 0 where
+pub record IsWholeTree (buffer : List ℕ) (nodes : List Node) (f : NodesOf ShownNode) : Type 0 where
   pub row : IsPostorder nodes
   pub inside : AreIn buffer (forest_of nodes)
   pub shows : map_nodes (shown_of_head buffer) (forest_of nodes) ≡ f
 
-pub whole : (buffer : List ℕ) (b : Builder) (nodes : List Node) (f : NodesOf Shown) →
+pub whole : (buffer : List ℕ) (b : Builder) (nodes : List Node) (f : NodesOf ShownNode) →
     ((s : State) → Stands b s → IsPostorder nodes) → ((s : State) → Stands b s → s.outer ≡ Top → forest_of nodes ≡ s.groups) →
     ShowsIn buffer b (state_at Top f) → IsWholeTree buffer nodes f
 whole buffer b nodes f p q h =
-    let e = q h.state h.stands (only_top (shown_of_head buffer) h.state.outer (ap (λ (s : StateOf Shown). s.outer) h.shows)) in
+    let e = q h.state h.stands (only_top (shown_of_head buffer) h.state.outer (ap (λ (s : StateOf ShownNode). s.outer) h.shows)) in
     record {
       row = p h.state h.stands;
       inside = rw e h.inside.1;
-      shows = rw e (ap (λ (s : StateOf Shown). s.groups) h.shows);
+      shows = rw e (ap (λ (s : StateOf ShownNode). s.groups) h.shows);
     }
 
 -- ---- Roles
 
-pub same_step : {T E : Type 0} (r : Result T E) (old new : GrowingTree) (a b : Step Shown) → a ≡ b → OnOk r (GrowsByStep old new a) → OnOk r (GrowsByStep old new b)
-same_step r old new a b e h = subst (λ (x : Step Shown). OnOk r (GrowsByStep old new x)) e h
+pub same_step : {T E : Type 0} (r : Result T E) (old new : GrowingTree) (a b : Step ShownNode) → a ≡ b → OnOk r (GrowsByStep old new a) → OnOk r (GrowsByStep old new b)
+same_step r old new a b e h = subst (λ (x : Step ShownNode). OnOk r (GrowsByStep old new x)) e h
 
 -- Equal roles have equal steps.
-pub by_role : (r s : Role) (x then otherwise : Shown) (counts : OperandCounts) → r ≡ s → shown_step r x then otherwise counts ≡ shown_step s x then otherwise counts
+pub by_role : (r s : Role) (x then otherwise : ShownNode) (counts : OperandCounts) → r ≡ s → shown_step r x then otherwise counts ≡ shown_step s x then otherwise counts
 by_role r s x then otherwise counts e = ap (λ (q : Role). shown_step q x then otherwise counts) e
 
 -- The step of an operator with any other role is that of an `end`.
-pub ends_role : (r : OpsRole) (s : Role) (x then otherwise : Shown) (counts : OperandCounts) →
+pub ends_role : (r : OpsRole) (s : Role) (x then otherwise : ShownNode) (counts : OperandCounts) →
     (r ≡ ops.OpensTry) ⊎ ((r ≡ ops.Catches) ⊎ ((r ≡ ops.CatchesAll) ⊎ ((r ≡ ops.Delegates) ⊎ (r ≡ ops.Ends)))) → role_view r ≡ s →
     Ends ≡ shown_step s x then otherwise counts
 ends_role r s x then otherwise counts h e =

@@ -15,7 +15,7 @@ use Rattle.wasmprinter_fold.specs.Building.{Top}
 use Rattle.wasmprinter_fold.specs.Frames.{State, Stands}
 use Rattle.wasmprinter_fold.specs.Mapping.{map_nodes}
 use Rattle.wasmprinter_fold.specs.Postorder.{IsPostorder, forest_of}
-use Rattle.wasmprinter_fold.specs.Shown.{Shown, shown_of_head, AreIn, row_pieces}
+use Rattle.wasmprinter_fold.specs.Shown.{ShownNode, shown_of_head, AreIn, row_pieces}
 use Rattle.wasmprinter_fold.specs.declared.tree.GrowingTree.{GrowingTree}
 use Rattle.wasmprinter_fold.specs.Growing.{IsGrown}
 use Rattle.wasmprinter_fold.specs.Views.{FolderView, folding_view}
@@ -42,6 +42,6 @@ module _ (color : Bool) (m : PlacedModule) (v : FolderView) (is : record { color
     pub layout_of : row_pieces s.form true s.nesting (map_nodes (shown_of_head text) (forest_of nodes)) ≡ folded_list (folding_view v) own s hints os
     layout_of =
         ap (λ (b : List ℕ). row_pieces s.form true s.nesting (map_nodes (shown_of_head b) (forest_of nodes))) buffer
-        ∙ (ap (λ (f : NodesOf Shown). row_pieces s.form true s.nesting f) (whole t.texts.bytes t.builder nodes _ rows closed there.2).shows
+        ∙ (ap (λ (f : NodesOf ShownNode). row_pieces s.form true s.nesting f) (whole t.texts.bytes t.builder nodes _ rows closed there.2).shows
         ∙ (sym (folded-pieces color s (signatures_within m own) hints os there.0 there.1)
         ∙ ap (λ (f : FolderView). folded_list (folding_view f) own s hints os) is))

@@ -12,7 +12,7 @@ use Rattle.wasmprinter_spec.specs.Folding.Tree.{NodesOf, Nil, Snoc}
 use Rattle.wasmprinter_fold.specs.declared.nodes.NodeText.{NodeText}
 use Rattle.wasmprinter_fold.specs.Mapping.{map_nodes}
 use Rattle.wasmprinter_fold.specs.declared.node_text.semicolons.Semicolons.{Semicolons}
-use Rattle.wasmprinter_fold.specs.Shown.{Shown, shown_of_calls, shown_of_head, IsIn, AreIn}
+use Rattle.wasmprinter_fold.specs.Shown.{ShownNode, shown_of_calls, shown_of_head, IsIn, AreIn}
 use Rattle.wasmprinter_fold.specs.Buffers.{View, no_semicolons, see, see_all, with_text_begun, GrowsText}
 use Rattle.wasmprinter_fold.proofs.TextLaws.{Adds}
 
@@ -67,7 +67,7 @@ module _ (buffer : List ℕ) (l : NodeText) (h : IsIn buffer l) where
       ∙ (ap (take (l.stop - l.start)) (drop_at h.before (h.text ++ (h.after ++ more)) l.start h.starts)
       ∙ take_at h.text (h.after ++ more) (l.stop - l.start) size)
 
-abbrev shown_by : NodeText → List ℕ → Shown
+abbrev shown_by : NodeText → List ℕ → ShownNode
 shown_by l text = record { place = l.place; hint = l.hint; text = text; comment = l.comment }
 
 -- A text keeps its position when the buffer grows.

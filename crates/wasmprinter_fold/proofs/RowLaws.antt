@@ -5,13 +5,13 @@ use Rattle.std.specs.Option.{is_none}
 use Rattle.wasmprinter_spec.specs.Grammar.{Placed}
 use Rattle.wasmprinter_spec.specs.Customs.Hints.{Hint}
 use Rattle.wasmprinter_spec.specs.Options.{defaults}
-use Rattle.wasmprinter_spec.specs.Piece.{Piece, Break, OpenPlain, Shut}
+use Rattle.wasmprinter_spec.specs.Piece.{Piece, Break, OpenPlain, CloseParen}
 use Rattle.wasmprinter_spec.specs.Layout.Operators.{Form, before_word}
 use Rattle.wasmprinter_spec.specs.Layout.Folded.{head_place, head_hint, head_calls, head_text, text_in_color, has_line_comment, comment_end, node_hint, node_pieces}
 use Rattle.wasmprinter_spec.specs.Folding.Tree.{NodesOf, Nodes, Nil, Snoc, is_nil}
 use Rattle.wasmprinter_fold.specs.declared.nodes.NodeText.{NodeText}
 use Rattle.wasmprinter_fold.specs.Mapping.{map_nodes}
-use Rattle.wasmprinter_fold.specs.Shown.{Shown, shown_head, shown_of_head, shown_hint, comment_break, node_front, row_pieces}
+use Rattle.wasmprinter_fold.specs.Shown.{ShownNode, shown_head, shown_of_head, shown_hint, comment_break, node_front, row_pieces}
 
 pub nil_mapped : {H K : Type 0} (v : H → K) (f : NodesOf H) → is_nil (map_nodes v f) ≡ is_nil f
 nil_mapped v Nil = refl
@@ -35,7 +35,7 @@ break_same true s place nesting = break_by (has_line_comment s) place nesting
 break_same false s place nesting = refl
 
 same_parts : (a a2 h h2 b b2 c c2 k k2 : List Piece) (x : Piece) → a ≡ a2 → h ≡ h2 → b ≡ b2 → c ≡ c2 → k ≡ k2 →
-    ((a ++ h) ++ b) ++ (x ∷ ((c ++ k) ++ (Shut ∷ []))) ≡ a2 ++ ((h2 ++ (b2 ++ (x ∷ c2))) ++ (k2 ++ (Shut ∷ [])))
+    ((a ++ h) ++ b) ++ (x ∷ ((c ++ k) ++ (CloseParen ∷ []))) ≡ a2 ++ ((h2 ++ (b2 ++ (x ∷ c2))) ++ (k2 ++ (CloseParen ∷ [])))
 same_parts a a2 h h2 b b2 c c2 k k2 x p q r s t = rw (p, q, r, s, t) (simp append_assoc)
 
 -- The layout of nodes is that of their texts.
@@ -64,9 +64,9 @@ rows_shown color form first nesting (Snoc before head results held) =
     (rows_shown color form false (nesting + 1) held)
 
 -- The pieces of a row are those of the nodes before the last and those of the last node.
-pub row_last : (form : Form) (first : Bool) (nesting : ℕ) (before : NodesOf Shown) (s : Shown) (results : ℕ) (held : NodesOf Shown) →
+pub row_last : (form : Form) (first : Bool) (nesting : ℕ) (before : NodesOf ShownNode) (s : ShownNode) (results : ℕ) (held : NodesOf ShownNode) →
     row_pieces form first nesting (Snoc before s results held)
-    ≡ row_pieces form first nesting before ++ (node_front form (first && is_nil before) (is_nil held) nesting s ++ (row_pieces form false (nesting + 1) held ++ (Shut ∷ [])))
+    ≡ row_pieces form first nesting before ++ (node_front form (first && is_nil before) (is_nil held) nesting s ++ (row_pieces form false (nesting + 1) held ++ (CloseParen ∷ [])))
 unfolding row_pieces
 row_last form first nesting before s results held = refl
 

@@ -3,7 +3,7 @@ use Rattle.std.proofs.Common.{◌≡◌, ℕ, ◌+◌, ◌*◌, ◌≤◌, ◌<�
 use Rattle.std.proofs.lemmas.List.{append-nil}
 use Rattle.std.proofs.lemmas.Bool.{ne_eqb}
 use Rattle.std.specs.Borrow.{Bor}
-use Rattle.wasmprinter_spec.specs.Piece.{Piece, Shut}
+use Rattle.wasmprinter_spec.specs.Piece.{Piece, CloseParen}
 use Rattle.wasmprinter_spec.specs.Layout.Operators.{Form}
 use Rattle.wasmprinter_spec.specs.Folding.Tree.{NodesOf, Nil, Snoc, is_nil, count}
 use Rattle.wasmprinter_fold.specs.declared.nodes.NodeText.{NodeText}
@@ -62,7 +62,7 @@ module _ (nodes before : List Node) (node : Node) (parts : List Node) (is : IsLa
       pieces_of_row form nesting buffer nodes first depth
       ≡ pieces_of_row form nesting buffer before first depth
       ++ (node_front form (first && is_nil (forest_of before)) (is_nil (forest_of parts)) (nesting + depth) (shown_of_head buffer node.head)
-      ++ (pieces_of_row form nesting buffer parts false (depth + 1) ++ (Shut ∷ [])))
+      ++ (pieces_of_row form nesting buffer parts false (depth + 1) ++ (CloseParen ∷ [])))
   pieces_last form nesting buffer first depth =
       let deeper : (nesting + depth) + 1 ≡ nesting + (depth + 1) = omega arith in
       ap (λ (f : NodesOf NodeText). row_pieces form first (nesting + depth) (map_nodes (shown_of_head buffer) f)) is.whole
@@ -78,16 +78,16 @@ on_ok (Ok x) f h = f h
 on_ok (Err e) f h = tt
 
 -- The task of a row was pushed.
-module _ (new old : List Task) (nodes : Bor (List Node)) (first : Bool) (depth : ℕ) (e : new ≡ old ++ task.Row nodes first depth ∷ []) where
+module _ (new old : List Task) (nodes : Bor (List Node)) (first : Bool) (depth : ℕ) (e : new ≡ old ++ task.Nodes nodes first depth ∷ []) where
   pub pieces_pushed : StacksRow nodes.now first depth old new
-  pieces_pushed form nesting buffer = ap (pieces_left form nesting buffer) e ∙ pieces_left-append form nesting buffer old (task.Row nodes first depth ∷ [])
+  pieces_pushed form nesting buffer = ap (pieces_left form nesting buffer) e ∙ pieces_left-append form nesting buffer old (task.Nodes nodes first depth ∷ [])
 
   pub steps_pushed : steps_left new ≤ 4 * length nodes.now + 1 + steps_left old
-  steps_pushed = omega (arith, ap steps_left e, steps_left-append old (task.Row nodes first depth ∷ []))
+  steps_pushed = omega (arith, ap steps_left e, steps_left-append old (task.Nodes nodes first depth ∷ []))
 
   pub sound_pushed : KeepsSoundRow nodes.now depth old new
   sound_pushed buffer bound row h =
-      subst (AllSound buffer bound) (sym e) (AllSound-append buffer bound old (task.Row nodes first depth ∷ []) h (row, tt))
+      subst (AllSound buffer bound) (sym e) (AllSound-append buffer bound old (task.Nodes nodes first depth ∷ []) h (row, tt))
 
 -- The loop invariant: the tasks of a row were pushed up to those of the nodes `rest`, which are still to come.
 pub record IsPut (tasks old : List Task) (nodes rest : List Node) (first : Bool) (depth : ℕ) : Type 0 where
@@ -150,7 +150,7 @@ module _ (new mid old : List Task) (head : NodeText) (held : Bor (List Node)) (l
       let inner = pieces_of_row form nesting buffer held.now false (depth + 1) in
       row form nesting buffer
       ∙ (ap (λ (l : List Piece). inner ++ l) (ap (pieces_left form nesting buffer) e ∙ pieces_left-append form nesting buffer old (task.Close ∷ []))
-      ∙ sym (append_assoc inner (Shut ∷ []) (pieces_left form nesting buffer old)))
+      ∙ sym (append_assoc inner (CloseParen ∷ []) (pieces_left form nesting buffer old)))
 
   pub steps_one : steps_left new ≤ 4 * length held.now + 1 + steps_left mid → steps_left new < steps_of (task.One head held leads depth) + steps_left old
   steps_one row = omega (arith, row, ap steps_left e, steps_left-append old (task.Close ∷ []))

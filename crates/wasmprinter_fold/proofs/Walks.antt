@@ -27,7 +27,7 @@ use Rattle.wasmprinter_flat.proofs.Depths.{after-length, after-count}
 use Rattle.wasmprinter_fold.specs.Building.{Top, StateOf, Step, start, state_at, step, step_of, steps, run_all}
 use Rattle.wasmprinter_fold.specs.Mapping.{map_nodes}
 use Rattle.wasmprinter_fold.proofs.Runs.{run-tree}
-use Rattle.wasmprinter_fold.specs.Shown.{Shown, shown_head, row_pieces}
+use Rattle.wasmprinter_fold.specs.Shown.{ShownNode, shown_head, row_pieces}
 use Rattle.wasmprinter_fold.specs.declared.tree.GrowingTree.{GrowingTree}
 use Rattle.wasmprinter_fold.specs.Growing.{Shows, GrowsByStep, shown_step, shown_operator, shown_keyword, operator_step, IsGrown}
 use Rattle.wasmprinter_fold.proofs.RowLaws.{rows_shown}
@@ -82,7 +82,7 @@ unfolding items
 items-nil s t hs n xs ls os e = ap (λ os. items s t hs n xs ls os) e
 
 -- The state after the operators of a list, folded one after another.
-abbrev pub run_items : Bool → Setting → Signatures → List (Placed Hint) → Scan → List (Option ℕ) → StateOf Shown → List (Placed Operator) → StateOf Shown
+abbrev pub run_items : Bool → Setting → Signatures → List (Placed Hint) → Scan → List (Option ℕ) → StateOf ShownNode → List (Placed Operator) → StateOf ShownNode
 run_items color s t hs l ls u os = run_all u (steps (shown_head color) (items s t hs l.count l.labels ls os))
 
 -- The loop invariant: all operators before `rest` were folded, and `left` are the hints still to be used. Folding
@@ -90,7 +90,7 @@ run_items color s t hs l ls u os = run_all u (steps (shown_head color) (items s 
 -- to legacy exception handling. Even if each remaining operator opens a block, the number of blocks stays below
 -- 2^64.
 pub record Progress (color : Bool) (s : Setting) (t : Signatures) (from : Scan) (hints : List (Placed Hint)) (all rest : List (Placed Operator)) (left : List (Placed Hint)) (l : Scan) (g : GrowingTree) : Type 0 where
-  pub state : StateOf Shown
+  pub state : StateOf ShownNode
   pub shows : Shows g state
   pub leads : run_items color s t left l g.labels state rest ≡ run_all start (steps (shown_head color) (items s t hints 0 [] [] all))
   pub none_before : AreWithoutTry (roles rest) → AreWithoutTry (roles all)
@@ -157,11 +157,11 @@ module _ {color : Bool} {s : Setting} {t : Signatures} {from : Scan} {hints : Li
       let after : List (Placed Hint) = hint_after (x.0 - s.body) left in
       let r' : Role = role_of x.1.opcode in
       let counted : List (Option ℕ) = labels_after r' (label_of_block t x.1) g.labels in
-      let u : StateOf Shown = step p.state (step_of v r' (item s t next (own_label l) l.labels g.labels o)) in
+      let u : StateOf ShownNode = step p.state (step_of v r' (item s t next (own_label l) l.labels g.labels o)) in
       rw (b, r, h) (record {
         state = u;
         shows =
-            subst (λ (y : Step Shown). Shows n (step p.state y))
+            subst (λ (y : Step ShownNode). Shows n (step p.state y))
             (sym (step-next color g.texts.color s t next hint (names_of l) l g.labels o r' p.colors_same p.fits.names q)) (f p.state p.shows);
         leads =
             ap (λ (ls : List (Option ℕ)). run_items color s t after (after_operator r' l) ls u rest) c
@@ -192,7 +192,7 @@ module _ {color : Bool} {s : Setting} {t : Signatures} {from : Scan} {hints : Li
       let state : p.state ≡ state_at Top (map_nodes v (tree c.0)) =
       ap (λ (is : List Item). run_all p.state (steps v is)) (sym (items-nil s t left l.count l.labels g.labels os (no-pair os e)))
       ∙ (p.leads ∙ (ap (λ (is : List Item). run_all start (steps v is)) (sym d.0) ∙ run-tree v c.0 d.1)) in
-      (c.0, c.1, subst (λ (u : StateOf Shown). Shows g u) state p.shows)
+      (c.0, c.1, subst (λ (u : StateOf ShownNode). Shows g u) state p.shows)
 
 -- ---- The layout
 

@@ -18,36 +18,36 @@ use Rattle.wasmprinter_fold.specs.Building.{Top, StateOf, Step, Plain, Opens, Op
 use Rattle.wasmprinter_fold.specs.Mapping.{map_nodes, map_state}
 use Rattle.wasmprinter_fold.specs.Frames.{State, Stands}
 use Rattle.wasmprinter_fold.specs.Heads.{AllState}
-use Rattle.wasmprinter_fold.specs.Shown.{Shown, shown_of_calls, shown_head, shown_of_head, IsIn}
+use Rattle.wasmprinter_fold.specs.Shown.{ShownNode, shown_of_calls, shown_head, shown_of_head, IsIn}
 use Rattle.wasmprinter_fold.specs.declared.tree.GrowingTree.{GrowingTree}
 
 -- The builder has open blocks and nodes whose texts are in the buffer, and `s` has the printed texts of these
 -- nodes.
-pub record ShowsIn (buffer : List ℕ) (b : Builder) (s : StateOf Shown) : Type 0 where
+pub record ShowsIn (buffer : List ℕ) (b : Builder) (s : StateOf ShownNode) : Type 0 where
   pub state : State
   pub stands : Stands b state
   pub inside : AllState (IsIn buffer) state
   pub shows : map_state (shown_of_head buffer) state ≡ s
 
 -- The tree has open blocks and nodes whose printed texts are those of the state.
-abbrev pub Shows : GrowingTree → StateOf Shown → Type 0
+abbrev pub Shows : GrowingTree → StateOf ShownNode → Type 0
 Shows t s = ShowsIn t.texts.bytes t.builder s
 
 -- The tree has grown by one step.
-abbrev pub GrowsByStep : GrowingTree → GrowingTree → Step Shown → Type 0
-GrowsByStep old new x = (s : StateOf Shown) → Shows old s → Shows new (step s x)
+abbrev pub GrowsByStep : GrowingTree → GrowingTree → Step ShownNode → Type 0
+GrowsByStep old new x = (s : StateOf ShownNode) → Shows old s → Shows new (step s x)
 
 -- The printed text of an operator, given the state of the labels before it.
-abbrev pub shown_operator : Bool → Setting → Scan → ℕ → Option Bool → Operator → Shown
+abbrev pub shown_operator : Bool → Setting → Scan → ℕ → Option Bool → Operator → ShownNode
 shown_operator color s l place hint o = shown_of_calls place hint color (all_calls defaults (word_pieces s (own_label l) l.labels o))
 
 -- The printed text of a case of an `if`.
-abbrev pub shown_keyword : Bool → ℕ → List ℕ → Shown
+abbrev pub shown_keyword : Bool → ℕ → List ℕ → ShownNode
 shown_keyword color place keyword = shown_of_calls place None color (Text keyword ∷ [])
 
 -- The step of an operator with the role, given the texts of the operator, of a `then` and of an `else`, and the
 -- numbers of its operands and results.
-abbrev pub shown_step : Role → Shown → Shown → Shown → OperandCounts → Step Shown
+abbrev pub shown_step : Role → ShownNode → ShownNode → ShownNode → OperandCounts → Step ShownNode
 shown_step row.Plain x then otherwise counts = Plain x counts.operands counts.results
 shown_step row.Opens x then otherwise counts = Opens x counts.results
 shown_step row.OpensIf x then otherwise counts = OpensIf x then counts.results
@@ -55,7 +55,7 @@ shown_step row.Else x then otherwise counts = Else otherwise
 shown_step _ x then otherwise counts = Ends
 
 -- The step of an operator, given the state of the labels before it.
-abbrev pub operator_step : Bool → Setting → Scan → ℕ → Option Bool → Operator → OperandCounts → Step Shown
+abbrev pub operator_step : Bool → Setting → Scan → ℕ → Option Bool → Operator → OperandCounts → Step ShownNode
 operator_step color s l place hint o counts =
     shown_step (role_of o.opcode) (shown_operator color s l place hint o) (shown_keyword color place (codes "then"))
     (shown_keyword color place (codes "else")) counts

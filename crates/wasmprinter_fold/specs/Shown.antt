@@ -3,7 +3,7 @@ use Rattle.std.specs.Prelude.{◌≡◌, ℕ, ◌+◌, ◌-◌, ◌&&◌, List, 
 use Rattle.std.specs.Option.{is_none}
 use Rattle.wasmprinter_spec.specs.Call.{Call, text_of}
 use Rattle.wasmprinter_spec.specs.Options.{defaults}
-use Rattle.wasmprinter_spec.specs.Piece.{Piece, Break, Word, OpenPlain, Shut, HintAnnotation, text}
+use Rattle.wasmprinter_spec.specs.Piece.{Piece, Break, Word, OpenPlain, CloseParen, HintAnnotation, text}
 use Rattle.wasmprinter_spec.specs.Layout.Operators.{Form, before_word}
 use Rattle.wasmprinter_spec.specs.Layout.Folded.{head_place, head_hint, head_calls, text_in_color, has_line_comment}
 use Rattle.wasmprinter_spec.specs.Folding.Tree.{Head, NodesOf, Nil, Snoc, is_nil}
@@ -12,7 +12,7 @@ use Rattle.wasmprinter_fold.specs.Heads.{AllNodes}
 
 -- The place of a node, whether its branch is hinted as taken, its text, and whether that contains two consecutive
 -- semicolons, which may begin a line comment.
-pub record Shown : Type 0 where
+pub record ShownNode : Type 0 where
   pub place : ℕ
   pub hint : Option Bool
   pub text : List ℕ
@@ -20,16 +20,16 @@ pub record Shown : Type 0 where
 
 -- The text of a node, given its place, its hint, whether texts contain escape sequences, and the calls of its
 -- text.
-abbrev pub shown_of_calls : ℕ → Option Bool → Bool → List Call → Shown
+abbrev pub shown_of_calls : ℕ → Option Bool → Bool → List Call → ShownNode
 shown_of_calls place hint color cs =
     record { place = place; hint = hint; text = text_in_color color cs; comment = has_line_comment (text_of cs) }
 
 -- The text of a node with this head of the definitions.
-abbrev pub shown_head : Bool → Head → Shown
+abbrev pub shown_head : Bool → Head → ShownNode
 shown_head color h = shown_of_calls (head_place h) (option_map (λ x. x.value.taken) (head_hint h)) color (head_calls defaults h)
 
 -- The text of a node with this head of the program, taken from the buffer of texts.
-abbrev pub shown_of_head : List ℕ → NodeText → Shown
+abbrev pub shown_of_head : List ℕ → NodeText → ShownNode
 shown_of_head buffer l =
     record { place = l.place; hint = l.hint; text = take (l.stop - l.start) (drop l.start buffer); comment = l.comment }
 
@@ -64,14 +64,14 @@ comment_break true true place nesting = Break (Some place) nesting ∷ []
 comment_break _ _ place nesting = []
 
 -- The pieces of a node before the nodes that it holds.
-abbrev pub node_front : Form → Bool → Bool → ℕ → Shown → List Piece
+abbrev pub node_front : Form → Bool → Bool → ℕ → ShownNode → List Piece
 node_front form leads leaf nesting s =
     shown_hint form leads s.place nesting s.hint
     ++ (before_word form (leads && is_none s.hint) s.place nesting ++ (OpenPlain s.text ∷ comment_break leaf s.comment s.place nesting))
 
 -- The pieces of a row of nodes at a nesting depth. `first` says whether the row is the first of its line.
-unfoldable pub row_pieces : Form → Bool → ℕ → NodesOf Shown → List Piece
+unfoldable pub row_pieces : Form → Bool → ℕ → NodesOf ShownNode → List Piece
 row_pieces form first nesting Nil = []
 row_pieces form first nesting (Snoc before s results held) =
     row_pieces form first nesting before
-    ++ (node_front form (first && is_nil before) (is_nil held) nesting s ++ (row_pieces form false (nesting + 1) held ++ (Shut ∷ [])))
+    ++ (node_front form (first && is_nil before) (is_nil held) nesting s ++ (row_pieces form false (nesting + 1) held ++ (CloseParen ∷ [])))

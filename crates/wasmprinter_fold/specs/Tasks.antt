@@ -1,6 +1,6 @@
 -- The parts of nodes that are still to be written, the next task last.
 use Rattle.std.specs.Prelude.{◌≡◌, ℕ, suc, ◌+◌, ◌*◌, ◌≤◌, List, [], ◌∷◌, ◌++◌, length, Bool, false}
-use Rattle.wasmprinter_spec.specs.Piece.{Piece, Shut}
+use Rattle.wasmprinter_spec.specs.Piece.{Piece, CloseParen}
 use Rattle.wasmprinter_spec.specs.Layout.Operators.{Form}
 use Rattle.wasmprinter_spec.specs.Folding.Tree.{is_nil}
 use Rattle.wasmprinter_fold.specs.Mapping.{map_nodes}
@@ -17,15 +17,15 @@ module _ (form : Form) (nesting : ℕ) (buffer : List ℕ) where
 
   -- The pieces that are written when a task is taken from the stack.
   abbrev pub task_front : Task → List Piece
-  task_front (task.Row nodes first depth) = []
+  task_front (task.Nodes nodes first depth) = []
   task_front (task.One head held leads depth) =
       node_front form leads (is_nil (forest_of held.now)) (nesting + depth) (shown_of_head buffer head)
-  task_front task.Close = Shut ∷ []
+  task_front task.Close = CloseParen ∷ []
 
   -- The pieces of a task that are left after its front.
   abbrev pub task_rest : Task → List Piece
-  task_rest (task.Row nodes first depth) = pieces_of_row nodes.now first depth
-  task_rest (task.One head held leads depth) = pieces_of_row held.now false (depth + 1) ++ (Shut ∷ [])
+  task_rest (task.Nodes nodes first depth) = pieces_of_row nodes.now first depth
+  task_rest (task.One head held leads depth) = pieces_of_row held.now false (depth + 1) ++ (CloseParen ∷ [])
   task_rest task.Close = []
 
   -- The pieces of a task.
@@ -47,7 +47,7 @@ pub record IsSoundRow (buffer : List ℕ) (bound : ℕ) (nodes : List Node) (dep
 -- The rows of the task are sound (`IsSoundRow`), and the text of its head is in the buffer. The second argument is
 -- the bound.
 abbrev pub IsSound : List ℕ → ℕ → Task → Type 0
-IsSound buffer bound (task.Row nodes first depth) = IsSoundRow buffer bound nodes.now depth
+IsSound buffer bound (task.Nodes nodes first depth) = IsSoundRow buffer bound nodes.now depth
 IsSound buffer bound (task.One head held leads depth) = IsIn buffer head × IsSoundRow buffer bound held.now (depth + 1)
 IsSound buffer bound task.Close = Unit {0}
 
@@ -79,13 +79,13 @@ KeepsSound t old new = (buffer : List ℕ) (bound : ℕ) → IsSound buffer boun
 
 -- An upper bound of the number of steps that a task takes.
 abbrev pub steps_of : Task → ℕ
-steps_of (task.Row nodes first depth) = suc (4 * length nodes.now)
+steps_of (task.Nodes nodes first depth) = suc (4 * length nodes.now)
 steps_of (task.One head held leads depth) = 4 * length held.now + 3
 steps_of task.Close = 1
 
 -- The greatest number of tasks that `put_rest` pushes for a task.
 abbrev pub rest_of : Task → ℕ
-rest_of (task.Row nodes first depth) = length nodes.now
+rest_of (task.Nodes nodes first depth) = length nodes.now
 rest_of (task.One head held leads depth) = suc (length held.now)
 rest_of task.Close = 0
 

@@ -6,7 +6,7 @@ ghost use Rattle.wasmprinter_fold.specs.Gathering.{ImportsSome};
 ghost use Rattle.wasmprinter_fold.specs.Views.{folding_view};
 
 use crate::arities::callees::CalleeTypes;
-use crate::node_text::rows::write_nodes;
+use crate::node_text::node_writer::write_nodes;
 use crate::tree::GrowingTree;
 use std::alloc::{AllocError, Global};
 use std::marker::Model;

@@ -9,7 +9,7 @@ ghost use Rattle.wasmprinter_spec.specs.Layout.Folded.{items};
 ghost use Rattle.wasmprinter_fold.specs.Building.{StateOf, Plain, Opens, OpensIf, Else, Ends, start};
 ghost use Rattle.wasmprinter_flat.specs.Settings.{setting_with_names};
 ghost use Rattle.wasmprinter_fold.specs.Counted.{counts_view};
-ghost use Rattle.wasmprinter_fold.specs.Shown.{Shown};
+ghost use Rattle.wasmprinter_fold.specs.Shown.{ShownNode};
 ghost use Rattle.wasmprinter_fold.specs.Growing.{Shows, GrowsByStep, operator_step, shown_operator, shown_keyword, IsGrown};
 
 use crate::arities::blocks::label_of_block;
@@ -84,7 +84,7 @@ impl GrowingTree {
         counts: Counts,
     ) -> Result<(), AllocError>
         requires room { length labels.now.labels + 1 < 2 ^ 64 }
-        requires shows { (s : StateOf Shown) × Shows self.old s }
+        requires shows { (s : StateOf ShownNode) × Shows self.old s }
         ensures color { self.new.texts.color ≡ self.old.texts.color }
         ensures labels { self.new.labels ≡ self.old.labels }
         ensures steps { OnOk result (GrowsByStep self.old self.new (Plain
@@ -104,7 +104,7 @@ impl GrowingTree {
         counts: Counts,
     ) -> Result<(), AllocError>
         requires room { length labels.now.labels + 1 < 2 ^ 64 }
-        requires shows { (s : StateOf Shown) × Shows self.old s }
+        requires shows { (s : StateOf ShownNode) × Shows self.old s }
         ensures color { self.new.texts.color ≡ self.old.texts.color }
         ensures labels { self.new.labels ≡ self.old.labels }
         ensures steps { OnOk result (GrowsByStep self.old self.new (Opens
@@ -124,7 +124,7 @@ impl GrowingTree {
         counts: Counts,
     ) -> Result<(), AllocError>
         requires room { length labels.now.labels + 1 < 2 ^ 64 }
-        requires shows { (s : StateOf Shown) × Shows self.old s }
+        requires shows { (s : StateOf ShownNode) × Shows self.old s }
         ensures color { self.new.texts.color ≡ self.old.texts.color }
         ensures labels { self.new.labels ≡ self.old.labels }
         ensures steps { OnOk result (GrowsByStep self.old self.new (OpensIf
@@ -138,7 +138,7 @@ impl GrowingTree {
 
     /// Opens the second case of the innermost `if`, at an `else`.
     fn turn(&mut self, place: u64) -> Result<(), AllocError>
-        requires { (s : StateOf Shown) × Shows self.old s }
+        requires { (s : StateOf ShownNode) × Shows self.old s }
         ensures color { self.new.texts.color ≡ self.old.texts.color }
         ensures labels { self.new.labels ≡ self.old.labels }
         ensures steps { OnOk result (GrowsByStep self.old self.new (Else
@@ -150,7 +150,7 @@ impl GrowingTree {
 
     /// Closes the innermost block, at an `end`.
     fn end(&mut self) -> Result<(), AllocError>
-        requires { (s : StateOf Shown) × Shows self.old s }
+        requires { (s : StateOf ShownNode) × Shows self.old s }
         ensures color { self.new.texts.color ≡ self.old.texts.color }
         ensures labels { self.new.labels ≡ self.old.labels }
         ensures steps { OnOk result (GrowsByStep self.old self.new Ends) }
@@ -169,7 +169,7 @@ impl GrowingTree {
         counts: Counts,
     ) -> Result<(), AllocError>
         requires room { length labels.now.labels + 1 < 2 ^ 64 }
-        requires shows { (s : StateOf Shown) × Shows self.old s }
+        requires shows { (s : StateOf ShownNode) × Shows self.old s }
         ensures color { self.new.texts.color ≡ self.old.texts.color }
         ensures labels { self.new.labels ≡ self.old.labels }
         ensures steps { OnOk result (GrowsByStep self.old self.new (operator_step self.old.texts.color
@@ -197,7 +197,7 @@ impl GrowingTree {
         next: HintedOperator<'_, '_>,
     ) -> Result<(), AllocError>
         requires room { length labels.now.labels + 1 < 2 ^ 64 }
-        requires shows { (s : StateOf Shown) × Shows self.old s }
+        requires shows { (s : StateOf ShownNode) × Shows self.old s }
         ensures color { self.new.texts.color ≡ self.old.texts.color }
         ensures labels { OnOk result (self.new.labels ≡ labels_after (role_of next.entry.operator.now.opcode)
             (label_of_block (signatures_within callees.now own) next.entry.operator.now) self.old.labels) }

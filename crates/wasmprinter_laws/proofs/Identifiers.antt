@@ -12,11 +12,11 @@ use Rattle.wasmprinter_spec.specs.Labels.{Named}
 use Rattle.wasmprinter_spec.specs.IndexSpaces.{Identifiers, index, leading_index}
 use Rattle.wasmprinter_spec.specs.Names.{IsGiven, IsNamed, IsNamedIfAny, AreDistinct, identifiers}
 use Rattle.wasmprinter_spec.specs.Text.Items.{identifier_in_front}
-use Rattle.wasmprinter_spec.specs.Piece.{Piece, Gap, IndexComment, EndStyle, Identifier, NameAnnotation}
-use Rattle.wasmprinter_spec.specs.Layout.Identifiers.{given_pieces, id_and_name_pieces, leading_id_and_name_pieces, id_and_name_gap_pieces, identifier_gap_pieces, declaration_pieces, index_pieces}
+use Rattle.wasmprinter_spec.specs.Piece.{Piece, OneSpace, IndexComment, EndStyle, Identifier, NameAnnotation}
+use Rattle.wasmprinter_spec.specs.Layout.Identifiers.{given_pieces, id_and_name_pieces, leading_id_and_name_pieces, id_and_name_space_pieces, identifier_space_pieces, declaration_pieces, index_pieces}
 use Rattle.wasmprinter_laws.proofs.Tokens.Grown.{onto-End}
 use Rattle.wasmprinter_laws.proofs.Tokens.Pieces.{Edge, Free, Bound}
-use Rattle.wasmprinter_laws.proofs.Tokens.Writes.{Writes, writing, both_write, identifier_writes, noted_identifier_writes, gap_writes, begin_name_writes, nothing_writes, free_writes}
+use Rattle.wasmprinter_laws.proofs.Tokens.Writes.{Writes, writing, both_write, identifier_writes, noted_identifier_writes, one_space_writes, begin_name_writes, nothing_writes, free_writes}
 use Rattle.wasmprinter_laws.proofs.Items.{index-decimal}
 use Rattle.wasmprinter_laws.proofs.Declarations.{id}
 use Rattle.wasmprinter_laws.proofs.Names.Resolving.{resolves}
@@ -104,11 +104,11 @@ pub id_and_name_writes : (n : Named) → IsNamed n → Writes Free (id_and_name_
 unfolding id_and_name_pieces
 id_and_name_writes n h = by n.given h.given
   where
-    with_note : (s : List ℕ) → IsUtf8 s → (t : Bool) → Writes Free (Identifier (chars n.content) ∷ cond t [] (Gap ∷ (NameAnnotation (chars s) ∷ []))) Bound (Name n.content End)
+    with_note : (s : List ℕ) → IsUtf8 s → (t : Bool) → Writes Free (Identifier (chars n.content) ∷ cond t [] (OneSpace ∷ (NameAnnotation (chars s) ∷ []))) Bound (Name n.content End)
     with_note s g true = name_writes n h nothing_writes
     with_note s g false =
         let i : IsIdentifier n = named_is n h in
-        subst (λ t. Writes Free (Identifier (chars n.content) ∷ (Gap ∷ (NameAnnotation (chars s) ∷ []))) Bound (Name t End)) i.same
+        subst (λ t. Writes Free (Identifier (chars n.content) ∷ (OneSpace ∷ (NameAnnotation (chars s) ∷ []))) Bound (Name t End)) i.same
         (noted_identifier_writes i.scalar i.is (scalars-chars s g) free_writes)
 
     by : (g : Option (List ℕ)) → IsGiven g → Writes Free (Identifier (chars n.content) ∷ given_pieces g n.content) Bound (Name n.content End)
@@ -118,23 +118,23 @@ id_and_name_writes n h = by n.given h.given
 pub leading_id_and_name_writes : (o : Option Named) → IsNamedIfAny o → Writes Bound (leading_id_and_name_pieces o) Bound (id_items o)
 unfolding leading_id_and_name_pieces
 leading_id_and_name_writes None h = nothing_writes
-leading_id_and_name_writes (Some n) h = gap_writes refl (id_and_name_writes n h)
+leading_id_and_name_writes (Some n) h = one_space_writes refl (id_and_name_writes n h)
 
-pub id_and_name_gap_writes : (o : Option Named) → IsNamedIfAny o → Writes Free (id_and_name_gap_pieces o) Free (id_items o)
-unfolding id_and_name_gap_pieces
-id_and_name_gap_writes None h = nothing_writes
-id_and_name_gap_writes (Some n) h = both_write (id_and_name_writes n h) (gap_writes refl nothing_writes)
+pub id_and_name_space_writes : (o : Option Named) → IsNamedIfAny o → Writes Free (id_and_name_space_pieces o) Free (id_items o)
+unfolding id_and_name_space_pieces
+id_and_name_space_writes None h = nothing_writes
+id_and_name_space_writes (Some n) h = both_write (id_and_name_writes n h) (one_space_writes refl nothing_writes)
 
-pub identifier_gap_writes : (o : Option Named) → IsNamedIfAny o → Writes Free (identifier_gap_pieces o) Free (id_items o)
-unfolding identifier_gap_pieces
-identifier_gap_writes None h = nothing_writes
-identifier_gap_writes (Some n) h = name_writes n h (gap_writes refl nothing_writes)
+pub identifier_space_writes : (o : Option Named) → IsNamedIfAny o → Writes Free (identifier_space_pieces o) Free (id_items o)
+unfolding identifier_space_pieces
+identifier_space_writes None h = nothing_writes
+identifier_space_writes (Some n) h = name_writes n h (one_space_writes refl nothing_writes)
 
 pub declaration_writes : (o : Option Named) (i : ℕ) → IsNamedIfAny o → i < 2 ^ 64 → Writes Free (declaration_pieces o i) Bound (id_items o)
 unfolding declaration_pieces
 declaration_writes o i h small =
     let number : Writes Free (IndexComment i ∷ (EndStyle ∷ [])) Bound End = search writing in
-    begin_name_writes (rw onto-End at (both_write (id_and_name_gap_writes o h) number))
+    begin_name_writes (rw onto-End at (both_write (id_and_name_space_writes o h) number))
 
 pub index_writes : (o : Option Named) (n : ℕ) → IsNamedIfAny o → n < 2 ^ 64 → Writes Free (index_pieces o n) Bound (index_items o n)
 unfolding index_pieces

@@ -40,7 +40,7 @@ use Rattle.wasmprinter_laws.proofs.Tokens.Writes.{Writes, pieces_tokens, writes_
 use Rattle.wasmprinter_laws.proofs.Identifiers.{id_items}
 use Rattle.wasmprinter_laws.proofs.Folded.Lists.{IsUncolored}
 use Rattle.wasmprinter_laws.proofs.Fields.Functions.{functions_hinted}
-use Rattle.wasmprinter_laws.proofs.Customs.Notes.{at_place, RowReads, both_rows}
+use Rattle.wasmprinter_laws.proofs.Customs.Notes.{customs_after_kind, RowReads, both_rows}
 use Rattle.wasmprinter_laws.proofs.Customs.Places.{raws_over, raws_over_all}
 use Rattle.wasmprinter_laws.proofs.Written.{fields_noted, fields_write, noting, noted, kinds_noted, module_noted, laid, module_writes, Stands, module_stands}
 use Rattle.wasmprinter_laws.proofs.Foldable.{CanFold}
@@ -86,14 +86,14 @@ each-map f g (x ∷ xs) = ap (λ t. f (g x) >>= λ y. t >>= λ ys. Some (y ∷ y
 module _ (folding : Option Folding) (bare : IsUncolored folding) (o : Options) (names : Names) (named : AreNamed names) (m : PlacedModule) (h : IsRanged m) (answers : Answers)
     (unclaimed : AreUnclaimed answers) (whole : o.skeleton ≡ false) where
   raws : Option Kind → List RawCustom
-  raws place = raw_customs (at_place place m.customs)
+  raws after = raw_customs (customs_after_kind after m.customs)
 
   own_noted : Option Kind → Forest
-  own_noted place = noted folding bare o names named m h answers place
+  own_noted after = noted folding bare o names named m h answers after
 
-  place_row : (place : Option Kind) → RawRow (own_noted place) (raws place)
+  after_row : (after : Option Kind) → RawRow (own_noted after) (raws after)
   unfolding own_noted raws
-  place_row place = record { reads = (noting folding bare o names named m h answers place).reads unclaimed whole }
+  after_row after = record { reads = (noting folding bare o names named m h answers after).reads unclaimed whole }
 
   -- The fields of a section contain no custom section.
   fields_row : (k : Kind) → RawRow (fields_noted folding bare o names named m h k) []
@@ -105,13 +105,13 @@ module _ (folding : Option Folding) (bare : IsUncolored folding) (o : Options) (
   kinds_row : (ks : List Kind) → RawRow (kinds_noted folding bare o names named m h answers ks) (raws_over (map Some ks) m.customs)
   unfolding own_noted raws
   kinds_row [] = record { reads = refl }
-  kinds_row (k ∷ ks) = raw_rows (fields_row k) (raw_rows (place_row (Some k)) (kinds_row ks))
+  kinds_row (k ∷ ks) = raw_rows (fields_row k) (raw_rows (after_row (Some k)) (kinds_row ks))
 
   module_row : RawRow (module_noted folding bare o names named m h answers) (raw_customs m.customs)
   unfolding module_noted own_noted raws
   module_row =
       subst (RawRow (module_noted folding bare o names named m h answers)) (raws_over_all 0 m.customs h.customs_in_order)
-      (raw_rows (place_row None) (kinds_row section_order))
+      (raw_rows (after_row None) (kinds_row section_order))
 
   abbrev own_items : Forest
   own_items = Group (Word (codes "module") (onto (id_items names.module_name) (module_items folding names m o.skeleton))) End

@@ -22,7 +22,7 @@ use Rattle.wasmprinter_spec.specs.FloatText.{digits_after, unsigned_text, float_
 use Rattle.wasmprinter_spec.specs.Call.{text_of}
 use Rattle.wasmprinter_spec.specs.Options.{defaults, IsBlank}
 use Rattle.wasmprinter_spec.specs.Piece.{all_calls, repetition_of}
-use Rattle.wasmprinter_spec.specs.Layout.Groups.{line_group, line_group_gap}
+use Rattle.wasmprinter_spec.specs.Layout.Groups.{line_group, line_group_space}
 use Rattle.wasmprinter_spec.specs.Layout.Identifiers.{id_and_name_pieces, leading_id_and_name_pieces, index_pieces}
 use Rattle.wasmprinter_spec.specs.Layout.ValTypes.{type_index_pieces, heap_pieces, null_ref_pieces, ref_pieces, val_pieces, type_list}
 use Rattle.wasmprinter_spec.specs.Layout.Variables.{variables_pieces, groups_pieces}
@@ -173,7 +173,7 @@ one_result_is = record {
 }
 
 one_result_text : text_of (all_calls defaults (expression_pieces (setting unnamed InLine) one_result)) ≡ codes "block (result i32)  (; label = @1 ;) i32.const 1 end"
-unfolding table expression_pieces operators_pieces operator_pieces immediate_pieces leading_id_and_name_pieces block_pieces val_pieces ending_pieces line_group_gap digits
+unfolding table expression_pieces operators_pieces operator_pieces immediate_pieces leading_id_and_name_pieces block_pieces val_pieces ending_pieces line_group_space digits
 one_result_text = refl
 
 one_result_reads : read_alone (context unnamed) (codes "block (result i32)  (; label = @1 ;) i32.const 1 end") ≡ Some (without_places one_result)
@@ -194,7 +194,7 @@ reference_result_is = record {
 }
 
 reference_result_text : text_of (all_calls defaults (expression_pieces (setting unnamed InLine) reference_result)) ≡ codes "block (result (ref 0))  (; label = @1 ;) end"
-unfolding table expression_pieces operators_pieces operator_pieces immediate_pieces leading_id_and_name_pieces block_pieces val_pieces ref_pieces heap_pieces type_index_pieces index_pieces ending_pieces line_group_gap digits
+unfolding table expression_pieces operators_pieces operator_pieces immediate_pieces leading_id_and_name_pieces block_pieces val_pieces ref_pieces heap_pieces type_index_pieces index_pieces ending_pieces line_group_space digits
 reference_result_text = refl
 
 reference_result_reads : read_alone (context unnamed) (codes "block (result (ref 0))  (; label = @1 ;) end") ≡ Some (without_places reference_result)
@@ -232,7 +232,7 @@ sharing_are = record {
 }
 
 sharing_print : text_of (all_calls defaults (expression_pieces (setting unnamed InLine) sharing)) ≡ sharing_text
-unfolding table expression_pieces operators_pieces operator_pieces immediate_pieces select_pieces val_pieces ref_pieces null_ref_pieces heap_pieces type_index_pieces index_pieces line_group line_group_gap digits
+unfolding table expression_pieces operators_pieces operator_pieces immediate_pieces select_pieces val_pieces ref_pieces null_ref_pieces heap_pieces type_index_pieces index_pieces line_group line_group_space digits
 sharing_print = refl
 
 sharing_read : read_alone (context unnamed) sharing_text ≡ Some (without_places sharing)
@@ -278,7 +278,7 @@ operands_are = record {
 }
 
 operands_print : text_of (all_calls defaults (expression_pieces (setting unnamed InLine) operands)) ≡ operands_text
-unfolding table expression_pieces operators_pieces operator_pieces immediate_pieces default_index_pieces index_pieces type_index_pieces mem_arg_pieces offset_pieces align_pieces vector_pieces hex_words line_group_gap digits float_calls float_text unsigned_calls unsigned_text digits_after
+unfolding table expression_pieces operators_pieces operator_pieces immediate_pieces default_index_pieces index_pieces type_index_pieces mem_arg_pieces offset_pieces align_pieces vector_pieces hex_words line_group_space digits float_calls float_text unsigned_calls unsigned_text digits_after
 operands_print = refl
 
 operands_read : read_alone (context unnamed) operands_text ≡ Some (without_places operands)
@@ -313,7 +313,7 @@ branches_are = record {
 }
 
 branches_print : text_of (all_calls defaults (expression_pieces (setting synthesized OverLines) branches)) ≡ branches_text
-unfolding table expression_pieces operators_pieces operator_pieces immediate_pieces operand_pieces index_pieces label_pieces id_and_name_pieces leading_id_and_name_pieces block_pieces type_use_pieces type_index_pieces signature_pieces groups_pieces variables_pieces list_group type_list val_pieces ending_pieces line_group line_group_gap digits repetition_of identifier_text chars class
+unfolding table expression_pieces operators_pieces operator_pieces immediate_pieces operand_pieces index_pieces label_pieces id_and_name_pieces leading_id_and_name_pieces block_pieces type_use_pieces type_index_pieces signature_pieces groups_pieces variables_pieces list_group type_list val_pieces ending_pieces line_group line_group_space digits repetition_of identifier_text chars class
 branches_print = refl
 
 branches_read : read_alone (context synthesized) branches_text ≡ Some (without_places branches)

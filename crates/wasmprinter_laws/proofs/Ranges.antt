@@ -16,7 +16,7 @@ use Rattle.wasmprinter_spec.specs.Sized.{exactly, alone}
 use Rattle.wasmprinter_spec.specs.Binary.Exports.{extern_kind, export}
 use Rattle.wasmprinter_spec.specs.Binary.Customs.{custom_section}
 use Rattle.wasmprinter_spec.specs.Binary.Code.{local_entry, body_from, body, code_entry}
-use Rattle.wasmprinter_spec.specs.Sections.{Kind, CustomSection, TypeSection, ImportSection, FunctionSection, TableSection, MemorySection, TagSection, GlobalSection, ExportSection, StartSection, ElementSection, DataCountSection, CodeSection, DataSection, Section, holds, content, content_of, section_id, section, are_above, place_after, customs_after}
+use Rattle.wasmprinter_spec.specs.Sections.{Kind, CustomSection, TypeSection, ImportSection, FunctionSection, TableSection, MemorySection, TagSection, GlobalSection, ExportSection, StartSection, ElementSection, DataCountSection, CodeSection, DataSection, Section, holds, content, content_of, section_id, section, are_above, kind_after, customs_after}
 use Rattle.wasmprinter_spec.proofs.Ordered.{picks, held_each}
 use Rattle.wasmprinter_spec.specs.Binary.{type_indices_in, bodies_in, data_count_in, datas_in, counts_data, function_pairs, module_from, module_of_sections, AreBytes, Spells}
 use Rattle.wasmprinter_laws.specs.Listed.{IsListed}
@@ -160,8 +160,8 @@ customs_each : (last : Option Kind) (ss : List Section) → AllByRecursion IsRan
 customs_each last [] all = tt
 customs_each last (s ∷ ss) all =
     elim (picks CustomSection s) [
-      | inl other ↦ rw other (customs_each (place_after last s) ss all.1)
-      | inr own ↦ rw (ap (content_of CustomSection) own.1) (subst IsRangedSection own.1 all.0, customs_each (place_after last s) ss all.1)
+      | inl other ↦ rw other (customs_each (kind_after last s) ss all.1)
+      | inr own ↦ rw (ap (content_of CustomSection) own.1) (subst IsRangedSection own.1 all.0, customs_each (kind_after last s) ss all.1)
     ]
 
 -- ---- functions

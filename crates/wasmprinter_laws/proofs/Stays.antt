@@ -6,13 +6,13 @@ use Rattle.wasmprinter_spec.specs.Row.{Func}
 use Rattle.wasmprinter_spec.specs.Kinds.{Kind, ElementSection, CodeSection, DataSection}
 use Rattle.wasmprinter_spec.specs.Names.{Names}
 use Rattle.wasmprinter_spec.specs.ModuleNames.{module_names}
-use Rattle.wasmprinter_spec.specs.Token.{Token, left, right, word}
+use Rattle.wasmprinter_spec.specs.Token.{Token, open_paren, close_paren, word}
 use Rattle.wasmprinter_spec.specs.Options.{Options, Answers}
 use Rattle.wasmprinter_spec.specs.Customs.Hints.{Hint, FunctionHints, hints_of, next_hints, hints_after}
 use Rattle.wasmprinter_spec.specs.Piece.{Piece, EndLine}
 use Rattle.wasmprinter_spec.specs.Placed.{PlacedFunction, PlacedModule}
 use Rattle.wasmprinter_spec.specs.Module.{without_places, imported_types, func_import}
-use Rattle.wasmprinter_spec.specs.Layout.Groups.{group_at, group_gap_at, close, has_break}
+use Rattle.wasmprinter_spec.specs.Layout.Groups.{group_at, group_space_at, close, has_break}
 use Rattle.wasmprinter_spec.specs.Layout.Identifiers.{leading_id_and_name_pieces}
 use Rattle.wasmprinter_spec.specs.Layout.Declarations.{Scope, scope_of_function}
 use Rattle.wasmprinter_spec.specs.Layout.Functions.{header_pieces, inner_pieces, function_pieces, functions_pieces, function_group}
@@ -22,23 +22,23 @@ use Rattle.wasmprinter_laws.proofs.Tokens.Respelled.{all_lexed, all_lexed-append
 
 -- The tokens of a group: a parenthesis, its keyword, its content and a parenthesis
 abbrev group_tokens : List ℕ → List Token → List Token
-group_tokens w ts = left ∷ (word w ∷ (ts ++ (right ∷ [])))
+group_tokens w ts = open_paren ∷ (word w ∷ (ts ++ (close_paren ∷ [])))
 
-close_tokens : (place : Option ℕ) (nesting : ℕ) (t : Bool) → all_lexed (close place nesting t) ≡ right ∷ []
+close_tokens : (place : Option ℕ) (nesting : ℕ) (t : Bool) → all_lexed (close place nesting t) ≡ close_paren ∷ []
 close_tokens place nesting true = refl
 close_tokens place nesting false = refl
 
-closed_tokens : (ps : List Piece) (place : Option ℕ) (nesting : ℕ) (t : Bool) → all_lexed (ps ++ close place nesting t) ≡ all_lexed ps ++ (right ∷ [])
+closed_tokens : (ps : List Piece) (place : Option ℕ) (nesting : ℕ) (t : Bool) → all_lexed (ps ++ close place nesting t) ≡ all_lexed ps ++ (close_paren ∷ [])
 closed_tokens ps place nesting t =
     all_lexed-append ps (close place nesting t) ∙ ap (λ ts. all_lexed ps ++ ts) (close_tokens place nesting t)
 
 group_at_tokens : (offsets : Bool) (place nesting : ℕ) (w : List ℕ) (ps : List Piece) → all_lexed (group_at offsets place nesting w ps) ≡ group_tokens w (all_lexed ps)
 unfolding group_at
-group_at_tokens offsets place nesting w ps = ap (λ ts. left ∷ (word w ∷ ts)) (closed_tokens ps (Some place) nesting (offsets || has_break ps))
+group_at_tokens offsets place nesting w ps = ap (λ ts. open_paren ∷ (word w ∷ ts)) (closed_tokens ps (Some place) nesting (offsets || has_break ps))
 
-group_gap_at_tokens : (offsets : Bool) (place nesting : ℕ) (w : List ℕ) (ps : List Piece) → all_lexed (group_gap_at offsets place nesting w ps) ≡ group_tokens w (all_lexed ps)
-unfolding group_gap_at
-group_gap_at_tokens offsets place nesting w ps = ap (λ ts. left ∷ (word w ∷ ts)) (closed_tokens ps (Some place) nesting (offsets || has_break ps))
+group_space_at_tokens : (offsets : Bool) (place nesting : ℕ) (w : List ℕ) (ps : List Piece) → all_lexed (group_space_at offsets place nesting w ps) ≡ group_tokens w (all_lexed ps)
+unfolding group_space_at
+group_space_at_tokens offsets place nesting w ps = ap (λ ts. open_paren ∷ (word w ∷ ts)) (closed_tokens ps (Some place) nesting (offsets || has_break ps))
 
 -- The tokens of a function do not depend on offsets.
 function_stays : (skeleton a b : Bool) (s : Scope) (hs : List (Placed Hint)) (f : PlacedFunction) →
@@ -47,7 +47,7 @@ unfolding function_group
 function_stays true a b s hs f = refl
 function_stays false a b s hs f =
     let ps : List Piece = header_pieces s Func (Some s.function) s.function f.type_index ++ inner_pieces s hs f in
-    group_gap_at_tokens a f.body.value.end 1 (codes "func") ps ∙ sym (group_gap_at_tokens b f.body.value.end 1 (codes "func") ps)
+    group_space_at_tokens a f.body.value.end 1 (codes "func") ps ∙ sym (group_space_at_tokens b f.body.value.end 1 (codes "func") ps)
 
 -- Pieces with the same tokens, after the same pieces, have the same tokens.
 after_stays : (ps qs rs : List Piece) → all_lexed qs ≡ all_lexed rs → all_lexed (ps ++ qs) ≡ all_lexed (ps ++ rs)
@@ -143,7 +143,7 @@ module _ (o r : Options) (same : o.skeleton ≡ r.skeleton) where
         ∙ ap (group_tokens (codes "module")) (after_stays name ps qs e)
         ∙ sym (group_at_tokens p.offsets m.size 0 (codes "module") (name ++ qs)))
         ∙ sym (all_lexed-append (group_at p.offsets m.size 0 (codes "module") (name ++ qs)) (EndLine ∷ []))
-    pieces_stay (Some id) ps qs e = ap (λ ts. left ∷ (word (codes "module") ∷ ts)) (after_stays (leading_id_and_name_pieces names.module_name) ps qs e)
+    pieces_stay (Some id) ps qs e = ap (λ ts. open_paren ∷ (word (codes "module") ∷ ts)) (after_stays (leading_id_and_name_pieces names.module_name) ps qs e)
 
     pub module_pieces_with_stay : all_lexed (module_pieces_with o answers names m) ≡ all_lexed (module_pieces_with p answers names m)
     unfolding module_pieces_with

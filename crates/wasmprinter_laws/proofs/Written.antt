@@ -1,4 +1,4 @@
--- The items that the pieces of a module write, field by field, with the custom sections at their places
+-- The items that the pieces of a module write, field by field, with the custom sections at their positions
 use Rattle.std.proofs.Common.{◌≡◌, ℕ, ◌≤◌, ◌+◌, ◌^◌, List, [], ◌∷◌, ◌++◌, length, Option, Some, None, refl, sym, ap, ◌∙◌, suc, ◌-◌, codes, arith, true, subst}
 use Rattle.std.specs.Prelude.{flat_map}
 use Rattle.std.specs.List.{AllByRecursion}

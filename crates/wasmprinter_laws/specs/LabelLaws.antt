@@ -1,7 +1,7 @@
 -- The laws of labels by their identifiers (section 6.5 of the standard, "Labels").
 use Rattle.std.specs.Prelude.{◌≡◌, ℕ, ◌<◌, ◌^◌, List, [], ◌∷◌, ◌++◌, length, map, true, false, Some, option_map}
 use Rattle.wasmprinter_spec.specs.Labels.{Label, Named, LabelNaming, AreLabelsApart, is_hidden, Around, target}
-use Rattle.wasmprinter_spec.specs.Piece.{Gap, Number}
+use Rattle.wasmprinter_spec.specs.Piece.{OneSpace, Number}
 use Rattle.wasmprinter_spec.specs.Layout.Operators.{label_name_pieces, label_pieces}
 use Rattle.wasmprinter_spec.specs.Text.Operators.{depth}
 
@@ -17,6 +17,6 @@ abbrev pub LabelsMeanTheirBlocks : Type 0
 LabelsMeanTheirBlocks =
     (naming : LabelNaming) → AreLabelsApart naming → (inner xs : List Label) → Opened naming xs →
     (l : ℕ) (n : Named) (further : List Label) → target l xs ≡ Around (Some n) further →
-    (is_hidden n (inner ++ further) ≡ false → (label_pieces inner xs l ≡ Gap ∷ label_name_pieces n.given l n)
+    (is_hidden n (inner ++ further) ≡ false → (label_pieces inner xs l ≡ OneSpace ∷ label_name_pieces n.given l n)
     × (depth n.content (map (λ x. option_map (λ m. m.content) x) xs) ≡ Some l))
-    × (is_hidden n (inner ++ further) ≡ true → label_pieces inner xs l ≡ Gap ∷ (Number l ∷ []))
+    × (is_hidden n (inner ++ further) ≡ true → label_pieces inner xs l ≡ OneSpace ∷ (Number l ∷ []))

@@ -10,7 +10,7 @@ use Rattle.wasmprinter_spec.specs.Layout.Groups.{breaks, has_break, close}
 use Rattle.wasmprinter_spec.specs.Layout.Customs.{Part, Shown, Stops, Laid, laid_parts}
 use Rattle.wasmprinter_print.specs.Made.{Whole, Through, AtCall, Stopped}
 use Rattle.wasmprinter_print.specs.MadeLaws.{atoms-text, then_calls, broken_longer, interrupted_longer, alike_calls}
-use Rattle.wasmprinter_print.specs.Effects.{State, state, Effect, both, then_by, Opened, Left, EffectEnds, HasEffectFrom, HasEffect, of_calls, of_pieces, of_laid, of_parts}
+use Rattle.wasmprinter_print.specs.Effects.{State, state, Effect, both, then_by, Opened, LeftGroup, EffectEnds, HasEffectFrom, HasEffect, of_calls, of_pieces, of_laid, of_parts}
 use Rattle.wasmprinter_print.specs.declared.halt.Halt.{Halt}
 use Rattle.wasmprinter_print.specs.declared.halt.Halt.TheVariants.{Printer, Memory, Refused}
 
@@ -23,7 +23,7 @@ or_assoc false b c = refl
 -- If the first effect was completed, then the end of the second is the end of both.
 ended_then : {P : Type 0} (m : Meaning P) (folds : Bool) (a : State P) (s t : P) (b c : Bool) (x : Option Halt) (e f : Effect) →
     Whole m a.printer s e.layout → b ≡ (a.begun || e.lines) →
-    EffectEnds m folds (record { printer = s; error = None; begun = b }) t x c f → EffectEnds m folds a t x c (both e f)
+    EffectEnds m folds (record { printer = s; halt = None; begun = b }) t x c f → EffectEnds m folds a t x c (both e f)
 ended_then m folds a s t b c None e f w h v = (
   then_calls m a.printer s t Through e.layout f.layout w v.0,
   v.1 ∙ ap (λ z. z || f.lines) h ∙ or_assoc a.begun e.lines f.lines,
@@ -42,29 +42,29 @@ ended_ends m folds a t b c (Refused id) e f n v = let q : e.refused ≡ Some id 
 
 effect_then_from : {P : Type 0} (m : Meaning P) (folds : Bool) (p q : P) (x y : Option Halt) (b c : Bool) (t : State P) (e f : Effect) →
     e.refused ≡ None →
-    HasEffectFrom m folds (record { printer = p; error = x; begun = b }) x (record { printer = q; error = y; begun = c }) e →
-    HasEffectFrom m folds (record { printer = q; error = y; begun = c }) y t f → HasEffectFrom m folds (record { printer = p; error = x; begun = b }) x t (both e f)
+    HasEffectFrom m folds (record { printer = p; halt = x; begun = b }) x (record { printer = q; halt = y; begun = c }) e →
+    HasEffectFrom m folds (record { printer = q; halt = y; begun = c }) y t f → HasEffectFrom m folds (record { printer = p; halt = x; begun = b }) x t (both e f)
 effect_then_from m folds p q None None b c t e f n v w =
-    ended_then m folds (record { printer = p; error = None; begun = b }) q t.printer c t.begun t.error e f v.0 v.1 w
+    ended_then m folds (record { printer = p; halt = None; begun = b }) q t.printer c t.begun t.halt e f v.0 v.1 w
 effect_then_from m folds p q None (Some y) b c t e f n v w =
-    let a : State _ = record { printer = p; error = None; begun = b } in
-    subst (λ (z : _). EffectEnds m folds a z t.error t.begun (both e f)) (sym w.0)
+    let a : State _ = record { printer = p; halt = None; begun = b } in
+    subst (λ (z : _). EffectEnds m folds a z t.halt t.begun (both e f)) (sym w.0)
     (subst (λ (z : Option Halt). EffectEnds m folds a q z t.begun (both e f)) (sym w.1) (ended_ends m folds a q c t.begun y e f n v))
 effect_then_from m folds p q (Some x) y b c t e f n v w =
-    let h = subst (λ (z : Option Halt). HasEffectFrom m folds (record { printer = q; error = z; begun = c }) z t f) v.1 w in
+    let h = subst (λ (z : Option Halt). HasEffectFrom m folds (record { printer = q; halt = z; begun = c }) z t f) v.1 w in
     (h.0 ∙ v.0, h.1)
 
 -- The law of composition: two effects, the first of which has no refusal.
 pub effect_both : {P : Type 0} (m : Meaning P) (o : Options) {a s t : State P} {e f : Effect} → e.refused ≡ None →
     HasEffect m o a s e → HasEffect m o s t f → HasEffect m o a t (both e f)
 effect_both m o {a} {s} {t} {e} {f} n v w = record {
-  made = effect_then_from m o.folds a.printer s.printer a.error s.error a.begun s.begun t e f n v.made w.made;
+  made = effect_then_from m o.folds a.printer s.printer a.halt s.halt a.begun s.begun t e f n v.made w.made;
 }
 
 -- ---- nothing
 
 effect_nothing : {P : Type 0} (m : Meaning P) (folds : Bool) (p : P) (x : Option Halt) (b : Bool) →
-    HasEffectFrom m folds (record { printer = p; error = x; begun = b }) x (record { printer = p; error = x; begun = b })
+    HasEffectFrom m folds (record { printer = p; halt = x; begun = b }) x (record { printer = p; halt = x; begun = b })
     (record { layout = []; lines = false; refused = None })
 effect_nothing m folds p None true = (record { calls = []; run = refl; alike = refl }, refl, refl)
 effect_nothing m folds p None false = (record { calls = []; run = refl; alike = refl }, refl, refl)
@@ -72,7 +72,7 @@ effect_nothing m folds p (Some x) b = (refl, refl)
 
 pub effect_none : {P : Type 0} (m : Meaning P) (o : Options) (a : State P) →
     HasEffect m o a a (record { layout = []; lines = false; refused = None })
-effect_none m o a = record { made = effect_nothing m o.folds a.printer a.error a.begun }
+effect_none m o a = record { made = effect_nothing m o.folds a.printer a.halt a.begun }
 
 -- ---- layouts that are alike
 
@@ -89,12 +89,12 @@ effect_from_alike : {P : Type 0} (m : Meaning P) (folds : Bool) (a : State P) (x
     (b : Bool) (r : Option ℕ) →
     atoms l ≡ atoms k → HasEffectFrom m folds a x t (record { layout = l; lines = b; refused = r }) →
     HasEffectFrom m folds a x t (record { layout = k; lines = b; refused = r })
-effect_from_alike m folds a None t l k b r e v = ended_alike m folds a t.printer t.error t.begun l k b r e v
+effect_from_alike m folds a None t l k b r e v = ended_alike m folds a t.printer t.halt t.begun l k b r e v
 effect_from_alike m folds a (Some x) t l k b r e v = v
 
 pub effect_alike : {P : Type 0} (m : Meaning P) (o : Options) {a t : State P} (l k : List Call) →
     atoms l ≡ atoms k → HasEffect m o a t (of_calls l) → HasEffect m o a t (of_calls k)
-effect_alike m o {a} {t} l k e v = record { made = effect_from_alike m o.folds a a.error t l k false None e v.made }
+effect_alike m o {a} {t} l k e v = record { made = effect_from_alike m o.folds a a.halt t l k false None e v.made }
 
 -- An empty text needs no call.
 pub effect_no_text : {P : Type 0} (m : Meaning P) (o : Options) (a : State P) → HasEffect m o a a (of_calls (Text [] ∷ []))
@@ -148,8 +148,8 @@ or_true false = refl
 
 -- If a line begins, then the effect has a line.
 effect_breaks : {P : Type 0} (m : Meaning P) (folds : Bool) (a : State P) (x : Option Halt) (t : P) (y : Option Halt) (c : Bool) (l : List Call) →
-    HasEffectFrom m folds a x (record { printer = t; error = y; begun = c }) (of_calls l) →
-    HasEffectFrom m folds a x (record { printer = t; error = y; begun = true }) (effect_of l true None)
+    HasEffectFrom m folds a x (record { printer = t; halt = y; begun = c }) (of_calls l) →
+    HasEffectFrom m folds a x (record { printer = t; halt = y; begun = true }) (effect_of l true None)
 effect_breaks m folds a None t None c l v = (v.0, sym (or_true a.begun), refl)
 effect_breaks m folds a None t (Some (Printer e)) c l v = v
 effect_breaks m folds a None t (Some Memory) c l v = v
@@ -163,7 +163,7 @@ one_break m o {a} {s} t x e q v =
     subst (λ (z : State _). HasEffect m o a z (of_pieces o (x ∷ []))) (sym q)
     (subst (λ (b : Bool). HasEffect m o a (record s { begun = true }) (effect_of (calls o x ++ []) (cond b true false) None)) (sym e)
     (subst (λ (l : List Call). HasEffect m o a (record s { begun = true }) (effect_of l true None)) (sym (append-nil (calls o x)))
-    (record { made = effect_breaks m o.folds a a.error s.printer s.error s.begun (calls o x) v.made })))
+    (record { made = effect_breaks m o.folds a a.halt s.printer s.halt s.begun (calls o x) v.made })))
 
 -- ---- after an error
 
@@ -173,9 +173,9 @@ effect_any_by m folds a t None y e f q v = cc
 effect_any_by m folds a t (Some x) y e f q v = v
 
 -- After an error, what holds for one effect holds for any other.
-pub effect_any : {P : Type 0} (m : Meaning P) (o : Options) {a t : State P} (y : Halt) (e f : Effect) → a.error ≡ Some y →
+pub effect_any : {P : Type 0} (m : Meaning P) (o : Options) {a t : State P} (y : Halt) (e f : Effect) → a.halt ≡ Some y →
     HasEffect m o a t e → HasEffect m o a t f
-effect_any m o {a} {t} y e f q v = record { made = effect_any_by m o.folds a t a.error y e f q v.made }
+effect_any m o {a} {t} y e f q v = record { made = effect_any_by m o.folds a t a.halt y e f q v.made }
 
 -- ---- parts
 
@@ -188,21 +188,21 @@ unflag m folds a t (Refused id) b c e v = v
 
 refused_by : {P : Type 0} (m : Meaning P) (folds : Bool) (a : State P) (x : Option Halt) (q : P) (y : Option Halt) (c : Bool) (t : State P)
     (e f : Effect) (id : ℕ) → e.refused ≡ Some id →
-    HasEffectFrom m folds a x (record { printer = q; error = y; begun = c }) e → HasEffectFrom m folds (record { printer = q; error = y; begun = c }) y t f →
+    HasEffectFrom m folds a x (record { printer = q; halt = y; begun = c }) e → HasEffectFrom m folds (record { printer = q; halt = y; begun = c }) y t f →
     HasEffectFrom m folds a x t e
 refused_by m folds a None q None c t e f id r v w = let n : e.refused ≡ None = v.2 in cc
 refused_by m folds a None q (Some y) c t e f id r v w =
-    subst (λ (z : _). EffectEnds m folds a z t.error t.begun e) (sym w.0)
+    subst (λ (z : _). EffectEnds m folds a z t.halt t.begun e) (sym w.0)
     (subst (λ (z : Option Halt). EffectEnds m folds a q z t.begun e) (sym w.1) (unflag m folds a q y c t.begun e v))
 refused_by m folds a (Some x) q y c t e f id r v w =
-    let h = subst (λ (z : Option Halt). HasEffectFrom m folds (record { printer = q; error = z; begun = c }) z t f) v.1 w in
+    let h = subst (λ (z : Option Halt). HasEffectFrom m folds (record { printer = q; halt = z; begun = c }) z t f) v.1 w in
     (h.0 ∙ v.0, h.1)
 
 effect_then_by : {P : Type 0} (m : Meaning P) (o : Options) {a s t : State P} (r : Option ℕ) (e f : Effect) → e.refused ≡ r →
     HasEffect m o a s e → HasEffect m o s t f → HasEffect m o a t (then_by r e f)
 effect_then_by m o None e f q v w = effect_both m o q v w
 effect_then_by m o {a} {s} {t} (Some id) e f q v w =
-    record { made = refused_by m o.folds a a.error s.printer s.error s.begun t e f id q v.made w.made }
+    record { made = refused_by m o.folds a a.halt s.printer s.halt s.begun t e f id q v.made w.made }
 
 -- Two effects, one after the other: after a refusal nothing follows.
 pub effect_then : {P : Type 0} (m : Meaning P) (o : Options) {a s t : State P} {e f : Effect} →
@@ -251,62 +251,62 @@ shown m o {a} {t} xs v = subst (λ (ys : List Piece). HasEffect m o a t (of_laid
 -- ---- groups
 
 lines_by : {P : Type 0} (m : Meaning P) (folds : Bool) (a : State P) (x : Option Halt) (t : State P) (y : Option Halt) (e : Effect) →
-    a.begun ≡ false → t.error ≡ y → HasEffectFrom m folds a x t e → y ≡ None → t.begun ≡ e.lines
-lines_by m folds a (Some z) t None e f q v n = let h : t.error ≡ Some z = v.1 in cc
+    a.begun ≡ false → t.halt ≡ y → HasEffectFrom m folds a x t e → y ≡ None → t.begun ≡ e.lines
+lines_by m folds a (Some z) t None e f q v n = let h : t.halt ≡ Some z = v.1 in cc
 lines_by m folds a x t (Some y) e f q v n = cc
 lines_by m folds a None t None e f q v n =
     let h : EffectEnds m folds a t.printer None t.begun e = subst (λ (z : Option Halt). EffectEnds m folds a t.printer z t.begun e) q v in
     h.1 ∙ ap (λ b. b || e.lines) f
 
 closing_by : {P : Type 0} (m : Meaning P) (o : Options) {s t u : State P} (y : Option Halt) (forced : Bool) (place : Option ℕ) (n : ℕ) (e : Effect) →
-    s.begun ≡ false → t.error ≡ y → HasEffect m o s t e → HasEffect m o t u (of_pieces o (close place n (forced || t.begun))) →
+    s.begun ≡ false → t.halt ≡ y → HasEffect m o s t e → HasEffect m o t u (of_pieces o (close place n (forced || t.begun))) →
     HasEffect m o t u (of_pieces o (close place n (forced || e.lines)))
 closing_by m o {s} {t} {u} None forced place n e f q v w =
-    subst (λ (b : Bool). HasEffect m o t u (of_pieces o (close place n (forced || b)))) (lines_by m o.folds s s.error t None e f q v.made refl) w
+    subst (λ (b : Bool). HasEffect m o t u (of_pieces o (close place n (forced || b)))) (lines_by m o.folds s s.halt t None e f q v.made refl) w
 closing_by m o {s} {t} {u} (Some y) forced place n e f q v w =
     effect_any m o y (of_pieces o (close place n (forced || t.begun))) (of_pieces o (close place n (forced || e.lines))) q w
 
 reflag_by : {P : Type 0} (m : Meaning P) (folds : Bool) (p : P) (x : Option Halt) (q : P) (y : Option Halt) (b c : Bool) (e : Effect) →
-    HasEffectFrom m folds (record { printer = p; error = x; begun = false }) x (record { printer = q; error = y; begun = c }) e →
-    HasEffectFrom m folds (record { printer = p; error = x; begun = b }) x (record { printer = q; error = y; begun = b || c }) e
+    HasEffectFrom m folds (record { printer = p; halt = x; begun = false }) x (record { printer = q; halt = y; begun = c }) e →
+    HasEffectFrom m folds (record { printer = p; halt = x; begun = b }) x (record { printer = q; halt = y; begun = b || c }) e
 reflag_by m folds p None q None b c e v = (v.0, ap (λ z. b || z) v.1, v.2)
 reflag_by m folds p None q (Some (Printer z)) b c e v = v
 reflag_by m folds p None q (Some Memory) b c e v = v
 reflag_by m folds p None q (Some (Refused id)) b c e v = v
 reflag_by m folds p (Some z) q y b c e v = v
 
-reflag : {P : Type 0} (m : Meaning P) (o : Options) {a s u v : State P} (outer : Bool) (e : Effect) → Opened a s outer → Left u v outer →
+reflag : {P : Type 0} (m : Meaning P) (o : Options) {a s u v : State P} (outer_begun : Bool) (e : Effect) → Opened a s outer_begun → LeftGroup u v outer_begun →
     HasEffect m o s u e → HasEffect m o a v e
-reflag m o {a} {s} {u} {v} outer e h l w =
-    let from : State _ = record { printer = a.printer; error = a.error; begun = false } in
+reflag m o {a} {s} {u} {v} outer_begun e h l w =
+    let from : State _ = record { printer = a.printer; halt = a.halt; begun = false } in
     let s_is : s ≡ from =
-    ap₂ (λ (p : _) (x : Option Halt). record { printer = p; error = x; begun = s.begun }) h.printer h.error
-    ∙ ap (λ (b : Bool). record { printer = a.printer; error = a.error; begun = b }) h.begun in
-    let to : State _ = record { printer = u.printer; error = u.error; begun = a.begun || u.begun } in
+    ap₂ (λ (p : _) (x : Option Halt). record { printer = p; halt = x; begun = s.begun }) h.printer h.halt
+    ∙ ap (λ (b : Bool). record { printer = a.printer; halt = a.halt; begun = b }) h.begun in
+    let to : State _ = record { printer = u.printer; halt = u.halt; begun = a.begun || u.begun } in
     let v_is : v ≡ to =
-    ap₂ (λ (p : _) (x : Option Halt). record { printer = p; error = x; begun = v.begun }) l.printer l.error
-    ∙ ap (λ (b : Bool). record { printer = u.printer; error = u.error; begun = b }) (l.begun ∙ ap (λ b. b || u.begun) h.outer_is) in
+    ap₂ (λ (p : _) (x : Option Halt). record { printer = p; halt = x; begun = v.begun }) l.printer l.halt
+    ∙ ap (λ (b : Bool). record { printer = u.printer; halt = u.halt; begun = b }) (l.begun ∙ ap (λ b. b || u.begun) h.outer_is) in
     let moved : HasEffect m o from u e = subst (λ (z : State _). HasEffect m o z u e) s_is w in
     subst (λ (z : State _). HasEffect m o a z e) (sym v_is)
-    (record { made = reflag_by m o.folds a.printer a.error u.printer u.error a.begun u.begun e moved.made })
+    (record { made = reflag_by m o.folds a.printer a.halt u.printer u.halt a.begun u.begun e moved.made })
 
 -- The contents of a group, and its closing parenthesis. The parenthesis is on a line of its own if a line begins in
 -- the group, or if this is forced.
-pub closed : {P : Type 0} (m : Meaning P) (o : Options) {a s t u v : State P} (forced outer : Bool) (place : Option ℕ) (n : ℕ) (xs : List Piece) →
-    Opened a s outer → HasEffect m o s t (of_pieces o xs) → HasEffect m o t u (of_pieces o (close place n (forced || t.begun))) → Left u v outer →
+pub closed : {P : Type 0} (m : Meaning P) (o : Options) {a s t u v : State P} (forced outer_begun : Bool) (place : Option ℕ) (n : ℕ) (xs : List Piece) →
+    Opened a s outer_begun → HasEffect m o s t (of_pieces o xs) → HasEffect m o t u (of_pieces o (close place n (forced || t.begun))) → LeftGroup u v outer_begun →
     HasEffect m o a v (of_pieces o (xs ++ close place n (forced || has_break xs)))
-closed m o {a} {s} {t} {u} {v} forced outer place n xs h w z l =
-    reflag m o outer (of_pieces o (xs ++ close place n (forced || has_break xs))) h l
-    (both_pieces m o xs (close place n (forced || has_break xs)) w (closing_by m o t.error forced place n (of_pieces o xs) h.begun refl w z))
+closed m o {a} {s} {t} {u} {v} forced outer_begun place n xs h w z l =
+    reflag m o outer_begun (of_pieces o (xs ++ close place n (forced || has_break xs))) h l
+    (both_pieces m o xs (close place n (forced || has_break xs)) w (closing_by m o t.halt forced place n (of_pieces o xs) h.begun refl w z))
 
 -- The parts in a group, and its closing parenthesis.
-pub closed_parts : {P : Type 0} (m : Meaning P) (o : Options) {a s t u v : State P} (forced outer : Bool) (place : Option ℕ) (n : ℕ) (ps : List Part) →
-    Opened a s outer → HasEffect m o s t (of_parts o ps) → HasEffect m o t u (of_pieces o (close place n (forced || t.begun))) → Left u v outer →
+pub closed_parts : {P : Type 0} (m : Meaning P) (o : Options) {a s t u v : State P} (forced outer_begun : Bool) (place : Option ℕ) (n : ℕ) (ps : List Part) →
+    Opened a s outer_begun → HasEffect m o s t (of_parts o ps) → HasEffect m o t u (of_pieces o (close place n (forced || t.begun))) → LeftGroup u v outer_begun →
     HasEffect m o a v (of_parts o (ps ++ (Shown (close place n (forced || has_break (laid_parts ps).pieces)) ∷ [])))
-closed_parts m o {a} {s} {t} {u} {v} forced outer place n ps h w z l =
+closed_parts m o {a} {s} {t} {u} {v} forced outer_begun place n ps h w z l =
     let last : List Piece = close place n (forced || has_break (laid_parts ps).pieces) in
-    reflag m o outer (of_parts o (ps ++ (Shown last ∷ []))) h l
-    (both_parts m o ps (Shown last ∷ []) w (shown m o last (closing_by m o t.error forced place n (of_parts o ps) h.begun refl w z)))
+    reflag m o outer_begun (of_parts o (ps ++ (Shown last ∷ []))) h l
+    (both_parts m o ps (Shown last ∷ []) w (shown m o last (closing_by m o t.halt forced place n (of_parts o ps) h.begun refl w z)))
 
 -- ---- one call
 
@@ -350,14 +350,14 @@ skipped_by m folds p None b e q = cc
 skipped_by m folds p (Some y) b e q = (refl, refl)
 
 -- After an error nothing is printed of any layout.
-pub skipped : {P : Type 0} (m : Meaning P) (o : Options) (a : State P) (e : Effect) → is_some a.error ≡ true → HasEffect m o a a e
-skipped m o a e q = record { made = skipped_by m o.folds a.printer a.error a.begun e q }
+pub skipped : {P : Type 0} (m : Meaning P) (o : Options) (a : State P) (e : Effect) → is_some a.halt ≡ true → HasEffect m o a a e
+skipped m o a e q = record { made = skipped_by m o.folds a.printer a.halt a.begun e q }
 
 -- ---- from the start to the end
 
 -- The end of code that started without an error.
-pub effect_end : {P : Type 0} (m : Meaning P) (o : Options) {a t : State P} {e : Effect} → a.error ≡ None → HasEffect m o a t e →
-    EffectEnds m o.folds a t.printer t.error t.begun e
+pub effect_end : {P : Type 0} (m : Meaning P) (o : Options) {a t : State P} {e : Effect} → a.halt ≡ None → HasEffect m o a t e →
+    EffectEnds m o.folds a t.printer t.halt t.begun e
 effect_end m o {a} {t} {e} q v = subst (λ (x : Option Halt). HasEffectFrom m o.folds a x t e) q v.made
 
 -- The end of code that started without an error, between known states of the printer.

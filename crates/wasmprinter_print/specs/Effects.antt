@@ -13,12 +13,12 @@ use Rattle.wasmprinter_print.specs.declared.halt.Halt.TheVariants.{Printer, Memo
 -- A printer, the first error, and whether a line has begun in the innermost open group.
 pub record State (P : Type 0) : Type 0 where
   pub printer : P
-  pub error : Option Halt
+  pub halt : Option Halt
   pub begun : Bool
 
 -- The state with these fields.
 abbrev pub state : {P : Type 0} → P → Option Halt → Bool → State P
-state printer error begun = record { printer = printer; error = error; begun = begun }
+state printer halt begun = record { printer = printer; halt = halt; begun = begun }
 
 -- The effect of a layout: its calls, whether a line begins in it, and the refused subsection at which it ends, if any.
 pub record Effect : Type 0 where
@@ -50,13 +50,13 @@ EffectEnds m folds a new (Some (Refused id)) begun e = Whole m a.printer new e.l
 
 -- The same for any state at the start: after an error nothing is printed.
 abbrev pub HasEffectFrom : {P : Type 0} → Meaning P → Bool → State P → Option Halt → State P → Effect → Type 0
-HasEffectFrom m folds a None t e = EffectEnds m folds a t.printer t.error t.begun e
-HasEffectFrom m folds a (Some x) t e = (t.printer ≡ a.printer) × (t.error ≡ Some x)
+HasEffectFrom m folds a None t e = EffectEnds m folds a t.printer t.halt t.begun e
+HasEffectFrom m folds a (Some x) t e = (t.printer ≡ a.printer) × (t.halt ≡ Some x)
 
 -- The code between these two states has this effect, up to the first error. (`HasEffectFrom` as a record, so that
 -- lemmas can refer to it by name.)
 pub record HasEffect {P : Type 0} (m : Meaning P) (o : Options) (a t : State P) (e : Effect) : Type 0 where
-  pub made : HasEffectFrom m o.folds a a.error t e
+  pub made : HasEffectFrom m o.folds a a.halt t e
 
 -- The effects of calls (`of_calls`), of pieces (`of_pieces`), of pieces up to a refusal (`of_laid`) and of parts
 -- (`of_parts`).
@@ -72,15 +72,15 @@ of_laid o l = record { layout = all_calls o l.pieces; lines = has_break l.pieces
 abbrev pub of_parts : Options → List Part → Effect
 of_parts o ps = of_laid o (laid_parts ps)
 
--- A group was opened: no line has begun in it. `outer` says whether a line had begun in the group around it.
-pub record Opened {P : Type 0} (a s : State P) (outer : Bool) : Type 0 where
+-- A group was opened: no line has begun in it. `outer_begun` says whether a line had begun in the group around it.
+pub record Opened {P : Type 0} (a s : State P) (outer_begun : Bool) : Type 0 where
   pub printer : s.printer ≡ a.printer
-  pub error : s.error ≡ a.error
+  pub halt : s.halt ≡ a.halt
   pub begun : s.begun ≡ false
-  pub outer_is : outer ≡ a.begun
+  pub outer_is : outer_begun ≡ a.begun
 
 -- A group was left: a line that began in it has begun in the group around it.
-pub record Left {P : Type 0} (u v : State P) (outer : Bool) : Type 0 where
+pub record LeftGroup {P : Type 0} (u v : State P) (outer_begun : Bool) : Type 0 where
   pub printer : v.printer ≡ u.printer
-  pub error : v.error ≡ u.error
-  pub begun : v.begun ≡ (outer || u.begun)
+  pub halt : v.halt ≡ u.halt
+  pub begun : v.begun ≡ (outer_begun || u.begun)

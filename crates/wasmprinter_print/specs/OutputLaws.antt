@@ -7,19 +7,19 @@ use Rattle.wasmprinter_spec.specs.Layout.Customs.{Part, Shown, Stops, laid_parts
 use Rattle.wasmprinter_spec.specs.Layout.Groups.{breaks, close, has_break}
 
 -- A group was closed: its closing parenthesis was written, and then the group was left.
-pub record Closed {S : Type 0} (wrote : S → S → List Piece → Type 0) (begun : S → Bool) (left : S → S → Bool → Type 0) (old new : S)
-    (place : Option ℕ) (nesting : ℕ) (outer : Bool) : Type 0 where
+pub record Closed {S : Type 0} (wrote : S → S → List Piece → Type 0) (begun : S → Bool) (left_group : S → S → Bool → Type 0) (old new : S)
+    (place : Option ℕ) (nesting : ℕ) (outer_begun : Bool) : Type 0 where
   pub last : S
   pub parenthesis : wrote old last (close place nesting (begun old))
-  pub leaves : left last new outer
+  pub leaves : left_group last new outer_begun
 
 -- A group that ends at a place was closed. Its closing parenthesis is also on a line of its own if lines begin with
 -- their places.
-pub record ClosedAt {S : Type 0} (o : Options) (wrote : S → S → List Piece → Type 0) (begun : S → Bool) (left : S → S → Bool → Type 0) (old new : S)
-    (place nesting : ℕ) (outer : Bool) : Type 0 where
+pub record ClosedAt {S : Type 0} (o : Options) (wrote : S → S → List Piece → Type 0) (begun : S → Bool) (left_group : S → S → Bool → Type 0) (old new : S)
+    (place nesting : ℕ) (outer_begun : Bool) : Type 0 where
   pub last : S
   pub parenthesis : wrote old last (close (Some place) nesting (o.offsets || begun old))
-  pub leaves : left last new outer
+  pub leaves : left_group last new outer_begun
 
 module _ {S : Type 0} (called : S → S → List Call → Type 0) where
   -- A call, and then others.
@@ -79,26 +79,26 @@ module _ {S : Type 0} (wrote : S → S → List Piece → Type 0) (laid : S → 
   abbrev pub StopOf : Type 0
   StopOf = (a s t : S) (xs ys : List Piece) (id : ℕ) → wrote a s xs → laid s t (Stops ys id ∷ []) → laid a t (Stops (xs ++ ys) id ∷ [])
 
-module _ {S : Type 0} (wrote : S → S → List Piece → Type 0) (begun : S → Bool) (opened left : S → S → Bool → Type 0) where
+module _ {S : Type 0} (wrote : S → S → List Piece → Type 0) (begun : S → Bool) (opened left_group : S → S → Bool → Type 0) where
   -- The contents of a group, and its closing parenthesis.
   abbrev pub GroupOf : Type 0
   GroupOf =
-      (a s t v : S) (outer : Bool) (place : Option ℕ) (n : ℕ) (xs : List Piece) → opened a s outer → wrote s t xs →
-      Closed wrote begun left t v place n outer → wrote a v (xs ++ close place n (has_break xs))
+      (a s t v : S) (outer_begun : Bool) (place : Option ℕ) (n : ℕ) (xs : List Piece) → opened a s outer_begun → wrote s t xs →
+      Closed wrote begun left_group t v place n outer_begun → wrote a v (xs ++ close place n (has_break xs))
 
-module _ {S : Type 0} (o : Options) (wrote : S → S → List Piece → Type 0) (begun : S → Bool) (opened left : S → S → Bool → Type 0) where
+module _ {S : Type 0} (o : Options) (wrote : S → S → List Piece → Type 0) (begun : S → Bool) (opened left_group : S → S → Bool → Type 0) where
   -- The contents of a group that ends at a place, and its closing parenthesis.
   abbrev pub GroupAtOf : Type 0
   GroupAtOf =
-      (a s t v : S) (outer : Bool) (place n : ℕ) (xs : List Piece) → opened a s outer → wrote s t xs →
-      ClosedAt o wrote begun left t v place n outer → wrote a v (xs ++ close (Some place) n (o.offsets || has_break xs))
+      (a s t v : S) (outer_begun : Bool) (place n : ℕ) (xs : List Piece) → opened a s outer_begun → wrote s t xs →
+      ClosedAt o wrote begun left_group t v place n outer_begun → wrote a v (xs ++ close (Some place) n (o.offsets || has_break xs))
 
 module _ {S : Type 0} (o : Options) (wrote : S → S → List Piece → Type 0) (laid : S → S → List Part → Type 0) (begun : S → Bool)
-    (opened left : S → S → Bool → Type 0) where
+    (opened left_group : S → S → Bool → Type 0) where
   -- The parts in a group that ends at a place, and its closing parenthesis. If the layout ends at one of the parts,
   -- then the parenthesis is not written.
   abbrev pub PartsAtOf : Type 0
   PartsAtOf =
-      (a s t v : S) (outer : Bool) (place n : ℕ) (ps : List Part) → opened a s outer → laid s t ps →
-      ClosedAt o wrote begun left t v place n outer →
+      (a s t v : S) (outer_begun : Bool) (place n : ℕ) (ps : List Part) → opened a s outer_begun → laid s t ps →
+      ClosedAt o wrote begun left_group t v place n outer_begun →
       laid a v (ps ++ (Shown (close (Some place) n (o.offsets || has_break (laid_parts ps).pieces)) ∷ []))

@@ -44,7 +44,7 @@ pub trait Output {
     ghost opened: { Self → Self → Bool → Type 0 };
 
     /// The innermost group was left.
-    ghost left: { Self → Self → Bool → Type 0 };
+    ghost left_group: { Self → Self → Bool → Type 0 };
 
     /// Returns whether each line starts with its byte offset.
     fn offsets(&self) -> bool
@@ -116,8 +116,8 @@ pub trait Output {
         ensures { result ≡ begun self.now };
 
     /// Leaves the innermost group.
-    fn leave_group(&mut self, outer: bool)
-        ensures { left self.old self.new outer };
+    fn leave_group(&mut self, outer_begun: bool)
+        ensures { left_group self.old self.new outer_begun };
 
     /// Ends the layout, since a `dylink.0` section has a subsection with this unknown id.
     fn refuse_subsection(&mut self, id: u8)
@@ -146,15 +146,15 @@ pub trait Output {
 
     ghost no_piece: { NoneOf wrote };
 
-    ghost group_of: { GroupOf wrote begun opened left };
+    ghost group_of: { GroupOf wrote begun opened left_group };
 
-    ghost group_at_of: { GroupAtOf chosen wrote begun opened left };
+    ghost group_at_of: { GroupAtOf chosen wrote begun opened left_group };
 
     ghost part_of: { PartOf wrote laid };
 
     ghost stop_of: { StopOf wrote laid };
 
-    ghost parts_at_of: { PartsAtOf chosen wrote laid begun opened left };
+    ghost parts_at_of: { PartsAtOf chosen wrote laid begun opened left_group };
 
     ghost part_then: { OneThen laid };
 

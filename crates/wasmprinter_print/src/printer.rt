@@ -46,7 +46,7 @@ impl<'o, 'p, P: Print, K: Chosen> Output for Printer<'o, 'p, P, K> {
     ghost use Rattle.std.specs.Prelude.{◌≡◌, true, false, List, [], ◌∷◌, Some, refl, is_some};
     ghost use Rattle.std.proofs.Common.{◌∙◌};
     ghost use Rattle.wasmprinter_spec.specs.Piece.{Piece};
-    ghost use Rattle.wasmprinter_print.specs.Effects.{HasEffect, Opened, Left, state, of_calls, of_pieces, of_parts};
+    ghost use Rattle.wasmprinter_print.specs.Effects.{HasEffect, Opened, LeftGroup, state, of_calls, of_pieces, of_parts};
     ghost use Rattle.wasmprinter_print.specs.OutputLaws.{Closed, ClosedAt};
     ghost use Rattle.wasmprinter_print.specs.EffectLaws.{effect_none, effect_no_text, both_calls, both_texts, one_piece, one_break, both_pieces, closed, closed_parts, shown, stopped, both_parts, skipped};
 
@@ -68,10 +68,10 @@ impl<'o, 'p, P: Print, K: Chosen> Output for Printer<'o, 'p, P, K> {
     ghost begins = { λ s t. (state t.printer.now t.halt t.begun ≡ record (state s.printer.now s.halt s.begun) { begun = true })
         × (t.printer.ghost_name ≡ s.printer.ghost_name) };
 
-    ghost opened = { λ a s outer. Opened (state a.printer.now a.halt a.begun) (state s.printer.now s.halt s.begun) outer
+    ghost opened = { λ a s outer_begun. Opened (state a.printer.now a.halt a.begun) (state s.printer.now s.halt s.begun) outer_begun
         × (s.printer.ghost_name ≡ a.printer.ghost_name) };
 
-    ghost left = { λ u v outer. Left (state u.printer.now u.halt u.begun) (state v.printer.now v.halt v.begun) outer
+    ghost left_group = { λ u v outer_begun. LeftGroup (state u.printer.now u.halt u.begun) (state v.printer.now v.halt v.begun) outer_begun
         × (v.printer.ghost_name ≡ u.printer.ghost_name) };
 
     ghost call_then = { λ a s t c k v w. (both_calls P.meaning K.options (c ∷ []) k v.0 w.0, w.1 ∙ v.1) };
@@ -96,11 +96,11 @@ impl<'o, 'p, P: Print, K: Chosen> Output for Printer<'o, 'p, P, K> {
 
     ghost no_piece = { λ a. (effect_none P.meaning K.options (state a.printer.now a.halt a.begun), refl) };
 
-    ghost group_of = { λ a s t v outer place n xs h w c.
-        (closed P.meaning K.options false outer place n xs h.0 w.0 c.parenthesis.0 c.leaves.0, c.leaves.1 ∙ (c.parenthesis.1 ∙ (w.1 ∙ h.1))) };
+    ghost group_of = { λ a s t v outer_begun place n xs h w c.
+        (closed P.meaning K.options false outer_begun place n xs h.0 w.0 c.parenthesis.0 c.leaves.0, c.leaves.1 ∙ (c.parenthesis.1 ∙ (w.1 ∙ h.1))) };
 
-    ghost group_at_of = { λ a s t v outer place n xs h w c. (
-      closed P.meaning K.options K.options.offsets outer (Some place) n xs h.0 w.0 c.parenthesis.0 c.leaves.0,
+    ghost group_at_of = { λ a s t v outer_begun place n xs h w c. (
+      closed P.meaning K.options K.options.offsets outer_begun (Some place) n xs h.0 w.0 c.parenthesis.0 c.leaves.0,
       c.leaves.1 ∙ (c.parenthesis.1 ∙ (w.1 ∙ h.1)),
     ) };
 
@@ -108,8 +108,8 @@ impl<'o, 'p, P: Print, K: Chosen> Output for Printer<'o, 'p, P, K> {
 
     ghost stop_of = { λ a s t xs ys id v w. (stopped P.meaning K.options xs ys id v.0 w.0, w.1 ∙ v.1) };
 
-    ghost parts_at_of = { λ a s t v outer place n ps h w c. (
-      closed_parts P.meaning K.options K.options.offsets outer (Some place) n ps h.0 w.0 c.parenthesis.0 c.leaves.0,
+    ghost parts_at_of = { λ a s t v outer_begun place n ps h w c. (
+      closed_parts P.meaning K.options K.options.offsets outer_begun (Some place) n ps h.0 w.0 c.parenthesis.0 c.leaves.0,
       c.leaves.1 ∙ (c.parenthesis.1 ∙ (w.1 ∙ h.1)),
     ) };
 
@@ -255,9 +255,9 @@ impl<'o, 'p, P: Print, K: Chosen> Output for Printer<'o, 'p, P, K> {
 
     #[inline(always)]
     fn enter_group(&mut self) -> bool {
-        let outer = self.begun;
+        let outer_begun = self.begun;
         self.begun = false;
-        outer
+        outer_begun
     }
 
     #[inline(always)]
@@ -266,8 +266,8 @@ impl<'o, 'p, P: Print, K: Chosen> Output for Printer<'o, 'p, P, K> {
     }
 
     #[inline(always)]
-    fn leave_group(&mut self, outer: bool) {
-        self.begun = outer || self.begun;
+    fn leave_group(&mut self, outer_begun: bool) {
+        self.begun = outer_begun || self.begun;
     }
 
     fn refuse_subsection(&mut self, id: u8) {

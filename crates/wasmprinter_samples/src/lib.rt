@@ -3,19 +3,19 @@
 #![tactic(auto)]
 
 pub mod calls;
-mod expect;
 pub mod modules;
 pub mod parts;
 mod recorder;
 pub mod sections;
+mod text_comparison;
 
-pub use expect::{Different, expect_same, expect_text};
 pub use modules::MODULES;
 pub use modules::customs::{
     CUSTOMS_AROUND_A_MEMORY, DYLINK_CUT, DYLINK_MEMORY, DYLINK_UNKNOWN, HINTED_IF, RAW_PRODUCERS,
 };
 pub use modules::sections::GLOBAL_BLOCK;
 pub use recorder::{REFUSED, Recorder};
+pub use text_comparison::{Different, expect_same, expect_text};
 
 /// The magic number and the version, which are a whole module.
 pub const PREAMBLE: &[u8] = &[0x00, 0x61, 0x73, 0x6d, 0x01, 0x00, 0x00, 0x00];

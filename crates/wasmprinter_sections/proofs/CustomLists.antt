@@ -4,19 +4,19 @@ use Rattle.std.proofs.Common.{sym, ap, ◌∙◌, append_assoc}
 use Rattle.wasmprinter_spec.specs.Grammar.{Placed}
 use Rattle.wasmprinter_spec.specs.Customs.Producers.{Value, Field}
 use Rattle.wasmprinter_spec.specs.Customs.Dylink.{ExportInfo, ImportInfo, Subsection}
-use Rattle.wasmprinter_spec.specs.Piece.{Piece, Gap, Word, Break, OpenGap, Quoted, Shut}
-use Rattle.wasmprinter_spec.specs.Layout.Customs.{gap_quoted, gap_quoted_list, values_pieces, fields_pieces, flags_pieces, exports_pieces, import_infos_pieces, content_pieces, subsections_pieces}
+use Rattle.wasmprinter_spec.specs.Piece.{Piece, OneSpace, Word, Break, OpenSpace, Quoted, CloseParen}
+use Rattle.wasmprinter_spec.specs.Layout.Customs.{space_quoted, space_quoted_list, values_pieces, fields_pieces, flags_pieces, exports_pieces, import_infos_pieces, content_pieces, subsections_pieces}
 use Rattle.wasmprinter_custom.specs.FlagPieces.{words_pieces}
 
 -- ---- Names
 
-pub names-none : (ns : List (List ℕ)) → ns ≡ [] → gap_quoted_list ns ≡ []
-unfolding gap_quoted_list
-names-none ns e = ap gap_quoted_list e
+pub names-none : (ns : List (List ℕ)) → ns ≡ [] → space_quoted_list ns ≡ []
+unfolding space_quoted_list
+names-none ns e = ap space_quoted_list e
 
-pub names-next : (ns rest : List (List ℕ)) (n : List ℕ) → ns ≡ n ∷ rest → gap_quoted_list ns ≡ gap_quoted n ++ gap_quoted_list rest
-unfolding gap_quoted_list
-names-next ns rest n e = ap gap_quoted_list e
+pub names-next : (ns rest : List (List ℕ)) (n : List ℕ) → ns ≡ n ∷ rest → space_quoted_list ns ≡ space_quoted n ++ space_quoted_list rest
+unfolding space_quoted_list
+names-next ns rest n e = ap space_quoted_list e
 
 -- ---- Words of flags
 
@@ -24,7 +24,7 @@ pub words-none : (ws : List (List ℕ)) → ws ≡ [] → words_pieces ws ≡ []
 unfolding words_pieces
 words-none ws e = ap words_pieces e
 
-pub words-next : (ws rest : List (List ℕ)) (w : List ℕ) → ws ≡ w ∷ rest → words_pieces ws ≡ (Gap ∷ (Word w ∷ [])) ++ words_pieces rest
+pub words-next : (ws rest : List (List ℕ)) (w : List ℕ) → ws ≡ w ∷ rest → words_pieces ws ≡ (OneSpace ∷ (Word w ∷ [])) ++ words_pieces rest
 unfolding words_pieces
 words-next ws rest w e = ap words_pieces e
 
@@ -58,8 +58,8 @@ module _ (place : ℕ) where
   unfolding exports_pieces
   exports-next es rest x e =
       ap (exports_pieces place) e
-      ∙ ap (λ (ps : List Piece). Break (Some place) 2 ∷ (OpenGap (codes "export-info") ∷ (Quoted (chars x.name) ∷ ps)))
-      (sym (append_assoc (flags_pieces x.flags) (Shut ∷ []) (exports_pieces place rest)))
+      ∙ ap (λ (ps : List Piece). Break (Some place) 2 ∷ (OpenSpace (codes "export-info") ∷ (Quoted (chars x.name) ∷ ps)))
+      (sym (append_assoc (flags_pieces x.flags) (CloseParen ∷ []) (exports_pieces place rest)))
 
   pub imports-none : (is : List ImportInfo) → is ≡ [] → import_infos_pieces place is ≡ []
   unfolding import_infos_pieces
@@ -70,8 +70,8 @@ module _ (place : ℕ) where
   unfolding import_infos_pieces
   imports-next is rest x e =
       ap (import_infos_pieces place) e
-      ∙ ap (λ (ps : List Piece). Break (Some place) 2 ∷ (OpenGap (codes "import-info") ∷ (Quoted (chars x.source) ∷ (gap_quoted x.name ++ ps))))
-      (sym (append_assoc (flags_pieces x.flags) (Shut ∷ []) (import_infos_pieces place rest)))
+      ∙ ap (λ (ps : List Piece). Break (Some place) 2 ∷ (OpenSpace (codes "import-info") ∷ (Quoted (chars x.source) ∷ (space_quoted x.name ++ ps))))
+      (sym (append_assoc (flags_pieces x.flags) (CloseParen ∷ []) (import_infos_pieces place rest)))
 
 pub subsections-none : (ss : List Subsection) → ss ≡ [] → subsections_pieces ss ≡ []
 unfolding subsections_pieces

@@ -7,7 +7,7 @@ use Rattle.wasmprinter_spec.specs.Grammar.{Placed}
 use Rattle.wasmprinter_spec.specs.Row.{Func}
 use Rattle.wasmprinter_spec.specs.Operator.{Operator}
 use Rattle.wasmprinter_spec.specs.Instructions.{Closed}
-use Rattle.wasmprinter_spec.specs.Piece.{Gap}
+use Rattle.wasmprinter_spec.specs.Piece.{OneSpace}
 use Rattle.wasmprinter_spec.specs.Layout.Declarations.{Scope, item_index}
 use Rattle.wasmprinter_spec.specs.Layout.Expressions.{constant_group}
 use Rattle.wasmprinter_spec.specs.Layout.Elements.{function_items, expression_items}
@@ -20,7 +20,7 @@ functions-none s is e = ap (function_items s) e
 
 -- The pieces of functions are those of the first function and those of the others.
 pub functions-next : (s : Scope) (is rest : List ℕ) (i : ℕ) → is ≡ i ∷ rest →
-    function_items s is ≡ (Gap ∷ item_index s Func i) ++ function_items s rest
+    function_items s is ≡ (OneSpace ∷ item_index s Func i) ++ function_items s rest
 unfolding function_items
 functions-next s is rest i e = ap (function_items s) e
 
@@ -32,8 +32,8 @@ expressions-none s k es le = ap (λ xs. expression_items s (constants_of xs)) (d
 -- The pieces after the first k expressions are those of expression k and those of the expressions after it.
 pub expressions-next : (s : Scope) (k : ℕ) (es : List (Closed (Placed Operator))) (x d : Closed (Placed Operator)) → k < length es → x ≡ get_or es k d →
     expression_items s (constants_of (drop k es))
-    ≡ (Gap ∷ constant_group s 2 (codes "item") (constant_of x)) ++ expression_items s (constants_of (drop (k + 1) es))
+    ≡ (OneSpace ∷ constant_group s 2 (codes "item") (constant_of x)) ++ expression_items s (constants_of (drop (k + 1) es))
 unfolding expression_items
 expressions-next s k es x d lt is =
     at_drop_more (λ xs. expression_items s (constants_of xs)) es k d lt
-    ∙ ap (λ (y : Closed (Placed Operator)). (Gap ∷ constant_group s 2 (codes "item") (constant_of y)) ++ expression_items s (constants_of (drop (k + 1) es))) (sym is)
+    ∙ ap (λ (y : Closed (Placed Operator)). (OneSpace ∷ constant_group s 2 (codes "item") (constant_of y)) ++ expression_items s (constants_of (drop (k + 1) es))) (sym is)

@@ -5,8 +5,8 @@ use Rattle.wasmprinter_spec.specs.Grammar.{Placed}
 use Rattle.wasmprinter_spec.specs.Types.{MemoryType}
 use Rattle.wasmprinter_spec.specs.Row as row
 use Rattle.wasmprinter_spec.specs.Placed.{Import, Export}
-use Rattle.wasmprinter_spec.specs.Piece.{Piece, Break, OpenGap}
-use Rattle.wasmprinter_spec.specs.Layout.Groups.{close, line_group_gap, group_gap}
+use Rattle.wasmprinter_spec.specs.Piece.{Piece, Break, OpenSpace}
+use Rattle.wasmprinter_spec.specs.Layout.Groups.{close, line_group_space, group_space}
 use Rattle.wasmprinter_spec.specs.Layout.Tags.{tag_pieces}
 use Rattle.wasmprinter_spec.specs.Layout.Start.{start_pieces}
 use Rattle.wasmprinter_spec.specs.Layout.Declarations.{Scope, item_index}
@@ -14,16 +14,16 @@ use Rattle.wasmprinter_spec.specs.Layout.Functions.{header_pieces}
 use Rattle.wasmprinter_spec.specs.Layout.Memories.{memory_pieces, declared_memory}
 use Rattle.wasmprinter_spec.specs.Layout.Imports.{import_pieces, import_parts}
 use Rattle.wasmprinter_spec.specs.Layout.Exports.{export_pieces, export_parts, kind_word}
-use Rattle.wasmprinter_spec.proofs.OneLine.{IsOneLine, stays_unbroken, both_stay, then_stay, line_group_gap_stays}
+use Rattle.wasmprinter_spec.proofs.OneLine.{IsOneLine, stays_unbroken, both_stay, then_stay, line_group_space_stays}
 use Rattle.wasmprinter_laws.proofs.Lines.FieldLines.{header_stays, item_stays, declared_stays, memory_type_stays, extern_stays, extern_index_stays}
 use Rattle.wasmprinter_sections.specs.Parts.{field_line}
 
 -- If no line begins in a field, it is a group on one line.
 on_one_line : {A : Type 0} (keyword : List ℕ) (place : A → ℕ) (parts : ℕ → A → List Piece) (i : ℕ) (x : A) → IsOneLine (parts i x) →
-    Break (Some (place x)) 1 ∷ line_group_gap keyword (parts i x) ≡ field_line keyword place parts i x
-unfolding line_group_gap group_gap
+    Break (Some (place x)) 1 ∷ line_group_space keyword (parts i x) ≡ field_line keyword place parts i x
+unfolding line_group_space group_space
 on_one_line keyword place parts i x stays =
-    ap (λ (b : Bool). Break (Some (place x)) 1 ∷ (OpenGap keyword ∷ (parts i x ++ close None 1 b))) (sym (stays_unbroken stays))
+    ap (λ (b : Bool). Break (Some (place x)) 1 ∷ (OpenSpace keyword ∷ (parts i x ++ close None 1 b))) (sym (stays_unbroken stays))
 
 -- The line of an import, with its number among those of its kind.
 abbrev pub import_line : Scope → ℕ → Placed Import → List Piece
@@ -56,4 +56,4 @@ pub export-line : (s : Scope) (i : ℕ) (e : Placed Export) →
 unfolding export_pieces
 export-line s i e =
     on_one_line (codes "export") (λ e. e.place) (λ i e. export_parts s e.value) i e
-    (then_stay refl (then_stay refl (line_group_gap_stays (kind_word e.value.kind) (extern_index_stays s e.value.kind e.value.index))))
+    (then_stay refl (then_stay refl (line_group_space_stays (kind_word e.value.kind) (extern_index_stays s e.value.kind e.value.index))))

@@ -10,7 +10,7 @@ use Rattle.wasmprinter_spec.specs.Piece.{Piece}
 use Rattle.wasmprinter_spec.specs.Layout.Declarations.{Scope}
 use Rattle.wasmprinter_spec.specs.Layout.Imports.{Numbers, number_of, numbers_after, extern_pieces, import_pieces, imports_pieces, extern_parts}
 use Rattle.wasmprinter_spec.specs.Layout.Exports.{kind_word}
-use Rattle.wasmprinter_spec.specs.Layout.Groups.{line_group_gap}
+use Rattle.wasmprinter_spec.specs.Layout.Groups.{line_group_space}
 use Rattle.wasmprinter_wasm.specs.Externs.{kind_of_type}
 use Rattle.wasmprinter_sections.proofs.FieldsOnOneLine.{import_line, import-line}
 
@@ -49,7 +49,7 @@ number-total (GlobalExtern t) n = omega arith
 number-total (TagExtern i) n = omega arith
 
 -- The pieces of an imported item are a group on one line.
-pub extern-group : (s : Scope) (n : ℕ) (t : ExternType) → extern_pieces s n t ≡ line_group_gap (kind_word (kind_of_type t)) (extern_parts s n t)
+pub extern-group : (s : Scope) (n : ℕ) (t : ExternType) → extern_pieces s n t ≡ line_group_space (kind_word (kind_of_type t)) (extern_parts s n t)
 unfolding extern_pieces kind_word
 extern-group s n (FuncExtern i) = refl
 extern-group s n (TableExtern t) = refl

@@ -27,12 +27,12 @@ module _ (o : Options) (s : Scope) (m : PlacedModule) where
   abbrev sections_by : (Option Kind → List Part) → List Kind → List Part
   sections_by customs ks = flat_map (λ k. Shown (section_pieces o s m k) ∷ customs (Some k)) ks
 
-  sections-agree : (f g : Option Kind → List Part) → ((place : Option Kind) → f place ≡ g place) → (ks : List Kind) → sections_by f ks ≡ sections_by g ks
+  sections-agree : (f g : Option Kind → List Part) → ((after : Option Kind) → f after ≡ g after) → (ks : List Kind) → sections_by f ks ≡ sections_by g ks
   sections-agree f g e [] = refl
   sections-agree f g e (k ∷ ks) = ap₂ (λ (xs ys : List Part). (Shown (section_pieces o s m k) ∷ xs) ++ ys) (e (Some k)) (sections-agree f g e ks)
 
   sections-table : (first : Answers) (answers : List Answers) → length answers ≡ length section_order →
-      sections_parts o s m answers section_order ≡ sections_by (λ place. parts_at o.skeleton (table_of first answers place) place 0 m.customs) section_order
+      sections_parts o s m answers section_order ≡ sections_by (λ after. parts_at o.skeleton (table_of first answers after) after 0 m.customs) section_order
   sections-table first (a ∷ b ∷ c ∷ d ∷ e ∷ f ∷ g ∷ h ∷ i ∷ j ∷ k ∷ l ∷ []) many = refl
   sections-table first _ many = absurd cc
 
@@ -44,10 +44,10 @@ pub module_walk : (o : Options) (names : Names) (m : PlacedModule) (first : Answ
 unfolding module_parts
 module_walk o names m first several many =
     let s : Scope = early_scope o names m in
-    let by : Option Kind → List Part = λ place. parts_at o.skeleton (table_of first several place) place 0 m.customs in
+    let by : Option Kind → List Part = λ after. parts_at o.skeleton (table_of first several after) after 0 m.customs in
     let one = one_table o.skeleton (table_of first several) m.customs in
-    let at : Option Kind → List Part = λ place. parts_at o.skeleton one.0 place 0 m.customs in (
+    let at : Option Kind → List Part = λ after. parts_at o.skeleton one.0 after 0 m.customs in (
       one.0,
       ap₂ (λ (xs ys : List Part). xs ++ ys) (sym (one.1 None))
-          (sections-table o s m first several many ∙ sections-agree o s m by at (λ place. sym (one.1 place)) section_order),
+          (sections-table o s m first several many ∙ sections-agree o s m by at (λ after. sym (one.1 after)) section_order),
     )

@@ -9,8 +9,8 @@ use Rattle.wasmprinter_spec.specs.Options.{Options, Answers}
 use Rattle.wasmprinter_spec.specs.Layout.Declarations.{Scope}
 use Rattle.wasmprinter_spec.specs.Layout.Customs.{Part}
 use Rattle.wasmprinter_wasm.specs.Places.{section_kind_view}
-use Rattle.wasmprinter_wasm.specs.declared.places.SectionKind.{SectionKind}
-use Rattle.wasmprinter_wasm.specs.declared.places.SectionKind.TheVariants as k
+use Rattle.wasmprinter_wasm.specs.declared.custom_placement.SectionKind.{SectionKind}
+use Rattle.wasmprinter_wasm.specs.declared.custom_placement.SectionKind.TheVariants as k
 use Rattle.wasmprinter_spec.specs.Layout.{section_parts, section_order}
 use Rattle.wasmprinter_sections.specs.Sections.{sections_parts}
 

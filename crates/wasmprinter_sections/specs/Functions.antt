@@ -6,7 +6,7 @@ use Rattle.wasmprinter_spec.specs.Row as row
 use Rattle.wasmprinter_spec.specs.Indexed.{parameter_count}
 use Rattle.wasmprinter_spec.specs.Customs.Hints.{Hint}
 use Rattle.wasmprinter_spec.specs.Placed.{PlacedFunction}
-use Rattle.wasmprinter_spec.specs.Piece.{Piece, Gap, Word}
+use Rattle.wasmprinter_spec.specs.Piece.{Piece, OneSpace, Word}
 use Rattle.wasmprinter_spec.specs.Layout.Declarations.{Scope}
 use Rattle.wasmprinter_spec.specs.Layout.Functions.{header_pieces, inner_pieces}
 
@@ -24,7 +24,7 @@ function_header s f = header_pieces s row.Func (Some s.function) s.function f.ty
 
 -- The content of a function's group without its body.
 abbrev pub outline_parts : Scope → PlacedFunction → List Piece
-outline_parts s f = function_header s f ++ (Gap ∷ (Word (codes "...") ∷ []))
+outline_parts s f = function_header s f ++ (OneSpace ∷ (Word (codes "...") ∷ []))
 
 -- The content of a function's group with its body, whose operators have these hints.
 abbrev pub definition_parts : Scope → List (Placed Hint) → PlacedFunction → List Piece

@@ -1,27 +1,27 @@
-//! Custom sections at their places among the other sections. The printer is first asked whether it claims each one.
+//! Custom sections at their positions among the other sections. The printer is first asked whether it claims each one.
 ghost use Rattle.std.specs.Prelude.{◌≡◌, ◌↔◌, Bool, IsTrue, [], ◌∷◌};
 ghost use Rattle.wasmprinter_spec.specs.Options.{Answers};
-ghost use Rattle.wasmprinter_spec.specs.Customs.{custom_role_of};
+ghost use Rattle.wasmprinter_spec.specs.Customs.{custom_treatment_of};
 ghost use Rattle.wasmprinter_spec.specs.Piece.{Piece, Claimed};
-ghost use Rattle.wasmprinter_spec.specs.Layout.Customs.{role_part, custom_part, parts_at};
-ghost use Rattle.wasmprinter_wasm.specs.Places.{place_view};
-ghost use Rattle.wasmprinter_custom.specs.Roles.{role_view};
+ghost use Rattle.wasmprinter_spec.specs.Layout.Customs.{treatment_part, custom_part, parts_at};
+ghost use Rattle.wasmprinter_wasm.specs.Places.{after_view};
+ghost use Rattle.wasmprinter_custom.specs.Roles.{treatment_view};
 
 use crate::dylink::write_dylink;
 use crate::producers::write_producers;
 use crate::raw::{write_malformed, write_raw};
-use wasmprinter_custom::{CustomRole, custom_role};
+use wasmprinter_custom::{CustomTreatment, custom_treatment};
 use wasmprinter_print::Output;
+use wasmprinter_wasm::custom_placement::{CustomEntry, SectionKind};
 use wasmprinter_wasm::customs::Custom;
-use wasmprinter_wasm::places::{CustomEntry, SectionKind};
 
-/// Returns the role of a section in the text.
-fn role_of<'a>(section: &Custom<'a>) -> CustomRole<'a>
-    ensures { role_view result ≡ custom_role_of section.now.value }
+/// Returns the treatment of a section in the text.
+fn treatment_of<'a>(section: &Custom<'a>) -> CustomTreatment<'a>
+    ensures { treatment_view result ≡ custom_treatment_of section.now.value }
 {
     let content = section.cursor();
     prove!(content.end() <= u64::MAX);
-    custom_role(section.name(), content.place(), content.rest())
+    custom_treatment(section.name(), content.place(), content.rest())
 }
 
 /// Asks the printer whether it claims a section. Returns the answer.
@@ -32,20 +32,20 @@ fn write_claim<O: Output>(out: &mut O, section: &Custom<'_>) -> bool
     out.print_custom_section(section.name(), section.bytes_place(), section.bytes())
 }
 
-/// Writes a section with this role after its claim, which the printer answered with no. Ends the layout if the
+/// Writes a section with this treatment after its claim, which the printer answered with no. Ends the layout if the
 /// section is refused.
-fn write_role<O: Output>(out: &mut O, entry: &CustomEntry<'_>, role: CustomRole<'_>)
+fn write_treatment<O: Output>(out: &mut O, entry: &CustomEntry<'_>, treatment: CustomTreatment<'_>)
     ensures { (a : O) (claim : Piece) → O.wrote a out.old (claim ∷ [])
-        → O.laid a out.new (role_part O.chosen.skeleton claim entry.now (role_view role.entry) ∷ []) }
+        → O.laid a out.new (treatment_part O.chosen.skeleton claim entry.now (treatment_view treatment.entry) ∷ []) }
 {
     let place = entry.section.place();
-    match &role {
-        CustomRole::Silent => {}
-        CustomRole::Producers(fields) => write_producers(out, place, fields),
-        CustomRole::Dylink(subsections) => write_dylink(out, place, subsections),
-        CustomRole::Refused(id) => out.refuse_subsection(*id),
-        CustomRole::Raw => write_raw(out, entry),
-        CustomRole::Malformed => write_malformed(out, entry),
+    match &treatment {
+        CustomTreatment::Silent => {}
+        CustomTreatment::Producers(fields) => write_producers(out, place, fields),
+        CustomTreatment::Dylink(subsections) => write_dylink(out, place, subsections),
+        CustomTreatment::Refused(id) => out.refuse_subsection(*id),
+        CustomTreatment::Raw => write_raw(out, entry),
+        CustomTreatment::Malformed => write_malformed(out, entry),
     }
 }
 
@@ -58,12 +58,12 @@ pub fn write_custom<O: Output>(out: &mut O, entry: &CustomEntry<'_>)
     if write_claim(out, section) {
         return;
     }
-    write_role(out, entry, role_of(section));
+    write_treatment(out, entry, treatment_of(section));
 }
 
 /// Reports whether a section comes after one of the kind or, for `None`, before all others.
 fn comes_after(entry: &CustomEntry<'_>, after: Option<SectionKind>) -> bool
-    ensures { IsTrue result ↔ (entry.now.after ≡ place_view after) }
+    ensures { IsTrue result ↔ (entry.now.after ≡ after_view after) }
 {
     entry.after == after
 }
@@ -76,7 +76,7 @@ pub fn write_customs<O: Output>(
     after: Option<SectionKind>,
 )
     ensures { (answers : Answers) × O.laid out.old out.new
-        (parts_at O.chosen.skeleton answers (place_view after) 0 customs.now) }
+        (parts_at O.chosen.skeleton answers (after_view after) 0 customs.now) }
 {
     for entry in customs {
         if !comes_after(entry, after) {

@@ -6,7 +6,7 @@ ghost use Rattle.wasmprinter_sections.specs.Scopes.{scope_view};
 
 use crate::expressions::write_constant_group;
 use crate::fields::Field;
-use crate::scope::{Scope, write_declaration_in, write_index_group_in};
+use crate::module_scope::{Scope, write_declaration_in, write_index_group_in};
 use wasmprinter_custom::Space;
 use wasmprinter_print::{FoldingOutput, Output};
 use wasmprinter_text::data_strings::write_shown_bytes;

@@ -5,8 +5,8 @@ ghost use Rattle.wasmprinter_spec.specs.Layout.Customs.{note, sizes_group, sizes
 ghost use Rattle.wasmprinter_spec.specs.Layout.Customs.{content_pieces, subsections_pieces};
 ghost use Rattle.wasmprinter_custom.specs.Contents.{content_view};
 
-use crate::flags::write_flags;
-use crate::quoted::{LINE_NESTING, SECTION_NESTING, write_space_strings};
+use crate::annotation_strings::{LINE_NESTING, SECTION_NESTING, write_space_strings};
+use crate::symbol_flags::write_flags;
 use wasmprinter_custom::{Content, Dylink, DylinkNames, ExportInfo, ImportInfo, ItemsIn, MemInfo};
 use wasmprinter_print::Output;
 use wasmprinter_text::annotations::open_annotation;
@@ -136,7 +136,7 @@ pub(crate) fn write_dylink<O: Output>(out: &mut O, place: u64, subsections: &Dyl
 {
     write_break(out, Some(place), SECTION_NESTING);
     open_annotation(out, "dylink.0");
-    let outer = out.enter_group();
+    let outer_begun = out.enter_group();
     write_subsections(out, subsections);
-    close_group(out, SECTION_NESTING, outer);
+    close_group(out, SECTION_NESTING, outer_begun);
 }

@@ -1,7 +1,7 @@
 //! Element segments (section 6.6 of the WebAssembly Core Specification, "Element Segments").
 ghost use Rattle.std.specs.Prelude.{◌≡◌, ◌∷◌, codes};
 ghost use Rattle.wasmprinter_spec.specs.Row as row;
-ghost use Rattle.wasmprinter_spec.specs.Piece.{Gap};
+ghost use Rattle.wasmprinter_spec.specs.Piece.{OneSpace};
 ghost use Rattle.wasmprinter_spec.specs.Layout.Declarations.{item_index};
 ghost use Rattle.wasmprinter_spec.specs.Layout.Expressions.{constant_group};
 ghost use Rattle.wasmprinter_spec.specs.Layout.Elements.{named_table, mode_pieces, function_items, expression_items};
@@ -11,7 +11,7 @@ ghost use Rattle.wasmprinter_sections.specs.Scopes.{scope_view};
 
 use crate::expressions::write_constant_group;
 use crate::fields::Field;
-use crate::scope::{
+use crate::module_scope::{
     Scope, write_declaration_in, write_index_group_in, write_index_in, write_ref_type_in,
 };
 use wasmprinter_bytes::lists::Items;
@@ -62,7 +62,7 @@ fn write_element_mode<O: FoldingOutput>(
 /// Writes a space and the index of a function.
 fn write_function_item<O: Output>(out: &mut O, scope: &Scope<'_, '_>, function: u32)
     ensures { O.wrote out.old out.new
-        (Gap ∷ item_index (scope_view O.chosen scope.now) row.Func function) }
+        (OneSpace ∷ item_index (scope_view O.chosen scope.now) row.Func function) }
 {
     write_space(out);
     write_index_in(out, scope, Space::Func, function);
@@ -87,7 +87,7 @@ fn write_expression_item<O: FoldingOutput>(
     expression: &Expression<'_>,
 )
     ensures pieces { O.wrote out.old out.new
-        (Gap ∷ constant_group (scope_view O.chosen scope.old) 2 (codes "item") expression.now.items) }
+        (OneSpace ∷ constant_group (scope_view O.chosen scope.old) 2 (codes "item") expression.now.items) }
     ensures scope { scope_view O.chosen scope.new ≡ scope_view O.chosen scope.old }
 {
     write_space(out);

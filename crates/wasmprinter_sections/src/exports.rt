@@ -2,13 +2,13 @@
 ghost use Rattle.std.specs.Prelude.{◌≡◌, ℕ, codes};
 ghost use Rattle.wasmprinter_spec.specs.Indexed.{space_of};
 ghost use Rattle.wasmprinter_spec.specs.Layout.Exports.{kind_word, extern_index_pieces, export_parts};
-ghost use Rattle.wasmprinter_spec.specs.Layout.Groups.{line_group_gap};
+ghost use Rattle.wasmprinter_spec.specs.Layout.Groups.{line_group_space};
 ghost use Rattle.wasmprinter_wasm.specs.Externs.{kind_view};
 ghost use Rattle.wasmprinter_flat.specs.OpenLabels.Scan.{Scan, names_of};
 ghost use Rattle.wasmprinter_sections.specs.Scopes.{scope_view, item_in};
 
 use crate::fields::Field;
-use crate::scope::{Scope, write_index_in};
+use crate::module_scope::{Scope, write_index_in};
 use wasmprinter_custom::Space;
 use wasmprinter_print::{FoldingOutput, Output};
 use wasmprinter_text::numbers::write_number_word;
@@ -56,10 +56,10 @@ fn write_extern_index<O: Output>(out: &mut O, scope: &Scope<'_, '_>, kind: Exter
 }
 
 /// Writes an exported item as a group.
-#[tactic(auto, unfolding(wasmprinter_spec::specs::Layout::Groups::line_group_gap))]
+#[tactic(auto, unfolding(wasmprinter_spec::specs::Layout::Groups::line_group_space))]
 fn write_extern<O: Output>(out: &mut O, scope: &Scope<'_, '_>, kind: ExternKind, index: u32)
     ensures { O.wrote out.old out.new
-        (line_group_gap (kind_word (kind_view kind)) (extern_index_pieces (scope_view O.chosen scope.now) (kind_view kind) index)) }
+        (line_group_space (kind_word (kind_view kind)) (extern_index_pieces (scope_view O.chosen scope.now) (kind_view kind) index)) }
 {
     open_group_space(out, kind_word(kind));
     write_extern_index(out, scope, kind, index);

@@ -6,8 +6,8 @@ ghost use Rattle.wasmprinter_spec.specs.Layout.Expressions.{in_line, word_unless
 ghost use Rattle.wasmprinter_spec.specs.Layout.Expressions.{constant_pieces, grouped_pieces, group_parts, constant_group};
 ghost use Rattle.wasmprinter_sections.specs.Scopes.{scope_view, is_one};
 
+use crate::module_scope::Scope;
 use crate::operators::write_flat_or_folded;
-use crate::scope::Scope;
 use wasmprinter_custom::FunctionHints;
 use wasmprinter_flat::operators::{Form, Setting, write_operators};
 use wasmprinter_ops::expression::Expression;
@@ -149,7 +149,7 @@ pub fn write_constant_group<O: FoldingOutput>(
     ensures scope { scope_view O.chosen scope.new ≡ scope_view O.chosen scope.old }
 {
     open_unnamed(out);
-    let outer = out.enter_group();
+    let outer_begun = out.enter_group();
     write_group_parts(out, scope, keyword, expression);
-    close_group(out, EXPRESSION_NESTING, outer);
+    close_group(out, EXPRESSION_NESTING, outer_begun);
 }

@@ -4,7 +4,7 @@ ghost use Rattle.wasmprinter_spec.specs.Layout.Groups.{numbered_pieces};
 ghost use Rattle.wasmprinter_sections.specs.Scopes.{scope_view};
 ghost use Rattle.wasmprinter_sections.specs.Parts.{field_line};
 
-use crate::scope::{FIELD_NESTING, Scope};
+use crate::module_scope::{FIELD_NESTING, Scope};
 use wasmprinter_print::FoldingOutput;
 use wasmprinter_text::lines::{close_group, write_break};
 use wasmprinter_text::words::open_group_space;
@@ -54,9 +54,9 @@ pub(crate) fn write_field<O: FoldingOutput, F: Field>(
 {
     write_break(out, Some(field.line_place()), FIELD_NESTING);
     open_group_space(out, field.keyword());
-    let outer = out.enter_group();
+    let outer_begun = out.enter_group();
     field.write_parts(out, scope, number);
-    close_group(out, FIELD_NESTING, outer);
+    close_group(out, FIELD_NESTING, outer_begun);
 }
 
 /// Writes the fields of one kind in order. The first of them has the number `first`.

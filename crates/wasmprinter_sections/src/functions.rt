@@ -2,14 +2,14 @@
 ghost use Rattle.std.specs.Prelude.{◌≡◌, codes};
 ghost use Rattle.wasmprinter_spec.specs.Folding.Arities.{types_of};
 ghost use Rattle.wasmprinter_spec.specs.Layout.Functions.{function_pieces};
-ghost use Rattle.wasmprinter_spec.specs.Layout.Groups.{line_group_gap, group_gap_at};
+ghost use Rattle.wasmprinter_spec.specs.Layout.Groups.{line_group_space, group_space_at};
 ghost use Rattle.wasmprinter_sections.specs.Scopes.{scope_view, function_scope_view};
 ghost use Rattle.wasmprinter_sections.specs.Functions.{parameter_count_of, result_count_of, outline_parts, definition_parts};
 
 use crate::headers::write_function_header;
 use crate::locals::write_locals;
+use crate::module_scope::{FIELD_NESTING, Scope};
 use crate::operators::write_flat_or_folded;
-use crate::scope::{FIELD_NESTING, Scope};
 use wasmprinter_custom::FunctionHints;
 use wasmprinter_flat::operators::{Form, Setting};
 use wasmprinter_print::{FoldingOutput, Output};
@@ -22,7 +22,7 @@ use wasmprinter_wasm::{BodyParts, Function};
 const BODY_NESTING: u64 = 2;
 
 /// Writes a function without its body, as a group: its header and `...`.
-#[tactic(auto, unfolding(wasmprinter_spec::specs::Layout::Functions::header_pieces, wasmprinter_spec::specs::Layout::Groups::line_group_gap))]
+#[tactic(auto, unfolding(wasmprinter_spec::specs::Layout::Functions::header_pieces, wasmprinter_spec::specs::Layout::Groups::line_group_space))]
 fn write_outline<O: Output>(
     out: &mut O,
     scope: &Scope<'_, '_>,
@@ -30,7 +30,7 @@ fn write_outline<O: Output>(
     function: &Function<'_>,
 )
     ensures { O.wrote out.old out.new
-        (line_group_gap (codes "func") (outline_parts (function_scope_view O.chosen scope.now number) function.now)) }
+        (line_group_space (codes "func") (outline_parts (function_scope_view O.chosen scope.now number) function.now)) }
 {
     open_group_space(out, "func");
     write_function_header(out, scope, number, function.type_index());
@@ -99,7 +99,7 @@ fn write_definition<O: FoldingOutput>(
 
 /// Writes function `number` as a group on a line of its own, its operators with these hints. A skeleton leaves out the
 /// body.
-#[tactic(auto, unfolding(wasmprinter_spec::specs::Layout::Functions::function_pieces, wasmprinter_spec::specs::Layout::Functions::function_group, wasmprinter_spec::specs::Layout::Groups::group_gap_at))]
+#[tactic(auto, unfolding(wasmprinter_spec::specs::Layout::Functions::function_pieces, wasmprinter_spec::specs::Layout::Functions::function_group, wasmprinter_spec::specs::Layout::Groups::group_space_at))]
 pub fn write_function<O: FoldingOutput>(
     out: &mut O,
     scope: &mut Scope<'_, '_>,
@@ -118,7 +118,7 @@ pub fn write_function<O: FoldingOutput>(
         return;
     }
     open_group_space(out, "func");
-    let outer = out.enter_group();
+    let outer_begun = out.enter_group();
     write_definition(out, scope, number, hints, function);
-    close_group_at(out, body.end(), FIELD_NESTING, outer);
+    close_group_at(out, body.end(), FIELD_NESTING, outer_begun);
 }

@@ -10,7 +10,7 @@ use crate::fields::{Field, write_field};
 use crate::globals::write_declared_global;
 use crate::headers::{write_function_header, write_tag_header};
 use crate::memories::write_declared_memory;
-use crate::scope::Scope;
+use crate::module_scope::Scope;
 use crate::tables::write_declared_table;
 use std::marker::Model;
 use wasmprinter_print::{FoldingOutput, Output};

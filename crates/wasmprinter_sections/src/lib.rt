@@ -2,6 +2,7 @@
 //! sections among them (appendix "Custom Annotations"), and the whole module, to any printer.
 #![tactic(auto)]
 
+mod annotation_strings;
 mod customs;
 mod data_segments;
 mod dylink;
@@ -9,7 +10,6 @@ mod elements;
 mod exports;
 mod expressions;
 mod fields;
-mod flags;
 mod functions;
 mod globals;
 mod headers;
@@ -17,18 +17,18 @@ mod imports;
 mod limits;
 mod locals;
 mod memories;
-mod modules;
+mod module_printing;
+mod module_scope;
 mod operators;
-mod printing;
 mod producers;
-mod quoted;
 mod raw;
-mod scope;
-mod sections;
+mod section_fields;
+mod sections_in_order;
 mod start;
+mod symbol_flags;
 mod tables;
 mod tags;
 mod types;
 
 pub use customs::{write_custom, write_customs};
-pub use printing::print_module;
+pub use module_printing::print_module;

@@ -8,7 +8,7 @@ ghost use Rattle.wasmprinter_text.specs.Variables.{walk_pieces};
 ghost use Rattle.wasmprinter_text.specs.declared.types.variables.Before.TheVariants.{Line};
 ghost use Rattle.wasmprinter_sections.specs.LocalWalk.{after_one, after_all, local_parts, locals_parts};
 
-use crate::scope::Scope;
+use crate::module_scope::Scope;
 use wasmprinter_ops::ValType;
 use wasmprinter_print::Output;
 use wasmprinter_text::lines::write_break;

@@ -1,14 +1,14 @@
 //! Memories (section 6.6 of the WebAssembly Core Specification, "Memories"), and their types
 //! (section 6.4, "Memory Types").
 ghost use Rattle.std.specs.Prelude.{◌<◌, codes};
-ghost use Rattle.wasmprinter_spec.specs.Layout.Groups.{line_group_gap};
+ghost use Rattle.wasmprinter_spec.specs.Layout.Groups.{line_group_space};
 ghost use Rattle.wasmprinter_spec.specs.Layout.Memories.{shared_pieces, page_pieces, memory_type_pieces, page_parts, declared_memory};
 ghost use Rattle.wasmprinter_wasm.specs.Externs.{memory_type_view, IsPage};
 ghost use Rattle.wasmprinter_sections.specs.Scopes.{scope_view};
 
 use crate::fields::Field;
 use crate::limits::{write_sizes, write_wide};
-use crate::scope::{Scope, write_declaration_in};
+use crate::module_scope::{Scope, write_declaration_in};
 use wasmprinter_custom::Space;
 use wasmprinter_print::{FoldingOutput, Output};
 use wasmprinter_text::limits::write_page_size;
@@ -27,11 +27,11 @@ fn write_shared<O: Output>(out: &mut O, shared: bool)
 }
 
 /// Writes the page size with this exponent as a group.
-#[tactic(auto, unfolding(wasmprinter_spec::specs::Layout::Groups::line_group_gap))]
+#[tactic(auto, unfolding(wasmprinter_spec::specs::Layout::Groups::line_group_space))]
 fn write_page_group<O: Output>(out: &mut O, exponent: u32)
     requires { exponent < 64 }
     ensures { O.wrote out.old out.new
-        (line_group_gap (codes "pagesize") (page_parts exponent)) }
+        (line_group_space (codes "pagesize") (page_parts exponent)) }
 {
     open_group_space(out, "pagesize");
     write_page_size(out, exponent);

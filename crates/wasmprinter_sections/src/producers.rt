@@ -3,7 +3,7 @@ ghost use Rattle.std.specs.Prelude.{[], ◌∷◌, codes, Some};
 ghost use Rattle.wasmprinter_spec.specs.Piece.{Break};
 ghost use Rattle.wasmprinter_spec.specs.Layout.Customs.{note, values_pieces, fields_pieces};
 
-use crate::quoted::{LINE_NESTING, SECTION_NESTING};
+use crate::annotation_strings::{LINE_NESTING, SECTION_NESTING};
 use wasmprinter_custom::{Producers, ProducersField, Value};
 use wasmprinter_print::Output;
 use wasmprinter_text::annotations::{open_annotation, open_annotation_word};
@@ -56,7 +56,7 @@ pub(crate) fn write_producers<O: Output>(out: &mut O, place: u64, fields: &Produ
 {
     write_break(out, Some(place), SECTION_NESTING);
     open_annotation(out, "producers");
-    let outer = out.enter_group();
+    let outer_begun = out.enter_group();
     write_fields(out, fields);
-    close_group(out, SECTION_NESTING, outer);
+    close_group(out, SECTION_NESTING, outer_begun);
 }

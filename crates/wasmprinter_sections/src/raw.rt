@@ -1,20 +1,20 @@
 //! Raw custom sections (appendix "Custom Annotations" of the WebAssembly Core Specification).
 ghost use Rattle.std.specs.Prelude.{◌≡◌};
-ghost use Rattle.wasmprinter_spec.specs.Layout.Customs.{place_word as word_of_place, two_words, place_pieces, raw_pieces, malformed_pieces};
-ghost use Rattle.wasmprinter_wasm.specs.Places.{section_kind_view, place_view};
+ghost use Rattle.wasmprinter_spec.specs.Layout.Customs.{section_word as word_of_section, two_words, after_pieces, raw_pieces, malformed_pieces};
+ghost use Rattle.wasmprinter_wasm.specs.Places.{section_kind_view, after_view};
 
-use crate::quoted::SECTION_NESTING;
+use crate::annotation_strings::SECTION_NESTING;
 use wasmprinter_print::Output;
 use wasmprinter_text::annotations::{open_annotation_space, write_plain_line_comment};
 use wasmprinter_text::data_strings::write_shown_bytes;
 use wasmprinter_text::lines::write_break;
 use wasmprinter_text::strings::write_string;
 use wasmprinter_text::words::{open_plain, write_close_paren, write_space, write_word};
-use wasmprinter_wasm::places::{CustomEntry, SectionKind};
+use wasmprinter_wasm::custom_placement::{CustomEntry, SectionKind};
 
 /// Returns the word for the kind of section that a custom section follows.
-fn place_word(kind: SectionKind) -> &'static str
-    ensures { result.now ≡ word_of_place (section_kind_view kind) }
+fn section_word(kind: SectionKind) -> &'static str
+    ensures { result.now ≡ word_of_section (section_kind_view kind) }
 {
     match kind {
         SectionKind::Type => "type",
@@ -42,14 +42,14 @@ fn write_two_words<O: Output>(out: &mut O, first: &str, second: &str)
     write_close_paren(out);
 }
 
-/// Writes the place of a section among the other sections.
-#[tactic(auto, unfolding(wasmprinter_spec::specs::Layout::Customs::place_pieces))]
-fn write_place<O: Output>(out: &mut O, after: Option<SectionKind>)
-    ensures { O.wrote out.old out.new (place_pieces (place_view after)) }
+/// Writes after which kind of section a section occurs.
+#[tactic(auto, unfolding(wasmprinter_spec::specs::Layout::Customs::after_pieces))]
+fn write_after<O: Output>(out: &mut O, after: Option<SectionKind>)
+    ensures { O.wrote out.old out.new (after_pieces (after_view after)) }
 {
     match after {
         None => write_two_words(out, "before", "first"),
-        Some(kind) => write_two_words(out, "after", place_word(kind)),
+        Some(kind) => write_two_words(out, "after", section_word(kind)),
     }
 }
 
@@ -61,7 +61,7 @@ pub(crate) fn write_raw<O: Output>(out: &mut O, entry: &CustomEntry<'_>)
     open_annotation_space(out, "custom");
     write_string(out, entry.section.name());
     write_space(out);
-    write_place(out, entry.after);
+    write_after(out, entry.after);
     write_space(out);
     write_shown_bytes(out, entry.section.bytes());
     write_close_paren(out);

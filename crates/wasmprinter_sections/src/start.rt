@@ -6,7 +6,7 @@ ghost use Rattle.wasmprinter_spec.specs.Layout.Declarations.{item_index};
 ghost use Rattle.wasmprinter_sections.specs.Scopes.{scope_view};
 
 use crate::fields::{Field, write_field};
-use crate::scope::{Scope, write_index_in};
+use crate::module_scope::{Scope, write_index_in};
 use wasmprinter_custom::Space;
 use wasmprinter_print::FoldingOutput;
 use wasmprinter_wasm::Start;

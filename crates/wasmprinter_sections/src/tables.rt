@@ -9,7 +9,7 @@ ghost use Rattle.wasmprinter_sections.specs.Scopes.{scope_view};
 use crate::expressions::write_constant;
 use crate::fields::Field;
 use crate::limits::{write_sizes, write_wide};
-use crate::scope::{Scope, write_declaration_in, write_ref_type_in};
+use crate::module_scope::{Scope, write_declaration_in, write_ref_type_in};
 use wasmprinter_custom::Space;
 use wasmprinter_print::{FoldingOutput, Output};
 use wasmprinter_text::words::write_space;

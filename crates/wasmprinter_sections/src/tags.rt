@@ -5,7 +5,7 @@ ghost use Rattle.wasmprinter_spec.specs.Layout.Functions.{header_pieces};
 
 use crate::fields::Field;
 use crate::headers::write_tag_header;
-use crate::scope::Scope;
+use crate::module_scope::Scope;
 use wasmprinter_print::FoldingOutput;
 use wasmprinter_wasm::Tag;
 

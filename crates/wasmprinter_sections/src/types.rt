@@ -7,7 +7,7 @@ ghost use Rattle.wasmprinter_spec.specs.Layout.Types.{member_pieces, group_piece
 ghost use Rattle.wasmprinter_flat.specs.OpenLabels.Scan.{names_of};
 ghost use Rattle.wasmprinter_sections.specs.TypeLines.{listed_pieces};
 
-use crate::scope::{FIELD_NESTING, Scope, write_type_in};
+use crate::module_scope::{FIELD_NESTING, Scope, write_type_in};
 use wasmprinter_ops::composite::SubType;
 use wasmprinter_print::Output;
 use wasmprinter_text::lines::{close_group, write_break};
@@ -77,9 +77,9 @@ fn write_rec<O: Output>(out: &mut O, scope: &Scope<'_, '_>, group: &TypeGroup<'_
         (numbered_pieces (listed_pieces (names_of scope.now.labels) group.now.value.written group.now.place) first group.now.value.types)) }
 {
     open_group(out, "rec");
-    let outer = out.enter_group();
+    let outer_begun = out.enter_group();
     write_types(out, scope, group, first);
-    close_group(out, FIELD_NESTING, outer);
+    close_group(out, FIELD_NESTING, outer_begun);
 }
 
 /// Writes a group after the start of its line.

@@ -8,7 +8,7 @@ use Rattle.wasmprinter_spec.specs.Labels as labels
 use Rattle.wasmprinter_spec.specs.Labels.{Named, is_hidden, Target, Around, Own, Nothing, target}
 use Rattle.wasmprinter_spec.specs.Names.{Names, in_function}
 use Rattle.wasmprinter_spec.specs.Layout.Operators.{Form, OverLines, InLine, Setting, named_index, label_name_pieces, named_pieces, target_pieces, label_pieces, labels_pieces, ending_pieces, block_pieces, catch_pieces, catches_pieces, operand_pieces, default_index_pieces, two_index_pieces, type_and_field_pieces, select_pieces, offset_pieces, align_pieces, mem_arg_pieces, lane_pieces, lanes_pieces, vector_pieces, immediate_pieces, pieces_by}
-use Rattle.wasmprinter_spec.proofs.OneLine.{IsOneLine, nothing_stays, both_stay, then_stay, alone_stays, cond_stays, line_group_stays, line_group_gap_stays, id_and_name_stays, leading_id_and_name_stays, index_stays, type_index_stays, heap_stays, ref_stays, val_stays, type_list_stays, type_use_stays}
+use Rattle.wasmprinter_spec.proofs.OneLine.{IsOneLine, nothing_stays, both_stay, then_stay, alone_stays, cond_stays, line_group_stays, line_group_space_stays, id_and_name_stays, leading_id_and_name_stays, index_stays, type_index_stays, heap_stays, ref_stays, val_stays, type_list_stays, type_use_stays}
 
 -- ---- labels
 
@@ -46,7 +46,7 @@ ending_stays InLine None d = then_stay refl (alone_stays refl)
 select_stays : (names : Names) (ts : List ValType) → IsOneLine (select_pieces names ts)
 unfolding select_pieces
 select_stays names [] = then_stay refl (line_group_stays (codes "result") (type_list_stays names []))
-select_stays names (t ∷ []) = then_stay refl (line_group_gap_stays (codes "result") (val_stays names t))
+select_stays names (t ∷ []) = then_stay refl (line_group_space_stays (codes "result") (val_stays names t))
 select_stays names (t ∷ u ∷ ts) = then_stay refl (line_group_stays (codes "result") (type_list_stays names (t ∷ u ∷ ts)))
 
 offset_stays : (n : ℕ) → IsOneLine (offset_pieces n)
@@ -77,7 +77,7 @@ module _ (s : Setting) where
   block_stays : (t : BlockType) → IsOneLine (block_pieces s t)
   unfolding block_pieces
   block_stays Empty = nothing_stays
-  block_stays (Value t) = then_stay refl (line_group_gap_stays (codes "result") (val_stays s.names t))
+  block_stays (Value t) = then_stay refl (line_group_space_stays (codes "result") (val_stays s.names t))
   block_stays (OfType n) = then_stay refl (type_use_stays s.names None n (s.signature n))
 
   default_index_stays : (space : Space) (n : ℕ) → IsOneLine (default_index_pieces s space n)
@@ -125,7 +125,7 @@ module _ (s : Setting) where
     immediates_stay own FieldShape (Indices t n) = type_and_field_stay t n
     immediates_stay own CountShape (Indices t n) = then_stay refl (both_stay (named_index_stays row.Types t) (lane_stays n))
     immediates_stay own CallShape (Indices t n) =
-        both_stay (default_index_stays row.Table n) (then_stay refl (line_group_gap_stays (codes "type") (type_index_stays s.names t)))
+        both_stay (default_index_stays row.Table n) (then_stay refl (line_group_space_stays (codes "type") (type_index_stays s.names t)))
     immediates_stay own (SegmentShape segments space) (Indices m n) = both_stay (default_index_stays space n) (then_stay refl (named_index_stays segments m))
     immediates_stay own (CopyShape space) (Indices m n) = cond_stays ((m == 0) && (n == 0)) nothing_stays (two_index_stay space space m n)
     immediates_stay own BranchTableShape (BranchTable ls l) = labels_stay inner xs ls l

@@ -10,8 +10,8 @@ use Rattle.wasmprinter_spec.specs.Labels.{Named}
 use Rattle.wasmprinter_spec.specs.Names.{Names}
 use Rattle.wasmprinter_spec.specs.Customs.Hints.{Hint}
 use Rattle.wasmprinter_spec.specs.Piece.{Piece, Begin, Break}
-use Rattle.wasmprinter_spec.specs.Layout.Groups.{has_break, close, line_group, line_group_gap, group_gap, numbered_pieces}
-use Rattle.wasmprinter_spec.specs.Layout.Identifiers.{given_pieces, id_and_name_pieces, leading_id_and_name_pieces, id_and_name_gap_pieces, identifier_gap_pieces, declaration_pieces, index_pieces}
+use Rattle.wasmprinter_spec.specs.Layout.Groups.{has_break, close, line_group, line_group_space, group_space, numbered_pieces}
+use Rattle.wasmprinter_spec.specs.Layout.Identifiers.{given_pieces, id_and_name_pieces, leading_id_and_name_pieces, id_and_name_space_pieces, identifier_space_pieces, declaration_pieces, index_pieces}
 use Rattle.wasmprinter_spec.specs.Layout.ValTypes.{type_index_pieces, heap_pieces, null_ref_pieces, ref_pieces_by, ref_pieces, val_pieces, type_list}
 use Rattle.wasmprinter_spec.specs.Layout.Variables.{Variables, Alone, Together, variable_groups, variables_pieces, groups_pieces}
 use Rattle.wasmprinter_spec.specs.Layout.Operators.{hint_pieces}
@@ -50,9 +50,9 @@ pub line_group_stays : (w : List ℕ) {ps : List Piece} → IsOneLine ps → IsO
 unfolding line_group
 line_group_stays w h = then_stay refl (both_stay h (alone_stays refl))
 
-pub line_group_gap_stays : (w : List ℕ) {ps : List Piece} → IsOneLine ps → IsOneLine (line_group_gap w ps)
-unfolding line_group_gap
-line_group_gap_stays w h = then_stay refl (both_stay h (alone_stays refl))
+pub line_group_space_stays : (w : List ℕ) {ps : List Piece} → IsOneLine ps → IsOneLine (line_group_space w ps)
+unfolding line_group_space
+line_group_space_stays w h = then_stay refl (both_stay h (alone_stays refl))
 
 -- Pieces that begin no line contain no break.
 pub unbroken : (ps : List Piece) → flat_map starts ps ≡ [] → has_break ps ≡ false
@@ -69,9 +69,9 @@ stays_unbroken {ps} h = unbroken ps h.begins
 pub close_stays : (nesting : ℕ) {ps : List Piece} → IsOneLine ps → IsOneLine (close None nesting (has_break ps))
 close_stays nesting {ps} h = subst (λ (b : Bool). IsOneLine (close None nesting b)) (sym (unbroken ps h.begins)) (alone_stays refl)
 
-pub group_gap_stays : (nesting : ℕ) (w : List ℕ) {ps : List Piece} → IsOneLine ps → IsOneLine (group_gap nesting w ps)
-unfolding group_gap
-group_gap_stays nesting w h = then_stay refl (both_stay h (close_stays nesting h))
+pub group_space_stays : (nesting : ℕ) (w : List ℕ) {ps : List Piece} → IsOneLine ps → IsOneLine (group_space nesting w ps)
+unfolding group_space
+group_space_stays nesting w h = then_stay refl (both_stay h (close_stays nesting h))
 
 pub numbered_stay : {A : Type 0} (f : ℕ → A → List Piece) → ((i : ℕ) (x : A) → IsOneLine (f i x)) → (i : ℕ) (xs : List A) → IsOneLine (numbered_pieces f i xs)
 unfolding numbered_pieces
@@ -93,19 +93,19 @@ unfolding leading_id_and_name_pieces
 leading_id_and_name_stays None = nothing_stays
 leading_id_and_name_stays (Some n) = then_stay refl (id_and_name_stays n)
 
-pub id_and_name_gap_stays : (n : Option Named) → IsOneLine (id_and_name_gap_pieces n)
-unfolding id_and_name_gap_pieces
-id_and_name_gap_stays None = nothing_stays
-id_and_name_gap_stays (Some n) = both_stay (id_and_name_stays n) (alone_stays refl)
+pub id_and_name_space_stays : (n : Option Named) → IsOneLine (id_and_name_space_pieces n)
+unfolding id_and_name_space_pieces
+id_and_name_space_stays None = nothing_stays
+id_and_name_space_stays (Some n) = both_stay (id_and_name_stays n) (alone_stays refl)
 
-identifier_gap_stays : (n : Option Named) → IsOneLine (identifier_gap_pieces n)
-unfolding identifier_gap_pieces
-identifier_gap_stays None = nothing_stays
-identifier_gap_stays (Some n) = then_stay refl (alone_stays refl)
+identifier_space_stays : (n : Option Named) → IsOneLine (identifier_space_pieces n)
+unfolding identifier_space_pieces
+identifier_space_stays None = nothing_stays
+identifier_space_stays (Some n) = then_stay refl (alone_stays refl)
 
 pub declaration_stays : (n : Option Named) (i : ℕ) → IsOneLine (declaration_pieces n i)
 unfolding declaration_pieces
-declaration_stays n i = then_stay refl (both_stay (id_and_name_gap_stays n) (then_stay refl (alone_stays refl)))
+declaration_stays n i = then_stay refl (both_stay (id_and_name_space_stays n) (then_stay refl (alone_stays refl)))
 
 pub index_stays : (n : Option Named) (i : ℕ) → IsOneLine (index_pieces n i)
 unfolding index_pieces
@@ -131,7 +131,7 @@ module _ (names : Names) where
 
   ref_by_stays : (null : Bool) (h : HeapType) → IsOneLine (ref_pieces_by names null h)
   ref_by_stays true h = null_ref_stays h
-  ref_by_stays false h = line_group_gap_stays (codes "ref") (heap_stays h)
+  ref_by_stays false h = line_group_space_stays (codes "ref") (heap_stays h)
 
   pub ref_stays : (r : RefType) → IsOneLine (ref_pieces names r)
   unfolding ref_pieces
@@ -151,7 +151,7 @@ module _ (names : Names) where
 
   pub variables_stay : (w : List ℕ) (v : Variables) → IsOneLine (variables_pieces names w v)
   unfolding variables_pieces
-  variables_stay w (Alone n t) = line_group_stays w (then_stay refl (both_stay (id_and_name_gap_stays (Some n)) (val_stays t)))
+  variables_stay w (Alone n t) = line_group_stays w (then_stay refl (both_stay (id_and_name_space_stays (Some n)) (val_stays t)))
   variables_stay w (Together ts) = line_group_stays w (type_list_stays ts)
 
   pub groups_stay : (w : List ℕ) (gs : List Variables) → IsOneLine (groups_pieces names w gs)
@@ -176,7 +176,7 @@ module _ (names : Names) where
 
   pub type_use_stays : (f : Option ℕ) (i : ℕ) (t : Option FuncType) → IsOneLine (type_use_pieces names f i t)
   unfolding type_use_pieces
-  type_use_stays f i t = both_stay (line_group_gap_stays (codes "type") (type_index_stays i)) (signature_if_any_stays f t)
+  type_use_stays f i t = both_stay (line_group_space_stays (codes "type") (type_index_stays i)) (signature_if_any_stays f t)
 
   -- ---- composite types
 
@@ -192,7 +192,7 @@ module _ (names : Names) where
 
   field_stays : (n : Option Named) (f : FieldType) → IsOneLine (field_pieces names n f)
   unfolding field_pieces
-  field_stays n f = then_stay refl (both_stay (identifier_gap_stays n) (field_by_stays f.mutable f.storage))
+  field_stays n f = then_stay refl (both_stay (identifier_space_stays n) (field_by_stays f.mutable f.storage))
 
   struct_field_stays : (n : Option Named) (f : FieldType) → IsOneLine (struct_field_pieces names n f)
   unfolding struct_field_pieces
@@ -231,7 +231,7 @@ module _ (names : Names) where
 
   pub type_stays : (i : ℕ) (t : SubType) → IsOneLine (type_pieces names i t)
   unfolding type_pieces
-  type_stays i t = line_group_gap_stays (codes "type") (both_stay (declaration_stays (names.items Types i) i) (then_stay refl (sub_stays i t)))
+  type_stays i t = line_group_space_stays (codes "type") (both_stay (declaration_stays (names.items Types i) i) (then_stay refl (sub_stays i t)))
 
 -- ---- hints
 

@@ -4,11 +4,11 @@ use Rattle.std.specs.Char.{encode_utf8}
 use Rattle.std.specs.Str.{is_utf8, chars}
 use Rattle.wasmprinter_spec.specs.Character.{class}
 use Rattle.wasmprinter_spec.specs.Numeral.{numeral}
-use Rattle.wasmprinter_spec.specs.Token.{left, left_note, right, word, name, string, reserved, bad, escape, lex, tokens}
+use Rattle.wasmprinter_spec.specs.Token.{open_paren, open_annotation, close_paren, word, name, string, reserved, bad, escape, lex, tokens}
 
 -- ---- words, names and parentheses
 
-group_tokens : tokens (codes "(module $m\t(func\r\n0))\n") ≡ left ∷ word (codes "module") ∷ name (codes "m") ∷ left ∷ word (codes "func") ∷ word (codes "0") ∷ right ∷ right ∷ []
+group_tokens : tokens (codes "(module $m\t(func\r\n0))\n") ≡ open_paren ∷ word (codes "module") ∷ name (codes "m") ∷ open_paren ∷ word (codes "func") ∷ word (codes "0") ∷ close_paren ∷ close_paren ∷ []
 unfolding lex class
 group_tokens = refl
 
@@ -24,7 +24,7 @@ one_word = refl
 
 -- Except for the dollar sign, these signs may also begin a word.
 first_signs : tokens (codes "\\a $\\a (@\\a @ @@ # $# (@#")
-    ≡ word (codes "\\a") ∷ name (codes "\\a") ∷ left_note (codes "\\a") ∷ word (codes "@") ∷ word (codes "@@") ∷ word (codes "#") ∷ name (codes "#") ∷ left_note (codes "#") ∷ []
+    ≡ word (codes "\\a") ∷ name (codes "\\a") ∷ open_annotation (codes "\\a") ∷ word (codes "@") ∷ word (codes "@@") ∷ word (codes "#") ∷ name (codes "#") ∷ open_annotation (codes "#") ∷ []
 unfolding lex class
 first_signs = refl
 
@@ -37,7 +37,7 @@ unfolding lex class encode_utf8 is_utf8 chars
 name_with_space = refl
 
 -- An identifier is neither empty nor invalid UTF-8. A dollar sign alone is no identifier.
-no_names : tokens (codes "$ $\"\" $\"\\ff\" ($)") ≡ reserved ∷ reserved ∷ reserved ∷ left ∷ reserved ∷ right ∷ []
+no_names : tokens (codes "$ $\"\" $\"\\ff\" ($)") ≡ reserved ∷ reserved ∷ reserved ∷ open_paren ∷ reserved ∷ close_paren ∷ []
 unfolding lex class escape encode_utf8 is_utf8 chars
 no_names = refl
 
@@ -48,7 +48,7 @@ reserved_signs = refl
 
 -- Tokens at the end of the text
 cut_tokens : tokens (codes "a") ++ tokens (codes "$a") ++ tokens (codes "$") ++ tokens (codes ";") ++ tokens (codes "(") ++ tokens (codes "(@") ++ tokens (codes "(@a") ++ tokens (codes "\"a\"")
-    ≡ word (codes "a") ∷ name (codes "a") ∷ reserved ∷ reserved ∷ left ∷ left ∷ reserved ∷ left_note (codes "a") ∷ string (codes "a") ∷ []
+    ≡ word (codes "a") ∷ name (codes "a") ∷ reserved ∷ reserved ∷ open_paren ∷ open_paren ∷ reserved ∷ open_annotation (codes "a") ∷ string (codes "a") ∷ []
 unfolding lex class
 cut_tokens = refl
 
@@ -65,7 +65,7 @@ unfolding lex class
 touching_word = refl
 
 -- A parenthesis or a comment may touch the tokens before and after it.
-parted : tokens (codes "(\"a\"(b)\"c\"d;;\ne(;;)f)") ≡ left ∷ string (codes "a") ∷ left ∷ word (codes "b") ∷ right ∷ string (codes "c") ∷ reserved ∷ word (codes "d") ∷ word (codes "e") ∷ word (codes "f") ∷ right ∷ []
+parted : tokens (codes "(\"a\"(b)\"c\"d;;\ne(;;)f)") ≡ open_paren ∷ string (codes "a") ∷ open_paren ∷ word (codes "b") ∷ close_paren ∷ string (codes "c") ∷ reserved ∷ word (codes "d") ∷ word (codes "e") ∷ word (codes "f") ∷ close_paren ∷ []
 unfolding lex class
 parted = refl
 
@@ -99,7 +99,7 @@ unfolding lex class
 shared_parenthesis = refl
 
 -- The end of a comment where no comment is open
-end_alone : tokens (codes "a ;) b") ≡ word (codes "a") ∷ reserved ∷ right ∷ word (codes "b") ∷ []
+end_alone : tokens (codes "a ;) b") ≡ word (codes "a") ∷ reserved ∷ close_paren ∷ word (codes "b") ∷ []
 unfolding lex class
 end_alone = refl
 

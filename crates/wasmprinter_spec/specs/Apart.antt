@@ -5,7 +5,7 @@ use Rattle.std.specs.List.{AllByRecursion, flat_map}
 use Rattle.wasmprinter_spec.specs.Grammar.{Placed}
 use Rattle.wasmprinter_spec.specs.Types.{SubType}
 use Rattle.wasmprinter_spec.specs.Placed.{TypeGroup, LocalEntry, Body, CustomEntry, PlacedModule}
-use Rattle.wasmprinter_spec.specs.Customs.{CustomRole, Listed, Linked, custom_role_of}
+use Rattle.wasmprinter_spec.specs.Customs.{CustomTreatment, ProducersFields, DylinkSubsections, custom_treatment_of}
 use Rattle.wasmprinter_spec.specs.Layout.Functions.{locals_place}
 use Rattle.wasmprinter_spec.specs.Lines.{places, hint_places}
 
@@ -51,14 +51,14 @@ start_places None = []
 start_places (Some start) = start.place ∷ []
 
 -- The values of `producers`, the subsections of `dylink.0`.
-abbrev pub role_places : CustomRole → List ℕ
-role_places (Listed fields) = flat_map (λ f. places f.values) fields
-role_places (Linked subsections) = places subsections
-role_places _ = []
+abbrev pub treatment_places : CustomTreatment → List ℕ
+treatment_places (ProducersFields fields) = flat_map (λ f. places f.values) fields
+treatment_places (DylinkSubsections subsections) = places subsections
+treatment_places _ = []
 
 -- A custom section, its data, and the lines within it.
 abbrev pub custom_places : CustomEntry → List ℕ
-custom_places c = c.section.place ∷ (c.section.value.bytes.place ∷ role_places (custom_role_of c.section.value))
+custom_places c = c.section.place ∷ (c.section.value.bytes.place ∷ treatment_places (custom_treatment_of c.section.value))
 
 -- The bodies are in an interval, one after the other, and the places of each increase. All other places that begin
 -- lines are outside the interval, as are the module's first byte and the end of its bytes.

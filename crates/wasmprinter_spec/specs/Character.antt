@@ -7,8 +7,8 @@ pub data Class : Type 0 where
   Space : Class
   Tab : Class
   Feed : Class  -- line feed and carriage return; each ends a line
-  Left : Class
-  Right : Class
+  OpenParen : Class
+  CloseParen : Class
   Semicolon : Class
   Quote : Class
   Backslash : Class  -- an identifier character, and the start of an escape in a string
@@ -35,6 +35,6 @@ is_control b = nat_lt b 32 || (b == 127)
 unfoldable pub class : ℕ → Class
 class b =
     cond (b == 32) Space (cond (b == 9) Tab (cond (is_feed b) Feed
-    (cond (b == 40) Left (cond (b == 41) Right (cond (b == 59) Semicolon
+    (cond (b == 40) OpenParen (cond (b == 41) CloseParen (cond (b == 59) Semicolon
     (cond (b == 34) Quote (cond (b == 92) Backslash (cond (b == 36) Dollar (cond (b == 64) At
     (cond (is_reserved b) Reserved (cond (is_control b) Control (cond (nat_le 128 b) Foreign Plain))))))))))))

@@ -11,6 +11,6 @@ pub untested : {A : Type 0} (b : Bool) (x : Option A) (y : A) → cond b None x 
 untested true x y e = absurd cc
 untested false x y e = (refl, e)
 
-pub chosen : {A : Type 0} (b : Bool) (x y z : A) → cond b x y ≡ z → ((b ≡ true) × (x ≡ z)) ⊎ ((b ≡ false) × (y ≡ z))
-chosen true x y z e = inl (refl, e)
-chosen false x y z e = inr (refl, e)
+pub cond_cases : {A : Type 0} (b : Bool) (x y z : A) → cond b x y ≡ z → ((b ≡ true) × (x ≡ z)) ⊎ ((b ≡ false) × (y ≡ z))
+cond_cases true x y z e = inl (refl, e)
+cond_cases false x y z e = inr (refl, e)

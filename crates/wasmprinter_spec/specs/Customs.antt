@@ -5,7 +5,7 @@ use Rattle.wasmprinter_spec.specs.Grammar.{input}
 use Rattle.wasmprinter_spec.specs.Kinds.{Kind}
 use Rattle.wasmprinter_spec.specs.Placed.{Custom, CustomEntry}
 use Rattle.wasmprinter_spec.specs.Customs.Producers as p
-use Rattle.wasmprinter_spec.specs.Customs.Producers.{Field, are_runs}
+use Rattle.wasmprinter_spec.specs.Customs.Producers.{Field, have_id_names}
 use Rattle.wasmprinter_spec.specs.Customs.Dylink.{Subsection, Judged, Whole, Faulty, Unknown, judgement_of}
 pub mod Producers
 pub mod Dylink
@@ -25,33 +25,33 @@ producers_section = codes "producers"
 abbrev pub dylink_section : List ℕ
 dylink_section = codes "dylink.0"
 
--- The role of a custom section in the text.
-pub data CustomRole : Type 0 where
-  Silent : CustomRole  -- its identifiers or hints occur in the text
-  Listed : List Field → CustomRole
-  Linked : List Subsection → CustomRole
-  Refused : ℕ → CustomRole  -- for a subsection with this unknown id
-  Raw : CustomRole
-  Malformed : CustomRole  -- raw, after a line that reports its error
+-- The treatment of a custom section in the text.
+pub data CustomTreatment : Type 0 where
+  Silent : CustomTreatment  -- its identifiers or hints occur in the text
+  ProducersFields : List Field → CustomTreatment
+  DylinkSubsections : List Subsection → CustomTreatment
+  Refused : ℕ → CustomTreatment  -- for a subsection with this unknown id
+  Raw : CustomTreatment
+  Malformed : CustomTreatment  -- raw, after a line that reports its error
 
--- The role of a `producers` section by its fields; `None` if its data has an error.
-abbrev pub producers_role : Option (List Field) → CustomRole
-producers_role None = Malformed
-producers_role (Some fields) = if are_runs fields then Listed fields else Raw
+-- The treatment of a `producers` section by its fields; `None` if its data has an error.
+abbrev pub producers_treatment : Option (List Field) → CustomTreatment
+producers_treatment None = Malformed
+producers_treatment (Some fields) = if have_id_names fields then ProducersFields fields else Raw
 
--- The role of a `dylink.0` section by the result of reading its data.
-abbrev pub dylink_role : Judged → CustomRole
-dylink_role (Whole subsections) = Linked subsections
-dylink_role (Unknown id) = Refused id
-dylink_role Faulty = Malformed
+-- The treatment of a `dylink.0` section by the result of reading its data.
+abbrev pub dylink_treatment : Judged → CustomTreatment
+dylink_treatment (Whole subsections) = DylinkSubsections subsections
+dylink_treatment (Unknown id) = Refused id
+dylink_treatment Faulty = Malformed
 
--- The role of a custom section, by its name and, for `producers` and `dylink.0`, by its data.
-abbrev pub custom_role_of : Custom → CustomRole
-custom_role_of c =
+-- The treatment of a custom section, by its name and, for `producers` and `dylink.0`, by its data.
+abbrev pub custom_treatment_of : Custom → CustomTreatment
+custom_treatment_of c =
     if bytes_eq c.name name_section then Silent else
     (if bytes_eq c.name hint_section then Silent else
-    (if bytes_eq c.name producers_section then producers_role (p.producers.parse (input c.bytes.place c.bytes.value)) else
-    (if bytes_eq c.name dylink_section then dylink_role (judgement_of (input c.bytes.place c.bytes.value)) else Raw)))
+    (if bytes_eq c.name producers_section then producers_treatment (p.producers.parse (input c.bytes.place c.bytes.value)) else
+    (if bytes_eq c.name dylink_section then dylink_treatment (judgement_of (input c.bytes.place c.bytes.value)) else Raw)))
 
 -- A custom section that a text must repeat: the kind of the section before it (`after`), its name and its bytes.
 pub record RawCustom : Type 0 where
@@ -64,10 +64,10 @@ abbrev pub raw_custom : CustomEntry → RawCustom
 raw_custom c = record { after = c.after; name = c.section.value.name; bytes = c.section.value.bytes.value }
 
 -- The section is printed as raw bytes. A refused section is not raw: a text ends before it.
-abbrev pub is_raw : CustomRole → Bool
+abbrev pub is_raw : CustomTreatment → Bool
 is_raw Silent = false
-is_raw (Listed fields) = false
-is_raw (Linked subsections) = false
+is_raw (ProducersFields fields) = false
+is_raw (DylinkSubsections subsections) = false
 is_raw (Refused id) = false
 is_raw Raw = true
 is_raw Malformed = true
@@ -75,4 +75,4 @@ is_raw Malformed = true
 -- The custom sections that are printed as raw bytes, in order.
 abbrev pub raw_customs : List CustomEntry → List RawCustom
 raw_customs [] = []
-raw_customs (c ∷ cs) = (if is_raw (custom_role_of c.section.value) then raw_custom c ∷ [] else []) ++ raw_customs cs
+raw_customs (c ∷ cs) = (if is_raw (custom_treatment_of c.section.value) then raw_custom c ∷ [] else []) ++ raw_customs cs

@@ -38,20 +38,20 @@ with_item item [] = []
 with_item item (f ∷ rest) = item f ∷ rest
 
 -- The open rows after one more token, which is to the left of those so far.
-abbrev pub place : Token → List Forest → List Forest
-place token.left rows = open_group rows
-place (token.left_note id) rows = open_note id rows
-place token.right rows = close_group rows
-place (token.word s) rows = with_item (Word s) rows
-place (token.name s) rows = with_item (Name s) rows
-place (token.string s) rows = with_item (String s) rows
-place token.reserved rows = with_item Reserved rows
-place token.bad rows = []
+abbrev pub add_token : Token → List Forest → List Forest
+add_token token.open_paren rows = open_group rows
+add_token (token.open_annotation id) rows = open_note id rows
+add_token token.close_paren rows = close_group rows
+add_token (token.word s) rows = with_item (Word s) rows
+add_token (token.name s) rows = with_item (Name s) rows
+add_token (token.string s) rows = with_item (String s) rows
+add_token token.reserved rows = with_item Reserved rows
+add_token token.bad rows = []
 
 -- The open rows of the tokens.
 abbrev pub grow : List Token → List Forest
 grow [] = End ∷ []
-grow (t ∷ ts) = place t (grow ts)
+grow (t ∷ ts) = add_token t (grow ts)
 
 -- The row, if exactly one is left.
 abbrev pub the_one : List Forest → Option Forest
@@ -111,5 +111,5 @@ flat (Word s f) = token.word s ∷ flat f
 flat (Name s f) = token.name s ∷ flat f
 flat (String s f) = token.string s ∷ flat f
 flat (Reserved f) = token.reserved ∷ flat f
-flat (Group g f) = token.left ∷ (flat g ++ (token.right ∷ flat f))
-flat (Note id g f) = token.left_note id ∷ (flat g ++ (token.right ∷ flat f))
+flat (Group g f) = token.open_paren ∷ (flat g ++ (token.close_paren ∷ flat f))
+flat (Note id g f) = token.open_annotation id ∷ (flat g ++ (token.close_paren ∷ flat f))

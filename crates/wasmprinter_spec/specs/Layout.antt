@@ -98,7 +98,7 @@ section_order =
 abbrev pub section_parts : Options → Scope → PlacedModule → Answers → Kind → List Part
 section_parts o s m answers kind = Shown (section_pieces o s m kind) ∷ parts_at o.skeleton answers (Some kind) 0 m.customs
 
--- The fields in the order of their sections, with the custom sections at their places among them. Operators are
+-- The fields in the order of their sections, with the custom sections at their positions among them. Operators are
 -- folded in this way, or flat.
 unfoldable pub parts_by : Option Folding → Options → Answers → Names → PlacedModule → List Part
 parts_by folding o answers names m =

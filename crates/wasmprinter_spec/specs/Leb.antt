@@ -6,7 +6,7 @@ use Rattle.std.specs.Prelude.{◌≡◌, ℕ, ℤ, pos, negsuc, ◌+ℤ◌, ◌*
 use Rattle.std.proofs.Common.{sym, ap, subst, ◌∙◌, arith, cond, inl, inr, ltb}
 use Rattle.std.proofs.lemmas.Bool.{ltb-true, ltb-false, lt-ltb, le-ltb}
 use Rattle.wasmprinter_spec.specs.Grammar.{Input, input, Spans, Grammar, ◌>>=◌, bind_some, some_is}
-use Rattle.wasmprinter_spec.specs.Choices.{tested, chosen}
+use Rattle.wasmprinter_spec.specs.Choices.{tested, cond_cases}
 
 -- The bytes encode the unsigned integer n of the given number of bits (the standard's `uN`).
 abbrev pub IsUnsigned : ℕ → List ℕ → ℕ → Type 0
@@ -38,7 +38,7 @@ unsigned_sound_of : (bits p : ℕ) (bytes : List ℕ) (x : ℕ × Input) → uns
 unsigned_sound_of bits p [] x e = absurd cc
 unsigned_sound_of bits p (b ∷ rest) x e =
     let more : Option (ℕ × Input) = unsigned_of (bits - 7) (p + 1) rest >>= λ h. Some (b - 128 + 128 * h.0, h.1) in
-    elim (chosen (ltb b 128) (cond (ltb b (2 ^ bits)) (Some (b, input (p + 1) rest)) None) (cond (ltb 7 bits) more None) (Some x) e) [
+    elim (cond_cases (ltb b 128) (cond (ltb b (2 ^ bits)) (Some (b, input (p + 1) rest)) None) (cond (ltb 7 bits) more None) (Some x) e) [
       | inl last ↦
           let t = tested (ltb b (2 ^ bits)) (Some (b, input (p + 1) rest)) x last.1 in
           subst (λ (y : ℕ × Input). Spans (Unsigned bits) (input p (b ∷ rest)) y) (some_is (b, input (p + 1) rest) x t.1)
@@ -120,13 +120,13 @@ signed_sound_of bits p (b ∷ rest) x e =
     let P : ℤ × Input → Type 0 = λ y. Spans (Signed bits) (input p (b ∷ rest)) y in
     let from_64 : Option (ℤ × Input) =
     cond (ltb b 128) (cond (ltb (127 - b) (2 ^ (bits - 1))) negative None) (cond (ltb 7 bits) more None) in
-    elim (chosen (ltb b 64) (cond (ltb b (2 ^ (bits - 1))) positive None) from_64 (Some x) e) [
+    elim (cond_cases (ltb b 64) (cond (ltb b (2 ^ (bits - 1))) positive None) from_64 (Some x) e) [
       | inl last ↦
           let t = tested (ltb b (2 ^ (bits - 1))) positive x last.1 in
           subst P (some_is (pos b, input (p + 1) rest) x t.1)
           (record { text = b ∷ []; parts = refl; ends = refl; spelled = inl (ltb-true _ _ last.0, ltb-true _ _ t.0, refl, refl) })
       | inr other ↦
-          elim (chosen (ltb b 128) (cond (ltb (127 - b) (2 ^ (bits - 1))) negative None) (cond (ltb 7 bits) more None) (Some x) other.1) [
+          elim (cond_cases (ltb b 128) (cond (ltb (127 - b) (2 ^ (bits - 1))) negative None) (cond (ltb 7 bits) more None) (Some x) other.1) [
             | inl last ↦
                 let t = tested (ltb (127 - b) (2 ^ (bits - 1))) negative x last.1 in
                 subst P (some_is (negsuc (127 - b), input (p + 1) rest) x t.1)

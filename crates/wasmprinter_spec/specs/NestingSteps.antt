@@ -10,8 +10,8 @@ use Rattle.wasmprinter_spec.specs.Nesting.{FramePart, Sequence, Handlers, Nests,
 -- ---- Well-nested roles leave the open blocks as they are
 
 -- From the open blocks f and fs on, each of the roles xs leads to next open blocks, and `last` closes the expression.
-abbrev runs : Frame → List Frame → List Role → Role → Bool
-runs f fs xs last = stops advance (open_frames f fs) xs last
+abbrev stops_in : Frame → List Frame → List Role → Role → Bool
+stops_in f fs xs last = stops advance (open_frames f fs) xs last
 
 -- The open block is a `try` or one of its `catch` handlers, so that handlers may follow.
 abbrev Handles : Frame → Type 0
@@ -23,20 +23,20 @@ Handles InCatch = Unit {0}
 -- After a sequence of operators, the same blocks are open. After the handlers and the `end` of a `try`, the `try`
 -- is closed.
 abbrev Goes : FramePart → List Role → Type 0
-Goes Sequence xs = (f : Frame) (fs : List Frame) (more : List Role) (last : Role) → runs f fs (xs ++ more) last ≡ runs f fs more last
+Goes Sequence xs = (f : Frame) (fs : List Frame) (more : List Role) (last : Role) → stops_in f fs (xs ++ more) last ≡ stops_in f fs more last
 Goes Handlers xs =
     (f : Frame) → Handles f → (fs : List Frame) (more : List Role) (last : Role) →
-    runs f fs (xs ++ Ends ∷ more) last ≡ by_move (move_outwards fs) (λ t. stops advance t more last) false false
+    stops_in f fs (xs ++ Ends ∷ more) last ≡ by_move (move_outwards fs) (λ t. stops advance t more last) false false
 
 catches : (f : Frame) → Handles f → (fs : List Frame) (more : List Role) (last : Role) →
-    runs f fs (Catches ∷ more) last ≡ runs InCatch fs more last
+    stops_in f fs (Catches ∷ more) last ≡ stops_in InCatch fs more last
 catches InBlock h fs more last = absurd h
 catches InIf h fs more last = absurd h
 catches InTry h fs more last = refl
 catches InCatch h fs more last = refl
 
 catches_all : (f : Frame) → Handles f → (fs : List Frame) (more : List Role) (last : Role) →
-    runs f fs (CatchesAll ∷ more) last ≡ runs InBlock fs more last
+    stops_in f fs (CatchesAll ∷ more) last ≡ stops_in InBlock fs more last
 catches_all InBlock h fs more last = absurd h
 catches_all InIf h fs more last = absurd h
 catches_all InTry h fs more last = refl
@@ -46,33 +46,33 @@ goes : {part : FramePart} {xs : List Role} → Nests part xs → Goes part xs
 goes none = λ f fs more last. refl
 goes (plain r) = λ f fs more last. goes r f fs more last
 goes (block {body} {rest} b r) = λ f fs more last.
-    ap (λ (ys : List Role). runs InBlock (f ∷ fs) ys last) (append_assoc body (Ends ∷ rest) more)
+    ap (λ (ys : List Role). stops_in InBlock (f ∷ fs) ys last) (append_assoc body (Ends ∷ rest) more)
     ∙ goes b InBlock (f ∷ fs) (Ends ∷ (rest ++ more)) last
     ∙ goes r f fs more last
 goes (one_armed {body} {rest} b r) = λ f fs more last.
-    ap (λ (ys : List Role). runs InIf (f ∷ fs) ys last) (append_assoc body (Ends ∷ rest) more)
+    ap (λ (ys : List Role). stops_in InIf (f ∷ fs) ys last) (append_assoc body (Ends ∷ rest) more)
     ∙ goes b InIf (f ∷ fs) (Ends ∷ (rest ++ more)) last
     ∙ goes r f fs more last
 goes (two_armed {yes} {no} {rest} y n r) = λ f fs more last.
-    ap (λ (ys : List Role). runs InIf (f ∷ fs) ys last) (append_assoc yes (Else ∷ (no ++ Ends ∷ rest)) more)
+    ap (λ (ys : List Role). stops_in InIf (f ∷ fs) ys last) (append_assoc yes (Else ∷ (no ++ Ends ∷ rest)) more)
     ∙ goes y InIf (f ∷ fs) (Else ∷ ((no ++ Ends ∷ rest) ++ more)) last
-    ∙ ap (λ (ys : List Role). runs InBlock (f ∷ fs) ys last) (append_assoc no (Ends ∷ rest) more)
+    ∙ ap (λ (ys : List Role). stops_in InBlock (f ∷ fs) ys last) (append_assoc no (Ends ∷ rest) more)
     ∙ goes n InBlock (f ∷ fs) (Ends ∷ (rest ++ more)) last
     ∙ goes r f fs more last
 goes (tried {body} {handlers} {rest} b h r) = λ f fs more last.
-    ap (λ (ys : List Role). runs InTry (f ∷ fs) ys last) (append_assoc body (handlers ++ Ends ∷ rest) more)
+    ap (λ (ys : List Role). stops_in InTry (f ∷ fs) ys last) (append_assoc body (handlers ++ Ends ∷ rest) more)
     ∙ goes b InTry (f ∷ fs) ((handlers ++ Ends ∷ rest) ++ more) last
-    ∙ ap (λ (ys : List Role). runs InTry (f ∷ fs) ys last) (append_assoc handlers (Ends ∷ rest) more)
+    ∙ ap (λ (ys : List Role). stops_in InTry (f ∷ fs) ys last) (append_assoc handlers (Ends ∷ rest) more)
     ∙ goes h InTry tt (f ∷ fs) (rest ++ more) last
     ∙ goes r f fs more last
 goes (delegated {body} {rest} b r) = λ f fs more last.
-    ap (λ (ys : List Role). runs InTry (f ∷ fs) ys last) (append_assoc body (Delegates ∷ rest) more)
+    ap (λ (ys : List Role). stops_in InTry (f ∷ fs) ys last) (append_assoc body (Delegates ∷ rest) more)
     ∙ goes b InTry (f ∷ fs) (Delegates ∷ (rest ++ more)) last
     ∙ goes r f fs more last
 goes no_handler = λ f k fs more last. refl
 goes (caught {body} {handlers} b h) = λ f k fs more last.
     catches f k fs ((body ++ handlers) ++ Ends ∷ more) last
-    ∙ ap (λ (ys : List Role). runs InCatch fs ys last) (append_assoc body handlers (Ends ∷ more))
+    ∙ ap (λ (ys : List Role). stops_in InCatch fs ys last) (append_assoc body handlers (Ends ∷ more))
     ∙ goes b InCatch fs (handlers ++ Ends ∷ more) last
     ∙ goes h InCatch tt fs more last
 goes (caught_all {body} b) = λ f k fs more last.

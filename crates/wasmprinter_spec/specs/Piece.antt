@@ -16,24 +16,24 @@ pub data Piece : Type 0 where
   Begin : ℕ → Piece  -- the first line begins, at this place
   EndLine : Piece  -- the last line ends
   Break : Option ℕ → ℕ → Piece  -- a new line: its place, if it has one, and its nesting depth
-  Gap : Piece  -- a space
+  OneSpace : Piece  -- a space
   Open : List ℕ → Piece  -- a parenthesis and a keyword
-  OpenGap : List ℕ → Piece  -- the same, and a space
+  OpenSpace : List ℕ → Piece  -- the same, and a space
   OpenPlain : List ℕ → Piece  -- a parenthesis and a keyword without a style
   OpenUnnamed : Piece  -- a parenthesis without a keyword
-  OpenTypeGap : List ℕ → Piece  -- a parenthesis, the word of a type and a space
+  OpenTypeSpace : List ℕ → Piece  -- a parenthesis, the word of a type and a space
   OpenAnnotation : List ℕ → Piece  -- a parenthesis, the sign @ and the name of an annotation
-  OpenAnnotationGap : List ℕ → Piece  -- the same, and a space
+  OpenAnnotationSpace : List ℕ → Piece  -- the same, and a space
   OpenAnnotationWord : List ℕ → Piece  -- in an annotation: a parenthesis and any run of identifier characters
-  Shut : Piece  -- a closing parenthesis
+  CloseParen : Piece  -- a closing parenthesis
   Word : List ℕ → Piece  -- a word without a style
   TypeWord : List ℕ → Piece  -- the word of a type
-  TypeWordGap : List ℕ → Piece  -- the same, and a space
-  GapTypeWord : List ℕ → Piece  -- a space and the word of a type
+  TypeWordSpace : List ℕ → Piece  -- the same, and a space
+  SpaceTypeWord : List ℕ → Piece  -- a space and the word of a type
   Number : ℕ → Piece  -- an index
   Constant : ℤ → Piece  -- a space and a number with its sign
   Literals : List ℕ → List (List ℕ) → Piece  -- words with spaces between them
-  GapLiterals : List (List ℕ) → Piece  -- words, a space before each
+  SpaceLiterals : List (List ℕ) → Piece  -- words, a space before each
   Float : Width → ℕ → Piece  -- a floating-point number, by its bits
   IndexComment : ℕ → Piece  -- (;i;), the index of a declaration
   BeginName : Piece  -- text after this has the style of names
@@ -101,24 +101,24 @@ calls o (Begin place) = Line (Some place) ∷ []
 calls o EndLine = Newline ∷ []
 calls o (Break place nesting) =
     Newline ∷ (Line place ∷ (place_calls o.offsets place ++ (Text (repetition_of (min nesting most_indents) o.indent) ∷ [])))
-calls o Gap = Text (codes " ") ∷ []
+calls o OneSpace = Text (codes " ") ∷ []
 calls o (Open w) = Text (codes "(") ∷ calls_in_style Keyword w
-calls o (OpenGap w) = Text (codes "(") ∷ calls_in_style Keyword (w ++ codes " ")
+calls o (OpenSpace w) = Text (codes "(") ∷ calls_in_style Keyword (w ++ codes " ")
 calls o (OpenPlain w) = Text (codes "(" ++ w) ∷ []
 calls o OpenUnnamed = Text (codes "(") ∷ calls_in_style Keyword []
-calls o (OpenTypeGap w) = Text (codes "(") ∷ calls_in_style TypeName (w ++ codes " ")
+calls o (OpenTypeSpace w) = Text (codes "(") ∷ calls_in_style TypeName (w ++ codes " ")
 calls o (OpenAnnotation w) = Text (codes "(") ∷ calls_in_style Keyword (64 ∷ w)
-calls o (OpenAnnotationGap w) = Text (codes "(") ∷ calls_in_style Keyword (64 ∷ (w ++ codes " "))
+calls o (OpenAnnotationSpace w) = Text (codes "(") ∷ calls_in_style Keyword (64 ∷ (w ++ codes " "))
 calls o (OpenAnnotationWord w) = Text (codes "(") ∷ calls_in_style Keyword w
-calls o Shut = Text (codes ")") ∷ []
+calls o CloseParen = Text (codes ")") ∷ []
 calls o (Word w) = Text w ∷ []
 calls o (TypeWord w) = calls_in_style TypeName w
-calls o (TypeWordGap w) = calls_in_style TypeName (w ++ codes " ")
-calls o (GapTypeWord w) = calls_in_style TypeName (32 ∷ w)
+calls o (TypeWordSpace w) = calls_in_style TypeName (w ++ codes " ")
+calls o (SpaceTypeWord w) = calls_in_style TypeName (32 ∷ w)
 calls o (Number n) = calls_in_style Name (decimal n)
 calls o (Constant z) = calls_in_style Literal (32 ∷ signed_decimal z)
 calls o (Literals w ws) = calls_in_style Literal (w ++ after_spaces ws)
-calls o (GapLiterals ws) = calls_in_style Literal (after_spaces ws)
+calls o (SpaceLiterals ws) = calls_in_style Literal (after_spaces ws)
 calls o (Float w bits) = float_calls w bits
 calls o (IndexComment n) = Text (codes "(;" ++ (decimal n ++ codes ";)")) ∷ []
 calls o BeginName = Start Name ∷ []
@@ -138,30 +138,30 @@ calls o (Claimed name place bytes answer) = Claim name place bytes answer ∷ []
 
 -- The tokens of a piece.
 abbrev pub piece_tokens : Piece → List Token
-piece_tokens (Open w) = token.left ∷ (token.word w ∷ [])
-piece_tokens (OpenGap w) = token.left ∷ (token.word w ∷ [])
-piece_tokens (OpenPlain w) = token.left ∷ (token.word w ∷ [])
-piece_tokens OpenUnnamed = token.left ∷ []
-piece_tokens (OpenTypeGap w) = token.left ∷ (token.word w ∷ [])
-piece_tokens (OpenAnnotation w) = token.left_note w ∷ []
-piece_tokens (OpenAnnotationGap w) = token.left_note w ∷ []
+piece_tokens (Open w) = token.open_paren ∷ (token.word w ∷ [])
+piece_tokens (OpenSpace w) = token.open_paren ∷ (token.word w ∷ [])
+piece_tokens (OpenPlain w) = token.open_paren ∷ (token.word w ∷ [])
+piece_tokens OpenUnnamed = token.open_paren ∷ []
+piece_tokens (OpenTypeSpace w) = token.open_paren ∷ (token.word w ∷ [])
+piece_tokens (OpenAnnotation w) = token.open_annotation w ∷ []
+piece_tokens (OpenAnnotationSpace w) = token.open_annotation w ∷ []
 piece_tokens (OpenAnnotationWord w) = token.tokens (40 ∷ w)
-piece_tokens Shut = token.right ∷ []
+piece_tokens CloseParen = token.close_paren ∷ []
 piece_tokens (Word w) = token.word w ∷ []
 piece_tokens (TypeWord w) = token.word w ∷ []
-piece_tokens (TypeWordGap w) = token.word w ∷ []
-piece_tokens (GapTypeWord w) = token.word w ∷ []
+piece_tokens (TypeWordSpace w) = token.word w ∷ []
+piece_tokens (SpaceTypeWord w) = token.word w ∷ []
 piece_tokens (Number n) = token.word (decimal n) ∷ []
 piece_tokens (Constant z) = token.word (signed_decimal z) ∷ []
 piece_tokens (Literals w ws) = word_tokens (w ∷ ws)
-piece_tokens (GapLiterals ws) = word_tokens ws
+piece_tokens (SpaceLiterals ws) = word_tokens ws
 piece_tokens (Float w bits) = token.word (float_text w bits) ∷ []
 piece_tokens (Quoted cs) = token.string (encode_utf8_all cs) ∷ []
 piece_tokens (QuotedBytes bs) = token.string bs ∷ []
 piece_tokens (Identifier cs) = token.name (encode_utf8_all cs) ∷ []
-piece_tokens (NameAnnotation cs) = token.left_note (codes "name") ∷ (token.string (encode_utf8_all cs) ∷ (token.right ∷ []))
+piece_tokens (NameAnnotation cs) = token.open_annotation (codes "name") ∷ (token.string (encode_utf8_all cs) ∷ (token.close_paren ∷ []))
 piece_tokens (HintAnnotation taken) =
-    token.left_note (codes "metadata.code.branch_hint") ∷ (token.string (flag_byte taken ∷ []) ∷ (token.right ∷ []))
+    token.open_annotation (codes "metadata.code.branch_hint") ∷ (token.string (flag_byte taken ∷ []) ∷ (token.close_paren ∷ []))
 piece_tokens _ = []
 
 -- The text of a piece.

@@ -58,7 +58,7 @@ abbrev pub custom_of : List ℕ → Placed (List ℕ) → Custom
 custom_of n bytes = record { name = n; bytes = bytes }
 
 -- A custom section with the place of its first byte after its size, and the kind of the last section before it
--- that is not empty (`is_place` in `Sections`).
+-- that is not empty (`has_fields` in `Sections`).
 pub record CustomEntry : Type 0 where
   pub after : Option Kind
   pub section : Placed Custom

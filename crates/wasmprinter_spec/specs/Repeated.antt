@@ -5,7 +5,7 @@ use Rattle.std.proofs.Common.{sym, ap, subst, ◌∙◌, arith, append_assoc, co
 use Rattle.std.proofs.lemmas.Bool.{eqb-true, eq-eqb, ne_eqb, ltb-true, lt-ltb}
 use Rattle.std.proofs.lemmas.List.{length-append, nil_from_length}
 use Rattle.wasmprinter_spec.specs.Grammar.{Input, input, Spans, Grammar, Remainder, ◌>>=◌, bind_some, some_is, seq, map_value}
-use Rattle.wasmprinter_spec.specs.Choices.{chosen, tested}
+use Rattle.wasmprinter_spec.specs.Choices.{cond_cases, tested}
 
 -- `f` of the value, or `d` if there is none.
 abbrev pub some_or : {A B : Type 0} → Option A → B → (A → B) → B
@@ -104,7 +104,7 @@ module _ {A : Type 0} (g : Grammar A) where
   entries_sound (suc n) at xs e =
       let more : (A × Input) → Option (List A) =
       λ x. cond (ltb (length x.1.bytes) (length at.bytes)) (entries_at n x.1 >>= λ ys. Some (x.0 ∷ ys)) None in
-      elim (chosen (eqb (length at.bytes) 0) (Some []) (g.parse at >>= more) (Some xs) e) [
+      elim (cond_cases (eqb (length at.bytes) 0) (Some []) (g.parse at >>= more) (Some xs) e) [
         | inl done ↦ subst (λ (ys : List A). Entries at.place at.bytes ys) (some_is [] xs done.1)
             (nil_from_length at.bytes (eqb-true _ _ done.0))
         | inr on ↦

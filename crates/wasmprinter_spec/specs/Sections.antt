@@ -151,25 +151,25 @@ is_filled (x ∷ xs) = true
 
 -- A custom section can be placed after this section: its content is a list that is not empty, or a start function.
 -- (A data count is not a part of the module.)
-abbrev pub is_place : (kind : Kind) → Content kind → Bool
-is_place CustomSection x = false
-is_place TypeSection xs = is_filled xs
-is_place ImportSection xs = is_filled xs
-is_place FunctionSection xs = is_filled xs
-is_place TableSection xs = is_filled xs
-is_place MemorySection xs = is_filled xs
-is_place TagSection xs = is_filled xs
-is_place GlobalSection xs = is_filled xs
-is_place ExportSection xs = is_filled xs
-is_place StartSection x = true
-is_place ElementSection xs = is_filled xs
-is_place DataCountSection x = false
-is_place CodeSection xs = is_filled xs
-is_place DataSection xs = is_filled xs
+abbrev pub has_fields : (kind : Kind) → Content kind → Bool
+has_fields CustomSection x = false
+has_fields TypeSection xs = is_filled xs
+has_fields ImportSection xs = is_filled xs
+has_fields FunctionSection xs = is_filled xs
+has_fields TableSection xs = is_filled xs
+has_fields MemorySection xs = is_filled xs
+has_fields TagSection xs = is_filled xs
+has_fields GlobalSection xs = is_filled xs
+has_fields ExportSection xs = is_filled xs
+has_fields StartSection x = true
+has_fields ElementSection xs = is_filled xs
+has_fields DataCountSection x = false
+has_fields CodeSection xs = is_filled xs
+has_fields DataSection xs = is_filled xs
 
--- The kind of the last section with `is_place` after one more section, if it was `last` before.
-abbrev pub place_after : Option Kind → Section → Option Kind
-place_after last (holds kind x) = if is_place kind x then Some kind else last
+-- The kind of the last section with fields after one more section, if it was `last` before.
+abbrev pub kind_after : Option Kind → Section → Option Kind
+kind_after last (holds kind x) = if has_fields kind x then Some kind else last
 
 -- The custom section c, if there is one, and then the custom sections `cs`. `last` is the position of c (`after` of
 -- `CustomEntry`).
@@ -177,7 +177,7 @@ abbrev pub with_custom : Option Kind → Option (Placed Custom) → List CustomE
 with_custom last None cs = cs
 with_custom last (Some c) cs = custom_entry last c ∷ cs
 
--- The custom sections in order, each with the kind of the last section before it with `is_place`.
+-- The custom sections in order, each with the kind of the last section with fields before it.
 abbrev pub customs_after : Option Kind → List Section → List CustomEntry
 customs_after last [] = []
-customs_after last (s ∷ ss) = with_custom last (content_of CustomSection s) (customs_after (place_after last s) ss)
+customs_after last (s ∷ ss) = with_custom last (content_of CustomSection s) (customs_after (kind_after last s) ss)

@@ -5,14 +5,14 @@ use Rattle.std.specs.Prelude.{ℕ, zero, suc, ◌+◌, ◌*◌, ◌==◌, Bool, 
 use Rattle.std.specs.Char.{digit_value}
 use Rattle.std.specs.Str.{is_utf8}
 use Rattle.std.proofs.Math.Utf8.{scalar}
-use Rattle.wasmprinter_spec.specs.Character.{Class, Space, Tab, Feed, Left, Right, Semicolon, Quote, Backslash, Dollar, At, Plain, Reserved, Control, Foreign, class}
+use Rattle.wasmprinter_spec.specs.Character.{Class, Space, Tab, Feed, OpenParen, CloseParen, Semicolon, Quote, Backslash, Dollar, At, Plain, Reserved, Control, Foreign, class}
 use Rattle.wasmprinter_spec.specs.Numeral.{numeral}
 
 -- A token of a text.
 pub data Token : Type 0 where
-  left : Token
-  left_note : List ℕ → Token  -- the start of an annotation: `(@`, and its name
-  right : Token
+  open_paren : Token
+  open_annotation : List ℕ → Token  -- the start of an annotation: `(@`, and its name
+  close_paren : Token
   word : List ℕ → Token  -- a keyword, a number, or any other run of identifier characters
   name : List ℕ → Token  -- an identifier, by its content: $a and $"a" are equal
   string : List ℕ → Token
@@ -32,12 +32,12 @@ pub data Mode : Type 0 where
   Tight : Mode  -- after a quoted string, which a token must not touch
   InRun : RunKind → List ℕ → Mode
   AfterDollar : Mode
-  AfterLeft : Mode
-  AfterLeftAt : Mode
+  AfterOpenParen : Mode
+  AfterOpenParenAt : Mode
   AfterSemicolon : Mode
   InLine : Mode  -- in a line comment
   InBlock : ℕ → Mode  -- in a block comment, inside this number of others
-  InBlockLeft : ℕ → Mode
+  InBlockOpenParen : ℕ → Mode
   InBlockSemicolon : ℕ → Mode
   InQuoted : RunKind → List ℕ → Mode
   InEscape : RunKind → List ℕ → Mode
@@ -53,7 +53,7 @@ Next = Mode → List Token
 abbrev pub run_token : RunKind → List ℕ → Token
 run_token AsWord s = word s
 run_token AsName s = name s
-run_token AsNote s = left_note s
+run_token AsNote s = open_annotation s
 run_token AsString s = bad
 
 -- The quoted content of an identifier or of an annotation's name: UTF-8, not empty.
@@ -65,7 +65,7 @@ is_name (b ∷ bs) = is_utf8 (b ∷ bs)
 abbrev pub quoted_tokens : RunKind → List ℕ → List Token → List Token
 quoted_tokens AsWord s ts = bad ∷ ts
 quoted_tokens AsName s ts = (if is_name s then name s else reserved) ∷ ts
-quoted_tokens AsNote s ts = if is_name s then left_note s ∷ ts else left ∷ (reserved ∷ ts)
+quoted_tokens AsNote s ts = if is_name s then open_annotation s ∷ ts else open_paren ∷ (reserved ∷ ts)
 quoted_tokens AsString s ts = string s ∷ ts
 
 -- ---- Between tokens
@@ -76,8 +76,8 @@ abbrev pub clear : Class → ℕ → Next → List Token
 clear Space b k = k Clear
 clear Tab b k = k Clear
 clear Feed b k = k Clear
-clear Left b k = k AfterLeft
-clear Right b k = right ∷ k Clear
+clear OpenParen b k = k AfterOpenParen
+clear CloseParen b k = close_paren ∷ k Clear
 clear Semicolon b k = k AfterSemicolon
 clear Quote b k = k (InQuoted AsString [])
 clear Dollar b k = k AfterDollar
@@ -93,8 +93,8 @@ abbrev pub delimits : Class → Bool
 delimits Space = true
 delimits Tab = true
 delimits Feed = true
-delimits Left = true
-delimits Right = true
+delimits OpenParen = true
+delimits CloseParen = true
 delimits Semicolon = true
 delimits _ = false
 
@@ -122,19 +122,19 @@ after_dollar Plain b k = k (InRun AsName (b ∷ []))
 after_dollar c b k = reserved ∷ clear c b k
 
 -- A byte after a left parenthesis.
-abbrev pub after_left : Class → ℕ → Next → List Token
-after_left Semicolon b k = k (InBlock 0)
-after_left At b k = k AfterLeftAt
-after_left c b k = left ∷ clear c b k
+abbrev pub after_open_paren : Class → ℕ → Next → List Token
+after_open_paren Semicolon b k = k (InBlock 0)
+after_open_paren At b k = k AfterOpenParenAt
+after_open_paren c b k = open_paren ∷ clear c b k
 
 -- After `(@`, which is a parenthesis and a reserved token if no name follows.
-abbrev pub after_left_at : Class → ℕ → Next → List Token
-after_left_at Quote b k = k (InQuoted AsNote [])
-after_left_at Backslash b k = k (InRun AsNote (b ∷ []))
-after_left_at Dollar b k = k (InRun AsNote (b ∷ []))
-after_left_at At b k = k (InRun AsNote (b ∷ []))
-after_left_at Plain b k = k (InRun AsNote (b ∷ []))
-after_left_at c b k = left ∷ (reserved ∷ clear c b k)
+abbrev pub after_open_paren_at : Class → ℕ → Next → List Token
+after_open_paren_at Quote b k = k (InQuoted AsNote [])
+after_open_paren_at Backslash b k = k (InRun AsNote (b ∷ []))
+after_open_paren_at Dollar b k = k (InRun AsNote (b ∷ []))
+after_open_paren_at At b k = k (InRun AsNote (b ∷ []))
+after_open_paren_at Plain b k = k (InRun AsNote (b ∷ []))
+after_open_paren_at c b k = open_paren ∷ (reserved ∷ clear c b k)
 
 -- ---- Comments
 
@@ -155,21 +155,21 @@ close_block (suc n) k = k (InBlock n)
 
 -- A byte in a block comment that is inside n others (section 6.2, "Comments").
 abbrev pub in_block : ℕ → Class → Next → List Token
-in_block n Left k = k (InBlockLeft n)
+in_block n OpenParen k = k (InBlockOpenParen n)
 in_block n Semicolon k = k (InBlockSemicolon n)
 in_block n _ k = k (InBlock n)
 
 -- A byte after a left parenthesis in a block comment, where a semicolon begins a nested comment.
-abbrev pub in_block_left : ℕ → Class → Next → List Token
-in_block_left n Semicolon k = k (InBlock (suc n))
-in_block_left n Left k = k (InBlockLeft n)
-in_block_left n _ k = k (InBlock n)
+abbrev pub in_block_open_paren : ℕ → Class → Next → List Token
+in_block_open_paren n Semicolon k = k (InBlock (suc n))
+in_block_open_paren n OpenParen k = k (InBlockOpenParen n)
+in_block_open_paren n _ k = k (InBlock n)
 
 -- A byte after a semicolon in a block comment, where a right parenthesis ends the comment.
 abbrev pub in_block_semicolon : ℕ → Class → Next → List Token
-in_block_semicolon n Right k = close_block n k
+in_block_semicolon n CloseParen k = close_block n k
 in_block_semicolon n Semicolon k = k (InBlockSemicolon n)
-in_block_semicolon n Left k = k (InBlockLeft n)
+in_block_semicolon n OpenParen k = k (InBlockOpenParen n)
 in_block_semicolon n _ k = k (InBlock n)
 
 -- ---- Quoted strings
@@ -242,12 +242,12 @@ step Clear b k = clear (class b) b k
 step Tight b k = touch (delimits (class b)) (class b) b k
 step (InRun p s) b k = in_run p s (class b) b k
 step AfterDollar b k = after_dollar (class b) b k
-step AfterLeft b k = after_left (class b) b k
-step AfterLeftAt b k = after_left_at (class b) b k
+step AfterOpenParen b k = after_open_paren (class b) b k
+step AfterOpenParenAt b k = after_open_paren_at (class b) b k
 step AfterSemicolon b k = after_semicolon (class b) b k
 step InLine b k = in_line (class b) k
 step (InBlock n) b k = in_block n (class b) k
-step (InBlockLeft n) b k = in_block_left n (class b) k
+step (InBlockOpenParen n) b k = in_block_open_paren n (class b) k
 step (InBlockSemicolon n) b k = in_block_semicolon n (class b) k
 step (InQuoted p s) b k = in_quoted p s (class b) b k
 step (InEscape p s) b k = in_escape p s (escape b) k
@@ -261,8 +261,8 @@ finish Clear = []
 finish Tight = []
 finish (InRun p s) = run_token p s ∷ []
 finish AfterDollar = reserved ∷ []
-finish AfterLeft = left ∷ []
-finish AfterLeftAt = left ∷ (reserved ∷ [])
+finish AfterOpenParen = open_paren ∷ []
+finish AfterOpenParenAt = open_paren ∷ (reserved ∷ [])
 finish AfterSemicolon = reserved ∷ []
 finish InLine = []
 finish _ = bad ∷ []

@@ -4,7 +4,7 @@ use Rattle.std.proofs.Common.{sym, ap, ◌∙◌, append_assoc}
 use Rattle.std.proofs.Math.Dec.{eqb-suc-zero}
 use Rattle.wasmprinter_spec.specs.Types.{FieldType as DefinedField, CompositeType, SubType}
 use Rattle.wasmprinter_spec.specs.Names.{Names}
-use Rattle.wasmprinter_spec.specs.Piece.{Piece, Gap, Open, Shut}
+use Rattle.wasmprinter_spec.specs.Piece.{Piece, OneSpace, Open, CloseParen}
 use Rattle.wasmprinter_spec.specs.Layout.Groups.{line_group, numbered_pieces}
 use Rattle.wasmprinter_spec.specs.Layout.ValTypes.{type_index_pieces}
 use Rattle.wasmprinter_spec.specs.Layout.Types.{composite_pieces, final_pieces, supertype_pieces, sub_group, sub_pieces_by, sub_pieces}
@@ -33,7 +33,7 @@ module _ (names : Names) where
   pub supertypes-next : (is rest : List ℕ) (i : ℕ) → is ≡ i ∷ rest → supertype_pieces names is ≡ supertype_pieces names (i ∷ []) ++ supertype_pieces names rest
   unfolding supertype_pieces
   supertypes-next is rest i e =
-      ap (supertype_pieces names) e ∙ sym (append_assoc (type_index_pieces names i) (Gap ∷ []) (supertype_pieces names rest))
+      ap (supertype_pieces names) e ∙ sym (append_assoc (type_index_pieces names i) (OneSpace ∷ []) (supertype_pieces names rest))
 
   plain-by : (n : ℕ) (final : Bool) (is : List ℕ) (c : CompositeType) → (final && (length is == 0)) ≡ true → sub_pieces_by names n final is c ≡ composite_pieces names n c
   plain-by n true [] c e = refl
@@ -57,7 +57,7 @@ module _ (names : Names) where
 
   -- The group of a subtype consists of `sub`, `final` if it is final, its supertypes and its composite type.
   pub sub_group-parts : (n : ℕ) (final : Bool) (is : List ℕ) (c : CompositeType) →
-      sub_group names n final is c ≡ Open (codes "sub") ∷ (Gap ∷ (final_pieces names final ++ (supertype_pieces names is ++ (composite_pieces names n c ++ (Shut ∷ [])))))
+      sub_group names n final is c ≡ Open (codes "sub") ∷ (OneSpace ∷ (final_pieces names final ++ (supertype_pieces names is ++ (composite_pieces names n c ++ (CloseParen ∷ [])))))
   unfolding sub_group line_group
   sub_group-parts n final is c =
-      ap (λ ps. Open (codes "sub") ∷ (Gap ∷ ps)) (append_assoc (final_pieces names final) (supertype_pieces names is ++ composite_pieces names n c) (Shut ∷ []) ∙ ap (λ ps. final_pieces names final ++ ps) (append_assoc (supertype_pieces names is) (composite_pieces names n c) (Shut ∷ [])))
+      ap (λ ps. Open (codes "sub") ∷ (OneSpace ∷ ps)) (append_assoc (final_pieces names final) (supertype_pieces names is ++ composite_pieces names n c) (CloseParen ∷ []) ∙ ap (λ ps. final_pieces names final ++ ps) (append_assoc (supertype_pieces names is) (composite_pieces names n c) (CloseParen ∷ [])))

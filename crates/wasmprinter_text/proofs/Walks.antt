@@ -4,7 +4,7 @@ use Rattle.std.proofs.Common.{sym, ap, ◌∙◌, append_assoc}
 use Rattle.wasmprinter_spec.specs.Types.{ValType}
 use Rattle.wasmprinter_spec.specs.Labels.{Named}
 use Rattle.wasmprinter_spec.specs.Names.{Names}
-use Rattle.wasmprinter_spec.specs.Piece.{Piece, Break, Gap, Open, Shut}
+use Rattle.wasmprinter_spec.specs.Piece.{Piece, Break, OneSpace, Open, CloseParen}
 use Rattle.wasmprinter_spec.specs.Layout.Groups.{line_group}
 use Rattle.wasmprinter_spec.specs.Layout.ValTypes.{type_list}
 use Rattle.wasmprinter_spec.specs.Layout.Variables.{Variables, Alone, Together, with_variable, variable_groups, variables_pieces, groups_pieces}
@@ -21,28 +21,28 @@ module _ (names : Names) (w : List ℕ) where
   rest_pieces : Before → List Variables → List Piece
   rest_pieces before.Line [] = []
   rest_pieces before.Line (g ∷ gs) = variables_pieces names w g ++ groups_pieces names w gs
-  rest_pieces before.Shut gs = groups_pieces names w gs
-  rest_pieces before.Open (Together ts ∷ gs) = type_list names ts ++ (Shut ∷ groups_pieces names w gs)
-  rest_pieces before.Open gs = Shut ∷ groups_pieces names w gs
+  rest_pieces before.Closed gs = groups_pieces names w gs
+  rest_pieces before.Open (Together ts ∷ gs) = type_list names ts ++ (CloseParen ∷ groups_pieces names w gs)
+  rest_pieces before.Open gs = CloseParen ∷ groups_pieces names w gs
 
   -- A type and the rest of its group, with its end, are the pieces of the group with that type first.
   longer : (t : ValType) (ts : List ValType) (ps : List Piece) →
-      type_list names (t ∷ []) ++ (type_list names ts ++ (Shut ∷ ps)) ≡ type_list names (t ∷ ts) ++ (Shut ∷ ps)
+      type_list names (t ∷ []) ++ (type_list names ts ++ (CloseParen ∷ ps)) ≡ type_list names (t ∷ ts) ++ (CloseParen ∷ ps)
   longer t ts ps =
-      sym (append_assoc (type_list names (t ∷ [])) (type_list names ts) (Shut ∷ ps)) ∙ ap (λ xs. xs ++ (Shut ∷ ps)) (sym (type_list-append names (t ∷ []) ts))
+      sym (append_assoc (type_list names (t ∷ [])) (type_list names ts) (CloseParen ∷ ps)) ∙ ap (λ xs. xs ++ (CloseParen ∷ ps)) (sym (type_list-append names (t ∷ []) ts))
 
   -- The start of a group, a type and the rest of the group are the pieces of the group with that type first.
   group_longer : (t : ValType) (ts : List ValType) (ps : List Piece) →
-      Open w ∷ (type_list names (t ∷ []) ++ (type_list names ts ++ (Shut ∷ ps))) ≡ variables_pieces names w (Together (t ∷ ts)) ++ ps
+      Open w ∷ (type_list names (t ∷ []) ++ (type_list names ts ++ (CloseParen ∷ ps))) ≡ variables_pieces names w (Together (t ∷ ts)) ++ ps
   unfolding variables_pieces line_group
-  group_longer t ts ps = ap (λ xs. Open w ∷ xs) (longer t ts ps ∙ sym (append_assoc (type_list names (t ∷ ts)) (Shut ∷ []) ps))
+  group_longer t ts ps = ap (λ xs. Open w ∷ xs) (longer t ts ps ∙ sym (append_assoc (type_list names (t ∷ ts)) (CloseParen ∷ []) ps))
 
   -- A variable without an identifier and the types that share its group are the pieces of that group, in any state.
   together : (b : Before) (t : ValType) (ts : List ValType) (gs : List Variables) →
-      unnamed_pieces names w b t ++ (type_list names ts ++ (Shut ∷ groups_pieces names w gs)) ≡ rest_pieces b (Together (t ∷ ts) ∷ gs)
+      unnamed_pieces names w b t ++ (type_list names ts ++ (CloseParen ∷ groups_pieces names w gs)) ≡ rest_pieces b (Together (t ∷ ts) ∷ gs)
   unfolding rest_pieces groups_pieces
   together before.Line t ts gs = group_longer t ts (groups_pieces names w gs)
-  together before.Shut t ts gs = ap (λ xs. Gap ∷ xs) (group_longer t ts (groups_pieces names w gs))
+  together before.Closed t ts gs = ap (λ xs. OneSpace ∷ xs) (group_longer t ts (groups_pieces names w gs))
   together before.Open t ts gs = longer t ts (groups_pieces names w gs)
 
   -- A variable and the rest after it are the pieces of the groups with that variable first, in any state.
@@ -50,7 +50,7 @@ module _ (names : Names) (w : List ℕ) where
       variable_pieces names w b n t ++ rest_pieces (before_next n) gs ≡ rest_pieces b (with_variable n t gs)
   unfolding rest_pieces groups_pieces type_list
   step before.Line (Some n) t gs = refl
-  step before.Shut (Some n) t gs = refl
+  step before.Closed (Some n) t gs = refl
   step before.Open (Some n) t gs = refl
   step b None t [] = together b t [] []
   step b None t (Together ts ∷ gs) = together b t ts gs
@@ -60,16 +60,16 @@ module _ (names : Names) (w : List ℕ) where
       walk_pieces names w named b k ts ≡ rest_pieces b (variable_groups named k ts)
   unfolding rest_pieces groups_pieces
   walk-rest named before.Line k [] = refl
-  walk-rest named before.Shut k [] = refl
+  walk-rest named before.Closed k [] = refl
   walk-rest named before.Open k [] = refl
   walk-rest named b k (t ∷ ts) =
       ap (λ ps. variable_pieces names w b (named k) t ++ ps) (walk-rest named (before_next (named k)) (k + 1) ts) ∙ step b (named k) t (variable_groups named (k + 1) ts)
 
   -- From the state without an open group, the pass writes the groups, with a space before each.
   pub walk-groups : (named : ℕ → Option Named) (k : ℕ) (ts : List ValType) →
-      walk_pieces names w named before.Shut k ts ≡ groups_pieces names w (variable_groups named k ts)
+      walk_pieces names w named before.Closed k ts ≡ groups_pieces names w (variable_groups named k ts)
   unfolding rest_pieces
-  walk-groups named k ts = walk-rest named before.Shut k ts
+  walk-groups named k ts = walk-rest named before.Closed k ts
 
 module _ (names : Names) (w : List ℕ) (named : ℕ → Option Named) where
   -- The pass over a list of variables writes the first variable and passes over the others.

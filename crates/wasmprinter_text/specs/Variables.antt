@@ -4,7 +4,7 @@ use Rattle.std.specs.Prelude.{ℕ, ◌+◌, List, [], ◌∷◌, ◌++◌, Optio
 use Rattle.wasmprinter_spec.specs.Types.{ValType}
 use Rattle.wasmprinter_spec.specs.Labels.{Named}
 use Rattle.wasmprinter_spec.specs.Names.{Names}
-use Rattle.wasmprinter_spec.specs.Piece.{Piece, Gap, Open, Shut}
+use Rattle.wasmprinter_spec.specs.Piece.{Piece, OneSpace, Open, CloseParen}
 use Rattle.wasmprinter_spec.specs.Layout.ValTypes.{type_list}
 use Rattle.wasmprinter_spec.specs.Layout.Variables.{Alone, variables_pieces}
 use Rattle.wasmprinter_text.specs.declared.types.variables.Before.{Before}
@@ -13,17 +13,17 @@ use Rattle.wasmprinter_text.specs.declared.types.variables.Before.TheVariants as
 -- The pieces before a new group.
 abbrev pub front_pieces : Before → List Piece
 front_pieces before.Line = []
-front_pieces before.Shut = Gap ∷ []
-front_pieces before.Open = Shut ∷ (Gap ∷ [])
+front_pieces before.Closed = OneSpace ∷ []
+front_pieces before.Open = CloseParen ∷ (OneSpace ∷ [])
 
 -- The pieces after the last variable: a group that is open is closed.
 abbrev pub end_pieces : Before → List Piece
-end_pieces before.Open = Shut ∷ []
+end_pieces before.Open = CloseParen ∷ []
 end_pieces _ = []
 
 -- The state after a variable with this identifier.
 abbrev pub before_next : Option Named → Before
-before_next (Some n) = before.Shut
+before_next (Some n) = before.Closed
 before_next None = before.Open
 
 module _ (names : Names) (w : List ℕ) where

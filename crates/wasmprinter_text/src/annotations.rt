@@ -1,7 +1,7 @@
 //! Annotations (section 6.2 of the WebAssembly Core Specification, "Annotations"), and the comment line that
 //! reports an error in a custom section.
 ghost use Rattle.std.specs.Prelude.{[], ◌∷◌, ◌++◌};
-ghost use Rattle.wasmprinter_spec.specs.Piece.{OpenAnnotation, OpenAnnotationGap, OpenAnnotationWord, PlainLineComment};
+ghost use Rattle.wasmprinter_spec.specs.Piece.{OpenAnnotation, OpenAnnotationSpace, OpenAnnotationWord, PlainLineComment};
 
 use crate::comments::write_between;
 use crate::words::{write_in_style, write_two_in_style};
@@ -17,7 +17,7 @@ pub fn open_annotation<O: Output>(out: &mut O, name: &str)
 
 /// Opens an annotation, and writes a space after its name.
 pub fn open_annotation_space<O: Output>(out: &mut O, name: &str)
-    ensures { O.wrote out.old out.new (OpenAnnotationGap name.now ∷ []) }
+    ensures { O.wrote out.old out.new (OpenAnnotationSpace name.now ∷ []) }
 {
     out.write_str("(");
     out.start(Style::Keyword);

@@ -1,10 +1,10 @@
 //! Items at their declarations and indices that refer to them: by identifier if the item has one, otherwise by number
 //! (section 6.3 of the WebAssembly Core Specification, "Identifiers").
 ghost use Rattle.std.specs.Prelude.{[], ◌∷◌, Some, chars, option_map};
-ghost use Rattle.wasmprinter_spec.specs.Piece.{Gap, NameAnnotation, Identifier as IdentifierPiece};
-ghost use Rattle.wasmprinter_spec.specs.Layout.Groups.{line_group_gap};
-ghost use Rattle.wasmprinter_spec.specs.Layout.Identifiers.{given_pieces, id_and_name_pieces, leading_id_and_name_pieces, id_and_name_gap_pieces};
-ghost use Rattle.wasmprinter_spec.specs.Layout.Identifiers.{identifier_gap_pieces, declaration_pieces, index_pieces};
+ghost use Rattle.wasmprinter_spec.specs.Piece.{OneSpace, NameAnnotation, Identifier as IdentifierPiece};
+ghost use Rattle.wasmprinter_spec.specs.Layout.Groups.{line_group_space};
+ghost use Rattle.wasmprinter_spec.specs.Layout.Identifiers.{given_pieces, id_and_name_pieces, leading_id_and_name_pieces, id_and_name_space_pieces};
+ghost use Rattle.wasmprinter_spec.specs.Layout.Identifiers.{identifier_space_pieces, declaration_pieces, index_pieces};
 ghost use Rattle.wasmprinter_custom.specs.Shown.{identifier_view};
 ghost use Rattle.wasmprinter_custom.specs.Views.{name_view};
 ghost use Rattle.wasmprinter_text.specs.Items.{item_of};
@@ -35,7 +35,7 @@ fn write_identifier<O: Output>(out: &mut O, identifier: Identifier<'_>)
 
 /// Writes a space and a name annotation.
 fn write_space_name_annotation<O: Output>(out: &mut O, name: &str)
-    ensures { O.wrote out.old out.new (Gap ∷ (NameAnnotation (chars name.now) ∷ [])) }
+    ensures { O.wrote out.old out.new (OneSpace ∷ (NameAnnotation (chars name.now) ∷ [])) }
 {
     write_space(out);
     write_name_annotation(out, name);
@@ -83,10 +83,10 @@ pub fn write_leading_id_and_name<O: Output>(out: &mut O, identifier: Option<Iden
 }
 
 /// Writes an identifier and its annotation as [`write_id_and_name`] does, then a space. Writes nothing for `None`.
-#[tactic(auto, unfolding(wasmprinter_spec::specs::Layout::Identifiers::id_and_name_gap_pieces))]
+#[tactic(auto, unfolding(wasmprinter_spec::specs::Layout::Identifiers::id_and_name_space_pieces))]
 pub(crate) fn write_id_and_name_space<O: Output>(out: &mut O, identifier: Option<Identifier<'_>>)
     ensures { O.wrote out.old out.new
-        (id_and_name_gap_pieces (option_map identifier_view identifier.entry)) }
+        (id_and_name_space_pieces (option_map identifier_view identifier.entry)) }
 {
     if let Some(identifier) = identifier {
         write_id_and_name(out, identifier);
@@ -95,10 +95,10 @@ pub(crate) fn write_id_and_name_space<O: Output>(out: &mut O, identifier: Option
 }
 
 /// Writes an identifier and a space. Writes nothing for `None`.
-#[tactic(auto, unfolding(wasmprinter_spec::specs::Layout::Identifiers::identifier_gap_pieces))]
+#[tactic(auto, unfolding(wasmprinter_spec::specs::Layout::Identifiers::identifier_space_pieces))]
 pub(crate) fn write_identifier_space<O: Output>(out: &mut O, identifier: Option<Identifier<'_>>)
     ensures { O.wrote out.old out.new
-        (identifier_gap_pieces (option_map identifier_view identifier.entry)) }
+        (identifier_space_pieces (option_map identifier_view identifier.entry)) }
 {
     if let Some(identifier) = identifier {
         write_identifier(out, identifier);
@@ -165,7 +165,7 @@ pub fn write_index_of<O: Output>(
 }
 
 /// Writes a group of a keyword and an index into an index space of the module.
-#[tactic(auto, unfolding(wasmprinter_spec::specs::Layout::Groups::line_group_gap))]
+#[tactic(auto, unfolding(wasmprinter_spec::specs::Layout::Groups::line_group_space))]
 pub fn write_index_group<O: Output>(
     out: &mut O,
     identifiers: &Identifiers<'_, '_>,
@@ -174,7 +174,7 @@ pub fn write_index_group<O: Output>(
     index: u32,
 )
     ensures { O.wrote out.old out.new
-        (line_group_gap keyword.now (index_pieces (item_of identifiers.now space 0 index) index)) }
+        (line_group_space keyword.now (index_pieces (item_of identifiers.now space 0 index) index)) }
 {
     open_group_space(out, keyword);
     write_index_of(out, identifiers, space, 0, u64::from(index));

@@ -6,8 +6,8 @@
 pub mod annotations;
 pub mod comments;
 pub mod data_strings;
+mod float_format;
 pub mod floats;
-mod format;
 pub mod hints;
 mod identifiers;
 pub mod indices;
@@ -17,5 +17,5 @@ pub mod numbers;
 pub mod signature;
 pub mod strings;
 pub mod types;
-pub mod values;
+pub mod value_printing;
 pub mod words;

@@ -157,20 +157,20 @@ fn write_close<O: Output>(out: &mut O, place: Option<u64>, nesting: u64, on_new_
 }
 
 /// Closes a group. If the group contains a line break, it closes on a line of its own, which has no place.
-pub fn close_group<O: Output>(out: &mut O, nesting: u64, outer: bool)
-    ensures { Closed O.wrote O.begun O.left out.old out.new None nesting outer }
+pub fn close_group<O: Output>(out: &mut O, nesting: u64, outer_begun: bool)
+    ensures { Closed O.wrote O.begun O.left_group out.old out.new None nesting outer_begun }
 {
     let on_new_line = out.has_begun();
     write_close(out, None, nesting, on_new_line);
-    out.leave_group(outer);
+    out.leave_group(outer_begun);
 }
 
 /// Closes a group that ends at a place. If the group contains a line break, or lines begin with their places, it
 /// closes on a line of its own.
-pub fn close_group_at<O: Output>(out: &mut O, place: u64, nesting: u64, outer: bool)
-    ensures { ClosedAt O.chosen O.wrote O.begun O.left out.old out.new place nesting outer }
+pub fn close_group_at<O: Output>(out: &mut O, place: u64, nesting: u64, outer_begun: bool)
+    ensures { ClosedAt O.chosen O.wrote O.begun O.left_group out.old out.new place nesting outer_begun }
 {
     let on_new_line = out.offsets() || out.has_begun();
     write_close(out, Some(place), nesting, on_new_line);
-    out.leave_group(outer);
+    out.leave_group(outer_begun);
 }

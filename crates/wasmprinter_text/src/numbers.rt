@@ -2,7 +2,7 @@
 ghost use Rattle.std.specs.Prelude.{◌≡◌, ◌<◌, ◌/◌, ◌%◌, ◌^◌, false, [], ◌∷◌, ◌++◌, decimal, length};
 ghost use Rattle.std.specs.Fmt.{digits, digit_glyph};
 ghost use Rattle.wasmprinter_spec.specs.Call.{Text};
-ghost use Rattle.wasmprinter_spec.specs.Piece.{Gap, Word, Number, Constant};
+ghost use Rattle.wasmprinter_spec.specs.Piece.{OneSpace, Word, Number, Constant};
 
 use crate::words::{write_in_style, write_space, write_two_in_style};
 use itoa::Buffer;
@@ -105,7 +105,7 @@ pub fn write_index<O: Output>(out: &mut O, n: u64)
 
 /// Writes a space and an index.
 pub fn write_space_index<O: Output>(out: &mut O, index: u32)
-    ensures { O.wrote out.old out.new (Gap ∷ (Number index ∷ [])) }
+    ensures { O.wrote out.old out.new (OneSpace ∷ (Number index ∷ [])) }
 {
     write_space(out);
     write_index(out, u64::from(index));

@@ -1,7 +1,7 @@
 //! Type uses: function types by their indices (section 6.4 of the WebAssembly Core Specification, "Type Uses").
 ghost use Rattle.std.specs.Prelude.{◌∷◌, codes};
-ghost use Rattle.wasmprinter_spec.specs.Piece.{Gap};
-ghost use Rattle.wasmprinter_spec.specs.Layout.Groups.{line_group_gap};
+ghost use Rattle.wasmprinter_spec.specs.Piece.{OneSpace};
+ghost use Rattle.wasmprinter_spec.specs.Layout.Groups.{line_group_space};
 ghost use Rattle.wasmprinter_spec.specs.Layout.ValTypes.{type_index_pieces};
 ghost use Rattle.wasmprinter_spec.specs.Layout.Types.{signature_if_any, type_use_pieces};
 ghost use Rattle.wasmprinter_custom.specs.Shown.{names_of_identifiers};
@@ -47,7 +47,7 @@ fn write_signature_at<O: Output, S: Signatures>(
 #[tactic(auto, unfolding(wasmprinter_spec::specs::Layout::ValTypes::type_index_pieces))]
 pub fn write_type_index<O: Output>(out: &mut O, identifiers: &Identifiers<'_, '_>, index: u32)
     ensures { O.wrote out.old out.new
-        (Gap ∷ line_group_gap (codes "type") (type_index_pieces (names_of_identifiers identifiers.now) index)) }
+        (OneSpace ∷ line_group_space (codes "type") (type_index_pieces (names_of_identifiers identifiers.now) index)) }
 {
     write_space(out);
     write_index_group(out, identifiers, "type", Space::Types, index);
@@ -63,7 +63,7 @@ pub fn write_type_use<O: Output, S: Signatures>(
     index: u32,
 )
     ensures { O.wrote out.old out.new
-        (Gap ∷ type_use_pieces (names_of_identifiers identifiers.now) owner index (S.signature_at types.now index)) }
+        (OneSpace ∷ type_use_pieces (names_of_identifiers identifiers.now) owner index (S.signature_at types.now index)) }
 {
     write_type_index(out, identifiers, index);
     write_signature_at(out, identifiers, owner, types, index);

@@ -149,18 +149,18 @@ fn beginning_of(byte: u8) -> u8
     BEGINNINGS[usize::from(byte)]
 }
 
-/// Appends a byte, as a quoted string contains it, to the first `len` bytes of `shown`, and returns the new
+/// Appends a byte, as a quoted string contains it, to the first `len` bytes of `escaped`, and returns the new
 /// length. The byte is an ASCII character, or `\hh` with its two hexadecimal digits. All three bytes are stored in
 /// both cases, because a branch would be slower.
-fn escape_byte(shown: &mut [u8; BUFFER_LEN], len: usize, byte: u8) -> usize
+fn escape_byte(escaped: &mut [u8; BUFFER_LEN], len: usize, byte: u8) -> usize
     requires { len + widest ≤ buffer_len }
-    ensures text { take result shown.new ≡ take len shown.old ++ byte_text byte }
+    ensures text { take result escaped.new ≡ take len escaped.old ++ byte_text byte }
     ensures len { result ≤ len + widest }
 {
     let beginning = beginning_of(byte);
-    shown[len] = beginning;
-    shown[len + 1] = hex_digit(byte / 16);
-    shown[len + 2] = hex_digit(byte % 16);
+    escaped[len] = beginning;
+    escaped[len + 1] = hex_digit(byte / 16);
+    escaped[len + 2] = hex_digit(byte % 16);
     if beginning == b'\\' {
         len + WIDEST
     } else {
@@ -168,16 +168,16 @@ fn escape_byte(shown: &mut [u8; BUFFER_LEN], len: usize, byte: u8) -> usize
     }
 }
 
-/// Stores bytes in `shown` as a quoted string contains them, and returns the number of bytes that they take.
-fn show_bytes(shown: &mut [u8; BUFFER_LEN], bytes: &[u8]) -> usize
+/// Stores bytes in `escaped` as a quoted string contains them, and returns the number of bytes that they take.
+fn show_bytes(escaped: &mut [u8; BUFFER_LEN], bytes: &[u8]) -> usize
     requires { length bytes.now ≤ chunk_len }
-    ensures text { take result shown.new ≡ flat_map byte_text bytes.now }
-    ensures ascii { IsAscii (take result shown.new) }
+    ensures text { take result escaped.new ≡ flat_map byte_text bytes.now }
+    ensures ascii { IsAscii (take result escaped.new) }
     ensures len { result ≤ widest * chunk_len }
 {
     let mut len = 0;
     for &byte in bytes {
-        len = escape_byte(shown, len, byte);
+        len = escape_byte(escaped, len, byte);
     }
     len
 }
@@ -197,13 +197,13 @@ fn write_ascii<O: Output>(out: &mut O, bytes: &[u8])
 fn write_bytes_in_runs<O: Output>(out: &mut O, bytes: &[u8])
     ensures { O.called out.old out.new (Text (flat_map byte_text bytes.now) ∷ []) }
 {
-    let mut shown = [0; BUFFER_LEN];
+    let mut escaped = [0; BUFFER_LEN];
     for chunk in bytes.chunks(CHUNK_LEN) {
         if out.has_failed() {
             return;
         }
-        let len = show_bytes(&mut shown, chunk);
-        write_ascii(out, &shown[..len]);
+        let len = show_bytes(&mut escaped, chunk);
+        write_ascii(out, &escaped[..len]);
     }
 }
 

@@ -1,11 +1,11 @@
 //! Heap types, reference types, value types, and signatures (section 6.4 of the WebAssembly Core Specification).
 ghost use Rattle.std.specs.Prelude.{◌≡◌, [], ◌∷◌, codes};
-ghost use Rattle.wasmprinter_spec.specs.Piece.{Gap};
+ghost use Rattle.wasmprinter_spec.specs.Piece.{OneSpace};
 ghost use Rattle.wasmprinter_spec.specs.Types.{Index};
 ghost use Rattle.wasmprinter_spec.specs.Layout.ValTypes.{heap_word, ref_word, type_index_pieces, heap_pieces, null_ref_pieces};
 ghost use Rattle.wasmprinter_spec.specs.Layout.ValTypes.{ref_pieces, val_pieces, type_list as list_of_types};
 ghost use Rattle.wasmprinter_spec.specs.Layout.Types.{list_group as group_of_types, signature_pieces};
-ghost use Rattle.wasmprinter_spec.specs.Layout.Groups.{line_group, line_group_gap};
+ghost use Rattle.wasmprinter_spec.specs.Layout.Groups.{line_group, line_group_space};
 ghost use Rattle.wasmprinter_custom.specs.Shown.{names_of_identifiers};
 ghost use Rattle.wasmprinter_ops.specs.ValTypes.{heap_view, ref_view, type_view, types_view};
 
@@ -114,10 +114,10 @@ fn write_null_ref<O: Output>(out: &mut O, identifiers: &Identifiers<'_, '_>, hea
 }
 
 /// Writes a non-nullable reference type.
-#[tactic(auto, unfolding(wasmprinter_spec::specs::Layout::Groups::line_group_gap))]
+#[tactic(auto, unfolding(wasmprinter_spec::specs::Layout::Groups::line_group_space))]
 fn write_some_ref<O: Output>(out: &mut O, identifiers: &Identifiers<'_, '_>, heap: HeapType)
     ensures { O.wrote out.old out.new
-        (line_group_gap (codes "ref") (heap_pieces (names_of_identifiers identifiers.now) (heap_view heap))) }
+        (line_group_space (codes "ref") (heap_pieces (names_of_identifiers identifiers.now) (heap_view heap))) }
 {
     open_group_space(out, "ref");
     write_heap_type(out, identifiers, heap);
@@ -190,7 +190,7 @@ pub fn write_type_group<O: Output>(
     types: &ValTypes<'_>,
 )
     ensures { O.wrote out.old out.new
-        (Gap ∷ line_group keyword.now (list_of_types (names_of_identifiers identifiers.now) (types_view types.now))) }
+        (OneSpace ∷ line_group keyword.now (list_of_types (names_of_identifiers identifiers.now) (types_view types.now))) }
 {
     write_space(out);
     open_group(out, keyword);

@@ -1,7 +1,7 @@
 //! Parentheses, spaces and words.
 ghost use Rattle.std.specs.Prelude.{[], ◌∷◌, ◌++◌};
-ghost use Rattle.wasmprinter_spec.specs.Piece.{Gap, Open, OpenUnnamed, OpenGap, OpenPlain, OpenTypeGap, Shut, BeginName, EndStyle};
-ghost use Rattle.wasmprinter_spec.specs.Piece.{Word, TypeWord, TypeWordGap, GapTypeWord, calls_in_style as in_style};
+ghost use Rattle.wasmprinter_spec.specs.Piece.{OneSpace, Open, OpenUnnamed, OpenSpace, OpenPlain, OpenTypeSpace, CloseParen, BeginName, EndStyle};
+ghost use Rattle.wasmprinter_spec.specs.Piece.{Word, TypeWord, TypeWordSpace, SpaceTypeWord, calls_in_style as in_style};
 ghost use Rattle.wasmprinter_print.specs.Styles.{style_of};
 
 use wasmprinter_print::{Output, Style};
@@ -35,7 +35,7 @@ pub fn open_group<O: Output>(out: &mut O, keyword: &str)
 
 /// Opens a group, and writes a space after its keyword.
 pub fn open_group_space<O: Output>(out: &mut O, keyword: &str)
-    ensures { O.wrote out.old out.new (OpenGap keyword.now ∷ []) }
+    ensures { O.wrote out.old out.new (OpenSpace keyword.now ∷ []) }
 {
     out.write_str("(");
     write_two_in_style(out, Style::Keyword, keyword, " ");
@@ -51,7 +51,7 @@ pub fn open_plain<O: Output>(out: &mut O, unstyled: &str)
 
 /// Opens a group whose keyword is the word of a type, and writes a space after it.
 pub fn open_type_space<O: Output>(out: &mut O, keyword: &str)
-    ensures { O.wrote out.old out.new (OpenTypeGap keyword.now ∷ []) }
+    ensures { O.wrote out.old out.new (OpenTypeSpace keyword.now ∷ []) }
 {
     out.write_str("(");
     write_two_in_style(out, Style::TypeName, keyword, " ");
@@ -67,14 +67,14 @@ pub fn open_unnamed<O: Output>(out: &mut O)
 
 /// Closes a group on the current line.
 pub fn write_close_paren<O: Output>(out: &mut O)
-    ensures { O.wrote out.old out.new (Shut ∷ []) }
+    ensures { O.wrote out.old out.new (CloseParen ∷ []) }
 {
     out.write_str(")");
 }
 
 /// Writes a space.
 pub fn write_space<O: Output>(out: &mut O)
-    ensures { O.wrote out.old out.new (Gap ∷ []) }
+    ensures { O.wrote out.old out.new (OneSpace ∷ []) }
 {
     out.write_str(" ");
 }
@@ -95,14 +95,14 @@ pub fn write_type_word<O: Output>(out: &mut O, word: &str)
 
 /// Writes the word of a type and a space.
 pub fn write_type_word_space<O: Output>(out: &mut O, word: &str)
-    ensures { O.wrote out.old out.new (TypeWordGap word.now ∷ []) }
+    ensures { O.wrote out.old out.new (TypeWordSpace word.now ∷ []) }
 {
     write_two_in_style(out, Style::TypeName, word, " ");
 }
 
 /// Writes a space and the word of a type.
 pub fn write_space_type_word<O: Output>(out: &mut O, word: &str)
-    ensures { O.wrote out.old out.new (GapTypeWord word.now ∷ []) }
+    ensures { O.wrote out.old out.new (SpaceTypeWord word.now ∷ []) }
 {
     write_two_in_style(out, Style::TypeName, " ", word);
 }

@@ -2,7 +2,7 @@
 use Rattle.std.proofs.Common.{◌≡◌, ℕ, ◌<◌, inl, inr, true, false, List, [], ◌∷◌, ◌++◌, length, Option, Some, None, refl, sym, ap, ap₂, subst, ◌∙◌, arith, append_assoc, append-nil, length-append}
 use Rattle.std.specs.List.{AllByRecursion}
 use Rattle.wasmprinter_spec.specs.Grammar.{Input, bind_some, some_is}
-use Rattle.wasmprinter_spec.specs.Sections.{Kind, CustomSection, FunctionSection, Section, holds, section, section_kind, rank, follows, rank_after, are_above, place_after}
+use Rattle.wasmprinter_spec.specs.Sections.{Kind, CustomSection, FunctionSection, Section, holds, section, section_kind, rank, follows, rank_after, are_above, kind_after}
 use Rattle.wasmprinter_spec.specs.Binary.{type_indices_in, tables_in, bodies_in}
 use Rattle.wasmprinter_spec.proofs.Ordered.{last_rank, last_rank_push, above_push, above_midst}
 use Rattle.wasmprinter_bytes.specs.Reads.{end_of}
@@ -15,7 +15,7 @@ use Rattle.wasmprinter_wasm.specs.Sections.{section_reasons}
 use Rattle.wasmprinter_wasm.specs.Gathering.{Gathered, none_gathered, Kept, gathered_items, with_section, IsHeld, sections_at, item_count_in, HoldsSections, sections_reasons}
 use Rattle.wasmprinter_wasm.proofs.LaterPlaces.{IsLater, later_none, later_more, many_later, empty_later, section_later, kept_later, custom_read}
 use Rattle.wasmprinter_wasm.proofs.ItemsToEnd.{in_front, until_item, until_fault, until_done}
-use Rattle.wasmprinter_wasm.proofs.OrderedSections.{custom_kind, last_place, last_place_push, kept_none, kept_with, kept_push, kept_added, some_midst, count_midst, over_midst, empty_midst}
+use Rattle.wasmprinter_wasm.proofs.OrderedSections.{custom_kind, last_kind, last_kind_push, kept_none, kept_with, kept_push, kept_added, some_midst, count_midst, over_midst, empty_midst}
 
 -- A section has at least one byte.
 pub takes_byte : (at : Input) (x : Section × Input) → section.parse at ≡ Some x → length x.1.bytes < length at.bytes
@@ -31,7 +31,7 @@ pub record Gathering (start at : Input) (g : Gathered) : Type 0 where
   pub rise : are_above 0 sections ≡ true
   pub small : AllByRecursion IsSmall sections
   pub rank : g.rank ≡ last_rank 0 sections
-  pub after : g.after ≡ last_place None sections
+  pub after : g.after ≡ last_kind None sections
   pub held : IsHeld g sections
   pub later : IsLater start at
   pub ends : end_of at ≡ end_of start
@@ -79,7 +79,7 @@ module _ (start at after : Input) (g : Gathered) (s : Section) (read : section.p
     rise = above_push 0 k.sections s k.rise (ap (λ (r : ℕ). follows r (rank (section_kind s))) (sym k.rank) ∙ on);
     small = small-push k.sections s k.small small;
     rank = ap (λ (x : Gathered). x.rank) same ∙ ap (λ (r : ℕ). rank_after r (rank (section_kind s))) k.rank ∙ sym (last_rank_push 0 k.sections s);
-    after = ap (λ (x : Gathered). x.after) same ∙ ap (λ (last : Option Kind). place_after last s) k.after ∙ sym (last_place_push None k.sections s);
+    after = ap (λ (x : Gathered). x.after) same ∙ ap (λ (last : Option Kind). kind_after last s) k.after ∙ sym (last_kind_push None k.sections s);
     held = λ kind.
         ap (gathered_items kind) same ∙ kept_added kind g s ∙ ap₂ (λ (last : Option Kind) (c : Kept kind). kept_with kind last c s) k.after (k.held kind)
         ∙ sym (kept_push kind k.sections s);

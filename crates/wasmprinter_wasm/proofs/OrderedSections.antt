@@ -7,38 +7,38 @@ use Rattle.wasmprinter_spec.specs.Grammar.{Placed}
 use Rattle.wasmprinter_spec.specs.Placed.{Custom, CustomEntry, custom_entry}
 use Rattle.wasmprinter_spec.specs.Sections.{CustomSection, TypeSection, ImportSection, FunctionSection, TableSection, MemorySection, TagSection, GlobalSection}
 use Rattle.wasmprinter_spec.specs.Sections.{ExportSection, StartSection, ElementSection, DataCountSection, CodeSection, DataSection}
-use Rattle.wasmprinter_spec.specs.Sections.{Kind, Section, holds, section_kind, content_of, are_above, is_place, place_after, with_custom, customs_after}
+use Rattle.wasmprinter_spec.specs.Sections.{Kind, Section, holds, section_kind, content_of, are_above, has_fields, kind_after, with_custom, customs_after}
 use Rattle.wasmprinter_spec.specs.Binary.{type_indices_in, tables_in, bodies_in}
 use Rattle.wasmprinter_spec.specs.Limits.{most_functions}
 use Rattle.wasmprinter_spec.proofs.Ordered.{with_one, held_push, held_each, held_midst, held_picked}
 use Rattle.wasmprinter_wasm.specs.Refusals.{HasFew, FirstIsOver, FirstIsEmpty}
 use Rattle.wasmprinter_wasm.specs.Contents.{HasNoEmpty, IsSmall, HasCount, HasOver, HasEmpty, item_count}
-use Rattle.wasmprinter_wasm.specs.declared.places.SectionKind.{SectionKind}
-use Rattle.wasmprinter_wasm.specs.Places.{place_view}
+use Rattle.wasmprinter_wasm.specs.declared.custom_placement.SectionKind.{SectionKind}
+use Rattle.wasmprinter_wasm.specs.Places.{after_view}
 use Rattle.wasmprinter_wasm.specs.Gathering.{Gathered, none_gathered, Kept, gathered_items, section_items, with_section, IsHeld, item_count_in}
 
 -- ---- custom sections
 
--- If a section gives a place, then it replaces the place that the sections before it give.
-joined : (b : Bool) (kind : Kind) (last r : Option SectionKind) → place_view r ≡ (if b then Some kind else None) → place_view (option_or r last) ≡ (if b then Some kind else place_view last)
+-- If a section has fields, then its kind replaces the kind of the sections before it.
+joined : (b : Bool) (kind : Kind) (last r : Option SectionKind) → after_view r ≡ (if b then Some kind else None) → after_view (option_or r last) ≡ (if b then Some kind else after_view last)
 joined true kind last None e = absurd cc
 joined true kind last (Some k) e = e
 joined false kind last None e = refl
 joined false kind last (Some k) e = absurd cc
 
--- The place of custom sections after a section is the one that it gives, or else the one given before it.
-pub place_joined : (last r : Option SectionKind) (s : Section) → place_view r ≡ place_after None s → place_view (option_or r last) ≡ place_after (place_view last) s
-place_joined last r (holds kind x) e = joined (is_place kind x) kind last r e
+-- Custom sections after a section follow its kind, if it has fields, or else the kind that was the last before it.
+pub kind_joined : (last r : Option SectionKind) (s : Section) → after_view r ≡ kind_after None s → after_view (option_or r last) ≡ kind_after (after_view last) s
+kind_joined last r (holds kind x) e = joined (has_fields kind x) kind last r e
 
--- The place of custom sections that follow the sections, if `last` is the place of custom sections before them.
-abbrev pub last_place : Option Kind → List Section → Option Kind
-last_place last [] = last
-last_place last (s ∷ ss) = last_place (place_after last s) ss
+-- The kind of the last of the sections that has fields, or `last` if none has.
+abbrev pub last_kind : Option Kind → List Section → Option Kind
+last_kind last [] = last
+last_kind last (s ∷ ss) = last_kind (kind_after last s) ss
 
--- The place after the sections and one more is the place that this one gives after theirs.
-pub last_place_push : (last : Option Kind) (ss : List Section) (s : Section) → last_place last (ss ++ s ∷ []) ≡ place_after (last_place last ss) s
-last_place_push last [] s = refl
-last_place_push last (x ∷ xs) s = last_place_push (place_after last x) xs s
+-- The last kind of the sections and one more is the kind after this one, if the last kind of the sections was before it.
+pub last_kind_push : (last : Option Kind) (ss : List Section) (s : Section) → last_kind last (ss ++ s ∷ []) ≡ kind_after (last_kind last ss) s
+last_kind_push last [] s = refl
+last_kind_push last (x ∷ xs) s = last_kind_push (kind_after last x) xs s
 
 front_push : (last : Option Kind) (o : Option (Placed Custom)) (cs ds more : List CustomEntry) → ds ≡ cs ++ more → with_custom last o ds ≡ with_custom last o cs ++ more
 front_push last None cs ds more e = e
@@ -49,18 +49,18 @@ front_length last None cs = omega arith
 front_length last (Some c) cs = omega arith
 
 -- The custom sections of a list and one more section are those of the list and that of the section.
-customs_push : (last : Option Kind) (ss : List Section) (s : Section) → customs_after last (ss ++ s ∷ []) ≡ customs_after last ss ++ customs_after (last_place last ss) (s ∷ [])
+customs_push : (last : Option Kind) (ss : List Section) (s : Section) → customs_after last (ss ++ s ∷ []) ≡ customs_after last ss ++ customs_after (last_kind last ss) (s ∷ [])
 customs_push last [] s = refl
 customs_push last (x ∷ xs) s =
-    let next : Option Kind = place_after last x in
-    front_push last (content_of CustomSection x) (customs_after next xs) (customs_after next (xs ++ s ∷ [])) (customs_after (last_place next xs) (s ∷ [])) (customs_push next xs s)
+    let next : Option Kind = kind_after last x in
+    front_push last (content_of CustomSection x) (customs_after next xs) (customs_after next (xs ++ s ∷ [])) (customs_after (last_kind next xs) (s ∷ [])) (customs_push next xs s)
 
 -- If a list of sections contains a custom section, then the list of its custom sections is not empty.
 customs_midst : (last : Option Kind) (xs : List Section) (c : Placed Custom) (ys : List Section) → 0 < length (customs_after last (xs ++ holds CustomSection c ∷ ys))
 customs_midst last [] c ys = omega arith
 customs_midst last (x ∷ xs) c ys =
-    let rest : List CustomEntry = customs_after (place_after last x) (xs ++ holds CustomSection c ∷ ys) in
-    omega (arith, customs_midst (place_after last x) xs c ys, front_length last (content_of CustomSection x) rest)
+    let rest : List CustomEntry = customs_after (kind_after last x) (xs ++ holds CustomSection c ∷ ys) in
+    omega (arith, customs_midst (kind_after last x) xs c ys, front_length last (content_of CustomSection x) rest)
 
 -- A section of the kind of custom sections is a custom section.
 pub custom_kind : (s : Section) → section_kind s ≡ CustomSection → (c : Placed Custom) × (s ≡ holds CustomSection c)
@@ -74,13 +74,13 @@ pub kept_none : (kind : Kind) → gathered_items kind none_gathered ≡ section_
 kept_none CustomSection = refl
 kept_none _ = refl
 
--- The contents that are kept for a kind after one more section. `last` is the place of custom sections before it.
+-- The contents that are kept for a kind after one more section. `last` is the kind that custom sections before it follow.
 abbrev pub kept_with : (kind : Kind) → Option Kind → Kept kind → Section → Kept kind
 kept_with CustomSection last cs s = cs ++ customs_after last (s ∷ [])
 kept_with kind last c s = with_one kind c s
 
 -- The contents of a list of sections and one more section are those of the list, changed by that section.
-pub kept_push : (kind : Kind) (ss : List Section) (s : Section) → section_items kind (ss ++ s ∷ []) ≡ kept_with kind (last_place None ss) (section_items kind ss) s
+pub kept_push : (kind : Kind) (ss : List Section) (s : Section) → section_items kind (ss ++ s ∷ []) ≡ kept_with kind (last_kind None ss) (section_items kind ss) s
 kept_push CustomSection ss s = customs_push None ss s
 kept_push kind ss s = held_push kind (gathered_items kind none_gathered) ss s
 

@@ -8,7 +8,7 @@ use Rattle.wasmprinter_spec.specs.Operator.{Operator}
 use Rattle.wasmprinter_spec.specs.Placed.{TypeGroup, Import, Table, Global, ElementEntry, Data, Body, Export, CustomEntry}
 use Rattle.wasmprinter_spec.specs.Sections.{CustomSection, TypeSection, ImportSection, FunctionSection, TableSection, MemorySection, TagSection, GlobalSection}
 use Rattle.wasmprinter_spec.specs.Sections.{ExportSection, StartSection, ElementSection, DataCountSection, CodeSection, DataSection}
-use Rattle.wasmprinter_spec.specs.Sections.{Kind, Content, Section, holds, section_kind, section, rank, rank_after, are_above, place_after, customs_after}
+use Rattle.wasmprinter_spec.specs.Sections.{Kind, Content, Section, holds, section_kind, section, rank, rank_after, are_above, kind_after, customs_after}
 use Rattle.wasmprinter_spec.specs.Binary.{types_in, imports_in, type_indices_in, tables_in, memories_in, tags_in, globals_in, exports_in, start_in, elements_in, data_count_in, bodies_in, datas_in, customs_in, counts_data}
 use Rattle.wasmprinter_spec.specs.Limits.{most_functions}
 use Rattle.wasmprinter_bytes.specs.Reads.{IsPlaceIn}
@@ -17,7 +17,7 @@ use Rattle.wasmprinter_bytes.specs.Reasons.{Reasons, HasReason}
 use Rattle.wasmprinter_wasm.specs.Refusals.{HasManyLocals, HasEmptyInit, BeginsSection, KeepsSome, FirstIsOver, FirstIsEmpty}
 use Rattle.wasmprinter_wasm.specs.Contents.{IsSmall}
 
--- The contents of the sections read so far, the rank of the last one, and the place of a custom section that
+-- The contents of the sections read so far, the rank of the last one, and the kind before a custom section that
 -- follows them.
 pub record Gathered : Type 0 where
   pub rank : ℕ
@@ -98,7 +98,7 @@ section_items DataCountSection ss = data_count_in ss
 section_items CodeSection ss = bodies_in ss
 section_items DataSection ss = datas_in ss
 
--- Replaces the content of the section's kind. A custom section is appended, with the place that the sections
+-- Replaces the content of the section's kind. A custom section is appended, with the kind that the sections
 -- before it give.
 abbrev pub with_content : Gathered → Section → Gathered
 with_content g (holds CustomSection c) = record g { customs = g.customs ++ customs_after g.after (holds CustomSection c ∷ []) }
@@ -118,7 +118,7 @@ with_content g (holds DataSection ds) = record g { data_segments = ds }
 
 -- The state after one more section.
 abbrev pub with_section : Gathered → Section → Gathered
-with_section g s = record (with_content g s) { rank = rank_after g.rank (rank (section_kind s)); after = place_after g.after s }
+with_section g s = record (with_content g s) { rank = rank_after g.rank (rank (section_kind s)); after = kind_after g.after s }
 
 -- For each kind, the gathered contents are those of the sections.
 abbrev pub IsHeld : Gathered → List Section → Type 0

@@ -1,8 +1,8 @@
 -- The sections that custom sections follow.
 use Rattle.std.specs.Prelude.{Option, option_map}
 use Rattle.wasmprinter_spec.specs.Kinds.{Kind, TypeSection, ImportSection, FunctionSection, TableSection, MemorySection, TagSection, GlobalSection, ExportSection, StartSection, ElementSection, CodeSection, DataSection}
-use Rattle.wasmprinter_wasm.specs.declared.places.SectionKind.{SectionKind}
-use Rattle.wasmprinter_wasm.specs.declared.places.SectionKind.TheVariants as k
+use Rattle.wasmprinter_wasm.specs.declared.custom_placement.SectionKind.{SectionKind}
+use Rattle.wasmprinter_wasm.specs.declared.custom_placement.SectionKind.TheVariants as k
 
 -- The kind of section that a kind of the program represents.
 abbrev pub section_kind_view : SectionKind → Kind
@@ -20,5 +20,5 @@ section_kind_view k.Code = CodeSection
 section_kind_view k.Data = DataSection
 
 -- The kind of the section that a custom section follows, if there is one.
-abbrev pub place_view : Option SectionKind → Option Kind
-place_view after = option_map section_kind_view after
+abbrev pub after_view : Option SectionKind → Option Kind
+after_view after = option_map section_kind_view after

@@ -11,7 +11,7 @@ ghost use Rattle.wasmprinter_spec.specs.Sections.{CodeSection};
 ghost use Rattle.wasmprinter_wasm.specs.Bodies.{TakesBody, TakesEntry, TakesBodies};
 ghost use Rattle.wasmprinter_wasm.specs.Contents.{TakesHeld};
 
-use crate::expected::expect_end;
+use crate::byte_checks::expect_end;
 use std::alloc::Global;
 use std::marker::Model;
 use wasmprinter_bytes::bytes::Cursor;

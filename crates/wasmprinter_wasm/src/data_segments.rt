@@ -9,7 +9,7 @@ ghost use Rattle.wasmprinter_wasm.specs.Growing.{DataModeGrows, DataGrows};
 ghost use Rattle.wasmprinter_wasm.specs.Contents.{TakesHeld, ReadsAll};
 ghost use Rattle.wasmprinter_wasm.specs.Segments.{data_mode_view};
 
-use crate::expected::expect_end;
+use crate::byte_checks::expect_end;
 use std::alloc::Global;
 use std::marker::Model;
 use wasmprinter_bytes::bytes::Cursor;

@@ -10,6 +10,7 @@ ghost use Rattle.wasmprinter_wasm.specs.Gathering.{none_gathered, with_section, 
 ghost use Rattle.wasmprinter_wasm.specs.Decoding.{IsRefusal, HoldsNothing, TakesModule};
 
 use crate::code::Body;
+use crate::custom_placement::{CustomEntry, SectionKind};
 use crate::data_segments::Data;
 use crate::elements::Element;
 use crate::exports::Export;
@@ -17,7 +18,6 @@ use crate::globals::Global as GlobalVariable;
 use crate::imports::Import;
 use crate::memories::Memory;
 use crate::module::Module;
-use crate::places::{CustomEntry, SectionKind};
 use crate::sections::Section;
 use crate::start::Start;
 use crate::tables::Table;
@@ -76,14 +76,14 @@ struct Gathered<'a> {
 }
 
 impl<'a> Model for Gathered<'a> {
-    ghost use Rattle.wasmprinter_wasm.specs.Places.{place_view};
+    ghost use Rattle.wasmprinter_wasm.specs.Places.{after_view};
     ghost use Rattle.wasmprinter_wasm.specs.Gathering.{Gathered as GatheredValue};
 
     ghost Value = { GatheredValue };
 
     ghost view = { λ g. record {
       rank = g.rank;
-      after = place_view g.after;
+      after = after_view g.after;
       types = g.types;
       imports = g.imports.items;
       type_indices = g.type_indices.items;
@@ -137,13 +137,13 @@ impl<'a> Gathered<'a> {
     }
 
     /// Stores the content of a section. Only a custom section needs an allocation.
-    #[tactic(auto, using(crate::proofs::OrderedSections::place_joined))]
+    #[tactic(auto, using(crate::proofs::OrderedSections::kind_joined))]
     fn add(&mut self, section: Section<'a>) -> Result<(), AllocError>
         ensures added { OnOk result (self.new ≡ with_section self.old (section_view section.entry)) }
         ensures needed { IfErr result (λ _. section_kind (section_view section.entry) ≡ CustomSection) }
     {
         self.rank = section.rank().unwrap_or(self.rank);
-        self.after = section.place().or(self.after);
+        self.after = section.kind_with_fields().or(self.after);
         match section {
             Section::Custom(section) => self.customs.push(CustomEntry {
                 after: self.after,

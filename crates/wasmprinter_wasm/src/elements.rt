@@ -10,8 +10,8 @@ ghost use Rattle.wasmprinter_ops.specs.ValTypes.{ref_view};
 ghost use Rattle.wasmprinter_wasm.specs.Contents.{TakesHeld};
 ghost use Rattle.wasmprinter_wasm.specs.Segments.{element_mode_view, element_items_view, mode_by, items_by, names_table, omits_kind};
 
-use crate::expected::{expect_end, read_only};
-use crate::flags::has_bit;
+use crate::byte_checks::{expect_end, read_only};
+use crate::flag_bits::has_bit;
 use std::alloc::Global;
 use std::marker::Model;
 use wasmprinter_bytes::bytes::Cursor;

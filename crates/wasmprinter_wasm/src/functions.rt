@@ -4,7 +4,7 @@ ghost use Rattle.wasmprinter_spec.specs.Sections.{FunctionSection};
 ghost use Rattle.wasmprinter_bytes.specs.Reads.{end_of};
 ghost use Rattle.wasmprinter_wasm.specs.Contents.{TakesIndices, TakesHeld};
 
-use crate::expected::expect_end;
+use crate::byte_checks::expect_end;
 use std::alloc::Global;
 use wasmprinter_bytes::Error;
 use wasmprinter_bytes::bytes::Cursor;

@@ -7,7 +7,7 @@ ghost use Rattle.wasmprinter_wasm.specs.Contents.{TakesHeld};
 ghost use Rattle.wasmprinter_wasm.specs.Externs.{global_type_view};
 ghost use Rattle.wasmprinter_wasm.specs.Growing.{GlobalGrows};
 
-use crate::expected::expect_end;
+use crate::byte_checks::expect_end;
 use crate::global_types::GlobalType;
 use std::alloc::Global as Allocator;
 use std::marker::Model;

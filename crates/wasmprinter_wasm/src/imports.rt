@@ -7,7 +7,7 @@ ghost use Rattle.wasmprinter_bytes.specs.Reads.{Decodes};
 ghost use Rattle.wasmprinter_wasm.specs.Contents.{TakesHeld};
 ghost use Rattle.wasmprinter_wasm.specs.Externs.{extern_view, HasPage, kind_view, kind_of_type};
 
-use crate::expected::expect_end;
+use crate::byte_checks::expect_end;
 use crate::exports::ExternKind;
 use crate::global_types::GlobalType;
 use crate::memories::MemoryType;

@@ -2,14 +2,15 @@
 //! `decode`, and the decoded [`Module`] with its items.
 #![tactic(auto)]
 
+mod byte_checks;
 mod code;
+pub mod custom_placement;
 pub mod customs;
 mod data_segments;
 mod decoder;
 mod elements;
-mod expected;
 mod exports;
-mod flags;
+mod flag_bits;
 mod function;
 mod functions;
 mod global_types;
@@ -19,8 +20,7 @@ mod imports;
 mod limits;
 mod memories;
 mod module;
-mod names;
-pub mod places;
+mod module_names;
 mod sections;
 mod start;
 mod table_types;
@@ -29,6 +29,7 @@ mod tags;
 mod types;
 
 pub use code::{Body, BodyParts, LocalEntry, Locals};
+pub use custom_placement::{CustomEntry, SectionKind};
 pub use customs::Custom;
 pub use data_segments::{Data, DataMode};
 pub use decoder::decode;
@@ -41,7 +42,6 @@ pub use imports::{ExternType, Import};
 pub use limits::Limits;
 pub use memories::{Memory, MemoryType};
 pub use module::{Fields, Module};
-pub use places::{CustomEntry, SectionKind};
 pub use start::Start;
 pub use table_types::TableType;
 pub use tables::Table;

@@ -7,8 +7,8 @@ ghost use Rattle.wasmprinter_bytes.specs.Reads.{Decodes};
 ghost use Rattle.wasmprinter_wasm.specs.Contents.{TakesHeld};
 ghost use Rattle.wasmprinter_wasm.specs.Externs.{memory_type_view, IsPage};
 
-use crate::expected::expect_end;
-use crate::flags::has_bit;
+use crate::byte_checks::expect_end;
+use crate::flag_bits::has_bit;
 use crate::limits::{Limits, MAX_BIT, WIDE_BIT};
 use std::alloc::Global;
 use std::marker::Model;

@@ -1,11 +1,12 @@
 //! Sections (section 5.5, "Sections"): an id, a size, and content of exactly that many bytes.
 ghost use Rattle.std.specs.Prelude.{◌≡◌, ◌≤◌, None};
-ghost use Rattle.wasmprinter_spec.specs.Sections.{kind_of, section_kind, rank, place_after};
+ghost use Rattle.wasmprinter_spec.specs.Sections.{kind_of, section_kind, rank, kind_after};
 ghost use Rattle.wasmprinter_bytes.specs.Reads.{end_of};
-ghost use Rattle.wasmprinter_wasm.specs.Places.{place_view};
+ghost use Rattle.wasmprinter_wasm.specs.Places.{after_view};
 ghost use Rattle.wasmprinter_wasm.specs.Sections.{section_view, TakesContent, TakesSection};
 
 use crate::code::{Body, read_code};
+use crate::custom_placement::SectionKind;
 use crate::customs::Custom;
 use crate::data_segments::{Data, read_data, read_data_count};
 use crate::elements::{Element, read_elements};
@@ -14,7 +15,6 @@ use crate::functions::read_functions;
 use crate::globals::{Global as GlobalVariable, read_globals};
 use crate::imports::{Import, read_imports};
 use crate::memories::{Memory, read_memories};
-use crate::places::SectionKind;
 use crate::start::{Start, read_start};
 use crate::tables::{Table, read_tables};
 use crate::tags::{Tag, read_tags};
@@ -163,10 +163,10 @@ impl<'a> Section<'a> {
         }
     }
 
-    /// Returns the place of custom sections that follow this section: its kind, if it has items or is a start
-    /// section.
-    pub(crate) fn place(&self) -> Option<SectionKind>
-        ensures { place_view result ≡ place_after None (section_view self.now) }
+    /// Returns the kind of this section if it has items or is a start section: custom sections that follow it are
+    /// printed after that kind.
+    pub(crate) fn kind_with_fields(&self) -> Option<SectionKind>
+        ensures { after_view result ≡ kind_after None (section_view self.now) }
     {
         match self {
             Section::Types(types) => (!types.groups().is_empty()).then_some(SectionKind::Type),

@@ -3,7 +3,7 @@ ghost use Rattle.std.specs.Prelude.{◌≡◌, Some};
 ghost use Rattle.wasmprinter_spec.specs.Binary.Start.{start_section};
 ghost use Rattle.wasmprinter_wasm.specs.Contents.{ReadsAll};
 
-use crate::expected::expect_end;
+use crate::byte_checks::expect_end;
 use std::marker::Model;
 use wasmprinter_bytes::Malformed;
 use wasmprinter_bytes::bytes::Cursor;

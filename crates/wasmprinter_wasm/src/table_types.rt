@@ -3,7 +3,7 @@ ghost use Rattle.wasmprinter_spec.specs.Binary.Tables.{table_type as table_type_
 ghost use Rattle.wasmprinter_bytes.specs.Reads.{Decodes};
 ghost use Rattle.wasmprinter_wasm.specs.Externs.{table_type_view};
 
-use crate::flags::has_bit;
+use crate::flag_bits::has_bit;
 use crate::limits::{Limits, MAX_BIT, WIDE_BIT};
 use wasmprinter_bytes::Malformed;
 use wasmprinter_bytes::bytes::Cursor;

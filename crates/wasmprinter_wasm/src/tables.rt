@@ -12,7 +12,7 @@ ghost use Rattle.wasmprinter_wasm.specs.Externs.{table_type_view};
 ghost use Rattle.wasmprinter_wasm.specs.Segments.{init_view};
 ghost use Rattle.wasmprinter_wasm.specs.Refusals.{IsEmptyInit};
 
-use crate::expected::{expect_end, read_only};
+use crate::byte_checks::{expect_end, read_only};
 use crate::table_types::TableType;
 use std::alloc::Global;
 use std::marker::Model;

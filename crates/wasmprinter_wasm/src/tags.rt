@@ -6,7 +6,7 @@ ghost use Rattle.wasmprinter_spec.specs.Sections.{TagSection};
 ghost use Rattle.wasmprinter_bytes.specs.Reads.{Decodes};
 ghost use Rattle.wasmprinter_wasm.specs.Contents.{TakesHeld};
 
-use crate::expected::{expect_end, read_only};
+use crate::byte_checks::{expect_end, read_only};
 use std::alloc::Global;
 use std::marker::Model;
 use wasmprinter_bytes::bytes::Cursor;

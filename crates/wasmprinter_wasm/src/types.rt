@@ -7,7 +7,7 @@ ghost use Rattle.wasmprinter_spec.specs.Module.{groups_of};
 ghost use Rattle.wasmprinter_spec.specs.Sections.{TypeSection};
 ghost use Rattle.wasmprinter_wasm.specs.Contents.{TakesHeld};
 
-use crate::expected::expect_end;
+use crate::byte_checks::expect_end;
 use std::alloc::{AllocError, Global};
 use std::marker::Model;
 use wasmprinter_bytes::bytes::Cursor;

@@ -1,4 +1,4 @@
-//! Tests of the places of custom sections: each is the last section before it with a count above 0. The expected
+//! Tests of the positions of custom sections: each is the last section before it with a count above 0. The expected
 //! places are typed by hand.
 
 use crate::module::modules::{

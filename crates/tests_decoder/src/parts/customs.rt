@@ -4,53 +4,53 @@ use bitflags::Flags;
 use std::alloc::{AllocError, Global};
 use std::test::Fail;
 use wasmprinter_custom::{
-    Content, CustomRole, Dylink, FunctionHints, Hint, Hints, Producers, Subsection, SymbolFlags,
-    custom_role, is_hint_section,
+    Content, CustomTreatment, Dylink, FunctionHints, Hint, Hints, Producers, Subsection,
+    SymbolFlags, custom_treatment, is_hint_section,
 };
 
 /// The place of the bytes of a section.
 const PLACE: u64 = 0x100;
 
-/// Returns the fields of a `producers` section, or `None` if it has another role.
+/// Returns the fields of a `producers` section, or `None` if it has another treatment.
 fn fields_of<'a>(bytes: &'a [u8]) -> Option<Producers<'a>> {
-    let role = custom_role("producers", PLACE, bytes);
-    match &role {
-        CustomRole::Producers(fields) => Some(fields.iter()),
+    let treatment = custom_treatment("producers", PLACE, bytes);
+    match &treatment {
+        CustomTreatment::Producers(fields) => Some(fields.iter()),
         _ => None,
     }
 }
 
-/// Returns the subsections of a `dylink.0` section, or `None` if it has another role.
+/// Returns the subsections of a `dylink.0` section, or `None` if it has another treatment.
 fn subsections_of<'a>(bytes: &'a [u8]) -> Option<Dylink<'a>> {
-    let role = custom_role("dylink.0", PLACE, bytes);
-    match &role {
-        CustomRole::Dylink(subsections) => Some(subsections.iter()),
+    let treatment = custom_treatment("dylink.0", PLACE, bytes);
+    match &treatment {
+        CustomTreatment::Dylink(subsections) => Some(subsections.iter()),
         _ => None,
     }
 }
 
-/// Returns this file's word for the role of a section, and the id of an unknown subsection or 0.
-fn role_of(name: &str, bytes: &[u8]) -> (&'static str, u8) {
-    match custom_role(name, 0, bytes) {
-        CustomRole::Silent => ("silent", 0),
-        CustomRole::Producers(_) => ("producers", 0),
-        CustomRole::Dylink(_) => ("dylink", 0),
-        CustomRole::Refused(id) => ("refused", id),
-        CustomRole::Raw => ("raw", 0),
-        CustomRole::Malformed => ("malformed", 0),
+/// Returns this file's word for the treatment of a section, and the id of an unknown subsection or 0.
+fn treatment_of(name: &str, bytes: &[u8]) -> (&'static str, u8) {
+    match custom_treatment(name, 0, bytes) {
+        CustomTreatment::Silent => ("silent", 0),
+        CustomTreatment::Producers(_) => ("producers", 0),
+        CustomTreatment::Dylink(_) => ("dylink", 0),
+        CustomTreatment::Refused(id) => ("refused", id),
+        CustomTreatment::Raw => ("raw", 0),
+        CustomTreatment::Malformed => ("malformed", 0),
     }
 }
 
-/// Sections: the name of the row, the section's name and bytes, the word for its role, and the id of an unknown
+/// Sections: the name of the row, the section's name and bytes, the word for its treatment, and the id of an unknown
 /// subsection or 0.
-type RoleRow = (
+type TreatmentRow = (
     &'static str,
     &'static str,
     &'static [u8],
     (&'static str, u8),
 );
 
-const ROLES: &[RoleRow] = &[
+const TREATMENTS: &[TreatmentRow] = &[
     ("names", "name", b"\xff", ("silent", 0)),
     ("hints", "metadata.code.branch_hint", b"\xff", ("silent", 0)),
     ("an unknown section", "names", b"", ("raw", 0)),
@@ -125,7 +125,7 @@ const ROLES: &[RoleRow] = &[
     ),
 ];
 
-/// Characters, each with the word for the role of a `producers` section whose only field has this character as its
+/// Characters, each with the word for the treatment of a `producers` section whose only field has this character as its
 /// name.
 const CHARACTERS: &[(u8, &str)] = &[
     (b'!', "producers"),
@@ -146,13 +146,16 @@ const CHARACTERS: &[(u8, &str)] = &[
 ];
 
 #[test]
-fn sections_have_roles(rt: HostRuntime) {
-    for (name, section, bytes, wanted) in ROLES {
-        assert!(rt; role_of(section, bytes) == *wanted, "{name}");
+fn sections_have_treatments(rt: HostRuntime) {
+    for (name, section, bytes, wanted) in TREATMENTS {
+        assert!(rt; treatment_of(section, bytes) == *wanted, "{name}");
     }
     for (byte, wanted) in CHARACTERS {
-        let role = role_of("producers", &[0x01, 0x01, *byte, 0x00]);
-        assert!(rt; role == (*wanted, 0), "a field named by byte {byte:#x}");
+        let treatment = treatment_of("producers", &[0x01, 0x01, *byte, 0x00]);
+        assert!(rt;
+            treatment == (*wanted, 0),
+            "a field named by byte {byte:#x}"
+        );
     }
 }
 

@@ -13,8 +13,8 @@ use wasmprinter_bytes::bytes::Cursor;
 use wasmprinter_print::{Chosen, Print, PrintOptions, Printer};
 use wasmprinter_samples::expect_same;
 use wasmprinter_sections::{write_custom, write_customs};
+use wasmprinter_wasm::custom_placement::{CustomEntry, SectionKind};
 use wasmprinter_wasm::customs::Custom;
-use wasmprinter_wasm::places::{CustomEntry, SectionKind};
 
 /// The place of each section.
 const PLACE: u64 = 0x10;
@@ -427,7 +427,7 @@ fn prints_subsections_of_dylink(rt: HostRuntime) -> Result<(), Fail> {
     expect_rows(rt.alloc(), DYLINK)
 }
 
-/// Sections, each with its place among the others and its bytes.
+/// Sections, each with its position among the others and its bytes.
 type Sections = &'static [(Option<SectionKind>, &'static [u8])];
 
 /// A section with subsections 5 and 9, the second of which is unknown.
@@ -447,7 +447,7 @@ const FIVE: Sections = &[
 enum Printed {
     /// The first section alone
     First,
-    /// All sections at this place
+    /// All sections at this position
     At(Option<SectionKind>),
 }
 

@@ -30,78 +30,78 @@ nat_eq-same a = by (nat_eq a a) refl
 
 -- ---- Opening and closing a block
 
-kept_push : (bs : List NamedBlock) (b : NamedBlock) (last : List (Option ℕ)) (old new : ℕ) → AreKept bs last old → AreBelow b.depth (depths (map block_view bs)) → b.alike < length last
-    → b.hides ≡ innermost_of b.alike bs → old ≤ new → AreKept (b ∷ bs) (slice_set last b.alike (Some (length bs))) new
+kept_push : (bs : List NamedBlock) (b : NamedBlock) (last : List (Option ℕ)) (old new : ℕ) → AreKept bs last old → AreBelow b.depth (depths (map block_view bs)) → b.name_number < length last
+    → b.hides ≡ innermost_of b.name_number bs → old ≤ new → AreKept (b ∷ bs) (slice_set last b.name_number (Some (length bs))) new
 kept_push bs b last old new k below few hides le = record {
   descend = (below, k.descend);
-  hide = subst (λ (n : ℕ). Hide n (b ∷ bs)) (sym (length-set last b.alike (Some (length bs)))) (hides, few, k.hide);
-  innermost = λ a o lt. by a o (omega (arith, lt, length-set last b.alike (Some (length bs)))) (nat_eq b.alike a) refl;
-  room = omega (arith, k.room, length-set last b.alike (Some (length bs)));
+  hide = subst (λ (n : ℕ). Hide n (b ∷ bs)) (sym (length-set last b.name_number (Some (length bs)))) (hides, few, k.hide);
+  innermost = λ a o lt. by a o (omega (arith, lt, length-set last b.name_number (Some (length bs)))) (nat_eq b.name_number a) refl;
+  room = omega (arith, k.room, length-set last b.name_number (Some (length bs)));
 }
   where
-    by : (a : ℕ) (o : Option ℕ) → a < length last → (hit : Bool) → nat_eq b.alike a ≡ hit
-        → get_or (slice_set last b.alike (Some (length bs))) a o ≡ (if hit then Some (length bs) else innermost_of a bs)
-    by a o lt true e = rw (← eqb-true b.alike a e) (get_or-set_same last b.alike (Some (length bs)) o few)
-    by a o lt false e = get_or-set_other last b.alike a (Some (length bs)) o (nat_eq-other b.alike a e) ∙ k.innermost a o lt
+    by : (a : ℕ) (o : Option ℕ) → a < length last → (hit : Bool) → nat_eq b.name_number a ≡ hit
+        → get_or (slice_set last b.name_number (Some (length bs))) a o ≡ (if hit then Some (length bs) else innermost_of a bs)
+    by a o lt true e = rw (← eqb-true b.name_number a e) (get_or-set_same last b.name_number (Some (length bs)) o few)
+    by a o lt false e = get_or-set_other last b.name_number a (Some (length bs)) o (nat_eq-other b.name_number a e) ∙ k.innermost a o lt
 
-kept_pop : (bs : List NamedBlock) (b : NamedBlock) (last : List (Option ℕ)) (room : ℕ) → AreKept (b ∷ bs) last room → AreKept bs (slice_set last b.alike b.hides) room
+kept_pop : (bs : List NamedBlock) (b : NamedBlock) (last : List (Option ℕ)) (room : ℕ) → AreKept (b ∷ bs) last room → AreKept bs (slice_set last b.name_number b.hides) room
 kept_pop bs b last room k =
     let (hides, few, others) = k.hide in
     record {
       descend = k.descend.1;
-      hide = subst (λ (n : ℕ). Hide n bs) (sym (length-set last b.alike b.hides)) others;
+      hide = subst (λ (n : ℕ). Hide n bs) (sym (length-set last b.name_number b.hides)) others;
       innermost = λ a o lt.
-          by a o (omega (arith, lt, length-set last b.alike b.hides)) (nat_eq b.alike a) refl
-          (k.innermost a o (omega (arith, lt, length-set last b.alike b.hides)));
-      room = omega (arith, k.room, length-set last b.alike b.hides);
+          by a o (omega (arith, lt, length-set last b.name_number b.hides)) (nat_eq b.name_number a) refl
+          (k.innermost a o (omega (arith, lt, length-set last b.name_number b.hides)));
+      room = omega (arith, k.room, length-set last b.name_number b.hides);
     }
   where
-    by : (a : ℕ) (o : Option ℕ) → a < length last → (hit : Bool) → nat_eq b.alike a ≡ hit → get_or last a o ≡ (if hit then Some (length bs) else innermost_of a bs)
-        → get_or (slice_set last b.alike b.hides) a o ≡ innermost_of a bs
+    by : (a : ℕ) (o : Option ℕ) → a < length last → (hit : Bool) → nat_eq b.name_number a ≡ hit → get_or last a o ≡ (if hit then Some (length bs) else innermost_of a bs)
+        → get_or (slice_set last b.name_number b.hides) a o ≡ innermost_of a bs
     by a o lt true e h =
         let (hides, few, others) = k.hide in
-        rw (← eqb-true b.alike a e) (get_or-set_same last b.alike b.hides o few ∙ hides)
-    by a o lt false e h = get_or-set_other last b.alike a b.hides o (nat_eq-other b.alike a e) ∙ h
+        rw (← eqb-true b.name_number a e) (get_or-set_same last b.name_number b.hides o few ∙ hides)
+    by a o lt false e h = get_or-set_other last b.name_number a b.hides o (nat_eq-other b.name_number a e) ∙ h
 
 -- Adding a block at the end of the stored list, which has the outermost block first, keeps the invariant.
 pub pushed : (xs ys : List NamedBlock) (b : NamedBlock) (last : List (Option ℕ)) (old new : ℕ) → ys ≡ xs ++ b ∷ [] → AreKept (reverse xs) last old
-    → AreBelow b.depth (depths (blocks_view xs)) → b.alike < length last → b.hides ≡ innermost_of b.alike (reverse xs) → old ≤ new
-    → AreKept (reverse ys) (slice_set last b.alike (Some (length xs))) new
+    → AreBelow b.depth (depths (blocks_view xs)) → b.name_number < length last → b.hides ≡ innermost_of b.name_number (reverse xs) → old ≤ new
+    → AreKept (reverse ys) (slice_set last b.name_number (Some (length xs))) new
 pushed xs ys b last old new e k below few hides le =
-    subst (λ (zs : List NamedBlock). AreKept zs (slice_set last b.alike (Some (length xs))) new) (sym (ap reverse e ∙ reverse-append xs (b ∷ [])))
-    (subst (λ (n : ℕ). AreKept (b ∷ reverse xs) (slice_set last b.alike (Some n)) new) (length-reverse xs) (kept_push (reverse xs) b last old new k below few hides le))
+    subst (λ (zs : List NamedBlock). AreKept zs (slice_set last b.name_number (Some (length xs))) new) (sym (ap reverse e ∙ reverse-append xs (b ∷ [])))
+    (subst (λ (n : ℕ). AreKept (b ∷ reverse xs) (slice_set last b.name_number (Some n)) new) (length-reverse xs) (kept_push (reverse xs) b last old new k below few hides le))
 
 pub popped : (xs ys : List NamedBlock) (b : NamedBlock) (last : List (Option ℕ)) (old new : ℕ) → xs ≡ ys ++ b ∷ [] → AreKept (reverse xs) last old → old ≤ new
-    → AreKept (reverse ys) (slice_set last b.alike b.hides) new
+    → AreKept (reverse ys) (slice_set last b.name_number b.hides) new
 popped xs ys b last old new e k le =
     let n = kept_pop (reverse ys) b last old (subst (λ (zs : List NamedBlock). AreKept zs last old) (ap reverse e ∙ reverse-append ys (b ∷ [])) k) in
     record { descend = n.descend; hide = n.hide; innermost = n.innermost; room = omega (arith, n.room, le) }
 
 -- ---- A block among others
 
-hide_at : (limit : ℕ) (front rest : List NamedBlock) (b : NamedBlock) → Hide limit (front ++ b ∷ rest) → b.alike < limit
+hide_at : (limit : ℕ) (front rest : List NamedBlock) (b : NamedBlock) → Hide limit (front ++ b ∷ rest) → b.name_number < limit
 hide_at limit [] rest b (hides, few, others) = few
 hide_at limit (x ∷ front) rest b (hides, few, others) = hide_at limit front rest b others
 
 -- If the innermost block of b's number is at b's position, no block further in has that number.
-shown_at : (front rest : List NamedBlock) (b : NamedBlock) → innermost_of b.alike (front ++ b ∷ rest) ≡ Some (length rest) → list_any (λ x. nat_eq x.alike b.alike) (map block_view front) ≡ false
+shown_at : (front rest : List NamedBlock) (b : NamedBlock) → innermost_of b.name_number (front ++ b ∷ rest) ≡ Some (length rest) → list_any (λ x. nat_eq x.name_number b.name_number) (map block_view front) ≡ false
 shown_at [] rest b e = refl
-shown_at (x ∷ front) rest b e = by (nat_eq x.alike b.alike) refl e (shown_at front rest b)
+shown_at (x ∷ front) rest b e = by (nat_eq x.name_number b.name_number) refl e (shown_at front rest b)
   where
-    by : (hit : Bool) → nat_eq x.alike b.alike ≡ hit → (if hit then Some (length (front ++ b ∷ rest)) else innermost_of b.alike (front ++ b ∷ rest)) ≡ Some (length rest)
-        → (innermost_of b.alike (front ++ b ∷ rest) ≡ Some (length rest) → list_any (λ x. nat_eq x.alike b.alike) (map block_view front) ≡ false)
-        → list_any (λ x. nat_eq x.alike b.alike) (map block_view (x ∷ front)) ≡ false
+    by : (hit : Bool) → nat_eq x.name_number b.name_number ≡ hit → (if hit then Some (length (front ++ b ∷ rest)) else innermost_of b.name_number (front ++ b ∷ rest)) ≡ Some (length rest)
+        → (innermost_of b.name_number (front ++ b ∷ rest) ≡ Some (length rest) → list_any (λ x. nat_eq x.name_number b.name_number) (map block_view front) ≡ false)
+        → list_any (λ x. nat_eq x.name_number b.name_number) (map block_view (x ∷ front)) ≡ false
     by true t h r = let n = some_is (length (front ++ b ∷ rest)) (length rest) h in absurd (omega (arith, n, length-append front (b ∷ rest)))
     by false t h r = rw t (r h)
 
 -- If the innermost block of b's number is not at b's position, a block further in has that number.
-hidden_at : (front rest : List NamedBlock) (b : NamedBlock) → innermost_of b.alike (front ++ b ∷ rest) ≢ Some (length rest) → list_any (λ x. nat_eq x.alike b.alike) (map block_view front) ≡ true
-hidden_at [] rest b e = absurd (e (rw (nat_eq-same b.alike) refl))
-hidden_at (x ∷ front) rest b e = by (nat_eq x.alike b.alike) refl e (hidden_at front rest b)
+hidden_at : (front rest : List NamedBlock) (b : NamedBlock) → innermost_of b.name_number (front ++ b ∷ rest) ≢ Some (length rest) → list_any (λ x. nat_eq x.name_number b.name_number) (map block_view front) ≡ true
+hidden_at [] rest b e = absurd (e (rw (nat_eq-same b.name_number) refl))
+hidden_at (x ∷ front) rest b e = by (nat_eq x.name_number b.name_number) refl e (hidden_at front rest b)
   where
-    by : (hit : Bool) → nat_eq x.alike b.alike ≡ hit → (if hit then Some (length (front ++ b ∷ rest)) else innermost_of b.alike (front ++ b ∷ rest)) ≢ Some (length rest)
-        → (innermost_of b.alike (front ++ b ∷ rest) ≢ Some (length rest) → list_any (λ x. nat_eq x.alike b.alike) (map block_view front) ≡ true)
-        → list_any (λ x. nat_eq x.alike b.alike) (map block_view (x ∷ front)) ≡ true
+    by : (hit : Bool) → nat_eq x.name_number b.name_number ≡ hit → (if hit then Some (length (front ++ b ∷ rest)) else innermost_of b.name_number (front ++ b ∷ rest)) ≢ Some (length rest)
+        → (innermost_of b.name_number (front ++ b ∷ rest) ≢ Some (length rest) → list_any (λ x. nat_eq x.name_number b.name_number) (map block_view front) ≡ true)
+        → list_any (λ x. nat_eq x.name_number b.name_number) (map block_view (x ∷ front)) ≡ true
     by true t h r = rw t refl
     by false t h r = rw t (r h)
 
@@ -115,10 +115,10 @@ split_at xs p x lt e =
     ∙ append_assoc (reverse (drop (suc p) xs)) (x ∷ []) (reverse (take p xs))
 
 module _ (xs : List NamedBlock) (last : List (Option ℕ)) (room p d : ℕ) (b : NamedBlock) (k : AreKept (reverse xs) last room) (lt : p < length xs) (e : b ≡ get_or xs p b) where
-  pub alike_below : b.alike < length last
-  alike_below = hide_at (length last) (reverse (drop (suc p) xs)) (reverse (take p xs)) b (subst (Hide (length last)) (split_at xs p b lt e) k.hide)
+  pub name_number_below : b.name_number < length last
+  name_number_below = hide_at (length last) (reverse (drop (suc p) xs)) (reverse (take p xs)) b (subst (Hide (length last)) (split_at xs p b lt e) k.hide)
 
-  stands : (hidden : Bool) → nat_cmp b.depth d ≡ Equal → list_any (λ x. nat_eq x.alike b.alike) (map block_view (reverse (drop (suc p) xs))) ≡ hidden → StandsAtDepth (blocks_view xs) d (block_view b) hidden
+  stands : (hidden : Bool) → nat_cmp b.depth d ≡ Equal → list_any (λ x. nat_eq x.name_number b.name_number) (map block_view (reverse (drop (suc p) xs))) ≡ hidden → StandsAtDepth (blocks_view xs) d (block_view b) hidden
   stands hidden same h = record {
     front = map block_view (reverse (drop (suc p) xs));
     rest = map block_view (reverse (take p xs));
@@ -127,28 +127,28 @@ module _ (xs : List NamedBlock) (last : List (Option ℕ)) (room p d : ℕ) (b :
     hides = h;
   }
 
-  innermost_is : (o : Option ℕ) → o ≡ get_or last b.alike o → innermost_of b.alike (reverse (drop (suc p) xs) ++ b ∷ reverse (take p xs)) ≡ o
-  innermost_is o i = ap (innermost_of b.alike) (sym (split_at xs p b lt e)) ∙ (sym (k.innermost b.alike o alike_below) ∙ sym i)
+  innermost_is : (o : Option ℕ) → o ≡ get_or last b.name_number o → innermost_of b.name_number (reverse (drop (suc p) xs) ++ b ∷ reverse (take p xs)) ≡ o
+  innermost_is o i = ap (innermost_of b.name_number) (sym (split_at xs p b lt e)) ∙ (sym (k.innermost b.name_number o name_number_below) ∙ sym i)
 
   place : length (reverse (take p xs)) ≡ p
   place = omega (arith, length-reverse (take p xs), length-take p xs, lt)
 
-  pub is_shown : (o : Option ℕ) → o ≡ get_or last b.alike o → nat_cmp b.depth d ≡ Equal → o ≡ Some p → StandsAtDepth (blocks_view xs) d (block_view b) false
+  pub is_shown : (o : Option ℕ) → o ≡ get_or last b.name_number o → nat_cmp b.depth d ≡ Equal → o ≡ Some p → StandsAtDepth (blocks_view xs) d (block_view b) false
   is_shown o i same h = stands false same (shown_at (reverse (drop (suc p) xs)) (reverse (take p xs)) b (innermost_is o i ∙ (h ∙ ap (λ (n : ℕ). Some n) (sym place))))
 
-  pub is_hidden : (o : Option ℕ) → o ≡ get_or last b.alike o → nat_cmp b.depth d ≡ Equal → o ≢ Some p → StandsAtDepth (blocks_view xs) d (block_view b) true
+  pub is_hidden : (o : Option ℕ) → o ≡ get_or last b.name_number o → nat_cmp b.depth d ≡ Equal → o ≢ Some p → StandsAtDepth (blocks_view xs) d (block_view b) true
   is_hidden o i same h = stands true same (hidden_at (reverse (drop (suc p) xs)) (reverse (take p xs)) b (λ q. h (sym (innermost_is o i) ∙ (q ∙ ap (λ (n : ℕ). Some n) place))))
 
 pub found_same : (zs xs : List NamedBlock) (p d : ℕ) (b : NamedBlock) → zs ≡ xs → b ≡ get_or xs p b → ((e : NamedBlock) → nat_cmp (get_or zs p e).depth d ≡ Equal) → nat_cmp b.depth d ≡ Equal
 found_same zs xs p d b same e h = ap (λ (x : NamedBlock). nat_cmp x.depth d) (e ∙ ap (λ (l : List NamedBlock). get_or l p b) (sym same)) ∙ h b
 
-pub is_place : (o : Option ℕ) (p : ℕ) → option_eq nat_eq o (Some p) ≡ true → o ≡ Some p
-is_place None p e = absurd cc
-is_place (Some q) p e = ap (λ (n : ℕ). Some n) (eqb-true q p e)
+pub is_position : (o : Option ℕ) (p : ℕ) → option_eq nat_eq o (Some p) ≡ true → o ≡ Some p
+is_position None p e = absurd cc
+is_position (Some q) p e = ap (λ (n : ℕ). Some n) (eqb-true q p e)
 
-pub is_other_place : (o : Option ℕ) (p : ℕ) → option_eq nat_eq o (Some p) ≡ false → o ≢ Some p
-is_other_place None p e h = absurd cc
-is_other_place (Some q) p e h = eqb-false q p e (some_is q p h)
+pub is_other_position : (o : Option ℕ) (p : ℕ) → option_eq nat_eq o (Some p) ≡ false → o ≢ Some p
+is_other_position None p e h = absurd cc
+is_other_position (Some q) p e h = eqb-false q p e (some_is q p h)
 
 -- ---- No block at a depth
 

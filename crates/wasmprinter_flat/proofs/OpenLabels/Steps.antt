@@ -18,7 +18,7 @@ abbrev pub scan : List NamedItem → Bool → ℕ → ℕ → List Label → Sca
 scan named synthesizes f n ls = record { named = named; synthesizes = synthesizes; function = f; count = n; labels = ls }
 
 abbrev pub block_of : ℕ → NumberedLabel → Block
-block_of d x = record { depth = d; alike = x.alike; name = name_view x.label.name }
+block_of d x = record { depth = d; name_number = x.name_number; name = name_view x.label.name }
 
 module _ (named : List NamedItem) (xs zs : List NumberedLabel) (synthesizes : Bool) (next f n d : ℕ) (s : Stack) (k : IsKept named xs next f n d s) (same : zs ≡ xs) where
   -- ---- An operator that opens a block whose label has no name
@@ -56,10 +56,10 @@ module _ (named : List NamedItem) (xs zs : List NumberedLabel) (synthesizes : Bo
     pub has_room : length s.blocks < s.limit
     has_room = let p = next_is_one f n next xs x some in omega (arith, p.1, k.few, k.limit)
 
-    pub has_number : x.alike < s.limit
+    pub has_number : x.name_number < s.limit
     has_number =
         let p = next_is_one f n next xs x some in
-        let lt = All-contains (λ (y : NumberedLabel). y.alike < length xs) xs x k.numbered.few p.0 in
+        let lt = All-contains (λ (y : NumberedLabel). y.name_number < length xs) xs x k.numbered.few p.0 in
         omega (arith, lt, k.limit)
 
     pub not_last : next < length xs
@@ -73,7 +73,7 @@ module _ (named : List NamedItem) (xs zs : List NumberedLabel) (synthesizes : Bo
       numbered = k.numbered;
       limit = k.limit;
       few = omega (arith, k.few);
-      blocks = (record { label = x; is_one = (next_is_one f n next xs x some).0; alike = refl; name = refl }, k.blocks);
+      blocks = (record { label = x; is_one = (next_is_one f n next xs x some).0; name_number = refl; name = refl }, k.blocks);
       cursor = cursor_named f n next xs _ x k.lists k.ascend some k.cursor;
       below = (omega arith, below_more d (depths s.blocks) k.below);
       shallow = omega (arith, k.shallow);
@@ -108,18 +108,18 @@ scan_closed named synthesizes f n d e bs is = ap (λ m. after_closing (scan name
 -- ---- Given names
 
 -- Two blocks have the same number exactly if their labels have the same given name.
-same_numbers : (xs : List NumberedLabel) (a b : Block) → AreNumbered xs → IsOf xs a → IsOf xs b → nat_eq a.alike b.alike ≡ same_name a.name.given b.name.given
+same_numbers : (xs : List NumberedLabel) (a b : Block) → AreNumbered xs → IsOf xs a → IsOf xs b → nat_eq a.name_number b.name_number ≡ same_name a.name.given b.name.given
 same_numbers xs a b m p q =
-    let h = All-contains (λ (y : NumberedLabel). nat_eq p.label.alike y.alike ≡ bytes_eq (given_of p.label) (given_of y)) xs q.label
-    (All-contains (λ (x : NumberedLabel). All (λ y. nat_eq x.alike y.alike ≡ bytes_eq (given_of x) (given_of y)) xs) xs p.label m.same p.is_one) q.is_one in
-    rw (p.alike, q.alike, p.name, q.name) h
+    let h = All-contains (λ (y : NumberedLabel). nat_eq p.label.name_number y.name_number ≡ bytes_eq (given_of p.label) (given_of y)) xs q.label
+    (All-contains (λ (x : NumberedLabel). All (λ y. nat_eq x.name_number y.name_number ≡ bytes_eq (given_of x) (given_of y)) xs) xs p.label m.same p.is_one) q.is_one in
+    rw (p.name_number, q.name_number, p.name, q.name) h
 
 all_after : (P : Block → Type 0) (front rest : List Block) (b : Block) → AllByRecursion P (front ++ b ∷ rest) → P b
 all_after P [] rest b h = h.0
 all_after P (x ∷ front) rest b h = all_after P front rest b h.1
 
 pub hidden_alike : (xs : List NumberedLabel) (b : Block) (front rest : List Block) → AreNumbered xs → AllByRecursion (IsOf xs) (front ++ b ∷ rest)
-    → list_any (λ x. same_name x.name.given b.name.given) front ≡ list_any (λ x. nat_eq x.alike b.alike) front
+    → list_any (λ x. same_name x.name.given b.name.given) front ≡ list_any (λ x. nat_eq x.name_number b.name_number) front
 hidden_alike xs b [] rest m h = refl
 hidden_alike xs b (x ∷ front) rest m h =
     let e = same_numbers xs x b m h.0 (all_after (IsOf xs) front rest b h.1) in

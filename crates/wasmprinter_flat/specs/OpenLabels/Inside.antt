@@ -36,7 +36,7 @@ label_of xs k f n = slice_get xs k >>= λ x. if x.label.function == f && x.label
 pub record IsOf (xs : List NumberedLabel) (b : Block) : Type 0 where
   pub label : NumberedLabel
   pub is_one : Contains xs label
-  pub alike : b.alike ≡ label.alike
+  pub name_number : b.name_number ≡ label.name_number
   pub name : b.name ≡ name_view label.label.name
 
 -- The invariant. `named` are the names of the module, `xs` the labels that have names, and `next` the number of

@@ -18,12 +18,12 @@ number_of numbers name = get_by (λ k. slice_cmp nat_cmp name k.now) numbers
 -- Each label has the number of its given name, no two names share a number, and all numbers are below the number
 -- of labels.
 pub record IsNumbering (numbers : BTreeMap (Bor (List ℕ)) ℕ) (xs : List NumberedLabel) : Type 0 where
-  pub known : All (λ x. number_of numbers (given_of x) ≡ Some x.alike) xs
+  pub known : All (λ x. number_of numbers (given_of x) ≡ Some x.name_number) xs
   pub apart : (q r : List ℕ) (n : ℕ) → number_of numbers q ≡ Some n → number_of numbers r ≡ Some n → q ≡ r
   pub few : (q : List ℕ) (n : ℕ) → number_of numbers q ≡ Some n → n < length xs
 
 -- The number of each label is below the number of labels, and two labels have the same number if and only if they
 -- have the same given name.
 pub record AreNumbered (xs : List NumberedLabel) : Type 0 where
-  pub few : All (λ x. x.alike < length xs) xs
-  pub same : All (λ x. All (λ y. (x.alike == y.alike) ≡ bytes_eq (given_of x) (given_of y)) xs) xs
+  pub few : All (λ x. x.name_number < length xs) xs
+  pub same : All (λ x. All (λ y. (x.name_number == y.name_number) ≡ bytes_eq (given_of x) (given_of y)) xs) xs

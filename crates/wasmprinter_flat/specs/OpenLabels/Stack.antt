@@ -7,7 +7,7 @@ use Rattle.wasmprinter_spec.specs.LabelNames.{label_named}
 -- An open block: the number of blocks around it, the number shared by labels with its given name, and its name.
 pub record Block : Type 0 where
   pub depth : ℕ
-  pub alike : ℕ
+  pub name_number : ℕ
   pub name : Named
 
 -- The open blocks, innermost first, and a limit that all their numbers are below.
@@ -45,7 +45,7 @@ pub record StandsAtDepth (bs : List Block) (d : ℕ) (b : Block) (hidden : Bool)
   pub rest : List Block
   pub is : bs ≡ front ++ b ∷ rest
   pub depth : b.depth ≡ d
-  pub hides : list_any (λ x. x.alike == b.alike) front ≡ hidden
+  pub hides : list_any (λ x. x.name_number == b.name_number) front ≡ hidden
 
 -- ---- Labels
 

@@ -14,7 +14,7 @@ pub(crate) struct NamedBlock<'n> {
     depth: u64,
     name: Name<'n>,
     /// A number that is the same for labels with equal given names.
-    alike: usize,
+    name_number: usize,
     /// The position in `NamedBlocks::blocks` of the innermost enclosing block with the same number.
     hides: Option<usize>,
 }
@@ -23,7 +23,7 @@ pub(crate) struct NamedBlock<'n> {
 #[derive(Clone, Copy)]
 pub(crate) enum NameAt<'n> {
     /// The label has a name that means this block.
-    Shown(Name<'n>),
+    Visible(Name<'n>),
     /// The label has a name that an inner block shadows.
     Hidden,
     /// The label has no name.
@@ -79,22 +79,22 @@ impl<'n> NamedBlocks<'n> {
     }
 
     /// Adds a block as the innermost.
-    pub(crate) fn push(&mut self, depth: u64, name: Name<'n>, alike: usize)
+    pub(crate) fn push(&mut self, depth: u64, name: Name<'n>, name_number: usize)
         requires room { length self.old.blocks < self.old.limit }
-        requires number { alike < self.old.limit }
+        requires number { name_number < self.old.limit }
         requires inside { AreBelow depth (depths self.old.blocks) }
         ensures { self.new ≡ record {
-          blocks = record { depth = depth; alike = alike; name = name_view name.entry } ∷ self.old.blocks;
+          blocks = record { depth = depth; name_number = name_number; name = name_view name.entry } ∷ self.old.blocks;
           limit = self.old.limit;
         } }
     {
         let block = NamedBlock {
             depth,
             name,
-            alike,
-            hides: self.innermost[alike],
+            name_number,
+            hides: self.innermost[name_number],
         };
-        self.innermost[alike] = Some(self.blocks.len());
+        self.innermost[name_number] = Some(self.blocks.len());
         match self.blocks.push(block) {
             Ok(()) => {}
             Err(_) => unreachable!(),
@@ -107,7 +107,7 @@ impl<'n> NamedBlocks<'n> {
     {
         match self.blocks.pop() {
             Some(block) => {
-                self.innermost[block.alike] = block.hides;
+                self.innermost[block.name_number] = block.hides;
                 true
             }
             None => false,
@@ -143,8 +143,8 @@ impl<'n> NamedBlocks<'n> {
             return NameAt::Unnamed;
         };
         let block = self.blocks[position];
-        if self.innermost[block.alike] == Some(position) {
-            NameAt::Shown(block.name)
+        if self.innermost[block.name_number] == Some(position) {
+            NameAt::Visible(block.name)
         } else {
             NameAt::Hidden
         }

@@ -11,7 +11,7 @@ use wasmprinter_custom::LabelName;
 pub(crate) struct NumberedLabel<'n> {
     pub(crate) label: LabelName<'n>,
     /// A number that is the same for labels with equal given names.
-    pub(crate) alike: usize,
+    pub(crate) name_number: usize,
 }
 
 /// Returns the number of a given name. A name without a number gets `next`.
@@ -43,10 +43,10 @@ pub(crate) fn numbered_labels<'n>(
     let mut numbers = BTreeMap::new(alloc);
     let mut numbered = Vec::with_capacity(alloc, labels.len())?;
     for label in labels {
-        let alike = number(&mut numbers, label.name.given, numbered.len())?;
+        let name_number = number(&mut numbers, label.name.given, numbered.len())?;
         numbered.push(NumberedLabel {
             label: *label,
-            alike,
+            name_number,
         })?;
     }
     Ok(numbered)

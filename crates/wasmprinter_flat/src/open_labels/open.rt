@@ -163,7 +163,7 @@ impl<'n, 'a> OpenLabels<'n, 'a> {
         let Some(label) = label else {
             return;
         };
-        self.named.push(depth, label.label.name, label.alike);
+        self.named.push(depth, label.label.name, label.name_number);
         self.next += 1;
     }
 
@@ -202,7 +202,7 @@ impl<'n, 'a> OpenLabels<'n, 'a> {
         }
         let depth = self.depth - 1 - label;
         match self.named.find(depth) {
-            NameAt::Shown(name) => LabelRef::ByName(Identifier::Given(name)),
+            NameAt::Visible(name) => LabelRef::ByName(Identifier::Given(name)),
             NameAt::Hidden => LabelRef::ByNumber,
             NameAt::Unnamed => match unnamed_identifier(self.identifiers.synthesizes, depth) {
                 Some(identifier) => LabelRef::ByName(identifier),

@@ -43,7 +43,7 @@ fn check_legacy(options: &PrintOptions, module: &Module<'_>) -> Result<(), Error
     check_each(module.data_segments(), options.skeleton)
 }
 
-/// Returns an error for the first printed hint on an operator whose folded text has no place for it.
+/// Returns an error for the first printed hint on an operator whose folded text can't hold it.
 fn check_printed_hints(options: &PrintOptions, module: &Module<'_>) -> Result<(), Error>
     ensures { result ≡ error_of_first FoldHint (misplaced_hints options.now module.now) }
 {

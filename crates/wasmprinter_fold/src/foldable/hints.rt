@@ -1,4 +1,4 @@
-//! Branch hints on operators whose folded text has no place for them (Code Metadata, a document beside the
+//! Branch hints on operators whose folded text can't hold them (Code Metadata, a document beside the
 //! standard).
 ghost use Rattle.std.specs.Prelude.{◌≡◌, None, is_some, codes};
 ghost use Rattle.wasmprinter_bytes.specs.declared.error.Error.TheVariants.{FoldHint};
@@ -27,7 +27,7 @@ fn has_hints(customs: &[CustomEntry<'_>]) -> bool
     false
 }
 
-/// Reports whether folded text has no place for a hint on this operator. An `end` has no node, and this printer
+/// Reports whether folded text can't hold a hint on this operator. An `end` has no node, and this printer
 /// puts no hint before the node of a `block`, `loop`, `try_table` or `else`.
 fn is_hintless(role: Role) -> bool
     ensures { result ≡ is_hintless (role_view role) }
@@ -39,7 +39,7 @@ fn is_hintless(role: Role) -> bool
     }
 }
 
-/// Returns an error for a hint on an operator whose folded text has no place for it.
+/// Returns an error for a hint on an operator whose folded text can't hold it.
 fn check_hint(role: Role, hint: Option<Hint>) -> Result<(), Error>
     ensures { result ≡ error_of_first FoldHint (place_if_misplaced (role_view role) hint) }
 {
@@ -51,7 +51,7 @@ fn check_hint(role: Role, hint: Option<Hint>) -> Result<(), Error>
     }
 }
 
-/// Returns an error for the first hint of a body on an operator whose folded text has no place for it.
+/// Returns an error for the first hint of a body on an operator whose folded text can't hold it.
 #[tactic(auto, using(crate::proofs::Steps::misplaced_none))]
 fn check_body(hints: FunctionHints<'_>, body: &Body<'_>) -> Result<(), Error>
     ensures { result ≡ error_of_first FoldHint (misplaced_hints_in body.now.place hints.entry body.now.value.operators) }
@@ -65,7 +65,7 @@ fn check_body(hints: FunctionHints<'_>, body: &Body<'_>) -> Result<(), Error>
 }
 
 /// Returns `FoldHint`, with the place of the hint, for the first hint of a module on an operator whose folded text
-/// has no place for it. Function indices count imported functions first.
+/// can't hold it. Function indices count imported functions first.
 pub(crate) fn check_hints(module: &Module<'_>) -> Result<(), Error>
     ensures { result ≡ error_of_first FoldHint
         (misplaced_hints_from (hints_of module.now.customs) (imported_count FuncKind module.now.imports) module.now.functions) }

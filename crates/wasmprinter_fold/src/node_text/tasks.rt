@@ -11,7 +11,7 @@ use std::alloc::AllocError;
 #[derive(Clone, Copy, Debug, Drop)]
 pub enum Task<'a> {
     /// A row of nodes, whether it is the first of its line, and the number of nodes around it.
-    Row(&'a [Node], bool, u64),
+    Nodes(&'a [Node], bool, u64),
     /// One node by its head and the nodes that it holds, whether it is the first of its line, and the number of nodes
     /// around it.
     One(NodeText, &'a [Node], bool, u64),
@@ -68,7 +68,7 @@ fn put_held<'a>(tasks: &mut Vec<Task<'a>>, held: &'a [Node], depth: u64) -> Resu
     ensures room { vec_len tasks.old + length held.now ≤ vec_capacity tasks.old → IsOk result }
 {
     if tasks.capacity() - tasks.len() < held.len() {
-        tasks.push(Task::Row(held, false, depth))?;
+        tasks.push(Task::Nodes(held, false, depth))?;
         Ok(())
     } else {
         put_row(tasks, held, false, depth)
@@ -89,7 +89,7 @@ pub fn put_rest<'a>(tasks: &mut Vec<Task<'a>>, task: &Task<'a>) -> Result<(), Al
     ensures room { vec_len tasks.old + rest_of task.now ≤ vec_capacity tasks.old → IsOk result }
 {
     match *task {
-        Task::Row(nodes, first, depth) => put_row(tasks, nodes, first, depth),
+        Task::Nodes(nodes, first, depth) => put_row(tasks, nodes, first, depth),
         Task::One(_, held, _, depth) => {
             tasks.push(Task::Close)?;
             put_held(tasks, held, depth + 1)

@@ -20,7 +20,7 @@ use Rattle.wasmprinter_spec.specs.Layout.Elements.{named_table, mode_pieces, fun
 use Rattle.wasmprinter_spec.specs.Layout.DataSegments.{named_memory, data_mode_pieces, shown_bytes, data_pieces}
 use Rattle.wasmprinter_spec.specs.Layout.Tags.{tag_pieces}
 use Rattle.wasmprinter_spec.specs.Layout.Start.{start_pieces}
-use Rattle.wasmprinter_laws.proofs.Colored.Recolored.{Recolored, none, same, same_all, both, after, closed, in_group_gap, in_line_group_gap}
+use Rattle.wasmprinter_laws.proofs.Colored.Recolored.{Recolored, none, same, same_all, both, after, closed, in_group_space, in_line_group_space}
 use Rattle.wasmprinter_laws.proofs.Colored.Nodes.{Bared, constant_so}
 
 -- The scope with operators laid out in this way.
@@ -57,12 +57,12 @@ module _ (x y : Option Folding) (d : Bared x y) (s : Scope) where
   pub table_so : (i : ℕ) (t : Placed (Table (Placed Operator))) → Recolored (table_pieces (in_way s x) i t) (table_pieces (in_way s y) i t)
   unfolding table_pieces
   table_so i t =
-      same (in_group_gap 1 (codes "table") (after (item_declaration s row.Table i) (same (after (table_type_pieces s.names t.value.type) (init_so t.value.init)))))
+      same (in_group_space 1 (codes "table") (after (item_declaration s row.Table i) (same (after (table_type_pieces s.names t.value.type) (init_so t.value.init)))))
 
   pub global_so : (i : ℕ) (g : Placed (Global (Placed Operator))) → Recolored (global_pieces (in_way s x) i g) (global_pieces (in_way s y) i g)
   unfolding global_pieces
   global_so i g =
-      same (in_group_gap 1 (codes "global") (after (item_declaration s row.Global i)
+      same (in_group_space 1 (codes "global") (after (item_declaration s row.Global i)
       (same (after (global_type_pieces s.names g.value.type) (same (constant_pieces_so 2 g.value.init))))))
 
   -- ---- segments
@@ -99,7 +99,7 @@ module _ (x y : Option Folding) (d : Bared x y) (s : Scope) where
   pub element_so : (skeleton : Bool) (i : ℕ) (e : Placed ElementEntry) → Recolored (element_pieces skeleton (in_way s x) i e) (element_pieces skeleton (in_way s y) i e)
   unfolding element_pieces
   element_so skeleton i e =
-      same (in_group_gap 1 (codes "elem") (after (item_declaration s row.Elem i)
+      same (in_group_space 1 (codes "elem") (after (item_declaration s row.Elem i)
       (both (mode_so e.value.names_table e.value.element.mode) (same (shown_so skeleton e.value.element.items)))))
 
   data_mode_so : (m : DataMode (Placed Operator)) → Recolored (data_mode_pieces (in_way s x) m) (data_mode_pieces (in_way s y) m)
@@ -110,7 +110,7 @@ module _ (x y : Option Folding) (d : Bared x y) (s : Scope) where
   pub data_so : (skeleton : Bool) (i : ℕ) (e : Placed (Data (Placed Operator))) → Recolored (data_pieces skeleton (in_way s x) i e) (data_pieces skeleton (in_way s y) i e)
   unfolding data_pieces
   data_so skeleton i e =
-      same (in_group_gap 1 (codes "data") (after (item_declaration s row.Data i)
+      same (in_group_space 1 (codes "data") (after (item_declaration s row.Data i)
       (same (both (data_mode_so e.value.mode) (same_all (shown_bytes skeleton e.value.bytes))))))
 
 -- Fields without operators are the same in both layouts.
@@ -125,7 +125,7 @@ module _ (x y : Option Folding) (s : Scope) where
 
   import_same : (n : ℕ) (i : Placed Import) → Recolored (import_pieces (in_way s x) n i) (import_pieces (in_way s y) n i)
   unfolding import_pieces
-  import_same n i = same (in_line_group_gap (codes "import") (same (same (same (same (extern_same n i.value.type))))))
+  import_same n i = same (in_line_group_space (codes "import") (same (same (same (same (extern_same n i.value.type))))))
 
   pub imports_same : (n : Numbers) (is : List (Placed Import)) → Recolored (imports_pieces (in_way s x) n is) (imports_pieces (in_way s y) n is)
   unfolding imports_pieces
@@ -142,7 +142,7 @@ module _ (x y : Option Folding) (s : Scope) where
 
   pub tag_same : (i : ℕ) (t : Placed ℕ) → Recolored (tag_pieces (in_way s x) i t) (tag_pieces (in_way s y) i t)
   unfolding tag_pieces
-  tag_same i t = same (in_line_group_gap (codes "tag") (header_same row.Tag None i t.value))
+  tag_same i t = same (in_line_group_space (codes "tag") (header_same row.Tag None i t.value))
 
   extern_index_same : (k : ExternKind) (n : ℕ) → Recolored (extern_index_pieces (in_way s x) k n) (extern_index_pieces (in_way s y) k n)
   unfolding extern_index_pieces
@@ -155,7 +155,7 @@ module _ (x y : Option Folding) (s : Scope) where
   pub export_same : (e : Placed Export) → Recolored (export_pieces (in_way s x) e) (export_pieces (in_way s y) e)
   unfolding export_pieces
   export_same e =
-      same (in_line_group_gap (codes "export") (same (same (in_line_group_gap (kind_word e.value.kind) (extern_index_same e.value.kind e.value.index)))))
+      same (in_line_group_space (codes "export") (same (same (in_line_group_space (kind_word e.value.kind) (extern_index_same e.value.kind e.value.index)))))
 
   pub start_same : (e : Option (Placed ℕ)) → Recolored (start_pieces (in_way s x) e) (start_pieces (in_way s y) e)
   unfolding start_pieces

@@ -13,7 +13,7 @@ use Rattle.wasmprinter_spec.specs.Placed.{Body, PlacedFunction, PlacedModule}
 use Rattle.wasmprinter_spec.specs.Options.{Options, Answers}
 use Rattle.wasmprinter_spec.specs.Piece.{Piece}
 use Rattle.wasmprinter_spec.specs.Folding.Arities.{Signatures, signatures_within}
-use Rattle.wasmprinter_spec.specs.Layout.Groups.{group_at, group_gap_at}
+use Rattle.wasmprinter_spec.specs.Layout.Groups.{group_at, group_space_at}
 use Rattle.wasmprinter_spec.specs.Layout.Identifiers.{leading_id_and_name_pieces}
 use Rattle.wasmprinter_spec.specs.Layout.Declarations.{Scope, scope_of_function, Folding}
 use Rattle.wasmprinter_spec.specs.Layout.Types.{type_section_pieces}
@@ -21,7 +21,7 @@ use Rattle.wasmprinter_spec.specs.Layout.Functions.{local_pieces, over_lines, re
 use Rattle.wasmprinter_spec.specs.Layout.Imports.{no_numbers}
 use Rattle.wasmprinter_spec.specs.Layout.Customs.{Part, Shown, Stops, parts_at, Laid, laid_parts}
 use Rattle.wasmprinter_spec.specs.Layout.{scope_before, early_scope, section_pieces, section_order, section_parts, module_parts, module_pieces_of, module_pieces_with, module_pieces, parts_by, pieces_by, refusal}
-use Rattle.wasmprinter_laws.proofs.Colored.Recolored.{Recolored, none, same, same_all, both, after, closed, in_line_group_gap, numbered_so}
+use Rattle.wasmprinter_laws.proofs.Colored.Recolored.{Recolored, none, same, same_all, both, after, closed, in_line_group_space, numbered_so}
 use Rattle.wasmprinter_laws.proofs.Colored.Nodes.{Bared, flat, folded, body_so}
 use Rattle.wasmprinter_laws.proofs.Colored.Fields.{in_way, table_so, global_so, element_so, data_so, imports_same, memory_same, header_same, tag_same, export_same, start_same}
 
@@ -31,10 +31,10 @@ without_color o = record o { color = false }
 
 -- ---- functions
 
-in_group_gap_at : {ps qs : List Piece} (offsets : Bool) (place nesting : ℕ) (w : List ℕ) → Recolored ps qs →
-    Recolored (group_gap_at offsets place nesting w ps) (group_gap_at offsets place nesting w qs)
-unfolding group_gap_at
-in_group_gap_at offsets place nesting w h = same (closed (Some place) nesting (λ b. offsets || b) h)
+in_group_space_at : {ps qs : List Piece} (offsets : Bool) (place nesting : ℕ) (w : List ℕ) → Recolored ps qs →
+    Recolored (group_space_at offsets place nesting w ps) (group_space_at offsets place nesting w qs)
+unfolding group_space_at
+in_group_space_at offsets place nesting w h = same (closed (Some place) nesting (λ b. offsets || b) h)
 
 module _ (x y : Option Folding) (d : Bared x y) where
   body_pieces_so : (s : Scope) (t : ℕ) (hs : List (Placed Hint)) (b : Placed Body) →
@@ -53,9 +53,9 @@ module _ (x y : Option Folding) (d : Bared x y) where
       Recolored (function_group skeleton offsets (in_way s x) hs f) (function_group skeleton offsets (in_way s y) hs f)
   unfolding function_group
   group_so true offsets s hs f =
-      in_line_group_gap (codes "func") (both (header_same x y s Func (Some s.function) s.function f.type_index) (same (same none)))
+      in_line_group_space (codes "func") (both (header_same x y s Func (Some s.function) s.function f.type_index) (same (same none)))
   group_so false offsets s hs f =
-      in_group_gap_at offsets f.body.value.end 1 (codes "func")
+      in_group_space_at offsets f.body.value.end 1 (codes "func")
       (both (header_same x y s Func (Some s.function) s.function f.type_index) (inner_so s hs f))
 
   function_so : (o : Options) (s : Scope) (i : ℕ) (hs : List (Placed Hint)) (f : PlacedFunction) →

@@ -5,7 +5,7 @@ use Rattle.wasmprinter_spec.specs.Grammar.{Placed}
 use Rattle.wasmprinter_spec.specs.Operator.{Operator}
 use Rattle.wasmprinter_spec.specs.Customs.Hints.{Hint}
 use Rattle.wasmprinter_spec.specs.Options.{Options, defaults}
-use Rattle.wasmprinter_spec.specs.Piece.{Shut}
+use Rattle.wasmprinter_spec.specs.Piece.{CloseParen}
 use Rattle.wasmprinter_spec.specs.Layout.Declarations.{Folding}
 use Rattle.wasmprinter_spec.specs.Layout.Operators.{Form, Setting, before_word, operators_pieces, expression_pieces}
 use Rattle.wasmprinter_spec.specs.Layout.Folded.{items, head_place, head_calls, head_text, head_hint, comment_end, node_hint, node_pieces, folded_pieces, if_folded, folded_list}
@@ -28,7 +28,7 @@ with_colors o form first nesting (Snoc before head results held) =
     (both (both (with_colors o form first nesting before) (same_all (node_hint o form leads place nesting (head_hint head))))
     (same_all (before_word form (leads && is_none (head_hint head)) place nesting)))
     (node (head_calls o head)
-    (both (after (comment_end (is_nil held) (head_text o head) place nesting) (with_colors o form false (nesting + 1) held)) (same_all (Shut ∷ []))))
+    (both (after (comment_end (is_nil held) (head_text o head) place nesting) (with_colors o form false (nesting + 1) held)) (same_all (CloseParen ∷ []))))
 
 -- `Recolored` holds for the pieces of nodes, with or without colors, and their pieces without colors.
 pub nodes_so : (o : Options) (color : Bool) (form : Form) (first : Bool) (nesting : ℕ) (f : Nodes) →

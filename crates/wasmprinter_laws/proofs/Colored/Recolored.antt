@@ -6,7 +6,7 @@ use Rattle.wasmprinter_spec.specs.Color.{uncolor}
 use Rattle.wasmprinter_spec.specs.Plain.{IsPlainText}
 use Rattle.wasmprinter_spec.specs.Options.{Options}
 use Rattle.wasmprinter_spec.specs.Piece.{Piece, OpenPlain, calls, all_calls}
-use Rattle.wasmprinter_spec.specs.Layout.Groups.{breaks, has_break, close, group_gap, line_group_gap, numbered_pieces}
+use Rattle.wasmprinter_spec.specs.Layout.Groups.{breaks, has_break, close, group_space, line_group_space, numbered_pieces}
 use Rattle.wasmprinter_spec.specs.Layout.Folded.{text_in_color}
 use Rattle.wasmprinter_spec.proofs.Texts.{text_of-append, colored_text-append}
 use Rattle.wasmprinter_laws.proofs.Colored.Uncolored.{colors_keep_text}
@@ -45,14 +45,14 @@ pub closed : {ps qs : List Piece} (place : Option ℕ) (nesting : ℕ) (f : Bool
 closed {ps} {qs} place nesting f h =
     both h (subst (λ (b : Bool). Recolored (close place nesting (f (has_break ps))) (close place nesting (f b))) (same_breaks h) (same_all (close place nesting (f (has_break ps)))))
 
-pub in_group_gap : {ps qs : List Piece} (nesting : ℕ) (w : List ℕ) → Recolored ps qs → Recolored (group_gap nesting w ps) (group_gap nesting w qs)
-unfolding group_gap
-in_group_gap nesting w h = same (closed None nesting (λ b. b) h)
+pub in_group_space : {ps qs : List Piece} (nesting : ℕ) (w : List ℕ) → Recolored ps qs → Recolored (group_space nesting w ps) (group_space nesting w qs)
+unfolding group_space
+in_group_space nesting w h = same (closed None nesting (λ b. b) h)
 
 -- `Recolored` is preserved by a group on one line.
-pub in_line_group_gap : {ps qs : List Piece} (w : List ℕ) → Recolored ps qs → Recolored (line_group_gap w ps) (line_group_gap w qs)
-unfolding line_group_gap
-in_line_group_gap w h = same (both h (same none))
+pub in_line_group_space : {ps qs : List Piece} (w : List ℕ) → Recolored ps qs → Recolored (line_group_space w ps) (line_group_space w qs)
+unfolding line_group_space
+in_line_group_space w h = same (both h (same none))
 
 pub numbered_so : {A : Type 0} (f g : ℕ → A → List Piece) → ((i : ℕ) (x : A) → Recolored (f i x) (g i x)) → (i : ℕ) (xs : List A) → Recolored (numbered_pieces f i xs) (numbered_pieces g i xs)
 unfolding numbered_pieces

@@ -6,7 +6,7 @@ use Rattle.wasmprinter_spec.specs.Color.{uncolor}
 use Rattle.wasmprinter_spec.specs.Colored.{bare_call}
 use Rattle.wasmprinter_spec.specs.Plain.{IsPlainText}
 use Rattle.wasmprinter_spec.specs.Options.{Options, Answers}
-use Rattle.wasmprinter_spec.specs.Piece.{Piece, Begin, EndLine, Break, Gap, Open, OpenGap, OpenPlain, OpenUnnamed, OpenTypeGap, OpenAnnotation, OpenAnnotationGap, OpenAnnotationWord, Shut, Word, TypeWord, TypeWordGap, GapTypeWord, Number, Constant, Literals, GapLiterals, Float, IndexComment, BeginName, EndStyle, Quoted, QuotedBytes, Identifier, NameAnnotation, BlockComment, LineComment, PlainLineComment, HintAnnotation, Claimed, calls, all_calls}
+use Rattle.wasmprinter_spec.specs.Piece.{Piece, Begin, EndLine, Break, OneSpace, Open, OpenSpace, OpenPlain, OpenUnnamed, OpenTypeSpace, OpenAnnotation, OpenAnnotationSpace, OpenAnnotationWord, CloseParen, Word, TypeWord, TypeWordSpace, SpaceTypeWord, Number, Constant, Literals, SpaceLiterals, Float, IndexComment, BeginName, EndStyle, Quoted, QuotedBytes, Identifier, NameAnnotation, BlockComment, LineComment, PlainLineComment, HintAnnotation, Claimed, calls, all_calls}
 use Rattle.wasmprinter_spec.specs.Layout.Folded.{text_in_color}
 use Rattle.wasmprinter_spec.specs.Layout.{module_pieces, layout}
 use Rattle.wasmprinter_spec.specs.Laws.{PrintsPlainText, ColorAddsSequences, TextsContainColors, ColoredTextKeeps}
@@ -20,24 +20,24 @@ same_calls : (o : Options) (p : Piece) → calls o p ≡ calls (without_color o)
 same_calls o (Begin place) = refl
 same_calls o EndLine = refl
 same_calls o (Break place nesting) = refl
-same_calls o Gap = refl
+same_calls o OneSpace = refl
 same_calls o (Open w) = refl
-same_calls o (OpenGap w) = refl
+same_calls o (OpenSpace w) = refl
 same_calls o (OpenPlain w) = refl
 same_calls o OpenUnnamed = refl
-same_calls o (OpenTypeGap w) = refl
+same_calls o (OpenTypeSpace w) = refl
 same_calls o (OpenAnnotation w) = refl
-same_calls o (OpenAnnotationGap w) = refl
+same_calls o (OpenAnnotationSpace w) = refl
 same_calls o (OpenAnnotationWord w) = refl
-same_calls o Shut = refl
+same_calls o CloseParen = refl
 same_calls o (Word w) = refl
 same_calls o (TypeWord w) = refl
-same_calls o (TypeWordGap w) = refl
-same_calls o (GapTypeWord w) = refl
+same_calls o (TypeWordSpace w) = refl
+same_calls o (SpaceTypeWord w) = refl
 same_calls o (Number n) = refl
 same_calls o (Constant z) = refl
 same_calls o (Literals w ws) = refl
-same_calls o (GapLiterals ws) = refl
+same_calls o (SpaceLiterals ws) = refl
 same_calls o (Float w bits) = refl
 same_calls o (IndexComment n) = refl
 same_calls o BeginName = refl

@@ -10,8 +10,8 @@ use Rattle.wasmprinter_spec.specs.Quoted.{is_id}
 use Rattle.wasmprinter_spec.specs.Sized.{take_bytes}
 use Rattle.wasmprinter_spec.specs.Lenient.{Lenient, give, one, unless_ended}
 use Rattle.wasmprinter_spec.specs.Placed.{Custom}
-use Rattle.wasmprinter_spec.specs.Customs.{CustomRole, Silent, Listed, Linked, Raw, Malformed, producers_role, dylink_role, custom_role_of, name_section, hint_section, producers_section, dylink_section}
-use Rattle.wasmprinter_spec.specs.Customs.Producers.{Value, Field, value, field, producers, are_runs}
+use Rattle.wasmprinter_spec.specs.Customs.{CustomTreatment, Silent, ProducersFields, DylinkSubsections, Raw, Malformed, producers_treatment, dylink_treatment, custom_treatment_of, name_section, hint_section, producers_section, dylink_section}
+use Rattle.wasmprinter_spec.specs.Customs.Producers.{Value, Field, value, field, producers, have_id_names}
 use Rattle.wasmprinter_spec.specs.Customs.Dylink.{MemInfo, SubsectionContent, Sizes, Needed, Exports, Imports, Paths, Other, Subsection, mem_info, export_info, import_info, content_by_id, is_known, content, subsection, subsections, first_other, judgement_by, judgement_of}
 use Rattle.wasmprinter_laws.proofs.Tokens.Printed.{is_remark}
 use Rattle.wasmprinter_laws.proofs.Bytes.{bytes_same}
@@ -40,9 +40,9 @@ AllSpelled-value = Spelled-map_value (Spelled-seq AllSpelled-name (λ _. AllSpel
 AllSpelled-field : AllSpelled field AreRangedValues
 AllSpelled-field = Spelled-map_value (Spelled-seq AllSpelled-name (λ _. Spelled-vec (Spelled-value_with_place AllSpelled-value))) (λ x h. h.1.each)
 
-fields_ranged : (fs : List Field) → AllByRecursion AreRangedValues fs → are_runs fs ≡ true → AllByRecursion IsRangedField fs
+fields_ranged : (fs : List Field) → AllByRecursion AreRangedValues fs → have_id_names fs ≡ true → AllByRecursion IsRangedField fs
 fields_ranged [] h r = tt
-fields_ranged (f ∷ fs) h r = let parts = and_parts (is_id f.name) (are_runs fs) r in ((parts.0, h.0), fields_ranged fs h.1 parts.1)
+fields_ranged (f ∷ fs) h r = let parts = and_parts (is_id f.name) (have_id_names fs) r in ((parts.0, h.0), fields_ranged fs h.1 parts.1)
 
 -- ---- `dylink.0`
 
@@ -103,48 +103,48 @@ AllGiven-subsections n =
     each : Lenient Subsection
     each = one (λ s. s ∷ []) subsection
 
--- ---- the role of a section in the text
+-- ---- the treatment of a section in the text
 
 -- The name of a malformed section may be printed in a comment.
-abbrev pub IsRangedRole : Custom → CustomRole → Type 0
-IsRangedRole c (Listed fields) = AllByRecursion IsRangedField fields
-IsRangedRole c (Linked ss) = AreRangedSubsections ss
-IsRangedRole c Malformed = is_remark c.name ≡ true
-IsRangedRole c _ = Unit {0}
+abbrev pub IsRangedTreatment : Custom → CustomTreatment → Type 0
+IsRangedTreatment c (ProducersFields fields) = AllByRecursion IsRangedField fields
+IsRangedTreatment c (DylinkSubsections ss) = AreRangedSubsections ss
+IsRangedTreatment c Malformed = is_remark c.name ≡ true
+IsRangedTreatment c _ = Unit {0}
 
 module _ (c : Custom) (h : IsRangedCustom c) where
   abbrev at : Input
   at = input c.bytes.place c.bytes.value
 
-  producers_ranged : c.name ≡ producers_section → (o : Option (List Field)) → producers.parse at ≡ o → IsRangedRole c (producers_role o)
+  producers_ranged : c.name ≡ producers_section → (o : Option (List Field)) → producers.parse at ≡ o → IsRangedTreatment c (producers_treatment o)
   unfolding class
   producers_ranged same None e = subst (λ n. is_remark n ≡ true) (sym same) refl
-  producers_ranged same (Some fields) e = by (are_runs fields) refl
+  producers_ranged same (Some fields) e = by (have_id_names fields) refl
     where
       values : AllByRecursion AreRangedValues fields
       values = ((Spelled-vec AllSpelled-field).has c.bytes.place c.bytes.value fields h.bytes (producers.sound at fields e)).each
 
-      by : (t : Bool) → are_runs fields ≡ t → IsRangedRole c (cond t (Listed fields) Raw)
+      by : (t : Bool) → have_id_names fields ≡ t → IsRangedTreatment c (cond t (ProducersFields fields) Raw)
       by true r = fields_ranged fields values r
       by false r = tt
 
-  dylink_ranged : c.name ≡ dylink_section → IsRangedRole c (dylink_role (judgement_of at))
+  dylink_ranged : c.name ≡ dylink_section → IsRangedTreatment c (dylink_treatment (judgement_of at))
   unfolding class
   dylink_ranged same =
       let l = subsections (length at.bytes) in
       let ss : List Subsection = (l.read at).0 in
       by ss ((AllGiven-subsections (length at.bytes)).has at ss (l.read at).1 h.bytes (l.sound at)).0 (first_other ss) (l.read at).1
     where
-      by : (ss : List Subsection) → AreRangedSubsections ss → (o : Option ℕ) (end : Option Input) → IsRangedRole c (dylink_role (judgement_by ss o end))
+      by : (ss : List Subsection) → AreRangedSubsections ss → (o : Option ℕ) (end : Option Input) → IsRangedTreatment c (dylink_treatment (judgement_by ss o end))
       by ss r (Some id) end = tt
       by ss r None (Some after) = r
       by ss r None None = subst (λ n. is_remark n ≡ true) (sym same) refl
 
-  pub role_ranged : IsRangedRole c (custom_role_of c)
-  role_ranged = by (bytes_eq c.name name_section) (bytes_eq c.name hint_section) (bytes_eq c.name producers_section) refl (bytes_eq c.name dylink_section) refl
+  pub treatment_ranged : IsRangedTreatment c (custom_treatment_of c)
+  treatment_ranged = by (bytes_eq c.name name_section) (bytes_eq c.name hint_section) (bytes_eq c.name producers_section) refl (bytes_eq c.name dylink_section) refl
     where
       by : (a b d : Bool) → bytes_eq c.name producers_section ≡ d → (e : Bool) → bytes_eq c.name dylink_section ≡ e →
-          IsRangedRole c (cond a Silent (cond b Silent (cond d (producers_role (producers.parse at)) (cond e (dylink_role (judgement_of at)) Raw))))
+          IsRangedTreatment c (cond a Silent (cond b Silent (cond d (producers_treatment (producers.parse at)) (cond e (dylink_treatment (judgement_of at)) Raw))))
       by true b d p e q = tt
       by false true d p e q = tt
       by false false true p e q = producers_ranged (bytes_same c.name producers_section p) (producers.parse at) refl

@@ -14,13 +14,13 @@ use Rattle.wasmprinter_spec.specs.Binary.{AreBytes}
 use Rattle.wasmprinter_spec.specs.Indexed.{Counts}
 use Rattle.wasmprinter_spec.specs.IndexSpaces.{index, Context}
 use Rattle.wasmprinter_spec.specs.Piece as piece
-use Rattle.wasmprinter_spec.specs.Layout.Groups.{line_group_gap}
+use Rattle.wasmprinter_spec.specs.Layout.Groups.{line_group_space}
 use Rattle.wasmprinter_spec.specs.Layout.Declarations.{Scope, item_index}
 use Rattle.wasmprinter_spec.specs.Layout.DataSegments.{named_memory, data_mode_pieces, shown_bytes, data_pieces}
 use Rattle.wasmprinter_spec.specs.Text.Items.{identifier_in_front}
 use Rattle.wasmprinter_spec.specs.Text.DataSegments.{strings, with_bytes, active_in, segment, read_data}
 use Rattle.wasmprinter_laws.proofs.Tokens.Pieces.{Free, Bound}
-use Rattle.wasmprinter_laws.proofs.Tokens.Writes.{Writes, both_write, nothing_writes, gap_writes, break_writes, word_writes, quoted_bytes_writes, line_group_gap_writes, group_gap_writes}
+use Rattle.wasmprinter_laws.proofs.Tokens.Writes.{Writes, both_write, nothing_writes, one_space_writes, break_writes, word_writes, quoted_bytes_writes, line_group_space_writes, group_space_writes}
 use Rattle.wasmprinter_laws.specs.Listed.{AreSignaturesInRange}
 use Rattle.wasmprinter_laws.proofs.Declarations.{id}
 use Rattle.wasmprinter_laws.proofs.Identifiers.{declaration-items, declaration_writes, index_writes}
@@ -70,20 +70,20 @@ module _ (s : Scope) (named : AreNamed s.names) (ranged : AreSignaturesInRange (
   named_memory_writes m h {qs} {f} w = by (m == 0)
     where
       by : (t : Bool) →
-          Writes Free (cond t [] (line_group_gap (codes "memory") (item_index s row.Memory m) ++ (piece.Gap ∷ [])) ++ qs) Free (named_memory_items_by s t m f)
+          Writes Free (cond t [] (line_group_space (codes "memory") (item_index s row.Memory m) ++ (piece.OneSpace ∷ [])) ++ qs) Free (named_memory_items_by s t m f)
       by true = w
       by false =
           let small : m < 2 ^ 64 = omega (arith, h) in
           both_write (both_write
-          (line_group_gap_writes {b = Bound} (codes "memory") _ refl refl (index_writes (s.names.items row.Memory m) m (named.items row.Memory m) small))
-          (gap_writes refl nothing_writes)) w
+          (line_group_space_writes {b = Bound} (codes "memory") _ refl refl (index_writes (s.names.items row.Memory m) m (named.items row.Memory m) small))
+          (one_space_writes refl nothing_writes)) w
 
   data_mode_writes : (m : DataMode (Placed Operator)) → IsRangedDataMode m →
       Writes Free (data_mode_pieces s m) Free (data_mode_items s m End)
   unfolding data_mode_pieces class
   data_mode_writes PassiveData h = nothing_writes
   data_mode_writes (ActiveData m offset) h =
-      named_memory_writes m h.0 (both_write (constant_group_writes s named ranged bare (codes "offset") offset refl refl h.1) (gap_writes refl nothing_writes))
+      named_memory_writes m h.0 (both_write (constant_group_writes s named ranged bare (codes "offset") offset refl refl h.1) (one_space_writes refl nothing_writes))
 
   named_memory_onto : (t : Bool) (m : ℕ) (g f : Forest) → onto (named_memory_items_by s t m (Group g End)) f ≡ named_memory_items_by s t m (Group g f)
   named_memory_onto true m g f = refl
@@ -100,9 +100,9 @@ module _ (s : Scope) (named : AreNamed s.names) (ranged : AreSignaturesInRange (
       let mode : DataMode (Placed Operator) = d.value.mode in
       let bytes : Forest = bytes_items skeleton d.value.bytes in
       let held : Writes Bound (data_pieces skeleton s i d) Bound (Group (Word (codes "data") (onto (own_id s row.Data i) (onto (data_mode_items s mode End) bytes))) End) =
-      break_writes (group_gap_writes 1 (codes "data") _ refl refl
+      break_writes (group_space_writes 1 (codes "data") _ refl refl
       (both_write (declaration_writes (s.names.items row.Data i) i (named.items row.Data i) small)
-      (gap_writes {a = Bound} refl (both_write (data_mode_writes d.value.mode h.mode) (bytes_write skeleton d.value.bytes h.bytes))))) in
+      (one_space_writes {a = Bound} refl (both_write (data_mode_writes d.value.mode h.mode) (bytes_write skeleton d.value.bytes h.bytes))))) in
       rw (data_mode_onto mode bytes) at held
 
 -- ---- the items read back

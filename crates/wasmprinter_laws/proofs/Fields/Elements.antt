@@ -22,7 +22,7 @@ use Rattle.wasmprinter_spec.specs.Text.Items.{identifier_in_front}
 use Rattle.wasmprinter_spec.specs.Text.Types.{ref_named, ref_group}
 use Rattle.wasmprinter_spec.specs.Text.Elements.{function_indices, expressions, typed_items, items, with_mode, active_in, segment, read_element}
 use Rattle.wasmprinter_laws.proofs.Tokens.Pieces.{Free, Bound}
-use Rattle.wasmprinter_laws.proofs.Tokens.Writes.{Writes, both_write, nothing_writes, gap_writes, break_writes, word_writes, line_group_gap_writes, group_gap_writes}
+use Rattle.wasmprinter_laws.proofs.Tokens.Writes.{Writes, both_write, nothing_writes, one_space_writes, break_writes, word_writes, line_group_space_writes, group_space_writes}
 use Rattle.wasmprinter_laws.specs.Listed.{AreSignaturesInRange}
 use Rattle.wasmprinter_laws.proofs.Items.{leading_item-reads}
 use Rattle.wasmprinter_laws.proofs.Declarations.{id}
@@ -83,14 +83,14 @@ module _ (s : Scope) (named : AreNamed s.names) (ranged : AreSignaturesInRange (
   functions_write [] h = nothing_writes
   functions_write (i ∷ is) h =
       let small : i < 2 ^ 64 = omega (arith, h.0) in
-      gap_writes refl (both_write (index_writes (s.names.items row.Func i) i (named.items row.Func i) small) (functions_write is h.1))
+      one_space_writes refl (both_write (index_writes (s.names.items row.Func i) i (named.items row.Func i) small) (functions_write is h.1))
 
   expressions_write : (es : List (List (Placed Operator))) → AllByRecursion IsRangedExpression es →
       Writes Bound (layout.expression_items s es) Bound (expressions_items s es)
   unfolding layout.expression_items class
   expressions_write [] h = nothing_writes
   expressions_write (e ∷ es) h =
-      gap_writes refl (both_write (constant_group_writes s named ranged bare (codes "item") e refl refl h.0) (expressions_write es h.1))
+      one_space_writes refl (both_write (constant_group_writes s named ranged bare (codes "item") e refl refl h.0) (expressions_write es h.1))
 
   items_write : (is : Items (Placed Operator)) → AreRangedItems is → Writes Free (items_pieces s is) Bound (items_items s is)
   unfolding items_pieces class
@@ -105,27 +105,27 @@ module _ (s : Scope) (named : AreNamed s.names) (ranged : AreSignaturesInRange (
 
   -- The mode and a space are written before the elements.
   mode_writes : (names : Bool) (m : ElementMode (Placed Operator)) → IsRangedMode names m → {qs : List piece.Piece} {f : Forest} → Writes Free qs Bound f →
-      Writes Bound (mode_pieces s names m ++ (piece.Gap ∷ qs)) Bound (mode_items s names m f)
+      Writes Bound (mode_pieces s names m ++ (piece.OneSpace ∷ qs)) Bound (mode_items s names m f)
   unfolding mode_pieces class
-  mode_writes names Passive h w = gap_writes refl w
-  mode_writes names Declared h w = gap_writes refl (word_writes refl (gap_writes refl w))
+  mode_writes names Passive h w = one_space_writes refl w
+  mode_writes names Declared h w = one_space_writes refl (word_writes refl (one_space_writes refl w))
   mode_writes names (Active t offset) h {qs} {f} w = by names h.0
     where
       by : (b : Bool) → IsNamedTable b t →
-          Writes Bound ((named_table s b t ++ (piece.Gap ∷ constant_group s 2 (codes "offset") offset)) ++ (piece.Gap ∷ qs)) Bound
+          Writes Bound ((named_table s b t ++ (piece.OneSpace ∷ constant_group s 2 (codes "offset") offset)) ++ (piece.OneSpace ∷ qs)) Bound
           (named_table_items s b t (Group (constant_held s (codes "offset") offset) f))
       by true k =
           let small : t < 2 ^ 64 = omega (arith, k) in
-          gap_writes refl (both_write (both_write
-          (line_group_gap_writes (codes "table") _ refl refl (index_writes (s.names.items row.Table t) t (named.items row.Table t) small))
-          (gap_writes {a = Bound} refl (constant_group_writes s named ranged bare (codes "offset") offset refl refl h.1))) (gap_writes refl w))
-      by false k = both_write (gap_writes refl (constant_group_writes s named ranged bare (codes "offset") offset refl refl h.1)) (gap_writes refl w)
+          one_space_writes refl (both_write (both_write
+          (line_group_space_writes (codes "table") _ refl refl (index_writes (s.names.items row.Table t) t (named.items row.Table t) small))
+          (one_space_writes {a = Bound} refl (constant_group_writes s named ranged bare (codes "offset") offset refl refl h.1))) (one_space_writes refl w))
+      by false k = both_write (one_space_writes refl (constant_group_writes s named ranged bare (codes "offset") offset refl refl h.1)) (one_space_writes refl w)
 
   pub element_writes : (skeleton : Bool) (i : ℕ) (e : Placed ElementEntry) → i < 2 ^ 64 → IsRangedElement e.value →
       Writes Bound (element_pieces skeleton s i e) Bound (Group (Word (codes "elem") (element_items s skeleton i e.value)) End)
   unfolding element_pieces class
   element_writes skeleton i e small h =
-      break_writes (group_gap_writes 1 (codes "elem") _ refl refl
+      break_writes (group_space_writes 1 (codes "elem") _ refl refl
       (both_write (declaration_writes (s.names.items row.Elem i) i (named.items row.Elem i) small)
       (mode_writes e.value.names_table e.value.element.mode h.mode (shown_items_write skeleton e.value.element.items h.items))))
 

@@ -17,7 +17,7 @@ use Rattle.wasmprinter_spec.specs.Text.Exports.{kind_of_word, read_export}
 use Rattle.wasmprinter_laws.proofs.Tokens.Runs.{is_word}
 use Rattle.wasmprinter_laws.proofs.Tokens.Numbers.{is_word-decimal}
 use Rattle.wasmprinter_laws.proofs.Tokens.Pieces.{Free, Bound}
-use Rattle.wasmprinter_laws.proofs.Tokens.Writes.{Writes, writing, gap_writes, break_writes, quoted_writes, line_group_gap_writes}
+use Rattle.wasmprinter_laws.proofs.Tokens.Writes.{Writes, writing, one_space_writes, break_writes, quoted_writes, line_group_space_writes}
 use Rattle.wasmprinter_laws.proofs.Ranged.{IsRangedExport}
 use Rattle.wasmprinter_laws.specs.OperatorLaws.{count_in}
 use Rattle.wasmprinter_laws.proofs.Items.{index-decimal}
@@ -60,8 +60,8 @@ export_writes s named e h =
     let index = extern_index_writes s named e.value.kind e.value.index small (is_word-decimal e.value.index small) in
     let held : Forest = Group (Word (kind_word e.value.kind) (extern_index_items s e.value.kind e.value.index)) End in
     let written : Writes Bound (export_pieces s e) Bound (Group (Word (codes "export") (String (encode_utf8_all (chars e.value.name)) held)) End) =
-    break_writes (line_group_gap_writes (codes "export") _ refl refl
-    (quoted_writes scalar (gap_writes refl (line_group_gap_writes (kind_word e.value.kind) _ refl kind index)))) in
+    break_writes (line_group_space_writes (codes "export") _ refl refl
+    (quoted_writes scalar (one_space_writes refl (line_group_space_writes (kind_word e.value.kind) _ refl kind index)))) in
     rw (encodes-chars e.value.name h.name) at written
 
 kind_of_word-kind : (kind : ExternKind) → kind_of_word (kind_word kind) ≡ Some kind

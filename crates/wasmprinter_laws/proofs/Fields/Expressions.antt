@@ -20,7 +20,7 @@ use Rattle.wasmprinter_spec.specs.Text.Operators.{read_operators}
 use Rattle.wasmprinter_spec.specs.Text.Expressions.{expression, expression_group}
 use Rattle.wasmprinter_laws.proofs.Tokens.Runs.{is_word}
 use Rattle.wasmprinter_laws.proofs.Tokens.Pieces.{Edge, Free, Bound, Opened}
-use Rattle.wasmprinter_laws.proofs.Tokens.Writes.{Writes, is_open, both_write, nothing_writes, gap_writes, opened_word_writes, bare_group_writes}
+use Rattle.wasmprinter_laws.proofs.Tokens.Writes.{Writes, is_open, both_write, nothing_writes, one_space_writes, opened_word_writes, bare_group_writes}
 use Rattle.wasmprinter_laws.specs.Listed.{AreSignaturesInRange, IsListed}
 use Rattle.wasmprinter_laws.specs.OperatorLaws.{HaveSameTypes, HaveSameNames}
 use Rattle.wasmprinter_laws.proofs.Bytes.{same_bytes}
@@ -71,8 +71,8 @@ module _ (s : Scope) (named : AreNamed s.names) (ranged : AreSignaturesInRange (
 
   -- A word and the operators after it
   worded_writes : (w : List ℕ) (os : List (Placed Operator)) → is_word w ≡ true → IsRangedExpression os →
-      Writes Opened (piece.Word w ∷ (piece.Gap ∷ constant_pieces s 3 os)) Bound (Word w (constant_items s 3 os))
-  worded_writes w os h r = opened_word_writes h (gap_writes refl (in_line_writes 3 os r))
+      Writes Opened (piece.Word w ∷ (piece.OneSpace ∷ constant_pieces s 3 os)) Bound (Word w (constant_items s 3 os))
+  worded_writes w os h r = opened_word_writes h (one_space_writes refl (in_line_writes 3 os r))
 
   pub constant_group_writes : {a : Edge} (w : List ℕ) (os : List (Placed Operator)) → is_open a ≡ true → is_word w ≡ true → IsRangedExpression os →
       Writes a (constant_group s 2 w os) Bound (Group (constant_held s w os) End)

@@ -15,8 +15,8 @@ use Rattle.wasmprinter_spec.specs.Placed.{LocalEntry, PlacedFunction}
 use Rattle.wasmprinter_spec.specs.Module.{without_places, locals_of, function_of}
 use Rattle.wasmprinter_spec.specs.Indexed.{Counts, IsDeclaredVal, IsIndexedOperator, parameter_count}
 use Rattle.wasmprinter_spec.specs.Piece as piece
-use Rattle.wasmprinter_spec.specs.Piece.{Piece, Gap}
-use Rattle.wasmprinter_spec.specs.Layout.Groups.{group_gap_at, breaks, has_break}
+use Rattle.wasmprinter_spec.specs.Piece.{Piece, OneSpace}
+use Rattle.wasmprinter_spec.specs.Layout.Groups.{group_space_at, breaks, has_break}
 use Rattle.wasmprinter_spec.specs.Layout.Variables.{Variables, variable_groups}
 use Rattle.wasmprinter_spec.specs.Layout.Declarations.{Scope, Folding, scope_of_function}
 use Rattle.wasmprinter_spec.specs.Layout.Types.{parameters_of}
@@ -29,7 +29,7 @@ use Rattle.wasmprinter_spec.specs.Text.Functions.{function_of_type, read_functio
 use Rattle.wasmprinter_spec.specs.Text.Operators.{read_operators}
 use Rattle.wasmprinter_spec.proofs.OneLine.{hint_breaks}
 use Rattle.wasmprinter_laws.proofs.Tokens.Pieces.{Edge, Bound, Ended}
-use Rattle.wasmprinter_laws.proofs.Tokens.Writes.{Writes, WritesNoted, writing, is_open, both_write, after_anything, nothing_writes, break_writes, line_group_gap_writes, group_gap_at_writes, ended_group_gap_at_writes}
+use Rattle.wasmprinter_laws.proofs.Tokens.Writes.{Writes, WritesNoted, writing, is_open, both_write, after_anything, nothing_writes, break_writes, line_group_space_writes, group_space_at_writes, ended_group_space_at_writes}
 use Rattle.wasmprinter_laws.specs.Listed.{AreSignaturesInRange, IsListed}
 use Rattle.wasmprinter_laws.specs.OperatorLaws.{count_in, HaveSameTypes, HaveSameNames}
 use Rattle.wasmprinter_laws.proofs.Ranged.{IsRangedLocal, IsRangedFunction}
@@ -140,8 +140,8 @@ module _ (s : Scope) (named : AreNamed s.names) (ranged : AreSignaturesInRange (
       (Group (Word (codes "func") (function_items_by skeleton s f (inner_items true s hs (own_parameter_count s f) f))) End)
   unfolding function_group inner_pieces body_pieces body_by class
   function_group_writes e true offsets hs f h r =
-      let rest : Writes Bound (Gap ∷ (piece.Word (codes "...") ∷ [])) Bound (Word (codes "...") End) = search writing in
-      line_group_gap_writes (codes "func") _ e refl (header_writes s named ranged Func (Some s.function) s.function f.type_index _ _ _ h r.type_index rest)
+      let rest : Writes Bound (OneSpace ∷ (piece.Word (codes "...") ∷ [])) Bound (Word (codes "...") End) = search writing in
+      line_group_space_writes (codes "func") _ e refl (header_writes s named ranged Func (Some s.function) s.function f.type_index _ _ _ h r.type_index rest)
   function_group_writes {a = a} e false offsets hs f h r = by s.folding bare
     where
       place : ℕ
@@ -160,15 +160,15 @@ module _ (s : Scope) (named : AreNamed s.names) (ranged : AreSignaturesInRange (
       own_items x = header_items s Func (Some s.function) s.function f.type_index (onto (local_items s (own_parameter_count s f) (locals_of locals)) x)
 
       flat : (os : List (Placed Operator)) → AllByRecursion IsListed (without_places os) →
-          WritesNoted a (group_gap_at offsets f.body.value.end 1 (codes "func") (header ++ (own_locals ++ operators_pieces (over_lines s place) hs true 0 [] os))) Bound
+          WritesNoted a (group_space_at offsets f.body.value.end 1 (codes "func") (header ++ (own_locals ++ operators_pieces (over_lines s place) hs true 0 [] os))) Bound
           (Group (Word (codes "func") (own_items (expression_items (over_lines s place) (without_places os)))) End)
           (Group (Word (codes "func") (own_items (hinted_items (over_lines s place) hs 0 [] os))) End)
       flat [] l =
-          group_gap_at_writes offsets f.body.value.end 1 (codes "func") _ e refl
+          group_space_at_writes offsets f.body.value.end 1 (codes "func") _ e refl
           (header_writes s named ranged Func (Some s.function) s.function f.type_index _ _ _ h r.type_index
           (both_write (local_writes (own_parameter_count s f) locals r.body.locals) (empty_body_writes place hs)))
       flat (o ∷ os) l =
-          ended_group_gap_at_writes offsets f.body.value.end 1 (codes "func") _ e refl
+          ended_group_space_at_writes offsets f.body.value.end 1 (codes "func") _ e refl
           (has_break-after header _ (has_break-after own_locals _ (body_breaks s place hs o os)))
           (header_writes s named ranged Func (Some s.function) s.function f.type_index _ _ _ h r.type_index
           (both_write (local_writes (own_parameter_count s f) locals r.body.locals) (body_writes place hs (o ∷ os) l)))
@@ -177,12 +177,12 @@ module _ (s : Scope) (named : AreNamed s.names) (ranged : AreSignaturesInRange (
       own = result_count s f.type_index
 
       by : (folding : Option Folding) → IsUncolored folding →
-          WritesNoted a (group_gap_at offsets f.body.value.end 1 (codes "func") (header ++ (own_locals ++ body_by folding own (over_lines s place) hs f.body.value.operators))) Bound
+          WritesNoted a (group_space_at offsets f.body.value.end 1 (codes "func") (header ++ (own_locals ++ body_by folding own (over_lines s place) hs f.body.value.operators))) Bound
           (Group (Word (codes "func") (own_items (list_items false folding own (over_lines s place) hs f.body.value.operators))) End)
           (Group (Word (codes "func") (own_items (list_items true folding own (over_lines s place) hs f.body.value.operators))) End)
       by None b = flat f.body.value.operators r.body.listed
       by (Some x) b =
-          group_gap_at_writes offsets f.body.value.end 1 (codes "func") _ e refl
+          group_space_at_writes offsets f.body.value.end 1 (codes "func") _ e refl
           (header_writes s named ranged Func (Some s.function) s.function f.type_index _ _ _ h r.type_index
           (both_write (local_writes (own_parameter_count s f) locals r.body.locals)
           (folded_list_writes x b own (over_lines s place) named ranged hs f.body.value.operators r.body.listed)))

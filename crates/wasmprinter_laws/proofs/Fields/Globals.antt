@@ -18,7 +18,7 @@ use Rattle.wasmprinter_spec.specs.Text.Items.{identifier_in_front}
 use Rattle.wasmprinter_spec.specs.Text.Types.{val_named, val_group, val_type}
 use Rattle.wasmprinter_spec.specs.Text.Globals.{global_named, global_group, global_type, read_global}
 use Rattle.wasmprinter_laws.proofs.Tokens.Pieces.{Free, Bound}
-use Rattle.wasmprinter_laws.proofs.Tokens.Writes.{Writes, both_write, nothing_writes, gap_writes, break_writes, group_gap_writes, type_group_then}
+use Rattle.wasmprinter_laws.proofs.Tokens.Writes.{Writes, both_write, nothing_writes, one_space_writes, break_writes, group_space_writes, type_group_then}
 use Rattle.wasmprinter_laws.specs.Listed.{AreSignaturesInRange}
 use Rattle.wasmprinter_laws.proofs.Items.{ReadsItem, one_item-reads, leading_item-reads}
 use Rattle.wasmprinter_laws.proofs.Ranged.{IsRangedGlobal}
@@ -61,10 +61,10 @@ pub global_writes : (s : Scope) → AreNamed s.names → AreSignaturesInRange (s
     Writes Bound (global_pieces s i g) Bound (Group (Word (codes "global") (global_items s i g.value)) End)
 unfolding global_pieces class
 global_writes s named ranged bare i g small h =
-    break_writes (group_gap_writes 1 (codes "global") _ refl refl
+    break_writes (group_space_writes 1 (codes "global") _ refl refl
     (both_write (declaration_writes (s.names.items row.Global i) i (named.items row.Global i) small)
-    (gap_writes {a = Bound} refl (both_write (global_type_writes s.names named g.value.type h.type)
-    (gap_writes {a = Bound} refl (in_line_writes s named ranged bare 2 g.value.init h.init))))))
+    (one_space_writes {a = Bound} refl (both_write (global_type_writes s.names named g.value.type h.type)
+    (one_space_writes {a = Bound} refl (in_line_writes s named ranged bare 2 g.value.init h.init))))))
 
 -- ---- the items read back
 

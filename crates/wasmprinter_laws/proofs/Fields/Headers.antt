@@ -17,7 +17,7 @@ use Rattle.wasmprinter_spec.specs.Text.Types.{signature}
 use Rattle.wasmprinter_spec.specs.Text.TypeIndices.{type_index}
 use Rattle.wasmprinter_laws.proofs.Tokens.Grown.{onto_assoc}
 use Rattle.wasmprinter_laws.proofs.Tokens.Pieces.{Edge, Free, Bound}
-use Rattle.wasmprinter_laws.proofs.Tokens.Writes.{Writes, WritesNoted, both_write, nothing_writes, gap_writes}
+use Rattle.wasmprinter_laws.proofs.Tokens.Writes.{Writes, WritesNoted, both_write, nothing_writes, one_space_writes}
 use Rattle.wasmprinter_laws.specs.Listed.{AreSignaturesInRange}
 use Rattle.wasmprinter_laws.proofs.Declarations.{id}
 use Rattle.wasmprinter_laws.proofs.Identifiers.{declaration-items, declaration_writes}
@@ -46,7 +46,7 @@ module _ (s : Scope) (named : AreNamed s.names) (ranged : AreSignaturesInRange (
       subst (WritesNoted Free ps b (header_items s space f i type_index rest)) (again more)
       (subst (λ x. WritesNoted Free ps b x (onto (onto (own_id s space i) (use_items s f type_index)) more)) (again rest)
       (both_write (both_write (declaration_writes (s.names.items space i) i (named.items space i) h)
-      (gap_writes {a = Bound} refl (type_use_writes s.names named f type_index (signature_at s.types type_index) refl r (ranged type_index)))) w))
+      (one_space_writes {a = Bound} refl (type_use_writes s.names named f type_index (signature_at s.types type_index) refl r (ranged type_index)))) w))
 
   -- A header without items after it
   pub header_alone_writes : (space : Space) (f : Option ℕ) (i type_index : ℕ) → i < 2 ^ 64 → type_index < 2 ^ 32 →

@@ -22,7 +22,7 @@ use Rattle.wasmprinter_spec.specs.Text.Globals.{global_type}
 use Rattle.wasmprinter_spec.specs.Text.Imports.{field_of, import_field, extern_type, read_import}
 use Rattle.wasmprinter_laws.proofs.Tokens.Grown.{onto-End}
 use Rattle.wasmprinter_laws.proofs.Tokens.Pieces.{Edge, Bound}
-use Rattle.wasmprinter_laws.proofs.Tokens.Writes.{Writes, is_open, both_write, nothing_writes, gap_writes, break_writes, quoted_writes, line_group_gap_writes}
+use Rattle.wasmprinter_laws.proofs.Tokens.Writes.{Writes, is_open, both_write, nothing_writes, one_space_writes, break_writes, quoted_writes, line_group_space_writes}
 use Rattle.wasmprinter_laws.specs.Listed.{AreSignaturesInRange}
 use Rattle.wasmprinter_laws.proofs.Declarations.{id}
 use Rattle.wasmprinter_laws.proofs.Identifiers.{declaration-items, declaration_writes}
@@ -95,20 +95,20 @@ module _ (s : Scope) (named : AreNamed s.names) (ranged : AreSignaturesInRange (
   extern_writes : {a : Edge} (n : ℕ) (t : ExternType) → is_open a ≡ true → n < 2 ^ 64 → IsRangedExtern t →
       Writes a (extern_pieces s n t) Bound (Group (Word (extern_word t) (extern_items s n t)) End)
   unfolding extern_pieces class
-  extern_writes n (FuncExtern i) e small h = line_group_gap_writes (codes "func") _ e refl (header_alone_writes s named ranged Func (Some n) n i small h)
+  extern_writes n (FuncExtern i) e small h = line_group_space_writes (codes "func") _ e refl (header_alone_writes s named ranged Func (Some n) n i small h)
   extern_writes n (TableExtern t) e small h =
-      line_group_gap_writes (codes "table") _ e refl
+      line_group_space_writes (codes "table") _ e refl
       (both_write (declaration_writes (s.names.items row.Table n) n (named.items row.Table n) small)
-      (gap_writes {a = Bound} refl (table_type_writes s.names named t h)))
+      (one_space_writes {a = Bound} refl (table_type_writes s.names named t h)))
   extern_writes n (MemoryExtern t) e small h =
-      line_group_gap_writes (codes "memory") _ e refl
+      line_group_space_writes (codes "memory") _ e refl
       (both_write (declaration_writes (s.names.items row.Memory n) n (named.items row.Memory n) small)
-      (gap_writes {a = Bound} refl (memory_type_writes t h)))
+      (one_space_writes {a = Bound} refl (memory_type_writes t h)))
   extern_writes n (GlobalExtern t) e small h =
-      line_group_gap_writes (codes "global") _ e refl
+      line_group_space_writes (codes "global") _ e refl
       (both_write (declaration_writes (s.names.items row.Global n) n (named.items row.Global n) small)
-      (gap_writes {a = Bound} refl (global_type_writes s.names named t h)))
-  extern_writes n (TagExtern i) e small h = line_group_gap_writes (codes "tag") _ e refl (header_alone_writes s named ranged Tag None n i small h)
+      (one_space_writes {a = Bound} refl (global_type_writes s.names named t h)))
+  extern_writes n (TagExtern i) e small h = line_group_space_writes (codes "tag") _ e refl (header_alone_writes s named ranged Tag None n i small h)
 
   import_writes : (n : ℕ) (i : Placed Import) → n < 2 ^ 64 → IsRangedImport i.value →
       Writes Bound (import_pieces s n i) Bound (Group (Word (codes "import") (import_items s n i.value)) End)
@@ -119,8 +119,8 @@ module _ (s : Scope) (named : AreNamed s.names) (ranged : AreSignaturesInRange (
       let name : scalars (chars i.value.name) ≡ true = scalars-chars i.value.name h.name in
       let written : Writes Bound (import_pieces s n i) Bound
       (Group (Word (codes "import") (String (encode_utf8_all (chars i.value.source)) (String (encode_utf8_all (chars i.value.name)) inner))) End) =
-      break_writes (line_group_gap_writes (codes "import") _ refl refl
-      (quoted_writes source (gap_writes refl (quoted_writes name (gap_writes refl (extern_writes n i.value.type refl small h.type)))))) in
+      break_writes (line_group_space_writes (codes "import") _ refl refl
+      (quoted_writes source (one_space_writes refl (quoted_writes name (one_space_writes refl (extern_writes n i.value.type refl small h.type)))))) in
       rw (encodes-chars i.value.source h.source, encodes-chars i.value.name h.name) at written
 
   pub imports_write : (n : Numbers) (is : List (Placed Import)) → LeaveRoom n (length is) → AllByRecursion (λ i. IsRangedImport i.value) is →

@@ -17,7 +17,7 @@ use Rattle.wasmprinter_spec.specs.Text.Memories.{shared_in_front, page, memory_t
 use Rattle.wasmprinter_laws.proofs.Tokens.Runs.{is_word}
 use Rattle.wasmprinter_laws.proofs.Tokens.Numbers.{natural-hexadecimal, is_word-hexadecimal}
 use Rattle.wasmprinter_laws.proofs.Tokens.Pieces.{Free, Bound}
-use Rattle.wasmprinter_laws.proofs.Tokens.Writes.{Writes, writing, both_write, nothing_writes, gap_writes, break_writes, line_group_gap_writes}
+use Rattle.wasmprinter_laws.proofs.Tokens.Writes.{Writes, writing, both_write, nothing_writes, one_space_writes, break_writes, line_group_space_writes}
 use Rattle.wasmprinter_laws.proofs.Ranged.{IsRangedPage, IsRangedMemory}
 use Rattle.wasmprinter_laws.proofs.Identifiers.{declaration-items, declaration_writes}
 use Rattle.wasmprinter_laws.proofs.Declarations.{id}
@@ -74,8 +74,8 @@ pub memory_writes : (s : Scope) → AreNamed s.names → (i : ℕ) (m : Placed M
     Writes Bound (memory_pieces s i m) Bound (Group (Word (codes "memory") (memory_items s i m.value)) End)
 unfolding memory_pieces class
 memory_writes s named i m h r =
-    break_writes (line_group_gap_writes (codes "memory") _ refl refl
-    (both_write (declaration_writes (s.names.items Memory i) i (named.items Memory i) h) (gap_writes {a = Bound} refl (memory_type_writes m.value r))))
+    break_writes (line_group_space_writes (codes "memory") _ refl refl
+    (both_write (declaration_writes (s.names.items Memory i) i (named.items Memory i) h) (one_space_writes {a = Bound} refl (memory_type_writes m.value r))))
 
 -- ---- the items read back
 

@@ -11,7 +11,7 @@ use Rattle.wasmprinter_spec.specs.Layout.Start.{start_pieces}
 use Rattle.wasmprinter_spec.specs.IndexSpaces.{Context}
 use Rattle.wasmprinter_spec.specs.Text.Start.{read_start}
 use Rattle.wasmprinter_laws.proofs.Tokens.Pieces.{Bound}
-use Rattle.wasmprinter_laws.proofs.Tokens.Writes.{Writes, nothing_writes, break_writes, line_group_gap_writes}
+use Rattle.wasmprinter_laws.proofs.Tokens.Writes.{Writes, nothing_writes, break_writes, line_group_space_writes}
 use Rattle.wasmprinter_laws.proofs.Ranged.{IsRangedStart}
 use Rattle.wasmprinter_laws.proofs.Identifiers.{index_writes}
 use Rattle.wasmprinter_laws.proofs.Fields.Scopes.{own_index, AreScoped, own_index-reads}
@@ -28,7 +28,7 @@ pub start_writes : (s : Scope) → AreNamed s.names → (start : Option (Placed 
 unfolding start_pieces class
 start_writes s named None h = nothing_writes
 start_writes s named (Some i) h =
-    break_writes (line_group_gap_writes (codes "start") _ refl refl (index_writes (s.names.items Func i.value) i.value (named.items Func i.value) (omega (arith, h))))
+    break_writes (line_group_space_writes (codes "start") _ refl refl (index_writes (s.names.items Func i.value) i.value (named.items Func i.value) (omega (arith, h))))
 
 -- The index of the start function is declared.
 abbrev pub IsIndexedStart : Counts → Option (Placed ℕ) → Type 0

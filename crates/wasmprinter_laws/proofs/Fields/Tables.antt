@@ -21,7 +21,7 @@ use Rattle.wasmprinter_spec.specs.Text.Expressions.{expression}
 use Rattle.wasmprinter_spec.specs.Text.Tables.{table_type, init, read_table}
 use Rattle.wasmprinter_laws.proofs.Tokens.Grown.{onto_assoc}
 use Rattle.wasmprinter_laws.proofs.Tokens.Pieces.{Free, Bound}
-use Rattle.wasmprinter_laws.proofs.Tokens.Writes.{Writes, both_write, nothing_writes, gap_writes, break_writes, group_gap_writes}
+use Rattle.wasmprinter_laws.proofs.Tokens.Writes.{Writes, both_write, nothing_writes, one_space_writes, break_writes, group_space_writes}
 use Rattle.wasmprinter_laws.specs.Listed.{AreSignaturesInRange}
 use Rattle.wasmprinter_laws.proofs.Items.{leading_item-reads}
 use Rattle.wasmprinter_laws.proofs.Ranged.{IsRangedTableType, IsRangedInit, IsRangedTable}
@@ -52,21 +52,21 @@ table_items s i t = onto (own_id s row.Table i) (onto (table_type_items s.names 
 pub table_type_writes : (names : Names) → AreNamed names → (t : TableType) → IsRangedTableType t → Writes Free (table_type_pieces names t) Bound (table_type_items names t)
 unfolding table_type_pieces
 table_type_writes names named t h =
-    both_write (wide_writes t.wide) (both_write (limits_write t.limits h.min h.max) (gap_writes refl (ref_writes names named t.element h.element)))
+    both_write (wide_writes t.wide) (both_write (limits_write t.limits h.min h.max) (one_space_writes refl (ref_writes names named t.element h.element)))
 
 module _ (s : Scope) (named : AreNamed s.names) (ranged : AreSignaturesInRange (signature_at s.types)) (bare : IsUncolored s.folding) where
   init_writes : (i : Option (List (Placed Operator))) → IsRangedInit i → Writes Bound (init_pieces s i) Bound (init_items s i)
   unfolding init_pieces
   init_writes None h = nothing_writes
-  init_writes (Some os) h = gap_writes refl (in_line_writes s named ranged bare 2 os h)
+  init_writes (Some os) h = one_space_writes refl (in_line_writes s named ranged bare 2 os h)
 
   pub table_writes : (i : ℕ) (t : Placed (Table (Placed Operator))) → i < 2 ^ 64 → IsRangedTable t.value →
       Writes Bound (table_pieces s i t) Bound (Group (Word (codes "table") (table_items s i t.value)) End)
   unfolding table_pieces class
   table_writes i t small h =
-      break_writes (group_gap_writes 1 (codes "table") _ refl refl
+      break_writes (group_space_writes 1 (codes "table") _ refl refl
       (both_write (declaration_writes (s.names.items row.Table i) i (named.items row.Table i) small)
-      (gap_writes {a = Bound} refl (both_write (table_type_writes s.names named t.value.type h.type) (init_writes t.value.init h.init)))))
+      (one_space_writes {a = Bound} refl (both_write (table_type_writes s.names named t.value.type h.type) (init_writes t.value.init h.init)))))
 
 -- ---- the items read back
 

@@ -13,7 +13,7 @@ use Rattle.wasmprinter_spec.specs.Names.{AreNamed}
 use Rattle.wasmprinter_spec.specs.Layout.Declarations.{Scope}
 use Rattle.wasmprinter_spec.specs.Layout.Tags.{tag_pieces}
 use Rattle.wasmprinter_laws.proofs.Tokens.Pieces.{Bound}
-use Rattle.wasmprinter_laws.proofs.Tokens.Writes.{Writes, break_writes, line_group_gap_writes}
+use Rattle.wasmprinter_laws.proofs.Tokens.Writes.{Writes, break_writes, line_group_space_writes}
 use Rattle.wasmprinter_laws.specs.Listed.{AreSignaturesInRange}
 use Rattle.wasmprinter_laws.proofs.Declarations.{id}
 use Rattle.wasmprinter_laws.proofs.Fields.Scopes.{AreScoped}
@@ -26,7 +26,7 @@ tag_items s i type_index = header_items s Tag None i type_index End
 pub tag_writes : (s : Scope) → AreNamed s.names → AreSignaturesInRange (signature_at s.types) → (i : ℕ) (tag : Placed ℕ) → i < 2 ^ 64 → tag.value < 2 ^ 32 →
     Writes Bound (tag_pieces s i tag) Bound (Group (Word (codes "tag") (tag_items s i tag.value)) End)
 unfolding tag_pieces class
-tag_writes s named ranged i tag h r = break_writes (line_group_gap_writes (codes "tag") _ refl refl (header_alone_writes s named ranged Tag None i tag.value h r))
+tag_writes s named ranged i tag h r = break_writes (line_group_space_writes (codes "tag") _ refl refl (header_alone_writes s named ranged Tag None i tag.value h r))
 
 -- The identifier of a tag is read.
 pub identifier_in_front-tag : (s : Scope) (i type_index : ℕ) → (identifier_in_front (tag_items s i type_index)).0 ≡ id (s.names.items Tag i)

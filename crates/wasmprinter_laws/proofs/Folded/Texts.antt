@@ -6,7 +6,7 @@ use Rattle.std.specs.Option.{is_none}
 use Rattle.wasmprinter_spec.specs.Grammar.{Placed}
 use Rattle.wasmprinter_spec.specs.Customs.Hints.{Hint}
 use Rattle.wasmprinter_spec.specs.Options.{Options, IsBlank}
-use Rattle.wasmprinter_spec.specs.Piece.{Piece, Word, OpenPlain, Shut, LineComment, PlainLineComment, HintAnnotation, text}
+use Rattle.wasmprinter_spec.specs.Piece.{Piece, Word, OpenPlain, CloseParen, LineComment, PlainLineComment, HintAnnotation, text}
 use Rattle.wasmprinter_spec.specs.Layout.Operators.{Form, before_word}
 use Rattle.wasmprinter_spec.specs.Layout.Folded.{head_place, head_text, head_hint, has_line_comment, comment_end, node_hint, node_pieces}
 use Rattle.wasmprinter_spec.specs.Folding.Tree.{Head, Of, ThenCase, ElseCase, Nodes, Nil, Snoc, is_nil}
@@ -39,7 +39,7 @@ whole_pieces o form first nesting (Snoc before head results held) =
     whole_pieces o form first nesting before
     ++ (whole_hint form leads place nesting (head_hint head)
     ++ (before_word form (leads && is_none (head_hint head)) place nesting
-    ++ (opened (head_pieces head) ++ (comment_end (is_nil held) s place nesting ++ (whole_pieces o form false (nesting + 1) held ++ (Shut ∷ []))))))
+    ++ (opened (head_pieces head) ++ (comment_end (is_nil held) s place nesting ++ (whole_pieces o form false (nesting + 1) held ++ (CloseParen ∷ []))))))
 
 -- ---- the pieces are printed as the nodes are
 
@@ -74,14 +74,14 @@ module _ (o : Options) where
         let end : List Piece = comment_end (is_nil held) (head_text o h) place nesting in
         let word : List Piece = before_word form (leads && is_none (head_hint h)) place nesting in
         let whole_inside : List Piece = whole_pieces o form false (nesting + 1) held in
-        let whole_group : List Piece = opened (head_pieces h) ++ (end ++ (whole_inside ++ (Shut ∷ []))) in
+        let whole_group : List Piece = opened (head_pieces h) ++ (end ++ (whole_inside ++ (CloseParen ∷ []))) in
         let hint_whole : List Piece = whole_hint form leads place nesting (head_hint h) in
         let whole_before : List Piece = whole_pieces o form first nesting b in
-        let inner : Respelled ((end ++ node_pieces o false form false (nesting + 1) held) ++ (Shut ∷ [])) (end ++ (whole_inside ++ (Shut ∷ []))) =
+        let inner : Respelled ((end ++ node_pieces o false form false (nesting + 1) held) ++ (CloseParen ∷ [])) (end ++ (whole_inside ++ (CloseParen ∷ []))) =
         then_spelled
         (both_spelled (both_spelled (same_spelled {ps = end}) (nodes_spelled form false (nesting + 1) held inside))
-        (same_spelled {ps = Shut ∷ []}))
-        (equal_spelled (append_assoc end whole_inside (Shut ∷ []))) in
+        (same_spelled {ps = CloseParen ∷ []}))
+        (equal_spelled (append_assoc end whole_inside (CloseParen ∷ []))) in
         then_spelled
         (both_spelled
         (both_spelled (both_spelled (nodes_spelled form first nesting b before) (hint_spelled form leads place nesting (head_hint h)))
@@ -100,22 +100,22 @@ no_comment_after [] t h = h
 no_comment_after (a ∷ s) t h = no_comment_after s t (comment_after a (s ++ t) h)
 
 -- Reports whether a parenthesis may close there.
-abbrev pub may_shut : Edge → Bool
-may_shut Ended = false
-may_shut _ = true
+abbrev pub allows_close_paren : Edge → Bool
+allows_close_paren Ended = false
+allows_close_paren _ = true
 
-leaves_shut : (o : Options) (p : Piece) (rest : List ℕ) → has_line_comment (text o p ++ rest) ≡ false → may_shut (leaves p) ≡ true
-leaves_shut o (LineComment s) rest h = absurd (true≢false h)
-leaves_shut o (PlainLineComment s) rest h = absurd (true≢false h)
-leaves_shut o _ rest h = refl
+leaves_close_paren : (o : Options) (p : Piece) (rest : List ℕ) → has_line_comment (text o p ++ rest) ≡ false → allows_close_paren (leaves p) ≡ true
+leaves_close_paren o (LineComment s) rest h = absurd (true≢false h)
+leaves_close_paren o (PlainLineComment s) rest h = absurd (true≢false h)
+leaves_close_paren o _ rest h = refl
 
-pub shut_joins : (o : Options) (a : Edge) (ps qs : List Piece) → may_shut a ≡ true → has_line_comment (all_text o ps) ≡ false → pieces_follow a ps ≡ true →
-    pieces_follow Free qs ≡ true → pieces_follow a (ps ++ Shut ∷ qs) ≡ true
-shut_joins o Free [] qs m n j g = g
-shut_joins o Bound [] qs m n j g = g
-shut_joins o Opened [] qs m n j g = g
-shut_joins o Ended [] qs m n j g = absurd (true≢false (sym m))
-shut_joins o a (p ∷ ps) qs m n j g =
+pub close_paren_joins : (o : Options) (a : Edge) (ps qs : List Piece) → allows_close_paren a ≡ true → has_line_comment (all_text o ps) ≡ false → pieces_follow a ps ≡ true →
+    pieces_follow Free qs ≡ true → pieces_follow a (ps ++ CloseParen ∷ qs) ≡ true
+close_paren_joins o Free [] qs m n j g = g
+close_paren_joins o Bound [] qs m n j g = g
+close_paren_joins o Opened [] qs m n j g = g
+close_paren_joins o Ended [] qs m n j g = absurd (true≢false (sym m))
+close_paren_joins o a (p ∷ ps) qs m n j g =
     let parts : (may_follow a p ≡ true) × (pieces_follow (leaves p) ps ≡ true) = and_parts (may_follow a p) (pieces_follow (leaves p) ps) j in
-    and_from (may_follow a p) (pieces_follow (leaves p) (ps ++ Shut ∷ qs)) parts.0
-    (shut_joins o (leaves p) ps qs (leaves_shut o p (all_text o ps) n) (no_comment_after (text o p) (all_text o ps) n) parts.1 g)
+    and_from (may_follow a p) (pieces_follow (leaves p) (ps ++ CloseParen ∷ qs)) parts.0
+    (close_paren_joins o (leaves p) ps qs (leaves_close_paren o p (all_text o ps) n) (no_comment_after (text o p) (all_text o ps) n) parts.1 g)

@@ -4,13 +4,13 @@ use Rattle.std.proofs.lemmas.Bool.{and_parts}
 use Rattle.wasmprinter_spec.specs.Character.{class}
 use Rattle.std.specs.Option.{is_none}
 use Rattle.wasmprinter_spec.specs.Grammar.{Placed}
-use Rattle.wasmprinter_spec.specs.Token.{left, right, word}
+use Rattle.wasmprinter_spec.specs.Token.{open_paren, close_paren, word}
 use Rattle.wasmprinter_spec.specs.Forest.{Forest, End, Word, Group, onto}
 use Rattle.wasmprinter_spec.specs.Table.{word_of_row}
 use Rattle.wasmprinter_spec.specs.Customs.Hints.{Hint}
 use Rattle.wasmprinter_spec.specs.Options.{Options}
 use Rattle.wasmprinter_spec.specs.Piece as piece
-use Rattle.wasmprinter_spec.specs.Piece.{Piece, Break, OpenPlain, Shut, HintAnnotation}
+use Rattle.wasmprinter_spec.specs.Piece.{Piece, Break, OpenPlain, CloseParen, HintAnnotation}
 use Rattle.wasmprinter_spec.specs.Layout.Operators.{Form, OverLines, InLine, before_word}
 use Rattle.wasmprinter_spec.specs.Layout.Folded.{head_place, head_text, head_hint, has_line_comment, comment_end}
 use Rattle.wasmprinter_spec.specs.Folding.Code.{Item}
@@ -26,7 +26,7 @@ use Rattle.wasmprinter_laws.proofs.Operators.Forms.{after, may_end, ahead, befor
 use Rattle.wasmprinter_laws.proofs.Folded.Items.{word as item_word, rest, IsPrinted}
 use Rattle.wasmprinter_laws.proofs.Folded.Rows.{IsRow, no_nodes, a_plain, a_block, an_if, an_if_else}
 use Rattle.wasmprinter_laws.proofs.Folded.Reads.{head_items, row_items}
-use Rattle.wasmprinter_laws.proofs.Folded.Texts.{opened, head_pieces, whole_hint, whole_pieces, no_comment_after, shut_joins}
+use Rattle.wasmprinter_laws.proofs.Folded.Texts.{opened, head_pieces, whole_hint, whole_pieces, no_comment_after, close_paren_joins}
 
 -- ---- one group
 
@@ -36,20 +36,20 @@ loosened_list (q ∷ qs) h = (and_parts (may_follow Bound q) (pieces_follow (lea
 
 -- A group of pieces that may be followed by a parenthesis
 group_closes : {f k : Forest} (v : List ℕ) (ps : List Piece) → is_word v ≡ true → WritesNoted Bound ps Bound f k →
-    WritesNoted Free (OpenPlain v ∷ (ps ++ (Shut ∷ []))) Bound (Group (Word v f) End) (Group (Word v k) End)
+    WritesNoted Free (OpenPlain v ∷ (ps ++ (CloseParen ∷ []))) Bound (Group (Word v f) End) (Group (Word v k) End)
 group_closes v ps h w = plain_group_then refl h w nothing_writes
 
 -- A group of pieces whose text contains no line comment
 text_closes : {f : Forest} {c : Edge} (o : Options) (v : List ℕ) (ps : List Piece) → is_word v ≡ true → has_line_comment (all_text o ps) ≡ false → Writes Bound ps c f →
-    Writes Free (OpenPlain v ∷ (ps ++ (Shut ∷ []))) Bound (Group (Word v f) End)
+    Writes Free (OpenPlain v ∷ (ps ++ (CloseParen ∷ []))) Bound (Group (Word v f) End)
 text_closes o v ps h n w = record {
-  printed = OpenPlain v ∷ (w.printed ++ (Shut ∷ []));
+  printed = OpenPlain v ∷ (w.printed ++ (CloseParen ∷ []));
   spelled = first_spelled (OpenPlain v) (both_spelled w.spelled same_spelled);
-  joins = λ qs g. subst (λ t. pieces_follow Bound t ≡ true) (sym (append_assoc w.printed (Shut ∷ []) qs))
-      (shut_joins o Bound w.printed qs refl (ap has_line_comment (sym (w.spelled.text o)) ∙ n) (writes_joined w) (loosened_list qs g));
-  are = (h, ArePieces-append w.printed (Shut ∷ []) w.are (tt, tt));
+  joins = λ qs g. subst (λ t. pieces_follow Bound t ≡ true) (sym (append_assoc w.printed (CloseParen ∷ []) qs))
+      (close_paren_joins o Bound w.printed qs refl (ap has_line_comment (sym (w.spelled.text o)) ∙ n) (writes_joined w) (loosened_list qs g));
+  are = (h, ArePieces-append w.printed (CloseParen ∷ []) w.are (tt, tt));
   whole = Group (Word v w.whole) End;
-  tokens = ap (λ t. left ∷ (word v ∷ t)) (all_tokens-append w.printed (Shut ∷ []) ∙ ap (λ t. t ++ right ∷ []) w.tokens);
+  tokens = ap (λ t. open_paren ∷ (word v ∷ t)) (all_tokens-append w.printed (CloseParen ∷ []) ∙ ap (λ t. t ++ close_paren ∷ []) w.tokens);
   noted = a_group (a_word w.noted) no_items;
   without = ap (λ g. Group (Word v g) End) w.without;
 }
@@ -57,16 +57,16 @@ text_closes o v ps h n w = record {
 module _ (o : Options) (form : Form) where
   -- A group without inner nodes: if the text may contain a line comment, the line ends before the parenthesis.
   bare_group : {f : Forest} (v : List ℕ) (ps : List Piece) (s : List ℕ) (place nesting : ℕ) → is_word v ≡ true → (has_line_comment s ≡ false → has_line_comment (all_text o ps) ≡ false) →
-      Writes Bound ps (after form) f → Writes Free (OpenPlain v ∷ (ps ++ (comment_end true s place nesting ++ (Shut ∷ [])))) Bound (Group (Word v (onto f End)) End)
+      Writes Bound ps (after form) f → Writes Free (OpenPlain v ∷ (ps ++ (comment_end true s place nesting ++ (CloseParen ∷ [])))) Bound (Group (Word v (onto f End)) End)
   bare_group {f = f} v ps s place nesting h n w = by (has_line_comment s) refl
     where
       by : (t : Bool) → has_line_comment s ≡ t →
-          Writes Free (OpenPlain v ∷ (ps ++ (cond t (Break (Some place) nesting ∷ []) [] ++ (Shut ∷ [])))) Bound (Group (Word v (onto f End)) End)
+          Writes Free (OpenPlain v ∷ (ps ++ (cond t (Break (Some place) nesting ∷ []) [] ++ (CloseParen ∷ [])))) Bound (Group (Word v (onto f End)) End)
       by true e =
           let g : Forest = Group (Word v (onto f End)) End in
-          subst (λ t. Writes Free (OpenPlain v ∷ t) Bound g) (append_assoc ps (Break (Some place) nesting ∷ []) (Shut ∷ []))
+          subst (λ t. Writes Free (OpenPlain v ∷ t) Bound g) (append_assoc ps (Break (Some place) nesting ∷ []) (CloseParen ∷ []))
           (group_closes v (ps ++ Break (Some place) nesting ∷ []) h (both_write w (break_writes free_writes)))
-      by false e = subst (λ g. Writes Free (OpenPlain v ∷ (ps ++ (Shut ∷ []))) Bound (Group (Word v g) End)) (sym (onto-End f)) (text_closes o v ps h (n e) w)
+      by false e = subst (λ g. Writes Free (OpenPlain v ∷ (ps ++ (CloseParen ∷ []))) Bound (Group (Word v g) End)) (sym (onto-End f)) (text_closes o v ps h (n e) w)
 
   -- The pieces of a row write its groups, if it is not empty.
   abbrev pub RowWrites : Bool → ℕ → Nodes → Type 0
@@ -75,7 +75,7 @@ module _ (o : Options) (form : Form) where
       WritesNoted (ahead form first) (whole_pieces o form first nesting (Snoc b h r held)) Bound (row_items false (Snoc b h r held)) (row_items true (Snoc b h r held))
 
   abbrev rest_of_group : List ℕ → ℕ → ℕ → Nodes → List Piece
-  rest_of_group s place nesting held = comment_end (is_nil held) s place nesting ++ (whole_pieces o form false (nesting + 1) held ++ (Shut ∷ []))
+  rest_of_group s place nesting held = comment_end (is_nil held) s place nesting ++ (whole_pieces o form false (nesting + 1) held ++ (CloseParen ∷ []))
 
   -- A group with its inner nodes
   group_by : {f : Forest} (v : List ℕ) (ps : List Piece) (s : List ℕ) (place nesting : ℕ) (held : Nodes) → is_word v ≡ true →
@@ -87,7 +87,7 @@ module _ (o : Options) (form : Form) where
       let held : Nodes = Snoc b g r inner in
       let qs : List Piece = whole_pieces o form false (nesting + 1) held in
       subst (λ t. WritesNoted Free (OpenPlain v ∷ t) Bound (Group (Word v (onto f (row_items false held))) End) (Group (Word v (onto f (row_items true held))) End))
-      (append_assoc ps qs (Shut ∷ [])) (group_closes v (ps ++ qs) h (both_write w (goes_on form k)))
+      (append_assoc ps qs (CloseParen ∷ [])) (group_closes v (ps ++ qs) h (both_write w (goes_on form k)))
 
   -- The pieces of the group of a node
   abbrev group_pieces : Head → ℕ → Nodes → List Piece

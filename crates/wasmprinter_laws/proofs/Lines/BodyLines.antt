@@ -17,7 +17,7 @@ use Rattle.wasmprinter_spec.specs.Placed.{LocalEntry, PlacedFunction}
 use Rattle.wasmprinter_spec.specs.Module.{locals_of}
 use Rattle.wasmprinter_spec.specs.Options.{Options}
 use Rattle.wasmprinter_spec.specs.Piece.{Piece}
-use Rattle.wasmprinter_spec.specs.Layout.Groups.{has_break, close, group_gap_at}
+use Rattle.wasmprinter_spec.specs.Layout.Groups.{has_break, close, group_space_at}
 use Rattle.wasmprinter_spec.specs.Layout.Variables.{Variables, Alone, Together, with_variable, variable_groups, variables_pieces, groups_pieces}
 use Rattle.wasmprinter_spec.specs.Layout.Declarations.{Scope, scope_of_function, Folding}
 use Rattle.wasmprinter_spec.specs.Layout.Operators.{OverLines, Setting}
@@ -114,7 +114,7 @@ inner_begins s flat hs f =
 
 group_begins : (skeleton offsets : Bool) (s : Scope) → s.folding ≡ None → (hs : List (Placed Hint)) (f : PlacedFunction) → skeleton ≡ false →
     BeginsOwn hs f (Some f.body.place ∷ flat_map starts (function_group skeleton offsets s hs f))
-unfolding function_group group_gap_at
+unfolding function_group group_space_at
 group_begins true offsets s flat hs f e = absurd cc
 group_begins false offsets s flat hs f e =
     let locals : List (Option ℕ) = some_all (locals_places f.body.value.locals) in

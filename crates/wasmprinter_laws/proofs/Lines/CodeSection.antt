@@ -8,12 +8,12 @@ use Rattle.wasmprinter_spec.specs.Grammar.{Placed, ◌>>=◌, bind_some, some_is
 use Rattle.wasmprinter_spec.specs.Repeated.{some_or, Entries}
 use Rattle.wasmprinter_spec.specs.Placed.{Body, Custom, CustomEntry, PlacedFunction, PlacedModule}
 use Rattle.wasmprinter_spec.specs.Kinds.{Kind}
-use Rattle.wasmprinter_spec.specs.Sections.{CustomSection, TypeSection, ImportSection, TableSection, MemorySection, TagSection, GlobalSection, ExportSection, StartSection, ElementSection, CodeSection, DataSection, Section, holds, section, are_above, content_of, content_in, place_after, customs_after}
-use Rattle.wasmprinter_spec.specs.Customs.{custom_role_of}
+use Rattle.wasmprinter_spec.specs.Sections.{CustomSection, TypeSection, ImportSection, TableSection, MemorySection, TagSection, GlobalSection, ExportSection, StartSection, ElementSection, CodeSection, DataSection, Section, holds, section, are_above, content_of, content_in, kind_after, customs_after}
+use Rattle.wasmprinter_spec.specs.Customs.{custom_treatment_of}
 use Rattle.wasmprinter_spec.specs.Customs.Hints.{hints_given, hints_by, last_named}
 use Rattle.wasmprinter_spec.specs.Binary.{type_indices_in, bodies_in, data_count_in, datas_in, customs_in, counts_data, function_pairs, module_from, module_of_sections}
 use Rattle.wasmprinter_spec.specs.Lines.{places_of_hints}
-use Rattle.wasmprinter_spec.specs.Apart.{Rises, IsOutside, role_places, custom_places, body_places, IsApart}
+use Rattle.wasmprinter_spec.specs.Apart.{Rises, IsOutside, treatment_places, custom_places, body_places, IsApart}
 use Rattle.wasmprinter_spec.specs.PlaceLaws.{BodiesLieApart}
 use Rattle.wasmprinter_spec.proofs.Ordered.{picks, held_each}
 use Rattle.wasmprinter_spec.proofs.Each.{all_both, all_parts}
@@ -101,20 +101,20 @@ module _ (P : ℕ → Type 0) where
   customs_each last [] all = tt
   customs_each last (s ∷ ss) all =
       elim (picks CustomSection s) [
-        | inl other ↦ rw other (customs_each (place_after last s) ss all.1)
-        | inr own ↦ rw (ap (content_of CustomSection) own.1) (subst (λ (x : Section). AllByRecursion P (other_places x)) own.1 all.0, customs_each (place_after last s) ss all.1)
+        | inl other ↦ rw other (customs_each (kind_after last s) ss all.1)
+        | inr own ↦ rw (ap (content_of CustomSection) own.1) (subst (λ (x : Section). AllByRecursion P (other_places x)) own.1 all.0, customs_each (kind_after last s) ss all.1)
       ]
 
   -- The places of a custom section have the property.
   record GivenHave (c : Custom) (place : ℕ) : Type 0 where
     section : P place
     content : P c.bytes.place
-    role : AllByRecursion P (role_places (custom_role_of c))
+    role : AllByRecursion P (treatment_places (custom_treatment_of c))
     hints : AllByRecursion P (places_of_hints (hints_given c.bytes))
 
   given_parts : (c : Custom) (place : ℕ) → AllByRecursion P (given_places (record { place = place; value = c })) → GivenHave c place
   given_parts c place (section, (content, others)) =
-      let parts = all_parts P (role_places (custom_role_of c)) (places_of_hints (hints_given c.bytes)) others in
+      let parts = all_parts P (treatment_places (custom_treatment_of c)) (places_of_hints (hints_given c.bytes)) others in
       record { section = section; content = content; role = parts.0; hints = parts.1 }
 
   customs_have : (cs : List CustomEntry) → HaveGiven cs → AllByRecursion P (flat_map custom_places cs)

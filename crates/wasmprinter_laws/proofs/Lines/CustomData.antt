@@ -9,14 +9,14 @@ use Rattle.wasmprinter_spec.specs.Grammar.{Input, input, Grammar, some_is, Place
 use Rattle.wasmprinter_spec.specs.Name.{u32, vec, name}
 use Rattle.wasmprinter_spec.specs.Lenient.{repeat}
 use Rattle.wasmprinter_spec.specs.Placed.{Custom}
-use Rattle.wasmprinter_spec.specs.Customs.{CustomRole, Silent, Listed, Raw, name_section, hint_section, producers_section, dylink_section, producers_role, dylink_role, custom_role_of}
+use Rattle.wasmprinter_spec.specs.Customs.{CustomTreatment, Silent, ProducersFields, Raw, name_section, hint_section, producers_section, dylink_section, producers_treatment, dylink_treatment, custom_treatment_of}
 use Rattle.wasmprinter_spec.specs.Customs.Producers as p
-use Rattle.wasmprinter_spec.specs.Customs.Producers.{Field, are_runs}
+use Rattle.wasmprinter_spec.specs.Customs.Producers.{Field, have_id_names}
 use Rattle.wasmprinter_spec.specs.Customs.Dylink.{Subsection, one_subsection, subsections, judgement_of, judgement_by, first_other}
 use Rattle.wasmprinter_spec.specs.Customs.Hints as h
 use Rattle.wasmprinter_spec.specs.Customs.Hints.{FunctionHints, hint, most_hinted_functions, most_hints, at_most, function_hints, or_none, hints_given}
 use Rattle.wasmprinter_spec.specs.Lines.{places, places_of_hints}
-use Rattle.wasmprinter_spec.specs.Apart.{role_places}
+use Rattle.wasmprinter_spec.specs.Apart.{treatment_places}
 use Rattle.wasmprinter_laws.proofs.Lines.Order.{inside, Inside, inside_both, inside_wider}
 use Rattle.wasmprinter_laws.proofs.Lines.Lies.{Lies, Lies-any, Lies-after, Lies-less, Lies-mapped, Lies-map_value, Lies-vec}
 
@@ -109,28 +109,28 @@ hints_inside_of p text (Some es) e =
 pub hints_inside : (d : Placed (List ℕ)) → Inside d.place (places_of_hints (hints_given d)) (d.place + length d.value)
 hints_inside d = hints_inside_of d.place d.value (h.hint_section.parse (input d.place d.value)) refl
 
--- ---- by the role of the section
+-- ---- by the treatment of the section
 
 module _ (a e : ℕ) (le : a ≤ e) where
-  abbrev LiesAs : CustomRole → Type 0
-  LiesAs r = Inside a (role_places r) e
+  abbrev LiesAs : CustomTreatment → Type 0
+  LiesAs r = Inside a (treatment_places r) e
 
-  if_lies : (b : Bool) (r s : CustomRole) → LiesAs r → LiesAs s → LiesAs (if b then r else s)
+  if_lies : (b : Bool) (r s : CustomTreatment) → LiesAs r → LiesAs s → LiesAs (if b then r else s)
   if_lies true r s h k = h
   if_lies false r s h k = k
 
-  producers_lie : (r : Option (List Field)) → ((fs : List Field) → r ≡ Some fs → Inside a (flat_map (λ f. places f.values) fs) e) → LiesAs (producers_role r)
+  producers_lie : (r : Option (List Field)) → ((fs : List Field) → r ≡ Some fs → Inside a (flat_map (λ f. places f.values) fs) e) → LiesAs (producers_treatment r)
   producers_lie None h = le
-  producers_lie (Some fs) h = if_lies (are_runs fs) (Listed fs) Raw (h fs refl) le
+  producers_lie (Some fs) h = if_lies (have_id_names fs) (ProducersFields fs) Raw (h fs refl) le
 
-  dylink_lie : (ss : List Subsection) (o : Option ℕ) (end : Option Input) → Inside a (places ss) e → LiesAs (dylink_role (judgement_by ss o end))
+  dylink_lie : (ss : List Subsection) (o : Option ℕ) (end : Option Input) → Inside a (places ss) e → LiesAs (dylink_treatment (judgement_by ss o end))
   dylink_lie ss (Some id) end h = le
   dylink_lie ss None (Some after) h = h
   dylink_lie ss None None h = le
 
 -- The places that are read for the lines of a custom section are within its data.
-pub role_inside : (c : Custom) → Inside c.bytes.place (role_places (custom_role_of c)) (c.bytes.place + length c.bytes.value)
-role_inside c =
+pub treatment_inside : (c : Custom) → Inside c.bytes.place (treatment_places (custom_treatment_of c)) (c.bytes.place + length c.bytes.value)
+treatment_inside c =
     let a : ℕ = c.bytes.place in
     let e : ℕ = c.bytes.place + length c.bytes.value in
     let at : Input = input c.bytes.place c.bytes.value in
@@ -140,5 +140,5 @@ role_inside c =
     let linked : Inside a (places read.0) e = repeats_inside (length c.bytes.value) a e at read.0 read.1 (omega arith) (omega arith) ((subsections (length c.bytes.value)).sound at) in
     if_lies a e le (bytes_eq c.name name_section) Silent _ le
     (if_lies a e le (bytes_eq c.name hint_section) Silent _ le
-    (if_lies a e le (bytes_eq c.name producers_section) (producers_role (p.producers.parse at)) _ (producers_lie a e le (p.producers.parse at) listed)
-    (if_lies a e le (bytes_eq c.name dylink_section) (dylink_role (judgement_of at)) Raw (dylink_lie a e le read.0 (first_other read.0) read.1 linked) le)))
+    (if_lies a e le (bytes_eq c.name producers_section) (producers_treatment (p.producers.parse at)) _ (producers_lie a e le (p.producers.parse at) listed)
+    (if_lies a e le (bytes_eq c.name dylink_section) (dylink_treatment (judgement_of at)) Raw (dylink_lie a e le read.0 (first_other read.0) read.1 linked) le)))

@@ -5,15 +5,15 @@ use Rattle.std.specs.List.{AllByRecursion, flat_map}
 use Rattle.wasmprinter_spec.specs.Grammar.{Placed}
 use Rattle.wasmprinter_spec.specs.Kinds.{Kind}
 use Rattle.wasmprinter_spec.specs.Placed.{Custom, CustomEntry}
-use Rattle.wasmprinter_spec.specs.Customs.{CustomRole, Silent, Listed, Linked, Refused, Raw, Malformed, custom_role_of}
+use Rattle.wasmprinter_spec.specs.Customs.{CustomTreatment, Silent, ProducersFields, DylinkSubsections, Refused, Raw, Malformed, custom_treatment_of}
 use Rattle.wasmprinter_spec.specs.Customs.Producers.{Value, Field}
 use Rattle.wasmprinter_spec.specs.Customs.Dylink.{MemInfo, ExportInfo, ImportInfo, SubsectionContent, Sizes, Needed, Exports, Imports, Paths, Other, Subsection}
 use Rattle.wasmprinter_spec.specs.Options.{Answers}
 use Rattle.wasmprinter_spec.specs.Piece.{Piece, Claimed}
 use Rattle.wasmprinter_spec.specs.Layout.Groups.{close, has_break}
-use Rattle.wasmprinter_spec.specs.Layout.Customs.{place_pieces, raw_pieces, malformed_pieces, note, gap_quoted_list, values_pieces, fields_pieces, has_flag, flag_words, flags_by, flags_pieces, sizes_group, sizes_pieces, names_pieces, exports_pieces, import_infos_pieces, content_pieces, subsections_pieces, Part, Shown, Stops, role_part, custom_part, same_place, parts_at}
+use Rattle.wasmprinter_spec.specs.Layout.Customs.{after_pieces, raw_pieces, malformed_pieces, note, space_quoted_list, values_pieces, fields_pieces, has_flag, flag_words, flags_by, flags_pieces, sizes_group, sizes_pieces, names_pieces, exports_pieces, import_infos_pieces, content_pieces, subsections_pieces, Part, Shown, Stops, treatment_part, custom_part, same_after, parts_at}
 use Rattle.wasmprinter_spec.specs.Lines.{places}
-use Rattle.wasmprinter_spec.specs.Apart.{IsOutside, role_places, custom_places}
+use Rattle.wasmprinter_spec.specs.Apart.{IsOutside, treatment_places, custom_places}
 use Rattle.wasmprinter_laws.proofs.Lines.Indexes.{AreElsewhere}
 use Rattle.wasmprinter_spec.proofs.Each.{all_parts}
 use Rattle.wasmprinter_spec.proofs.OneLine.{starts, IsOneLine, nothing_stays, both_stay, then_stay, alone_stays, cond_stays}
@@ -21,13 +21,13 @@ use Rattle.wasmprinter_laws.proofs.Lines.FieldLines.{elsewhere_both, pieces_else
 
 -- ---- pieces that begin no line
 
-pub place_stays : (k : Option Kind) → IsOneLine (place_pieces k)
-unfolding place_pieces
-place_stays None = then_stay refl (then_stay refl (then_stay refl (alone_stays refl)))
-place_stays (Some kind) = then_stay refl (then_stay refl (then_stay refl (alone_stays refl)))
+pub after_pieces_stay : (k : Option Kind) → IsOneLine (after_pieces k)
+unfolding after_pieces
+after_pieces_stay None = then_stay refl (then_stay refl (then_stay refl (alone_stays refl)))
+after_pieces_stay (Some kind) = then_stay refl (then_stay refl (then_stay refl (alone_stays refl)))
 
-pub quoted_list_stays : (ss : List (List ℕ)) → IsOneLine (gap_quoted_list ss)
-unfolding gap_quoted_list
+pub quoted_list_stays : (ss : List (List ℕ)) → IsOneLine (space_quoted_list ss)
+unfolding space_quoted_list
 quoted_list_stays [] = nothing_stays
 quoted_list_stays (s ∷ ss) = then_stay refl (then_stay refl (quoted_list_stays ss))
 
@@ -62,7 +62,7 @@ module _ (low high : ℕ) where
   raw_elsewhere : (skeleton : Bool) (c : CustomEntry) → IsOutside low high c.section.place → Elsewhere (raw_pieces skeleton c)
   unfolding raw_pieces
   raw_elsewhere skeleton c h =
-      (h, stay_elsewhere low high (both_stay (place_stays c.after) (then_stay refl (both_stay (bytes_stay skeleton c.section.value.bytes.value) (alone_stays refl)))))
+      (h, stay_elsewhere low high (both_stay (after_pieces_stay c.after) (then_stay refl (both_stay (bytes_stay skeleton c.section.value.bytes.value) (alone_stays refl)))))
 
   faulted_elsewhere : (skeleton : Bool) (c : CustomEntry) → IsOutside low high c.section.value.bytes.place → IsOutside low high c.section.place → Elsewhere (malformed_pieces skeleton c)
   unfolding malformed_pieces
@@ -122,20 +122,20 @@ module _ (low high : ℕ) where
 
   -- ---- single sections
 
-  role_elsewhere : (skeleton : Bool) (name : List ℕ) (place : ℕ) (bytes : List ℕ) (answer : Bool) (c : CustomEntry) (r : CustomRole) → IsOutside low high c.section.place → IsOutside low high c.section.value.bytes.place →
-      AllByRecursion (IsOutside low high) (role_places r) → AreElsewhere low high (part_starts (role_part skeleton (Claimed name place bytes answer) c r))
-  role_elsewhere skeleton name place bytes answer c Silent h k l = tt
-  role_elsewhere skeleton name place bytes answer c (Listed fields) h k l = (h, note_elsewhere (codes "producers") (fields_pieces fields) (fields_elsewhere fields l))
-  role_elsewhere skeleton name place bytes answer c (Linked ss) h k l = (h, note_elsewhere (codes "dylink.0") (subsections_pieces ss) (subsections_elsewhere ss l))
-  role_elsewhere skeleton name place bytes answer c (Refused id) h k l = tt
-  role_elsewhere skeleton name place bytes answer c Raw h k l = raw_elsewhere skeleton c h
-  role_elsewhere skeleton name place bytes answer c Malformed h k l = faulted_elsewhere skeleton c k h
+  treatment_elsewhere : (skeleton : Bool) (name : List ℕ) (place : ℕ) (bytes : List ℕ) (answer : Bool) (c : CustomEntry) (r : CustomTreatment) → IsOutside low high c.section.place → IsOutside low high c.section.value.bytes.place →
+      AllByRecursion (IsOutside low high) (treatment_places r) → AreElsewhere low high (part_starts (treatment_part skeleton (Claimed name place bytes answer) c r))
+  treatment_elsewhere skeleton name place bytes answer c Silent h k l = tt
+  treatment_elsewhere skeleton name place bytes answer c (ProducersFields fields) h k l = (h, note_elsewhere (codes "producers") (fields_pieces fields) (fields_elsewhere fields l))
+  treatment_elsewhere skeleton name place bytes answer c (DylinkSubsections ss) h k l = (h, note_elsewhere (codes "dylink.0") (subsections_pieces ss) (subsections_elsewhere ss l))
+  treatment_elsewhere skeleton name place bytes answer c (Refused id) h k l = tt
+  treatment_elsewhere skeleton name place bytes answer c Raw h k l = raw_elsewhere skeleton c h
+  treatment_elsewhere skeleton name place bytes answer c Malformed h k l = faulted_elsewhere skeleton c k h
 
   custom_elsewhere : (skeleton answer : Bool) (c : CustomEntry) → AllByRecursion (IsOutside low high) (custom_places c) → AreElsewhere low high (part_starts (custom_part skeleton answer c))
   custom_elsewhere skeleton true c h = tt
   custom_elsewhere skeleton false c (section, (content, others)) =
       let s : Custom = c.section.value in
-      role_elsewhere skeleton s.name s.bytes.place s.bytes.value false c (custom_role_of s) section content others
+      treatment_elsewhere skeleton s.name s.bytes.place s.bytes.value false c (custom_treatment_of s) section content others
 
   if_elsewhere : (b : Bool) (part : Part) (parts : List Part) → AreElsewhere low high (part_starts part) → AreElsewhere low high (part_lines parts) →
       AreElsewhere low high (part_lines (if b then part ∷ parts else parts))
@@ -147,5 +147,5 @@ module _ (low high : ℕ) where
   customs_elsewhere skeleton answers place n [] h = tt
   customs_elsewhere skeleton answers place n (c ∷ cs) h =
       let own = all_parts (IsOutside low high) (custom_places c) (flat_map custom_places cs) h in
-      if_elsewhere (same_place c.after place) (custom_part skeleton (answers n) c) (parts_at skeleton answers place (n + 1) cs)
+      if_elsewhere (same_after c.after place) (custom_part skeleton (answers n) c) (parts_at skeleton answers place (n + 1) cs)
       (custom_elsewhere skeleton (answers n) c own.0) (customs_elsewhere skeleton answers place (n + 1) cs own.1)

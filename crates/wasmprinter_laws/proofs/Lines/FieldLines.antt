@@ -31,7 +31,7 @@ use Rattle.wasmprinter_spec.specs.Lines.{places}
 use Rattle.wasmprinter_spec.specs.Apart.{IsOutside, member_places, group_places, start_places}
 use Rattle.wasmprinter_laws.proofs.Lines.Indexes.{AreElsewhere}
 use Rattle.wasmprinter_spec.proofs.Each.{all_parts}
-use Rattle.wasmprinter_spec.proofs.OneLine.{starts, IsOneLine, nothing_stays, both_stay, then_stay, alone_stays, cond_stays, close_stays, line_group_gap_stays, group_gap_stays, declaration_stays, index_stays, ref_stays, val_stays, type_use_stays, type_stays}
+use Rattle.wasmprinter_spec.proofs.OneLine.{starts, IsOneLine, nothing_stays, both_stay, then_stay, alone_stays, cond_stays, close_stays, line_group_space_stays, group_space_stays, declaration_stays, index_stays, ref_stays, val_stays, type_use_stays, type_stays}
 use Rattle.wasmprinter_laws.proofs.Lines.OperatorLines.{expression_stays}
 
 -- ---- lines with places elsewhere
@@ -172,7 +172,7 @@ init_stays s flat (Some os) = then_stay refl (constant_stays s flat 2 os)
 pub table_begins : (s : Scope) → s.folding ≡ None → (i : ℕ) (t : Placed (Table (Placed Operator))) → flat_map starts (table_pieces s i t) ≡ Some t.place ∷ []
 unfolding table_pieces
 table_begins s flat i t =
-    field_begins t.place 1 (group_gap_stays 1 (codes "table") (both_stay (declared_stays s row.Table i) (then_stay refl (both_stay (table_type_stays s.names t.value.type) (init_stays s flat t.value.init)))))
+    field_begins t.place 1 (group_space_stays 1 (codes "table") (both_stay (declared_stays s row.Table i) (then_stay refl (both_stay (table_type_stays s.names t.value.type) (init_stays s flat t.value.init)))))
 
 shared_stays : (b : Bool) → IsOneLine (shared_pieces b)
 shared_stays true = alone_stays refl
@@ -180,7 +180,7 @@ shared_stays false = nothing_stays
 
 page_stays : (p : Option ℕ) → IsOneLine (page_pieces p)
 page_stays None = nothing_stays
-page_stays (Some e) = then_stay refl (line_group_gap_stays (codes "pagesize") (alone_stays refl))
+page_stays (Some e) = then_stay refl (line_group_space_stays (codes "pagesize") (alone_stays refl))
 
 pub memory_type_stays : (m : MemoryType) → IsOneLine (memory_type_pieces m)
 unfolding memory_type_pieces
@@ -188,11 +188,11 @@ memory_type_stays m = both_stay (wide_stays m.wide) (both_stay (limits_stay m.li
 
 pub memory_begins : (s : Scope) (i : ℕ) (m : Placed MemoryType) → flat_map starts (memory_pieces s i m) ≡ Some m.place ∷ []
 unfolding memory_pieces
-memory_begins s i m = field_begins m.place 1 (line_group_gap_stays (codes "memory") (both_stay (declared_stays s row.Memory i) (then_stay refl (memory_type_stays m.value))))
+memory_begins s i m = field_begins m.place 1 (line_group_space_stays (codes "memory") (both_stay (declared_stays s row.Memory i) (then_stay refl (memory_type_stays m.value))))
 
 pub tag_begins : (s : Scope) (i : ℕ) (t : Placed ℕ) → flat_map starts (tag_pieces s i t) ≡ Some t.place ∷ []
 unfolding tag_pieces
-tag_begins s i t = field_begins t.place 1 (line_group_gap_stays (codes "tag") (header_stays s Tag None i t.value))
+tag_begins s i t = field_begins t.place 1 (line_group_space_stays (codes "tag") (header_stays s Tag None i t.value))
 
 mutable_stays : (names : Names) (b : Bool) (t : ValType) → IsOneLine (mutable_pieces names b t)
 mutable_stays names true t = then_stay refl (both_stay (val_stays names t) (alone_stays refl))
@@ -205,23 +205,23 @@ global_type_stays names t = mutable_stays names t.mutable t.type
 pub global_begins : (s : Scope) → s.folding ≡ None → (i : ℕ) (g : Placed (Global (Placed Operator))) → flat_map starts (global_pieces s i g) ≡ Some g.place ∷ []
 unfolding global_pieces
 global_begins s flat i g =
-    field_begins g.place 1 (group_gap_stays 1 (codes "global")
+    field_begins g.place 1 (group_space_stays 1 (codes "global")
     (both_stay (declared_stays s row.Global i) (then_stay refl (both_stay (global_type_stays s.names g.value.type) (then_stay refl (constant_stays s flat 2 g.value.init))))))
 
 -- ---- imports and exports, the start function
 
 pub extern_stays : (s : Scope) (n : ℕ) (t : ExternType) → IsOneLine (extern_pieces s n t)
 unfolding extern_pieces
-extern_stays s n (FuncExtern i) = line_group_gap_stays (codes "func") (header_stays s Func (Some n) n i)
-extern_stays s n (TableExtern t) = line_group_gap_stays (codes "table") (both_stay (declared_stays s row.Table n) (then_stay refl (table_type_stays s.names t)))
-extern_stays s n (MemoryExtern t) = line_group_gap_stays (codes "memory") (both_stay (declared_stays s row.Memory n) (then_stay refl (memory_type_stays t)))
-extern_stays s n (GlobalExtern t) = line_group_gap_stays (codes "global") (both_stay (declared_stays s row.Global n) (then_stay refl (global_type_stays s.names t)))
-extern_stays s n (TagExtern i) = line_group_gap_stays (codes "tag") (header_stays s Tag None n i)
+extern_stays s n (FuncExtern i) = line_group_space_stays (codes "func") (header_stays s Func (Some n) n i)
+extern_stays s n (TableExtern t) = line_group_space_stays (codes "table") (both_stay (declared_stays s row.Table n) (then_stay refl (table_type_stays s.names t)))
+extern_stays s n (MemoryExtern t) = line_group_space_stays (codes "memory") (both_stay (declared_stays s row.Memory n) (then_stay refl (memory_type_stays t)))
+extern_stays s n (GlobalExtern t) = line_group_space_stays (codes "global") (both_stay (declared_stays s row.Global n) (then_stay refl (global_type_stays s.names t)))
+extern_stays s n (TagExtern i) = line_group_space_stays (codes "tag") (header_stays s Tag None n i)
 
 import_begins : (s : Scope) (n : ℕ) (i : Placed Import) → flat_map starts (import_pieces s n i) ≡ Some i.place ∷ []
 unfolding import_pieces
 import_begins s n i =
-    field_begins i.place 1 (line_group_gap_stays (codes "import") (then_stay refl (then_stay refl (then_stay refl (then_stay refl (extern_stays s n i.value.type))))))
+    field_begins i.place 1 (line_group_space_stays (codes "import") (then_stay refl (then_stay refl (then_stay refl (then_stay refl (extern_stays s n i.value.type))))))
 
 pub imports_begin : (s : Scope) (n : Numbers) (is : List (Placed Import)) → flat_map starts (imports_pieces s n is) ≡ placed_lines is
 unfolding imports_pieces
@@ -241,18 +241,18 @@ extern_index_stays s GlobalKind n = item_stays s (space_of GlobalKind) n
 pub export_begins : (s : Scope) (e : Placed Export) → flat_map starts (export_pieces s e) ≡ Some e.place ∷ []
 unfolding export_pieces
 export_begins s e =
-    field_begins e.place 1 (line_group_gap_stays (codes "export")
-    (then_stay refl (then_stay refl (line_group_gap_stays (kind_word e.value.kind) (extern_index_stays s e.value.kind e.value.index)))))
+    field_begins e.place 1 (line_group_space_stays (codes "export")
+    (then_stay refl (then_stay refl (line_group_space_stays (kind_word e.value.kind) (extern_index_stays s e.value.kind e.value.index)))))
 
 pub start_elsewhere : (low high : ℕ) (s : Scope) (start : Option (Placed ℕ)) → AllByRecursion (IsOutside low high) (start_places start) → AreElsewhere low high (flat_map starts (start_pieces s start))
 unfolding start_pieces
 start_elsewhere low high s None h = tt
-start_elsewhere low high s (Some start) h = (h.0, stay_elsewhere low high (line_group_gap_stays (codes "start") (item_stays s Func start.value)))
+start_elsewhere low high s (Some start) h = (h.0, stay_elsewhere low high (line_group_space_stays (codes "start") (item_stays s Func start.value)))
 
 -- ---- segments
 
 pub named_table_stays : (s : Scope) (b : Bool) (t : ℕ) → IsOneLine (named_table s b t)
-named_table_stays s true t = then_stay refl (line_group_gap_stays (codes "table") (item_stays s row.Table t))
+named_table_stays s true t = then_stay refl (line_group_space_stays (codes "table") (item_stays s row.Table t))
 named_table_stays s false t = nothing_stays
 
 mode_stays : (s : Scope) → s.folding ≡ None → (b : Bool) (m : ElementMode (Placed Operator)) → IsOneLine (mode_pieces s b m)
@@ -283,11 +283,11 @@ shown_items_stay false s flat items = items_stay s flat items
 pub element_begins : (skeleton : Bool) (s : Scope) → s.folding ≡ None → (i : ℕ) (e : Placed ElementEntry) → flat_map starts (element_pieces skeleton s i e) ≡ Some e.place ∷ []
 unfolding element_pieces
 element_begins skeleton s flat i e =
-    field_begins e.place 1 (group_gap_stays 1 (codes "elem")
+    field_begins e.place 1 (group_space_stays 1 (codes "elem")
     (both_stay (declared_stays s row.Elem i) (both_stay (mode_stays s flat e.value.names_table e.value.element.mode) (then_stay refl (shown_items_stay skeleton s flat e.value.element.items)))))
 
 pub named_memory_stays : (s : Scope) (n : ℕ) → IsOneLine (named_memory s n)
-named_memory_stays s n = cond_stays (n == 0) nothing_stays (both_stay (line_group_gap_stays (codes "memory") (item_stays s row.Memory n)) (alone_stays refl))
+named_memory_stays s n = cond_stays (n == 0) nothing_stays (both_stay (line_group_space_stays (codes "memory") (item_stays s row.Memory n)) (alone_stays refl))
 
 data_mode_stays : (s : Scope) → s.folding ≡ None → (m : DataMode (Placed Operator)) → IsOneLine (data_mode_pieces s m)
 unfolding data_mode_pieces
@@ -301,5 +301,5 @@ bytes_stay false bs = alone_stays refl
 pub data_begins : (skeleton : Bool) (s : Scope) → s.folding ≡ None → (i : ℕ) (d : Placed (Data (Placed Operator))) → flat_map starts (data_pieces skeleton s i d) ≡ Some d.place ∷ []
 unfolding data_pieces
 data_begins skeleton s flat i d =
-    field_begins d.place 1 (group_gap_stays 1 (codes "data")
+    field_begins d.place 1 (group_space_stays 1 (codes "data")
     (both_stay (declared_stays s row.Data i) (then_stay refl (both_stay (data_mode_stays s flat d.value.mode) (bytes_stay skeleton d.value.bytes)))))

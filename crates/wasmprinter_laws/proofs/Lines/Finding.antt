@@ -2,7 +2,7 @@
 use Rattle.std.proofs.Common.{◌≡◌, ℕ, zero, suc, ◌+◌, cond, inl, inr, List, [], ◌∷◌, Bool, true, Option, Some, None, refl, sym, ap, ◌∙◌, subst, arith}
 use Rattle.std.specs.Prelude.{slice_get}
 use Rattle.std.proofs.lemmas.Bool.{eqb-true, eq-eqb, cases_Bool}
-use Rattle.wasmprinter_spec.specs.Choices.{chosen}
+use Rattle.wasmprinter_spec.specs.Choices.{cond_cases}
 use Rattle.wasmprinter_spec.specs.Grammar.{Placed, ◌>>=◌, bind_some, some_is}
 use Rattle.wasmprinter_spec.specs.Operator.{Operator}
 use Rattle.wasmprinter_spec.specs.Placed.{PlacedModule}
@@ -19,7 +19,7 @@ has_place_true place (Some p) e = ap (λ (q : ℕ). Some q) (eqb-true p place e)
 line_has : (lines : List TextLine) (number place k : ℕ) → line_from number place lines ≡ Some k → (j : ℕ) × (k ≡ number + j) × (slice_get (line_places lines) j ≡ Some (Some place))
 line_has [] number place k e = absurd cc
 line_has (line ∷ lines) number place k e =
-    elim (chosen (has_place place line.0) (Some number) (line_from (number + 1) place lines) (Some k) e) [
+    elim (cond_cases (has_place place line.0) (Some number) (line_from (number + 1) place lines) (Some k) e) [
       | inl here ↦ (0, omega (arith, some_is number k here.1), ap (λ (x : Option ℕ). Some x) (has_place_true place line.0 here.0))
       | inr on ↦
           let (index, counted, has) = line_has lines (number + 1) place k on.1 in

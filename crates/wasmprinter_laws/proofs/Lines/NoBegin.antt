@@ -2,7 +2,7 @@
 use Rattle.std.proofs.Common.{◌≡◌, ℕ, ◌+◌, List, [], ◌∷◌, ◌++◌, Bool, true, false, cond, Option, Some, None, ◌||◌}
 use Rattle.std.specs.List.{AllByRecursion, flat_map}
 use Rattle.wasmprinter_spec.specs.Piece.{Piece, Begin, Break}
-use Rattle.wasmprinter_spec.specs.Layout.Groups.{has_break, close, group, group_gap, group_at, group_gap_at, numbered_pieces}
+use Rattle.wasmprinter_spec.specs.Layout.Groups.{has_break, close, group, group_space, group_at, group_space_at, numbered_pieces}
 use Rattle.wasmprinter_spec.proofs.Each.{all_both}
 use Rattle.wasmprinter_spec.proofs.OneLine.{starts, IsOneLine}
 
@@ -56,18 +56,18 @@ pub group_none : (nesting : ℕ) (w : List ℕ) {ps : List Piece} → HasNoBegin
 unfolding group
 group_none nesting w {ps} h = then_none tt (both_none h (close_none None nesting (has_break ps)))
 
-pub group_gap_none : (nesting : ℕ) (w : List ℕ) {ps : List Piece} → HasNoBegin ps → HasNoBegin (group_gap nesting w ps)
-unfolding group_gap
-group_gap_none nesting w {ps} h = then_none tt (both_none h (close_none None nesting (has_break ps)))
+pub group_space_none : (nesting : ℕ) (w : List ℕ) {ps : List Piece} → HasNoBegin ps → HasNoBegin (group_space nesting w ps)
+unfolding group_space
+group_space_none nesting w {ps} h = then_none tt (both_none h (close_none None nesting (has_break ps)))
 
 pub group_at_none : (offsets : Bool) (place nesting : ℕ) (w : List ℕ) {ps : List Piece} → HasNoBegin ps → HasNoBegin (group_at offsets place nesting w ps)
 unfolding group_at
 group_at_none offsets place nesting w {ps} h = then_none tt (both_none h (close_none (Some place) nesting (offsets || has_break ps)))
 
-pub group_gap_at_none : (offsets : Bool) (place nesting : ℕ) (w : List ℕ) {ps : List Piece} → HasNoBegin ps →
-    HasNoBegin (group_gap_at offsets place nesting w ps)
-unfolding group_gap_at
-group_gap_at_none offsets place nesting w {ps} h = then_none tt (both_none h (close_none (Some place) nesting (offsets || has_break ps)))
+pub group_space_at_none : (offsets : Bool) (place nesting : ℕ) (w : List ℕ) {ps : List Piece} → HasNoBegin ps →
+    HasNoBegin (group_space_at offsets place nesting w ps)
+unfolding group_space_at
+group_space_at_none offsets place nesting w {ps} h = then_none tt (both_none h (close_none (Some place) nesting (offsets || has_break ps)))
 
 pub numbered_none : {A : Type 0} (f : ℕ → A → List Piece) → ((i : ℕ) (x : A) → HasNoBegin (f i x)) → (i : ℕ) (xs : List A) →
     HasNoBegin (numbered_pieces f i xs)

@@ -22,10 +22,10 @@ use Rattle.wasmprinter_spec.specs.Layout.Declarations.{Scope, scope_of_function,
 use Rattle.wasmprinter_spec.specs.Layout.Operators.{Form, OverLines, InLine, Setting, level, before_word, operator_pieces, hint_pieces, operators_pieces}
 use Rattle.wasmprinter_spec.specs.Layout.Folded.{items, head_place, head_hint, head_text, has_line_comment, comment_end, node_hint, node_pieces, folded_pieces, if_folded, folded_list}
 use Rattle.wasmprinter_spec.specs.Layout.Functions.{locals_place, local_line, local_pieces, over_lines, result_count, body_by, body_pieces, inner_pieces, function_group, function_pieces, functions_pieces}
-use Rattle.wasmprinter_spec.proofs.OneLine.{both_stay, then_stay, alone_stays, line_group_gap_stays, variables_stay, groups_stay}
+use Rattle.wasmprinter_spec.proofs.OneLine.{both_stay, then_stay, alone_stays, line_group_space_stays, variables_stay, groups_stay}
 use Rattle.wasmprinter_spec.proofs.ImmediateLines.{by_shape_stay}
 use Rattle.wasmprinter_laws.proofs.Lines.FieldLines.{header_stays}
-use Rattle.wasmprinter_laws.proofs.Lines.NoBegin.{HasNoBegin, nothing_none, both_none, then_none, alone_none, cond_none, line_none, field_none, group_gap_at_none}
+use Rattle.wasmprinter_laws.proofs.Lines.NoBegin.{HasNoBegin, nothing_none, both_none, then_none, alone_none, cond_none, line_none, field_none, group_space_at_none}
 
 -- ---- operators
 
@@ -111,9 +111,9 @@ inner_none s hs f =
 function_group_none : (skeleton offsets : Bool) (s : Scope) (hs : List (Placed Hint)) (f : PlacedFunction) → HasNoBegin (function_group skeleton offsets s hs f)
 unfolding function_group
 function_group_none true offsets s hs f =
-    line_none (line_group_gap_stays (codes "func") (both_stay (header_stays s Func (Some s.function) s.function f.type_index) (then_stay refl (alone_stays refl))))
+    line_none (line_group_space_stays (codes "func") (both_stay (header_stays s Func (Some s.function) s.function f.type_index) (then_stay refl (alone_stays refl))))
 function_group_none false offsets s hs f =
-    group_gap_at_none offsets f.body.value.end 1 (codes "func")
+    group_space_at_none offsets f.body.value.end 1 (codes "func")
     (both_none (line_none (header_stays s Func (Some s.function) s.function f.type_index)) (inner_none s hs f))
 
 pub functions_none : (o : Options) (s : Scope) (es : List FunctionHints) (i : ℕ) (fs : List PlacedFunction) → HasNoBegin (functions_pieces o s es i fs)

@@ -5,24 +5,24 @@ use Rattle.std.specs.List.{AllByRecursion}
 use Rattle.wasmprinter_spec.specs.Grammar.{Placed}
 use Rattle.wasmprinter_spec.specs.Kinds.{Kind}
 use Rattle.wasmprinter_spec.specs.Placed.{Custom, CustomEntry}
-use Rattle.wasmprinter_spec.specs.Customs.{CustomRole, Silent, Listed, Linked, Refused, Raw, Malformed, custom_role_of}
+use Rattle.wasmprinter_spec.specs.Customs.{CustomTreatment, Silent, ProducersFields, DylinkSubsections, Refused, Raw, Malformed, custom_treatment_of}
 use Rattle.wasmprinter_spec.specs.Customs.Producers.{Value, Field}
 use Rattle.wasmprinter_spec.specs.Customs.Dylink.{MemInfo, ExportInfo, ImportInfo, SubsectionContent, Sizes, Needed, Exports, Imports, Paths, Other, Subsection}
 use Rattle.wasmprinter_spec.specs.Options.{Answers}
 use Rattle.wasmprinter_spec.specs.Piece.{Piece, Claimed}
 use Rattle.wasmprinter_spec.specs.Layout.Groups.{has_break}
-use Rattle.wasmprinter_spec.specs.Layout.Customs.{raw_pieces, malformed_pieces, note, values_pieces, fields_pieces, sizes_pieces, names_pieces, exports_pieces, import_infos_pieces, content_pieces, subsections_pieces, Part, Shown, Stops, role_part, custom_part, same_place, parts_at, laid_parts}
+use Rattle.wasmprinter_spec.specs.Layout.Customs.{raw_pieces, malformed_pieces, note, values_pieces, fields_pieces, sizes_pieces, names_pieces, exports_pieces, import_infos_pieces, content_pieces, subsections_pieces, Part, Shown, Stops, treatment_part, custom_part, same_after, parts_at, laid_parts}
 use Rattle.wasmprinter_spec.proofs.Each.{all_both}
 use Rattle.wasmprinter_spec.proofs.OneLine.{both_stay, then_stay, alone_stays}
 use Rattle.wasmprinter_laws.proofs.Lines.FieldLines.{bytes_stay}
-use Rattle.wasmprinter_laws.proofs.Lines.CustomLines.{place_stays, quoted_list_stays, flags_stay, sizes_group_stays}
+use Rattle.wasmprinter_laws.proofs.Lines.CustomLines.{after_pieces_stay, quoted_list_stays, flags_stay, sizes_group_stays}
 use Rattle.wasmprinter_laws.proofs.Lines.NoBegin.{HasNoBegin, nothing_none, both_none, then_none, alone_none, line_none, field_none, close_none}
 
 raw_none : (skeleton : Bool) (c : CustomEntry) → HasNoBegin (raw_pieces skeleton c)
 unfolding raw_pieces
 raw_none skeleton c =
     field_none (Some c.section.place) 1 (line_none (then_stay refl (then_stay refl (then_stay refl
-    (both_stay (place_stays c.after) (then_stay refl (both_stay (bytes_stay skeleton c.section.value.bytes.value) (alone_stays refl))))))))
+    (both_stay (after_pieces_stay c.after) (then_stay refl (both_stay (bytes_stay skeleton c.section.value.bytes.value) (alone_stays refl))))))))
 
 faulted_none : (skeleton : Bool) (c : CustomEntry) → HasNoBegin (malformed_pieces skeleton c)
 unfolding malformed_pieces
@@ -94,19 +94,19 @@ HaveNoBegin parts = AllByRecursion (λ part. HasNoBegin (part_pieces part)) part
 pub parts_none : (xs ys : List Part) → HaveNoBegin xs → HaveNoBegin ys → HaveNoBegin (xs ++ ys)
 parts_none xs ys h k = all_both (λ part. HasNoBegin (part_pieces part)) xs ys h k
 
-role_none : (skeleton : Bool) (name : List ℕ) (place : ℕ) (bytes : List ℕ) (answer : Bool) (c : CustomEntry) (r : CustomRole) →
-    HasNoBegin (part_pieces (role_part skeleton (Claimed name place bytes answer) c r))
-role_none skeleton name place bytes answer c Silent = alone_none tt
-role_none skeleton name place bytes answer c (Listed fields) = then_none tt (then_none tt (note_none (codes "producers") (fields_none fields)))
-role_none skeleton name place bytes answer c (Linked ss) = then_none tt (then_none tt (note_none (codes "dylink.0") (subsections_none ss)))
-role_none skeleton name place bytes answer c (Refused id) = alone_none tt
-role_none skeleton name place bytes answer c Raw = then_none tt (raw_none skeleton c)
-role_none skeleton name place bytes answer c Malformed = then_none tt (faulted_none skeleton c)
+treatment_none : (skeleton : Bool) (name : List ℕ) (place : ℕ) (bytes : List ℕ) (answer : Bool) (c : CustomEntry) (r : CustomTreatment) →
+    HasNoBegin (part_pieces (treatment_part skeleton (Claimed name place bytes answer) c r))
+treatment_none skeleton name place bytes answer c Silent = alone_none tt
+treatment_none skeleton name place bytes answer c (ProducersFields fields) = then_none tt (then_none tt (note_none (codes "producers") (fields_none fields)))
+treatment_none skeleton name place bytes answer c (DylinkSubsections ss) = then_none tt (then_none tt (note_none (codes "dylink.0") (subsections_none ss)))
+treatment_none skeleton name place bytes answer c (Refused id) = alone_none tt
+treatment_none skeleton name place bytes answer c Raw = then_none tt (raw_none skeleton c)
+treatment_none skeleton name place bytes answer c Malformed = then_none tt (faulted_none skeleton c)
 
 custom_none : (skeleton answer : Bool) (c : CustomEntry) → HasNoBegin (part_pieces (custom_part skeleton answer c))
 custom_none skeleton true c = alone_none tt
 custom_none skeleton false c =
-    let s : Custom = c.section.value in role_none skeleton s.name s.bytes.place s.bytes.value false c (custom_role_of s)
+    let s : Custom = c.section.value in treatment_none skeleton s.name s.bytes.place s.bytes.value false c (custom_treatment_of s)
 
 if_none : (b : Bool) (part : Part) (parts : List Part) → HasNoBegin (part_pieces part) → HaveNoBegin parts → HaveNoBegin (if b then part ∷ parts else parts)
 if_none true part parts h k = (h, k)
@@ -115,7 +115,7 @@ if_none false part parts h k = k
 pub customs_none : (skeleton : Bool) (answers : Answers) (place : Option Kind) (n : ℕ) (cs : List CustomEntry) → HaveNoBegin (parts_at skeleton answers place n cs)
 customs_none skeleton answers place n [] = tt
 customs_none skeleton answers place n (c ∷ cs) =
-    if_none (same_place c.after place) (custom_part skeleton (answers n) c) (parts_at skeleton answers place (n + 1) cs)
+    if_none (same_after c.after place) (custom_part skeleton (answers n) c) (parts_at skeleton answers place (n + 1) cs)
     (custom_none skeleton (answers n) c) (customs_none skeleton answers place (n + 1) cs)
 
 -- If no part begins the first line, neither do the pieces of all parts up to a refusal.

@@ -21,9 +21,9 @@ use Rattle.wasmprinter_spec.specs.Layout.Exports.{kind_word, export_pieces}
 use Rattle.wasmprinter_spec.specs.Layout.Start.{start_pieces}
 use Rattle.wasmprinter_spec.specs.Layout.Elements.{mode_pieces, expression_items, items_pieces, shown_items, element_pieces}
 use Rattle.wasmprinter_spec.specs.Layout.DataSegments.{data_mode_pieces, data_pieces}
-use Rattle.wasmprinter_spec.proofs.OneLine.{then_stay, line_group_gap_stays, both_stay, type_stays, ref_stays}
+use Rattle.wasmprinter_spec.proofs.OneLine.{then_stay, line_group_space_stays, both_stay, type_stays, ref_stays}
 use Rattle.wasmprinter_laws.proofs.Lines.FieldLines.{header_stays, item_stays, declared_stays, word_stays, table_type_stays, memory_type_stays, global_type_stays, extern_stays, extern_index_stays, named_table_stays, function_items_stay, named_memory_stays, bytes_stay}
-use Rattle.wasmprinter_laws.proofs.Lines.NoBegin.{HasNoBegin, nothing_none, both_none, then_none, alone_none, line_none, field_none, close_none, group_none, group_gap_none, numbered_none}
+use Rattle.wasmprinter_laws.proofs.Lines.NoBegin.{HasNoBegin, nothing_none, both_none, then_none, alone_none, line_none, field_none, close_none, group_none, group_space_none, numbered_none}
 use Rattle.wasmprinter_laws.proofs.Lines.NoBeginCode.{operators_none, folded_none}
 
 -- ---- types
@@ -79,22 +79,22 @@ module _ (s : Scope) where
   pub table_none : (i : ℕ) (t : Placed (Table (Placed Operator))) → HasNoBegin (table_pieces s i t)
   unfolding table_pieces
   table_none i t =
-      field_none (Some t.place) 1 (group_gap_none 1 (codes "table")
+      field_none (Some t.place) 1 (group_space_none 1 (codes "table")
       (both_none (line_none (declared_stays s row.Table i)) (then_none tt (both_none (line_none (table_type_stays s.names t.value.type)) (init_none t.value.init)))))
 
   pub memory_none : (i : ℕ) (m : Placed MemoryType) → HasNoBegin (memory_pieces s i m)
   unfolding memory_pieces
   memory_none i m =
-      field_none (Some m.place) 1 (line_none (line_group_gap_stays (codes "memory") (both_stay (declared_stays s row.Memory i) (then_stay refl (memory_type_stays m.value)))))
+      field_none (Some m.place) 1 (line_none (line_group_space_stays (codes "memory") (both_stay (declared_stays s row.Memory i) (then_stay refl (memory_type_stays m.value)))))
 
   pub tag_none : (i : ℕ) (t : Placed ℕ) → HasNoBegin (tag_pieces s i t)
   unfolding tag_pieces
-  tag_none i t = field_none (Some t.place) 1 (line_none (line_group_gap_stays (codes "tag") (header_stays s Tag None i t.value)))
+  tag_none i t = field_none (Some t.place) 1 (line_none (line_group_space_stays (codes "tag") (header_stays s Tag None i t.value)))
 
   pub global_none : (i : ℕ) (g : Placed (Global (Placed Operator))) → HasNoBegin (global_pieces s i g)
   unfolding global_pieces
   global_none i g =
-      field_none (Some g.place) 1 (group_gap_none 1 (codes "global")
+      field_none (Some g.place) 1 (group_space_none 1 (codes "global")
       (both_none (line_none (declared_stays s row.Global i)) (then_none tt (both_none (line_none (global_type_stays s.names g.value.type)) (then_none tt (constant_none 2 g.value.init))))))
 
   -- ---- imports and exports, the start function
@@ -103,7 +103,7 @@ module _ (s : Scope) where
   unfolding import_pieces
   import_none n i =
       field_none (Some i.place) 1
-      (line_none (line_group_gap_stays (codes "import") (then_stay refl (then_stay refl (then_stay refl (then_stay refl (extern_stays s n i.value.type)))))))
+      (line_none (line_group_space_stays (codes "import") (then_stay refl (then_stay refl (then_stay refl (then_stay refl (extern_stays s n i.value.type)))))))
 
   pub imports_none : (n : Numbers) (is : List (Placed Import)) → HasNoBegin (imports_pieces s n is)
   unfolding imports_pieces
@@ -113,13 +113,13 @@ module _ (s : Scope) where
   pub export_none : (e : Placed Export) → HasNoBegin (export_pieces s e)
   unfolding export_pieces
   export_none e =
-      field_none (Some e.place) 1 (line_none (line_group_gap_stays (codes "export")
-      (then_stay refl (then_stay refl (line_group_gap_stays (kind_word e.value.kind) (extern_index_stays s e.value.kind e.value.index))))))
+      field_none (Some e.place) 1 (line_none (line_group_space_stays (codes "export")
+      (then_stay refl (then_stay refl (line_group_space_stays (kind_word e.value.kind) (extern_index_stays s e.value.kind e.value.index))))))
 
   pub start_none : (start : Option (Placed ℕ)) → HasNoBegin (start_pieces s start)
   unfolding start_pieces
   start_none None = nothing_none
-  start_none (Some start) = field_none (Some start.place) 1 (line_none (line_group_gap_stays (codes "start") (item_stays s Func start.value)))
+  start_none (Some start) = field_none (Some start.place) 1 (line_none (line_group_space_stays (codes "start") (item_stays s Func start.value)))
 
   -- ---- segments
 
@@ -146,7 +146,7 @@ module _ (s : Scope) where
   pub element_none : (skeleton : Bool) (i : ℕ) (e : Placed ElementEntry) → HasNoBegin (element_pieces skeleton s i e)
   unfolding element_pieces
   element_none skeleton i e =
-      field_none (Some e.place) 1 (group_gap_none 1 (codes "elem")
+      field_none (Some e.place) 1 (group_space_none 1 (codes "elem")
       (both_none (line_none (declared_stays s row.Elem i))
       (both_none (mode_none e.value.names_table e.value.element.mode) (then_none tt (shown_items_none skeleton e.value.element.items)))))
 
@@ -159,5 +159,5 @@ module _ (s : Scope) where
   pub data_none : (skeleton : Bool) (i : ℕ) (d : Placed (Data (Placed Operator))) → HasNoBegin (data_pieces skeleton s i d)
   unfolding data_pieces
   data_none skeleton i d =
-      field_none (Some d.place) 1 (group_gap_none 1 (codes "data")
+      field_none (Some d.place) 1 (group_space_none 1 (codes "data")
       (both_none (line_none (declared_stays s row.Data i)) (then_none tt (both_none (data_mode_none d.value.mode) (line_none (bytes_stay skeleton d.value.bytes))))))

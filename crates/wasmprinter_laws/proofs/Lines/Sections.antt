@@ -6,7 +6,7 @@ use Rattle.wasmprinter_spec.specs.Grammar.{Remainder, Placed, value_with_place, 
 use Rattle.wasmprinter_spec.specs.Name.{u32, vec}
 use Rattle.wasmprinter_spec.specs.Types.{SubType}
 use Rattle.wasmprinter_spec.specs.Placed.{TypeGroup, type_group, Custom, custom_of}
-use Rattle.wasmprinter_spec.specs.Customs.{custom_role_of}
+use Rattle.wasmprinter_spec.specs.Customs.{custom_treatment_of}
 use Rattle.wasmprinter_spec.specs.Customs.Hints.{hints_given}
 use Rattle.wasmprinter_spec.specs.Binary.Types.{subtype, sub_type_after, group}
 use Rattle.wasmprinter_spec.specs.Binary.Imports.{import}
@@ -20,11 +20,11 @@ use Rattle.wasmprinter_spec.specs.Binary.DataSegments.{segment}
 use Rattle.wasmprinter_spec.specs.Binary.Customs.{custom_section}
 use Rattle.wasmprinter_spec.specs.Sections.{Kind, CustomSection, TypeSection, ImportSection, FunctionSection, TableSection, MemorySection, TagSection, GlobalSection, ExportSection, StartSection, ElementSection, DataCountSection, CodeSection, DataSection, Section, holds, content, section_id, section}
 use Rattle.wasmprinter_spec.specs.Lines.{places, places_of_hints}
-use Rattle.wasmprinter_spec.specs.Apart.{member_places, group_places, start_places, role_places, body_places}
+use Rattle.wasmprinter_spec.specs.Apart.{member_places, group_places, start_places, treatment_places, body_places}
 use Rattle.wasmprinter_laws.proofs.Lines.Order.{Order, rising, inside, Inside, inside_ends, inside_wider, inside_both}
 use Rattle.wasmprinter_laws.proofs.Lines.Lies.{Lies, Lies-any, Lies-byte, Lies-u32, Lies-after, Lies-less, Lies-mapped, Lies-map_value, LiesIn, LiesIn-alone, Lies-exactly, Lies-vec}
 use Rattle.wasmprinter_laws.proofs.Lines.Bodies.{Lies-code_entry}
-use Rattle.wasmprinter_laws.proofs.Lines.CustomData.{Lies-here, Lies-list, role_inside, hints_inside}
+use Rattle.wasmprinter_laws.proofs.Lines.CustomData.{Lies-here, Lies-list, treatment_inside, hints_inside}
 
 -- ---- groups of types: the place of the types of an explicit `(rec ..)` is two bytes after that of the group
 
@@ -72,7 +72,7 @@ Lies-group = record { lie = λ p text g s. inside_wider (p + 0) p (p + length te
 
 -- The places of a custom section: those of its lines, and those of the hints that its data would give
 abbrev pub given_places : Placed Custom → List ℕ
-given_places c = c.place ∷ (c.value.bytes.place ∷ (role_places (custom_role_of c.value) ++ places_of_hints (hints_given c.value.bytes)))
+given_places c = c.place ∷ (c.value.bytes.place ∷ (treatment_places (custom_treatment_of c.value) ++ places_of_hints (hints_given c.value.bytes)))
 
 LiesIn-custom : LiesIn inside 0 custom_section given_places
 LiesIn-custom = record {
@@ -86,8 +86,8 @@ LiesIn-custom = record {
       let long : length text ≡ length front + length back = omega (arith, ap length joined, length-append front back) in
       let start : ℕ = own.bytes.place in
       let end : ℕ = own.bytes.place + length own.bytes.value in
-      let shown : List ℕ = role_places (custom_role_of own) ++ places_of_hints (hints_given own.bytes) in
-      let both : Inside start shown end = inside_both start end (role_places (custom_role_of own)) (places_of_hints (hints_given own.bytes)) (role_inside own) (hints_inside own.bytes) in
+      let shown : List ℕ = treatment_places (custom_treatment_of own) ++ places_of_hints (hints_given own.bytes) in
+      let both : Inside start shown end = inside_both start end (treatment_places (custom_treatment_of own)) (places_of_hints (hints_given own.bytes)) (treatment_inside own) (hints_inside own.bytes) in
       let inner : Inside (p + 0) shown (p + length text) = inside_wider (p + 0) start end (p + length text) shown (omega (arith, place)) (omega (arith, place, long, data_length)) both in
       (omega (arith, here), omega (arith, here), (omega (arith, place), omega (arith, place, long), inner));
 }

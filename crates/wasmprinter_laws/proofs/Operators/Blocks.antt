@@ -19,7 +19,7 @@ use Rattle.wasmprinter_spec.specs.Layout.Types.{parameters_of}
 use Rattle.wasmprinter_spec.specs.Layout.Operators.{Setting, Form, OverLines, InLine, ending_pieces, block_pieces}
 use Rattle.wasmprinter_laws.proofs.Tokens.Printed.{is_remark, is_remark-decimal, is_remark-append}
 use Rattle.wasmprinter_laws.proofs.Tokens.Pieces.{Bound}
-use Rattle.wasmprinter_laws.proofs.Tokens.Writes.{Writes, writing, nothing_writes, gap_writes, line_group_gap_writes}
+use Rattle.wasmprinter_laws.proofs.Tokens.Writes.{Writes, writing, nothing_writes, one_space_writes, line_group_space_writes}
 use Rattle.wasmprinter_laws.specs.Listed.{IsBlockInRange, IsSignatureInRange, AreSignaturesInRange}
 use Rattle.wasmprinter_laws.specs.OperatorLaws.{HaveSameTypes, HaveSameNames}
 use Rattle.wasmprinter_laws.proofs.Identifiers.{id_items, of_least}
@@ -136,8 +136,8 @@ pub block_writes : (s : Setting) → AreNamed s.names → AreSignaturesInRange s
     Writes Bound (block_pieces s t) Bound (block_items s t)
 unfolding block_pieces class
 block_writes s named ranged Empty h = search writing
-block_writes s named ranged (Value t) h = gap_writes refl (line_group_gap_writes (codes "result") _ refl refl (val_writes s.names named t h))
-block_writes s named ranged (OfType n) h = gap_writes refl (type_use_writes s.names named None n (s.signature n) refl h (ranged n))
+block_writes s named ranged (Value t) h = one_space_writes refl (line_group_space_writes (codes "result") _ refl refl (val_writes s.names named t h))
+block_writes s named ranged (OfType n) h = one_space_writes refl (type_use_writes s.names named None n (s.signature n) refl h (ranged n))
 
 pub comment_writes : (form : Form) (own : Label) (d : ℕ) → Writes Bound (ending_pieces form own d) (after form) End
 unfolding ending_pieces class

@@ -13,10 +13,10 @@ use Rattle.wasmprinter_spec.specs.IndexSpaces.{Identifiers, Context}
 use Rattle.wasmprinter_spec.specs.Text.Items.{groups}
 use Rattle.wasmprinter_spec.specs.Text.Types.{val_types, variables}
 use Rattle.wasmprinter_spec.specs.Text.Operators.{id_of, after_id, block_type, label, first_alone, after_first, tag_clause, clauses}
-use Rattle.wasmprinter_spec.specs.Piece.{Gap}
+use Rattle.wasmprinter_spec.specs.Piece.{OneSpace}
 use Rattle.wasmprinter_spec.specs.Layout.Operators.{Setting, named_index, label_pieces, catch_pieces, catches_pieces}
 use Rattle.wasmprinter_laws.proofs.Tokens.Pieces.{Free, Bound}
-use Rattle.wasmprinter_laws.proofs.Tokens.Writes.{Writes, both_write, nothing_writes, gap_writes, line_group_writes}
+use Rattle.wasmprinter_laws.proofs.Tokens.Writes.{Writes, both_write, nothing_writes, one_space_writes, line_group_writes}
 use Rattle.wasmprinter_laws.specs.Listed.{IsU32, IsCatchInRange}
 use Rattle.wasmprinter_laws.specs.OperatorLaws.{HaveSameNames}
 use Rattle.wasmprinter_laws.proofs.Identifiers.{index_items}
@@ -124,8 +124,8 @@ module _ (s : Setting) (c : Context) (k : Counts) (same : HaveSameNames s c k) (
 
 module _ (s : Setting) (named : AreNamed s.names) (inner xs : List Label) (labelled : AllByRecursion IsNamedIfAny xs) where
   tag_writes : (t l : ℕ) → IsU32 t → IsU32 l →
-      Writes Bound (Gap ∷ (named_index s row.Tag t ++ label_pieces inner xs l)) Bound (onto (space_items s row.Tag t) (label_items inner xs l))
-  tag_writes t l small k = gap_writes refl (both_write (item_writes s named row.Tag t small) (label_writes inner xs l labelled k))
+      Writes Bound (OneSpace ∷ (named_index s row.Tag t ++ label_pieces inner xs l)) Bound (onto (space_items s row.Tag t) (label_items inner xs l))
+  tag_writes t l small k = one_space_writes refl (both_write (item_writes s named row.Tag t small) (label_writes inner xs l labelled k))
 
   catch_writes : (c : Catch) → IsCatchInRange c → Writes Free (catch_pieces s inner xs c) Bound (Group (catch_items s inner xs c) End)
   unfolding catch_pieces class
@@ -137,4 +137,4 @@ module _ (s : Setting) (named : AreNamed s.names) (inner xs : List Label) (label
   pub catches_write : (cs : List Catch) → AllByRecursion IsCatchInRange cs → Writes Bound (catches_pieces s inner xs cs) Bound (catches_items s inner xs cs)
   unfolding catches_pieces
   catches_write [] ks = nothing_writes
-  catches_write (c ∷ cs) ks = gap_writes refl (both_write (catch_writes c ks.0) (catches_write cs ks.1))
+  catches_write (c ∷ cs) ks = one_space_writes refl (both_write (catch_writes c ks.0) (catches_write cs ks.1))

@@ -4,9 +4,9 @@ use Rattle.std.specs.Fmt.{digits}
 use Rattle.wasmprinter_spec.specs.Forest.{Forest, End, Word}
 use Rattle.wasmprinter_spec.specs.Float.{Width, IsWidth, single, double, greatest_exponent, sign_bit, canonical_payload}
 use Rattle.wasmprinter_spec.specs.FloatText.{special_text, finite_text, normal_text, subnormal_text, unsigned_text, float_text}
-use Rattle.wasmprinter_spec.specs.Piece.{Gap, Float}
+use Rattle.wasmprinter_spec.specs.Piece.{OneSpace, Float}
 use Rattle.wasmprinter_laws.proofs.Tokens.Pieces.{Bound}
-use Rattle.wasmprinter_laws.proofs.Tokens.Writes.{Writes, gap_writes, float_writes, nothing_writes}
+use Rattle.wasmprinter_laws.proofs.Tokens.Writes.{Writes, one_space_writes, float_writes, nothing_writes}
 use Rattle.wasmprinter_laws.proofs.Tabled.{is_argument, no_rows}
 use Rattle.wasmprinter_laws.proofs.Operators.Arguments.{AreArguments}
 
@@ -64,8 +64,8 @@ single_is_width = record { exponent = (lit≤ tt, lit≤ tt); fraction = (lit≤
 double_is_width : IsWidth double
 double_is_width = record { exponent = (lit≤ tt, lit≤ tt); fraction = (lit≤ tt, lit≤ tt) }
 
-pub single_writes : (bits : ℕ) → bits < 2 ^ 32 → Writes Bound (Gap ∷ (Float single bits ∷ [])) Bound (float_items single bits)
-single_writes bits h = gap_writes refl (float_writes single_is_width h nothing_writes)
+pub single_writes : (bits : ℕ) → bits < 2 ^ 32 → Writes Bound (OneSpace ∷ (Float single bits ∷ [])) Bound (float_items single bits)
+single_writes bits h = one_space_writes refl (float_writes single_is_width h nothing_writes)
 
-pub double_writes : (bits : ℕ) → bits < 2 ^ 64 → Writes Bound (Gap ∷ (Float double bits ∷ [])) Bound (float_items double bits)
-double_writes bits h = gap_writes refl (float_writes double_is_width h nothing_writes)
+pub double_writes : (bits : ℕ) → bits < 2 ^ 64 → Writes Bound (OneSpace ∷ (Float double bits ∷ [])) Bound (float_items double bits)
+double_writes bits h = one_space_writes refl (float_writes double_is_width h nothing_writes)

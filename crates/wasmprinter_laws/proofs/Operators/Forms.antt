@@ -6,7 +6,7 @@ use Rattle.wasmprinter_spec.specs.Customs.Hints.{Hint}
 use Rattle.wasmprinter_spec.specs.Piece.{Piece, flag_byte}
 use Rattle.wasmprinter_spec.specs.Layout.Operators.{Form, OverLines, InLine, before_word, hint_pieces}
 use Rattle.wasmprinter_laws.proofs.Tokens.Pieces.{Edge, Free, Bound, Ended}
-use Rattle.wasmprinter_laws.proofs.Tokens.Writes.{Writes, WritesNoted, loosened, nothing_writes, free_writes, break_writes, gap_writes, hint_note_writes, after_anything, before_line}
+use Rattle.wasmprinter_laws.proofs.Tokens.Writes.{Writes, WritesNoted, loosened, nothing_writes, free_writes, break_writes, one_space_writes, hint_note_writes, after_anything, before_line}
 
 -- ---- after an operator
 
@@ -31,7 +31,7 @@ pub before_writes : {ps : List Piece} {b : Edge} {f k : Forest} (form : Form) (f
     WritesNoted (ahead form first) (before_word form first place nesting ++ ps) b f k
 before_writes OverLines first place nesting w = break_writes w
 before_writes InLine true place nesting w = w
-before_writes InLine false place nesting w = gap_writes refl w
+before_writes InLine false place nesting w = one_space_writes refl w
 
 -- ---- hints
 

@@ -17,14 +17,14 @@ use Rattle.wasmprinter_spec.specs.IndexSpaces.{Identifiers, Context, space_in, i
 use Rattle.wasmprinter_spec.specs.Text.Types.{val_types, variables}
 use Rattle.wasmprinter_spec.specs.Text.TypeUses.{no_type, same_func_type, agrees}
 use Rattle.wasmprinter_spec.specs.Text.Operators.{block_type, index, default_index, two_indices, type_and_field, type_and_count, two_indices_or_zeros, with_segment, call_parts}
-use Rattle.wasmprinter_spec.specs.Piece.{Gap}
-use Rattle.wasmprinter_spec.specs.Layout.Groups.{line_group_gap}
+use Rattle.wasmprinter_spec.specs.Piece.{OneSpace}
+use Rattle.wasmprinter_spec.specs.Layout.Groups.{line_group_space}
 use Rattle.wasmprinter_spec.specs.Layout.ValTypes.{type_index_pieces}
 use Rattle.wasmprinter_spec.specs.Layout.Operators.{Setting, named_index, operand_pieces, default_index_pieces, two_index_pieces, type_and_field_pieces, lane_pieces}
 use Rattle.wasmprinter_laws.proofs.Tokens.Runs.{is_word}
 use Rattle.wasmprinter_laws.proofs.Tokens.Numbers.{is_word-decimal}
 use Rattle.wasmprinter_laws.proofs.Tokens.Pieces.{Bound}
-use Rattle.wasmprinter_laws.proofs.Tokens.Writes.{Writes, writing, both_write, nothing_writes, gap_writes, line_group_gap_writes}
+use Rattle.wasmprinter_laws.proofs.Tokens.Writes.{Writes, writing, both_write, nothing_writes, one_space_writes, line_group_space_writes}
 use Rattle.wasmprinter_laws.specs.Listed.{IsU32}
 use Rattle.wasmprinter_laws.specs.OperatorLaws.{HaveSameNames}
 use Rattle.wasmprinter_laws.proofs.Tabled.{is_item}
@@ -232,8 +232,8 @@ module _ (s : Setting) (c : Context) (k : Counts) (same : HaveSameNames s c k) (
 -- ---- pieces write the items
 
 module _ (s : Setting) (named : AreNamed s.names) where
-  space_writes : (space : Space) (n : ℕ) → IsU32 n → Writes Bound (Gap ∷ named_index s space n) Bound (space_items s space n)
-  space_writes space n h = gap_writes refl (item_writes s named space n h)
+  space_writes : (space : Space) (n : ℕ) → IsU32 n → Writes Bound (OneSpace ∷ named_index s space n) Bound (space_items s space n)
+  space_writes space n h = one_space_writes refl (item_writes s named space n h)
 
   pub operand_writes : (inner xs : List labels.Label) (space : Space) (n : ℕ) → AllByRecursion IsNamedIfAny xs → IsU32 n →
       Writes Bound (operand_pieces s inner xs space n) Bound (operand_items s inner xs space n)
@@ -245,34 +245,34 @@ module _ (s : Setting) (named : AreNamed s.names) where
   unfolding default_index_pieces
   default_writes space n h = by (eqb n 0)
     where
-      by : (b : Bool) → Writes Bound (cond b [] (Gap ∷ named_index s space n)) Bound (cond b End (space_items s space n))
+      by : (b : Bool) → Writes Bound (cond b [] (OneSpace ∷ named_index s space n)) Bound (cond b End (space_items s space n))
       by true = nothing_writes
       by false = space_writes space n h
 
   pub pair_writes : (first second : Space) (m n : ℕ) → IsU32 m → IsU32 n → Writes Bound (two_index_pieces s first second m n) Bound (pair_items s first second m n)
   unfolding two_index_pieces
-  pair_writes first second m n h k = gap_writes refl (both_write (item_writes s named first m h) (space_writes second n k))
+  pair_writes first second m n h k = one_space_writes refl (both_write (item_writes s named first m h) (space_writes second n k))
 
   pub type_and_field_writes : (t n : ℕ) → IsU32 t → IsU32 n → Writes Bound (type_and_field_pieces s t n) Bound (type_and_field_items s t n)
   unfolding type_and_field_pieces
   type_and_field_writes t n h k =
-      gap_writes refl (both_write (item_writes s named row.Types t h) (gap_writes refl (index_writes (s.names.fields t n) n (named.fields t n) (omega (arith, k)))))
+      one_space_writes refl (both_write (item_writes s named row.Types t h) (one_space_writes refl (index_writes (s.names.fields t n) n (named.fields t n) (omega (arith, k)))))
 
-  pub count_writes : (t n : ℕ) → IsU32 t → IsU32 n → Writes Bound (Gap ∷ (named_index s row.Types t ++ lane_pieces n)) Bound (count_items s t n)
+  pub count_writes : (t n : ℕ) → IsU32 t → IsU32 n → Writes Bound (OneSpace ∷ (named_index s row.Types t ++ lane_pieces n)) Bound (count_items s t n)
   unfolding lane_pieces
   count_writes t n h k =
       let word : is_word (decimal n) ≡ true = is_word-decimal n (omega arith) in
-      gap_writes refl (both_write (item_writes s named row.Types t h) (search writing))
+      one_space_writes refl (both_write (item_writes s named row.Types t h) (search writing))
 
   pub call_writes : (t n : ℕ) → IsU32 t → IsU32 n →
-      Writes Bound (default_index_pieces s row.Table n ++ (Gap ∷ line_group_gap (codes "type") (type_index_pieces s.names t))) Bound (call_items s t n)
+      Writes Bound (default_index_pieces s row.Table n ++ (OneSpace ∷ line_group_space (codes "type") (type_index_pieces s.names t))) Bound (call_items s t n)
   unfolding class
   call_writes t n h k =
       both_write (default_writes row.Table n k)
-      (gap_writes refl (line_group_gap_writes (codes "type") (type_index_pieces s.names t) refl refl (type_index_writes s.names named t h)))
+      (one_space_writes refl (line_group_space_writes (codes "type") (type_index_pieces s.names t) refl refl (type_index_writes s.names named t h)))
 
   pub segment_writes : (segments space : Space) (m n : ℕ) → IsU32 m → IsU32 n →
-      Writes Bound (default_index_pieces s space n ++ (Gap ∷ named_index s segments m)) Bound (segment_items s segments space m n)
+      Writes Bound (default_index_pieces s space n ++ (OneSpace ∷ named_index s segments m)) Bound (segment_items s segments space m n)
   segment_writes segments space m n h k = both_write (default_writes space n k) (space_writes segments m h)
 
   pub copy_writes : (space : Space) (m n : ℕ) → IsU32 m → IsU32 n →

@@ -16,7 +16,7 @@ use Rattle.wasmprinter_spec.specs.Indexed.{Counts, IsIndex}
 use Rattle.wasmprinter_spec.specs.IndexSpaces.{Context, index}
 use Rattle.wasmprinter_spec.specs.Text.Operators.{alignment, with_memory, is_option, mem_arg, but_last, mem_arg_and_lane}
 use Rattle.wasmprinter_spec.specs.Piece as piece
-use Rattle.wasmprinter_spec.specs.Piece.{Gap}
+use Rattle.wasmprinter_spec.specs.Piece.{OneSpace}
 use Rattle.wasmprinter_spec.specs.Layout.Operators.{Setting, offset_pieces, align_pieces, mem_arg_pieces, lane_pieces}
 use Rattle.wasmprinter_laws.proofs.Tokens.Runs.{is_word}
 use Rattle.wasmprinter_spec.proofs.Runs.{all_id_chars-digits}
@@ -243,7 +243,7 @@ unfolding offset_pieces
 offset_writes n h = by (eqb n 0) (is_word-offset n h)
   where
     by : (b : Bool) → is_word (codes "offset=" ++ decimal n) ≡ true →
-        Writes Bound (cond b [] (Gap ∷ (piece.Word (codes "offset=" ++ decimal n) ∷ []))) Bound (cond b End (Word (codes "offset=" ++ decimal n) End))
+        Writes Bound (cond b [] (OneSpace ∷ (piece.Word (codes "offset=" ++ decimal n) ∷ []))) Bound (cond b End (Word (codes "offset=" ++ decimal n) End))
     by true word = search writing
     by false word = search writing
 
@@ -252,7 +252,7 @@ unfolding align_pieces
 align_writes natural e h = by (eqb e natural) (is_word-align (2 ^ e) (power_below e h))
   where
     by : (b : Bool) → is_word (codes "align=" ++ decimal (2 ^ e)) ≡ true →
-        Writes Bound (cond b [] (Gap ∷ (piece.Word (codes "align=" ++ decimal (2 ^ e)) ∷ []))) Bound (cond b End (Word (codes "align=" ++ decimal (2 ^ e)) End))
+        Writes Bound (cond b [] (OneSpace ∷ (piece.Word (codes "align=" ++ decimal (2 ^ e)) ∷ []))) Bound (cond b End (Word (codes "align=" ++ decimal (2 ^ e)) End))
     by true word = search writing
     by false word = search writing
 

@@ -16,12 +16,12 @@ use Rattle.wasmprinter_spec.specs.Text.Items.{all_items, groups}
 use Rattle.wasmprinter_spec.specs.Text.Types.{ref_named, ref_group, reference_type}
 use Rattle.wasmprinter_spec.specs.Text.TypeUses.{same_flag}
 use Rattle.wasmprinter_spec.specs.Text.Operators.{first_alone, after_first, select_types, heap_with, cast_parts}
-use Rattle.wasmprinter_spec.specs.Piece.{Gap}
+use Rattle.wasmprinter_spec.specs.Piece.{OneSpace}
 use Rattle.wasmprinter_spec.specs.Layout.ValTypes.{heap_word, val_pieces, type_list, heap_pieces, ref_pieces}
 use Rattle.wasmprinter_spec.specs.Layout.Operators.{label_pieces, select_pieces}
 use Rattle.wasmprinter_laws.proofs.Tokens.Grown.{onto-End}
 use Rattle.wasmprinter_laws.proofs.Tokens.Pieces.{Free, Bound}
-use Rattle.wasmprinter_laws.proofs.Tokens.Writes.{Writes, then, gap_writes, line_group_writes, line_group_gap_writes}
+use Rattle.wasmprinter_laws.proofs.Tokens.Writes.{Writes, then, one_space_writes, line_group_writes, line_group_space_writes}
 use Rattle.wasmprinter_laws.specs.Listed.{IsU32}
 use Rattle.wasmprinter_laws.proofs.Tabled.{no_rows}
 use Rattle.wasmprinter_laws.proofs.Items.{one_item-reads, all_items-reads}
@@ -129,21 +129,21 @@ module _ (names : Names) (c : Context) (bound : ℕ) (reads : Reads c.spaces.typ
 module _ (names : Names) (named : AreNamed names) where
   pub select_writes : (ts : List ValType) → AllByRecursion IsRangedVal ts → Writes Bound (select_pieces names ts) Bound (select_items names ts)
   unfolding select_pieces class
-  select_writes [] r = gap_writes refl (line_group_writes (codes "result") (type_list names []) refl refl (type_list_writes names named [] r))
+  select_writes [] r = one_space_writes refl (line_group_writes (codes "result") (type_list names []) refl refl (type_list_writes names named [] r))
   select_writes (t ∷ []) r =
       let one : Writes Free (val_pieces names t) Bound (types_items names (t ∷ [])) =
       subst (λ f. Writes Free (val_pieces names t) Bound f) (sym (onto-End (val_items names t))) (val_writes names named t r.0) in
-      gap_writes refl (line_group_gap_writes (codes "result") (val_pieces names t) refl refl one)
+      one_space_writes refl (line_group_space_writes (codes "result") (val_pieces names t) refl refl one)
   select_writes (t ∷ u ∷ ts) r =
-      gap_writes refl (line_group_writes (codes "result") (type_list names (t ∷ (u ∷ ts))) refl refl (type_list_writes names named (t ∷ (u ∷ ts)) r))
+      one_space_writes refl (line_group_writes (codes "result") (type_list names (t ∷ (u ∷ ts))) refl refl (type_list_writes names named (t ∷ (u ∷ ts)) r))
 
-  pub heap_type_writes : (h : HeapType) → IsRangedHeap h → Writes Bound (Gap ∷ heap_pieces names h) Bound (heap_items names h)
-  heap_type_writes h r = gap_writes refl (heap_writes names named h r)
+  pub heap_type_writes : (h : HeapType) → IsRangedHeap h → Writes Bound (OneSpace ∷ heap_pieces names h) Bound (heap_items names h)
+  heap_type_writes h r = one_space_writes refl (heap_writes names named h r)
 
-  pub ref_type_writes : (null : Bool) (h : HeapType) → IsRangedHeap h → Writes Bound (Gap ∷ ref_pieces names (ref_type null h)) Bound (ref_items_by names null h)
-  ref_type_writes null h r = gap_writes refl (ref_writes names named (ref_type null h) r)
+  pub ref_type_writes : (null : Bool) (h : HeapType) → IsRangedHeap h → Writes Bound (OneSpace ∷ ref_pieces names (ref_type null h)) Bound (ref_items_by names null h)
+  ref_type_writes null h r = one_space_writes refl (ref_writes names named (ref_type null h) r)
 
   pub cast_writes : (inner xs : List Label) (l : ℕ) (r t : RefType) → AllByRecursion IsNamedIfAny xs → IsU32 l → IsRangedHeap r.heap → IsRangedHeap t.heap →
-      Writes Bound (label_pieces inner xs l ++ (Gap ∷ (ref_pieces names r ++ (Gap ∷ ref_pieces names t)))) Bound (cast_items names inner xs l r t)
+      Writes Bound (label_pieces inner xs l ++ (OneSpace ∷ (ref_pieces names r ++ (OneSpace ∷ ref_pieces names t)))) Bound (cast_items names inner xs l r t)
   cast_writes inner xs l r t ls small h k =
-      then (label_writes inner xs l ls small) (gap_writes refl (then (ref_writes names named r h) (gap_writes refl (ref_writes names named t k))))
+      then (label_writes inner xs l ls small) (one_space_writes refl (then (ref_writes names named r h) (one_space_writes refl (ref_writes names named t k))))

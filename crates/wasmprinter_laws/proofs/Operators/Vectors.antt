@@ -20,7 +20,7 @@ use Rattle.wasmprinter_spec.specs.Layout.Operators.{hex_digits, hex_word, hex_wo
 use Rattle.wasmprinter_laws.proofs.Tokens.Runs.{is_word, are_words}
 use Rattle.wasmprinter_laws.proofs.Tokens.Numbers.{run_hexadecimal, numeral_from}
 use Rattle.wasmprinter_laws.proofs.Tokens.Pieces.{Bound}
-use Rattle.wasmprinter_laws.proofs.Tokens.Writes.{Writes, words_before, nothing_writes, both_write, gap_type_word_writes, gap_literals_writes}
+use Rattle.wasmprinter_laws.proofs.Tokens.Writes.{Writes, words_before, nothing_writes, both_write, space_type_word_writes, space_literals_writes}
 use Rattle.wasmprinter_laws.specs.Listed.{IsByte, IsVectorInRange}
 use Rattle.wasmprinter_laws.proofs.Tabled.{no_rows}
 use Rattle.wasmprinter_laws.proofs.Operators.Arguments.{AreArguments}
@@ -175,7 +175,7 @@ hex_are_words _ h = refl
 
 pub vector_writes : (bs : List ℕ) → IsVectorInRange bs → Writes Bound (vector_pieces bs) Bound (vector_items bs)
 unfolding vector_pieces class
-vector_writes bs h = gap_type_word_writes refl refl (gap_literals_writes refl (hex_are_words bs h.each) nothing_writes)
+vector_writes bs h = space_type_word_writes refl refl (space_literals_writes refl (hex_are_words bs h.each) nothing_writes)
 
 each_lane_writes : (ks : List ℕ) → AllByRecursion IsByte ks → Writes Bound (lanes_pieces ks) Bound (lanes_items ks)
 unfolding lanes_pieces

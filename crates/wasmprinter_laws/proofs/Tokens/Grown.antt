@@ -2,7 +2,7 @@
 use Rattle.std.proofs.Common.{◌≡◌, List, [], ◌∷◌, ◌++◌, refl, sym, ap, ◌∙◌, append_assoc, append-nil, Some, bytes_eq, codes, cond, Bool, true, false}
 use Rattle.wasmprinter_spec.specs.Token as token
 use Rattle.wasmprinter_spec.specs.Token.{Token}
-use Rattle.wasmprinter_spec.specs.Forest.{Forest, End, Word, Name, String, Reserved, Group, Note, place, grow, the_one, onto, flat, without_annotations, row_customs}
+use Rattle.wasmprinter_spec.specs.Forest.{Forest, End, Word, Name, String, Reserved, Group, Note, add_token, grow, the_one, onto, flat, without_annotations, row_customs}
 
 pub onto-End : (f : Forest) → onto f End ≡ f
 onto-End End = refl
@@ -20,25 +20,25 @@ flat-onto (Name s f) g = ap (λ t. token.name s ∷ t) (flat-onto f g)
 flat-onto (String s f) g = ap (λ t. token.string s ∷ t) (flat-onto f g)
 flat-onto (Reserved f) g = ap (λ t. token.reserved ∷ t) (flat-onto f g)
 flat-onto (Group h f) g =
-    ap (λ t. token.left ∷ (flat h ++ (token.right ∷ t))) (flat-onto f g)
-    ∙ ap (λ t. token.left ∷ t) (sym (append_assoc (flat h) (token.right ∷ flat f) (flat g)))
+    ap (λ t. token.open_paren ∷ (flat h ++ (token.close_paren ∷ t))) (flat-onto f g)
+    ∙ ap (λ t. token.open_paren ∷ t) (sym (append_assoc (flat h) (token.close_paren ∷ flat f) (flat g)))
 flat-onto (Note id h f) g =
-    ap (λ t. token.left_note id ∷ (flat h ++ (token.right ∷ t))) (flat-onto f g)
-    ∙ ap (λ t. token.left_note id ∷ t) (sym (append_assoc (flat h) (token.right ∷ flat f) (flat g)))
+    ap (λ t. token.open_annotation id ∷ (flat h ++ (token.close_paren ∷ t))) (flat-onto f g)
+    ∙ ap (λ t. token.open_annotation id ∷ t) (sym (append_assoc (flat h) (token.close_paren ∷ flat f) (flat g)))
 
 pub grow-flat : (f : Forest) (ts : List Token) (g : Forest) (rows : List Forest) → grow ts ≡ g ∷ rows → grow (flat f ++ ts) ≡ onto f g ∷ rows
 grow-flat End ts g rows h = h
-grow-flat (Word s f) ts g rows h = ap (place (token.word s)) (grow-flat f ts g rows h)
-grow-flat (Name s f) ts g rows h = ap (place (token.name s)) (grow-flat f ts g rows h)
-grow-flat (String s f) ts g rows h = ap (place (token.string s)) (grow-flat f ts g rows h)
-grow-flat (Reserved f) ts g rows h = ap (place token.reserved) (grow-flat f ts g rows h)
+grow-flat (Word s f) ts g rows h = ap (add_token (token.word s)) (grow-flat f ts g rows h)
+grow-flat (Name s f) ts g rows h = ap (add_token (token.name s)) (grow-flat f ts g rows h)
+grow-flat (String s f) ts g rows h = ap (add_token (token.string s)) (grow-flat f ts g rows h)
+grow-flat (Reserved f) ts g rows h = ap (add_token token.reserved) (grow-flat f ts g rows h)
 grow-flat (Group a f) ts g rows h =
-    ap (λ t. place token.left (grow t)) (append_assoc (flat a) (token.right ∷ flat f) ts)
-    ∙ ap (place token.left) (grow-flat a (token.right ∷ (flat f ++ ts)) End (onto f g ∷ rows) (ap (place token.right) (grow-flat f ts g rows h)))
+    ap (λ t. add_token token.open_paren (grow t)) (append_assoc (flat a) (token.close_paren ∷ flat f) ts)
+    ∙ ap (add_token token.open_paren) (grow-flat a (token.close_paren ∷ (flat f ++ ts)) End (onto f g ∷ rows) (ap (add_token token.close_paren) (grow-flat f ts g rows h)))
     ∙ ap (λ t. Group t (onto f g) ∷ rows) (onto-End a)
 grow-flat (Note id a f) ts g rows h =
-    ap (λ t. place (token.left_note id) (grow t)) (append_assoc (flat a) (token.right ∷ flat f) ts)
-    ∙ ap (place (token.left_note id)) (grow-flat a (token.right ∷ (flat f ++ ts)) End (onto f g ∷ rows) (ap (place token.right) (grow-flat f ts g rows h)))
+    ap (λ t. add_token (token.open_annotation id) (grow t)) (append_assoc (flat a) (token.close_paren ∷ flat f) ts)
+    ∙ ap (add_token (token.open_annotation id)) (grow-flat a (token.close_paren ∷ (flat f ++ ts)) End (onto f g ∷ rows) (ap (add_token token.close_paren) (grow-flat f ts g rows h)))
     ∙ ap (λ t. Note id t (onto f g) ∷ rows) (onto-End a)
 
 -- The tokens of a sequence of items grow into exactly that sequence.

@@ -4,7 +4,7 @@ use Rattle.std.proofs.lemmas.Bool.{and_parts}
 use Rattle.std.proofs.lemmas.Str.{encode_ascii}
 use Rattle.std.proofs.Math.Utf8.{scalars}
 use Rattle.wasmprinter_spec.specs.Character.{Class, Backslash, Dollar, At, Plain, class}
-use Rattle.wasmprinter_spec.specs.Token.{left_note, right, name, string, reserved, AsName, AsString, Clear, Tight, InRun, InQuoted, AfterDollar, Next, after_dollar, is_name, lex}
+use Rattle.wasmprinter_spec.specs.Token.{open_annotation, close_paren, name, string, reserved, AsName, AsString, Clear, Tight, InRun, InQuoted, AfterDollar, Next, after_dollar, is_name, lex}
 use Rattle.wasmprinter_spec.specs.Quoted.{char_text, quoted_text, is_id_char, all_id_chars, is_id, identifier_text}
 use Rattle.wasmprinter_laws.proofs.Tokens.Runs.{delimited, run_goes_on, run_ends, tight_clears}
 use Rattle.wasmprinter_laws.proofs.Tokens.Printed.{is_printed, all_printed, all_printed-run}
@@ -62,6 +62,6 @@ identifier_lexes cs rest h n d = by (is_id cs) refl
 -- ---- (@name "..")
 
 pub name_note_lexes : (cs rest : List ℕ) → scalars cs ≡ true →
-    lex Clear (codes "(@name \"" ++ (flat_map char_text cs ++ (codes "\")" ++ rest))) ≡ left_note (codes "name") ∷ (string (encode_utf8_all cs) ∷ (right ∷ lex Clear rest))
+    lex Clear (codes "(@name \"" ++ (flat_map char_text cs ++ (codes "\")" ++ rest))) ≡ open_annotation (codes "name") ∷ (string (encode_utf8_all cs) ∷ (close_paren ∷ lex Clear rest))
 unfolding lex class
-name_note_lexes cs rest h = ap (λ t. left_note (codes "name") ∷ t) (chars_lex AsString [] cs (codes "\")" ++ rest) h)
+name_note_lexes cs rest h = ap (λ t. open_annotation (codes "name") ∷ t) (chars_lex AsString [] cs (codes "\")" ++ rest) h)

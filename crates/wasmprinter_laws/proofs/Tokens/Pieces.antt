@@ -11,7 +11,7 @@ use Rattle.wasmprinter_spec.specs.Options.{Options, IsBlank}
 use Rattle.wasmprinter_spec.specs.Float.{IsWidth, sign_bit}
 use Rattle.wasmprinter_spec.specs.Quoted.{is_id, char_text, quoted_text, quoted_bytes, identifier_text}
 use Rattle.wasmprinter_spec.specs.Token.{Clear, word, is_name, lex}
-use Rattle.wasmprinter_spec.specs.Piece.{Piece, Begin, EndLine, Break, Gap, Open, OpenGap, OpenPlain, OpenUnnamed, OpenTypeGap, OpenAnnotation, OpenAnnotationGap, OpenAnnotationWord, Shut, Word, TypeWord, TypeWordGap, GapTypeWord, Number, Constant, Literals, GapLiterals, Float, IndexComment, BeginName, EndStyle, Quoted, QuotedBytes, Identifier, NameAnnotation, BlockComment, LineComment, PlainLineComment, HintAnnotation, Claimed, flag_byte, repetition_of, left_in, place_text, place_calls, most_indents, after_spaces, word_tokens, calls, text, piece_tokens, all_calls, all_tokens}
+use Rattle.wasmprinter_spec.specs.Piece.{Piece, Begin, EndLine, Break, OneSpace, Open, OpenSpace, OpenPlain, OpenUnnamed, OpenTypeSpace, OpenAnnotation, OpenAnnotationSpace, OpenAnnotationWord, CloseParen, Word, TypeWord, TypeWordSpace, SpaceTypeWord, Number, Constant, Literals, SpaceLiterals, Float, IndexComment, BeginName, EndStyle, Quoted, QuotedBytes, Identifier, NameAnnotation, BlockComment, LineComment, PlainLineComment, HintAnnotation, Claimed, flag_byte, repetition_of, left_in, place_text, place_calls, most_indents, after_spaces, word_tokens, calls, text, piece_tokens, all_calls, all_tokens}
 use Rattle.wasmprinter_spec.proofs.Texts.{text_of-append}
 use Rattle.wasmprinter_laws.proofs.Tokens.Runs.{is_quiet, ends_line, ending_lexes, is_word, are_words, all_quiet, all_blank, is_blank_class, delimited, begins_item, begins_item-word, left_lexes, word_lexes, open_lexes, blanks_lex, comment_lexes}
 use Rattle.wasmprinter_laws.proofs.Tokens.Numbers.{is_word-decimal, is_word-signed_decimal, all_quiet-decimal}
@@ -36,7 +36,7 @@ abbrev pub begins : Piece → Bool
 begins (Begin place) = false
 begins (Word w) = false
 begins (TypeWord w) = false
-begins (TypeWordGap w) = false
+begins (TypeWordSpace w) = false
 begins (Number n) = false
 begins BeginName = false
 begins (Literals w ws) = false
@@ -49,7 +49,7 @@ begins _ = true
 -- Whether the piece may follow a parenthesis without a keyword
 abbrev pub starts : Piece → Bool
 starts (Begin place) = false
-starts (GapLiterals ws) = false
+starts (SpaceLiterals ws) = false
 starts (Float w bits) = false
 starts BeginName = false
 starts EndStyle = false
@@ -72,11 +72,11 @@ leaves (OpenAnnotationWord w) = Bound
 leaves OpenUnnamed = Opened
 leaves (Word w) = Bound
 leaves (TypeWord w) = Bound
-leaves (GapTypeWord w) = Bound
+leaves (SpaceTypeWord w) = Bound
 leaves (Number n) = Bound
 leaves (Constant z) = Bound
 leaves (Literals w ws) = Bound
-leaves (GapLiterals ws) = Bound
+leaves (SpaceLiterals ws) = Bound
 leaves (Float w bits) = Bound
 leaves EndStyle = Bound
 leaves (Quoted cs) = Bound
@@ -100,20 +100,20 @@ pieces_follow e (p ∷ ps) = may_follow e p && pieces_follow (leaves p) ps
 -- The contents of a piece are as its kind requires.
 abbrev pub IsPiece : Piece → Type 0
 IsPiece (Open w) = is_word w ≡ true
-IsPiece (OpenGap w) = is_word w ≡ true
+IsPiece (OpenSpace w) = is_word w ≡ true
 IsPiece (OpenPlain w) = is_word w ≡ true
-IsPiece (OpenTypeGap w) = is_word w ≡ true
+IsPiece (OpenTypeSpace w) = is_word w ≡ true
 IsPiece (OpenAnnotation w) = is_id w ≡ true
-IsPiece (OpenAnnotationGap w) = is_id w ≡ true
+IsPiece (OpenAnnotationSpace w) = is_id w ≡ true
 IsPiece (OpenAnnotationWord w) = is_id w ≡ true
 IsPiece (Word w) = is_word w ≡ true
 IsPiece (TypeWord w) = is_word w ≡ true
-IsPiece (TypeWordGap w) = is_word w ≡ true
-IsPiece (GapTypeWord w) = is_word w ≡ true
+IsPiece (TypeWordSpace w) = is_word w ≡ true
+IsPiece (SpaceTypeWord w) = is_word w ≡ true
 IsPiece (Number n) = n < 2 ^ 64
 IsPiece (Constant z) = mag z < 2 ^ 63
 IsPiece (Literals w ws) = are_words (w ∷ ws) ≡ true
-IsPiece (GapLiterals ws) = are_words ws ≡ true
+IsPiece (SpaceLiterals ws) = are_words ws ≡ true
 IsPiece (Float w bits) = IsWidth w × (bits < 2 * sign_bit w)
 IsPiece (IndexComment n) = n < 2 ^ 64
 IsPiece (Quoted cs) = scalars cs ≡ true
@@ -235,38 +235,38 @@ module _ (o : Options) (spaces : all_blank o.indent ≡ true) where
   piece_lexes EndLine rest h d = refl
   piece_lexes (Break place nesting) rest h d =
       indent_lexes o.offsets place (repetition_of (min nesting most_indents) o.indent) rest (all_blank-repetition_of (min nesting most_indents) o.indent spaces)
-  piece_lexes Gap rest h d = refl
+  piece_lexes OneSpace rest h d = refl
   piece_lexes (Open w) rest h d =
       ap (λ t. lex Clear (40 ∷ (t ++ rest))) (append-nil w) ∙ open_lexes w rest h d
-  piece_lexes (OpenGap w) rest h d =
+  piece_lexes (OpenSpace w) rest h d =
       ap (λ t. lex Clear (40 ∷ (t ++ rest))) (append-nil (w ++ (32 ∷ [])))
       ∙ ap (λ t. lex Clear (40 ∷ t)) (append_assoc w (32 ∷ []) rest)
       ∙ open_lexes w (32 ∷ rest) h refl
   piece_lexes (OpenPlain w) rest h d =
       ap (λ t. lex Clear (40 ∷ (t ++ rest))) (append-nil w) ∙ open_lexes w rest h d
   piece_lexes OpenUnnamed rest h d = left_lexes rest d
-  piece_lexes (OpenTypeGap w) rest h d =
+  piece_lexes (OpenTypeSpace w) rest h d =
       ap (λ t. lex Clear (40 ∷ (t ++ rest))) (append-nil (w ++ (32 ∷ [])))
       ∙ ap (λ t. lex Clear (40 ∷ t)) (append_assoc w (32 ∷ []) rest)
       ∙ open_lexes w (32 ∷ rest) h refl
   piece_lexes (OpenAnnotation w) rest h d = ap (λ t. lex Clear (40 ∷ (64 ∷ (t ++ rest)))) (append-nil w) ∙ note_lexes w rest h d
-  piece_lexes (OpenAnnotationGap w) rest h d =
+  piece_lexes (OpenAnnotationSpace w) rest h d =
       ap (λ t. lex Clear (40 ∷ (64 ∷ (t ++ rest)))) (append-nil (w ++ (32 ∷ [])))
       ∙ ap (λ t. lex Clear (40 ∷ (64 ∷ t))) (append_assoc w (32 ∷ []) rest)
       ∙ note_lexes w (32 ∷ rest) h refl
   piece_lexes (OpenAnnotationWord w) rest h d = ap (λ t. lex Clear (40 ∷ (t ++ rest))) (append-nil w) ∙ run_lexes w rest h d
-  piece_lexes Shut rest h d = refl
+  piece_lexes CloseParen rest h d = refl
   piece_lexes (Word w) rest h d = ap (λ t. lex Clear (t ++ rest)) (append-nil w) ∙ word_lexes w rest h d
   piece_lexes (TypeWord w) rest h d = ap (λ t. lex Clear (t ++ rest)) (append-nil w) ∙ word_lexes w rest h d
-  piece_lexes (TypeWordGap w) rest h d =
+  piece_lexes (TypeWordSpace w) rest h d =
       ap (λ t. lex Clear (t ++ rest)) (append-nil (w ++ (32 ∷ [])))
       ∙ ap (lex Clear) (append_assoc w (32 ∷ []) rest)
       ∙ word_lexes w (32 ∷ rest) h refl
-  piece_lexes (GapTypeWord w) rest h d = ap (λ t. lex Clear (t ++ rest)) (append-nil w) ∙ word_lexes w rest h d
+  piece_lexes (SpaceTypeWord w) rest h d = ap (λ t. lex Clear (t ++ rest)) (append-nil w) ∙ word_lexes w rest h d
   piece_lexes (Number n) rest h d = ap (λ t. lex Clear (t ++ rest)) (append-nil (decimal n)) ∙ word_lexes (decimal n) rest (is_word-decimal n h) d
   piece_lexes (Constant z) rest h d = ap (λ t. lex Clear (t ++ rest)) (append-nil (signed_decimal z)) ∙ word_lexes (signed_decimal z) rest (is_word-signed_decimal z h) d
   piece_lexes (Literals w ws) rest h d = ap (λ t. lex Clear (t ++ rest)) (append-nil (w ++ after_spaces ws)) ∙ words_lex w ws rest h d
-  piece_lexes (GapLiterals ws) rest h d = ap (λ t. lex Clear (t ++ rest)) (append-nil (after_spaces ws)) ∙ after_spaces_lex ws rest h d
+  piece_lexes (SpaceLiterals ws) rest h d = ap (λ t. lex Clear (t ++ rest)) (append-nil (after_spaces ws)) ∙ after_spaces_lex ws rest h d
   piece_lexes (Float w bits) rest h d = float_lexes w h.0 bits rest h.1 d
   piece_lexes BeginName rest h d = refl
   piece_lexes EndStyle rest h d = refl
@@ -308,24 +308,24 @@ unfolding class
 begins_delimited o (Begin place) rest h d = absurd (true≢false (sym h))
 begins_delimited o EndLine rest h d = refl
 begins_delimited o (Break place nesting) rest h d = refl
-begins_delimited o Gap rest h d = refl
+begins_delimited o OneSpace rest h d = refl
 begins_delimited o (Open w) rest h d = refl
-begins_delimited o (OpenGap w) rest h d = refl
+begins_delimited o (OpenSpace w) rest h d = refl
 begins_delimited o (OpenPlain w) rest h d = refl
 begins_delimited o OpenUnnamed rest h d = refl
-begins_delimited o (OpenTypeGap w) rest h d = refl
+begins_delimited o (OpenTypeSpace w) rest h d = refl
 begins_delimited o (OpenAnnotation w) rest h d = refl
-begins_delimited o (OpenAnnotationGap w) rest h d = refl
+begins_delimited o (OpenAnnotationSpace w) rest h d = refl
 begins_delimited o (OpenAnnotationWord w) rest h d = refl
-begins_delimited o Shut rest h d = refl
+begins_delimited o CloseParen rest h d = refl
 begins_delimited o (Word w) rest h d = absurd (true≢false (sym h))
 begins_delimited o (TypeWord w) rest h d = absurd (true≢false (sym h))
-begins_delimited o (TypeWordGap w) rest h d = absurd (true≢false (sym h))
-begins_delimited o (GapTypeWord w) rest h d = refl
+begins_delimited o (TypeWordSpace w) rest h d = absurd (true≢false (sym h))
+begins_delimited o (SpaceTypeWord w) rest h d = refl
 begins_delimited o (Number n) rest h d = absurd (true≢false (sym h))
 begins_delimited o (Constant z) rest h d = refl
 begins_delimited o (Literals w ws) rest h d = absurd (true≢false (sym h))
-begins_delimited o (GapLiterals ws) rest h d =
+begins_delimited o (SpaceLiterals ws) rest h d =
     ap (λ t. delimited (t ++ rest)) (append-nil (after_spaces ws)) ∙ after_spaces_delimited ws rest d
 begins_delimited o (Float w bits) rest h d = absurd (true≢false (sym h))
 begins_delimited o (IndexComment n) rest h d = refl
@@ -347,27 +347,27 @@ unfolding class quoted_text quoted_bytes identifier_text
 starts_item o (Begin place) rest h i = absurd (true≢false (sym h))
 starts_item o EndLine rest h i = refl
 starts_item o (Break place nesting) rest h i = refl
-starts_item o Gap rest h i = refl
+starts_item o OneSpace rest h i = refl
 starts_item o (Open w) rest h i = refl
-starts_item o (OpenGap w) rest h i = refl
+starts_item o (OpenSpace w) rest h i = refl
 starts_item o (OpenPlain w) rest h i = refl
 starts_item o OpenUnnamed rest h i = refl
-starts_item o (OpenTypeGap w) rest h i = refl
+starts_item o (OpenTypeSpace w) rest h i = refl
 starts_item o (OpenAnnotation w) rest h i = refl
-starts_item o (OpenAnnotationGap w) rest h i = refl
+starts_item o (OpenAnnotationSpace w) rest h i = refl
 starts_item o (OpenAnnotationWord w) rest h i = refl
-starts_item o Shut rest h i = refl
+starts_item o CloseParen rest h i = refl
 starts_item o (Word w) rest h i = begins_item-word w [] rest i
 starts_item o (TypeWord w) rest h i = begins_item-word w [] rest i
-starts_item o (TypeWordGap w) rest h i =
+starts_item o (TypeWordSpace w) rest h i =
     ap (λ t. begins_item (t ++ rest)) (append-nil (w ++ (32 ∷ []))) ∙ begins_item-word w (32 ∷ []) rest i
-starts_item o (GapTypeWord w) rest h i = refl
+starts_item o (SpaceTypeWord w) rest h i = refl
 starts_item o (Number n) rest h i = begins_item-word (decimal n) [] rest (is_word-decimal n i)
 starts_item o (Constant z) rest h i = refl
 starts_item o (Literals w ws) rest h i =
     ap (λ t. begins_item (t ++ rest)) (append-nil (w ++ after_spaces ws))
     ∙ begins_item-word w (after_spaces ws) rest (and_parts (is_word w) (are_words ws) i).0
-starts_item o (GapLiterals ws) rest h i = absurd (true≢false (sym h))
+starts_item o (SpaceLiterals ws) rest h i = absurd (true≢false (sym h))
 starts_item o (Float w bits) rest h i = absurd (true≢false (sym h))
 starts_item o (IndexComment n) rest h i = refl
 starts_item o BeginName rest h i = absurd (true≢false (sym h))

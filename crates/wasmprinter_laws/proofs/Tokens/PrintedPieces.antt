@@ -7,7 +7,7 @@ use Rattle.wasmprinter_spec.specs.Call.{Text, text_of}
 use Rattle.wasmprinter_spec.specs.Options.{Options, IsBlank}
 use Rattle.wasmprinter_spec.specs.Plain.{IsPlainText}
 use Rattle.wasmprinter_spec.specs.Quoted.{char_text, byte_text, is_plain, quoted_text, quoted_bytes, is_id, identifier_text}
-use Rattle.wasmprinter_spec.specs.Piece.{Piece, Begin, EndLine, Break, Gap, Open, OpenGap, OpenPlain, OpenUnnamed, OpenTypeGap, OpenAnnotation, OpenAnnotationGap, OpenAnnotationWord, Shut, Word, TypeWord, TypeWordGap, GapTypeWord, Number, Constant, Literals, GapLiterals, Float, IndexComment, BeginName, EndStyle, Quoted, QuotedBytes, Identifier, NameAnnotation, BlockComment, LineComment, PlainLineComment, HintAnnotation, Claimed, flag_byte, after_spaces, repetition_of, left_in, place_text, place_calls, most_indents, text, all_calls}
+use Rattle.wasmprinter_spec.specs.Piece.{Piece, Begin, EndLine, Break, OneSpace, Open, OpenSpace, OpenPlain, OpenUnnamed, OpenTypeSpace, OpenAnnotation, OpenAnnotationSpace, OpenAnnotationWord, CloseParen, Word, TypeWord, TypeWordSpace, SpaceTypeWord, Number, Constant, Literals, SpaceLiterals, Float, IndexComment, BeginName, EndStyle, Quoted, QuotedBytes, Identifier, NameAnnotation, BlockComment, LineComment, PlainLineComment, HintAnnotation, Claimed, flag_byte, after_spaces, repetition_of, left_in, place_text, place_calls, most_indents, text, all_calls}
 use Rattle.wasmprinter_spec.proofs.Texts.{text_of-append}
 use Rattle.wasmprinter_laws.proofs.Tokens.Runs.{is_word, are_words}
 use Rattle.wasmprinter_laws.proofs.Tokens.Numbers.{is_word-decimal, is_word-signed_decimal}
@@ -112,26 +112,26 @@ module _ (o : Options) (spaces : IsBlank o.indent) where
       (printed_place_calls o.offsets place)
       (printed_styled (repetition_of (min nesting most_indents) o.indent)
       (all_printed-spaces (repetition_of (min nesting most_indents) o.indent) (all_blank-repetition_of (min nesting most_indents) o.indent (all_blank-IsBlank o.indent spaces))))
-  printed_piece Gap h = refl
+  printed_piece OneSpace h = refl
   printed_piece (Open w) h = printed_styled w (printed_word w h)
-  printed_piece (OpenGap w) h = printed_styled (w ++ (32 ∷ [])) (all_printed-append w (32 ∷ []) (printed_word w h) refl)
+  printed_piece (OpenSpace w) h = printed_styled (w ++ (32 ∷ [])) (all_printed-append w (32 ∷ []) (printed_word w h) refl)
   printed_piece (OpenPlain w) h = printed_styled w (printed_word w h)
   printed_piece OpenUnnamed h = refl
-  printed_piece (OpenTypeGap w) h = printed_styled (w ++ (32 ∷ [])) (all_printed-append w (32 ∷ []) (printed_word w h) refl)
+  printed_piece (OpenTypeSpace w) h = printed_styled (w ++ (32 ∷ [])) (all_printed-append w (32 ∷ []) (printed_word w h) refl)
   printed_piece (OpenAnnotation w) h = printed_styled w (run_is_printed w h)
-  printed_piece (OpenAnnotationGap w) h = printed_styled (w ++ (32 ∷ [])) (all_printed-append w (32 ∷ []) (run_is_printed w h) refl)
+  printed_piece (OpenAnnotationSpace w) h = printed_styled (w ++ (32 ∷ [])) (all_printed-append w (32 ∷ []) (run_is_printed w h) refl)
   printed_piece (OpenAnnotationWord w) h = printed_styled w (run_is_printed w h)
-  printed_piece Shut h = refl
+  printed_piece CloseParen h = refl
   printed_piece (Word w) h = printed_styled w (printed_word w h)
   printed_piece (TypeWord w) h = printed_styled w (printed_word w h)
-  printed_piece (TypeWordGap w) h = printed_styled (w ++ (32 ∷ [])) (all_printed-append w (32 ∷ []) (printed_word w h) refl)
-  printed_piece (GapTypeWord w) h = printed_styled w (printed_word w h)
+  printed_piece (TypeWordSpace w) h = printed_styled (w ++ (32 ∷ [])) (all_printed-append w (32 ∷ []) (printed_word w h) refl)
+  printed_piece (SpaceTypeWord w) h = printed_styled w (printed_word w h)
   printed_piece (Number n) h = printed_styled (decimal n) (printed_word (decimal n) (is_word-decimal n h))
   printed_piece (Constant z) h = printed_styled (signed_decimal z) (printed_word (signed_decimal z) (is_word-signed_decimal z h))
   printed_piece (Literals w ws) h =
       let parts : (is_word w ≡ true) × (are_words ws ≡ true) = and_parts (is_word w) (are_words ws) h in
       printed_styled (w ++ after_spaces ws) (all_printed-append w (after_spaces ws) (printed_word w parts.0) (printed_words ws parts.1))
-  printed_piece (GapLiterals ws) h = printed_styled (after_spaces ws) (printed_words ws h)
+  printed_piece (SpaceLiterals ws) h = printed_styled (after_spaces ws) (printed_words ws h)
   printed_piece (Float w bits) h = printed_float w h.0 bits h.1
   printed_piece BeginName h = refl
   printed_piece EndStyle h = refl

@@ -13,11 +13,11 @@ use Rattle.wasmprinter_spec.specs.Float.{Width, IsWidth, sign_bit}
 use Rattle.wasmprinter_spec.specs.FloatText.{float_text}
 use Rattle.wasmprinter_spec.specs.Options.{Options, IsBlank}
 use Rattle.wasmprinter_spec.specs.Quoted.{is_id}
-use Rattle.wasmprinter_spec.specs.Token.{left, left_note, right, word, name, string, is_name, tokens}
+use Rattle.wasmprinter_spec.specs.Token.{open_paren, open_annotation, close_paren, word, name, string, is_name, tokens}
 use Rattle.wasmprinter_spec.specs.Forest.{Forest, End, Word, Name, String, Group, Note, flat, onto, without_annotations, forest, the_one, grow}
 use Rattle.wasmprinter_spec.specs.Piece as piece
-use Rattle.wasmprinter_spec.specs.Piece.{Piece, Begin, EndLine, Break, Gap, Open, OpenGap, OpenPlain, OpenUnnamed, OpenTypeGap, OpenAnnotation, OpenAnnotationGap, OpenAnnotationWord, Shut, TypeWord, TypeWordGap, GapTypeWord, Number, Constant, Literals, GapLiterals, Float, IndexComment, BeginName, EndStyle, Quoted, QuotedBytes, Identifier, NameAnnotation, BlockComment, LineComment, PlainLineComment, HintAnnotation, Claimed, flag_byte, word_tokens, all_calls, all_tokens, piece_tokens}
-use Rattle.wasmprinter_spec.specs.Layout.Groups.{group, group_gap, line_group_gap, group_at, group_gap_at, line_group, close, has_break}
+use Rattle.wasmprinter_spec.specs.Piece.{Piece, Begin, EndLine, Break, OneSpace, Open, OpenSpace, OpenPlain, OpenUnnamed, OpenTypeSpace, OpenAnnotation, OpenAnnotationSpace, OpenAnnotationWord, CloseParen, TypeWord, TypeWordSpace, SpaceTypeWord, Number, Constant, Literals, SpaceLiterals, Float, IndexComment, BeginName, EndStyle, Quoted, QuotedBytes, Identifier, NameAnnotation, BlockComment, LineComment, PlainLineComment, HintAnnotation, Claimed, flag_byte, word_tokens, all_calls, all_tokens, piece_tokens}
+use Rattle.wasmprinter_spec.specs.Layout.Groups.{group, group_space, line_group_space, group_at, group_space_at, line_group, close, has_break}
 use Rattle.wasmprinter_laws.proofs.Tokens.Runs.{is_word, are_words}
 use Rattle.wasmprinter_laws.proofs.Tokens.Grown.{flat-onto, one-flat, without_annotations-onto}
 use Rattle.wasmprinter_laws.proofs.Tokens.Noted.{Noted, no_items, a_word, a_name, a_noted_name, a_string, a_group, a_note, noted-same, noted-onto}
@@ -213,8 +213,8 @@ feed_writes {a = a} w = silent_writes EndLine tt (joins_line a EndLine refl) ref
 pub break_writes : {a b : Edge} {place : Option ℕ} {nesting : ℕ} {ps : List Piece} {f k : Forest} → WritesNoted Free ps b f k → WritesNoted a (Break place nesting ∷ ps) b f k
 break_writes {a = a} {place = place} {nesting = nesting} w = silent_writes (Break place nesting) tt (joins_line a (Break place nesting) refl) refl w
 
-pub gap_writes : {a b : Edge} {ps : List Piece} {f k : Forest} → is_open a ≡ true → WritesNoted Free ps b f k → WritesNoted a (Gap ∷ ps) b f k
-gap_writes {a = a} e w = silent_writes Gap tt (joins_anywhere a Gap e refl) refl w
+pub one_space_writes : {a b : Edge} {ps : List Piece} {f k : Forest} → is_open a ≡ true → WritesNoted Free ps b f k → WritesNoted a (OneSpace ∷ ps) b f k
+one_space_writes {a = a} e w = silent_writes OneSpace tt (joins_anywhere a OneSpace e refl) refl w
 
 pub number_remark_writes : {a b : Edge} {n : ℕ} {ps : List Piece} {f k : Forest} → is_open a ≡ true → n < 2 ^ 64 → WritesNoted Free ps b f k → WritesNoted a (IndexComment n ∷ ps) b f k
 number_remark_writes {a = a} {n = n} e h w = silent_writes (IndexComment n) h (joins_anywhere a (IndexComment n) e refl) refl w
@@ -238,13 +238,13 @@ number_writes {n = n} h w = one_word_writes (Number n) (decimal n) h (λ qs j. j
 pub constant_writes : {a b : Edge} {z : ℤ} {ps : List Piece} {f k : Forest} → is_open a ≡ true → mag z < 2 ^ 63 → WritesNoted Bound ps b f k → WritesNoted a (Constant z ∷ ps) b (Word (signed_decimal z) f) (Word (signed_decimal z) k)
 constant_writes {a = a} {z = z} e h w = one_word_writes (Constant z) (signed_decimal z) h (joins_anywhere a (Constant z) e refl) refl w
 
-pub type_word_gap_writes : {b : Edge} {v : List ℕ} {ps : List Piece} {f k : Forest} → is_word v ≡ true → WritesNoted Free ps b f k →
-    WritesNoted Free (TypeWordGap v ∷ ps) b (Word v f) (Word v k)
-type_word_gap_writes {v = v} h w = one_word_writes (TypeWordGap v) v h (λ qs j. j) refl w
+pub type_word_space_writes : {b : Edge} {v : List ℕ} {ps : List Piece} {f k : Forest} → is_word v ≡ true → WritesNoted Free ps b f k →
+    WritesNoted Free (TypeWordSpace v ∷ ps) b (Word v f) (Word v k)
+type_word_space_writes {v = v} h w = one_word_writes (TypeWordSpace v) v h (λ qs j. j) refl w
 
-pub gap_type_word_writes : {a b : Edge} {v : List ℕ} {ps : List Piece} {f k : Forest} → is_open a ≡ true → is_word v ≡ true → WritesNoted Bound ps b f k →
-    WritesNoted a (GapTypeWord v ∷ ps) b (Word v f) (Word v k)
-gap_type_word_writes {a = a} {v = v} e h w = one_word_writes (GapTypeWord v) v h (joins_anywhere a (GapTypeWord v) e refl) refl w
+pub space_type_word_writes : {a b : Edge} {v : List ℕ} {ps : List Piece} {f k : Forest} → is_open a ≡ true → is_word v ≡ true → WritesNoted Bound ps b f k →
+    WritesNoted a (SpaceTypeWord v ∷ ps) b (Word v f) (Word v k)
+space_type_word_writes {a = a} {v = v} e h w = one_word_writes (SpaceTypeWord v) v h (joins_anywhere a (SpaceTypeWord v) e refl) refl w
 
 -- Words, followed by other items
 abbrev pub words_before : List (List ℕ) → Forest → Forest
@@ -274,9 +274,9 @@ pub literals_writes : {b : Edge} {v : List ℕ} {vs : List (List ℕ)} {ps : Lis
     WritesNoted Free (Literals v vs ∷ ps) b (Word v (words_before vs f)) (Word v (words_before vs k))
 literals_writes {v = v} {vs = vs} h w = words_writes (Literals v vs) (v ∷ vs) h (λ qs j. j) refl w
 
-pub gap_literals_writes : {a b : Edge} {vs : List (List ℕ)} {ps : List Piece} {f k : Forest} → is_open a ≡ true → are_words vs ≡ true → WritesNoted Bound ps b f k →
-    WritesNoted a (GapLiterals vs ∷ ps) b (words_before vs f) (words_before vs k)
-gap_literals_writes {a = a} {vs = vs} e h w = words_writes (GapLiterals vs) vs h (joins_anywhere a (GapLiterals vs) e refl) refl w
+pub space_literals_writes : {a b : Edge} {vs : List (List ℕ)} {ps : List Piece} {f k : Forest} → is_open a ≡ true → are_words vs ≡ true → WritesNoted Bound ps b f k →
+    WritesNoted a (SpaceLiterals vs ∷ ps) b (words_before vs f) (words_before vs k)
+space_literals_writes {a = a} {vs = vs} e h w = words_writes (SpaceLiterals vs) vs h (joins_anywhere a (SpaceLiterals vs) e refl) refl w
 
 pub float_writes : {b : Edge} {width : Width} {bits : ℕ} {ps : List Piece} {f k : Forest} → IsWidth width → bits < 2 * sign_bit width → WritesNoted Bound ps b f k →
     WritesNoted Free (Float width bits ∷ ps) b (Word (float_text width bits) f) (Word (float_text width bits) k)
@@ -297,14 +297,14 @@ identifier_writes {cs = cs} h n w =
 -- The rule for an identifier with the annotation of the given name
 pub noted_identifier_writes : {b : Edge} {cs ds : List ℕ} {ps : List Piece} {f k : Forest} → scalars cs ≡ true → is_name (encode_utf8_all cs) ≡ true → scalars ds ≡ true →
     WritesNoted Free ps b f k →
-    WritesNoted Free (Identifier cs ∷ (Gap ∷ (NameAnnotation ds ∷ ps))) b (Name (encode_utf8_all cs) f) (Name (encode_utf8_all cs) k)
+    WritesNoted Free (Identifier cs ∷ (OneSpace ∷ (NameAnnotation ds ∷ ps))) b (Name (encode_utf8_all cs) f) (Name (encode_utf8_all cs) k)
 noted_identifier_writes {cs = cs} {ds = ds} h n d w = record {
-  printed = Identifier cs ∷ (Gap ∷ (NameAnnotation ds ∷ w.printed));
-  spelled = first_spelled (Identifier cs) (first_spelled Gap (first_spelled (NameAnnotation ds) w.spelled));
+  printed = Identifier cs ∷ (OneSpace ∷ (NameAnnotation ds ∷ w.printed));
+  spelled = first_spelled (Identifier cs) (first_spelled OneSpace (first_spelled (NameAnnotation ds) w.spelled));
   joins = w.joins;
   are = ((h, n), (tt, (d, w.are)));
   whole = Name (encode_utf8_all cs) (Note (codes "name") (String (encode_utf8_all ds) End) w.whole);
-  tokens = ap (λ t. name (encode_utf8_all cs) ∷ (left_note (codes "name") ∷ (string (encode_utf8_all ds) ∷ (right ∷ t)))) w.tokens;
+  tokens = ap (λ t. name (encode_utf8_all cs) ∷ (open_annotation (codes "name") ∷ (string (encode_utf8_all ds) ∷ (close_paren ∷ t)))) w.tokens;
   without = ap (Name (encode_utf8_all cs)) w.without;
   noted = a_noted_name w.noted;
 }
@@ -337,7 +337,7 @@ opened_word_writes {v = v} h w = one_word_writes (piece.Word v) v h (λ qs j. j)
 
 -- ---- groups
 
-pub close_tokens : (place : Option ℕ) (nesting : ℕ) (t : Bool) → all_tokens (close place nesting t) ≡ right ∷ []
+pub close_tokens : (place : Option ℕ) (nesting : ℕ) (t : Bool) → all_tokens (close place nesting t) ≡ close_paren ∷ []
 close_tokens place nesting true = refl
 close_tokens place nesting false = refl
 
@@ -366,7 +366,7 @@ record IsOpening (p : Piece) (a : Edge) (around kept : Forest → Forest) : Type
   delimits : begins p ≡ true
   leaves_it : leaves p ≡ a
   is : ArePieces (p ∷ [])
-  opens : (f : Forest) → piece_tokens p ++ (flat f ++ (right ∷ [])) ≡ flat (around f)
+  opens : (f : Forest) → piece_tokens p ++ (flat f ++ (close_paren ∷ [])) ≡ flat (around f)
   notes : {f k : Forest} → Noted f k → Noted (around f) (around k)
   cuts : (k : Forest) → without_annotations (around k) ≡ kept (without_annotations k)
 
@@ -376,13 +376,13 @@ group_of v f = Group (Word v f) End
 opening : (v : List ℕ) → is_word v ≡ true → IsOpening (Open v) Bound (group_of v) (group_of v)
 opening v h = record { delimits = refl; leaves_it = refl; is = (h, tt); opens = λ f. refl; notes = λ n. a_group (a_word n) no_items; cuts = λ k. refl }
 
-opening_gap : (v : List ℕ) → is_word v ≡ true → IsOpening (OpenGap v) Free (group_of v) (group_of v)
-opening_gap v h = record { delimits = refl; leaves_it = refl; is = (h, tt); opens = λ f. refl; notes = λ n. a_group (a_word n) no_items; cuts = λ k. refl }
+opening_space : (v : List ℕ) → is_word v ≡ true → IsOpening (OpenSpace v) Free (group_of v) (group_of v)
+opening_space v h = record { delimits = refl; leaves_it = refl; is = (h, tt); opens = λ f. refl; notes = λ n. a_group (a_word n) no_items; cuts = λ k. refl }
 
 opening_plain : (v : List ℕ) → is_word v ≡ true → IsOpening (OpenPlain v) Bound (group_of v) (group_of v)
 opening_plain v h = record { delimits = refl; leaves_it = refl; is = (h, tt); opens = λ f. refl; notes = λ n. a_group (a_word n) no_items; cuts = λ k. refl }
 
-opening_type : (v : List ℕ) → is_word v ≡ true → IsOpening (OpenTypeGap v) Free (group_of v) (group_of v)
+opening_type : (v : List ℕ) → is_word v ≡ true → IsOpening (OpenTypeSpace v) Free (group_of v) (group_of v)
 opening_type v h = record { delimits = refl; leaves_it = refl; is = (h, tt); opens = λ f. refl; notes = λ n. a_group (a_word n) no_items; cuts = λ k. refl }
 
 opening_bare : IsOpening OpenUnnamed Opened (λ f. Group f End) (λ f. Group f End)
@@ -391,8 +391,8 @@ opening_bare = record { delimits = refl; leaves_it = refl; is = (tt, tt); opens 
 opening_note : (v : List ℕ) → is_id v ≡ true → IsOpening (OpenAnnotation v) Bound (λ f. Note v f End) (λ f. End)
 opening_note v h = record { delimits = refl; leaves_it = refl; is = (h, tt); opens = λ f. refl; notes = λ n. a_note n no_items; cuts = λ k. refl }
 
-opening_note_gap : (v : List ℕ) → is_id v ≡ true → IsOpening (OpenAnnotationGap v) Free (λ f. Note v f End) (λ f. End)
-opening_note_gap v h = record { delimits = refl; leaves_it = refl; is = (h, tt); opens = λ f. refl; notes = λ n. a_note n no_items; cuts = λ k. refl }
+opening_note_space : (v : List ℕ) → is_id v ≡ true → IsOpening (OpenAnnotationSpace v) Free (λ f. Note v f End) (λ f. End)
+opening_note_space v h = record { delimits = refl; leaves_it = refl; is = (h, tt); opens = λ f. refl; notes = λ n. a_note n no_items; cuts = λ k. refl }
 
 -- The items that result if a parenthesis and identifier characters come before these items
 abbrev opened_items : Beginning → Forest → Forest
@@ -403,9 +403,9 @@ abbrev opened_kept : Beginning → Forest → Forest
 opened_kept (InGroup f) g = Group (onto (without_annotations f) g) End
 opened_kept (InNote id) g = End
 
-opened_flat : (x : Beginning) (f : Forest) → beginning_tokens x ++ (flat f ++ (right ∷ [])) ≡ flat (opened_items x f)
+opened_flat : (x : Beginning) (f : Forest) → beginning_tokens x ++ (flat f ++ (close_paren ∷ [])) ≡ flat (opened_items x f)
 opened_flat (InGroup g) f =
-    ap (λ t. left ∷ t) (sym (append_assoc (flat g) (flat f) (right ∷ [])) ∙ ap (λ t. t ++ (right ∷ [])) (sym (flat-onto g f)))
+    ap (λ t. open_paren ∷ t) (sym (append_assoc (flat g) (flat f) (close_paren ∷ [])) ∙ ap (λ t. t ++ (close_paren ∷ [])) (sym (flat-onto g f)))
 opened_flat (InNote id) f = refl
 
 opened_noted : (x : Beginning) {f k : Forest} → Noted f k → Noted (opened_items x f) (opened_items x k)
@@ -421,7 +421,7 @@ opening_run v h = record {
   delimits = refl;
   leaves_it = refl;
   is = (h, tt);
-  opens = λ f. ap (λ t. t ++ (flat f ++ (right ∷ []))) (run_tokens v h) ∙ opened_flat (beginning v) f;
+  opens = λ f. ap (λ t. t ++ (flat f ++ (close_paren ∷ []))) (run_tokens v h) ∙ opened_flat (beginning v) f;
   notes = opened_noted (beginning v);
   cuts = opened_cut (beginning v);
 }
@@ -453,9 +453,9 @@ pub group_writes : {a b : Edge} (nesting : ℕ) (v : List ℕ) (ps : List Piece)
 unfolding group
 group_writes {a = a} nesting v ps o h w = closed_writes (Open v) None nesting (has_break ps) ps a o refl (opening v h) w
 
-pub group_gap_writes : {a b : Edge} (nesting : ℕ) (v : List ℕ) (ps : List Piece) {f k : Forest} → is_open a ≡ true → is_word v ≡ true → WritesNoted Free ps Bound f k → WritesNoted a (group_gap nesting v ps) b (Group (Word v f) End) (Group (Word v k) End)
-unfolding group_gap
-group_gap_writes {a = a} nesting v ps o h w = closed_writes (OpenGap v) None nesting (has_break ps) ps a o refl (opening_gap v h) w
+pub group_space_writes : {a b : Edge} (nesting : ℕ) (v : List ℕ) (ps : List Piece) {f k : Forest} → is_open a ≡ true → is_word v ≡ true → WritesNoted Free ps Bound f k → WritesNoted a (group_space nesting v ps) b (Group (Word v f) End) (Group (Word v k) End)
+unfolding group_space
+group_space_writes {a = a} nesting v ps o h w = closed_writes (OpenSpace v) None nesting (has_break ps) ps a o refl (opening_space v h) w
 
 -- The rule for a group without a keyword
 pub bare_group_writes : {a b : Edge} (nesting : ℕ) (t : Bool) (ps : List Piece) {f k : Forest} → is_open a ≡ true → WritesNoted Opened ps Bound f k → WritesNoted a (OpenUnnamed ∷ (ps ++ close None nesting t)) b (Group f End) (Group k End)
@@ -465,23 +465,23 @@ pub group_at_writes : {a b : Edge} (offsets : Bool) (place nesting : ℕ) (v : L
 unfolding group_at
 group_at_writes {a = a} offsets place nesting v ps o h w = closed_writes (Open v) (Some place) nesting (offsets || has_break ps) ps a o refl (opening v h) w
 
-pub group_gap_at_writes : {a b : Edge} (offsets : Bool) (place nesting : ℕ) (v : List ℕ) (ps : List Piece) {f k : Forest} → is_open a ≡ true → is_word v ≡ true → WritesNoted Free ps Bound f k → WritesNoted a (group_gap_at offsets place nesting v ps) b (Group (Word v f) End) (Group (Word v k) End)
-unfolding group_gap_at
-group_gap_at_writes {a = a} offsets place nesting v ps o h w = closed_writes (OpenGap v) (Some place) nesting (offsets || has_break ps) ps a o refl (opening_gap v h) w
+pub group_space_at_writes : {a b : Edge} (offsets : Bool) (place nesting : ℕ) (v : List ℕ) (ps : List Piece) {f k : Forest} → is_open a ≡ true → is_word v ≡ true → WritesNoted Free ps Bound f k → WritesNoted a (group_space_at offsets place nesting v ps) b (Group (Word v f) End) (Group (Word v k) End)
+unfolding group_space_at
+group_space_at_writes {a = a} offsets place nesting v ps o h w = closed_writes (OpenSpace v) (Some place) nesting (offsets || has_break ps) ps a o refl (opening_space v h) w
 
 -- The rule for a group over several lines that ends where the line must end
-pub ended_group_gap_at_writes : {a b : Edge} (offsets : Bool) (place nesting : ℕ) (v : List ℕ) (ps : List Piece) {f k : Forest} → is_open a ≡ true → is_word v ≡ true → has_break ps ≡ true → WritesNoted Free ps Ended f k →
-    WritesNoted a (group_gap_at offsets place nesting v ps) b (Group (Word v f) End) (Group (Word v k) End)
-unfolding group_gap_at
-ended_group_gap_at_writes {a = a} offsets place nesting v ps o h t w = closed_writes (OpenGap v) (Some place) nesting (offsets || has_break ps) ps a o (or_right offsets (has_break ps) t) (opening_gap v h) w
+pub ended_group_space_at_writes : {a b : Edge} (offsets : Bool) (place nesting : ℕ) (v : List ℕ) (ps : List Piece) {f k : Forest} → is_open a ≡ true → is_word v ≡ true → has_break ps ≡ true → WritesNoted Free ps Ended f k →
+    WritesNoted a (group_space_at offsets place nesting v ps) b (Group (Word v f) End) (Group (Word v k) End)
+unfolding group_space_at
+ended_group_space_at_writes {a = a} offsets place nesting v ps o h t w = closed_writes (OpenSpace v) (Some place) nesting (offsets || has_break ps) ps a o (or_right offsets (has_break ps) t) (opening_space v h) w
 
 pub line_group_writes : {a b : Edge} (v : List ℕ) (ps : List Piece) {f k : Forest} → is_open a ≡ true → is_word v ≡ true → WritesNoted Bound ps Bound f k → WritesNoted a (line_group v ps) b (Group (Word v f) End) (Group (Word v k) End)
 unfolding line_group
 line_group_writes {a = a} v ps o h w = closed_writes (Open v) None 0 false ps a o refl (opening v h) w
 
-pub line_group_gap_writes : {a b : Edge} (v : List ℕ) (ps : List Piece) {f k : Forest} → is_open a ≡ true → is_word v ≡ true → WritesNoted Free ps Bound f k → WritesNoted a (line_group_gap v ps) b (Group (Word v f) End) (Group (Word v k) End)
-unfolding line_group_gap
-line_group_gap_writes {a = a} v ps o h w = closed_writes (OpenGap v) None 0 false ps a o refl (opening_gap v h) w
+pub line_group_space_writes : {a b : Edge} (v : List ℕ) (ps : List Piece) {f k : Forest} → is_open a ≡ true → is_word v ≡ true → WritesNoted Free ps Bound f k → WritesNoted a (line_group_space v ps) b (Group (Word v f) End) (Group (Word v k) End)
+unfolding line_group_space
+line_group_space_writes {a = a} v ps o h w = closed_writes (OpenSpace v) None 0 false ps a o refl (opening_space v h) w
 
 -- ---- the same before other pieces, in forms that a search can apply
 
@@ -494,28 +494,28 @@ group_at_then offsets place nesting v ps qs o h v' w = both_write (group_at_writ
 pub line_group_then : {a c : Edge} (v : List ℕ) (ps qs : List Piece) {f g k h : Forest} → is_open a ≡ true → is_word v ≡ true → WritesNoted Bound ps Bound f k → WritesNoted Bound qs c g h → WritesNoted a (line_group v ps ++ qs) c (Group (Word v f) g) (Group (Word v k) h)
 line_group_then v ps qs o h v' w = both_write (line_group_writes v ps o h v') w
 
-pub line_group_gap_then : {a c : Edge} (v : List ℕ) (ps qs : List Piece) {f g k h : Forest} → is_open a ≡ true → is_word v ≡ true → WritesNoted Free ps Bound f k → WritesNoted Bound qs c g h → WritesNoted a (line_group_gap v ps ++ qs) c (Group (Word v f) g) (Group (Word v k) h)
-line_group_gap_then v ps qs o h v' w = both_write (line_group_gap_writes v ps o h v') w
+pub line_group_space_then : {a c : Edge} (v : List ℕ) (ps qs : List Piece) {f g k h : Forest} → is_open a ≡ true → is_word v ≡ true → WritesNoted Free ps Bound f k → WritesNoted Bound qs c g h → WritesNoted a (line_group_space v ps ++ qs) c (Group (Word v f) g) (Group (Word v k) h)
+line_group_space_then v ps qs o h v' w = both_write (line_group_space_writes v ps o h v') w
 
 -- The rule for a group without a style, whose pieces are in the list itself
 pub plain_group_then : {a c : Edge} {v : List ℕ} {ps qs : List Piece} {f g k h : Forest} → is_open a ≡ true → is_word v ≡ true → WritesNoted Bound ps Bound f k → WritesNoted Bound qs c g h →
-    WritesNoted a (OpenPlain v ∷ (ps ++ (Shut ∷ qs))) c (Group (Word v f) g) (Group (Word v k) h)
+    WritesNoted a (OpenPlain v ∷ (ps ++ (CloseParen ∷ qs))) c (Group (Word v f) g) (Group (Word v k) h)
 plain_group_then {a = a} {c = c} {v = v} {ps = ps} {qs = qs} {f = f} {g = g} {k = k} {h = l} o h v' w =
-    subst (λ t. WritesNoted a (OpenPlain v ∷ t) c (Group (Word v f) g) (Group (Word v k) l)) (append_assoc ps (Shut ∷ []) qs)
+    subst (λ t. WritesNoted a (OpenPlain v ∷ t) c (Group (Word v f) g) (Group (Word v k) l)) (append_assoc ps (CloseParen ∷ []) qs)
     (both_write (closed_writes (OpenPlain v) None 0 false ps a o refl (opening_plain v h) v') w)
 
 -- The rules for a group with the style of a type, and for one without a keyword, whose pieces are in the list
 -- itself
 pub type_group_then : {a c : Edge} {v : List ℕ} {ps qs : List Piece} {f g k h : Forest} → is_open a ≡ true → is_word v ≡ true → WritesNoted Free ps Bound f k → WritesNoted Bound qs c g h →
-    WritesNoted a (OpenTypeGap v ∷ (ps ++ (Shut ∷ qs))) c (Group (Word v f) g) (Group (Word v k) h)
+    WritesNoted a (OpenTypeSpace v ∷ (ps ++ (CloseParen ∷ qs))) c (Group (Word v f) g) (Group (Word v k) h)
 type_group_then {a = a} {c = c} {v = v} {ps = ps} {qs = qs} {f = f} {g = g} {k = k} {h = l} o h v' w =
-    subst (λ t. WritesNoted a (OpenTypeGap v ∷ t) c (Group (Word v f) g) (Group (Word v k) l)) (append_assoc ps (Shut ∷ []) qs)
-    (both_write (closed_writes (OpenTypeGap v) None 0 false ps a o refl (opening_type v h) v') w)
+    subst (λ t. WritesNoted a (OpenTypeSpace v ∷ t) c (Group (Word v f) g) (Group (Word v k) l)) (append_assoc ps (CloseParen ∷ []) qs)
+    (both_write (closed_writes (OpenTypeSpace v) None 0 false ps a o refl (opening_type v h) v') w)
 
 pub bare_group_then : {a c : Edge} {ps qs : List Piece} {f g k h : Forest} → is_open a ≡ true → WritesNoted Opened ps Bound f k → WritesNoted Bound qs c g h →
-    WritesNoted a (OpenUnnamed ∷ (ps ++ (Shut ∷ qs))) c (Group f g) (Group k h)
+    WritesNoted a (OpenUnnamed ∷ (ps ++ (CloseParen ∷ qs))) c (Group f g) (Group k h)
 bare_group_then {a = a} {c = c} {ps = ps} {qs = qs} {f = f} {g = g} {k = k} {h = l} o v' w =
-    subst (λ t. WritesNoted a (OpenUnnamed ∷ t) c (Group f g) (Group k l)) (append_assoc ps (Shut ∷ []) qs)
+    subst (λ t. WritesNoted a (OpenUnnamed ∷ t) c (Group f g) (Group k l)) (append_assoc ps (CloseParen ∷ []) qs)
     (both_write (closed_writes OpenUnnamed None 0 false ps a o refl opening_bare v') w)
 
 -- ---- annotations
@@ -535,13 +535,13 @@ pub note_writes : {a b : Edge} {f k : Forest} (nesting : ℕ) (v : List ℕ) (ps
 note_writes {a = a} nesting v ps o h w = closed_writes (OpenAnnotation v) None nesting (has_break ps) ps a o refl (opening_note v h) w
 
 -- The rule for an annotation in one line
-pub note_gap_writes : {a b : Edge} {f k : Forest} (v : List ℕ) (ps : List Piece) → is_open a ≡ true → is_id v ≡ true → WritesNoted Free ps Bound f k →
-    WritesNoted a (OpenAnnotationGap v ∷ (ps ++ (Shut ∷ []))) b End (Note v k End)
-note_gap_writes {a = a} v ps o h w = closed_writes (OpenAnnotationGap v) None 0 false ps a o refl (opening_note_gap v h) w
+pub note_space_writes : {a b : Edge} {f k : Forest} (v : List ℕ) (ps : List Piece) → is_open a ≡ true → is_id v ≡ true → WritesNoted Free ps Bound f k →
+    WritesNoted a (OpenAnnotationSpace v ∷ (ps ++ (CloseParen ∷ []))) b End (Note v k End)
+note_space_writes {a = a} v ps o h w = closed_writes (OpenAnnotationSpace v) None 0 false ps a o refl (opening_note_space v h) w
 
 -- The rule for a group within an annotation, which starts with any identifier characters
 pub run_group_writes : {a b : Edge} (v : List ℕ) (ps : List Piece) → is_open a ≡ true → is_id v ≡ true → IsWritten Bound ps Bound →
-    IsWritten a (OpenAnnotationWord v ∷ (ps ++ (Shut ∷ []))) b
+    IsWritten a (OpenAnnotationWord v ∷ (ps ++ (CloseParen ∷ []))) b
 run_group_writes {a = a} v ps o h w = written (closed_writes (OpenAnnotationWord v) None 0 false ps a o refl (opening_run v h) w.writes)
 
 -- The rule for the annotation of a hint
@@ -560,4 +560,4 @@ claimed_writes {a = a} {s = s} {place = place} {bytes = bytes} {answer = answer}
 pub then : {a c : Edge} {ps qs : List Piece} {f g k h : Forest} → WritesNoted a ps Bound f k → WritesNoted Bound qs c g h → WritesNoted a (ps ++ qs) c (onto f g) (onto k h)
 then v w = both_write v w
 
-pub ruleset writing = (nothing_writes, free_writes, begin_writes, feed_writes, gap_writes, break_writes, number_remark_writes, begin_name_writes, end_style_writes, word_writes, type_word_writes, type_word_gap_writes, gap_type_word_writes, number_writes, constant_writes, literals_writes, gap_literals_writes, float_writes, quoted_writes, quoted_bytes_writes, identifier_writes, noted_identifier_writes, remark_writes, ending_writes, plain_ending_writes, hint_note_writes, claimed_writes, group_writes, group_at_writes, group_gap_at_writes, line_group_writes, line_group_gap_writes, group_then, group_at_then, line_group_then, line_group_gap_then, plain_group_then, type_group_then, bare_group_then, opened_word_writes, then)
+pub ruleset writing = (nothing_writes, free_writes, begin_writes, feed_writes, one_space_writes, break_writes, number_remark_writes, begin_name_writes, end_style_writes, word_writes, type_word_writes, type_word_space_writes, space_type_word_writes, number_writes, constant_writes, literals_writes, space_literals_writes, float_writes, quoted_writes, quoted_bytes_writes, identifier_writes, noted_identifier_writes, remark_writes, ending_writes, plain_ending_writes, hint_note_writes, claimed_writes, group_writes, group_at_writes, group_space_at_writes, line_group_writes, line_group_space_writes, group_then, group_at_then, line_group_then, line_group_space_then, plain_group_then, type_group_then, bare_group_then, opened_word_writes, then)

@@ -9,18 +9,18 @@ use Rattle.wasmprinter_spec.specs.Row.{Types}
 use Rattle.wasmprinter_spec.specs.Labels.{Named}
 use Rattle.wasmprinter_spec.specs.Names.{Names, IsNamed, IsNamedIfAny, AreNamed}
 use Rattle.wasmprinter_spec.specs.Placed.{TypeGroup}
-use Rattle.wasmprinter_spec.specs.Piece.{Gap}
+use Rattle.wasmprinter_spec.specs.Piece.{OneSpace}
 use Rattle.wasmprinter_spec.specs.Layout.Groups.{numbered_pieces}
 use Rattle.wasmprinter_spec.specs.Layout.ValTypes.{heap_word, ref_word, type_index_pieces, heap_pieces, null_ref_pieces, ref_pieces_by, ref_pieces, val_pieces, type_list}
 use Rattle.wasmprinter_spec.specs.Layout.Variables.{Variables, Alone, Together, with_variable, variable_groups, variables_pieces, groups_pieces}
 use Rattle.wasmprinter_spec.specs.Layout.Types.{parameters_of, list_group, signature_pieces, signature_if_any, type_use_pieces, storage_pieces, field_pieces_by, field_pieces, struct_field_pieces, composite_pieces, final_pieces, supertype_pieces, sub_group, sub_pieces_by, sub_pieces, type_pieces, member_pieces, group_pieces_by, type_group_pieces, type_section_pieces}
 use Rattle.wasmprinter_laws.proofs.Tokens.Runs.{is_word}
 use Rattle.wasmprinter_laws.proofs.Tokens.Pieces.{Edge, Free, Bound}
-use Rattle.wasmprinter_laws.proofs.Tokens.Writes.{Writes, is_open, writing, both_write, nothing_writes, loosened, gap_writes, break_writes, word_writes, group_writes, line_group_writes, line_group_gap_writes, plain_group_then, then}
+use Rattle.wasmprinter_laws.proofs.Tokens.Writes.{Writes, is_open, writing, both_write, nothing_writes, loosened, one_space_writes, break_writes, word_writes, group_writes, line_group_writes, line_group_space_writes, plain_group_then, then}
 use Rattle.wasmprinter_laws.specs.Listed.{IsSignatureInRange}
 use Rattle.wasmprinter_laws.proofs.Types.Ranged.{IsRangedHeap, IsRangedVal, IsRangedStorage, IsRangedField, IsRangedFunc, IsRangedComposite, IsRangedSub, IsRangedGroup}
 use Rattle.wasmprinter_laws.proofs.Numbered.{rows, map_numbered, numbered_writes}
-use Rattle.wasmprinter_laws.proofs.Identifiers.{index_items, id_items, index_writes, id_and_name_gap_writes, identifier_gap_writes, declaration_writes}
+use Rattle.wasmprinter_laws.proofs.Identifiers.{index_items, id_items, index_writes, id_and_name_space_writes, identifier_space_writes, declaration_writes}
 
 -- ---- the items
 
@@ -197,7 +197,7 @@ module _ (names : Names) (named : AreNamed names) where
 
   null_ref_writes : (h : HeapType) → IsRangedHeap h → Writes Free (null_ref_pieces names h) Bound (null_ref_items names h)
   unfolding null_ref_pieces class
-  null_ref_writes (Index n) r = line_group_writes (codes "ref") _ refl refl (gap_writes refl (word_writes refl (gap_writes refl (heap_writes (Index n) r))))
+  null_ref_writes (Index n) r = line_group_writes (codes "ref") _ refl refl (one_space_writes refl (word_writes refl (one_space_writes refl (heap_writes (Index n) r))))
   null_ref_writes _ r = search writing
 
   ref_by_writes : (null : Bool) (h : HeapType) → IsRangedHeap h → Writes Free (ref_pieces_by names null h) Bound (ref_items_by names null h)
@@ -217,7 +217,7 @@ module _ (names : Names) (named : AreNamed names) where
   pub type_list_writes : (ts : List ValType) → AllByRecursion IsRangedVal ts → Writes Bound (type_list names ts) Bound (types_items names ts)
   unfolding type_list
   type_list_writes [] r = search writing
-  type_list_writes (t ∷ ts) r = gap_writes refl (then (val_writes t r.0) (type_list_writes ts r.1))
+  type_list_writes (t ∷ ts) r = one_space_writes refl (then (val_writes t r.0) (type_list_writes ts r.1))
 
   pub list_group_writes : (w : List ℕ) (ts : List ValType) → is_word w ≡ true → AllByRecursion IsRangedVal ts → Writes Bound (list_group names w ts) Bound (group_items names w ts)
   unfolding list_group
@@ -227,14 +227,14 @@ module _ (names : Names) (named : AreNamed names) where
   pub variables_write : {a : Edge} (w : List ℕ) (g : Variables) → is_open a ≡ true → is_word w ≡ true → HaveNames g → HaveTypes IsRangedVal g →
       Writes a (variables_pieces names w g) Bound (Group (variables_items names w g) End)
   unfolding variables_pieces
-  variables_write w (Alone n t) e h k r = line_group_writes w _ e h (gap_writes refl (both_write (id_and_name_gap_writes (Some n) k) (val_writes t r)))
+  variables_write w (Alone n t) e h k r = line_group_writes w _ e h (one_space_writes refl (both_write (id_and_name_space_writes (Some n) k) (val_writes t r)))
   variables_write w (Together ts) e h k r = line_group_writes w _ e h (type_list_writes ts r)
 
   pub groups_write : (w : List ℕ) (gs : List Variables) → is_word w ≡ true → AllByRecursion HaveNames gs → AllByRecursion (HaveTypes IsRangedVal) gs →
       Writes Bound (groups_pieces names w gs) Bound (groups_items names w gs)
   unfolding groups_pieces
   groups_write w [] h k r = nothing_writes
-  groups_write w (g ∷ gs) h k r = gap_writes refl (both_write (variables_write w g refl h k.0 r.0) (groups_write w gs h k.1 r.1))
+  groups_write w (g ∷ gs) h k r = one_space_writes refl (both_write (variables_write w g refl h k.0 r.0) (groups_write w gs h k.1 r.1))
 
   parameters_named : (f : Option ℕ) (i : ℕ) → IsNamedIfAny (parameters_of names f i)
   parameters_named None i = tt
@@ -256,7 +256,7 @@ module _ (names : Names) (named : AreNamed names) where
   pub type_use_writes : {a : Edge} (f : Option ℕ) (i : ℕ) (t : Option FuncType) → is_open a ≡ true → i < 2 ^ 32 → IsSignatureInRange t →
       Writes a (type_use_pieces names f i t) Bound (type_use_items names f i t)
   unfolding type_use_pieces class
-  type_use_writes f i t e h r = both_write (line_group_gap_writes (codes "type") _ e refl (type_index_writes i h)) (signature_if_any_writes f t r)
+  type_use_writes f i t e h r = both_write (line_group_space_writes (codes "type") _ e refl (type_index_writes i h)) (signature_if_any_writes f t r)
 
   -- ---- composite types
 
@@ -268,17 +268,17 @@ module _ (names : Names) (named : AreNamed names) where
 
   field_by_writes : (mut : Bool) (s : StorageType) → IsRangedStorage s → Writes Free (field_pieces_by names mut s) Bound (field_items_by names mut s)
   unfolding class
-  field_by_writes true s r = plain_group_then {ps = Gap ∷ storage_pieces names s} {qs = []} refl refl (gap_writes refl (storage_writes s r)) nothing_writes
+  field_by_writes true s r = plain_group_then {ps = OneSpace ∷ storage_pieces names s} {qs = []} refl refl (one_space_writes refl (storage_writes s r)) nothing_writes
   field_by_writes false s r = storage_writes s r
 
   field_writes : (o : Option Named) (f : FieldType) → IsNamedIfAny o → IsRangedField f → Writes Bound (field_pieces names o f) Bound (onto (id_items o) (field_items names f))
   unfolding field_pieces
-  field_writes o f k r = gap_writes refl (both_write (identifier_gap_writes o k) (field_by_writes f.mutable f.storage r))
+  field_writes o f k r = one_space_writes refl (both_write (identifier_space_writes o k) (field_by_writes f.mutable f.storage r))
 
   struct_field_writes : (o : Option Named) (f : FieldType) → IsNamedIfAny o → IsRangedField f →
       Writes Bound (struct_field_pieces names o f) Bound (Group (Word (codes "field") (onto (id_items o) (field_items names f))) End)
   unfolding struct_field_pieces class
-  struct_field_writes o f k r = gap_writes refl (plain_group_then {ps = field_pieces names o f} {qs = []} refl refl (field_writes o f k r) nothing_writes)
+  struct_field_writes o f k r = one_space_writes refl (plain_group_then {ps = field_pieces names o f} {qs = []} refl refl (field_writes o f k r) nothing_writes)
 
   struct_writes : (i k : ℕ) (fs : List FieldType) → AllByRecursion IsRangedField fs →
       Writes Bound (numbered_pieces (λ k f. struct_field_pieces names (names.fields i k) f) k fs) Bound (struct_items names (names.fields i) k fs)
@@ -302,13 +302,13 @@ module _ (names : Names) (named : AreNamed names) where
   supertypes_write : (is : List ℕ) → AllByRecursion (λ i. i < 2 ^ 32) is → Writes Free (supertype_pieces names is) Free (supertype_items names is)
   unfolding supertype_pieces
   supertypes_write [] r = nothing_writes
-  supertypes_write (i ∷ is) r = both_write (type_index_writes i r.0) (gap_writes refl (supertypes_write is r.1))
+  supertypes_write (i ∷ is) r = both_write (type_index_writes i r.0) (one_space_writes refl (supertypes_write is r.1))
 
   sub_group_writes : (i : ℕ) (final : Bool) (is : List ℕ) (c : CompositeType) → AllByRecursion (λ i. i < 2 ^ 32) is → IsRangedComposite c →
       Writes Free (sub_group names i final is c) Bound (Group (sub_group_items names i final is c) End)
   unfolding sub_group class
   sub_group_writes i final is c r s =
-      line_group_writes (codes "sub") _ refl refl (gap_writes refl (both_write (final_writes final) (both_write (supertypes_write is r) (composite_writes i c s))))
+      line_group_writes (codes "sub") _ refl refl (one_space_writes refl (both_write (final_writes final) (both_write (supertypes_write is r) (composite_writes i c s))))
 
   sub_by_writes : (i : ℕ) (final : Bool) (is : List ℕ) (c : CompositeType) → AllByRecursion (λ i. i < 2 ^ 32) is → IsRangedComposite c →
       Writes Free (sub_pieces_by names i final is c) Bound (Group (sub_items_by names i final is c) End)
@@ -323,8 +323,8 @@ module _ (names : Names) (named : AreNamed names) where
   pub type_writes : {a : Edge} (i : ℕ) (t : SubType) → is_open a ≡ true → i < 2 ^ 64 → IsRangedSub t → Writes a (type_pieces names i t) Bound (Group (type_field names i t) End)
   unfolding type_pieces class
   type_writes i t e h r =
-      line_group_gap_writes (codes "type") _ e refl
-      (both_write (declaration_writes (names.items Types i) i (named.items Types i) h) (gap_writes refl (sub_writes i t r)))
+      line_group_space_writes (codes "type") _ e refl
+      (both_write (declaration_writes (names.items Types i) i (named.items Types i) h) (one_space_writes refl (sub_writes i t r)))
 
   -- ---- groups of types
 

@@ -29,6 +29,6 @@ abbrev pub producers : Remainder (List Field)
 producers = alone (vec field)
 
 -- The name of each field consists of identifier characters, at least one, so that it can begin a group.
-abbrev pub are_runs : List Field → Bool
-are_runs [] = true
-are_runs (f ∷ fs) = is_id f.name && are_runs fs
+abbrev pub have_id_names : List Field → Bool
+have_id_names [] = true
+have_id_names (f ∷ fs) = is_id f.name && have_id_names fs

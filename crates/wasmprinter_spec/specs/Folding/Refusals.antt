@@ -1,5 +1,5 @@
 -- What cannot be folded in a module: operators of legacy exception handling, and branch hints on operators whose
--- node has no place for a hint. The standard does not define this: the rules are this printer's own.
+-- node can't hold a hint. The standard does not define this: the rules are this printer's own.
 use Rattle.std.specs.Prelude.{◌≡◌, ℕ, ◌+◌, ◌-◌, List, [], ◌∷◌, ◌++◌, map, flat_map, Bool, true, false, cond, length, slice_get, Option, Some, None}
 use Rattle.wasmprinter_spec.specs.Grammar.{Placed}
 use Rattle.wasmprinter_spec.specs.Operator.{Operator}

@@ -6,40 +6,40 @@ use Rattle.std.specs.Fmt.{digits}
 use Rattle.wasmprinter_spec.specs.Grammar.{Placed}
 use Rattle.wasmprinter_spec.specs.Kinds.{Kind, TypeSection, ImportSection, FunctionSection, TableSection, MemorySection, TagSection, GlobalSection, ExportSection, StartSection, ElementSection, CodeSection, DataSection, same_kind}
 use Rattle.wasmprinter_spec.specs.Placed.{Custom, CustomEntry}
-use Rattle.wasmprinter_spec.specs.Customs.{CustomRole, Silent, Listed, Linked, Refused, Raw, Malformed, custom_role_of}
+use Rattle.wasmprinter_spec.specs.Customs.{CustomTreatment, Silent, ProducersFields, DylinkSubsections, Refused, Raw, Malformed, custom_treatment_of}
 use Rattle.wasmprinter_spec.specs.Customs.Producers.{Value, Field}
 use Rattle.wasmprinter_spec.specs.Customs.Dylink.{MemInfo, ExportInfo, ImportInfo, SubsectionContent, Sizes, Needed, Exports, Imports, Paths, Other, Subsection}
 use Rattle.wasmprinter_spec.specs.Options.{Answers}
-use Rattle.wasmprinter_spec.specs.Piece.{Piece, Break, Gap, Open, OpenGap, OpenPlain, OpenAnnotation, OpenAnnotationGap, OpenAnnotationWord, Shut, Word, Quoted, PlainLineComment, Claimed}
+use Rattle.wasmprinter_spec.specs.Piece.{Piece, Break, OneSpace, Open, OpenSpace, OpenPlain, OpenAnnotation, OpenAnnotationSpace, OpenAnnotationWord, CloseParen, Word, Quoted, PlainLineComment, Claimed}
 use Rattle.wasmprinter_spec.specs.Layout.Groups.{close, has_break}
 use Rattle.wasmprinter_spec.specs.Layout.DataSegments.{shown_bytes}
 
 -- ---- Raw sections
 
 -- The word of the kind in a position `(after ..)`, empty for kinds that are no position.
-abbrev pub place_word : Kind → List ℕ
-place_word TypeSection = codes "type"
-place_word ImportSection = codes "import"
-place_word FunctionSection = codes "func"
-place_word TableSection = codes "table"
-place_word MemorySection = codes "memory"
-place_word TagSection = codes "tag"
-place_word GlobalSection = codes "global"
-place_word ExportSection = codes "export"
-place_word StartSection = codes "start"
-place_word ElementSection = codes "elem"
-place_word CodeSection = codes "code"
-place_word DataSection = codes "data"
-place_word _ = []
+abbrev pub section_word : Kind → List ℕ
+section_word TypeSection = codes "type"
+section_word ImportSection = codes "import"
+section_word FunctionSection = codes "func"
+section_word TableSection = codes "table"
+section_word MemorySection = codes "memory"
+section_word TagSection = codes "tag"
+section_word GlobalSection = codes "global"
+section_word ExportSection = codes "export"
+section_word StartSection = codes "start"
+section_word ElementSection = codes "elem"
+section_word CodeSection = codes "code"
+section_word DataSection = codes "data"
+section_word _ = []
 
 -- A group of two words.
 abbrev pub two_words : List ℕ → List ℕ → List Piece
-two_words v w = OpenPlain v ∷ (Gap ∷ (Word w ∷ (Shut ∷ [])))
+two_words v w = OpenPlain v ∷ (OneSpace ∷ (Word w ∷ (CloseParen ∷ [])))
 
--- The place among the other sections.
-unfoldable pub place_pieces : Option Kind → List Piece
-place_pieces None = two_words (codes "before") (codes "first")
-place_pieces (Some kind) = two_words (codes "after") (place_word kind)
+-- After which kind of section the section occurs.
+unfoldable pub after_pieces : Option Kind → List Piece
+after_pieces None = two_words (codes "before") (codes "first")
+after_pieces (Some kind) = two_words (codes "after") (section_word kind)
 
 -- A custom section as raw bytes, in a line of its own. The first argument, here and below, says whether the text is a
 -- skeleton, which has `...` in place of the bytes.
@@ -47,8 +47,8 @@ unfoldable pub raw_pieces : Bool → CustomEntry → List Piece
 raw_pieces skeleton c =
     let s : Custom = c.section.value in
     Break (Some c.section.place) 1
-    ∷ (OpenAnnotationGap (codes "custom") ∷ (Quoted (chars s.name) ∷ (Gap ∷ (place_pieces c.after
-    ++ (Gap ∷ (shown_bytes skeleton s.bytes.value ++ (Shut ∷ [])))))))
+    ∷ (OpenAnnotationSpace (codes "custom") ∷ (Quoted (chars s.name) ∷ (OneSpace ∷ (after_pieces c.after
+    ++ (OneSpace ∷ (shown_bytes skeleton s.bytes.value ++ (CloseParen ∷ [])))))))
 
 -- The line that reports the error, and the section as raw bytes.
 unfoldable pub malformed_pieces : Bool → CustomEntry → List Piece
@@ -63,13 +63,13 @@ abbrev pub note : List ℕ → List Piece → List Piece
 note w ps = OpenAnnotation w ∷ (ps ++ close None 1 (has_break ps))
 
 -- A space and a quoted string.
-abbrev pub gap_quoted : List ℕ → List Piece
-gap_quoted s = Gap ∷ (Quoted (chars s) ∷ [])
+abbrev pub space_quoted : List ℕ → List Piece
+space_quoted s = OneSpace ∷ (Quoted (chars s) ∷ [])
 
 -- Quoted strings, with a space before each.
-unfoldable pub gap_quoted_list : List (List ℕ) → List Piece
-gap_quoted_list [] = []
-gap_quoted_list (s ∷ ss) = gap_quoted s ++ gap_quoted_list ss
+unfoldable pub space_quoted_list : List (List ℕ) → List Piece
+space_quoted_list [] = []
+space_quoted_list (s ∷ ss) = space_quoted s ++ space_quoted_list ss
 
 -- ---- `producers`
 
@@ -77,7 +77,7 @@ gap_quoted_list (s ∷ ss) = gap_quoted s ++ gap_quoted_list ss
 unfoldable pub values_pieces : List ℕ → List (Placed Value) → List Piece
 values_pieces field [] = []
 values_pieces field (v ∷ vs) =
-    Break (Some v.place) 2 ∷ (OpenAnnotationWord field ∷ (gap_quoted v.value.name ++ (gap_quoted v.value.version ++ (Shut ∷ values_pieces field vs))))
+    Break (Some v.place) 2 ∷ (OpenAnnotationWord field ∷ (space_quoted v.value.name ++ (space_quoted v.value.version ++ (CloseParen ∷ values_pieces field vs))))
 
 -- The values of all fields.
 unfoldable pub fields_pieces : List Field → List Piece
@@ -99,9 +99,9 @@ has_flag flags bit = ((flags / bit) % 2) == 1
 
 -- The words of the flags that are set, and then all other bits in hexadecimal, if any are set.
 unfoldable pub flags_by : List (ℕ × List ℕ) → ℕ → List Piece
-flags_by [] rest = cond (rest == 0) [] (Gap ∷ (Word (codes "0x" ++ digits 16 false rest) ∷ []))
+flags_by [] rest = cond (rest == 0) [] (OneSpace ∷ (Word (codes "0x" ++ digits 16 false rest) ∷ []))
 flags_by (row ∷ rows) rest =
-    if has_flag rest row.0 then Gap ∷ (Word row.1 ∷ flags_by rows (rest - row.0)) else flags_by rows rest
+    if has_flag rest row.0 then OneSpace ∷ (Word row.1 ∷ flags_by rows (rest - row.0)) else flags_by rows rest
 
 -- The words of flags.
 unfoldable pub flags_pieces : ℕ → List Piece
@@ -110,33 +110,33 @@ flags_pieces flags = flags_by flag_words flags
 -- A space and two numbers in a group with the word w, unless both are 0.
 unfoldable pub sizes_group : List ℕ → ℕ → ℕ → List Piece
 sizes_group w a b =
-    cond ((a == 0) && (b == 0)) [] (Gap ∷ (OpenPlain w ∷ (Gap ∷ (Word (decimal a) ∷ (Gap ∷ (Word (decimal b) ∷ (Shut ∷ [])))))))
+    cond ((a == 0) && (b == 0)) [] (OneSpace ∷ (OpenPlain w ∷ (OneSpace ∷ (Word (decimal a) ∷ (OneSpace ∷ (Word (decimal b) ∷ (CloseParen ∷ [])))))))
 
 -- The line of the memory and the table space. The first argument is the place of the subsection, here and below.
 unfoldable pub sizes_pieces : ℕ → MemInfo → List Piece
 sizes_pieces place m =
     Break (Some place) 2
     ∷ (Open (codes "mem-info") ∷ (sizes_group (codes "memory") m.memory_size m.memory_alignment
-    ++ (sizes_group (codes "table") m.table_size m.table_alignment ++ (Shut ∷ []))))
+    ++ (sizes_group (codes "table") m.table_size m.table_alignment ++ (CloseParen ∷ []))))
 
 -- A line of quoted names after the word w.
 unfoldable pub names_pieces : List ℕ → ℕ → List (List ℕ) → List Piece
-names_pieces w place ns = Break (Some place) 2 ∷ (Open w ∷ (gap_quoted_list ns ++ (Shut ∷ [])))
+names_pieces w place ns = Break (Some place) 2 ∷ (Open w ∷ (space_quoted_list ns ++ (CloseParen ∷ [])))
 
 -- The exported symbols with their flags, each on a line of its own.
 unfoldable pub exports_pieces : ℕ → List ExportInfo → List Piece
 exports_pieces place [] = []
 exports_pieces place (e ∷ es) =
     Break (Some place) 2
-    ∷ (OpenGap (codes "export-info") ∷ (Quoted (chars e.name) ∷ (flags_pieces e.flags ++ (Shut ∷ exports_pieces place es))))
+    ∷ (OpenSpace (codes "export-info") ∷ (Quoted (chars e.name) ∷ (flags_pieces e.flags ++ (CloseParen ∷ exports_pieces place es))))
 
 -- The imported symbols with their flags, each on a line of its own.
 unfoldable pub import_infos_pieces : ℕ → List ImportInfo → List Piece
 import_infos_pieces place [] = []
 import_infos_pieces place (i ∷ is) =
     Break (Some place) 2
-    ∷ (OpenGap (codes "import-info") ∷ (Quoted (chars i.source) ∷ (Gap ∷ (Quoted (chars i.name)
-    ∷ (flags_pieces i.flags ++ (Shut ∷ import_infos_pieces place is))))))
+    ∷ (OpenSpace (codes "import-info") ∷ (Quoted (chars i.source) ∷ (OneSpace ∷ (Quoted (chars i.name)
+    ∷ (flags_pieces i.flags ++ (CloseParen ∷ import_infos_pieces place is))))))
 
 -- The lines of a subsection. All of them have the place of its id.
 abbrev pub content_pieces : ℕ → SubsectionContent → List Piece
@@ -159,37 +159,37 @@ pub data Part : Type 0 where
   Shown : List Piece → Part
   Stops : List Piece → ℕ → Part
 
--- A custom section that the printer does not claim, by its role. `claim` is the piece that asks whether the printer
+-- A custom section that the printer does not claim, by its treatment. `claim` is the piece that asks whether the printer
 -- claims it.
-abbrev pub role_part : Bool → Piece → CustomEntry → CustomRole → Part
-role_part skeleton claim c Silent = Shown (claim ∷ [])
-role_part skeleton claim c (Listed fields) =
+abbrev pub treatment_part : Bool → Piece → CustomEntry → CustomTreatment → Part
+treatment_part skeleton claim c Silent = Shown (claim ∷ [])
+treatment_part skeleton claim c (ProducersFields fields) =
     Shown (claim ∷ (Break (Some c.section.place) 1 ∷ note (codes "producers") (fields_pieces fields)))
-role_part skeleton claim c (Linked ss) = Shown (claim ∷ (Break (Some c.section.place) 1 ∷ note (codes "dylink.0") (subsections_pieces ss)))
-role_part skeleton claim c (Refused id) = Stops (claim ∷ []) id
-role_part skeleton claim c Raw = Shown (claim ∷ raw_pieces skeleton c)
-role_part skeleton claim c Malformed = Shown (claim ∷ malformed_pieces skeleton c)
+treatment_part skeleton claim c (DylinkSubsections ss) = Shown (claim ∷ (Break (Some c.section.place) 1 ∷ note (codes "dylink.0") (subsections_pieces ss)))
+treatment_part skeleton claim c (Refused id) = Stops (claim ∷ []) id
+treatment_part skeleton claim c Raw = Shown (claim ∷ raw_pieces skeleton c)
+treatment_part skeleton claim c Malformed = Shown (claim ∷ malformed_pieces skeleton c)
 
 -- A custom section, with the answer to its claim. A claimed section is neither printed nor checked.
 abbrev pub custom_part : Bool → Bool → CustomEntry → Part
 custom_part skeleton answer c =
     let s : Custom = c.section.value in
     let claim : Piece = Claimed s.name s.bytes.place s.bytes.value answer in
-    if answer then Shown (claim ∷ []) else role_part skeleton claim c (custom_role_of s)
+    if answer then Shown (claim ∷ []) else treatment_part skeleton claim c (custom_treatment_of s)
 
 -- The two positions among the other sections are equal.
-abbrev pub same_place : Option Kind → Option Kind → Bool
-same_place None None = true
-same_place (Some j) (Some k) = same_kind j k
-same_place _ _ = false
+abbrev pub same_after : Option Kind → Option Kind → Bool
+same_after None None = true
+same_after (Some j) (Some k) = same_kind j k
+same_after _ _ = false
 
--- The custom sections at one place among the other sections. Answers are by the number of a section among all
+-- The custom sections after one kind of section (`after`). Answers are by the number of a section among all
 -- custom sections; the first of these sections has the number n.
 abbrev pub parts_at : Bool → Answers → Option Kind → ℕ → List CustomEntry → List Part
-parts_at skeleton answers place n [] = []
-parts_at skeleton answers place n (c ∷ cs) =
-    if same_place c.after place then custom_part skeleton (answers n) c ∷ parts_at skeleton answers place (n + 1) cs
-    else parts_at skeleton answers place (n + 1) cs
+parts_at skeleton answers after n [] = []
+parts_at skeleton answers after n (c ∷ cs) =
+    if same_after c.after after then custom_part skeleton (answers n) c ∷ parts_at skeleton answers after (n + 1) cs
+    else parts_at skeleton answers after (n + 1) cs
 
 -- ---- Up to a refusal
 

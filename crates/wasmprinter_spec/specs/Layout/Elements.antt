@@ -5,32 +5,32 @@ use Rattle.wasmprinter_spec.specs.Grammar.{Placed}
 use Rattle.wasmprinter_spec.specs.Row as row
 use Rattle.wasmprinter_spec.specs.Operator.{Operator}
 use Rattle.wasmprinter_spec.specs.Placed.{ElementMode, Passive, Declared, Active, Items, Functions, Expressions, ElementEntry}
-use Rattle.wasmprinter_spec.specs.Piece.{Piece, Break, Gap, Word}
-use Rattle.wasmprinter_spec.specs.Layout.Groups.{line_group_gap, group_gap}
+use Rattle.wasmprinter_spec.specs.Piece.{Piece, Break, OneSpace, Word}
+use Rattle.wasmprinter_spec.specs.Layout.Groups.{line_group_space, group_space}
 use Rattle.wasmprinter_spec.specs.Layout.ValTypes.{ref_pieces}
 use Rattle.wasmprinter_spec.specs.Layout.Declarations.{Scope, item_declaration, item_index}
 use Rattle.wasmprinter_spec.specs.Layout.Expressions.{constant_group}
 
 -- The table, if the bytes name it.
 abbrev pub named_table : Scope → Bool → ℕ → List Piece
-named_table s true t = Gap ∷ line_group_gap (codes "table") (item_index s row.Table t)
+named_table s true t = OneSpace ∷ line_group_space (codes "table") (item_index s row.Table t)
 named_table s false t = []
 
 -- The mode of a segment. The second argument says whether the bytes name its table.
 unfoldable pub mode_pieces : Scope → Bool → ElementMode (Placed Operator) → List Piece
 mode_pieces s names Passive = []
-mode_pieces s names Declared = Gap ∷ (Word (codes "declare") ∷ [])
-mode_pieces s names (Active t offset) = named_table s names t ++ (Gap ∷ constant_group s 2 (codes "offset") offset)
+mode_pieces s names Declared = OneSpace ∷ (Word (codes "declare") ∷ [])
+mode_pieces s names (Active t offset) = named_table s names t ++ (OneSpace ∷ constant_group s 2 (codes "offset") offset)
 
 -- The indices of functions, with a space before each.
 unfoldable pub function_items : Scope → List ℕ → List Piece
 function_items s [] = []
-function_items s (i ∷ is) = Gap ∷ (item_index s row.Func i ++ function_items s is)
+function_items s (i ∷ is) = OneSpace ∷ (item_index s row.Func i ++ function_items s is)
 
 -- The expressions, each in a group, with a space before each.
 unfoldable pub expression_items : Scope → List (List (Placed Operator)) → List Piece
 expression_items s [] = []
-expression_items s (e ∷ es) = Gap ∷ (constant_group s 2 (codes "item") e ++ expression_items s es)
+expression_items s (e ∷ es) = OneSpace ∷ (constant_group s 2 (codes "item") e ++ expression_items s es)
 
 -- The items: the word `func` and functions, or a reference type and expressions.
 unfoldable pub items_pieces : Scope → Items (Placed Operator) → List Piece
@@ -46,8 +46,8 @@ shown_items false s items = items_pieces s items
 -- text is a skeleton.
 abbrev pub element_parts : Bool → Scope → ℕ → ElementEntry → List Piece
 element_parts skeleton s i e =
-    item_declaration s row.Elem i ++ (mode_pieces s e.names_table e.element.mode ++ (Gap ∷ shown_items skeleton s e.element.items))
+    item_declaration s row.Elem i ++ (mode_pieces s e.names_table e.element.mode ++ (OneSpace ∷ shown_items skeleton s e.element.items))
 
 -- The field of the element segment with index i, on a line of its own.
 unfoldable pub element_pieces : Bool → Scope → ℕ → Placed ElementEntry → List Piece
-element_pieces skeleton s i e = Break (Some e.place) 1 ∷ group_gap 1 (codes "elem") (element_parts skeleton s i e.value)
+element_pieces skeleton s i e = Break (Some e.place) 1 ∷ group_space 1 (codes "elem") (element_parts skeleton s i e.value)

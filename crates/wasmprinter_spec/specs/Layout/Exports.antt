@@ -4,8 +4,8 @@ use Rattle.wasmprinter_spec.specs.Grammar.{Placed}
 use Rattle.wasmprinter_spec.specs.Types.{ExternKind, FuncKind, TableKind, MemoryKind, GlobalKind, TagKind}
 use Rattle.wasmprinter_spec.specs.Indexed.{space_of}
 use Rattle.wasmprinter_spec.specs.Placed.{Export}
-use Rattle.wasmprinter_spec.specs.Piece.{Piece, Break, Gap, Word, Quoted}
-use Rattle.wasmprinter_spec.specs.Layout.Groups.{line_group_gap}
+use Rattle.wasmprinter_spec.specs.Piece.{Piece, Break, OneSpace, Word, Quoted}
+use Rattle.wasmprinter_spec.specs.Layout.Groups.{line_group_space}
 use Rattle.wasmprinter_spec.specs.Layout.Declarations.{Scope, item_index}
 
 -- The word of the kind.
@@ -23,8 +23,8 @@ extern_index_pieces s kind n = item_index s (space_of kind) n
 
 -- The name of an export, and the exported item.
 abbrev pub export_parts : Scope → Export → List Piece
-export_parts s e = Quoted (chars e.name) ∷ (Gap ∷ line_group_gap (kind_word e.kind) (extern_index_pieces s e.kind e.index))
+export_parts s e = Quoted (chars e.name) ∷ (OneSpace ∷ line_group_space (kind_word e.kind) (extern_index_pieces s e.kind e.index))
 
 -- The field of an export, on a line of its own.
 unfoldable pub export_pieces : Scope → Placed Export → List Piece
-export_pieces s e = Break (Some e.place) 1 ∷ line_group_gap (codes "export") (export_parts s e.value)
+export_pieces s e = Break (Some e.place) 1 ∷ line_group_space (codes "export") (export_parts s e.value)

@@ -6,7 +6,7 @@ use Rattle.std.specs.Prelude.{ℕ, ◌+◌, List, [], ◌∷◌, ◌++◌, Optio
 use Rattle.wasmprinter_spec.specs.Grammar.{Placed}
 use Rattle.wasmprinter_spec.specs.Types.{signature_at}
 use Rattle.wasmprinter_spec.specs.Operator.{Operator}
-use Rattle.wasmprinter_spec.specs.Piece.{Piece, Gap, OpenUnnamed, Word}
+use Rattle.wasmprinter_spec.specs.Piece.{Piece, OneSpace, OpenUnnamed, Word}
 use Rattle.wasmprinter_spec.specs.Layout.Groups.{close, has_break}
 use Rattle.wasmprinter_spec.specs.Layout.Operators.{InLine, Setting, expression_pieces}
 use Rattle.wasmprinter_spec.specs.Layout.Declarations.{Scope, Folding}
@@ -29,7 +29,7 @@ constant_pieces s nesting os = constant_by s.folding (in_line s nesting) os
 -- The word, unless there is exactly one operator.
 abbrev pub word_unless_one : List ℕ → List (Placed Operator) → List Piece
 word_unless_one w (o ∷ []) = []
-word_unless_one w os = Word w ∷ (Gap ∷ [])
+word_unless_one w os = Word w ∷ (OneSpace ∷ [])
 
 -- An expression. A single operator is never folded.
 abbrev pub grouped_pieces : Scope → ℕ → List (Placed Operator) → List Piece

@@ -15,7 +15,7 @@ use Rattle.wasmprinter_spec.specs.Customs.Hints.{Hint, next_hint, hint_after}
 use Rattle.wasmprinter_spec.specs.Call.{Call, Text, text_of}
 use Rattle.wasmprinter_spec.specs.Colored.{colored_text}
 use Rattle.wasmprinter_spec.specs.Options.{Options, defaults}
-use Rattle.wasmprinter_spec.specs.Piece.{Piece, Break, Word, OpenPlain, Shut, HintAnnotation, text, all_calls}
+use Rattle.wasmprinter_spec.specs.Piece.{Piece, Break, Word, OpenPlain, CloseParen, HintAnnotation, text, all_calls}
 use Rattle.wasmprinter_spec.specs.Layout.Declarations.{Folding}
 use Rattle.wasmprinter_spec.specs.Layout.Operators.{Form, Setting, pieces_by, before_word}
 use Rattle.wasmprinter_spec.specs.Folding.Arities.{Signatures, OperandCounts, counts_of, label_of_block}
@@ -110,7 +110,7 @@ node_pieces o color form first nesting (Snoc before head results held) =
     ++ node_hint o form leads place nesting (head_hint head)
     ++ before_word form (leads && is_none (head_hint head)) place nesting
     ++ OpenPlain (text_in_color color (head_calls o head))
-    ∷ (comment_end (is_nil held) (head_text o head) place nesting ++ node_pieces o color form false (nesting + 1) held ++ (Shut ∷ []))
+    ∷ (comment_end (is_nil held) (head_text o head) place nesting ++ node_pieces o color form false (nesting + 1) held ++ (CloseParen ∷ []))
 
 -- A list of operators, with no label open. None if the operators are not well nested or if there is legacy
 -- exception handling among them, which is not folded.

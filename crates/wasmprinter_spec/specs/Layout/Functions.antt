@@ -10,8 +10,8 @@ use Rattle.wasmprinter_spec.specs.Customs.Hints.{Hint, FunctionHints, next_hints
 use Rattle.wasmprinter_spec.specs.Placed.{LocalEntry, Body, PlacedFunction}
 use Rattle.wasmprinter_spec.specs.Module.{locals_of}
 use Rattle.wasmprinter_spec.specs.Options.{Options}
-use Rattle.wasmprinter_spec.specs.Piece.{Piece, Break, Gap, Word}
-use Rattle.wasmprinter_spec.specs.Layout.Groups.{line_group_gap, group_gap_at}
+use Rattle.wasmprinter_spec.specs.Piece.{Piece, Break, OneSpace, Word}
+use Rattle.wasmprinter_spec.specs.Layout.Groups.{line_group_space, group_space_at}
 use Rattle.wasmprinter_spec.specs.Layout.Variables.{Variables, variable_groups, variables_pieces, groups_pieces}
 use Rattle.wasmprinter_spec.specs.Layout.Declarations.{Scope, scope_of_function, Folding, item_declaration, type_use}
 use Rattle.wasmprinter_spec.specs.Layout.Operators.{OverLines, Setting, operators_pieces}
@@ -34,7 +34,7 @@ local_pieces names f count es = local_line names (locals_place es) (variable_gro
 -- The header of a function or a tag with index i: its declaration, and its type, whose parameters have the
 -- identifiers of function f, or none.
 unfoldable pub header_pieces : Scope → Space → Option ℕ → ℕ → ℕ → List Piece
-header_pieces s space f i type_index = item_declaration s space i ++ (Gap ∷ type_use s f type_index)
+header_pieces s space f i type_index = item_declaration s space i ++ (OneSpace ∷ type_use s f type_index)
 
 -- The setting of a body that begins at this place.
 abbrev pub over_lines : Scope → ℕ → Setting
@@ -65,9 +65,9 @@ inner_pieces s hs f =
 -- `skeleton` and `offsets`.
 unfoldable pub function_group : Bool → Bool → Scope → List (Placed Hint) → PlacedFunction → List Piece
 function_group true offsets s hs f =
-    line_group_gap (codes "func") (header_pieces s Func (Some s.function) s.function f.type_index ++ (Gap ∷ (Word (codes "...") ∷ [])))
+    line_group_space (codes "func") (header_pieces s Func (Some s.function) s.function f.type_index ++ (OneSpace ∷ (Word (codes "...") ∷ [])))
 function_group false offsets s hs f =
-    group_gap_at offsets f.body.value.end 1 (codes "func")
+    group_space_at offsets f.body.value.end 1 (codes "func")
     (header_pieces s Func (Some s.function) s.function f.type_index ++ inner_pieces s hs f)
 
 -- Function i, with these hints.

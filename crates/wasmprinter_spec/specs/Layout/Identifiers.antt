@@ -2,12 +2,12 @@
 -- indices. If the identifier had to differ from the given name, an annotation `(@name "..")` has the name.
 use Rattle.std.specs.Prelude.{ℕ, List, [], ◌∷◌, ◌++◌, cond, chars, bytes_eq, Option, Some, None}
 use Rattle.wasmprinter_spec.specs.Labels.{Named}
-use Rattle.wasmprinter_spec.specs.Piece.{Piece, Gap, Number, IndexComment, BeginName, EndStyle, Identifier, NameAnnotation}
+use Rattle.wasmprinter_spec.specs.Piece.{Piece, OneSpace, Number, IndexComment, BeginName, EndStyle, Identifier, NameAnnotation}
 
 -- The annotation with the given name, if the name is not the identifier.
 abbrev pub given_pieces : Option (List ℕ) → List ℕ → List Piece
 given_pieces None content = []
-given_pieces (Some s) content = cond (bytes_eq s content) [] (Gap ∷ (NameAnnotation (chars s) ∷ []))
+given_pieces (Some s) content = cond (bytes_eq s content) [] (OneSpace ∷ (NameAnnotation (chars s) ∷ []))
 
 -- An identifier, and the annotation with the given name.
 unfoldable pub id_and_name_pieces : Named → List Piece
@@ -16,21 +16,21 @@ id_and_name_pieces n = Identifier (chars n.content) ∷ given_pieces n.given n.c
 -- A space, the identifier and the annotation, if there is an identifier.
 unfoldable pub leading_id_and_name_pieces : Option Named → List Piece
 leading_id_and_name_pieces None = []
-leading_id_and_name_pieces (Some n) = Gap ∷ id_and_name_pieces n
+leading_id_and_name_pieces (Some n) = OneSpace ∷ id_and_name_pieces n
 
 -- The identifier, the annotation and a space, if there is an identifier.
-unfoldable pub id_and_name_gap_pieces : Option Named → List Piece
-id_and_name_gap_pieces None = []
-id_and_name_gap_pieces (Some n) = id_and_name_pieces n ++ (Gap ∷ [])
+unfoldable pub id_and_name_space_pieces : Option Named → List Piece
+id_and_name_space_pieces None = []
+id_and_name_space_pieces (Some n) = id_and_name_pieces n ++ (OneSpace ∷ [])
 
 -- The identifier and a space, if there is one.
-unfoldable pub identifier_gap_pieces : Option Named → List Piece
-identifier_gap_pieces None = []
-identifier_gap_pieces (Some n) = Identifier (chars n.content) ∷ (Gap ∷ [])
+unfoldable pub identifier_space_pieces : Option Named → List Piece
+identifier_space_pieces None = []
+identifier_space_pieces (Some n) = Identifier (chars n.content) ∷ (OneSpace ∷ [])
 
 -- The declaration of an item, with its index.
 unfoldable pub declaration_pieces : Option Named → ℕ → List Piece
-declaration_pieces n i = BeginName ∷ (id_and_name_gap_pieces n ++ (IndexComment i ∷ (EndStyle ∷ [])))
+declaration_pieces n i = BeginName ∷ (id_and_name_space_pieces n ++ (IndexComment i ∷ (EndStyle ∷ [])))
 
 -- An index: the identifier of the item, or else the number.
 unfoldable pub index_pieces : Option Named → ℕ → List Piece

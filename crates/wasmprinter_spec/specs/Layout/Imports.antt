@@ -4,8 +4,8 @@ use Rattle.wasmprinter_spec.specs.Grammar.{Placed}
 use Rattle.wasmprinter_spec.specs.Types.{ExternType, FuncExtern, TableExtern, MemoryExtern, GlobalExtern, TagExtern}
 use Rattle.wasmprinter_spec.specs.Row.{Func, Tag}
 use Rattle.wasmprinter_spec.specs.Placed.{Import}
-use Rattle.wasmprinter_spec.specs.Piece.{Piece, Break, Gap, Quoted}
-use Rattle.wasmprinter_spec.specs.Layout.Groups.{line_group_gap}
+use Rattle.wasmprinter_spec.specs.Piece.{Piece, Break, OneSpace, Quoted}
+use Rattle.wasmprinter_spec.specs.Layout.Groups.{line_group_space}
 use Rattle.wasmprinter_spec.specs.Layout.Declarations.{Scope}
 use Rattle.wasmprinter_spec.specs.Layout.Functions.{header_pieces}
 use Rattle.wasmprinter_spec.specs.Layout.Tables.{declared_table}
@@ -51,19 +51,19 @@ extern_parts s n (TagExtern i) = header_pieces s Tag None n i
 
 -- The inner group of an import: the word of the kind, the declaration with index n, and the type.
 unfoldable pub extern_pieces : Scope → ℕ → ExternType → List Piece
-extern_pieces s n (FuncExtern i) = line_group_gap (codes "func") (extern_parts s n (FuncExtern i))
-extern_pieces s n (TableExtern t) = line_group_gap (codes "table") (extern_parts s n (TableExtern t))
-extern_pieces s n (MemoryExtern t) = line_group_gap (codes "memory") (extern_parts s n (MemoryExtern t))
-extern_pieces s n (GlobalExtern t) = line_group_gap (codes "global") (extern_parts s n (GlobalExtern t))
-extern_pieces s n (TagExtern i) = line_group_gap (codes "tag") (extern_parts s n (TagExtern i))
+extern_pieces s n (FuncExtern i) = line_group_space (codes "func") (extern_parts s n (FuncExtern i))
+extern_pieces s n (TableExtern t) = line_group_space (codes "table") (extern_parts s n (TableExtern t))
+extern_pieces s n (MemoryExtern t) = line_group_space (codes "memory") (extern_parts s n (MemoryExtern t))
+extern_pieces s n (GlobalExtern t) = line_group_space (codes "global") (extern_parts s n (GlobalExtern t))
+extern_pieces s n (TagExtern i) = line_group_space (codes "tag") (extern_parts s n (TagExtern i))
 
 -- Two names, and the import's type.
 abbrev pub import_parts : Scope → ℕ → Import → List Piece
-import_parts s n i = Quoted (chars i.source) ∷ (Gap ∷ (Quoted (chars i.name) ∷ (Gap ∷ extern_pieces s n i.type)))
+import_parts s n i = Quoted (chars i.source) ∷ (OneSpace ∷ (Quoted (chars i.name) ∷ (OneSpace ∷ extern_pieces s n i.type)))
 
 -- The field of the import with index n, on a line of its own.
 unfoldable pub import_pieces : Scope → ℕ → Placed Import → List Piece
-import_pieces s n i = Break (Some i.place) 1 ∷ line_group_gap (codes "import") (import_parts s n i.value)
+import_pieces s n i = Break (Some i.place) 1 ∷ line_group_space (codes "import") (import_parts s n i.value)
 
 -- The fields of imports. The second argument has the numbers of the imports before these.
 unfoldable pub imports_pieces : Scope → Numbers → List (Placed Import) → List Piece

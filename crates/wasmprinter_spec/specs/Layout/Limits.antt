@@ -1,11 +1,11 @@
 -- The layout of limits (section 6.4 of the standard, "Limits").
 use Rattle.std.specs.Prelude.{ℕ, List, [], ◌∷◌, codes, decimal, Bool, true, false, Option, Some, None}
 use Rattle.wasmprinter_spec.specs.Types.{Limits}
-use Rattle.wasmprinter_spec.specs.Piece.{Piece, TypeWordGap, Literals}
+use Rattle.wasmprinter_spec.specs.Piece.{Piece, TypeWordSpace, Literals}
 
 -- The address type, if addresses have 64 bits.
 abbrev pub wide_pieces : Bool → List Piece
-wide_pieces true = TypeWordGap (codes "i64") ∷ []
+wide_pieces true = TypeWordSpace (codes "i64") ∷ []
 wide_pieces false = []
 
 -- The maximum size in decimal, if there is one.

@@ -15,8 +15,8 @@ use Rattle.wasmprinter_spec.specs.Labels as labels
 use Rattle.wasmprinter_spec.specs.Names.{Names, in_function}
 use Rattle.wasmprinter_spec.specs.Customs.Hints.{Hint, next_hint, hint_after}
 use Rattle.wasmprinter_spec.specs.Labels.{Named, is_hidden, Target, Around, Own, Nothing, target, labels_after, count_after, labels_outside, labels_inside}
-use Rattle.wasmprinter_spec.specs.Piece.{Piece, Break, Gap, Word, GapTypeWord, Number, Constant, GapLiterals, Float, BlockComment, LineComment, HintAnnotation}
-use Rattle.wasmprinter_spec.specs.Layout.Groups.{line_group, line_group_gap}
+use Rattle.wasmprinter_spec.specs.Piece.{Piece, Break, OneSpace, Word, SpaceTypeWord, Number, Constant, SpaceLiterals, Float, BlockComment, LineComment, HintAnnotation}
+use Rattle.wasmprinter_spec.specs.Layout.Groups.{line_group, line_group_space}
 use Rattle.wasmprinter_spec.specs.Layout.Identifiers.{id_and_name_pieces, leading_id_and_name_pieces, index_pieces}
 use Rattle.wasmprinter_spec.specs.Layout.ValTypes.{type_index_pieces, heap_pieces, ref_pieces, val_pieces, type_list}
 use Rattle.wasmprinter_spec.specs.Layout.Types.{type_use_pieces}
@@ -64,7 +64,7 @@ target_pieces inner d l Nothing = Word (decimal l) ∷ (BlockComment false (code
 
 -- A space and the label l, which counts from the open labels xs. `inner` is that of `target_pieces`.
 unfoldable pub label_pieces : List labels.Label → List labels.Label → ℕ → List Piece
-label_pieces inner xs l = Gap ∷ target_pieces inner (length xs) l (target l xs)
+label_pieces inner xs l = OneSpace ∷ target_pieces inner (length xs) l (target l xs)
 
 -- The labels of `br_table`, of which l is the last. The other arguments are those of `label_pieces`.
 unfoldable pub labels_pieces : List labels.Label → List labels.Label → List ℕ → ℕ → List Piece
@@ -76,60 +76,60 @@ labels_pieces inner xs (m ∷ ms) l = label_pieces inner xs m ++ labels_pieces i
 -- The comment of the block with number d, whose label has no identifier. Blocks are counted from 1.
 unfoldable pub ending_pieces : Form → labels.Label → ℕ → List Piece
 ending_pieces form (Some n) d = []
-ending_pieces OverLines None d = Gap ∷ (LineComment (codes "label = @" ++ decimal d) ∷ [])
-ending_pieces InLine None d = Gap ∷ (BlockComment true (codes " label = @" ++ (decimal d ++ codes " ")) ∷ [])
+ending_pieces OverLines None d = OneSpace ∷ (LineComment (codes "label = @" ++ decimal d) ∷ [])
+ending_pieces InLine None d = OneSpace ∷ (BlockComment true (codes " label = @" ++ (decimal d ++ codes " ")) ∷ [])
 
 -- A space and a block type, or nothing for the empty block type.
 unfoldable pub block_pieces : Setting → BlockType → List Piece
 block_pieces s Empty = []
-block_pieces s (Value t) = Gap ∷ line_group_gap (codes "result") (val_pieces s.names t)
-block_pieces s (OfType n) = Gap ∷ type_use_pieces s.names None n (s.signature n)
+block_pieces s (Value t) = OneSpace ∷ line_group_space (codes "result") (val_pieces s.names t)
+block_pieces s (OfType n) = OneSpace ∷ type_use_pieces s.names None n (s.signature n)
 
 -- A catch clause in a group. `inner` and `xs` are those of `label_pieces`, here and below.
 unfoldable pub catch_pieces : Setting → List labels.Label → List labels.Label → Catch → List Piece
-catch_pieces s inner xs (One t l) = line_group (codes "catch") (Gap ∷ (named_index s row.Tag t ++ label_pieces inner xs l))
-catch_pieces s inner xs (OneRef t l) = line_group (codes "catch_ref") (Gap ∷ (named_index s row.Tag t ++ label_pieces inner xs l))
+catch_pieces s inner xs (One t l) = line_group (codes "catch") (OneSpace ∷ (named_index s row.Tag t ++ label_pieces inner xs l))
+catch_pieces s inner xs (OneRef t l) = line_group (codes "catch_ref") (OneSpace ∷ (named_index s row.Tag t ++ label_pieces inner xs l))
 catch_pieces s inner xs (All l) = line_group (codes "catch_all") (label_pieces inner xs l)
 catch_pieces s inner xs (AllRef l) = line_group (codes "catch_all_ref") (label_pieces inner xs l)
 
 -- Catch clauses, with a space before each.
 unfoldable pub catches_pieces : Setting → List labels.Label → List labels.Label → List Catch → List Piece
 catches_pieces s inner xs [] = []
-catches_pieces s inner xs (c ∷ cs) = Gap ∷ (catch_pieces s inner xs c ++ catches_pieces s inner xs cs)
+catches_pieces s inner xs (c ∷ cs) = OneSpace ∷ (catch_pieces s inner xs c ++ catches_pieces s inner xs cs)
 
 -- ---- Operators
 
 -- An index: a label, or an index into another space.
 unfoldable pub operand_pieces : Setting → List labels.Label → List labels.Label → Space → ℕ → List Piece
 operand_pieces s inner xs Label n = label_pieces inner xs n
-operand_pieces s inner xs space n = Gap ∷ named_index s space n
+operand_pieces s inner xs space n = OneSpace ∷ named_index s space n
 
 -- An index that is omitted if it is 0.
 unfoldable pub default_index_pieces : Setting → Space → ℕ → List Piece
-default_index_pieces s space n = cond (n == 0) [] (Gap ∷ named_index s space n)
+default_index_pieces s space n = cond (n == 0) [] (OneSpace ∷ named_index s space n)
 
 -- An index into each of two spaces.
 unfoldable pub two_index_pieces : Setting → Space → Space → ℕ → ℕ → List Piece
-two_index_pieces s first second m n = Gap ∷ (named_index s first m ++ (Gap ∷ named_index s second n))
+two_index_pieces s first second m n = OneSpace ∷ (named_index s first m ++ (OneSpace ∷ named_index s second n))
 
 -- A structure type, and one of its fields.
 unfoldable pub type_and_field_pieces : Setting → ℕ → ℕ → List Piece
-type_and_field_pieces s t n = Gap ∷ (named_index s row.Types t ++ (Gap ∷ index_pieces (s.names.fields t n) n))
+type_and_field_pieces s t n = OneSpace ∷ (named_index s row.Types t ++ (OneSpace ∷ index_pieces (s.names.fields t n) n))
 
 -- The types that `select` names. A single type is laid out differently from several.
 unfoldable pub select_pieces : Names → List ValType → List Piece
-select_pieces names (t ∷ []) = Gap ∷ line_group_gap (codes "result") (val_pieces names t)
-select_pieces names ts = Gap ∷ line_group (codes "result") (type_list names ts)
+select_pieces names (t ∷ []) = OneSpace ∷ line_group_space (codes "result") (val_pieces names t)
+select_pieces names ts = OneSpace ∷ line_group (codes "result") (type_list names ts)
 
 -- ---- Memory operands
 
 -- A space and an offset. An offset of 0 is omitted.
 unfoldable pub offset_pieces : ℕ → List Piece
-offset_pieces n = cond (n == 0) [] (Gap ∷ (Word (codes "offset=" ++ decimal n) ∷ []))
+offset_pieces n = cond (n == 0) [] (OneSpace ∷ (Word (codes "offset=" ++ decimal n) ∷ []))
 
 -- A space and an alignment, by its exponent. The natural alignment is omitted.
 unfoldable pub align_pieces : ℕ → ℕ → List Piece
-align_pieces natural exponent = cond (exponent == natural) [] (Gap ∷ (Word (codes "align=" ++ decimal (2 ^ exponent)) ∷ []))
+align_pieces natural exponent = cond (exponent == natural) [] (OneSpace ∷ (Word (codes "align=" ++ decimal (2 ^ exponent)) ∷ []))
 
 -- A memory operand: the memory, which is omitted if it is 0, the offset and the alignment. `natural` is the exponent
 -- of the natural alignment.
@@ -140,7 +140,7 @@ mem_arg_pieces s natural m = default_index_pieces s row.Memory m.memory ++ (offs
 
 -- A space and an unsigned number in decimal.
 unfoldable pub lane_pieces : ℕ → List Piece
-lane_pieces k = Gap ∷ (Word (decimal k) ∷ [])
+lane_pieces k = OneSpace ∷ (Word (decimal k) ∷ [])
 
 -- Lane numbers, with a space before each.
 unfoldable pub lanes_pieces : List ℕ → List Piece
@@ -163,7 +163,7 @@ hex_words _ = []
 
 -- The bits of a vector as four integers of 32 bits, in hexadecimal.
 unfoldable pub vector_pieces : List ℕ → List Piece
-vector_pieces bs = GapTypeWord (codes "i32x4") ∷ (GapLiterals (hex_words bs) ∷ [])
+vector_pieces bs = SpaceTypeWord (codes "i32x4") ∷ (SpaceLiterals (hex_words bs) ∷ [])
 
 -- ---- Immediates
 
@@ -177,25 +177,25 @@ immediate_pieces s inner xs own (IndexShape space) (Index n) = operand_pieces s 
 immediate_pieces s inner xs own (DefaultIndexShape space) (Index n) = default_index_pieces s space n
 immediate_pieces s inner xs own (PairShape first second) (Indices m n) = two_index_pieces s first second m n
 immediate_pieces s inner xs own FieldShape (Indices t n) = type_and_field_pieces s t n
-immediate_pieces s inner xs own CountShape (Indices t n) = Gap ∷ (named_index s row.Types t ++ lane_pieces n)
+immediate_pieces s inner xs own CountShape (Indices t n) = OneSpace ∷ (named_index s row.Types t ++ lane_pieces n)
 immediate_pieces s inner xs own CallShape (Indices t n) =
-    default_index_pieces s row.Table n ++ (Gap ∷ line_group_gap (codes "type") (type_index_pieces s.names t))
+    default_index_pieces s row.Table n ++ (OneSpace ∷ line_group_space (codes "type") (type_index_pieces s.names t))
 immediate_pieces s inner xs own (SegmentShape segments space) (Indices m n) =
-    default_index_pieces s space n ++ (Gap ∷ named_index s segments m)
+    default_index_pieces s space n ++ (OneSpace ∷ named_index s segments m)
 immediate_pieces s inner xs own (CopyShape space) (Indices m n) = cond ((m == 0) && (n == 0)) [] (two_index_pieces s space space m n)
 immediate_pieces s inner xs own BranchTableShape (BranchTable ls l) = labels_pieces inner xs ls l
 immediate_pieces s inner xs own SelectShape (Types ts) = select_pieces s.names ts
-immediate_pieces s inner xs own HeapShape (Heap h) = Gap ∷ heap_pieces s.names h
-immediate_pieces s inner xs own (RefShape null) (Heap h) = Gap ∷ ref_pieces s.names (ref_type null h)
+immediate_pieces s inner xs own HeapShape (Heap h) = OneSpace ∷ heap_pieces s.names h
+immediate_pieces s inner xs own (RefShape null) (Heap h) = OneSpace ∷ ref_pieces s.names (ref_type null h)
 immediate_pieces s inner xs own CastShape (Cast l r t) =
-    label_pieces inner xs l ++ (Gap ∷ (ref_pieces s.names r ++ (Gap ∷ ref_pieces s.names t)))
+    label_pieces inner xs l ++ (OneSpace ∷ (ref_pieces s.names r ++ (OneSpace ∷ ref_pieces s.names t)))
 immediate_pieces s inner xs own (MemoryShape natural) (Memory m) = mem_arg_pieces s natural m
 immediate_pieces s inner xs own (MemoryLaneShape natural) (MemoryLane m k) = mem_arg_pieces s natural m ++ lane_pieces k
 immediate_pieces s inner xs own LaneShape (Lane k) = lane_pieces k
 immediate_pieces s inner xs own I32Shape (I32 z) = Constant z ∷ []
 immediate_pieces s inner xs own I64Shape (I64 z) = Constant z ∷ []
-immediate_pieces s inner xs own F32Shape (F32 bits) = Gap ∷ (Float single bits ∷ [])
-immediate_pieces s inner xs own F64Shape (F64 bits) = Gap ∷ (Float double bits ∷ [])
+immediate_pieces s inner xs own F32Shape (F32 bits) = OneSpace ∷ (Float single bits ∷ [])
+immediate_pieces s inner xs own F64Shape (F64 bits) = OneSpace ∷ (Float double bits ∷ [])
 immediate_pieces s inner xs own VectorShape (Bytes bs) = vector_pieces bs
 immediate_pieces s inner xs own LanesShape (Bytes bs) = lanes_pieces bs
 immediate_pieces s inner xs own _ _ = []
@@ -220,7 +220,7 @@ level _ d = d
 abbrev pub before_word : Form → Bool → ℕ → ℕ → List Piece
 before_word OverLines first place nesting = Break (Some place) nesting ∷ []
 before_word InLine true place nesting = []
-before_word InLine false place nesting = Gap ∷ []
+before_word InLine false place nesting = OneSpace ∷ []
 
 -- An operator with its immediates. `first` says whether it is the first of its list, `own` is the label of the block
 -- that it opens, if it opens one, and the labels `xs` are open.

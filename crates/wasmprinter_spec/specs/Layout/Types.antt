@@ -6,9 +6,9 @@ use Rattle.wasmprinter_spec.specs.Row.{Types}
 use Rattle.wasmprinter_spec.specs.Labels.{Named}
 use Rattle.wasmprinter_spec.specs.Names.{Names}
 use Rattle.wasmprinter_spec.specs.Placed.{TypeGroup}
-use Rattle.wasmprinter_spec.specs.Piece.{Piece, Break, Gap, OpenPlain, Shut, Word}
-use Rattle.wasmprinter_spec.specs.Layout.Groups.{group, line_group, line_group_gap, numbered_pieces}
-use Rattle.wasmprinter_spec.specs.Layout.Identifiers.{identifier_gap_pieces, declaration_pieces}
+use Rattle.wasmprinter_spec.specs.Piece.{Piece, Break, OneSpace, OpenPlain, CloseParen, Word}
+use Rattle.wasmprinter_spec.specs.Layout.Groups.{group, line_group, line_group_space, numbered_pieces}
+use Rattle.wasmprinter_spec.specs.Layout.Identifiers.{identifier_space_pieces, declaration_pieces}
 use Rattle.wasmprinter_spec.specs.Layout.ValTypes.{type_index_pieces, val_pieces, type_list}
 use Rattle.wasmprinter_spec.specs.Layout.Variables.{variable_groups, groups_pieces}
 
@@ -22,7 +22,7 @@ module _ (names : Names) where
   -- ` (w t1 t2 ..)`, and nothing if there are no types.
   unfoldable pub list_group : List ℕ → List ValType → List Piece
   list_group w [] = []
-  list_group w (t ∷ ts) = Gap ∷ line_group w (type_list names (t ∷ ts))
+  list_group w (t ∷ ts) = OneSpace ∷ line_group w (type_list names (t ∷ ts))
 
   -- The signature of function f, or of no function.
   unfoldable pub signature_pieces : Option ℕ → FuncType → List Piece
@@ -36,7 +36,7 @@ module _ (names : Names) where
 
   -- A type use: the index of a type, and its signature if it is a function type.
   unfoldable pub type_use_pieces : Option ℕ → ℕ → Option FuncType → List Piece
-  type_use_pieces f i t = line_group_gap (codes "type") (type_index_pieces names i) ++ signature_if_any f t
+  type_use_pieces f i t = line_group_space (codes "type") (type_index_pieces names i) ++ signature_if_any f t
 
   -- ---- Composite types
 
@@ -48,16 +48,16 @@ module _ (names : Names) where
 
   -- A storage type, in a group `mut` if the field is mutable.
   abbrev pub field_pieces_by : Bool → StorageType → List Piece
-  field_pieces_by true s = OpenPlain (codes "mut") ∷ (Gap ∷ (storage_pieces s ++ (Shut ∷ [])))
+  field_pieces_by true s = OpenPlain (codes "mut") ∷ (OneSpace ∷ (storage_pieces s ++ (CloseParen ∷ [])))
   field_pieces_by false s = storage_pieces s
 
   -- A space, the identifier of the field if it has one, and the field.
   unfoldable pub field_pieces : Option Named → FieldType → List Piece
-  field_pieces n f = Gap ∷ (identifier_gap_pieces n ++ field_pieces_by f.mutable f.storage)
+  field_pieces n f = OneSpace ∷ (identifier_space_pieces n ++ field_pieces_by f.mutable f.storage)
 
   -- A space and the group of a field of a structure type, with its identifier if it has one.
   unfoldable pub struct_field_pieces : Option Named → FieldType → List Piece
-  struct_field_pieces n f = Gap ∷ (OpenPlain (codes "field") ∷ (field_pieces n f ++ (Shut ∷ [])))
+  struct_field_pieces n f = OneSpace ∷ (OpenPlain (codes "field") ∷ (field_pieces n f ++ (CloseParen ∷ [])))
 
   -- The composite type of the type with index i.
   unfoldable pub composite_pieces : ℕ → CompositeType → List Piece
@@ -70,17 +70,17 @@ module _ (names : Names) where
 
   -- The word `final` and a space, if the type is final.
   abbrev pub final_pieces : Bool → List Piece
-  final_pieces true = Word (codes "final") ∷ (Gap ∷ [])
+  final_pieces true = Word (codes "final") ∷ (OneSpace ∷ [])
   final_pieces false = []
 
   -- Supertypes, with a space after each.
   unfoldable pub supertype_pieces : List ℕ → List Piece
   supertype_pieces [] = []
-  supertype_pieces (i ∷ is) = type_index_pieces names i ++ (Gap ∷ supertype_pieces is)
+  supertype_pieces (i ∷ is) = type_index_pieces names i ++ (OneSpace ∷ supertype_pieces is)
 
   -- The group `sub` of the type with index i: whether it is final, its supertypes and its composite type.
   unfoldable pub sub_group : ℕ → Bool → List ℕ → CompositeType → List Piece
-  sub_group i final supers c = line_group (codes "sub") (Gap ∷ (final_pieces final ++ (supertype_pieces supers ++ composite_pieces i c)))
+  sub_group i final supers c = line_group (codes "sub") (OneSpace ∷ (final_pieces final ++ (supertype_pieces supers ++ composite_pieces i c)))
 
   -- A subtype. A final type without supertypes is printed as its composite type by itself.
   abbrev pub sub_pieces_by : ℕ → Bool → List ℕ → CompositeType → List Piece
@@ -93,7 +93,7 @@ module _ (names : Names) where
 
   -- A type with its index.
   unfoldable pub type_pieces : ℕ → SubType → List Piece
-  type_pieces i t = line_group_gap (codes "type") (declaration_pieces (names.items Types i) i ++ (Gap ∷ sub_pieces i t))
+  type_pieces i t = line_group_space (codes "type") (declaration_pieces (names.items Types i) i ++ (OneSpace ∷ sub_pieces i t))
 
   -- ---- Groups of types
 

@@ -3,8 +3,8 @@ use Rattle.std.specs.Prelude.{ℕ, List, [], ◌∷◌, ◌++◌, codes, Bool, t
 use Rattle.wasmprinter_spec.specs.Types.{HeapType, Exn, Array, Struct, I31, Eq, Any, Extern, Func, NoAny, NoExtern, NoFunc, NoExn, Index, RefType, ValType, I32, I64, F32, F64, V128, Ref}
 use Rattle.wasmprinter_spec.specs.Row.{Types}
 use Rattle.wasmprinter_spec.specs.Names.{Names}
-use Rattle.wasmprinter_spec.specs.Piece.{Piece, Gap, Word, TypeWord}
-use Rattle.wasmprinter_spec.specs.Layout.Groups.{line_group, line_group_gap}
+use Rattle.wasmprinter_spec.specs.Piece.{Piece, OneSpace, Word, TypeWord}
+use Rattle.wasmprinter_spec.specs.Layout.Groups.{line_group, line_group_space}
 use Rattle.wasmprinter_spec.specs.Layout.Identifiers.{index_pieces}
 
 -- The word of an abstract heap type, empty for an index.
@@ -51,13 +51,13 @@ module _ (names : Names) where
 
   -- A nullable reference type.
   unfoldable pub null_ref_pieces : HeapType → List Piece
-  null_ref_pieces (Index n) = line_group (codes "ref") (Gap ∷ (Word (codes "null") ∷ (Gap ∷ heap_pieces (Index n))))
+  null_ref_pieces (Index n) = line_group (codes "ref") (OneSpace ∷ (Word (codes "null") ∷ (OneSpace ∷ heap_pieces (Index n))))
   null_ref_pieces h = TypeWord (ref_word h) ∷ []
 
   -- A reference type that is nullable or not, to this heap type.
   abbrev pub ref_pieces_by : Bool → HeapType → List Piece
   ref_pieces_by true h = null_ref_pieces h
-  ref_pieces_by false h = line_group_gap (codes "ref") (heap_pieces h)
+  ref_pieces_by false h = line_group_space (codes "ref") (heap_pieces h)
 
   -- A reference type.
   unfoldable pub ref_pieces : RefType → List Piece
@@ -75,4 +75,4 @@ module _ (names : Names) where
   -- Types, with a space before each.
   unfoldable pub type_list : List ValType → List Piece
   type_list [] = []
-  type_list (t ∷ ts) = Gap ∷ (val_pieces t ++ type_list ts)
+  type_list (t ∷ ts) = OneSpace ∷ (val_pieces t ++ type_list ts)

@@ -4,9 +4,9 @@ use Rattle.std.specs.Prelude.{ℕ, ◌+◌, List, [], ◌∷◌, ◌++◌, Optio
 use Rattle.wasmprinter_spec.specs.Types.{ValType}
 use Rattle.wasmprinter_spec.specs.Labels.{Named}
 use Rattle.wasmprinter_spec.specs.Names.{Names}
-use Rattle.wasmprinter_spec.specs.Piece.{Piece, Gap}
+use Rattle.wasmprinter_spec.specs.Piece.{Piece, OneSpace}
 use Rattle.wasmprinter_spec.specs.Layout.Groups.{line_group}
-use Rattle.wasmprinter_spec.specs.Layout.Identifiers.{id_and_name_gap_pieces}
+use Rattle.wasmprinter_spec.specs.Layout.Identifiers.{id_and_name_space_pieces}
 use Rattle.wasmprinter_spec.specs.Layout.ValTypes.{val_pieces, type_list}
 
 -- A group of variables: one with an identifier, or several without.
@@ -28,10 +28,10 @@ variable_groups named k (t ∷ ts) = with_variable (named k) t (variable_groups 
 module _ (names : Names) where
   -- A group of variables after the word w, which is `param` or `local`.
   unfoldable pub variables_pieces : List ℕ → Variables → List Piece
-  variables_pieces w (Alone n t) = line_group w (Gap ∷ (id_and_name_gap_pieces (Some n) ++ val_pieces names t))
+  variables_pieces w (Alone n t) = line_group w (OneSpace ∷ (id_and_name_space_pieces (Some n) ++ val_pieces names t))
   variables_pieces w (Together ts) = line_group w (type_list names ts)
 
   -- Groups, with a space before each.
   unfoldable pub groups_pieces : List ℕ → List Variables → List Piece
   groups_pieces w [] = []
-  groups_pieces w (g ∷ gs) = Gap ∷ (variables_pieces w g ++ groups_pieces w gs)
+  groups_pieces w (g ∷ gs) = OneSpace ∷ (variables_pieces w g ++ groups_pieces w gs)

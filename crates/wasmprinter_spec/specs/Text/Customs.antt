@@ -1,5 +1,5 @@
 -- Custom sections in the text format (custom annotations, appendix of the standard): `(@custom "name" (before
--- first) "bytes")`, or `(after ..)` one of the other sections. An annotation without a place, or with another one,
+-- first) "bytes")`, or `(after ..)` one of the other sections. An annotation without such a group, or with another one,
 -- is an abbreviation that is not read.
 use Rattle.std.specs.Prelude.{ℕ, List, [], ◌∷◌, codes, bytes_eq, Option, Some, None, if◌then◌else◌, option_map}
 use Rattle.std.specs.Str.{is_utf8}
@@ -26,14 +26,14 @@ first_word w = if bytes_eq w (codes "first") then Some None else None
 abbrev pub kind_word : List ℕ → Option (Option Kind)
 kind_word w = option_map Some (section_of_word w)
 
--- The place of the section among the others.
-abbrev pub custom_place : Forest → Option (Option Kind)
-custom_place (Word w f) =
+-- After which kind of section the section occurs.
+abbrev pub custom_after : Forest → Option (Option Kind)
+custom_after (Word w f) =
     if bytes_eq w (codes "before") then one_word first_word f else (if bytes_eq w (codes "after") then one_word kind_word f else None)
-custom_place f = None
+custom_after f = None
 
 -- A custom section, by the content of its annotation: a name, which must be UTF-8, a position, and strings.
 abbrev pub read_custom : Forest → Option RawCustom
 read_custom (String n (Group p f)) =
-    if is_utf8 n then (custom_place p >>= λ k. strings f >>= λ bs. Some (record { after = k; name = n; bytes = bs })) else None
+    if is_utf8 n then (custom_after p >>= λ k. strings f >>= λ bs. Some (record { after = k; name = n; bytes = bs })) else None
 read_custom f = None

@@ -253,7 +253,7 @@ fn write_sub_type<O: Output>(
 }
 
 /// Writes the definition of the type with the given number.
-#[tactic(auto, unfolding(wasmprinter_spec::specs::Layout::Types::type_pieces, wasmprinter_spec::specs::Layout::Groups::line_group_gap))]
+#[tactic(auto, unfolding(wasmprinter_spec::specs::Layout::Types::type_pieces, wasmprinter_spec::specs::Layout::Groups::line_group_space))]
 pub fn write_type_field<O: Output>(
     out: &mut O,
     identifiers: &Identifiers<'_, '_>,

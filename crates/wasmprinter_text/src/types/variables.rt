@@ -3,10 +3,10 @@
 ghost use Rattle.std.specs.Prelude.{◌≡◌, ◌∷◌, ◌++◌, Some, codes, option_map};
 ghost use Rattle.wasmprinter_spec.specs.Layout.Groups.{line_group};
 ghost use Rattle.wasmprinter_spec.specs.Layout.Types.{parameters_of};
-ghost use Rattle.wasmprinter_spec.specs.Layout.Identifiers.{id_and_name_gap_pieces};
+ghost use Rattle.wasmprinter_spec.specs.Layout.Identifiers.{id_and_name_space_pieces};
 ghost use Rattle.wasmprinter_spec.specs.Layout.ValTypes.{val_pieces};
 ghost use Rattle.wasmprinter_spec.specs.Layout.Variables.{variable_groups, groups_pieces};
-ghost use Rattle.wasmprinter_spec.specs.Piece.{Gap};
+ghost use Rattle.wasmprinter_spec.specs.Piece.{OneSpace};
 ghost use Rattle.wasmprinter_custom.specs.Shown.{identifier_view, names_of_identifiers};
 ghost use Rattle.wasmprinter_ops.specs.ValTypes.{type_view, types_view};
 ghost use Rattle.wasmprinter_text.specs.Variables.{front_pieces, end_pieces, before_next, first_pieces, unnamed_pieces, variable_pieces};
@@ -24,7 +24,7 @@ pub enum Before {
     /// The start of a line.
     Line,
     /// No group is open.
-    Shut,
+    Closed,
     /// A group of variables without identifiers is open.
     Open,
 }
@@ -49,7 +49,7 @@ fn write_before_group<O: Output>(out: &mut O, before: Before)
 {
     match before {
         Before::Line => {}
-        Before::Shut => write_space(out),
+        Before::Closed => write_space(out),
         Before::Open => {
             write_close_paren(out);
             write_space(out);
@@ -67,7 +67,7 @@ fn write_named_variable<O: Output>(
     value_type: ValType,
 )
     ensures { O.wrote out.old out.new
-        (line_group keyword.now (Gap ∷ (id_and_name_gap_pieces (Some (identifier_view identifier.entry))
+        (line_group keyword.now (OneSpace ∷ (id_and_name_space_pieces (Some (identifier_view identifier.entry))
         ++ val_pieces (names_of_identifiers identifiers.now) (type_view value_type)))) }
 {
     open_group(out, keyword);
@@ -133,7 +133,7 @@ fn write_variable_as<O: Output>(
         Some(identifier) => {
             write_before_group(out, before);
             write_named_variable(out, identifiers, keyword, identifier, value_type);
-            Before::Shut
+            Before::Closed
         }
     }
 }
@@ -179,7 +179,7 @@ pub(crate) fn write_params<O: Output>(
         (groups_pieces (names_of_identifiers identifiers.now) (codes "param")
         (variable_groups (parameters_of (names_of_identifiers identifiers.now) owner) 0 (types_view types.now))) }
 {
-    let mut before = Before::Shut;
+    let mut before = Before::Closed;
     for (number, value_type) in (0..u64::from(types.len())).zip(types.iter()) {
         if out.has_failed() {
             return;

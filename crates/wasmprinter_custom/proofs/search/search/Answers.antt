@@ -3,5 +3,5 @@ use Rattle.wasmprinter_custom.proofs.search.search.Goals as goal
 
 pub returns : goal.returns
 returns c =
-    found_at c.args.entries.now c.requires c.args.place c.in_ok-position.position c.index-entries-position.result c.in_ok-position.ensures.bound
+    found_at c.args.entries.now c.requires c.args.key c.in_ok-position.position c.index-entries-position.result c.in_ok-position.ensures.bound
     (c.in_ok-position.ensures.at c.index-entries-position.result)

@@ -12,4 +12,4 @@ pub returns : goal.returns
 returns g c =
     let same : c.entry.inside.section ≡ c.args.entry.now.section = ap (λ (e : CustomEntry). e.section) c.entry.view_is in
     let claim = rw (c.if-write_claim.false, same) at c.write_claim.ensures in
-    (false, rw (c.role_of.ensures, same) at (c.write_role.ensures _ _ claim))
+    (false, rw (c.treatment_of.ensures, same) at (c.write_treatment.ensures _ _ claim))

@@ -1,13 +1,13 @@
 use Rattle.std.proofs.Common.{◌≡◌, ap, ◌∙◌}
 use Rattle.wasmprinter_spec.specs.Layout.Exports.{kind_word}
-use Rattle.wasmprinter_spec.specs.Layout.Groups.{line_group_gap}
+use Rattle.wasmprinter_spec.specs.Layout.Groups.{line_group_space}
 use Rattle.wasmprinter_wasm.specs.Externs.{extern_view, kind_of_type}
 use Rattle.wasmprinter_sections.specs.Scopes.{scope_view}
 use Rattle.wasmprinter_sections.proofs.ImportLines.{extern-group}
 use Rattle.wasmprinter_sections.proofs.imports.write_extern_type.Goals as goal
 
 pub returns : goal.returns
-unfolding line_group_gap
+unfolding line_group_space
 returns g c =
     let law = g.met.O.Output in
     let keyword : c.kind_word.result.now ≡ kind_word (kind_of_type (extern_view c.args.extern_type)) = c.kind_word.ensures ∙ ap kind_word c.kind.ensures in

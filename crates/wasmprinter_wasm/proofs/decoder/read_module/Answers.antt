@@ -10,7 +10,7 @@ use Rattle.wasmprinter_spec.specs.Binary.{AreBytes, preamble, preamble_bytes}
 use Rattle.wasmprinter_bytes.specs.Reads.{end_of}
 use Rattle.wasmprinter_wasm.specs.Gathering.{Gathered, IsWhole, HoldsSections}
 use Rattle.wasmprinter_wasm.specs.Refusals.{PlacedTable}
-use Rattle.wasmprinter_wasm.specs.Places.{place_view}
+use Rattle.wasmprinter_wasm.specs.Places.{after_view}
 use Rattle.wasmprinter_wasm.proofs.Assembling.{module_fault, module_unpaired, module_kept, module_spelled, module_within}
 use Rattle.wasmprinter_wasm.proofs.decoder.read_module.Goals as goal
 
@@ -52,7 +52,7 @@ pub returns-then-not-is_whole : goal.returns-then-not-is_whole
 returns-then-not-is_whole c =
     let first = ap preamble.parse (sym c.new-cursor.ensures) ∙ c.in_ok-read_preamble.ensures.reads in
     let g : Gathered =
-    gathered_of c.gathered.inside.rank (place_view c.gathered.inside.after) c.gathered.inside.types c.gathered.inside.imports.items c.gathered.inside.type_indices.items
+    gathered_of c.gathered.inside.rank (after_view c.gathered.inside.after) c.gathered.inside.types c.gathered.inside.imports.items c.gathered.inside.type_indices.items
     c.gathered.inside.tables.items c.gathered.inside.memories.items c.gathered.inside.tags.items c.gathered.inside.globals.items
     c.gathered.inside.exports.items c.gathered.inside.start c.gathered.inside.elements.items c.gathered.inside.data_count c.gathered.inside.bodies.items
     c.gathered.inside.data_segments.items c.gathered.inside.customs.items in
@@ -64,7 +64,7 @@ pub invariant_of-result : goal.invariant_of-result
 invariant_of-result c =
     let first = ap preamble.parse (sym c.new-cursor.ensures) ∙ c.in_ok-read_preamble.ensures.reads in
     let g : Gathered =
-    gathered_of c.gathered.inside.rank (place_view c.gathered.inside.after) c.gathered.inside.types c.gathered.inside.imports.items c.gathered.inside.type_indices.items
+    gathered_of c.gathered.inside.rank (after_view c.gathered.inside.after) c.gathered.inside.types c.gathered.inside.imports.items c.gathered.inside.type_indices.items
     c.gathered.inside.tables.items c.gathered.inside.memories.items c.gathered.inside.tags.items c.gathered.inside.globals.items
     c.gathered.inside.exports.items c.gathered.inside.start c.gathered.inside.elements.items c.gathered.inside.data_count c.gathered.inside.bodies.items
     c.gathered.inside.data_segments.items c.gathered.inside.customs.items in
@@ -76,7 +76,7 @@ pub returns : goal.returns
 returns c =
     let first = ap preamble.parse (sym c.new-cursor.ensures) ∙ c.in_ok-read_preamble.ensures.reads in
     let g : Gathered =
-    gathered_of c.gathered.inside.rank (place_view c.gathered.inside.after) c.gathered.inside.types c.gathered.inside.imports.items c.gathered.inside.type_indices.items
+    gathered_of c.gathered.inside.rank (after_view c.gathered.inside.after) c.gathered.inside.types c.gathered.inside.imports.items c.gathered.inside.type_indices.items
     c.gathered.inside.tables.items c.gathered.inside.memories.items c.gathered.inside.tags.items c.gathered.inside.globals.items
     c.gathered.inside.exports.items c.gathered.inside.start c.gathered.inside.elements.items c.gathered.inside.data_count c.gathered.inside.bodies.items
     c.gathered.inside.data_segments.items c.gathered.inside.customs.items in

@@ -3,4 +3,4 @@ use Rattle.wasmprinter_custom.proofs.Adding.{name_at-lookup}
 use Rattle.wasmprinter_custom.proofs.store.Names.look_up.Goals as goal
 
 pub returns : goal.returns
-returns c = search (rules, name_at-lookup c.self.inside.entries.items c.args.place)
+returns c = search (rules, name_at-lookup c.self.inside.entries.items c.args.key)

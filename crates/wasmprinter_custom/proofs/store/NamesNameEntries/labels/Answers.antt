@@ -11,8 +11,8 @@ returns-in_err-push-clause-ascend c = rw (← c.self.view_is) (ascend_labels c.s
 
 pub returns-in_err-push-clause-needed : goal.returns-in_err-push-clause-needed
 returns-in_err-push-clause-needed c = λ e.
-    let items = c.deref-place-items.result.now in
-    let i = c.loop-place.place-index in
-    let x = c.loop-place-item.result in
-    let next : drop i items ≡ x ∷ drop (i + 1) items = drop_more items i x c.loop-place-test.true ∙ ap (λ y. y ∷ drop (i + 1) items) (sym c.loop-place-item.is) in
-    absurd (some_label x (drop i items) (drop (i + 1) items) _ _ (search rules) next c.loop-place.invariant e)
+    let items = c.deref-key-items.result.now in
+    let i = c.loop-key.key-index in
+    let x = c.loop-key-item.result in
+    let next : drop i items ≡ x ∷ drop (i + 1) items = drop_more items i x c.loop-key-test.true ∙ ap (λ y. y ∷ drop (i + 1) items) (sym c.loop-key-item.is) in
+    absurd (some_label x (drop i items) (drop (i + 1) items) _ _ (search rules) next c.loop-key.invariant e)

@@ -4,5 +4,5 @@ use Rattle.wasmprinter_custom.specs.Labels.{labels_in}
 use Rattle.wasmprinter_custom.specs.LabelViews.{label_view}
 use Rattle.wasmprinter_custom.proofs.store.NamesNameEntries.labels.Given as goal
 
-abbrev pub invariant-loop-place : goal.invariant-loop-place
-invariant-loop-place l = map label_view l.labels.items ++ labels_in (map item_view (drop l.place-index l.place-items)) ≡ labels_in l.self
+abbrev pub invariant-loop-key : goal.invariant-loop-key
+invariant-loop-key l = map label_view l.labels.items ++ labels_in (map item_view (drop l.key-index l.key-items)) ≡ labels_in l.self

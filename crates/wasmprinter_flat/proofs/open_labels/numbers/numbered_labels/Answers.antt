@@ -8,7 +8,7 @@ loop-label-preserved c = let size : c.len.result ≡ length c.loop-label.numbere
   labels = grind (arith, common_steps);
   numbers =
       numbering_more c.loop-label.numbers c.number.new.numbers c.loop-label.numbered.items c.push.new.self.items _ c.len.result c.in_ok-push.ensures.items size
-      c.loop-label.invariant.numbers c.in_ok-alike.ensures.number c.in_ok-alike.ensures.known;
+      c.loop-label.invariant.numbers c.in_ok-name_number.ensures.number c.in_ok-name_number.ensures.known;
 }
 
 pub returns-clause-numbers : goal.returns-clause-numbers

@@ -1,8 +1,8 @@
 use Rattle.wasmprinter_fold.proofs.TaskLaws.{on_ok, pieces_one, steps_one, sound_one}
 use Rattle.wasmprinter_fold.proofs.node_text.tasks.put_rest.Goals as goal
 
-pub returns-in-Row-clause-sound : goal.returns-in-Row-clause-sound
-returns-in-Row-clause-sound c = rw c.in-Row.is c.put_row.ensures.sound
+pub returns-in-Nodes-clause-sound : goal.returns-in-Nodes-clause-sound
+returns-in-Nodes-clause-sound c = rw c.in-Nodes.is c.put_row.ensures.sound
 
 pub returns-in_ok-push-in-One-clause-pieces : goal.returns-in_ok-push-in-One-clause-pieces
 returns-in_ok-push-in-One-clause-pieces c =

@@ -1,7 +1,7 @@
 use Rattle.std.proofs.Common.{ap}
 use Rattle.std.proofs.lemmas.Result.{on_ok_weaker}
 use Rattle.wasmprinter_fold.specs.Building.{Opens}
-use Rattle.wasmprinter_fold.specs.Shown.{Shown}
+use Rattle.wasmprinter_fold.specs.Shown.{ShownNode}
 use Rattle.wasmprinter_fold.proofs.Growing.{shows-more, shows-step}
 use Rattle.wasmprinter_fold.proofs.tree.GrowingTree.open.Goals as goal
 
@@ -11,5 +11,5 @@ returns-clause-steps g c =
     let e = c.in_ok-head.ensures in
     on_ok_weaker c.open.result (λ f s h.
     shows-step c.write_operator.new.self.bytes c.args.self.now.builder c.open.new.self (Opens head c.args.counts.results) _ s e.inside
-    (ap (λ (x : Shown). Opens x c.args.counts.results) e.shows) f
+    (ap (λ (x : ShownNode). Opens x c.args.counts.results) e.shows) f
     (shows-more c.args.self.now.texts.bytes c.write_operator.new.self.bytes c.args.self.now.builder s e.grows h)) c.open.ensures

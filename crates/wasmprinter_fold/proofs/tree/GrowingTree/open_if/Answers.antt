@@ -1,7 +1,7 @@
 use Rattle.std.proofs.Common.{ap, ap₂, ◌∙◌, Bool, codes}
 use Rattle.std.proofs.lemmas.Result.{on_ok_weaker}
 use Rattle.wasmprinter_fold.specs.Building.{OpensIf}
-use Rattle.wasmprinter_fold.specs.Shown.{Shown}
+use Rattle.wasmprinter_fold.specs.Shown.{ShownNode}
 use Rattle.wasmprinter_fold.specs.Growing.{shown_keyword}
 use Rattle.wasmprinter_fold.proofs.NodeTexts.{in_grown, shown_grown}
 use Rattle.wasmprinter_fold.proofs.Growing.{shows-more, shows-step}
@@ -19,6 +19,6 @@ returns-clause-steps g c =
     on_ok_weaker c.open_if.result (λ f s h.
     shows-step third c.args.self.now.builder c.open_if.new.self (OpensIf head then c.args.counts.results) _ s
     (in_grown second third head k.grows e.inside, k.inside)
-    (ap₂ (λ (x y : Shown). OpensIf x y c.args.counts.results) (shown_grown second third head k.grows e.inside ∙ e.shows)
+    (ap₂ (λ (x y : ShownNode). OpensIf x y c.args.counts.results) (shown_grown second third head k.grows e.inside ∙ e.shows)
     (k.shows ∙ ap (λ (color : Bool). shown_keyword color c.args.next.place (codes "then")) e.color)) f
     (shows-more second third c.args.self.now.builder s k.grows (shows-more first second c.args.self.now.builder s e.grows h))) c.open_if.ensures

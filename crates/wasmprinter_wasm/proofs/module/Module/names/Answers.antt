@@ -5,7 +5,7 @@ use Rattle.wasmprinter_spec.specs.Placed.{CustomEntry, custom_entry}
 use Rattle.wasmprinter_spec.specs.Customs.{name_section}
 use Rattle.wasmprinter_spec.specs.ModuleNames.{name_entries}
 use Rattle.wasmprinter_spec.specs.Names.Section.{Entry}
-use Rattle.wasmprinter_wasm.specs.Places.{place_view}
+use Rattle.wasmprinter_wasm.specs.Places.{after_view}
 use Rattle.wasmprinter_custom.specs.Holds.{Holds}
 use Rattle.wasmprinter_wasm.proofs.Naming.{Naming, naming_none, naming_other, naming_read, naming_nothing, naming_done}
 use Rattle.wasmprinter_wasm.proofs.module.Module.names.Goals.{then-is_name_section+in_ok-read_names, else-is_name_section}
@@ -17,7 +17,7 @@ loop-custom-init c = naming_none c.args.self.now.customs c.new-builder.result c.
 pub returns-in_err-read_names-clause-needed : goal.returns-in_err-read_names-clause-needed
 returns-in_err-read_names-clause-needed c none =
     let lt : c.loop-custom.custom-index < length c.args.self.now.customs = omega (arith, c.loop-custom-test.true, ap length c.customs-custom-items.ensures) in
-    let entry : CustomEntry = custom_entry (place_view c.custom.inside.after) c.custom.inside.section in
+    let entry : CustomEntry = custom_entry (after_view c.custom.inside.after) c.custom.inside.section in
     let found = c.custom-item.is ∙ ap (λ (xs : List CustomEntry). get_or xs c.loop-custom.custom-index c.custom-item.result) c.customs-custom-items.ensures in
     let same : entry ≡ get_or c.args.self.now.customs c.loop-custom.custom-index entry =
     subst (λ (e : CustomEntry). e ≡ get_or c.args.self.now.customs c.loop-custom.custom-index e) (sym c.custom.view_is) found in
@@ -28,7 +28,7 @@ returns-in_err-read_names-clause-needed c none =
 pub loop-custom-preserved : goal.loop-custom-preserved
 loop-custom-preserved c =
     let lt : c.loop-custom.custom-index < length c.args.self.now.customs = omega (arith, c.loop-custom-test.true, ap length c.customs-custom-items.ensures) in
-    let entry : CustomEntry = custom_entry (place_view c.custom.inside.after) c.custom.inside.section in
+    let entry : CustomEntry = custom_entry (after_view c.custom.inside.after) c.custom.inside.section in
     let found = c.custom-item.is ∙ ap (λ (xs : List CustomEntry). get_or xs c.loop-custom.custom-index c.custom-item.result) c.customs-custom-items.ensures in
     let same : entry ≡ get_or c.args.self.now.customs c.loop-custom.custom-index entry =
     subst (λ (e : CustomEntry). e ≡ get_or c.args.self.now.customs c.loop-custom.custom-index e) (sym c.custom.view_is) found in

@@ -12,5 +12,5 @@ pub returns-in-Some : goal.returns-in-Some
 returns-in-Some c = (
   block_view c.in-Some.block,
   sym (ap (λ s. s.blocks) c.self.view_is) ∙ last_view c.self.inside.blocks.items c.pop.new.self.items c.in-Some.block c.in-Some.ensures.items,
-  length-set c.self.inside.innermost.items c.in-Some.block.alike c.in-Some.block.hides ∙ ap (λ s. s.limit) c.self.view_is,
+  length-set c.self.inside.innermost.items c.in-Some.block.name_number c.in-Some.block.hides ∙ ap (λ s. s.limit) c.self.view_is,
 )

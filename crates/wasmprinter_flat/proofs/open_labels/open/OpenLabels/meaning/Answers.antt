@@ -23,11 +23,11 @@ returns-then-label-self-2 c =
     sym (found_own c.args.label (labels_from x.identifiers.synthesizes x.named.blocks x.depth) (size ∙ sym c.if-label-self-2.true))
     ∙ ap (λ (s : Scan). found_among [] s.labels c.args.label) c.self.view_is
 
-pub returns-in-Shown : goal.returns-in-Shown
-returns-in-Shown c =
+pub returns-in-Visible : goal.returns-in-Visible
+returns-in-Visible c =
     let x = c.self.inside in
     let lt : c.args.label < x.depth = omega (arith, c.if-label-self.false, c.if-label-self-2.false) in
-    let (block, stands, named) = c.in-Shown.ensures.name in
+    let (block, stands, named) = c.in-Visible.ensures.name in
     let at = x.depth - 1 - c.args.label in
     ap (λ (n : Named). ByName n) (sym named)
     ∙ (sym (found_name _ _ _ _ _ x.depth x.named c.self.invariant x.identifiers.synthesizes c.args.label at block false stands

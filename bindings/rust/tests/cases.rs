@@ -1,0 +1,204 @@
+//! Checks every case of `bindings/cases.txt`.
+
+use wasmprinter::{print_bytes, version, Config, Error};
+
+const CASES: &str = include_str!("../../cases.txt");
+
+/// Buffers are filled with this byte before a call.
+const GUARD: u8 = 0xa5;
+
+/// The expected error of a case: its name, its description, and the text in the buffer after it.
+#[derive(Default)]
+struct Refusal {
+    name: String,
+    text: String,
+    left: String,
+}
+
+/// A case: the input and the expected results.
+#[derive(Default)]
+struct Case {
+    title: String,
+    config: Config,
+    /// The indent is not UTF-8, so it has no `String`.
+    is_unprintable: bool,
+    wasm: Vec<u8>,
+    has_places: bool,
+    lines: Vec<(Option<u64>, String)>,
+    refusal: Option<Refusal>,
+}
+
+fn bytes_of(words: &str) -> impl Iterator<Item = u8> + '_ {
+    words
+        .split_whitespace()
+        .map(|word| u8::from_str_radix(word, 16).expect("a byte"))
+}
+
+impl Case {
+    fn read(&mut self, line: &str) {
+        let (key, words) = line.split_once(' ').unwrap_or((line, ""));
+        match key {
+            "set" => words.split(' ').for_each(|word| self.set(word)),
+            "indent" => match String::from_utf8(bytes_of(words).collect()) {
+                Ok(indent) => drop(self.config.indent_text(indent)),
+                Err(_) => self.is_unprintable = true,
+            },
+            "wasm" => self.wasm.extend(bytes_of(words)),
+            "zeros" => {
+                let zeros: usize = words.parse().expect("a number");
+                self.wasm.resize(self.wasm.len() + zeros, 0);
+            }
+            "places" => self.has_places = true,
+            "error" => {
+                let parts: Vec<&str> = words.splitn(3, ' ').collect();
+                self.refusal = Some(Refusal {
+                    name: parts[0].to_owned(),
+                    text: parts[2].to_owned(),
+                    left: String::new(),
+                });
+            }
+            "left" => self.refusal.as_mut().expect("an error").left = words.to_owned(),
+            _ => {
+                let (place, text) = line.split_once('|').expect("a line of the text");
+                let place =
+                    (!place.is_empty()).then(|| u64::from_str_radix(place, 16).expect("a place"));
+                self.lines.push((place, format!("{text}\n")));
+            }
+        }
+    }
+
+    fn set(&mut self, option: &str) {
+        match option {
+            "offsets" => self.config.print_offsets(true),
+            "skeleton" => self.config.print_skeleton(true),
+            "name_unnamed" => self.config.name_unnamed(true),
+            "fold" => self.config.fold_instructions(true),
+            _ => panic!("no option: {option}"),
+        };
+    }
+
+    fn check(&self) {
+        match &self.refusal {
+            _ if self.is_unprintable => (),
+            None => {
+                self.check_text();
+                self.check_lines();
+            }
+            Some(refusal) => self.check_refusal(refusal),
+        }
+    }
+
+    fn check_text(&self) {
+        let typed: String = self.lines.iter().map(|line| line.1.as_str()).collect();
+        let printed = self.config.print_to_string(&self.wasm);
+        assert_eq!(printed.as_deref(), Ok(typed.as_str()), "{}", self.title);
+        for room in 0..typed.len() + 2 {
+            let printed = self.check_over(room, &typed);
+            assert_eq!(printed, Ok(typed.len()), "{}", self.title);
+        }
+    }
+
+    /// Prints to a buffer of `room` bytes. Checks that it holds as much of the text as fits, and that its other bytes are unchanged.
+    fn check_over(&self, room: usize, typed: &str) -> wasmprinter::Result<usize> {
+        let mut out = vec![GUARD; room];
+        let printed = self.config.print_over(&self.wasm, &mut out);
+        let fits = room.min(typed.len());
+        assert_eq!(&out[..fits], &typed.as_bytes()[..fits], "{}", self.title);
+        assert_eq!(out[fits..], vec![GUARD; room - fits], "{}", self.title);
+        printed
+    }
+
+    fn check_lines(&self) {
+        let mut storage = "before\n".to_owned();
+        let lines: Vec<(Option<u64>, String)> = self
+            .config
+            .offsets_and_lines(&self.wasm, &mut storage)
+            .expect("lines")
+            .map(|(place, text)| (self.has_places.then_some(place).flatten(), text.to_owned()))
+            .collect();
+        assert_eq!(lines, self.lines, "{}", self.title);
+        assert!(storage.starts_with("before\n(module"), "{}", self.title);
+    }
+
+    fn check_refusal(&self, refusal: &Refusal) {
+        let error = self.config.print_to_string(&self.wasm).unwrap_err();
+        let debug = format!("{error:?}");
+        assert_eq!(debug.split(' ').next(), Some(refusal.name.as_str()));
+        assert_eq!(error.to_string(), refusal.text);
+        let mut storage = "before\n".to_owned();
+        let lines = self.config.offsets_and_lines(&self.wasm, &mut storage);
+        assert_eq!(lines.err(), Some(error), "{}", self.title);
+        assert_eq!(storage, "before\n", "{}", self.title);
+        for room in 0..refusal.left.len() + 2 {
+            let printed = self.check_over(room, &refusal.left);
+            assert_eq!(printed, Err(error), "{}", self.title);
+        }
+    }
+}
+
+#[test]
+fn prints_each_case() {
+    let mut cases: Vec<Case> = Vec::new();
+    for line in CASES
+        .lines()
+        .filter(|line| !line.is_empty() && !line.starts_with('#'))
+    {
+        match line.strip_prefix("case ") {
+            Some(title) => cases.push(Case {
+                title: title.to_owned(),
+                ..Case::default()
+            }),
+            None => cases.last_mut().expect("a case").read(line),
+        }
+    }
+    assert!(cases.len() > 20);
+    cases.iter().for_each(Case::check);
+}
+
+#[test]
+fn describes_errors_that_no_case_has() {
+    assert_eq!(Error::TooLong.to_string(), "the text is too long");
+    assert_eq!(Error::Memory.to_string(), "out of memory");
+}
+
+#[test]
+fn prints_empty_input() {
+    assert!(matches!(print_bytes([]), Err(Error::Malformed { .. })));
+}
+
+#[test]
+fn prints_an_indent_with_a_zero_byte() {
+    let wasm = b"\0asm\x01\0\0\0\x01\x04\x01\x60\0\0";
+    let text = Config::new().indent_text("\0é").print_to_string(wasm);
+    assert_eq!(text.as_deref(), Ok("(module\n\0é(type (;0;) (func))\n)\n"));
+}
+
+/// The lines outlive the bytes of the module.
+#[test]
+fn keeps_lines_without_the_module() {
+    let mut storage = String::new();
+    let wasm = b"\0asm\x01\0\0\0".to_vec();
+    let mut lines = Config::new()
+        .offsets_and_lines(&wasm, &mut storage)
+        .expect("lines");
+    drop(wasm);
+    assert_eq!(lines.next(), Some((Some(0), "(module)\n")));
+    assert_eq!(lines.next(), None);
+}
+
+#[test]
+fn returns_this_version() {
+    assert_eq!(version(), (0, 263, 0));
+}
+
+/// Several threads print the same module at once.
+#[test]
+fn prints_in_threads() {
+    let wasm = b"\0asm\x01\0\0\0";
+    let printed: Vec<_> = (0..8)
+        .map(|_| std::thread::spawn(move || print_bytes(wasm)))
+        .collect();
+    for text in printed {
+        assert_eq!(text.join().expect("a thread").as_deref(), Ok("(module)\n"));
+    }
+}

@@ -1,0 +1,5 @@
+use Rattle.wasmprinter_spec.specs.Options.{in_colors}
+use Rattle.wasmprinter_sections.proofs.module_printing.print_module.Given as goal
+
+abbrev pub ghosts-print_by : goal.ghosts-print_by
+ghosts-print_by g a = record { options = in_colors a.options.now (g.P.Print.colors a.p.now) }
