@@ -74,7 +74,7 @@ chmod 0 locked.wasm
 as_user 1 locked.wasm
 started 1 python3 -B "$tools/failing_file.py" "$program" same.wasm
 
-echo "error: a word is not UTF-8" >err
+echo "error: an argument is not UTF-8" >err
 case_of 1 "$(printf '\377')"
 case_of 1 same.wasm "$(printf '\377')"
 

@@ -49,8 +49,8 @@ impl Display for WordsError {
     fn fmt<W: fmt::Write>(&self, f: &mut fmt::Formatter<W>) -> fmt::Result {
         match self.cause.kind() {
             ErrorKind::OutOfMemory => f.write_str("out of memory"),
-            ErrorKind::InvalidData => f.write_str("a word is not UTF-8"),
-            _ => f.write_str("the words can't be read"),
+            ErrorKind::InvalidData => f.write_str("an argument is not UTF-8"),
+            _ => f.write_str("the arguments can't be read"),
         }
     }
 }

@@ -574,9 +574,9 @@ fn reports_that_its_words_can_not_be_read(rt: HostRuntime) {
     let error = io::Error::from(AllocError);
     assert!(rt; refuses_to_start(&rt, error, "error: out of memory\n"));
     let error = io::Error::from(ErrorKind::InvalidData);
-    assert!(rt; refuses_to_start(&rt, error, "error: a word is not UTF-8\n"));
+    assert!(rt; refuses_to_start(&rt, error, "error: an argument is not UTF-8\n"));
     let error = io::Error::other("no words");
-    assert!(rt; refuses_to_start(&rt, error, "error: the words can't be read\n"));
+    assert!(rt; refuses_to_start(&rt, error, "error: the arguments can't be read\n"));
 }
 
 /// The number of functions of the large module.
