@@ -2,6 +2,8 @@
 
 import re
 
+from common.rows import rows_of
+
 ROWS = "crates/check_rows/data/"
 SOURCES = {
     "README.md": (ROWS + "modules_names.txt", ROWS + "fold_modules.txt"),
@@ -114,11 +116,7 @@ def code_faults(tree, page, number, lines):
 
 def rows(tree, path):
     """Returns the texts of the rows of a file, each with the bytes of its module."""
-    found = []
-    for row in re.split(r"^row ", tree.text(path), flags=re.MULTILINE)[1:]:
-        wasm = bytes.fromhex("".join(re.findall(r"^wasm (.*)", row, re.MULTILINE)))
-        found.append(("\n".join(re.findall(r"^\w*\|(.*)", row, re.MULTILINE)), wasm))
-    return found
+    return [("\n".join(row.lines), row.wasm) for row in rows_of(tree.text(path))]
 
 
 def command_faults(tree, page, number, lines, shown):
