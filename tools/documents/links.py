@@ -7,8 +7,11 @@ import re
 from documents.blocks import blocks
 from recipes import MADE
 
+RENAMED = ("tools/refusals.sh", "tools/failing_allocations.sh", "bindings/rows.txt", "bindings/cases.txt")
+
 # Paths of files that are not in the repository, by page, with reasons
 GONE = {
+    "CHANGELOG.md": {name: "the name before or after a change that the page lists" for name in RENAMED},
     "docs/GUARANTEES.md": {name: "a guide of the toolchain" for name in ("START-HERE.md", "LANGUAGE.md", "ERROR_HANDLING.md")},
 }
 PATH = re.compile(r"[\w.@+*-][\w.@+*{}, /-]*")
