@@ -7,7 +7,7 @@ import re
 from documents.blocks import blocks
 from recipes import MADE
 
-RENAMED = ("tools/refusals.sh", "tools/failing_allocations.sh", "bindings/rows.txt", "bindings/cases.txt")
+RENAMED = ("tools/refusals.sh", "bindings/rows.txt")
 
 # Paths of files that are not in the repository, by page, with reasons
 GONE = {
