@@ -5,7 +5,7 @@ use Rattle.std.proofs.lemmas.Cmp.{then_total, on_total, nat_cmp_total, tied_itse
 use Rattle.std.proofs.lemmas.List.{get_or_default, get_or-map}
 use Rattle.std.proofs.lemmas.List.Sorted.{searchable_from_sorted}
 use Rattle.std.proofs.lemmas.Map.{NonePasses, lookup-none}
-use Rattle.std.proofs.lemmas.Map.Entries.{length-keys_of, lookup_head, lookup_from_key}
+use Rattle.std.proofs.lemmas.Map.Entries.{length-keys_of, lookup_head, lookup_from_place}
 use Rattle.std.proofs.lemmas.Map.Keys.{Less-from_sorted, IsDistinct-from_sorted}
 use Rattle.std.proofs.lemmas.Option.{none-some, slice_get_read}
 use Rattle.std.specs.Prelude.{Bool, true, false, nat_eq, ◌&&◌, map, Some, None, IfSome, IfNone, option_map, Result, Ok, Err}
@@ -93,7 +93,7 @@ module _ (es : List (Key × StoredName)) (s : Ascends es) where
   pub found : (q : Key) (i : ℕ) (e : Key × StoredName) → i < length es → e ≡ get_or es i e → eq_by_cmp key_cmp e.0 q ≡ true → Some e.1 ≡ stored_at es q
   found q i e within at hit =
       let laws = eq_by_cmp_equiv key_total in
-      let own : lookup (eq_by_cmp key_cmp e.0) es ≡ Some e.1 = lookup_from_key laws es i e.0 e.1 (IsDistinct-from_sorted key_cmp (keys_of es) s) (slice_get_read es (length es) i e refl within at) in
+      let own : lookup (eq_by_cmp key_cmp e.0) es ≡ Some e.1 = lookup_from_place laws es i e.0 e.1 (IsDistinct-from_sorted key_cmp (keys_of es) s) (slice_get_read es (length es) i e refl within at) in
       let tests : eq_by_cmp key_cmp e.0 ≡ is_at (key_cmp q) = λ j k. laws.congr e.0 q k hit j in
       sym own ∙ ap (λ (test : Key → Bool). lookup test es) tests
 
