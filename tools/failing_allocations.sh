@@ -8,7 +8,7 @@
 # (`names once` and `names replaced`), and neither do the calls that are listed in src/without_memory.rt (`setup` and `calls without memory`).
 #
 # Then each of these allocations fails in a run of its own, which must end with status 1, `out of memory` for one module and `printed` for the
-# other. In one more run for each shape, the allocation after the last would fail: this run must end as the first run. For three shapes, a
+# other. Some allocations only give back the spare capacity of a list; if one of them fails, the run must end as the first run. In one more run for each shape, the allocation after the last would fail: this run must end as the first run. For three shapes, a
 # table gives the length of the text before each failure. The number of allocations is not known for the shape that reads a file. It must be
 # at least that of the shape that copies the same bytes. The runs in which one of its allocations fails must come before those without.
 #
@@ -33,6 +33,17 @@ lengths() {
 lines: - 0 0 0 0 0 0 0 1 11 28 61 108 123 249 252 501 555 971
 lines in quotes: - 0 0 1 11 29 61 125 253
 folded: 0 0 0 0 0 0 0 0 139 139 139 139 139 201 201 201 201 201 201 201 201 250
+END
+}
+
+# spare: prints a line for each shape in which the list of names has spare capacity, with the numbers of the allocations that give it back.
+spare() {
+    cat <<'END'
+names again: 13 36
+names alone: 13
+lists: 9 27
+setup: 9 22 43
+calls without memory: 9 22 43
 END
 }
 
@@ -143,9 +154,16 @@ done <"$work/names"
 runs "$last"
 ended >"$work/refused"
 lengths >"$work/lengths"
+spare >"$work/spare"
 awk -v runs="$run" -v shapes="$shapes" -v names="$(wc -l <"$work/names")" -v last="$last" -v work="$work" '
     FILENAME == "stdout" { sub(/: printed$/, ""); number[$0] = FNR - 1; next }
     FILENAME == work "/lengths" { at = index($0, ": "); expected[number[substr($0, 1, at - 1)]] = substr($0, at + 1); next }
+    FILENAME == work "/spare" {
+        at = index($0, ": ")
+        count = split(substr($0, at + 2), listed, " ")
+        for (i = 1; i <= count; i++) harmless[number[substr($0, 1, at - 1)], listed[i]] = 1
+        next
+    }
     FILENAME == work "/whole" { requests[$1] = $6; next }
     { len[$1, $2] = $7 }
     $1 ~ /^name/ && $3 == 1 && $4 == 0 && $5 == 1 { named++; next }
@@ -161,8 +179,10 @@ awk -v runs="$run" -v shapes="$shapes" -v names="$(wc -l <"$work/names")" -v las
                 if (count < requests[number["source"]] || count > last - 2) { print "failing_allocations: shape " shape ": " count " failed allocations"; differ++ }
                 requests[shape] = count
             }
-            for (i = 1; i < last; i++) if (((shape, i) in failed) != (i <= requests[shape])) {
-                print "failing_allocations: allocation " i " of shape " shape ": expected " (i <= requests[shape] ? "a failure" : "no failure")
+            for (i = 1; i < last; i++) {
+                reports = i <= requests[shape] && !((shape, i) in harmless)
+                if (((shape, i) in failed) == reports) continue
+                print "failing_allocations: allocation " i " of shape " shape ": expected " (reports ? "a failure" : "no failure")
                 differ++
             }
         }
@@ -175,5 +195,5 @@ awk -v runs="$run" -v shapes="$shapes" -v names="$(wc -l <"$work/names")" -v las
         print "failing_allocations: of " names " names, " named + 0 " left exactly the pieces that fit"
         exit differ || named != names || reported + unrefused + named != runs
     }
-' stdout "$work/lengths" "$work/whole" "$work/refused"
+' stdout "$work/lengths" "$work/spare" "$work/whole" "$work/refused"
 echo "failing_allocations: $(($(date +%s) - began)) seconds"
