@@ -8,9 +8,10 @@
 # (`names once` and `names replaced`), and neither do the calls that are listed in src/without_memory.rt (`setup` and `calls without memory`).
 #
 # Then each of these allocations fails in a run of its own, which must end with status 1, `out of memory` for one module and `printed` for the
-# other. Some allocations only give back the spare capacity of a list; if one of them fails, the run must end as the first run. In one more run for each shape, the allocation after the last would fail: this run must end as the first run. For three shapes, a
-# table gives the length of the text before each failure. The number of allocations is not known for the shape that reads a file. It must be
-# at least that of the shape that copies the same bytes. The runs in which one of its allocations fails must come before those without.
+# other. Some allocations only give back the spare capacity of a list: if one of them fails, the run must end as the first run. In one more
+# run for each shape, the allocation after the last would fail: this run must end as the first run. For three shapes, a table gives the length
+# of the text before each failure. The number of allocations is not known for the shape that reads a file. It must be at least that of the
+# shape that copies the same bytes. The runs in which one of its allocations fails must come before those without.
 #
 # Names of 1 to 300 characters are written to a text that has room for a part of the name only: each character by itself, as a quoted
 # string, and as a byte string. In one run for each name, the allocation that extends the text fails, and the program checks that the text
