@@ -5,7 +5,7 @@ ghost use Rattle.std.specs.Prelude.{⊤};
 use crate::error_lines::{ByDisplay, Render};
 use crate::program::run;
 use crate::program_tests::{Words, has_printed, run_with, strings_of};
-use crate::system::Sink;
+use crate::sink::Sink;
 use std::alloc::Global;
 use std::cell::Cell;
 use std::io::ErrorKind;

@@ -8,7 +8,7 @@ mod io_tests;
 mod program;
 #[cfg(test)]
 mod program_tests;
-mod system;
+mod sink;
 
 use error_lines::ByDisplay;
 use program::launch;

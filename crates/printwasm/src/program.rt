@@ -10,7 +10,7 @@ ghost use Rattle.printwasm.specs.Outcome.{refused_status};
 ghost use Rattle.wasmprinter.specs.Outcome.{IsTextRefusal};
 
 use crate::error_lines::{Render, WordsError};
-use crate::system::Sink;
+use crate::sink::Sink;
 use std::alloc::Global;
 use std::io;
 use std::marker::Model;

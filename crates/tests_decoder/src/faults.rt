@@ -6,7 +6,7 @@ mod damaged;
 use damaged::is_damaged_alike;
 use std::alloc::{AllocError, Global};
 use std::test::Fail;
-use wasmprinter_bytes::bytes::Cursor;
+use wasmprinter_bytes::cursor::Cursor;
 use wasmprinter_bytes::{Error, Malformed};
 use wasmprinter_ops::expression::Expression;
 use wasmprinter_ops::opcode::{Listed, Role, Shape, Space};

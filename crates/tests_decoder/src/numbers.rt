@@ -3,7 +3,7 @@
 //! ones. The value of a number is proved.
 
 use wasmprinter_bytes::Malformed;
-use wasmprinter_bytes::bytes::Cursor;
+use wasmprinter_bytes::cursor::Cursor;
 
 /// The place of the first byte.
 const PLACE: u64 = 0x1a;

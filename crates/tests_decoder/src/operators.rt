@@ -5,7 +5,7 @@ mod opcodes;
 
 use std::alloc::{AllocError, Global};
 use std::test::Fail;
-use wasmprinter_bytes::bytes::Cursor;
+use wasmprinter_bytes::cursor::Cursor;
 use wasmprinter_bytes::lists::{Decode, Items};
 use wasmprinter_bytes::{Error, Malformed};
 use wasmprinter_ops::blocks::{BlockType, Catch};

@@ -7,7 +7,7 @@ ghost use Rattle.wasmprinter.specs.Printed.{Printed, IsTextOf};
 ghost use Rattle.wasmprinter.specs.Outcome.{IsPrintRefusal, IsTextRefusal, Leaves};
 
 use crate::in_memory::without_printer;
-use crate::plain::Plain;
+use crate::plain_text::Plain;
 use std::alloc::Global;
 use std::marker::Model;
 use wasmprinter_bytes::Error;

@@ -10,20 +10,20 @@
 //! bytes encode, under the conditions that the contracts state. docs/LIBRARY.md has examples, which the tests run.
 #![tactic(auto)]
 
+mod ansi_printing;
 mod ansi_text;
-mod colored;
 mod config;
-mod files;
+mod file_printing;
 mod in_memory;
 pub mod laws;
-mod lined;
-mod places;
-mod plain;
+mod offsets_and_lines;
+mod operator_lines;
+mod plain_text;
 
 pub use config::Config;
-pub use files::{Source, print_file};
+pub use file_printing::{Source, print_file};
 pub use in_memory::print_bytes;
-pub use places::place_of;
+pub use operator_lines::place_of;
 pub use print::{Print, PrintFmtWrite, PrintIoWrite, PrintTermcolor, PrintText};
 pub use wasmprinter_bytes::Error;
 pub use wasmprinter_writers::{LineStart, OffsetsAndLines};

@@ -2,7 +2,7 @@
 //! Core Specification), and the error type of the printer.
 #![tactic(auto)]
 
-pub mod bytes;
+pub mod cursor;
 mod error;
 pub mod lists;
 

@@ -4,7 +4,7 @@ ghost use Rattle.std.specs.Prelude.{◌≡◌, ◌≤◌, [], length};
 ghost use Rattle.wasmprinter_bytes.specs.Reads.{Decodes, end_of};
 ghost use Rattle.wasmprinter_bytes.specs.Lists.{Takes, CountsItems, BeginsList, vec_at};
 
-use crate::bytes::Cursor;
+use crate::cursor::Cursor;
 use crate::{Error, Malformed};
 use std::alloc::{AllocError, Global};
 use std::fmt;

@@ -21,7 +21,7 @@ use Rattle.wasmprinter_c.specs.Over.{over}
 use Rattle.wasmprinter_c.specs.Copied.{copied_meaning}
 use Rattle.wasmprinter_c.specs.Lines.{entries}
 use Rattle.wasmprinter_c.specs.Refused.{IsTooLong, HasBufferCause, IsBufferRefusal, HoldsPrefix, LeavesBuffer}
-use Rattle.wasmprinter_c.specs.declared.copier.Copier.{Copier}
+use Rattle.wasmprinter_c.specs.declared.buffer_printer.Copier.{Copier}
 use Rattle.wasmprinter_c.proofs.Runs.{HasCopied, IsFresh, run_copied, claims_never}
 
 -- ---- A printer to which nothing was printed before

@@ -11,7 +11,7 @@ use Rattle.wasmprinter_c.specs.Over.{over}
 use Rattle.wasmprinter_c.specs.Printing.{HasLinesOver, HasTextOver}
 use Rattle.wasmprinter_c.specs.Refused.{number_of, detail_in, IsCopied, HasBufferCause, IsBufferRefusal, IsTrueOrUncopied, LeavesBuffer}
 use Rattle.wasmprinter_c.specs.Outcomes.{IsOutcome}
-use Rattle.wasmprinter_c.specs.declared.copier.WasmprinterLine.{WasmprinterLine}
+use Rattle.wasmprinter_c.specs.declared.buffer_printer.WasmprinterLine.{WasmprinterLine}
 use Rattle.wasmprinter_c.specs.declared.Outcome.{Outcome}
 
 not_zero : (e : Error) → number_of e ≡ 0 → ⊥

@@ -17,8 +17,8 @@ use Rattle.wasmprinter_c.specs.Over.{over, over_from}
 use Rattle.wasmprinter_c.specs.Copied.{Grows, Starts, CopiedAfter, copied_meaning}
 use Rattle.wasmprinter_c.specs.Printing.{HasLinesOver}
 use Rattle.wasmprinter_c.specs.Lines.{entry, entries, line_start}
-use Rattle.wasmprinter_c.specs.declared.copier.WasmprinterLine.{WasmprinterLine}
-use Rattle.wasmprinter_c.specs.declared.copier.Copier.{Copier}
+use Rattle.wasmprinter_c.specs.declared.buffer_printer.WasmprinterLine.{WasmprinterLine}
+use Rattle.wasmprinter_c.specs.declared.buffer_printer.Copier.{Copier}
 use Rattle.wasmprinter_c.proofs.Overs.{over_more}
 use Rattle.wasmprinter_c.proofs.Cuts.{lines-cut}
 use Rattle.wasmprinter_c.proofs.Bounds.{layout_lines}

@@ -4,7 +4,7 @@ use Rattle.wasmprinter_spec.specs.Call.{Call, Text, Newline, Line, Start, Claim,
 use Rattle.wasmprinter_spec.specs.Meaning.{Meaning}
 use Rattle.wasmprinter_c.specs.Over.{over_from}
 use Rattle.wasmprinter_c.specs.Lines.{entry}
-use Rattle.wasmprinter_c.specs.declared.copier.Copier.{Copier}
+use Rattle.wasmprinter_c.specs.declared.buffer_printer.Copier.{Copier}
 
 -- A text was written after the text so far: its first bytes, as many as fit. All its bytes were counted. The
 -- buffer and the table are the same objects.

@@ -2,7 +2,7 @@
 use Rattle.std.specs.Prelude.{ℕ, ◌+◌, ◌==◌, List, [], ◌∷◌, Option, Some, None, if◌then◌else◌, length}
 use Rattle.wasmprinter_spec.specs.Call.{Call, Text, Newline, Line, Start, Claim}
 use Rattle.wasmprinter_writers.specs.declared.lines.LineStart.{LineStart}
-use Rattle.wasmprinter_c.specs.declared.copier.WasmprinterLine.{WasmprinterLine}
+use Rattle.wasmprinter_c.specs.declared.buffer_printer.WasmprinterLine.{WasmprinterLine}
 
 -- The entry of a line that starts at this byte of the text.
 abbrev pub entry : Option ℕ → ℕ → WasmprinterLine

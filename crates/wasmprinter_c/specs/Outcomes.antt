@@ -6,7 +6,7 @@ use Rattle.wasmprinter_spec.specs.Options.{Options}
 use Rattle.wasmprinter_c.specs.Printing.{HasLinesOver}
 use Rattle.wasmprinter_c.specs.Refused.{IsRefusedWith}
 use Rattle.wasmprinter_c.specs.Statuses.{ok_status, component_status, indent_status}
-use Rattle.wasmprinter_c.specs.declared.copier.WasmprinterLine.{WasmprinterLine}
+use Rattle.wasmprinter_c.specs.declared.buffer_printer.WasmprinterLine.{WasmprinterLine}
 
 -- The outcome of a call that prints a module.
 pub record IsOutcome (o : Options) (bytes old new : List ℕ) (before after : List WasmprinterLine) (status whole count detail : ℕ) : Type 0 where

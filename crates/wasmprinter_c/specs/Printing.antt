@@ -7,7 +7,7 @@ use Rattle.wasmprinter.specs.Lined.{HasLinesAt}
 use Rattle.wasmprinter_c.specs.Over.{over}
 use Rattle.wasmprinter_c.specs.Lines.{entries, line_start}
 use Rattle.wasmprinter_c.specs.declared.WasmprinterOptions.{WasmprinterOptions}
-use Rattle.wasmprinter_c.specs.declared.copier.WasmprinterLine.{WasmprinterLine}
+use Rattle.wasmprinter_c.specs.declared.buffer_printer.WasmprinterLine.{WasmprinterLine}
 
 -- The options that a caller chose, with this indent.
 abbrev pub options_of : WasmprinterOptions → List ℕ → Options

@@ -14,11 +14,11 @@ ghost use Rattle.wasmprinter_c.specs.Refused.{number_of, detail_in, IsCopied, Is
 ghost use Rattle.wasmprinter_c.specs.Outcomes.{IsOutcome};
 ghost use Rattle.wasmprinter_c.specs.Statuses.{ok_status, component_status, indent_status, library_version};
 
-mod copier;
+mod buffer_printer;
 mod status;
 
-use copier::Copier;
-pub use copier::WasmprinterLine;
+use buffer_printer::Copier;
+pub use buffer_printer::WasmprinterLine;
 use status::{BAD_INDENT, PRINTED, describe, detail_of, status_of};
 use std::alloc::{AllocError, Global};
 use wasmprinter::{Config, Error};

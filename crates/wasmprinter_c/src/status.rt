@@ -6,7 +6,7 @@ ghost use Rattle.wasmprinter_c.specs.Copied.{copied_meaning};
 ghost use Rattle.wasmprinter_c.specs.Messages.{message};
 ghost use Rattle.wasmprinter_c.specs.Refused.{number_of, detail_in};
 
-use crate::copier::Copier;
+use crate::buffer_printer::Copier;
 use wasmprinter::Error;
 use wasmprinter_print::Output;
 use wasmprinter_text::numbers::{write_decimal_between, write_hexadecimal_between};

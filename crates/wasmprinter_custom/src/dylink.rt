@@ -14,7 +14,7 @@ use crate::symbol_flags::SymbolFlags;
 use bitflags::Flags;
 use std::marker::Model;
 use wasmprinter_bytes::Malformed;
-use wasmprinter_bytes::bytes::Cursor;
+use wasmprinter_bytes::cursor::Cursor;
 
 /// The id of the subsection `MemInfo`.
 const MEM_INFO: u8 = 1;

@@ -6,7 +6,7 @@ ghost use Rattle.wasmprinter_bytes.specs.Reads.{Reads};
 use crate::encoded_lists::{ItemsIn, ReadFrom};
 use std::marker::Model;
 use wasmprinter_bytes::Malformed;
-use wasmprinter_bytes::bytes::Cursor;
+use wasmprinter_bytes::cursor::Cursor;
 
 /// A name.
 #[derive(Drop)]

@@ -6,7 +6,7 @@ ghost use Rattle.wasmprinter_bytes.specs.Lists.{vec_at};
 
 use std::marker::Model;
 use wasmprinter_bytes::Malformed;
-use wasmprinter_bytes::bytes::Cursor;
+use wasmprinter_bytes::cursor::Cursor;
 
 /// A cursor from which values are read. This trait keeps the cursor's lifetime out of the trait of the values.
 pub trait ValueSource: Drop {

@@ -9,7 +9,7 @@ ghost use Rattle.wasmprinter_bytes.specs.Reads.{Decodes};
 use crate::encoded_lists::{ItemsIn, ReadFrom};
 use std::marker::Model;
 use wasmprinter_bytes::Malformed;
-use wasmprinter_bytes::bytes::Cursor;
+use wasmprinter_bytes::cursor::Cursor;
 use wasmprinter_bytes::lists::{Decode, Items, no_items, read_items};
 
 /// The name of sections with branch hints. If there are several, the last one counts.

@@ -6,11 +6,11 @@ ghost use Rattle.wasmprinter_spec.specs.Names.Section.{subsection, GivesNames};
 ghost use Rattle.wasmprinter_custom.specs.Holds.{Holds};
 ghost use Rattle.wasmprinter_custom.specs.Adds.{Adds, AddsNames};
 
+use crate::name_subsection_ids::{FIELD, LABEL, LOCAL, MODULE, TAG};
 use crate::store::NamesBuilder;
-use crate::subsection::{FIELD, LABEL, LOCAL, MODULE, TAG};
 use std::alloc::Global;
 use wasmprinter_bytes::Error;
-use wasmprinter_bytes::bytes::Cursor;
+use wasmprinter_bytes::cursor::Cursor;
 
 /// Adds the name of one index.
 fn read_entry<'a>(

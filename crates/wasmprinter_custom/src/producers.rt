@@ -8,7 +8,7 @@ use crate::encoded_lists::{ItemsIn, ReadFrom};
 use crate::identifier_chars::is_id;
 use std::marker::Model;
 use wasmprinter_bytes::Malformed;
-use wasmprinter_bytes::bytes::Cursor;
+use wasmprinter_bytes::cursor::Cursor;
 
 /// A value of a field: its place, its name and its version.
 #[derive(Drop)]

@@ -10,12 +10,12 @@ ghost use Rattle.wasmprinter_custom.specs.Lookups.{Ascends, AreMarked};
 ghost use Rattle.wasmprinter_custom.specs.Labels.{labels_in, Ascend, AreOfLabels};
 ghost use Rattle.wasmprinter_custom.specs.LabelViews.{label_view};
 
-use crate::likely_positions::Guesses;
-use crate::named_subsections::{SUBSECTIONS, marks_of};
-use crate::ordered::NamesInOrder;
+use crate::names_in_order::NamesInOrder;
+use crate::position_guesses::Guesses;
 use crate::search::find;
 use crate::space::Space;
 use crate::subsection;
+use crate::subsection_marks::{SUBSECTIONS, marks_of};
 use std::alloc::{AllocError, Global};
 use std::collections::BTreeSet;
 use std::marker::Model;

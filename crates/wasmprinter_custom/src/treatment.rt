@@ -9,7 +9,7 @@ ghost use Rattle.wasmprinter_custom.specs.Roles.{treatment_view};
 use crate::dylink::{Dylink, DylinkContents};
 use crate::hints::HINT_SECTION;
 use crate::producers::{Producers, have_id_names, read_producers};
-use wasmprinter_bytes::bytes::Cursor;
+use wasmprinter_bytes::cursor::Cursor;
 
 /// The name of name sections.
 const NAME_SECTION: &str = "name";

@@ -3,12 +3,12 @@
 #![tactic(auto)]
 
 mod calls;
-mod options;
-mod refusals;
+mod expected;
+mod option_sets;
 
 pub use calls::{CallsRow, expect_calls, expect_each_calls, expect_recorded};
-pub use options::Options;
-pub use refusals::{Expected, Refusal, expect_result};
+pub use expected::{Expected, Refusal, expect_result};
+pub use option_sets::Options;
 use std::alloc::Global;
 use std::test::Fail;
 use wasmprinter::print::{Ansi, PrintTermcolor};

@@ -11,7 +11,7 @@ use Rattle.wasmprinter_spec.specs.Layout.Operators.{Setting, immediate_pieces, c
 use Rattle.wasmprinter_ops.specs.Shapes.{role_view}
 use Rattle.wasmprinter_flat.specs.OpenLabels.Scan.{names_of, own_label}
 use Rattle.wasmprinter_flat.specs.Settings.{setting_view}
-use Rattle.wasmprinter_flat.specs.declared.context.Context.{Context}
+use Rattle.wasmprinter_flat.specs.declared.immediate_context.Context.{Context}
 
 -- The identifiers of the module.
 abbrev pub names_in : {S : Type 0} → Context S → Names

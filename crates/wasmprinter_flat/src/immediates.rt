@@ -12,16 +12,16 @@ ghost use Rattle.wasmprinter_ops.specs.ValTypes.{heap_view};
 ghost use Rattle.wasmprinter_flat.specs.Contexts.{setting_in, labels_around, own_in, pieces_in, catches_pieces_in};
 ghost use Rattle.wasmprinter_flat.specs.Settings.{form_view};
 
-use crate::blocks::{write_block_type, write_catches, write_ending};
-use crate::constants::{write_f32, write_f64};
-use crate::context::Context;
+use crate::block_immediates::{write_block_type, write_catches, write_ending};
+use crate::float_immediates::{write_f32, write_f64};
+use crate::immediate_context::Context;
 use crate::indices::{
     write_call, write_copy, write_default_index, write_field, write_index_and_count,
     write_index_pair, write_operand, write_segment,
 };
 use crate::labels::{write_label, write_labels};
 use crate::memory::write_mem_arg;
-use crate::references::{write_cast, write_heap, write_ref, write_select};
+use crate::type_immediates::{write_cast, write_heap, write_ref, write_select};
 use crate::vectors::{write_lane, write_lanes, write_vector};
 use wasmprinter_ops::blocks::{BlockType, Catches};
 use wasmprinter_ops::opcode::{Shape, Space};

@@ -10,7 +10,7 @@ ghost use Rattle.wasmprinter_spec.specs.Layout.ValTypes.{type_index_pieces};
 ghost use Rattle.wasmprinter_ops.specs.Shapes.{space_view};
 ghost use Rattle.wasmprinter_flat.specs.Contexts.{names_in, setting_in};
 
-use crate::context::Context;
+use crate::immediate_context::Context;
 use wasmprinter_ops::opcode::Space;
 use wasmprinter_print::Output;
 use wasmprinter_text::indices::write_index;

@@ -6,7 +6,7 @@ ghost use Rattle.wasmprinter_spec.specs.Layout.Operators.{label_name_pieces, lab
 ghost use Rattle.wasmprinter_custom.specs.Shown.{identifier_view};
 ghost use Rattle.wasmprinter_flat.specs.Contexts.{labels_around, labels_within};
 
-use crate::context::Context;
+use crate::immediate_context::Context;
 use crate::open_labels::LabelRef;
 use wasmprinter_custom::Identifier;
 use wasmprinter_ops::blocks::Targets;

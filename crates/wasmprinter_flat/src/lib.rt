@@ -2,14 +2,14 @@
 //! labels of open blocks, to any output.
 #![tactic(auto)]
 
-mod blocks;
-mod constants;
-mod context;
+mod block_immediates;
+mod float_immediates;
+mod immediate_context;
 mod immediates;
 mod indices;
 mod labels;
 mod memory;
 pub mod open_labels;
 pub mod operators;
-mod references;
+mod type_immediates;
 mod vectors;

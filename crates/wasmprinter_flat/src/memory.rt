@@ -5,7 +5,7 @@ ghost use Rattle.wasmprinter_spec.specs.Piece.{OneSpace, Word};
 ghost use Rattle.wasmprinter_spec.specs.Layout.Operators.{offset_pieces, align_pieces, mem_arg_pieces};
 ghost use Rattle.wasmprinter_flat.specs.Contexts.{setting_in};
 
-use crate::context::Context;
+use crate::immediate_context::Context;
 use crate::indices::write_default_index;
 use wasmprinter_ops::opcode::Space;
 use wasmprinter_ops::operands::MemArg;

@@ -6,7 +6,7 @@ ghost use Rattle.wasmprinter_spec.specs.Layout.Operators.{hint_pieces, operators
 ghost use Rattle.wasmprinter_ops.specs.Shapes.{role_view};
 ghost use Rattle.wasmprinter_flat.specs.Settings.{form_view, setting_with_names, word_pieces_with_names};
 
-use crate::context::Context;
+use crate::immediate_context::Context;
 use crate::immediates::write_immediates_by_shape;
 use crate::open_labels::OpenLabels;
 use wasmprinter_custom::{FunctionHints, Hint};

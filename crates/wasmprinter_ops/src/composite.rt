@@ -13,7 +13,7 @@ ghost use Rattle.wasmprinter_ops.specs.Types.{storage_view, field_view, field_at
 use crate::val_types::{First, ValType, ValTypes, read_types};
 use std::marker::Model;
 use wasmprinter_bytes::Malformed;
-use wasmprinter_bytes::bytes::Cursor;
+use wasmprinter_bytes::cursor::Cursor;
 use wasmprinter_bytes::lists::{Decode, DecodeIn, Items, no_items, read_items};
 
 /// The byte before the field type of an array type.

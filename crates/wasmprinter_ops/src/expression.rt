@@ -12,7 +12,7 @@ use crate::operator::{Operator, pass_operator, read_placed};
 use std::alloc::Global;
 use std::marker::Model;
 use wasmprinter_bytes::Error;
-use wasmprinter_bytes::bytes::Cursor;
+use wasmprinter_bytes::cursor::Cursor;
 use wasmprinter_bytes::lists::GrownIn;
 
 /// An iterator over the remaining operators, each with its place.

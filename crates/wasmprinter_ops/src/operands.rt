@@ -10,7 +10,7 @@ ghost use Rattle.wasmprinter_ops.specs.ValTypes.{ref_view};
 use crate::{HeapType, RefType};
 use std::marker::Model;
 use wasmprinter_bytes::Malformed;
-use wasmprinter_bytes::bytes::Cursor;
+use wasmprinter_bytes::cursor::Cursor;
 
 /// A memory operand (section 5.4, "Memory Instructions").
 #[derive(Clone, Copy, Debug, PartialEq, Eq)]

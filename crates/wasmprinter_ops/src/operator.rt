@@ -15,7 +15,7 @@ use crate::{HeapType, ValTypes, read_heap_type, read_types};
 use std::alloc::AllocError;
 use std::marker::Model;
 use wasmprinter_bytes::Malformed;
-use wasmprinter_bytes::bytes::Cursor;
+use wasmprinter_bytes::cursor::Cursor;
 use wasmprinter_bytes::lists::read_items;
 
 /// The immediates after an opcode, in the order of the bytes (section 5.4).

@@ -4,7 +4,7 @@ ghost use Rattle.wasmprinter_spec.specs.FirstByte.{only};
 ghost use Rattle.wasmprinter_bytes.specs.Reads.{Decodes, IsPlaceIn};
 
 use wasmprinter_bytes::Malformed;
-use wasmprinter_bytes::bytes::Cursor;
+use wasmprinter_bytes::cursor::Cursor;
 
 /// Checks that no byte remains.
 ///

@@ -14,7 +14,7 @@ ghost use Rattle.wasmprinter_wasm.specs.Contents.{TakesHeld};
 use crate::byte_checks::expect_end;
 use std::alloc::Global;
 use std::marker::Model;
-use wasmprinter_bytes::bytes::Cursor;
+use wasmprinter_bytes::cursor::Cursor;
 use wasmprinter_bytes::lists::{Decode, Items, read_items};
 use wasmprinter_bytes::{Error, Malformed};
 use wasmprinter_ops::expression::{Expression, OperatorsReader};

@@ -6,7 +6,7 @@ ghost use Rattle.wasmprinter_wasm.specs.Contents.{ReadsAll};
 
 use std::marker::Model;
 use wasmprinter_bytes::Malformed;
-use wasmprinter_bytes::bytes::Cursor;
+use wasmprinter_bytes::cursor::Cursor;
 
 /// The name of name sections.
 const NAME_SECTION: &str = "name";

@@ -12,7 +12,7 @@ ghost use Rattle.wasmprinter_wasm.specs.Segments.{data_mode_view};
 use crate::byte_checks::expect_end;
 use std::alloc::Global;
 use std::marker::Model;
-use wasmprinter_bytes::bytes::Cursor;
+use wasmprinter_bytes::cursor::Cursor;
 use wasmprinter_bytes::lists::{GrownIn, read_grown_list};
 use wasmprinter_bytes::{Error, Malformed};
 use wasmprinter_ops::expression::Expression;

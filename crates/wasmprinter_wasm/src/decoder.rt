@@ -25,7 +25,7 @@ use crate::tags::Tag;
 use crate::types::Types;
 use std::alloc::{AllocError, Global};
 use std::marker::Model;
-use wasmprinter_bytes::bytes::Cursor;
+use wasmprinter_bytes::cursor::Cursor;
 use wasmprinter_bytes::{Error, Malformed};
 
 /// The preamble: the magic number and the version.

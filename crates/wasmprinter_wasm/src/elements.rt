@@ -14,7 +14,7 @@ use crate::byte_checks::{expect_end, read_only};
 use crate::flag_bits::has_bit;
 use std::alloc::Global;
 use std::marker::Model;
-use wasmprinter_bytes::bytes::Cursor;
+use wasmprinter_bytes::cursor::Cursor;
 use wasmprinter_bytes::lists::{GrownIn, Items, read_grown_list, read_items};
 use wasmprinter_bytes::{Error, Malformed};
 use wasmprinter_ops::expression::Expression;

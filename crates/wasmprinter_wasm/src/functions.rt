@@ -7,7 +7,7 @@ ghost use Rattle.wasmprinter_wasm.specs.Contents.{TakesIndices, TakesHeld};
 use crate::byte_checks::expect_end;
 use std::alloc::Global;
 use wasmprinter_bytes::Error;
-use wasmprinter_bytes::bytes::Cursor;
+use wasmprinter_bytes::cursor::Cursor;
 use wasmprinter_bytes::lists::read_items;
 
 /// The greatest number of functions that a module may define.

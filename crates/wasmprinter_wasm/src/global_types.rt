@@ -4,7 +4,7 @@ ghost use Rattle.wasmprinter_bytes.specs.Reads.{Decodes};
 ghost use Rattle.wasmprinter_wasm.specs.Externs.{global_type_view};
 
 use wasmprinter_bytes::Malformed;
-use wasmprinter_bytes::bytes::Cursor;
+use wasmprinter_bytes::cursor::Cursor;
 use wasmprinter_ops::composite::read_mutability;
 use wasmprinter_ops::{ValType, read_type};
 

@@ -12,7 +12,7 @@ use crate::global_types::GlobalType;
 use std::alloc::Global as Allocator;
 use std::marker::Model;
 use wasmprinter_bytes::Error;
-use wasmprinter_bytes::bytes::Cursor;
+use wasmprinter_bytes::cursor::Cursor;
 use wasmprinter_bytes::lists::{GrownIn, read_grown_list};
 use wasmprinter_ops::expression::Expression;
 

@@ -15,7 +15,7 @@ use crate::table_types::TableType;
 use crate::tags::read_tag_type;
 use std::alloc::Global;
 use std::marker::Model;
-use wasmprinter_bytes::bytes::Cursor;
+use wasmprinter_bytes::cursor::Cursor;
 use wasmprinter_bytes::lists::{DecodeIn, read_list};
 use wasmprinter_bytes::{Error, Malformed};
 

@@ -4,7 +4,7 @@ ghost use Rattle.wasmprinter_bytes.specs.Reads.{Decodes};
 ghost use Rattle.wasmprinter_wasm.specs.Externs.{limits_view};
 
 use wasmprinter_bytes::Malformed;
-use wasmprinter_bytes::bytes::Cursor;
+use wasmprinter_bytes::cursor::Cursor;
 
 /// The bit of the flags that says that a maximum is given.
 pub(crate) const MAX_BIT: u32 = 0;

@@ -12,7 +12,7 @@ use crate::flag_bits::has_bit;
 use crate::limits::{Limits, MAX_BIT, WIDE_BIT};
 use std::alloc::Global;
 use std::marker::Model;
-use wasmprinter_bytes::bytes::Cursor;
+use wasmprinter_bytes::cursor::Cursor;
 use wasmprinter_bytes::lists::{DecodeIn, read_list};
 use wasmprinter_bytes::{Error, Malformed};
 

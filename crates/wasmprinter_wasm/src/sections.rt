@@ -21,7 +21,7 @@ use crate::tags::{Tag, read_tags};
 use crate::types::Types;
 use std::alloc::Global;
 use wasmprinter_bytes::Error;
-use wasmprinter_bytes::bytes::Cursor;
+use wasmprinter_bytes::cursor::Cursor;
 
 /// The id of custom sections.
 const CUSTOM: u8 = 0;

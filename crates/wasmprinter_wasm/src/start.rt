@@ -6,7 +6,7 @@ ghost use Rattle.wasmprinter_wasm.specs.Contents.{ReadsAll};
 use crate::byte_checks::expect_end;
 use std::marker::Model;
 use wasmprinter_bytes::Malformed;
-use wasmprinter_bytes::bytes::Cursor;
+use wasmprinter_bytes::cursor::Cursor;
 
 /// The start function, which is called when the module is instantiated (section 2.5, "Start Function"),
 /// with the place of its index.

@@ -6,7 +6,7 @@ ghost use Rattle.wasmprinter_wasm.specs.Externs.{table_type_view};
 use crate::flag_bits::has_bit;
 use crate::limits::{Limits, MAX_BIT, WIDE_BIT};
 use wasmprinter_bytes::Malformed;
-use wasmprinter_bytes::bytes::Cursor;
+use wasmprinter_bytes::cursor::Cursor;
 use wasmprinter_ops::{RefType, read_ref_type};
 
 /// The flags of limits without a maximum, with 32-bit indices.

@@ -17,7 +17,7 @@ use crate::table_types::TableType;
 use std::alloc::Global;
 use std::marker::Model;
 use wasmprinter_bytes::Error;
-use wasmprinter_bytes::bytes::Cursor;
+use wasmprinter_bytes::cursor::Cursor;
 use wasmprinter_bytes::lists::{GrownIn, read_grown_list};
 use wasmprinter_ops::expression::Expression;
 

@@ -9,7 +9,7 @@ ghost use Rattle.wasmprinter_wasm.specs.Contents.{TakesHeld};
 use crate::byte_checks::{expect_end, read_only};
 use std::alloc::Global;
 use std::marker::Model;
-use wasmprinter_bytes::bytes::Cursor;
+use wasmprinter_bytes::cursor::Cursor;
 use wasmprinter_bytes::lists::{DecodeIn, read_list};
 use wasmprinter_bytes::{Error, Malformed};
 

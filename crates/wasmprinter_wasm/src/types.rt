@@ -10,7 +10,7 @@ ghost use Rattle.wasmprinter_wasm.specs.Contents.{TakesHeld};
 use crate::byte_checks::expect_end;
 use std::alloc::{AllocError, Global};
 use std::marker::Model;
-use wasmprinter_bytes::bytes::Cursor;
+use wasmprinter_bytes::cursor::Cursor;
 use wasmprinter_bytes::lists::{DecodeIn, read_list};
 use wasmprinter_bytes::{Error, Malformed};
 use wasmprinter_ops::composite::{CompositeType, FuncType, SubType, SubTypes};

@@ -5,7 +5,7 @@ use super::{PLACE, is_fault_at, is_passed, is_spelled};
 use std::alloc::{AllocError, Global};
 use std::test::Fail;
 use wasmprinter_bytes::Malformed;
-use wasmprinter_bytes::bytes::Cursor;
+use wasmprinter_bytes::cursor::Cursor;
 use wasmprinter_ops::opcode::{Listed, Opcode, Shape};
 use wasmprinter_ops::operator::read_operator;
 

@@ -3,7 +3,7 @@
 use std::alloc::{AllocError, Global};
 use std::test::Fail;
 use wasmprinter_bytes::Error;
-use wasmprinter_bytes::bytes::Cursor;
+use wasmprinter_bytes::cursor::Cursor;
 use wasmprinter_custom::{
     Identifier, Identifiers, LabelName, Name, NameEntries, Names, NamesBuilder, Space, read_names,
 };

@@ -9,7 +9,7 @@ use std::io::ErrorKind;
 use std::marker::Brand;
 use std::test::Fail;
 use wasmprinter_bytes::Error;
-use wasmprinter_bytes::bytes::Cursor;
+use wasmprinter_bytes::cursor::Cursor;
 use wasmprinter_print::{Chosen, Print, PrintOptions, Printer};
 use wasmprinter_samples::expect_same;
 use wasmprinter_sections::{write_custom, write_customs};

@@ -7,7 +7,7 @@ use std::alloc::Global;
 use std::marker::Brand;
 use std::test::Fail;
 use wasmprinter_bytes::Error;
-use wasmprinter_bytes::bytes::Cursor;
+use wasmprinter_bytes::cursor::Cursor;
 use wasmprinter_custom::{FunctionHints, Hints, Identifiers};
 use wasmprinter_flat::open_labels::OpenLabels;
 use wasmprinter_flat::operators::{Form, Setting, write_operators};

@@ -2,7 +2,7 @@
 
 use std::alloc::Global;
 use wasmprinter_bytes::Error;
-use wasmprinter_bytes::bytes::Cursor;
+use wasmprinter_bytes::cursor::Cursor;
 use wasmprinter_custom::{Names, NamesBuilder, read_names};
 use wasmprinter_print::{Chosen, Printer};
 

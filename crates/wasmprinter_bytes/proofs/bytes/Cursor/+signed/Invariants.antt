@@ -1,4 +1,0 @@
-use Rattle.wasmprinter_bytes.proofs.bytes.Cursor.+signed.Given as goal
-
-abbrev pub decreases-signed : goal.decreases-signed
-decreases-signed l = l.bits

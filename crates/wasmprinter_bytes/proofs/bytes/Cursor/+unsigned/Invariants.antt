@@ -1,4 +1,0 @@
-use Rattle.wasmprinter_bytes.proofs.bytes.Cursor.+unsigned.Given as goal
-
-abbrev pub decreases-unsigned : goal.decreases-unsigned
-decreases-unsigned l = l.bits
