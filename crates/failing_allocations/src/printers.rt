@@ -68,7 +68,7 @@ impl Copying {
 }
 
 impl Source for Copying {
-    ghost gives = { λ _ _ _. ⊤ };
+    ghost may_read = { λ _ _ _. ⊤ };
 
     fn read(&self, _path: Path<'_>) -> io::Result<Vec<u8>> {
         let copied = self.bytes.to_vec(self.alloc);

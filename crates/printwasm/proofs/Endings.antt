@@ -8,11 +8,11 @@ use Rattle.printwasm.specs.Outcome.{TextWrite, FailsToWrite, Rendering, ReportsE
 
 -- If the words name a file, its module is not printed for an error, and the error was reported, the run has its
 -- outcome with status 1.
-pub refusal_told : {W V : Type 0} (gives : List ℕ → Reading) (takes : TextWrite W) (reports : TextWrite V) (renders : Rendering Error) (words : List (List ℕ))
+pub refusal_told : {W V : Type 0} (may_read : List ℕ → Reading) (takes : TextWrite W) (reports : TextWrite V) (renders : Rendering Error) (words : List (List ℕ))
     {out new_out : W} {err new_err : V} (file : List ℕ) (error : Error) → named_file words ≡ Some file →
-    FailsToWrite (choice_of words) (gives file) takes out new_out error → ReportsError reports err new_err renders error →
-    HasOutcome gives takes reports renders words out new_out err new_err 1
-refusal_told gives takes reports renders words file error named fails told = record {
+    FailsToWrite (choice_of words) (may_read file) takes out new_out error → ReportsError reports err new_err renders error →
+    HasOutcome may_read takes reports renders words out new_out err new_err 1
+refusal_told may_read takes reports renders words file error named fails told = record {
   usage = (λ e. absurd (omega (arith, e)), λ none. absurd (let clash : ◌≡◌ {A = Option (List ℕ)} None (Some file) = sym none ∙ named in cc));
   bound = omega arith;
   silent = λ e. absurd (omega (arith, e));

@@ -30,21 +30,21 @@ IsTextBy c wasm text = HasTextIn c.colored c.options wasm text
 
 -- Reading the file may return bytes that encode a module with this text in the chosen form.
 abbrev pub GivesText : Choice → Reading → List ℕ → Type 0
-GivesText c gives text = (wasm : List ℕ) × gives (Some wasm) × IsTextBy c wasm text
+GivesText c may_read text = (wasm : List ℕ) × may_read (Some wasm) × IsTextBy c wasm text
 
 -- The file has no text: it can't be read, or its module can't be printed for a cause that is true of its bytes.
 abbrev pub GivesNoText : Choice → Reading → Error → Type 0
-GivesNoText c gives error = IsRefusedBy c.options gives error
+GivesNoText c may_read error = IsRefusedBy c.options may_read error
 
 -- The text of the file's module was written in one write, which returned this result.
 abbrev pub WritesModuleText : {W : Type 0} → Choice → Reading → TextWrite W → W → W → Result (Unit {0}) IoError → Type 0
-WritesModuleText c gives takes old new answer = (text : List ℕ) × GivesText c gives text × takes old (Some text) answer new
+WritesModuleText c may_read takes old new answer = (text : List ℕ) × GivesText c may_read text × takes old (Some text) answer new
 
 -- The module is not printed: either the file has no text and nothing was written, or the one write of its text
 -- failed.
 abbrev pub FailsToWrite : {W : Type 0} → Choice → Reading → TextWrite W → W → W → Error → Type 0
-FailsToWrite c gives takes old new error = (GivesNoText c gives error × (new ≡ old))
-    ⊎ ((failure : IoError) × WritesModuleText c gives takes old new (Err failure) × (error ≡ Printer failure))
+FailsToWrite c may_read takes old new error = (GivesNoText c may_read error × (new ≡ old))
+    ⊎ ((failure : IoError) × WritesModuleText c may_read takes old new (Err failure) × (error ≡ Printer failure))
 
 -- The text was written in one write, whatever the result.
 abbrev pub IsWrittenOnce : {W : Type 0} → TextWrite W → W → W → Option (List ℕ) → Type 0
@@ -77,10 +77,10 @@ refused_status = 1
 abbrev pub misused_status : ℕ
 misused_status = 2
 
--- The outcome of a run with these words. `gives` says what reading each file may return, and `renders` gives the
+-- The outcome of a run with these words. `may_read` says what reading each file may return, and `renders` gives the
 -- texts of errors. `takes` gives the writes to the output `out`, and `reports` those to the error output `err`.
 -- `new_out` and `new_err` are their states after the run.
-pub record HasOutcome {W V : Type 0} (gives : List ℕ → Reading) (takes : TextWrite W) (reports : TextWrite V) (renders : Rendering Error)
+pub record HasOutcome {W V : Type 0} (may_read : List ℕ → Reading) (takes : TextWrite W) (reports : TextWrite V) (renders : Rendering Error)
     (words : List (List ℕ)) (out new_out : W) (err new_err : V) (status : ℕ) : Type 0 where
   -- The status is `misused_status` if and only if the words do not name one file or contain an unknown option.
   pub usage : (status ≡ misused_status) ↔ (named_file words ≡ None)
@@ -93,21 +93,21 @@ pub record HasOutcome {W V : Type 0} (gives : List ℕ → Reading) (takes : Tex
   -- After `printed_status`, the text of the module in the named file, in the chosen form, was written in one write,
   -- which succeeded.
   pub printed : status ≡ printed_status →
-      (file : List ℕ) × (named_file words ≡ Some file) × WritesModuleText (choice_of words) (gives file) takes out new_out (Ok tt)
+      (file : List ℕ) × (named_file words ≡ Some file) × WritesModuleText (choice_of words) (may_read file) takes out new_out (Ok tt)
   -- After `printed_status`, the error output is unchanged.
   pub quiet : status ≡ printed_status → new_err ≡ err
   -- After `refused_status`, the module in the named file was not printed, for an error that was reported.
   pub refused : status ≡ refused_status →
       (file : List ℕ) × (error : Error) × (named_file words ≡ Some file)
-      × FailsToWrite (choice_of words) (gives file) takes out new_out error
+      × FailsToWrite (choice_of words) (may_read file) takes out new_out error
       × ReportsError reports err new_err renders error
 
 -- The arguments were read as words, and the run with these words has its outcome.
 abbrev pub RunsWithWords : {I A W V : Type 0} → (I → Option (String A) → I → Type 0) → Result I IoError → (List ℕ → Reading)
     → TextWrite W → TextWrite V → Rendering Error → W → W → V → V → ℕ → Type 0
-RunsWithWords next_gives args gives takes reports renders out new_out err new_err status =
+RunsWithWords next_gives args may_read takes reports renders out new_out err new_err status =
     (words : List (List ℕ)) × AreWordsOf next_gives args words
-    × HasOutcome gives takes reports renders words out new_out err new_err status
+    × HasOutcome may_read takes reports renders words out new_out err new_err status
 
 -- The words can't be read. The error was reported, the output is unchanged, and the status is `refused_status`.
 abbrev pub RefusesArguments : {W V : Type 0} → IoError → TextWrite V → Rendering WordsError → W → W → V → V → ℕ → Type 0

@@ -84,7 +84,7 @@ where
     E: Sink,
     requires can { IfOk args I.can_next }
     requires finite { IfOk args (λ all. IsFinite (I.remaining all)) }
-    ensures { RunsWithWords I.next_gives args (S.gives source.now) O.takes E.takes
+    ensures { RunsWithWords I.next_gives args (S.may_read source.now) O.takes E.takes
         (⟦<R as Render<Error>>⟧.renders renderer.now) out.old out.new err.old err.new (exit_status result)
         ⊎ RefusesToRead args E.takes (⟦<R as Render<WordsError>>⟧.renders renderer.now)
         out.old out.new err.old err.new (exit_status result) }
@@ -108,7 +108,7 @@ where
     R: Render<Error> + Render<WordsError>,
     O: Sink,
     E: Sink,
-    ensures runs { IfOk words (λ all. HasOutcome (S.gives source.now) O.takes E.takes
+    ensures runs { IfOk words (λ all. HasOutcome (S.may_read source.now) O.takes E.takes
         (⟦<R as Render<Error>>⟧.renders renderer.now) (map string_bytes all.items)
         out.old out.new err.old err.new (exit_status result)) }
     ensures refuses { IfErr words (λ error. RefusesArguments error E.takes
@@ -151,7 +151,7 @@ pub fn run<S: Source, R: Render<Error>, O: Sink, E: Sink>(
     out: &mut O,
     err: &mut E,
 ) -> u8
-    ensures { HasOutcome (S.gives source.now) O.takes E.takes (R.renders renderer.now)
+    ensures { HasOutcome (S.may_read source.now) O.takes E.takes (R.renders renderer.now)
         (map string_bytes words.now) out.old out.new err.old err.new result }
 {
     let Some(file) = file_of(words) else {
@@ -226,8 +226,8 @@ fn write_text_of<S: Source, O: Sink>(
     file: &str,
     out: &mut O,
 ) -> Result<(), Error>
-    ensures written { OnOk result (WritesModuleText choice.now (S.gives source.now file.now) O.takes out.old out.new (Ok tt)) }
-    ensures refused { IfErr result (FailsToWrite choice.now (S.gives source.now file.now) O.takes out.old out.new) }
+    ensures written { OnOk result (WritesModuleText choice.now (S.may_read source.now file.now) O.takes out.old out.new (Ok tt)) }
+    ensures refused { IfErr result (FailsToWrite choice.now (S.may_read source.now file.now) O.takes out.old out.new) }
 {
     let text = text_of_file(source, alloc, choice, file)?;
     out.write_bytes(&text).map_err(Error::Printer)
@@ -240,8 +240,8 @@ fn text_of_file<S: Source>(
     choice: &Choice,
     file: &str,
 ) -> Result<Vec<u8>, Error>
-    ensures printed { IfOk result (λ text. GivesText choice.now (S.gives source.now file.now) text.items) }
-    ensures refused { IfErr result (GivesNoText choice.now (S.gives source.now file.now)) }
+    ensures printed { IfOk result (λ text. GivesText choice.now (S.may_read source.now file.now) text.items) }
+    ensures refused { IfErr result (GivesNoText choice.now (S.may_read source.now file.now)) }
 {
     let wasm = source.read(Path::new(file)).map_err(|_| Error::Unreadable)?;
     text_of(alloc, choice, &wasm)

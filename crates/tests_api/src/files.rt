@@ -19,7 +19,7 @@ struct OneFile {
 }
 
 impl Source for OneFile {
-    ghost gives = { λ _ _ _. ⊤ };
+    ghost may_read = { λ _ _ _. ⊤ };
 
     fn read(&self, path: Path<'_>) -> io::Result<Vec<u8>> {
         self.reads.set(self.reads.get().saturating_add(1));

@@ -17,7 +17,7 @@ use Rattle.wasmprinter.specs.Outcome.{FirstIsUnknown}
 use Rattle.wasmprinter.specs.Printed.{no_claims}
 use Rattle.wasmprinter_laws.proofs.Ranges.{ranged}
 use Rattle.wasmprinter_laws.proofs.Customs.Notes.{customs_after_kind}
-use Rattle.wasmprinter_laws.proofs.Customs.Places.{every_after, over, over_all}
+use Rattle.wasmprinter_laws.proofs.Customs.Places.{custom_positions, over, over_all}
 
 -- The first of three optional ids.
 first_some-assoc : (a b c : Option ℕ) → first_some (first_some a b) c ≡ first_some a (first_some b c)
@@ -111,7 +111,7 @@ sections_refused o s m (k ∷ ks) =
     ∙ sym (first_id-append (customs_after_kind (Some k) m.customs) (over (map Some ks) m.customs))
 
 -- The layout ends at the first refused section in the order of the positions.
-module_refused : (o : Options) (m : PlacedModule) → refusal o no_claims m ≡ first_id (over every_after m.customs)
+module_refused : (o : Options) (m : PlacedModule) → refusal o no_claims m ≡ first_id (over custom_positions m.customs)
 unfolding module_parts
 module_refused o m =
     let s : Scope = early_scope o (module_names o.synthesizes m) m in

@@ -19,13 +19,13 @@ pub component_error : {T A : Type 0} (e : Error) → (IsErrOf {T = T} (Err e) Co
 component_error e h = (λ is. h.0 (ap Err is), λ a. ap (error_or e) (h.1 a))
 
 -- The text of the bytes that reading returned is the text of the file.
-pub text_of_file : {T : Type 0} (view : T → List ℕ) (gives : Reading) (wasm : List ℕ) (r : Result T Error) →
-    gives (Some wasm) → IfOk r (λ t. HasText wasm (view t)) → IfOk r (λ t. IsTextOfFile gives (view t))
-text_of_file view gives wasm (Ok t) g h = (wasm, g, h)
-text_of_file view gives wasm (Err e) g h = tt
+pub text_of_file : {T : Type 0} (view : T → List ℕ) (may_read : Reading) (wasm : List ℕ) (r : Result T Error) →
+    may_read (Some wasm) → IfOk r (λ t. HasText wasm (view t)) → IfOk r (λ t. IsTextOfFile may_read (view t))
+text_of_file view may_read wasm (Ok t) g h = (wasm, g, h)
+text_of_file view may_read wasm (Err e) g h = tt
 
 -- If those bytes are refused, the file is refused with the same error.
-pub refused_of_file : {T : Type 0} (o : Options) (gives : Reading) (wasm : List ℕ) (r : Result T Error) →
-    gives (Some wasm) → IfErr r (IsTextRefusal o wasm) → (IsErrOf r Component ↔ IsComponent wasm) → IfErr r (IsRefusedBy o gives)
-refused_of_file o gives wasm (Ok t) g refused c = tt
-refused_of_file o gives wasm (Err e) g refused c = inr (wasm, g, record { refused = refused; component = component_error e c })
+pub refused_of_file : {T : Type 0} (o : Options) (may_read : Reading) (wasm : List ℕ) (r : Result T Error) →
+    may_read (Some wasm) → IfErr r (IsTextRefusal o wasm) → (IsErrOf r Component ↔ IsComponent wasm) → IfErr r (IsRefusedBy o may_read)
+refused_of_file o may_read wasm (Ok t) g refused c = tt
+refused_of_file o may_read wasm (Err e) g refused c = inr (wasm, g, record { refused = refused; component = component_error e c })

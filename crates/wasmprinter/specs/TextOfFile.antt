@@ -14,7 +14,7 @@ Reading = Option (List ℕ) → Type 0
 
 -- Reading may return bytes that encode a module with this text.
 abbrev pub IsTextOfFile : Reading → List ℕ → Type 0
-IsTextOfFile gives text = (wasm : List ℕ) × gives (Some wasm) × HasText wasm text
+IsTextOfFile may_read text = (wasm : List ℕ) × may_read (Some wasm) × HasText wasm text
 
 -- With these options, these bytes are refused with this error.
 pub record AreRefused (o : Options) (wasm : List ℕ) (error : Error) : Type 0 where
@@ -26,4 +26,4 @@ pub record AreRefused (o : Options) (wasm : List ℕ) (error : Error) : Type 0 w
 -- With these options, the file has no text: either reading failed and the error is `Unreadable`, or reading
 -- returned bytes that are refused with this error.
 abbrev pub IsRefusedBy : Options → Reading → Error → Type 0
-IsRefusedBy o gives error = (gives None × (error ≡ Unreadable)) ⊎ ((wasm : List ℕ) × gives (Some wasm) × AreRefused o wasm error)
+IsRefusedBy o may_read error = (may_read None × (error ≡ Unreadable)) ⊎ ((wasm : List ℕ) × may_read (Some wasm) × AreRefused o wasm error)

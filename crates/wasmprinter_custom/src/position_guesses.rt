@@ -1,4 +1,4 @@
-//! The likely positions of items in the list of items with names. A position is only a hint: each lookup verifies it.
+//! The guessed positions of items in the list of items with names. A guess may be wrong: each lookup verifies it.
 ghost use Rattle.std.specs.Prelude.{◌≡◌, ◌<◌, ◌≤◌, ◌+◌, ◌-◌, [], length, max, OnOk, OnErr, IsOk};
 
 use crate::store::{Key, StoredName};
@@ -49,7 +49,7 @@ impl Beginnings {
 
     /// Returns the position of an item if the indices in its function or type have no gaps, and the position where it
     /// would be if it has no name.
-    fn likely(&self, entries: &[(Key, StoredName<'_>)], key: Key) -> usize {
+    fn guess(&self, entries: &[(Key, StoredName<'_>)], key: Key) -> usize {
         let Some(ahead) = key.outer.checked_sub(self.first) else {
             return self.begin(0);
         };
@@ -61,7 +61,7 @@ impl Beginnings {
     }
 }
 
-/// The likely positions of items, by subsection.
+/// The guessed positions of items, by subsection.
 #[derive(Drop)]
 pub struct Guesses {
     subsections: Vec<Beginnings>,
@@ -109,10 +109,10 @@ impl Guesses {
         }
     }
 
-    /// Returns the likely position of an item, or the position where it would be.
-    pub(crate) fn likely(&self, entries: &[(Key, StoredName<'_>)], key: Key) -> usize {
+    /// Returns the guessed position of an item, or the position where it would be.
+    pub(crate) fn guess(&self, entries: &[(Key, StoredName<'_>)], key: Key) -> usize {
         match self.subsections.get(usize::from(key.subsection)) {
-            Some(beginnings) => beginnings.likely(entries, key),
+            Some(beginnings) => beginnings.guess(entries, key),
             None => entries.len(),
         }
     }

@@ -52,19 +52,19 @@ fn search<'e, 'a>(entries: &'e [(Key, StoredName<'a>)], key: Key) -> Option<&'e 
     Some(&entries[position].1)
 }
 
-/// Returns the name of a key. `likely` is a hint of the position: a good hint makes the lookup fast,
-/// and no hint changes the result.
+/// Returns the name of a key. `guess` is a guessed position: a good guess makes the lookup fast,
+/// and no guess changes the result.
 pub(crate) fn find<'e, 'a>(
     entries: &'e [(Key, StoredName<'a>)],
-    likely: usize,
+    guess: usize,
     key: Key,
 ) -> Option<&'e StoredName<'a>>
     requires { Ascends entries.now }
     ensures { option_copied result ≡ stored_at entries.now key }
 {
-    match entries.get(likely) {
+    match entries.get(guess) {
         Some((at, stored)) if *at == key => Some(stored),
-        _ if all_before(entries, likely, key) && all_after(entries, likely, key) => None,
+        _ if all_before(entries, guess, key) && all_after(entries, guess, key) => None,
         _ => search(entries, key),
     }
 }

@@ -197,7 +197,7 @@ impl<'a> NamesBuilder<'a> {
 pub struct Names<'a> {
     /// The items that have names, in ascending order of their keys.
     entries: Vec<(Key, StoredName<'a>)>,
-    /// The likely positions of items in the list.
+    /// The guessed positions of items in the list.
     guesses: Guesses,
     /// For each subsection, by its id, whether one of the items belongs to it.
     named: [bool; SUBSECTIONS],
@@ -229,8 +229,8 @@ impl Names<'_> {
     fn look_up(&self, key: Key) -> Option<Name<'_>>
         ensures { option_map name_view result ≡ name_at self.now key.subsection key.outer key.index }
     {
-        let likely = self.guesses.likely(&self.entries, key);
-        find(&self.entries, likely, key).map(|stored| stored.name())
+        let guess = self.guesses.guess(&self.entries, key);
+        find(&self.entries, guess, key).map(|stored| stored.name())
     }
 
     /// Returns the identifier of an item, without its dollar sign, or `None` if the item has no name. `outer` is the

@@ -15,7 +15,7 @@ use Rattle.wasmprinter_fold.specs.declared.nodes.candidates.Cut.{Cut}
 use Rattle.wasmprinter_fold.specs.Postorder.{postorder}
 use Rattle.wasmprinter_fold.specs.Candidates.{width, candidate_after, candidates, IsCut, IsOperandsCut, IsEndOf, IsLimited}
 use Rattle.wasmprinter_fold.specs.Building.{OpenNodes, Top, InBlock, InThen, InElse, state_at, state_after_end, state_after_else}
-use Rattle.wasmprinter_fold.specs.Frames.{State, base, base_candidates, frame_in, frames, AreLimited, StandsAt, with_node, with_case, with_block}
+use Rattle.wasmprinter_fold.specs.Frames.{State, base, base_candidates, frame_in, frames, AreLimited, AreListsOf, with_node, with_case, with_block}
 use Rattle.wasmprinter_fold.proofs.Postorders.{length-postorder, postorder-row_of_both, count-row_of_both}
 use Rattle.wasmprinter_fold.proofs.Candidates.{length-candidates, width-row_of_both, take-candidates, left-limited, front-limited}
 
@@ -75,7 +75,7 @@ two_rows nodes before f b parts e h =
 
 -- ---- The open part
 
-module _ (nodes : List Node) (row : List Candidate) (blocks : List Frame) (s : State) (h : StandsAt nodes row blocks s) where
+module _ (nodes : List Node) (row : List Candidate) (blocks : List Frame) (s : State) (h : AreListsOf nodes row blocks s) where
   ends_at : length nodes ≡ length (base s.outer) + count s.groups
   ends_at = ap length h.rows ∙ (length-append (base s.outer) (postorder s.groups) ∙ ap (λ (n : ℕ). length (base s.outer) + n) (length-postorder s.groups))
 
@@ -129,9 +129,9 @@ pub record AddsPlain (nodes : List Node) (row : List Candidate) (blocks : List F
   pub limited : IsLimited before
   pub stands : (new : List Node) (more : List Candidate) → new ≡ with_node nodes x results cut.start
       → more ≡ take (part + cut.kept) row ++ candidate_after (length (base s.outer)) before results ∷ []
-      → StandsAt new more blocks (state_at s.outer (with_operands s.groups x own (operand_search operands s.groups)))
+      → AreListsOf new more blocks (state_at s.outer (with_operands s.groups x own (operand_search operands s.groups)))
 
-module _ (nodes : List Node) (row : List Candidate) (blocks : List Frame) (s : State) (h : StandsAt nodes row blocks s) (x : NodeText)
+module _ (nodes : List Node) (row : List Candidate) (blocks : List Frame) (s : State) (h : AreListsOf nodes row blocks s) (x : NodeText)
     (operands own part end : ℕ) (begins : part ≡ length (base_candidates s.outer)) (ends : end ≡ length nodes) (cut : Cut) (results : ℕ)
     (most : results ≤ greatest)
     (found : (first : ℕ) (f : NodesOf NodeText) → IsEndOf (drop part row) end first f → IsOperandsCut first f own (operand_search operands f) cut results) where
@@ -149,7 +149,7 @@ module _ (nodes : List Node) (row : List Candidate) (blocks : List Frame) (s : S
         stands =
             λ new more e m.
             let next : Candidate = candidate_after (length (base s.outer)) b results in
-            let P : NodesOf NodeText → Type 0 = λ f. StandsAt new more blocks (state_at s.outer f) in
+            let P : NodesOf NodeText → Type 0 = λ f. AreListsOf new more blocks (state_at s.outer f) in
             subst P (sym (at.folds x))
             (record {
               rows =
@@ -168,10 +168,10 @@ module _ (nodes : List Node) (row : List Candidate) (blocks : List Frame) (s : S
 
 -- ---- Opening a block
 
-pub opens_block : (nodes : List Node) (row : List Candidate) (blocks : List Frame) (s : State) → StandsAt nodes row blocks s
+pub opens_block : (nodes : List Node) (row : List Candidate) (blocks : List Frame) (s : State) → AreListsOf nodes row blocks s
     → (start part own : ℕ) (x : NodeText) → own ≤ greatest → start ≡ length nodes → part ≡ length row → (new : List Frame)
     → new ≡ blocks ++ record { arm = arm.Block; head = x; results = own; operands_start = start; start = start; candidates_start = part } ∷ []
-    → StandsAt nodes row new (state_at (InBlock s.outer s.groups x own) Nil)
+    → AreListsOf nodes row new (state_at (InBlock s.outer s.groups x own) Nil)
 opens_block nodes row blocks s h start part own x most here width new e =
     let all : List Node = base s.outer ++ postorder s.groups in
     let row_is : List Candidate = base_candidates s.outer ++ candidates (length (base s.outer)) s.groups in
@@ -189,11 +189,11 @@ opens_block nodes row blocks s h start part own x most here width new e =
       limited = tt;
     }
 
-pub opens_if : (nodes : List Node) (row : List Candidate) (blocks : List Frame) (s : State) → StandsAt nodes row blocks s
+pub opens_if : (nodes : List Node) (row : List Candidate) (blocks : List Frame) (s : State) → AreListsOf nodes row blocks s
     → (outer start own : ℕ) (x y : NodeText) → own ≤ greatest → outer ≡ length (base_candidates s.outer) → (cut : Cut)
     → IsCut (length (base s.outer)) (front s.groups) cut → start ≡ length nodes → (more : List Candidate) → more ≡ take (outer + cut.kept) row → (new : List Frame)
     → new ≡ blocks ++ record { arm = arm.Then y; head = x; results = own; operands_start = cut.start; start = start; candidates_start = outer + cut.kept } ∷ []
-    → StandsAt nodes more new (state_at (InThen s.outer (front s.groups) (last s.groups) x y own) Nil)
+    → AreListsOf nodes more new (state_at (InThen s.outer (front s.groups) (last s.groups) x y own) Nil)
 opens_if nodes row blocks s h outer start own x y most begins cut is here more m new e =
     let g : NodesOf NodeText = s.groups in
     let whole : g ≡ row_of_both (front g) (last g) = sym (row_of_both-front-last g) in
@@ -232,13 +232,13 @@ pub record Closes (nodes : List Node) (row : List Candidate) (rest : List Frame)
       → IsEndOf (drop part (take t.candidates_start row)) t.operands_start (length (base outer)) before
   pub limited : IsLimited before
   pub stands : (new : List Node) (more : List Candidate) → new ≡ with_block nodes t
-      → more ≡ take t.candidates_start row ++ candidate_after (length (base outer)) before t.results ∷ [] → StandsAt new more rest s
+      → more ≡ take t.candidates_start row ++ candidate_after (length (base outer)) before t.results ∷ [] → AreListsOf new more rest s
 
 -- The first case of an `if` is closed and the second one opened.
 pub record Turned (nodes : List Node) (row : List Candidate) (rest : List Frame) (t : Frame) (case otherwise : NodeText) (s : State) : Type 0 where
   pub fits : t.start ≤ length nodes
   pub stands : (mid : List Node) → mid ≡ with_node nodes case 0 t.start
-      → StandsAt mid (take t.candidates_start row) (rest ++ record t { arm = arm.Else otherwise; start = length mid } ∷ []) s
+      → AreListsOf mid (take t.candidates_start row) (rest ++ record t { arm = arm.Else otherwise; start = length mid } ∷ []) s
 
 Closes-at : (o : OpenNodes NodeText) (b d f : NodesOf NodeText) (a : Arm) (x : NodeText) (q : ℕ) (nodes : List Node) (row : List Candidate) (s : State)
     → AreLimited o → IsLimited b → q ≤ greatest
@@ -270,7 +270,7 @@ Closes-at o b d f a x q nodes row s outer limited most e r held case is =
       limited = limited;
       stands =
           λ new more n m.
-          let P : State → Type 0 = λ t. StandsAt new more (frames o) t in
+          let P : State → Type 0 = λ t. AreListsOf new more (frames o) t in
           subst P (sym is)
           (record {
             rows = n ∙ wrapped (base o) b held x q _ _ case refl;
@@ -339,7 +339,7 @@ turn_top (InThen o b d x y q) f nodes row rest t z w e r l h a =
     rw (h.0, h.1, same) (Turned-at o b d f x y w q nodes row l e r)
 turn_top (InElse o b d x y q) f nodes row rest t z w e r l h a = absurd (cc (ap (λ (u : Frame). u.arm) h.1))
 
-module _ (nodes : List Node) (row : List Candidate) (blocks rest : List Frame) (t : Frame) (s : State) (h : StandsAt nodes row blocks s)
+module _ (nodes : List Node) (row : List Candidate) (blocks rest : List Frame) (t : Frame) (s : State) (h : AreListsOf nodes row blocks s)
     (e : blocks ≡ rest ++ t ∷ []) where
   top : IsTop s.outer rest t
   top = is_top s.outer rest t (sym h.open_blocks ∙ e)

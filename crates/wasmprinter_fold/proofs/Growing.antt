@@ -14,7 +14,7 @@ use Rattle.wasmprinter_fold.specs.declared.nodes.builder.Builder.{Builder}
 use Rattle.wasmprinter_fold.specs.Building.{OpenNodes, Top, InBlock, InThen, InElse, StateOf, Step, Ends, state_at, step}
 use Rattle.wasmprinter_fold.specs.Heads.{AllStep}
 use Rattle.wasmprinter_fold.specs.Mapping.{map_nodes, map_open, map_step}
-use Rattle.wasmprinter_fold.specs.Frames.{State, Stands}
+use Rattle.wasmprinter_fold.specs.Frames.{State, Represents}
 use Rattle.wasmprinter_fold.specs.Postorder.{IsPostorder, forest_of}
 use Rattle.wasmprinter_fold.proofs.Maps.{step-map}
 use Rattle.wasmprinter_fold.proofs.AllHeads.{all_step, AllState-weaker, map_state-same}
@@ -38,7 +38,7 @@ shows-more old new b s g h = record {
 
 -- A step of the builder is a step of the printed texts.
 pub shows-step : (buffer : List ℕ) (b c : Builder) (x : Step NodeText) (y : Step ShownNode) (s : StateOf ShownNode) →
-    AllStep (IsIn buffer) x → map_step (shown_of_head buffer) x ≡ y → ((t : State) → Stands b t → Stands c (step t x)) → ShowsIn buffer b s → ShowsIn buffer c (step s y)
+    AllStep (IsIn buffer) x → map_step (shown_of_head buffer) x ≡ y → ((t : State) → Represents b t → Represents c (step t x)) → ShowsIn buffer b s → ShowsIn buffer c (step s y)
 shows-step buffer b c x y s i e f h = record {
   state = step h.state x;
   stands = f h.state h.stands;
@@ -61,7 +61,7 @@ pub record IsWholeTree (buffer : List ℕ) (nodes : List Node) (f : NodesOf Show
   pub shows : map_nodes (shown_of_head buffer) (forest_of nodes) ≡ f
 
 pub whole : (buffer : List ℕ) (b : Builder) (nodes : List Node) (f : NodesOf ShownNode) →
-    ((s : State) → Stands b s → IsPostorder nodes) → ((s : State) → Stands b s → s.outer ≡ Top → forest_of nodes ≡ s.groups) →
+    ((s : State) → Represents b s → IsPostorder nodes) → ((s : State) → Represents b s → s.outer ≡ Top → forest_of nodes ≡ s.groups) →
     ShowsIn buffer b (state_at Top f) → IsWholeTree buffer nodes f
 whole buffer b nodes f p q h =
     let e = q h.state h.stands (only_top (shown_of_head buffer) h.state.outer (ap (λ (s : StateOf ShownNode). s.outer) h.shows)) in

@@ -12,7 +12,7 @@ use Rattle.wasmprinter_spec.specs.Folding.Code.{nested_code_of}
 use Rattle.wasmprinter_spec.specs.Folding.Tree.{NodesOf}
 use Rattle.wasmprinter_fold.specs.declared.nodes.Node.{Node}
 use Rattle.wasmprinter_fold.specs.Building.{Top}
-use Rattle.wasmprinter_fold.specs.Frames.{State, Stands}
+use Rattle.wasmprinter_fold.specs.Frames.{State, Represents}
 use Rattle.wasmprinter_fold.specs.Mapping.{map_nodes}
 use Rattle.wasmprinter_fold.specs.Postorder.{IsPostorder, forest_of}
 use Rattle.wasmprinter_fold.specs.Shown.{ShownNode, shown_of_head, AreIn, row_pieces}
@@ -30,7 +30,7 @@ module _ (color : Bool) (m : PlacedModule) (v : FolderView) (is : record { color
   nothing_of t false e h =
       ap (λ (f : FolderView). folded_list (folding_view f) own s hints os) (sym is) ∙ no-pieces color s (signatures_within m own) hints os h
 
-  module _ (t : GrowingTree) (r : Bool) (e : r ≡ true) (grown : IsGrown color t r (nested_code_of (items s (signatures_within m own) hints 0 [] [] os))) (text : List ℕ) (buffer : text ≡ t.texts.bytes) (nodes : List Node) (rows : (u : State) → Stands t.builder u → IsPostorder nodes) (closed : (u : State) → Stands t.builder u → u.outer ≡ Top → forest_of nodes ≡ u.groups) where
+  module _ (t : GrowingTree) (r : Bool) (e : r ≡ true) (grown : IsGrown color t r (nested_code_of (items s (signatures_within m own) hints 0 [] [] os))) (text : List ℕ) (buffer : text ≡ t.texts.bytes) (nodes : List Node) (rows : (u : State) → Represents t.builder u → IsPostorder nodes) (closed : (u : State) → Represents t.builder u → u.outer ≡ Top → forest_of nodes ≡ u.groups) where
     there : IsGrown color t true (nested_code_of (items s (signatures_within m own) hints 0 [] [] os))
     there = subst (λ (b : Bool). IsGrown color t b (nested_code_of (items s (signatures_within m own) hints 0 [] [] os))) e grown
 

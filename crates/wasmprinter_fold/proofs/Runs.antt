@@ -10,7 +10,7 @@ use Rattle.wasmprinter_fold.specs.declared.nodes.candidates.Candidate.{Candidate
 use Rattle.wasmprinter_fold.specs.Postorder.{postorder, forest_of, IsPostorder}
 use Rattle.wasmprinter_fold.specs.Building.{OpenNodes, Top, InBlock, InThen, InElse, StateOf, Step, start, state_at, step, step_of, steps, run_all}
 use Rattle.wasmprinter_fold.specs.Mapping.{map_nodes, map_step}
-use Rattle.wasmprinter_fold.specs.Frames.{State, base, StandsAt}
+use Rattle.wasmprinter_fold.specs.Frames.{State, base, AreListsOf}
 use Rattle.wasmprinter_fold.proofs.Postorders.{postorder-row_of_both, forest_of-postorder, IsPostorder-postorder}
 use Rattle.wasmprinter_fold.proofs.Maps.{front-map, last-map, folded-map}
 
@@ -37,7 +37,7 @@ postorder-base_row (InElse o b d x y q) =
     ∙ sym (postorder-row_of_both (row_of_both (base_row o) b) d))
 
 -- The list represents nodes, whatever blocks are open.
-pub stands_whole : (nodes : List Node) (row : List Candidate) (blocks : List Frame) (s : State) → StandsAt nodes row blocks s → IsPostorder nodes
+pub stands_whole : (nodes : List Node) (row : List Candidate) (blocks : List Frame) (s : State) → AreListsOf nodes row blocks s → IsPostorder nodes
 stands_whole nodes row blocks s h =
     subst IsPostorder
     (sym
@@ -47,7 +47,7 @@ stands_whole nodes row blocks s h =
     (IsPostorder-postorder (row_of_both (base_row s.outer) s.groups))
 
 -- If no block is open, the list represents the nodes of the state.
-pub stands_closed : (nodes : List Node) (row : List Candidate) (blocks : List Frame) (s : State) → StandsAt nodes row blocks s → s.outer ≡ Top
+pub stands_closed : (nodes : List Node) (row : List Candidate) (blocks : List Frame) (s : State) → AreListsOf nodes row blocks s → s.outer ≡ Top
     → forest_of nodes ≡ s.groups
 stands_closed nodes row blocks s h e =
     ap forest_of (h.rows ∙ ap (λ (o : OpenNodes NodeText). base o ++ postorder s.groups) e) ∙ forest_of-postorder s.groups

@@ -60,7 +60,7 @@ AreLimited (InThen o before cases head case results) = AreLimited o × IsLimited
 AreLimited (InElse o before cases head case results) = AreLimited o × IsLimited before × (results ≤ greatest)
 
 -- The lists represent this state.
-pub record StandsAt (nodes : List Node) (row : List Candidate) (blocks : List Frame) (s : State) : Type 0 where
+pub record AreListsOf (nodes : List Node) (row : List Candidate) (blocks : List Frame) (s : State) : Type 0 where
   pub rows : nodes ≡ base s.outer ++ postorder s.groups
   pub open_row : row ≡ base_candidates s.outer ++ candidates (length (base s.outer)) s.groups
   pub open_blocks : blocks ≡ frames s.outer
@@ -68,8 +68,8 @@ pub record StandsAt (nodes : List Node) (row : List Candidate) (blocks : List Fr
   pub limited : IsLimited s.groups
 
 -- The lists of the builder represent this state.
-abbrev pub Stands : Builder → State → Type 0
-Stands b s = StandsAt b.nodes.items b.candidates.items b.frames.items s
+abbrev pub Represents : Builder → State → Type 0
+Represents b s = AreListsOf b.nodes.items b.candidates.items b.frames.items s
 
 -- The list with one more node, which holds all nodes from index `from` on.
 abbrev pub with_node : List Node → NodeText → ℕ → ℕ → List Node

@@ -16,7 +16,7 @@ use Rattle.wasmprinter_flat.specs.Settings.{word_pieces}
 use Rattle.wasmprinter_fold.specs.declared.nodes.builder.Builder.{Builder}
 use Rattle.wasmprinter_fold.specs.Building.{Top, StateOf, Step, Plain, Opens, OpensIf, Else, Ends, state_at, step}
 use Rattle.wasmprinter_fold.specs.Mapping.{map_nodes, map_state}
-use Rattle.wasmprinter_fold.specs.Frames.{State, Stands}
+use Rattle.wasmprinter_fold.specs.Frames.{State, Represents}
 use Rattle.wasmprinter_fold.specs.Heads.{AllState}
 use Rattle.wasmprinter_fold.specs.Shown.{ShownNode, shown_of_calls, shown_head, shown_of_head, IsIn}
 use Rattle.wasmprinter_fold.specs.declared.tree.GrowingTree.{GrowingTree}
@@ -25,7 +25,7 @@ use Rattle.wasmprinter_fold.specs.declared.tree.GrowingTree.{GrowingTree}
 -- nodes.
 pub record ShowsIn (buffer : List ℕ) (b : Builder) (s : StateOf ShownNode) : Type 0 where
   pub state : State
-  pub stands : Stands b state
+  pub stands : Represents b state
   pub inside : AllState (IsIn buffer) state
   pub shows : map_state (shown_of_head buffer) state ≡ s
 

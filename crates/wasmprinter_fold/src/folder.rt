@@ -2,7 +2,7 @@
 ghost use Rattle.std.specs.Prelude.{◌≡◌, true, IfOk, OnErr};
 ghost use Rattle.wasmprinter_spec.specs.Layout.Folded.{folded_list};
 ghost use Rattle.wasmprinter_flat.specs.Settings.{setting_with_names};
-ghost use Rattle.wasmprinter_fold.specs.Gathering.{ImportsSome};
+ghost use Rattle.wasmprinter_fold.specs.Gathering.{ImportsFunctionOrTag};
 ghost use Rattle.wasmprinter_fold.specs.Views.{folding_view};
 
 use crate::arities::callees::CalleeTypes;
@@ -43,7 +43,7 @@ impl<'m, 'a> Folder<'m, 'a> {
     /// Returns an error if an allocation fails. Memory is needed only if a function or a tag is imported.
     pub fn new(alloc: Global, module: &'m Module<'a>, color: bool) -> Result<Self, AllocError>
         ensures ok { IfOk result (λ f. f ≡ record { color = color; operators_of = «module».now }) }
-        ensures memory { OnErr result (ImportsSome «module».now) }
+        ensures memory { OnErr result (ImportsFunctionOrTag «module».now) }
     {
         let callees = CalleeTypes::new(alloc, module)?;
         let tree = GrowingTree::new(alloc, color);

@@ -101,8 +101,8 @@ synthesized_reads = refl
 
 -- Function 0 is `a` in one subsection, and 1 is `a` in a second one. Function 2 has an empty name, 3 is `#x` and 4
 -- is `a b`.
-abbrev alike : List ℕ
-alike =
+abbrev equal_names : List ℕ
+equal_names =
     head_bytes
     ++ (section 0x01 (0x01 ∷ 0x60 ∷ 0x00 ∷ 0x00 ∷ [])
     ++ (section 0x03 (0x05 ∷ 0x00 ∷ 0x00 ∷ 0x00 ∷ 0x00 ∷ 0x00 ∷ [])
@@ -111,8 +111,8 @@ alike =
     section 0x01 (0x01 ∷ 0x00 ∷ 0x01 ∷ codes "a")
     ++ section 0x01 (0x04 ∷ 0x01 ∷ 0x01 ∷ (codes "a" ++ (0x02 ∷ 0x00 ∷ 0x03 ∷ 0x02 ∷ (codes "#x" ++ (0x04 ∷ 0x03 ∷ codes "a b")))))))))
 
-abbrev alike_text : List ℕ
-alike_text = lines (
+abbrev equal_names_text : List ℕ
+equal_names_text = lines (
     codes "(module"
     ∷ codes "  (type (;0;) (func))"
     ∷ codes "  (func $a (;0;) (type 0))"
@@ -125,13 +125,13 @@ alike_text = lines (
     ∷ codes ")"
     ∷ [])
 
-alike_prints : printed_by defaults alike ≡ Some alike_text
+equal_names_print : printed_by defaults equal_names ≡ Some equal_names_text
 unfolding composing reading
-alike_prints = refl
+equal_names_print = refl
 
-alike_reads : read alike_text ≡ decoded alike
+equal_names_read : read equal_names_text ≡ decoded equal_names
 unfolding reading
-alike_reads = refl
+equal_names_read = refl
 
 -- ---- parameters and locals: each with a name has its own group; adjacent ones without a name share a group
 

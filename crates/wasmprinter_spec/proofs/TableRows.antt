@@ -84,9 +84,9 @@ unfolding table
 label_takers = refl
 
 -- Operators with the same word have the same role.
-alike : map (λ r. role_by (rows_of r.word)) table ≡ map (λ r. r.role) table
+roles_agree : map (λ r. role_by (rows_of r.word)) table ≡ map (λ r. r.role) table
 unfolding table
-alike = refl
+roles_agree = refl
 
 -- ---- words
 

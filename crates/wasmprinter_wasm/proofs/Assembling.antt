@@ -45,7 +45,7 @@ record Spelled (at : Input) (m : PlacedModule) (size : ℕ) : Type 0 where
   is : module_from size sections functions ≡ m
 
 -- Modules with equal parts are equal.
-alike : {ts ts' : List (Placed TypeGroup)}
+equal_fields : {ts ts' : List (Placed TypeGroup)}
     {is is' : List (Placed Import)}
     {us us' : List PlacedTable}
     {ms ms' : List (Placed MemoryType)}
@@ -62,7 +62,7 @@ alike : {ts ts' : List (Placed TypeGroup)}
     → ◌≡◌ {A = PlacedModule}
     (record { types = ts; imports = is; tables = us; memories = ms; tags = gs; globals = vs; exports = es; start = f; elements = ss; functions = fs; data_segments = ds; customs = cs; size = n })
     (record { types = ts'; imports = is'; tables = us'; memories = ms'; tags = gs'; globals = vs'; exports = es'; start = f'; elements = ss'; functions = fs'; data_segments = ds'; customs = cs'; size = n' })
-alike a b c d h i j k l m n o p = rw (a, b, c, d, h, i, j, k, l, m, n, o, p) refl
+equal_fields a b c d h i j k l m n o p = rw (a, b, c, d, h, i, j, k, l, m, n, o, p) refl
 
 -- If the number of locals in each body is within the limit, then so is that in each function.
 few_functions : (fs : List PlacedFunction) → AllByRecursion HasFew (bodies_of fs) → AllByRecursion HasFewLocals fs
@@ -237,7 +237,7 @@ module _ (bytes pre : List ℕ) (at : Input) (first : preamble.parse (input 0 by
       pub module_spelled : AreBytes bytes → Spells bytes module_of_gathered
       module_spelled all =
           let same_module : module_from size h.sections made.functions ≡ module_of_gathered =
-          alike (sym (h.held TypeSection)) (sym (h.held ImportSection)) (sym (h.held TableSection)) (sym (h.held MemorySection)) (sym (h.held TagSection)) (sym (h.held GlobalSection)) (sym (h.held ExportSection)) (sym (h.held StartSection)) (sym (h.held ElementSection)) (sym functions_made) (sym (h.held DataSection)) (sym (h.held CustomSection)) (omega arith) in
+          equal_fields (sym (h.held TypeSection)) (sym (h.held ImportSection)) (sym (h.held TableSection)) (sym (h.held MemorySection)) (sym (h.held TagSection)) (sym (h.held GlobalSection)) (sym (h.held ExportSection)) (sym (h.held StartSection)) (sym (h.held ElementSection)) (sym functions_made) (sym (h.held DataSection)) (sym (h.held CustomSection)) (omega arith) in
           record { are_bytes = all; spelled = binary.sound (input 0 bytes) module_of_gathered (read ∙ ap (λ (m : PlacedModule). Some m) same_module) }
 
       -- The assembled module is within the limits.

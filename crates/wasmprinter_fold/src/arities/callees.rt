@@ -2,7 +2,7 @@
 //! Core Specification, "Indices").
 ghost use Rattle.std.specs.Prelude.{◌≡◌, ◌<◌, length, IfOk, OnErr, slice_get, option_map};
 ghost use Rattle.wasmprinter_spec.specs.Types.{signature_at, fields_at};
-ghost use Rattle.wasmprinter_fold.specs.Gathering.{ImportsSome};
+ghost use Rattle.wasmprinter_fold.specs.Gathering.{ImportsFunctionOrTag};
 ghost use Rattle.wasmprinter_spec.specs.Folding.Arities.{types_of, functions_of, tags_of, function_type, tag_type};
 
 use std::alloc::{AllocError, Global};
@@ -43,7 +43,7 @@ impl<'m, 'a> CalleeTypes<'m, 'a> {
     /// Returns an error if an allocation fails. Memory is needed only if a function or a tag is imported.
     pub fn new(alloc: Global, module: &'m Module<'a>) -> Result<Self, AllocError>
         ensures ok { IfOk result (λ c. c ≡ «module».now) }
-        ensures memory { OnErr result (ImportsSome «module».now) }
+        ensures memory { OnErr result (ImportsFunctionOrTag «module».now) }
     {
         let mut functions = Vec::new(alloc);
         let mut tags = Vec::new(alloc);

@@ -97,11 +97,11 @@ fn open_candidates_start(blocks: &[Frame]) -> usize
 
 impl Builder {
     ghost use Rattle.wasmprinter_fold.specs.Building.{start, step, Top, Plain, Opens, OpensIf, Else, Ends};
-    ghost use Rattle.wasmprinter_fold.specs.Frames.{State, Stands};
+    ghost use Rattle.wasmprinter_fold.specs.Frames.{State, Represents};
 
     /// Creates a builder without nodes. This allocates no memory.
     pub fn new(alloc: Global) -> Builder
-        ensures { Stands result start }
+        ensures { Represents result start }
     {
         Builder {
             nodes: Vec::new(alloc),
@@ -112,7 +112,7 @@ impl Builder {
 
     /// Removes all nodes and keeps the capacity.
     pub fn clear(&mut self)
-        ensures { Stands self.new start }
+        ensures { Represents self.new start }
     {
         self.nodes.clear();
         self.candidates.clear();
@@ -122,8 +122,8 @@ impl Builder {
     /// Returns the nodes of the operators so far. The open parts of blocks form one row: each part follows the nodes
     /// before its block.
     pub fn nodes(&self) -> &[Node]
-        ensures whole { (s : State) → Stands self.now s → IsPostorder result.now }
-        ensures closed { (s : State) → Stands self.now s → s.outer ≡ Top → forest_of result.now ≡ s.groups }
+        ensures whole { (s : State) → Represents self.now s → IsPostorder result.now }
+        ensures closed { (s : State) → Represents self.now s → s.outer ≡ Top → forest_of result.now ≡ s.groups }
     {
         &self.nodes
     }
@@ -135,8 +135,8 @@ impl Builder {
     ///
     /// Returns an error if an allocation fails. The nodes are then unusable until the list is cleared.
     pub fn plain(&mut self, head: NodeText, operands: u32, results: u32) -> Result<(), AllocError>
-        requires { (s : State) × Stands self.old s }
-        ensures { OnOk result ((s : State) → Stands self.old s → Stands self.new (step s (Plain head operands results))) }
+        requires { (s : State) × Represents self.old s }
+        ensures { OnOk result ((s : State) → Represents self.old s → Represents self.new (step s (Plain head operands results))) }
     {
         let part = open_candidates_start(&self.frames);
         let end = self.nodes.len();
@@ -152,8 +152,8 @@ impl Builder {
     ///
     /// Returns an error if an allocation fails. The nodes are then unusable until the list is cleared.
     pub fn open(&mut self, head: NodeText, results: u32) -> Result<(), AllocError>
-        requires { (s : State) × Stands self.old s }
-        ensures { OnOk result ((s : State) → Stands self.old s → Stands self.new (step s (Opens head results))) }
+        requires { (s : State) × Represents self.old s }
+        ensures { OnOk result ((s : State) → Represents self.old s → Represents self.new (step s (Opens head results))) }
     {
         let start = self.nodes.len();
         self.frames.push(Frame {
@@ -179,8 +179,8 @@ impl Builder {
         then: NodeText,
         results: u32,
     ) -> Result<(), AllocError>
-        requires { (s : State) × Stands self.old s }
-        ensures { OnOk result ((s : State) → Stands self.old s → Stands self.new (step s (OpensIf head then results))) }
+        requires { (s : State) × Represents self.old s }
+        ensures { OnOk result ((s : State) → Represents self.old s → Represents self.new (step s (OpensIf head then results))) }
     {
         let outer = open_candidates_start(&self.frames);
         let start = self.nodes.len();
@@ -206,8 +206,8 @@ impl Builder {
     ///
     /// Returns an error if an allocation fails. The nodes are then unusable until the list is cleared.
     pub fn turn(&mut self, otherwise: NodeText) -> Result<(), AllocError>
-        requires { (s : State) × Stands self.old s }
-        ensures { OnOk result ((s : State) → Stands self.old s → Stands self.new (step s (Else otherwise))) }
+        requires { (s : State) × Represents self.old s }
+        ensures { OnOk result ((s : State) → Represents self.old s → Represents self.new (step s (Else otherwise))) }
     {
         if let Some(frame) = self.frames.pop() {
             match frame.arm {
@@ -233,8 +233,8 @@ impl Builder {
     ///
     /// Returns an error if an allocation fails. The nodes are then unusable until the list is cleared.
     pub fn end(&mut self) -> Result<(), AllocError>
-        requires { (s : State) × Stands self.old s }
-        ensures { OnOk result ((s : State) → Stands self.old s → Stands self.new (step s Ends)) }
+        requires { (s : State) × Represents self.old s }
+        ensures { OnOk result ((s : State) → Represents self.old s → Represents self.new (step s Ends)) }
     {
         if let Some(frame) = self.frames.pop() {
             wrap_block(&mut self.nodes, frame)?;

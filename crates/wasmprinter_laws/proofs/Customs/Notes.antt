@@ -26,7 +26,7 @@ use Rattle.wasmprinter_laws.proofs.Tokens.Pieces.{Edge, Free, Bound}
 use Rattle.wasmprinter_laws.proofs.Tokens.Writes.{Writes, WritesNoted, nothing_writes, break_writes, one_space_writes, word_writes, quoted_writes, plain_group_then, note_writes, note_space_writes, plain_ending_writes, claimed_writes}
 use Rattle.wasmprinter_laws.proofs.Fields.DataSegments.{bytes_items, bytes_write}
 use Rattle.wasmprinter_laws.proofs.Ranged.{IsRangedCustom}
-use Rattle.wasmprinter_laws.proofs.Customs.Ordered.{is_any_after}
+use Rattle.wasmprinter_laws.proofs.Customs.Ordered.{is_custom_position}
 use Rattle.wasmprinter_laws.proofs.Customs.Roles.{IsRangedTreatment, treatment_ranged}
 use Rattle.wasmprinter_laws.proofs.Customs.Lines.{fields_written, subsections_written}
 use Rattle.wasmprinter_laws.proofs.Customs.Parts.{PartsWrite, no_parts, shown, stopped}
@@ -45,7 +45,7 @@ raw_items skeleton c = String c.section.value.name (Group (kind_items c.after) (
 abbrev raw_note : Bool → CustomEntry → Forest
 raw_note skeleton c = Note (codes "custom") (raw_items skeleton c) End
 
-section_word_is_word : (kind : Kind) → is_any_after (Some kind) ≡ true → is_word (section_word kind) ≡ true
+section_word_is_word : (kind : Kind) → is_custom_position (Some kind) ≡ true → is_word (section_word kind) ≡ true
 unfolding class
 section_word_is_word CustomSection h = absurd cc
 section_word_is_word DataCountSection h = absurd cc
@@ -66,13 +66,13 @@ two_words_write : {b : Edge} {qs : List Piece} {f : Forest} (v w : List ℕ) →
     Writes Free (piece.OpenPlain v ∷ (OneSpace ∷ (piece.Word w ∷ (CloseParen ∷ qs)))) b (Group (Word v (Word w End)) f)
 two_words_write v w hv hw rest = plain_group_then refl hv (one_space_writes {a = Bound} refl (word_writes hw nothing_writes)) rest
 
-after_writes : {b : Edge} {qs : List Piece} {f : Forest} (after : Option Kind) → is_any_after after ≡ true → Writes Bound qs b f →
+after_writes : {b : Edge} {qs : List Piece} {f : Forest} (after : Option Kind) → is_custom_position after ≡ true → Writes Bound qs b f →
     Writes Free (after_pieces after ++ qs) b (Group (kind_items after) f)
 unfolding after_pieces class
 after_writes None h rest = two_words_write (codes "before") (codes "first") refl refl rest
 after_writes (Some kind) h rest = two_words_write (codes "after") (section_word kind) refl (section_word_is_word kind h) rest
 
-raw_writes : {a : Edge} (skeleton : Bool) (c : CustomEntry) → is_any_after c.after ≡ true → IsRangedCustom c.section.value →
+raw_writes : {a : Edge} (skeleton : Bool) (c : CustomEntry) → is_custom_position c.after ≡ true → IsRangedCustom c.section.value →
     WritesNoted a (raw_pieces skeleton c) Bound End (raw_note skeleton c)
 unfolding raw_pieces class
 raw_writes skeleton c is h =
@@ -88,7 +88,7 @@ raw_writes skeleton c is h =
     (subst (λ t. WritesNoted Free (piece.OpenAnnotationSpace (codes "custom") ∷ (Quoted (chars n) ∷ (OneSpace ∷ t))) Bound End (raw_note skeleton c))
     (append_assoc (after_pieces c.after) (OneSpace ∷ shown) (CloseParen ∷ [])) note)
 
-faulted_writes : {a : Edge} (skeleton : Bool) (c : CustomEntry) → is_any_after c.after ≡ true → IsRangedCustom c.section.value → is_remark c.section.value.name ≡ true →
+faulted_writes : {a : Edge} (skeleton : Bool) (c : CustomEntry) → is_custom_position c.after ≡ true → IsRangedCustom c.section.value → is_remark c.section.value.name ≡ true →
     WritesNoted a (malformed_pieces skeleton c) Bound End (raw_note skeleton c)
 unfolding malformed_pieces class
 faulted_writes skeleton c is h remark =
@@ -98,7 +98,7 @@ faulted_writes skeleton c is h remark =
 
 -- ---- raw sections read back
 
-custom_after-items : (after : Option Kind) → is_any_after after ≡ true → custom_after (kind_items after) ≡ Some after
+custom_after-items : (after : Option Kind) → is_custom_position after ≡ true → custom_after (kind_items after) ≡ Some after
 unfolding section_of_word
 custom_after-items None h = refl
 custom_after-items (Some CustomSection) h = absurd cc
@@ -116,7 +116,7 @@ custom_after-items (Some ElementSection) h = refl
 custom_after-items (Some CodeSection) h = refl
 custom_after-items (Some DataSection) h = refl
 
-read_custom-items : (c : CustomEntry) → is_any_after c.after ≡ true → IsRangedCustom c.section.value → read_custom (raw_items false c) ≡ Some (raw_custom c)
+read_custom-items : (c : CustomEntry) → is_custom_position c.after ≡ true → IsRangedCustom c.section.value → read_custom (raw_items false c) ≡ Some (raw_custom c)
 read_custom-items c is h =
     rw (is_utf8-from_IsUtf8 c.section.value.name h.name, custom_after-items c.after is, append-nil c.section.value.bytes.value)
 
@@ -164,7 +164,7 @@ record PartNotes (skeleton answer : Bool) (part : Part) (c : CustomEntry) : Type
   write : PartWrites part notes
   reads : answer ≡ false → skeleton ≡ false → RowReads notes (raw_customs (c ∷ []))
 
-module _ (skeleton answer : Bool) (c : CustomEntry) (is : is_any_after c.after ≡ true) (h : IsRangedCustom c.section.value) where
+module _ (skeleton answer : Bool) (c : CustomEntry) (is : is_custom_position c.after ≡ true) (h : IsRangedCustom c.section.value) where
   abbrev claim : Piece
   claim = Claimed c.section.value.name c.section.value.bytes.place c.section.value.bytes.value answer
 
@@ -213,7 +213,7 @@ module _ (skeleton answer : Bool) (c : CustomEntry) (is : is_any_after c.after �
   treatment_notes Malformed e k =
       record { notes = raw_note skeleton c; are = (refl, tt); write = claim_writes (faulted_writes skeleton c is h k); reads = λ u w. raw_reads Malformed e refl w }
 
-custom_notes : (skeleton answer : Bool) (c : CustomEntry) → is_any_after c.after ≡ true → IsRangedCustom c.section.value →
+custom_notes : (skeleton answer : Bool) (c : CustomEntry) → is_custom_position c.after ≡ true → IsRangedCustom c.section.value →
     PartNotes skeleton answer (custom_part skeleton answer c) c
 custom_notes skeleton true c is h = record { notes = End; are = tt; write = claim_writes skeleton true c is h nothing_writes; reads = λ u w. absurd cc }
 custom_notes skeleton false c is h = treatment_notes skeleton false c is h (custom_treatment_of c.section.value) refl (treatment_ranged c.section.value h)
@@ -244,7 +244,7 @@ part_before (Stops ps id) {parts = parts} k {f = f} {h = h} w rest =
 
 -- The position of each custom section is one that it can have.
 abbrev pub AreAnywhere : List CustomEntry → Type 0
-AreAnywhere cs = AllByRecursion (λ c. is_any_after c.after ≡ true) cs
+AreAnywhere cs = AllByRecursion (λ c. is_custom_position c.after ≡ true) cs
 
 pub notes_at : (skeleton : Bool) (answers : Answers) (after : Option Kind) (n : ℕ) (cs : List CustomEntry) → AreAnywhere cs →
     AllByRecursion (λ c. IsRangedCustom c.section.value) cs → NotesAt skeleton answers after n cs

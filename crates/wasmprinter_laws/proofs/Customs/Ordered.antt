@@ -13,16 +13,16 @@ after_rank None = 0
 after_rank (Some kind) = some_or (rank kind) 0 (λ r. r)
 
 -- Reports whether a custom section can have this position, which is never a custom section or a data count section.
-abbrev pub is_any_after : Option Kind → Bool
-is_any_after None = true
-is_any_after (Some CustomSection) = false
-is_any_after (Some DataCountSection) = false
-is_any_after (Some kind) = true
+abbrev pub is_custom_position : Option Kind → Bool
+is_custom_position None = true
+is_custom_position (Some CustomSection) = false
+is_custom_position (Some DataCountSection) = false
+is_custom_position (Some kind) = true
 
 -- The ranks of the positions do not decrease, and none is below `low`.
 abbrev pub AreInOrder : ℕ → List CustomEntry → Type 0
 AreInOrder low [] = Unit {0}
-AreInOrder low (c ∷ cs) = (low ≤ after_rank c.after) × (is_any_after c.after ≡ true) × AreInOrder (after_rank c.after) cs
+AreInOrder low (c ∷ cs) = (low ≤ after_rank c.after) × (is_custom_position c.after ≡ true) × AreInOrder (after_rank c.after) cs
 
 earlier : (a b : ℕ) (cs : List CustomEntry) → a ≤ b → AreInOrder b cs → AreInOrder a cs
 earlier a b [] le h = tt
@@ -30,14 +30,14 @@ earlier a b (c ∷ cs) le (from, any, others) = (omega (arith, from), any, other
 
 -- The last position after a section, compared with the last position before it
 record Moves (low : ℕ) (last : Option Kind) (s : Section) : Type 0 where
-  any : is_any_after (kind_after last s) ≡ true
+  any : is_custom_position (kind_after last s) ≡ true
   from : after_rank last ≤ after_rank (kind_after last s)
   to : after_rank (kind_after last s) ≤ rank_after low (rank (section_kind s))
 
-module _ (low : ℕ) (last : Option Kind) (any : is_any_after last ≡ true) (le : after_rank last ≤ low) where
+module _ (low : ℕ) (last : Option Kind) (any : is_custom_position last ≡ true) (le : after_rank last ≤ low) where
   -- A section of a kind with a rank that may be a position
-  moved : (kind : Kind) (r : ℕ) → rank kind ≡ Some r → is_any_after (Some kind) ≡ true → follows low (rank kind) ≡ true → (t : Bool) →
-      (is_any_after (cond t (Some kind) last) ≡ true) × (after_rank last ≤ after_rank (cond t (Some kind) last)) × (after_rank (cond t (Some kind) last) ≤ rank_after low (rank kind))
+  moved : (kind : Kind) (r : ℕ) → rank kind ≡ Some r → is_custom_position (Some kind) ≡ true → follows low (rank kind) ≡ true → (t : Bool) →
+      (is_custom_position (cond t (Some kind) last) ≡ true) × (after_rank last ≤ after_rank (cond t (Some kind) last)) × (after_rank (cond t (Some kind) last) ≤ rank_after low (rank kind))
   moved kind r e is up true =
       let lt = ltb-true low r (ap (follows low) (sym e) ∙ up) in
       (is, rw e (omega (arith, le, lt)), rw e (omega arith))
@@ -45,7 +45,7 @@ module _ (low : ℕ) (last : Option Kind) (any : is_any_after last ≡ true) (le
       let lt = ltb-true low r (ap (follows low) (sym e) ∙ up) in
       (any, omega arith, rw e (omega (arith, le, lt)))
 
-  moves_from : (s : Section) → (is_any_after (kind_after last s) ≡ true) × (after_rank last ≤ after_rank (kind_after last s))
+  moves_from : (s : Section) → (is_custom_position (kind_after last s) ≡ true) × (after_rank last ≤ after_rank (kind_after last s))
       × (after_rank (kind_after last s) ≤ rank_after low (rank (section_kind s))) → Moves low last s
   moves_from s (is_any, from, to) = record { any = is_any; from = from; to = to }
 
@@ -66,7 +66,7 @@ module _ (low : ℕ) (last : Option Kind) (any : is_any_after last ≡ true) (le
   moves (holds DataSection x) up = moves_from _ (moved DataSection 13 refl refl up (has_fields DataSection x))
 
 -- The custom sections among sections in order are in order.
-pub in_order : (low : ℕ) (last : Option Kind) (ss : List Section) → is_any_after last ≡ true → after_rank last ≤ low → are_above low ss ≡ true →
+pub in_order : (low : ℕ) (last : Option Kind) (ss : List Section) → is_custom_position last ≡ true → after_rank last ≤ low → are_above low ss ≡ true →
     AreInOrder (after_rank last) (customs_after last ss)
 in_order low last [] any le up = tt
 in_order low last (s ∷ ss) any le up =

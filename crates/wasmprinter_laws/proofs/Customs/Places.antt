@@ -7,12 +7,12 @@ use Rattle.wasmprinter_spec.specs.Customs.{RawCustom, raw_customs}
 use Rattle.wasmprinter_spec.specs.Layout.{section_order}
 use Rattle.wasmprinter_spec.specs.Layout.Customs.{same_after}
 use Rattle.wasmprinter_spec.proofs.SameKinds.{same_kind-is}
-use Rattle.wasmprinter_laws.proofs.Customs.Ordered.{after_rank, is_any_after, AreInOrder}
+use Rattle.wasmprinter_laws.proofs.Customs.Ordered.{after_rank, is_custom_position, AreInOrder}
 use Rattle.wasmprinter_laws.proofs.Customs.Notes.{customs_after_kind, raw_customs-append, AreAnywhere}
 
 -- All positions, in the order of the layout
-abbrev pub every_after : List (Option Kind)
-every_after = None ∷ map Some section_order
+abbrev pub custom_positions : List (Option Kind)
+custom_positions = None ∷ map Some section_order
 
 -- The custom sections at these positions, in the order of this list
 abbrev pub over : List (Option Kind) → List CustomEntry → List CustomEntry
@@ -91,22 +91,22 @@ first_over (p ∷ ps) low c cs up i h =
         let above : suc (after_rank p) ≤ after_rank c.after = among_rank ps (suc (after_rank p)) c.after higher j in
         rw (e, none_at p (after_rank c.after) cs (omega (arith, above)) h, more j)
 
-is_among_all : (k : Option Kind) → is_any_after k ≡ true → is_among k every_after ≡ true
-is_among_all (Some CustomSection) h = absurd cc
-is_among_all (Some DataCountSection) h = absurd cc
-is_among_all _ h = refl
+is_among_positions : (k : Option Kind) → is_custom_position k ≡ true → is_among k custom_positions ≡ true
+is_among_positions (Some CustomSection) h = absurd cc
+is_among_positions (Some DataCountSection) h = absurd cc
+is_among_positions _ h = refl
 
-pub over_all : (low : ℕ) (cs : List CustomEntry) → AreInOrder low cs → over every_after cs ≡ cs
+pub over_all : (low : ℕ) (cs : List CustomEntry) → AreInOrder low cs → over custom_positions cs ≡ cs
 over_all low [] h = refl
 over_all low (c ∷ cs) (from, any, others) =
-    first_over every_after 0 c cs refl (is_among_all c.after any) others ∙ ap (λ t. c ∷ t) (over_all (after_rank c.after) cs others)
+    first_over custom_positions 0 c cs refl (is_among_positions c.after any) others ∙ ap (λ t. c ∷ t) (over_all (after_rank c.after) cs others)
 
 raws_over-over : (ps : List (Option Kind)) (cs : List CustomEntry) → raws_over ps cs ≡ raw_customs (over ps cs)
 raws_over-over [] cs = refl
 raws_over-over (p ∷ ps) cs = ap (λ t. raw_customs (customs_after_kind p cs) ++ t) (raws_over-over ps cs) ∙ sym (raw_customs-append (customs_after_kind p cs) (over ps cs))
 
-pub raws_over_all : (low : ℕ) (cs : List CustomEntry) → AreInOrder low cs → raws_over every_after cs ≡ raw_customs cs
-raws_over_all low cs h = raws_over-over every_after cs ∙ ap raw_customs (over_all low cs h)
+pub raws_over_all : (low : ℕ) (cs : List CustomEntry) → AreInOrder low cs → raws_over custom_positions cs ≡ raw_customs cs
+raws_over_all low cs h = raws_over-over custom_positions cs ∙ ap raw_customs (over_all low cs h)
 
 pub ordered_anywhere : (low : ℕ) (cs : List CustomEntry) → AreInOrder low cs → AreAnywhere cs
 ordered_anywhere low [] h = tt

@@ -7,12 +7,12 @@ use Rattle.wasmprinter.proofs.file_printing.print_file.Goals as goal
 
 pub returns-clause-printed : goal.returns-clause-printed
 returns-clause-printed g c =
-    let gave : g.S.Source.gives c.args.source.now (path_bytes c.args.file) (Some c.in_ok-wasm.wasm.items) = search rules in
-    text_of_file string_bytes (g.S.Source.gives c.args.source.now (path_bytes c.args.file)) c.in_ok-wasm.wasm.items c.print_bytes.result gave
+    let gave : g.S.Source.may_read c.args.source.now (path_bytes c.args.file) (Some c.in_ok-wasm.wasm.items) = search rules in
+    text_of_file string_bytes (g.S.Source.may_read c.args.source.now (path_bytes c.args.file)) c.in_ok-wasm.wasm.items c.print_bytes.result gave
     (rw c.deref.ensures.value at c.print_bytes.ensures.printed)
 
 pub returns-clause-refused : goal.returns-clause-refused
 returns-clause-refused g c =
-    let gave : g.S.Source.gives c.args.source.now (path_bytes c.args.file) (Some c.in_ok-wasm.wasm.items) = search rules in
-    refused_of_file defaults (g.S.Source.gives c.args.source.now (path_bytes c.args.file)) c.in_ok-wasm.wasm.items c.print_bytes.result gave
+    let gave : g.S.Source.may_read c.args.source.now (path_bytes c.args.file) (Some c.in_ok-wasm.wasm.items) = search rules in
+    refused_of_file defaults (g.S.Source.may_read c.args.source.now (path_bytes c.args.file)) c.in_ok-wasm.wasm.items c.print_bytes.result gave
     (rw c.deref.ensures.value at c.print_bytes.ensures.refused) (rw c.deref.ensures.value at c.print_bytes.ensures.component)
