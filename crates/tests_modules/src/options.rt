@@ -192,7 +192,7 @@ fn shows_debug(rt: HostRuntime) -> Result<(), Fail> {
     let shown = format!(in rt.alloc(); "{config:?}")?;
     expect_text(
         shown.as_str(),
-        "Config { options: PrintOptions { offsets: false, skeleton: false, synthesizes: false, folds: false, indent: TwoSpaces } }",
+        "Config { options: PrintOptions { offsets: false, skeleton: false, synthesizes: false, folds: false, indent: Default } }",
     )?;
     Ok(())
 }

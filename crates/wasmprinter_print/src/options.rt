@@ -4,8 +4,8 @@ use std::marker::Model;
 /// The text of one level of indentation. The default of two spaces owns no memory.
 #[derive(Debug, Drop)]
 enum Indent {
-    /// Two spaces.
-    TwoSpaces,
+    /// The default.
+    Default,
     /// This text, which may be empty.
     Text(String),
 }
@@ -62,7 +62,7 @@ impl PrintOptions {
             skeleton: false,
             synthesizes: false,
             folds: false,
-            indent: Indent::TwoSpaces,
+            indent: Indent::Default,
         }
     }
 
@@ -78,7 +78,7 @@ impl PrintOptions {
         ensures { result.now ≡ self.now.indent }
     {
         match &self.indent {
-            Indent::TwoSpaces => "  ",
+            Indent::Default => "  ",
             Indent::Text(text) => text.as_str(),
         }
     }
@@ -89,7 +89,7 @@ impl PrintOptions {
         ensures { IfSome result (λ t. t.now ≡ repetition_of levels self.now.indent) }
     {
         match &self.indent {
-            Indent::TwoSpaces => SPACES.get(..2 * levels),
+            Indent::Default => SPACES.get(..2 * levels),
             Indent::Text(_) => None,
         }
     }
