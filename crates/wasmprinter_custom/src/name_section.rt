@@ -6,8 +6,8 @@ ghost use Rattle.wasmprinter_spec.specs.Names.Section.{subsection, GivesNames};
 ghost use Rattle.wasmprinter_custom.specs.Holds.{Holds};
 ghost use Rattle.wasmprinter_custom.specs.Adds.{Adds, AddsNames};
 
-use crate::name_subsection_ids::{FIELD, LABEL, LOCAL, MODULE, TAG};
 use crate::store::NamesBuilder;
+use crate::subsection_ids::{FIELD, LABEL, LOCAL, MODULE, TAG};
 use std::alloc::Global;
 use wasmprinter_bytes::Error;
 use wasmprinter_bytes::cursor::Cursor;

@@ -1,7 +1,7 @@
 //! The index spaces whose items can have names.
 ghost use Rattle.std.specs.Prelude.{◌≡◌};
 
-use crate::subsection;
+use crate::subsection_ids;
 
 /// An index space whose items can have names. The name of the module itself is in none of them.
 #[derive(Clone, Copy, Debug, PartialEq, Eq)]
@@ -40,17 +40,17 @@ impl Space {
         ensures { result ≡ id_of self }
     {
         match self {
-            Space::Func => subsection::FUNCTION,
-            Space::Local => subsection::LOCAL,
-            Space::Label => subsection::LABEL,
-            Space::Types => subsection::TYPE,
-            Space::Table => subsection::TABLE,
-            Space::Memory => subsection::MEMORY,
-            Space::Global => subsection::GLOBAL,
-            Space::Elem => subsection::ELEM,
-            Space::Data => subsection::DATA,
-            Space::Field => subsection::FIELD,
-            Space::Tag => subsection::TAG,
+            Space::Func => subsection_ids::FUNCTION,
+            Space::Local => subsection_ids::LOCAL,
+            Space::Label => subsection_ids::LABEL,
+            Space::Types => subsection_ids::TYPE,
+            Space::Table => subsection_ids::TABLE,
+            Space::Memory => subsection_ids::MEMORY,
+            Space::Global => subsection_ids::GLOBAL,
+            Space::Elem => subsection_ids::ELEM,
+            Space::Data => subsection_ids::DATA,
+            Space::Field => subsection_ids::FIELD,
+            Space::Tag => subsection_ids::TAG,
         }
     }
 
@@ -65,6 +65,6 @@ impl Space {
     pub fn word(self) -> &'static str
         ensures { result.now ≡ group_of (id_of self) }
     {
-        subsection::group(self.subsection())
+        subsection_ids::group(self.subsection())
     }
 }

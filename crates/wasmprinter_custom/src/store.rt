@@ -14,7 +14,7 @@ use crate::names_in_order::NamesInOrder;
 use crate::position_guesses::Guesses;
 use crate::search::find;
 use crate::space::Space;
-use crate::subsection;
+use crate::subsection_ids;
 use crate::subsection_marks::{SUBSECTIONS, marks_of};
 use std::alloc::{AllocError, Global};
 use std::collections::BTreeSet;
@@ -107,10 +107,10 @@ fn marked_content(
         → content_or x name.now ≡ content subsection given (entry_of subsection outer (index, name.now))) }
     ensures label { IfOk result (λ x. subsection ≡ label_subsection → content_or x name.now ≡ label_content index name.now) }
 {
-    if is_clean(name) && (is_new || !subsection::is_counted(subsection)) {
+    if is_clean(name) && (is_new || !subsection_ids::is_counted(subsection)) {
         Ok(None)
     } else {
-        let group = subsection::group(subsection);
+        let group = subsection_ids::group(subsection);
         Ok(Some(format!(in alloc; "#{group}{index} {name}")?))
     }
 }
@@ -286,7 +286,7 @@ impl NameEntries for Names<'_> {
     {
         let mut labels = Vec::new(alloc);
         for (key, stored) in &self.entries {
-            if key.subsection == subsection::LABEL {
+            if key.subsection == subsection_ids::LABEL {
                 labels.push(LabelName {
                     function: key.outer,
                     number: key.index,
@@ -301,7 +301,7 @@ impl NameEntries for Names<'_> {
         ensures { option_map name_view result ≡ name_at self.now module_subsection 0 0 }
     {
         self.get(Key {
-            subsection: subsection::MODULE,
+            subsection: subsection_ids::MODULE,
             outer: 0,
             index: 0,
         })
