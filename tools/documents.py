@@ -58,8 +58,9 @@ def mistakes(tree):
     for page, sources in SOURCES.items():
         made += [(path, tree.text(path).replace("(", "[").replace(":", ";"), block_faults, page) for path in sources]
         for number, lines in blocks(tree.lines(page)):
-            at = number - 1 + len(lines) // 2
-            for old, new in ((r"(?=\S)", "x"), (r"(?<=\\0)asm", "bsm")):
+            changes = [(number - 1 + len(lines) // 2, r"(?=\S)", "x")]
+            changes += [(at, r"(?<=\\0)asm", "bsm") for at in range(number - 1, number - 1 + len(lines))]
+            for at, old, new in changes:
                 wrong = re.sub(old, new, tree.lines(page)[at], count=1)
                 made.append((page, "\n".join([*tree.lines(page)[:at], wrong, *tree.lines(page)[at + 1 :]]), block_faults, page))
     for row in numbers(tree):

@@ -146,7 +146,7 @@ def block_faults(tree, page):
 
 def message_faults(tree, page):
     """Returns the messages of README's table, and its usage line, that no test has, and the number of messages."""
-    table = tree.first(r"^\| Message \| Cause \|\n(?:\|.*\n)*", page)
+    table = tree.first(r"^\| Message \|.*\n(?:\|.*\n)*", page)
     messages = [message for line in table.split("\n") for message in re.findall(r"`([^`]*)`", line.split(" | ")[0])]
     messages.append(tree.first(r"^`(printwasm \[.*?)`", page))
     typed = "\n".join(tree.text(path) for path in MESSAGES)

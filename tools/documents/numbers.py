@@ -108,6 +108,11 @@ def of_library(tree):
     ] + [(pattern, statuses[name]) for name, patterns in STATUSES.items() for pattern in patterns]
 
 
+def items(tree, page, heading):
+    """Returns the number of items in the numbered list of a section."""
+    return len(re.findall(r"^\d+\. ", tree.section(page, heading), re.MULTILINE))
+
+
 def of_definitions(tree):
     """Returns the numbers that definitions give: opcodes, limits, levels and colors."""
     specs = "crates/wasmprinter_spec/specs/*.antt"
@@ -131,7 +136,8 @@ def of_definitions(tree):
         ("There are # colors", colors),
         ("the # style calls", styles),
         ("printer's # styles", styles - 1),  # without the one that ends a style
-        (r"\[# more conditions\]", len(re.findall(r"^\d+\. ", tree.section("docs/GUARANTEES.md", "When a text reads back"), re.MULTILINE)) - 1),
+        (r"\[# conditions\]\(", items(tree, "docs/GUARANTEES.md", "When a text reads back")),
+        (r"\[# conditions\]\(", items(tree, "README.md", "What reads back")),
     ]
 
 
