@@ -1,8 +1,7 @@
 -- Printing a module to a text-only printer appends the module's text. Printing one module with colors and without
 -- gives two texts that differ only in ANSI escape sequences.
-use Rattle.std.specs.Prelude.{◌≡◌, ℕ, List, Option, true, false, Ok}
+use Rattle.std.specs.Prelude.{ℕ, List, Option, true, false, Ok}
 use Rattle.std.proofs.Common.{ap, ◌∙◌, sym}
-use Rattle.std.specs.Io.KnownBytes.{Appends}
 use Rattle.wasmprinter_spec.specs.Call.{Call, Text, Newline, Line, Start, Claim, IsUnclaimed, atoms, text_of}
 use Rattle.wasmprinter_spec.specs.Color.{uncolor}
 use Rattle.wasmprinter_spec.specs.Colored.{colored_text}
