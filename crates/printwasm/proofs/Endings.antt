@@ -7,9 +7,9 @@ use Rattle.printwasm.specs.Outcome.{System, FailsToWrite, ReportsError, HasOutco
 
 -- If the words name a file, its module is not printed for an error, and the error was reported, the run has its
 -- outcome with status 1.
-pub refusal_told : {W V : Type 0} (s : System W V) (words : List (List ℕ)) (file : List ℕ) (error : Error) → named_file words ≡ Some file →
+pub refusal_told : {W V : Type 0} {s : System W V} (words : List (List ℕ)) (file : List ℕ) (error : Error) → named_file words ≡ Some file →
     FailsToWrite (choice_of words) (s.may_read file) s.out error → ReportsError s.err s.renders error → HasOutcome s words 1
-refusal_told s words file error named fails told = record {
+refusal_told words file error named fails told = record {
   usage = (λ e. absurd (omega (arith, e)), λ none. absurd (let clash : ◌≡◌ {A = Option (List ℕ)} None (Some file) = sym none ∙ named in cc));
   bound = omega arith;
   silent = λ e. absurd (omega (arith, e));
