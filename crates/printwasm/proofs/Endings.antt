@@ -2,17 +2,14 @@
 use Rattle.std.specs.Prelude.{◌≡◌, ℕ, ◌⊎◌, List, Option, Some, None, Result, Ok, Err, IfOk, IfErr}
 use Rattle.std.proofs.Common.{sym, ◌∙◌, arith, inl, inr}
 use Rattle.wasmprinter_bytes.specs.declared.error.Error.{Error}
-use Rattle.wasmprinter.specs.TextOfFile.{Reading}
 use Rattle.printwasm.specs.Words.{named_file, choice_of}
-use Rattle.printwasm.specs.Outcome.{TextWrite, FailsToWrite, Rendering, ReportsError, HasOutcome}
+use Rattle.printwasm.specs.Outcome.{System, FailsToWrite, ReportsError, HasOutcome}
 
 -- If the words name a file, its module is not printed for an error, and the error was reported, the run has its
 -- outcome with status 1.
-pub refusal_told : {W V : Type 0} (may_read : List ℕ → Reading) (takes : TextWrite W) (reports : TextWrite V) (renders : Rendering Error) (words : List (List ℕ))
-    {out new_out : W} {err new_err : V} (file : List ℕ) (error : Error) → named_file words ≡ Some file →
-    FailsToWrite (choice_of words) (may_read file) takes out new_out error → ReportsError reports err new_err renders error →
-    HasOutcome may_read takes reports renders words out new_out err new_err 1
-refusal_told may_read takes reports renders words file error named fails told = record {
+pub refusal_told : {W V : Type 0} {s : System W V} (words : List (List ℕ)) (file : List ℕ) (error : Error) → named_file words ≡ Some file →
+    FailsToWrite (choice_of words) (s.may_read file) s.out error → ReportsError s.err s.renders error → HasOutcome s words 1
+refusal_told words file error named fails told = record {
   usage = (λ e. absurd (omega (arith, e)), λ none. absurd (let clash : ◌≡◌ {A = Option (List ℕ)} None (Some file) = sym none ∙ named in cc));
   bound = omega arith;
   silent = λ e. absurd (omega (arith, e));

@@ -6,7 +6,7 @@ ghost use Rattle.std.specs.Process.{exit_status};
 ghost use Rattle.wasmprinter_spec.specs.Binary.{IsComponent};
 ghost use Rattle.printwasm.specs.Words.{AreWordsOf, CannotReadWords, is_option, is_known, named_file, has, choice_of};
 ghost use Rattle.printwasm.specs.Outcome.{IsTextBy, GivesText, GivesNoText, WritesModuleText, FailsToWrite, ReportsError, HasOutcome, RunsWithWords, RefusesArguments, RefusesToRead};
-ghost use Rattle.printwasm.specs.Outcome.{refused_status};
+ghost use Rattle.printwasm.specs.Outcome.{refused_status, writes, system};
 ghost use Rattle.wasmprinter.specs.Outcome.{IsTextRefusal};
 
 use crate::error_lines::{Render, WordsError};
@@ -84,10 +84,11 @@ where
     E: Sink,
     requires can { IfOk args I.can_next }
     requires finite { IfOk args (λ all. IsFinite (I.remaining all)) }
-    ensures { RunsWithWords I.next_gives args (S.may_read source.now) O.takes E.takes
-        (⟦<R as Render<Error>>⟧.renders renderer.now) out.old out.new err.old err.new (exit_status result)
-        ⊎ RefusesToRead args E.takes (⟦<R as Render<WordsError>>⟧.renders renderer.now)
-        out.old out.new err.old err.new (exit_status result) }
+    ensures { RunsWithWords I.next_gives args
+        (system (S.may_read source.now) (⟦<R as Render<Error>>⟧.renders renderer.now)
+        (writes O.takes out.old out.new) (writes E.takes err.old err.new)) (exit_status result)
+        ⊎ RefusesToRead args (⟦<R as Render<WordsError>>⟧.renders renderer.now)
+        (writes O.takes out.old out.new) (writes E.takes err.old err.new) (exit_status result) }
 {
     let words = words_of(alloc, args);
     start(source, renderer, alloc, words, out, err)
@@ -108,11 +109,12 @@ where
     R: Render<Error> + Render<WordsError>,
     O: Sink,
     E: Sink,
-    ensures runs { IfOk words (λ all. HasOutcome (S.may_read source.now) O.takes E.takes
-        (⟦<R as Render<Error>>⟧.renders renderer.now) (map string_bytes all.items)
-        out.old out.new err.old err.new (exit_status result)) }
-    ensures refuses { IfErr words (λ error. RefusesArguments error E.takes
-        (⟦<R as Render<WordsError>>⟧.renders renderer.now) out.old out.new err.old err.new (exit_status result)) }
+    ensures runs { IfOk words (λ all. HasOutcome
+        (system (S.may_read source.now) (⟦<R as Render<Error>>⟧.renders renderer.now)
+        (writes O.takes out.old out.new) (writes E.takes err.old err.new))
+        (map string_bytes all.items) (exit_status result)) }
+    ensures refuses { IfErr words (λ error. RefusesArguments error (⟦<R as Render<WordsError>>⟧.renders renderer.now)
+        (writes O.takes out.old out.new) (writes E.takes err.old err.new) (exit_status result)) }
 {
     let status = match words {
         Ok(words) => run(source, renderer, alloc, &words, out, err),
@@ -151,8 +153,9 @@ pub fn run<S: Source, R: Render<Error>, O: Sink, E: Sink>(
     out: &mut O,
     err: &mut E,
 ) -> u8
-    ensures { HasOutcome (S.may_read source.now) O.takes E.takes (R.renders renderer.now)
-        (map string_bytes words.now) out.old out.new err.old err.new result }
+    ensures { HasOutcome
+        (system (S.may_read source.now) (R.renders renderer.now) (writes O.takes out.old out.new) (writes E.takes err.old err.new))
+        (map string_bytes words.now) result }
 {
     let Some(file) = file_of(words) else {
         let _ = err.write_text(USAGE);
@@ -226,8 +229,8 @@ fn write_text_of<S: Source, O: Sink>(
     file: &str,
     out: &mut O,
 ) -> Result<(), Error>
-    ensures written { OnOk result (WritesModuleText choice.now (S.may_read source.now file.now) O.takes out.old out.new (Ok tt)) }
-    ensures refused { IfErr result (FailsToWrite choice.now (S.may_read source.now file.now) O.takes out.old out.new) }
+    ensures written { OnOk result (WritesModuleText choice.now (S.may_read source.now file.now) (writes O.takes out.old out.new) (Ok tt)) }
+    ensures refused { IfErr result (FailsToWrite choice.now (S.may_read source.now file.now) (writes O.takes out.old out.new)) }
 {
     let text = text_of_file(source, alloc, choice, file)?;
     out.write_bytes(&text).map_err(Error::Printer)
@@ -265,7 +268,7 @@ fn text_of(alloc: Global, choice: &Choice, wasm: &[u8]) -> Result<Vec<u8>, Error
 
 /// Writes the line of an error, and returns exit status 1. A failure to write the line is ignored.
 fn refuse<X: Drop, R: Render<X>, E: Sink>(renderer: &R, err: &mut E, error: X) -> u8
-    ensures reported { ReportsError E.takes err.old err.new (R.renders renderer.now) error }
+    ensures reported { ReportsError (writes E.takes err.old err.new) (R.renders renderer.now) error }
     ensures status { result ≡ refused_status }
 {
     let _ = renderer.write_line(err, &error);

@@ -8,6 +8,7 @@ use Rattle.wasmprinter_spec.specs.Options.{Options}
 use Rattle.wasmprinter_bytes.specs.declared.error.Error.{Error}
 use Rattle.wasmprinter_bytes.specs.declared.error.Error.TheVariants.{Malformed, Component, TooManyLocals, TooManyFunctions, EmptyTableInit, FoldLegacy, FoldHint, DylinkSubsection, Unreadable, Printer, Memory}
 use Rattle.wasmprinter_samples.specs.Counting.{one_fault_more, counting}
+use Rattle.wasmprinter.specs.Change.{change}
 use Rattle.wasmprinter.specs.Printed.{Printed}
 use Rattle.wasmprinter.specs.Outcome.{Leaves}
 use Rattle.tests_api.specs.Faults.{faults_after}
@@ -18,7 +19,7 @@ run_keeps old new [] r = sym r
 run_keeps old new (c ∷ calls) r = run_keeps r.0 new calls r.2 ∙ some_is r.0 old r.1.kept
 
 -- After a refusal, the count is the one that the error implies.
-refusal_counts : (o : Options) (colors : Bool) (bytes : List ℕ) (old new : ℕ) (e : Error) → Leaves counting colors o bytes old new e → new ≡ faults_after e old
+refusal_counts : (o : Options) (colors : Bool) (bytes : List ℕ) (old new : ℕ) (e : Error) → Leaves (change counting old new) colors o bytes e → new ≡ faults_after e old
 refusal_counts o colors bytes old new (Printer x) h =
     some_is new (one_fault_more h.left.before) h.left.failed.counted ∙ ap one_fault_more (run_keeps old h.left.before h.left.calls h.left.run)
 refusal_counts o colors bytes old new (DylinkSubsection id) h = run_keeps old new h.left.made.calls h.left.made.run
@@ -35,10 +36,10 @@ refusal_counts o colors bytes old new (FoldHint place) h = h
 
 -- The same facts for a result: after `Ok` the count is unchanged, after `Err` it is the one that the error
 -- implies.
-pub printed_counts : (o : Options) (bytes : List ℕ) (old new : ℕ) (r : Result (Unit {0}) Error) → OnOk r (Printed counting false o bytes old new) → OnOk r (new ≡ old)
+pub printed_counts : (o : Options) (bytes : List ℕ) (old new : ℕ) (r : Result (Unit {0}) Error) → OnOk r (Printed (change counting old new) false o bytes) → OnOk r (new ≡ old)
 printed_counts o bytes old new (Ok x) v = run_keeps old new v.calls v.run
 printed_counts o bytes old new (Err e) v = tt
 
-pub refused_counts : (o : Options) (bytes : List ℕ) (old new : ℕ) (r : Result (Unit {0}) Error) → IfErr r (Leaves counting false o bytes old new) → IfErr r (λ e. new ≡ faults_after e old)
+pub refused_counts : (o : Options) (bytes : List ℕ) (old new : ℕ) (r : Result (Unit {0}) Error) → IfErr r (Leaves (change counting old new) false o bytes) → IfErr r (λ e. new ≡ faults_after e old)
 refused_counts o bytes old new (Ok x) h = tt
 refused_counts o bytes old new (Err e) h = refusal_counts o false bytes old new e h

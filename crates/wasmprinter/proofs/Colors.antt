@@ -6,10 +6,12 @@ use Rattle.wasmprinter_spec.specs.Color.{uncolor}
 use Rattle.wasmprinter_spec.specs.Meaning.{Run}
 use Rattle.wasmprinter_spec.specs.Colored.{colored_bytes, colored_text}
 use Rattle.wasmprinter_spec.specs.Options.{Options, in_colors}
+use Rattle.wasmprinter_spec.specs.Placed.{PlacedModule}
 use Rattle.wasmprinter_spec.specs.Layout.{layout, refusal}
 use Rattle.wasmprinter_spec.proofs.Texts.{alike_colored}
 use Rattle.wasmprinter_laws.proofs.Main.{prints_plain_text}
 use Rattle.wasmprinter_laws.proofs.Colored.Texts.{colored_text_keeps}
+use Rattle.wasmprinter.specs.Change.{change}
 use Rattle.wasmprinter.specs.AnsiText.{ansi_text_meaning}
 use Rattle.wasmprinter.specs.Printed.{Printed, no_claims}
 use Rattle.wasmprinter.specs.Colored.{HasColoredTextBy}
@@ -25,22 +27,21 @@ colored_run old new (c ∷ calls) r =
 
 -- If a module was printed in color to an empty text in memory, the result is the module's text with the escape
 -- sequences.
-pub printed_in_colors : (o : Options) (bytes old new : List ℕ) → old ≡ [] → Printed ansi_text_meaning true o bytes old new → HasColoredTextBy o bytes new
+pub printed_in_colors : (o : Options) (bytes old new : List ℕ) → old ≡ [] → Printed (change ansi_text_meaning old new) true o bytes → HasColoredTextBy o bytes new
 printed_in_colors o bytes old new empty v =
     let by : Options = in_colors o true in
-    let own : IsSame by v.answers v.placed = unclaimed_printed ansi_text_meaning true o (λ s c t h. h.1) bytes old new v in
-    let laid : List Call = layout by no_claims v.placed in
-    let handed : new ≡ colored_text v.calls = colored_run old new v.calls v.run ∙ ap (λ t. t ++ colored_text v.calls) empty in
-    let is : new ≡ colored_text laid = handed ∙ alike_colored v.calls laid (v.alike ∙ ap atoms own.layout) in
-    let accepted : refusal (in_colors o false) no_claims v.placed ≡ None = refusal-color o false true no_claims v.placed ∙ (sym own.refusal ∙ v.accepted) in
+    let placed : PlacedModule = v.decoded.placed in
+    let own : IsSame by v.answers placed = unclaimed_printed v (λ s c t h. h.1) in
+    let laid : List Call = layout by no_claims placed in
+    let received : new ≡ colored_text v.calls = colored_run old new v.calls v.run ∙ ap (λ t. t ++ colored_text v.calls) empty in
+    let is : new ≡ colored_text laid = received ∙ alike_colored v.calls laid (v.alike ∙ ap atoms own.layout) in
+    let accepted : refusal (in_colors o false) no_claims placed ≡ None = refusal-color o false true no_claims placed ∙ (sym own.refusal ∙ v.accepted) in
     record {
-      placed = v.placed;
-      spelled = v.spelled;
-      within = v.within;
+      decoded = v.decoded;
       foldable = v.foldable;
       accepted = sym own.refusal ∙ v.accepted;
       is = is;
       bare = λ spaces.
-          module_text o bytes v.placed v.spelled v.within v.foldable accepted (uncolor new)
-          (ap uncolor is ∙ colored_text_keeps prints_plain_text bytes v.placed by no_claims v.spelled spaces);
+          module_text o v.decoded v.foldable accepted (uncolor new)
+          (ap uncolor is ∙ colored_text_keeps prints_plain_text bytes placed by no_claims v.decoded.spelled spaces);
     }

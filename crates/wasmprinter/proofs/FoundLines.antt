@@ -9,7 +9,7 @@ use Rattle.wasmprinter_spec.specs.Lines.{TextLine, line_from, operator_at, place
 use Rattle.wasmprinter_laws.proofs.Lines.Finding.{finds_place, only_found}
 use Rattle.wasmprinter_wasm.specs.Modules.{body_at}
 use Rattle.wasmprinter.specs.Found.{place_at, IsAtItsLine, FindsItsLine}
-use Rattle.wasmprinter.proofs.Named.{one_module}
+use Rattle.wasmprinter.proofs.Named.{same_module}
 
 -- ---- An operator is found by its body, then by its place, then by its line
 
@@ -55,8 +55,8 @@ names m lines i j result e number place f = finds_place m lines i j number place
 
 all_found : (m : PlacedModule) (lines : List TextLine) (i j : ℕ) → FindsItsLine m lines i j (place_of m lines i j)
 all_found m lines i j h =
-    let own : PlacedModule = h.given.printed.placed in
-    let same : own ≡ m = one_module h.bytes own m h.given.printed.spelled h.spelled in (
+    let own : PlacedModule = h.given.printed.decoded.placed in
+    let same : own ≡ m = same_module h.given.printed.decoded m h.spelled in (
       λ a e.
           let f = bind_some (slice_get own.functions i) (λ f. slice_get f.body.value.operators j) a (ap (λ (x : PlacedModule). operator_at x i j) same ∙ e) in
           let line = ((h.given.functions h.whole h.flat i f.0 f.1).at_operator j a f.2).among_all in

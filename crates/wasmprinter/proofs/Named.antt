@@ -20,6 +20,7 @@ use Rattle.wasmprinter_spec.proofs.Ordered.{picks}
 use Rattle.wasmprinter_wasm.specs.Refusals.{HasCustom, KeepsSome}
 use Rattle.wasmprinter_wasm.specs.Decoding.{HoldsSome, IsRefusal}
 use Rattle.wasmprinter_bytes.specs.declared.error.Error.TheVariants.{Memory}
+use Rattle.wasmprinter.specs.Decoded.{Decoded}
 
 -- ---- Identifiers
 
@@ -86,6 +87,9 @@ holds_custom m some = omega (arith, some)
 
 pub one_module : (bytes : List ℕ) (m n : PlacedModule) → Spells bytes m → Spells bytes n → m ≡ n
 one_module bytes m n s t = some_is m n (sym (binary.complete (input 0 bytes) m s.spelled) ∙ binary.complete (input 0 bytes) n t.spelled)
+
+pub same_module : {bytes : List ℕ} (d : Decoded bytes) (n : PlacedModule) → Spells bytes n → d.placed ≡ n
+same_module {bytes} d n s = one_module bytes d.placed n d.spelled s
 
 -- If a module has names, a failed allocation for them is a true reason to refuse its bytes.
 pub names_refusal : (bytes : List ℕ) (m : PlacedModule) → Spells bytes m → name_entries m.customs ≢ [] → IsRefusal bytes Memory

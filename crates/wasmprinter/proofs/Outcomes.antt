@@ -6,7 +6,6 @@ use Rattle.wasmprinter_spec.specs.Choices.{tested}
 use Rattle.wasmprinter_spec.specs.Binary.{Spells, IsComponent, magic, preamble_bytes}
 use Rattle.wasmprinter_spec.specs.Placed.{PlacedModule}
 use Rattle.wasmprinter_spec.specs.Limits.{IsWithinLimits}
-use Rattle.wasmprinter_spec.specs.Meaning.{Meaning}
 use Rattle.wasmprinter_spec.specs.Options.{Options, Answers, in_colors}
 use Rattle.wasmprinter_spec.specs.Names.{Names}
 use Rattle.wasmprinter_spec.specs.Piece.{all_calls}
@@ -14,14 +13,16 @@ use Rattle.wasmprinter_spec.specs.Layout.{module_pieces, layout, refusal}
 use Rattle.wasmprinter_spec.specs.Layout.Customs.{Laid}
 use Rattle.wasmprinter_print.specs.Made.{Made, Broken, Interrupted, Ending, Through, AtCall, Stopped, Never, when_out_of_memory}
 use Rattle.wasmprinter_bytes.specs.declared.error.Error.{Error}
-use Rattle.wasmprinter_bytes.specs.declared.error.Error.TheVariants.{Malformed, Component, TooManyLocals, TooManyFunctions, EmptyTableInit, FoldLegacy, FoldHint, DylinkSubsection, Unreadable, Printer, Memory}
+use Rattle.wasmprinter_bytes.specs.declared.error.Error.TheVariants.{Malformed, Component, TooManyLocals, TooManyFunctions, EmptyTableInit, FoldLegacy, FoldHint, DylinkSubsection, Printer, Memory}
 use Rattle.std.specs.declared.io.Error.{Error as IoError}
 use Rattle.wasmprinter_wasm.specs.Decoding.{IsRefusal}
 use Rattle.wasmprinter_sections.specs.Endings.{PrintsLaid}
 use Rattle.wasmprinter_sections.specs.Sections.{module_laid}
-use Rattle.wasmprinter_spec.specs.Call.{Call, IsUnclaimed}
+use Rattle.wasmprinter_spec.specs.Call.{Call}
 use Rattle.wasmprinter_spec.specs.Folding.Refusals.{IsFoldable}
 use Rattle.wasmprinter_fold.specs.Refused.{HasFoldReason}
+use Rattle.wasmprinter.specs.Decoded.{Decoded}
+use Rattle.wasmprinter.specs.Change.{Change}
 use Rattle.wasmprinter.specs.Printed.{Printed}
 use Rattle.wasmprinter.specs.Outcome.{HasListedCause, HasListedTextCause, IsSoundRefusal, IsSoundTextRefusal, IsPrintRefusal, IsTextRefusal, IsLegacyAt, IsMisplacedAt, AnyIsRefused, MadeUpTo, Leaves, without_printer}
 use Rattle.wasmprinter_spec.specs.Names.Content.{name_of}
@@ -29,9 +30,13 @@ use Rattle.wasmprinter_spec.specs.ModuleNames.{name_entries, module_names}
 use Rattle.wasmprinter_custom.specs.Views.{NamedItem, name_at}
 use Rattle.wasmprinter_flat.specs.OpenLabels.Scan.{Scan, names_of}
 use Rattle.wasmprinter.proofs.Headline.{printed}
-use Rattle.wasmprinter.proofs.Named.{shown_names, one_module}
+use Rattle.wasmprinter.proofs.Named.{shown_names, same_module}
 use Rattle.wasmprinter.proofs.Subsections.{refusal_unknown, made_refused}
-use Rattle.wasmprinter.proofs.Texts.{first_unclaimed}
+use Rattle.wasmprinter.proofs.Texts.{ClaimsNone, first_unclaimed}
+
+-- The decoder's result for bytes that encode a module within the limits.
+abbrev pub decoded_as : {bytes : List ℕ} (placed : PlacedModule) → Spells bytes placed × IsWithinLimits placed → Decoded bytes
+decoded_as placed h = record { placed = placed; spelled = h.0; within = h.1 }
 
 -- Bytes that encode a module are not marked as a component.
 not_component : (bytes : List ℕ) (placed : PlacedModule) → Spells bytes placed → IsComponent bytes → ⊥
@@ -45,14 +50,14 @@ not_component bytes placed s c =
     absurd cc
 
 -- Each error of the decoder has its cause.
-pub refusal_cause : {P : Type 0} (m : Meaning P) (o : Options) (bytes : List ℕ) (old : P) (e : Error) → IsRefusal bytes e → HasListedCause m o bytes old old e
-refusal_cause m o bytes old (Malformed place) h = λ placed s. h.0 placed s
-refusal_cause m o bytes old Component h = λ placed s. not_component bytes placed s h
-refusal_cause m o bytes old (TooManyLocals place) h = λ placed s. h.1 placed s
-refusal_cause m o bytes old (TooManyFunctions count) h = λ placed s. (h.2 placed s, h.1)
-refusal_cause m o bytes old (EmptyTableInit place) h = λ placed s. h.1 placed s
-refusal_cause m o bytes old Memory h = λ placed s. inl (h.1 placed s)
-refusal_cause m o bytes old _ h = absurd h
+pub refusal_cause : {P : Type 0} (printer : Change P) (o : Options) (bytes : List ℕ) (e : Error) → IsRefusal bytes e → HasListedCause printer o bytes e
+refusal_cause printer o bytes (Malformed place) h = λ placed s. h.0 placed s
+refusal_cause printer o bytes Component h = λ placed s. not_component bytes placed s h
+refusal_cause printer o bytes (TooManyLocals place) h = λ placed s. h.1 placed s
+refusal_cause printer o bytes (TooManyFunctions count) h = λ placed s. (h.2 placed s, h.1)
+refusal_cause printer o bytes (EmptyTableInit place) h = λ placed s. h.1 placed s
+refusal_cause printer o bytes Memory h = λ placed s. inl (h.1 placed s)
+refusal_cause printer o bytes _ h = absurd h
 
 -- Each error of the decoder is true of the bytes.
 refusal_true : (o : Options) (bytes : List ℕ) (e : Error) → IsRefusal bytes e → IsSoundRefusal o bytes e
@@ -64,43 +69,44 @@ refusal_true o bytes Memory h = inl h
 refusal_true o bytes _ h = h
 
 -- Each error of the decoder is a refusal of printing.
-pub print_refusal : {P : Type 0} (m : Meaning P) (o : Options) (bytes : List ℕ) (old : P) (e : Error) → IsRefusal bytes e → IsPrintRefusal m o bytes old old e
-print_refusal m o bytes old e h = record { true_of = refusal_true o bytes e h; caused = refusal_cause m o bytes old e h }
+pub print_refusal : {P : Type 0} (printer : Change P) (o : Options) (bytes : List ℕ) (e : Error) → IsRefusal bytes e → IsPrintRefusal printer o bytes e
+print_refusal printer o bytes e h = record { true_of = refusal_true o bytes e h; caused = refusal_cause printer o bytes e h }
 
 -- Each error of the decoder leaves the printer unchanged.
-pub refusal_left : {P : Type 0} (m : Meaning P) (colors : Bool) (o : Options) (bytes : List ℕ) (old : P) (e : Error) → IsRefusal bytes e → Leaves m colors o bytes old old e
-refusal_left m colors o bytes old (Malformed place) h = refl
-refusal_left m colors o bytes old Component h = refl
-refusal_left m colors o bytes old (TooManyLocals place) h = refl
-refusal_left m colors o bytes old (TooManyFunctions count) h = refl
-refusal_left m colors o bytes old (EmptyTableInit place) h = refl
-refusal_left m colors o bytes old Memory h = inl refl
-refusal_left m colors o bytes old _ h = absurd h
+pub refusal_left : {P : Type 0} (printer : Change P) (colors : Bool) (o : Options) (bytes : List ℕ) (e : Error) → printer.new ≡ printer.old → IsRefusal bytes e →
+    Leaves printer colors o bytes e
+refusal_left printer colors o bytes (Malformed place) same h = same
+refusal_left printer colors o bytes Component same h = same
+refusal_left printer colors o bytes (TooManyLocals place) same h = same
+refusal_left printer colors o bytes (TooManyFunctions count) same h = same
+refusal_left printer colors o bytes (EmptyTableInit place) same h = same
+refusal_left printer colors o bytes Memory same h = inl same
+refusal_left printer colors o bytes _ same h = absurd h
 
 -- ---- Modules that can't be folded
 
-module _ {P : Type 0} (m : Meaning P) (o : Options) (bytes : List ℕ) (placed : PlacedModule) (spelled : Spells bytes placed) (within : IsWithinLimits placed) (folds : o.folds ≡ true) (old : P) where
+module _ {P : Type 0} (printer : Change P) (o : Options) {bytes : List ℕ} (d : Decoded bytes) (folds : o.folds ≡ true) where
   -- Each error of folding has its cause.
-  fold_cause : (e : Error) → HasFoldReason o placed e → HasListedCause m o bytes old old e
-  fold_cause (FoldLegacy place) h = λ other s. subst (λ (n : PlacedModule). IsLegacyAt o n place) (one_module bytes placed other spelled s) (folds, h)
-  fold_cause (FoldHint place) h = λ other s. subst (λ (n : PlacedModule). IsMisplacedAt o n place) (one_module bytes placed other spelled s) (folds, h)
+  fold_cause : (e : Error) → HasFoldReason o d.placed e → HasListedCause printer o bytes e
+  fold_cause (FoldLegacy place) h = λ other s. subst (λ (n : PlacedModule). IsLegacyAt o n place) (same_module d other s) (folds, h)
+  fold_cause (FoldHint place) h = λ other s. subst (λ (n : PlacedModule). IsMisplacedAt o n place) (same_module d other s) (folds, h)
   fold_cause _ h = absurd h
 
   -- Each error of folding is true of the bytes.
-  fold_true : (e : Error) → HasFoldReason o placed e → IsSoundRefusal o bytes e
-  fold_true (FoldLegacy place) h = record { placed = placed; spelled = spelled; within = within; so = (folds, h) }
-  fold_true (FoldHint place) h = record { placed = placed; spelled = spelled; within = within; so = (folds, h) }
+  fold_true : (e : Error) → HasFoldReason o d.placed e → IsSoundRefusal o bytes e
+  fold_true (FoldLegacy place) h = (d, (folds, h))
+  fold_true (FoldHint place) h = (d, (folds, h))
   fold_true _ h = absurd h
 
   -- Each error of folding is a refusal of printing.
-  pub fold_refusal : (e : Error) → HasFoldReason o placed e → IsPrintRefusal m o bytes old old e
+  pub fold_refusal : (e : Error) → HasFoldReason o d.placed e → IsPrintRefusal printer o bytes e
   fold_refusal e h = record { true_of = fold_true e h; caused = fold_cause e h }
 
   -- Each error of folding leaves the printer unchanged.
-  pub fold_left : (colors : Bool) (e : Error) → HasFoldReason o placed e → Leaves m colors o bytes old old e
-  fold_left colors (FoldLegacy place) h = refl
-  fold_left colors (FoldHint place) h = refl
-  fold_left colors _ h = absurd h
+  pub fold_left : (colors : Bool) (e : Error) → printer.new ≡ printer.old → HasFoldReason o d.placed e → Leaves printer colors o bytes e
+  fold_left colors (FoldLegacy place) same h = same
+  fold_left colors (FoldHint place) same h = same
+  fold_left colors _ same h = absurd h
 
 -- If folding is off, the module counts as foldable.
 pub flat_foldable : (o : Options) (m : PlacedModule) → o.folds ≡ false → IsFoldable o m
@@ -124,38 +130,42 @@ module _ (o : Options) (answers : Answers) (m : PlacedModule) where
       ((t outer index : ℕ) → name_at items t outer index ≡ name_of (name_entries m.customs) t outer index) → module_laid o answers (names_of s) m ≡ own_laid o answers m
   own_layout s items same synthesizes given = by_names (names_of s) (shown_names o m s items same synthesizes given)
 
-module _ {P : Type 0} (m : Meaning P) (colors : Bool) (o : Options) (bytes : List ℕ) (placed : PlacedModule)
-    (spelled : Spells bytes placed) (within : IsWithinLimits placed) (foldable : IsFoldable o placed) (old new : P) (answers : Answers) where
+module _ {P : Type 0} (printer : Change P) (colors : Bool) (o : Options) {bytes : List ℕ} (d : Decoded bytes) (foldable : IsFoldable o d.placed) (answers : Answers) where
   abbrev by : Options
   by = in_colors o colors
 
+  -- These calls were made, up to how printing ended.
+  abbrev AreMade : Ending → List Call → Type 0
+  AreMade r calls = Made printer.meaning printer.old printer.new r calls
+
   -- The calls of the module's pieces are those of its layout.
-  made : (r : Ending) → Made m old new r (all_calls by (module_pieces by answers placed)) → Made m old new r (layout by answers placed)
+  made : (r : Ending) → AreMade r (all_calls by (module_pieces by answers d.placed)) → AreMade r (layout by answers d.placed)
   unfolding layout
   made r v = v
 
   -- The result of printing, with the calls that were made.
   abbrev AsLaid : Result (Unit {0}) Error → Type 0
-  AsLaid r = PrintsLaid m by old new r (own_laid by answers placed)
+  AsLaid r = PrintsLaid printer.meaning by printer.old printer.new r (own_laid by answers d.placed)
 
   -- A module that was written with the names of its sections was printed as its own layout says.
   pub own_ended : (r : Result (Unit {0}) Error) (s : Scan) (items : List NamedItem) → s.named ≡ items → s.synthesizes ≡ o.synthesizes →
-      ((t outer index : ℕ) → name_at items t outer index ≡ name_of (name_entries placed.customs) t outer index) →
-      PrintsLaid m by old new r (module_laid by answers (names_of s) placed) → AsLaid r
-  own_ended r s items same synthesizes given v = subst (λ (l : Laid). PrintsLaid m by old new r l) (own_layout by answers placed s items same synthesizes given) v
+      ((t outer index : ℕ) → name_at items t outer index ≡ name_of (name_entries d.placed.customs) t outer index) →
+      PrintsLaid printer.meaning by printer.old printer.new r (module_laid by answers (names_of s) d.placed) → AsLaid r
+  own_ended r s items same synthesizes given v =
+      subst (λ (l : Laid). PrintsLaid printer.meaning by printer.old printer.new r l) (own_layout by answers d.placed s items same synthesizes given) v
 
-  never : Made m old new Never (all_calls by (module_pieces by answers placed)) → ⊥
+  never : AreMade Never (all_calls by (module_pieces by answers d.placed)) → ⊥
   never v = v.made
 
   -- A property holds for every error of printing if it holds after a failed call, after a refused section and
   -- after a failed allocation. An allocation can fail only during folding.
   module _ (r : Result (Unit {0}) Error) where
-    with_folds : (Q : Error → Type 0) → ((x : IoError) → Broken m old new x (layout by answers placed) → Q (Printer x)) →
-        ((id : ℕ) → MadeUpTo m old new id by placed answers → Q (DylinkSubsection id)) → (o.folds ≡ true → Interrupted m old new (layout by answers placed) → Q Memory) →
-        AsLaid r → IfErr r Q
+    with_folds : (Q : Error → Type 0) → ((x : IoError) → Broken printer.meaning printer.old printer.new x (layout by answers d.placed) → Q (Printer x)) →
+        ((id : ℕ) → MadeUpTo printer id by d.placed answers → Q (DylinkSubsection id)) →
+        (o.folds ≡ true → Interrupted printer.meaning printer.old printer.new (layout by answers d.placed) → Q Memory) → AsLaid r → IfErr r Q
     with_folds Q failed refused stopped v = by_result r v
       where
-        by_growth : (b : Bool) → o.folds ≡ b → Made m old new (when_out_of_memory b) (all_calls by (module_pieces by answers placed)) → Q Memory
+        by_growth : (b : Bool) → o.folds ≡ b → AreMade (when_out_of_memory b) (all_calls by (module_pieces by answers d.placed)) → Q Memory
         by_growth true k v = stopped k (made Stopped v).made
         by_growth false k v = absurd (never v)
 
@@ -171,33 +181,29 @@ module _ {P : Type 0} (m : Meaning P) (colors : Bool) (o : Options) (bytes : Lis
 
     -- Each error of printing is true of the bytes, and has its cause: a failed call, a refused section, or a failed
     -- allocation.
-    pub ended_refusal : AsLaid r → IfErr r (IsPrintRefusal m o bytes old new)
+    pub ended_refusal : AsLaid r → IfErr r (IsPrintRefusal printer o bytes)
     ended_refusal v =
-        with_folds (IsPrintRefusal m o bytes old new)
+        with_folds (IsPrintRefusal printer o bytes)
         (λ x b. record {
-          true_of = record { placed = placed; spelled = spelled; within = within };
+          true_of = d;
           caused = λ other s. record { calls = b.calls; before = b.before; run = b.run; call = b.call; failed = b.failed };
         })
         (λ id u. record {
-          true_of = record { placed = placed; spelled = spelled; within = within; so = refusal_unknown by answers placed id u.ends };
-          caused = λ other s.
-              subst (λ (n : PlacedModule). AnyIsRefused m old new id n.customs) (one_module bytes placed other spelled s) (made_refused m old new by id answers placed u);
+          true_of = (d, refusal_unknown by answers d.placed id u.ends);
+          caused = λ other s. subst (λ (n : PlacedModule). AnyIsRefused printer id n.customs) (same_module d other s) (made_refused printer by id answers d.placed u);
         })
-        (λ folds b. record {
-          true_of = inr (folds, record { placed = placed; spelled = spelled; within = within });
-          caused = λ other s. inr folds;
-        }) v
+        (λ folds b. record { true_of = inr (folds, d); caused = λ other s. inr folds }) v
 
     -- After an error of printing, the calls that were made are those up to the error.
-    pub ended_left : AsLaid r → IfErr r (Leaves m colors o bytes old new)
+    pub ended_left : AsLaid r → IfErr r (Leaves printer colors o bytes)
     ended_left v =
-        with_folds (Leaves m colors o bytes old new) (λ x b. record { placed = placed; spelled = spelled; within = within; foldable = foldable; answers = answers; left = b })
-        (λ id u. record { placed = placed; spelled = spelled; within = within; foldable = foldable; answers = answers; left = u })
-        (λ folds b. inr (folds, record { placed = placed; spelled = spelled; within = within; foldable = foldable; answers = answers; left = b })) v
+        with_folds (Leaves printer colors o bytes) (λ x b. record { decoded = d; foldable = foldable; answers = answers; left = b })
+        (λ id u. record { decoded = d; foldable = foldable; answers = answers; left = u })
+        (λ folds b. inr (folds, record { decoded = d; foldable = foldable; answers = answers; left = b })) v
 
   -- If writing succeeds, the module was printed.
-  pub ended_printed : (r : Result (Unit {0}) Error) → AsLaid r → OnOk r (Printed m colors o bytes old new)
-  ended_printed (Ok x) v = printed m colors o bytes placed answers spelled within foldable v.refused (made Through v.made).made
+  pub ended_printed : (r : Result (Unit {0}) Error) → AsLaid r → OnOk r (Printed printer colors o bytes)
+  ended_printed (Ok x) v = printed printer colors o d answers foldable v.refused (made Through v.made).made
   ended_printed (Err e) v = tt
 
   -- Printing does not return `Component`.
@@ -205,28 +211,28 @@ module _ {P : Type 0} (m : Meaning P) (colors : Bool) (o : Options) (bytes : Lis
   not_marked r v e = never (subst (λ (q : Result (Unit {0}) Error). AsLaid q) e v).made
 
   pub ended_unmarked : (r : Result (Unit {0}) Error) → AsLaid r → (r ≡ Err Component) ↔ IsComponent bytes
-  ended_unmarked r v = (λ e. absurd (not_marked r v e), λ c. absurd (not_component bytes placed spelled c))
+  ended_unmarked r v = (λ e. absurd (not_marked r v e), λ c. absurd (not_component bytes d.placed d.spelled c))
 
 -- If a module can't be folded, the error is not `Component`, and the bytes are not marked as a component.
-pub fold_unmarked : (o : Options) (bytes : List ℕ) (placed : PlacedModule) (r : Result (Unit {0}) Error) (e : Error) → Spells bytes placed → HasFoldReason o placed e →
+pub fold_unmarked : (o : Options) {bytes : List ℕ} (d : Decoded bytes) (r : Result (Unit {0}) Error) (e : Error) → HasFoldReason o d.placed e →
     IsErrAnd r (λ y. y ≡ e) → (r ≡ Err Component) ↔ IsComponent bytes
-fold_unmarked o bytes placed r e spelled h f = (λ q. absurd (unmarked r e h f q), λ c. absurd (not_component bytes placed spelled c))
+fold_unmarked o {bytes} d r e h f = (λ q. absurd (unmarked r e h f q), λ c. absurd (not_component bytes d.placed d.spelled c))
   where
-    no_reason : (e : Error) → e ≡ Component → HasFoldReason o placed e → ⊥
-    no_reason e q h = subst (HasFoldReason o placed) q h
+    no_reason : (e : Error) → e ≡ Component → HasFoldReason o d.placed e → ⊥
+    no_reason e q h = subst (HasFoldReason o d.placed) q h
 
-    unmarked : (r : Result (Unit {0}) Error) (e : Error) → HasFoldReason o placed e → IsErrAnd r (λ y. y ≡ e) → r ≡ Err Component → ⊥
+    unmarked : (r : Result (Unit {0}) Error) (e : Error) → HasFoldReason o d.placed e → IsErrAnd r (λ y. y ≡ e) → r ≡ Err Component → ⊥
     unmarked (Ok x) e h f q = absurd f
     unmarked (Err y) e h f q = let same : y ≡ Component = cc in no_reason e (sym f ∙ same) h
 
 -- If a printer never claims a section and fails only because of failed allocations, the error that is returned for its
 -- error has its cause.
-growth_cause : {P : Type 0} (m : Meaning P) (colors : Bool) (o : Options) → ((s : P) (c : Call) (t : P) → m.after s c t → IsUnclaimed c) → (bytes : List ℕ)
-    (old new : P) (e : Error) → Leaves m colors o bytes old new e → HasListedCause m o bytes old new e → HasListedTextCause o bytes (without_printer e)
-growth_cause m colors o never bytes old new (Printer x) l h = λ placed s. tt
-growth_cause m colors o never bytes old new Memory l h = λ placed s. tt
-growth_cause m colors o never bytes old new (DylinkSubsection id) l h = first_unclaimed m colors o never bytes old new id l
-growth_cause m colors o never bytes old new _ l h = h
+growth_cause : {P : Type 0} (printer : Change P) (colors : Bool) (o : Options) → ClaimsNone printer.meaning → (bytes : List ℕ) (e : Error) →
+    Leaves printer colors o bytes e → HasListedCause printer o bytes e → HasListedTextCause o bytes (without_printer e)
+growth_cause printer colors o never bytes (Printer x) l h = λ placed s. tt
+growth_cause printer colors o never bytes Memory l h = λ placed s. tt
+growth_cause printer colors o never bytes (DylinkSubsection id) l h = first_unclaimed printer colors o never bytes id l
+growth_cause printer colors o never bytes _ l h = h
 
 -- That error is true of the bytes.
 growth_true : (o : Options) (bytes : List ℕ) (e : Error) → IsSoundRefusal o bytes e → IsSoundTextRefusal o bytes (without_printer e)
@@ -236,6 +242,9 @@ growth_true o bytes Memory (inr h) = inr h.1
 growth_true o bytes _ h = h
 
 -- That error is a refusal of printing to memory.
-pub text_refusal : {P : Type 0} (m : Meaning P) (colors : Bool) (o : Options) → ((s : P) (c : Call) (t : P) → m.after s c t → IsUnclaimed c) → (bytes : List ℕ)
-    (old new : P) (e : Error) → Leaves m colors o bytes old new e → IsPrintRefusal m o bytes old new e → IsTextRefusal o bytes (without_printer e)
-text_refusal m colors o never bytes old new e l h = record { true_of = growth_true o bytes e h.true_of; caused = growth_cause m colors o never bytes old new e l h.caused }
+pub text_refusal : {P : Type 0} {printer : Change P} (colors : Bool) {o : Options} {bytes : List ℕ} {e : Error} → IsPrintRefusal printer o bytes e →
+    ClaimsNone printer.meaning → Leaves printer colors o bytes e → IsTextRefusal o bytes (without_printer e)
+text_refusal {printer = printer} colors {o} {bytes} {e} h never l = record {
+  true_of = growth_true o bytes e h.true_of;
+  caused = growth_cause printer colors o never bytes e l h.caused;
+}

@@ -7,17 +7,17 @@ use Rattle.wasmprinter_spec.specs.Placed.{CustomEntry, PlacedModule}
 use Rattle.wasmprinter_spec.specs.Names.{Names}
 use Rattle.wasmprinter_spec.specs.ModuleNames.{module_names}
 use Rattle.wasmprinter_spec.specs.Call.{Call, Claim, atoms}
-use Rattle.wasmprinter_spec.specs.Meaning.{Meaning}
 use Rattle.wasmprinter_spec.specs.Options.{Options, Answers}
 use Rattle.wasmprinter_spec.specs.Piece.{Piece, Begin, Open, Claimed, all_calls}
 use Rattle.wasmprinter_spec.specs.Customs.{CustomTreatment, Silent, ProducersFields, DylinkSubsections, Refused, Raw, Malformed, custom_treatment_of}
 use Rattle.wasmprinter_spec.specs.Layout.Identifiers.{leading_id_and_name_pieces}
 use Rattle.wasmprinter_spec.specs.Layout.{early_scope, section_pieces, section_order, section_parts, module_parts, module_pieces_of, module_pieces_with, module_pieces, layout, refusal}
-use Rattle.wasmprinter_spec.specs.Layout.Customs.{Part, Shown, Stops, Laid, laid_parts, treatment_part, custom_part, same_after, parts_at}
+use Rattle.wasmprinter_spec.specs.Layout.Customs.{Part, Shown, Laid, laid_parts, treatment_part, custom_part, same_after, parts_at}
 use Rattle.wasmprinter_print.specs.MadeLaws.{atoms-append}
 use Rattle.wasmprinter_print.specs.Made.{Whole}
 use Rattle.wasmprinter_print.specs.EffectLaws.{all_calls-append}
 use Rattle.wasmprinter_sections.proofs.Joined.{laid_after, joined-append}
+use Rattle.wasmprinter.specs.Change.{Change}
 use Rattle.wasmprinter.specs.Outcome.{AnyIsUnknown, IsRefused, AnyIsRefused, MadeUpTo}
 
 abbrev Stop : List Part → ℕ → Type 0
@@ -141,10 +141,13 @@ refusal_unknown o answers m id h = forgets id m.customs (pieces_of (module_parts
 
 -- ---- The calls end with the claim for it
 
-module _ {P : Type 0} (meaning : Meaning P) (old new : P) (o : Options) (id : ℕ) where
+module _ {P : Type 0} (printer : Change P) (o : Options) (id : ℕ) where
+  -- All calls of these pieces were made.
+  abbrev AreMade : List Piece → Type 0
+  AreMade ps = Whole printer.meaning printer.old printer.new (all_calls o ps)
+
   -- If pieces end with the claim for a refused section, their calls do.
-  ended : (c : CustomEntry) (front : List Piece) → custom_treatment_of c.section.value ≡ Refused id →
-      Whole meaning old new (all_calls o (front ++ question c ∷ [])) → IsRefused meaning old new id c
+  ended : (c : CustomEntry) (front : List Piece) → custom_treatment_of c.section.value ≡ Refused id → AreMade (front ++ question c ∷ []) → IsRefused printer id c
   ended c front unknown w =
       let last : List Call = Claim c.section.value.name c.section.value.bytes.place c.section.value.bytes.value false ∷ [] in
       record {
@@ -156,20 +159,20 @@ module _ {P : Type 0} (meaning : Meaning P) (old new : P) (o : Options) (id : �
       }
 
   -- The same with the pieces before those of the sections.
-  any_refused : (head : List Piece) (cs : List CustomEntry) (ps : List Piece) → AnyIsAsked id cs ps → Whole meaning old new (all_calls o (head ++ ps)) → AnyIsRefused meaning old new id cs
+  any_refused : (head : List Piece) (cs : List CustomEntry) (ps : List Piece) → AnyIsAsked id cs ps → AreMade (head ++ ps) → AnyIsRefused printer id cs
   any_refused head [] ps h w = absurd h
   any_refused head (c ∷ cs) ps (inl a) w =
       inl (ended c (head ++ a.front) a.unknown
-      (subst (λ (qs : List Piece). Whole meaning old new (all_calls o qs)) (ap (λ (qs : List Piece). head ++ qs) a.ends ∙ sym (append_assoc head a.front (question c ∷ []))) w))
+      (subst AreMade (ap (λ (qs : List Piece). head ++ qs) a.ends ∙ sym (append_assoc head a.front (question c ∷ []))) w))
   any_refused head (c ∷ cs) ps (inr h) w = inr (any_refused head cs ps h w)
 
   -- If the calls of a layout that ends with a refusal were made, the last claim was for a refused section of the
   -- module.
-  pub made_refused : (answers : Answers) (m : PlacedModule) → MadeUpTo meaning old new id o m answers → AnyIsRefused meaning old new id m.customs
+  pub made_refused : (answers : Answers) (m : PlacedModule) → MadeUpTo printer id o m answers → AnyIsRefused printer id m.customs
   unfolding layout module_pieces module_pieces_with
   made_refused answers m h =
       let names : Names = module_names o.synthesizes m in
       let laid : Laid = laid_parts (module_parts o answers names m) in
       let head : List Piece = Begin 0 ∷ (Open (codes "module") ∷ leading_id_and_name_pieces names.module_name) in
       any_refused head m.customs laid.pieces (asked o answers m id h.ends)
-      (subst (λ (r : Option ℕ). Whole meaning old new (all_calls o (module_pieces_of o names m.size laid.pieces r))) h.ends h.made)
+      (subst (λ (r : Option ℕ). AreMade (module_pieces_of o names m.size laid.pieces r)) h.ends h.made)

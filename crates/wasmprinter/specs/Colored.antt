@@ -1,31 +1,25 @@
 -- Definition of the text of a module with ANSI escape sequences.
 use Rattle.std.specs.Prelude.{◌≡◌, ℕ, List, true, None}
-use Rattle.wasmprinter_spec.specs.Binary.{Spells}
-use Rattle.wasmprinter_spec.specs.Placed.{PlacedModule}
-use Rattle.wasmprinter_spec.specs.Limits.{IsWithinLimits}
 use Rattle.wasmprinter_spec.specs.Color.{uncolor}
 use Rattle.wasmprinter_spec.specs.Options.{Options, IsBlank, in_colors}
 use Rattle.wasmprinter_spec.specs.Layout.{layout, refusal}
 use Rattle.wasmprinter_spec.specs.Colored.{colored_text}
 use Rattle.wasmprinter_spec.specs.Folding.Refusals.{IsFoldable}
+use Rattle.wasmprinter.specs.Decoded.{Decoded}
 use Rattle.wasmprinter.specs.Printed.{IsTextOf, no_claims}
 
 -- The bytes encode a module whose text, with these options and with the ANSI escape sequences of each style, is `text`.
 -- No custom section of it is claimed.
 pub record HasColoredTextBy (o : Options) (bytes text : List ℕ) : Type 0 where
-  -- The module, with its places.
-  pub placed : PlacedModule
-  -- The bytes encode it.
-  pub spelled : Spells bytes placed
-  -- It is within the limits.
-  pub within : IsWithinLimits placed
+  -- The module that the bytes encode.
+  pub decoded : Decoded bytes
   -- It can be folded if folding is on.
-  pub foldable : IsFoldable o placed
+  pub foldable : IsFoldable o decoded.placed
   -- No `dylink.0` section of it is refused.
-  pub accepted : refusal (in_colors o true) no_claims placed ≡ None
+  pub accepted : refusal (in_colors o true) no_claims decoded.placed ≡ None
   -- The text is that of the layout with the sequences of each style, including those within the text of folded
   -- operators.
-  pub is : text ≡ colored_text (layout (in_colors o true) no_claims placed)
+  pub is : text ≡ colored_text (layout (in_colors o true) no_claims decoded.placed)
   -- With an indent of spaces and tabs: the text without the sequences is the text of a module that the
   -- bytes encode, without colors.
   pub bare : IsBlank o.indent → IsTextOf o bytes (uncolor text)

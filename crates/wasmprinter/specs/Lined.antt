@@ -1,17 +1,15 @@
 -- Definition of a module's text that is appended to a text, with its lines.
 use Rattle.std.specs.Prelude.{◌≡◌, ◌⊎◌, ◌++◌, ℕ, List, false, Some, slice_get}
-use Rattle.std.specs.List.{AllByRecursion}
 use Rattle.wasmprinter_bytes.specs.declared.error.Error.{Error}
 use Rattle.wasmprinter_bytes.specs.declared.error.Error.TheVariants.{DylinkSubsection, Memory}
-use Rattle.wasmprinter_spec.specs.Placed.{PlacedModule, PlacedFunction}
-use Rattle.wasmprinter_spec.specs.Call.{Call, IsUnclaimed, atoms, text_of}
-use Rattle.wasmprinter_spec.specs.Options.{Options, Answers, in_colors}
-use Rattle.wasmprinter_spec.specs.Layout.{layout, refusal}
+use Rattle.wasmprinter_spec.specs.Placed.{PlacedFunction}
+use Rattle.wasmprinter_spec.specs.Options.{Options, in_colors}
+use Rattle.wasmprinter_spec.specs.Layout.{layout}
 use Rattle.wasmprinter_spec.specs.Lines.{TextLine, lines_of, joined_lines, line_places, hint_places, HasFunctionLines}
 use Rattle.wasmprinter_writers.specs.declared.lines.LineStart.{LineStart}
 use Rattle.wasmprinter_writers.specs.Cuts.{lines_at_starts}
 use Rattle.wasmprinter.specs.Printed.{IsTextOf, no_claims}
-use Rattle.wasmprinter.specs.Outcome.{WhilePrinting}
+use Rattle.wasmprinter.specs.Prefix.{PutsPrefix, PutsTextBefore}
 
 -- The storage is the old text followed by the text of the module that the bytes encode, and these are its lines. The
 -- order is: options, bytes of the module, text before, text after, lines.
@@ -23,47 +21,25 @@ pub record HasLinesBy (o : Options) (bytes old storage : List ℕ) (lines : List
   -- The text was appended to the old text.
   pub appended : storage ≡ old ++ text
   -- The lines are those of the layout.
-  pub are : lines ≡ lines_of (layout (in_colors o false) no_claims printed.placed)
+  pub are : lines ≡ lines_of (layout (in_colors o false) no_claims printed.decoded.placed)
   -- The lines, joined, are the text.
   pub joined : joined_lines lines ≡ text
   -- Without `skeleton` and folding, each defined function has a line for its header, one for its locals if it has any,
   -- and one for each of its operators.
-  pub functions : o.skeleton ≡ false → o.folds ≡ false → (i : ℕ) (f : PlacedFunction) → slice_get printed.placed.functions i ≡ Some f →
-      HasFunctionLines (hint_places printed.placed) (line_places lines) f
+  pub functions : o.skeleton ≡ false → o.folds ≡ false → (i : ℕ) (f : PlacedFunction) → slice_get printed.decoded.placed.functions i ≡ Some f →
+      HasFunctionLines (hint_places printed.decoded.placed) (line_places lines) f
 
 -- `HasLinesBy` for the lines that begin at these offsets of the storage. The order is: options, bytes of the module,
 -- text before, text after, starts of lines.
 abbrev pub HasLinesAt : Options → List ℕ → List ℕ → List ℕ → List LineStart → Type 0
 HasLinesAt o bytes old storage starts = HasLinesBy o bytes old storage (lines_at_starts starts storage)
 
--- A prefix of the text of the module's layout was appended.
-pub record GainsPrefix (o : Options) (old new : List ℕ) (placed : PlacedModule) (answers : Answers) : Type 0 where
-  -- The calls whose text was appended.
-  pub calls : List Call
-  -- The calls of the layout after them, with each text cut into single bytes.
-  pub rest : List Call
-  -- With each text cut into single bytes, `calls` and then `rest` are the calls of the layout.
-  pub alike : atoms calls ++ rest ≡ atoms (layout o answers placed)
-  -- The calls claim no custom section.
-  pub unclaimed : AllByRecursion IsUnclaimed calls
-  -- The text of the calls was appended.
-  pub appended : new ≡ old ++ text_of calls
-
--- The whole text of a layout that ends at a refused `dylink.0` section was appended.
-pub record GainsTextBefore (id : ℕ) (o : Options) (old new : List ℕ) (placed : PlacedModule) (answers : Answers) : Type 0 where
-  -- The layout ends at this section because of its subsection with this id.
-  pub ends : refusal o answers placed ≡ Some id
-  -- No custom section is claimed in the layout.
-  pub unclaimed : AllByRecursion IsUnclaimed (layout o answers placed)
-  -- The text of the layout was appended.
-  pub appended : new ≡ old ++ text_of (layout o answers placed)
-
 -- The contents of the storage after an error. The order is: options, bytes of the module, error, contents before,
 -- contents after.
 abbrev pub LeavesStorage : Options → List ℕ → Error → List ℕ → List ℕ → Type 0
 -- After an unknown subsection of a `dylink.0` section: the old text and the text before that section.
-LeavesStorage o bytes (DylinkSubsection id) old new = WhilePrinting o bytes (GainsTextBefore id (in_colors o false) old new)
+LeavesStorage o bytes (DylinkSubsection id) old new = PutsTextBefore id o bytes (λ text. new ≡ old ++ text)
 -- If an allocation failed: the old text, possibly with a prefix of the module's text.
-LeavesStorage o bytes Memory old new = (new ≡ old) ⊎ WhilePrinting o bytes (GainsPrefix (in_colors o false) old new)
+LeavesStorage o bytes Memory old new = (new ≡ old) ⊎ PutsPrefix o bytes (λ text. new ≡ old ++ text)
 -- After any other error: the old text.
 LeavesStorage o bytes e old new = new ≡ old

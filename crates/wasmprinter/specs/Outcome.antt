@@ -4,9 +4,9 @@ use Rattle.std.specs.declared.io.Error.{Error as IoError}
 use Rattle.wasmprinter_spec.specs.Binary.{Spells, IsComponent}
 use Rattle.wasmprinter_spec.specs.Placed.{CustomEntry, PlacedModule}
 use Rattle.wasmprinter_spec.specs.Customs.{Refused, custom_treatment_of}
-use Rattle.wasmprinter_spec.specs.Limits.{IsWithinLimits, most_functions}
+use Rattle.wasmprinter_spec.specs.Limits.{most_functions}
 use Rattle.wasmprinter_spec.specs.Call.{Call, Claim, atoms}
-use Rattle.wasmprinter_spec.specs.Meaning.{Meaning, Run, Failed}
+use Rattle.wasmprinter_spec.specs.Meaning.{Run, Failed}
 use Rattle.wasmprinter_spec.specs.Options.{Options, Answers, in_colors}
 use Rattle.wasmprinter_spec.specs.Layout.{layout, refusal}
 use Rattle.wasmprinter_spec.specs.Folding.Refusals.{IsFirstLegacy, IsFirstMisplaced, IsFoldable}
@@ -17,6 +17,8 @@ use Rattle.wasmprinter_bytes.specs.declared.error.Error.TheVariants.{Malformed, 
 use Rattle.wasmprinter_wasm.specs.Modules.{bodies_of}
 use Rattle.wasmprinter_wasm.specs.Refusals.{FirstIsOver, FirstIsEmpty}
 use Rattle.wasmprinter_wasm.specs.Decoding.{HoldsSome, module_reasons}
+use Rattle.wasmprinter.specs.Decoded.{Decoded}
+use Rattle.wasmprinter.specs.Change.{Change}
 
 -- One of these custom sections is a `dylink.0` section whose first unknown subsection has this id. That subsection
 -- is complete and precedes any malformed one.
@@ -33,23 +35,23 @@ FirstIsUnknown id (c ∷ cs) =
     ⊎ (((i : ℕ) → custom_treatment_of c.section.value ≢ Refused i) × FirstIsUnknown id cs)
 
 -- The printer did not claim this `dylink.0` section, which has an unknown subsection with this id.
-pub record IsRefused {P : Type 0} (m : Meaning P) (old new : P) (id : ℕ) (c : CustomEntry) : Type 0 where
+pub record IsRefused {P : Type 0} (printer : Change P) (id : ℕ) (c : CustomEntry) : Type 0 where
   -- The section is refused because of its subsection with this id.
   pub unknown : custom_treatment_of c.section.value ≡ Refused id
   -- The calls that were made.
   pub calls : List Call
-  -- All of them succeeded, and they lead from `old` to `new`.
-  pub run : Run m old calls new
+  -- All of them succeeded, and they lead from the state before to the state after.
+  pub run : Run printer.meaning printer.old calls printer.new
   -- The calls before the claim, with each text cut into single bytes.
   pub before : List Call
   -- The last call, apart from empty texts, asked whether the printer claims this section, and it returned false.
   pub asked : atoms calls ≡ before ++ Claim c.section.value.name c.section.value.bytes.place c.section.value.bytes.value false ∷ []
 
 -- One of these sections has an unknown subsection with this id. The last call, apart from empty texts, asked whether
--- the printer claims the section, and returned false. The two states are those before and after the calls.
-abbrev pub AnyIsRefused : {P : Type 0} → Meaning P → P → P → ℕ → List CustomEntry → Type 0
-AnyIsRefused m old new id [] = ⊥
-AnyIsRefused m old new id (c ∷ cs) = IsRefused m old new id c ⊎ AnyIsRefused m old new id cs
+-- the printer claims the section, and returned false.
+abbrev pub AnyIsRefused : {P : Type 0} → Change P → ℕ → List CustomEntry → Type 0
+AnyIsRefused printer id [] = ⊥
+AnyIsRefused printer id (c ∷ cs) = IsRefused printer id c ⊎ AnyIsRefused printer id cs
 
 -- The reasons for the errors of printing, besides those of decoding.
 pub record PrintReasons : Type 1 where
@@ -98,18 +100,18 @@ print_reasons o m failed unknown = record {
 }
 
 -- A call failed with this error.
-pub record PrinterFailed {P : Type 0} (m : Meaning P) (old new : P) (error : IoError) : Type 0 where
+pub record PrinterFailed {P : Type 0} (printer : Change P) (error : IoError) : Type 0 where
   -- The calls before it.
   pub calls : List Call
   -- The state before it.
   pub before : P
-  -- All calls before it succeeded, and they lead from `old` to this state.
-  pub run : Run m old calls before
+  -- All calls before it succeeded, and they lead from the printer's state before printing to this state.
+  pub run : Run printer.meaning printer.old calls before
   -- The failed call.
   pub call : Call
-  -- In this state it may fail, with this error and the state `new`. The count of failures, if the printer has one,
-  -- increased by one, unless it had its greatest value.
-  pub failed : Failed m before call error new
+  -- In this state it may fail, with this error and the printer's state after printing. The count of failures, if the
+  -- printer has one, increased by one, unless it had its greatest value.
+  pub failed : Failed printer.meaning before call error printer.new
 
 -- The reasons of decoding for bytes that encode this module: the first function with too many locals has its body at
 -- this place; the module has `count` functions, which is too many; the first table with an empty initialiser is at
@@ -131,12 +133,11 @@ MayGrow o m = HoldsSome m ⊎ (o.folds ≡ true)
 -- What the error says of a module. If the bytes encode a module, the error has one of these causes: a limit or an
 -- empty initialiser (`causes`); an allocation that failed, only if the module holds something that is kept or
 -- operators are folded; a subsection of a `dylink.0` section that the printer does not claim; an operator or a hint
--- that can't be folded; a call on the printer that failed with exactly this error. The order is: meaning, options,
--- bytes, states of the printer before and after, error.
-abbrev pub HasListedCause : {P : Type 0} → Meaning P → Options → List ℕ → P → P → Error → Type 0
-HasListedCause m o bytes old new e =
+-- that can't be folded; a call on the printer that failed with exactly this error.
+abbrev pub HasListedCause : {P : Type 0} → Change P → Options → List ℕ → Error → Type 0
+HasListedCause printer o bytes e =
     (placed : PlacedModule) → Spells bytes placed →
-    HasPrintReason (print_reasons o placed (PrinterFailed m old new) (λ id. AnyIsRefused m old new id placed.customs)) (causes (MayGrow o placed) placed) e
+    HasPrintReason (print_reasons o placed (PrinterFailed printer) (λ id. AnyIsRefused printer id placed.customs)) (causes (MayGrow o placed) placed) e
 
 -- `HasListedCause` for text that is built in memory: an allocation may fail for any module, no printer fails, and no
 -- section is claimed. So the error names the first section that is refused, in the order of the bytes.
@@ -151,25 +152,9 @@ abbrev pub without_printer : Error → Error
 without_printer (Printer e) = Memory
 without_printer error = error
 
--- The bytes encode a module within the limits.
-pub record ArePrintable (bytes : List ℕ) : Type 0 where
-  -- The module, with its places.
-  pub placed : PlacedModule
-  -- The bytes encode it.
-  pub spelled : Spells bytes placed
-  -- It is within the limits.
-  pub within : IsWithinLimits placed
-
 -- The bytes encode a module within the limits that satisfies `So`.
-pub record HaveSome (bytes : List ℕ) (So : PlacedModule → Type 0) : Type 0 where
-  -- The module, with its places.
-  pub placed : PlacedModule
-  -- The bytes encode it.
-  pub spelled : Spells bytes placed
-  -- It is within the limits.
-  pub within : IsWithinLimits placed
-  -- It satisfies `So`.
-  pub so : So placed
+abbrev pub HaveSome : List ℕ → (PlacedModule → Type 0) → Type 0
+HaveSome bytes So = (d : Decoded bytes) × So d.placed
 
 -- The reasons for these bytes. `failed` is the reason for a failed call.
 abbrev pub bytes_reasons : Options → List ℕ → (IoError → Type 0) → PrintReasons
@@ -182,7 +167,7 @@ bytes_reasons o bytes failed = record {
 
 -- An allocation fails in the decoder, or during folding of a module within the limits that the bytes encode.
 abbrev pub folding_reasons : Options → List ℕ → Reasons → Reasons
-folding_reasons o bytes decoding = record decoding { memory = decoding.memory ⊎ ((o.folds ≡ true) × ArePrintable bytes) }
+folding_reasons o bytes decoding = record decoding { memory = decoding.memory ⊎ ((o.folds ≡ true) × Decoded bytes) }
 
 -- What the error says of any bytes, also if they encode no module; `HasListedCause` then says nothing. An error of the
 -- decoder is true of the bytes. An error of the printer, of a `dylink.0` section or of folding is returned only if the
@@ -190,20 +175,19 @@ folding_reasons o bytes decoding = record decoding { memory = decoding.memory �
 -- reported place.
 abbrev pub IsSoundRefusal : Options → List ℕ → Error → Type 0
 IsSoundRefusal o bytes e =
-    HasPrintReason (bytes_reasons o bytes (λ x. ArePrintable bytes)) (folding_reasons o bytes (module_reasons bytes (IsComponent bytes))) e
+    HasPrintReason (bytes_reasons o bytes (λ x. Decoded bytes)) (folding_reasons o bytes (module_reasons bytes (IsComponent bytes))) e
 
--- Printing these bytes with these options is refused with this error. `old` and `new` are the states of the printer
--- before and after the call.
-pub record IsPrintRefusal {P : Type 0} (m : Meaning P) (o : Options) (bytes : List ℕ) (old new : P) (e : Error) : Type 0 where
+-- Printing these bytes with these options is refused with this error, after this change of the printer.
+pub record IsPrintRefusal {P : Type 0} (printer : Change P) (o : Options) (bytes : List ℕ) (e : Error) : Type 0 where
   -- The error is true of the bytes, whether they encode a module or not.
   pub true_of : IsSoundRefusal o bytes e
   -- If the bytes encode a module, the error has a listed cause.
-  pub caused : HasListedCause m o bytes old new e
+  pub caused : HasListedCause printer o bytes e
 
 -- The reasons for text that is built in memory: an allocation fails in the decoder, or the bytes encode a module
 -- within the limits.
 abbrev pub text_reasons : List ℕ → Reasons → Reasons
-text_reasons bytes decoding = record decoding { memory = decoding.memory ⊎ ArePrintable bytes }
+text_reasons bytes decoding = record decoding { memory = decoding.memory ⊎ Decoded bytes }
 
 -- `IsSoundRefusal` for text that is built in memory: an allocation may also fail while any module within the limits is
 -- printed, and no printer fails.
@@ -219,26 +203,21 @@ pub record IsTextRefusal (o : Options) (bytes : List ℕ) (e : Error) : Type 0 w
 
 -- A module that the bytes encode was being printed, and `Left` describes the state.
 pub record WhilePrinting (o : Options) (bytes : List ℕ) (Left : PlacedModule → Answers → Type 0) : Type 0 where
-  -- The module, with its places.
-  pub placed : PlacedModule
-  -- The bytes encode it.
-  pub spelled : Spells bytes placed
-  -- It is within the limits.
-  pub within : IsWithinLimits placed
+  -- The module that the bytes encode.
+  pub decoded : Decoded bytes
   -- It can be folded if folding is on.
-  pub foldable : IsFoldable o placed
+  pub foldable : IsFoldable o decoded.placed
   -- The printer's answer to the claim of each custom section.
   pub answers : Answers
   -- `Left` holds for the module and these answers.
-  pub left : Left placed answers
+  pub left : Left decoded.placed answers
 
 -- The calls of a layout that ends at a refused `dylink.0` section were made.
-pub record MadeUpTo {P : Type 0} (m : Meaning P) (old new : P) (id : ℕ) (o : Options) (placed : PlacedModule)
-    (answers : Answers) : Type 0 where
+pub record MadeUpTo {P : Type 0} (printer : Change P) (id : ℕ) (o : Options) (placed : PlacedModule) (answers : Answers) : Type 0 where
   -- The layout ends there because of the subsection with this id.
   pub ends : refusal o answers placed ≡ Some id
   -- All calls of this layout were made and succeeded.
-  pub made : Whole m old new (layout o answers placed)
+  pub made : Whole printer.meaning printer.old printer.new (layout o answers placed)
 
 -- The reasons of decoding, with the same proposition for each error.
 abbrev pub each_reason : Type 0 → Reasons
@@ -252,12 +231,13 @@ each_reason so = record {
 }
 
 -- Either no call was made, or operators are folded and the calls that were made are a prefix of the layout, once each
--- text is cut into single bytes. The order is: meaning, whether the printer can write colors as text, options, bytes,
--- states of the printer before and after.
-abbrev pub LeavesBeginning : {P : Type 0} → Meaning P → Bool → Options → List ℕ → P → P → Type 0
-LeavesBeginning m colors o bytes old new =
-    (new ≡ old)
-    ⊎ ((o.folds ≡ true) × WhilePrinting o bytes (λ placed answers. Interrupted m old new (layout (in_colors o colors) answers placed)))
+-- text is cut into single bytes. The order is: the change of the printer, whether it can write colors as text, options,
+-- bytes.
+abbrev pub LeavesBeginning : {P : Type 0} → Change P → Bool → Options → List ℕ → Type 0
+LeavesBeginning printer colors o bytes =
+    (printer.new ≡ printer.old)
+    ⊎ ((o.folds ≡ true)
+    × WhilePrinting o bytes (λ placed answers. Interrupted printer.meaning printer.old printer.new (layout (in_colors o colors) answers placed)))
 
 -- The state of the printer after an error. In these layouts, the styles within the text of a folded operator are ANSI
 -- escape sequences if the printer can write colors as text. Otherwise that text has no styles.
@@ -266,14 +246,14 @@ LeavesBeginning m colors o bytes old new =
 -- - `DylinkSubsection`: the calls are those of the layout up to the refused section.
 -- - `Memory`: no call was made, or operators are folded and the calls are a prefix of the layout.
 -- - Any other error: no call was made.
-abbrev pub Leaves : {P : Type 0} → Meaning P → Bool → Options → List ℕ → P → P → Error → Type 0
-Leaves m colors o bytes old new e =
+abbrev pub Leaves : {P : Type 0} → Change P → Bool → Options → List ℕ → Error → Type 0
+Leaves printer colors o bytes e =
     HasPrintReason
     (record {
-      failed = λ x. WhilePrinting o bytes (λ placed answers. Broken m old new x (layout (in_colors o colors) answers placed));
-      unknown = λ id. WhilePrinting o bytes (MadeUpTo m old new id (in_colors o colors));
-      legacy = λ place. new ≡ old;
-      hint = λ place. new ≡ old;
+      failed = λ x. WhilePrinting o bytes (λ placed answers. Broken printer.meaning printer.old printer.new x (layout (in_colors o colors) answers placed));
+      unknown = λ id. WhilePrinting o bytes (MadeUpTo printer id (in_colors o colors));
+      legacy = λ place. printer.new ≡ printer.old;
+      hint = λ place. printer.new ≡ printer.old;
     })
-    (record (each_reason (new ≡ old)) { memory = LeavesBeginning m colors o bytes old new })
+    (record (each_reason (printer.new ≡ printer.old)) { memory = LeavesBeginning printer colors o bytes })
     e

@@ -3,6 +3,7 @@ ghost use Rattle.std.specs.Prelude.{◌≡◌, ◌↔◌, true, OnOk, IfOk, IfEr
 ghost use Rattle.wasmprinter_spec.specs.Binary.{IsComponent};
 ghost use Rattle.wasmprinter_spec.specs.Folding.Refusals.{IsFoldable};
 ghost use Rattle.wasmprinter_fold.specs.Refused.{HasFoldReason};
+ghost use Rattle.wasmprinter.specs.Change.{change};
 ghost use Rattle.wasmprinter.specs.Printed.{Printed, IsTextOf};
 ghost use Rattle.wasmprinter.specs.Outcome.{IsPrintRefusal, IsTextRefusal, Leaves};
 
@@ -137,10 +138,10 @@ impl Config {
     ///   subsection. All text before that section was printed.
     /// - `Printer`: a call on the printer failed. It holds the error of that call.
     pub fn print<P: Print>(&self, alloc: Global, wasm: &[u8], printer: &mut P) -> Result<(), Error>
-        ensures printed { OnOk result (Printed P.meaning (P.colors printer.old) self.now wasm.now printer.old printer.new) }
-        ensures refused { IfErr result (IsPrintRefusal P.meaning self.now wasm.now printer.old printer.new) }
+        ensures printed { OnOk result (Printed (change P.meaning printer.old printer.new) (P.colors printer.old) self.now wasm.now) }
+        ensures refused { IfErr result (IsPrintRefusal (change P.meaning printer.old printer.new) self.now wasm.now) }
         // The state of the printer after the error.
-        ensures left { IfErr result (Leaves P.meaning (P.colors printer.old) self.now wasm.now printer.old printer.new) }
+        ensures left { IfErr result (Leaves (change P.meaning printer.old printer.new) (P.colors printer.old) self.now wasm.now) }
         ensures component { IsErrOf result Error.Component ↔ IsComponent wasm.now }
     {
         let module = decode(alloc, wasm)?;

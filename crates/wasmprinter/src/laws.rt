@@ -4,6 +4,7 @@
 ghost use Rattle.std.specs.Prelude.{ℕ, List};
 ghost use Rattle.wasmprinter_spec.specs.Options.{IsBlank};
 ghost use Rattle.wasmprinter_print.specs.TextOnly.{Grows};
+ghost use Rattle.wasmprinter.specs.Change.{change};
 ghost use Rattle.wasmprinter.specs.Printed.{Printed};
 ghost use Rattle.wasmprinter.specs.Gained.{GainAlike, GainsText};
 
@@ -15,8 +16,8 @@ use std::io::Write;
 /// that they hold, and the indent consists of spaces and tabs. Operators may be folded or flat.
 pub fn colors_add_sequences_alone<V: Write, W: Write>()
     ensures { (o : _) (bytes : List ℕ) → IsBlank o.indent → (s t : _) (x y : _)
-        → Printed ⟦<PrintTermcolor<Ansi<V>> as Print>⟧.meaning (⟦<PrintTermcolor<Ansi<V>> as Print>⟧.colors s) o bytes s t
-        → Printed ⟦<PrintTermcolor<NoColor<W>> as Print>⟧.meaning (⟦<PrintTermcolor<NoColor<W>> as Print>⟧.colors x) o bytes x y
+        → Printed (change ⟦<PrintTermcolor<Ansi<V>> as Print>⟧.meaning s t) (⟦<PrintTermcolor<Ansi<V>> as Print>⟧.colors s) o bytes
+        → Printed (change ⟦<PrintTermcolor<NoColor<W>> as Print>⟧.meaning x y) (⟦<PrintTermcolor<NoColor<W>> as Print>⟧.colors x) o bytes
         → GainAlike (V.contents s.0.inner) (V.contents t.0.inner) (W.contents x.0.inner) (W.contents y.0.inner) }
 {}
 
@@ -24,6 +25,6 @@ pub fn colors_add_sequences_alone<V: Write, W: Write>()
 /// module's text to it.
 pub fn text_printers_gain_the_text<T: PrintText>()
     ensures { (view : T → List ℕ) → Grows view T.writes → (o : _) (bytes : List ℕ) (s t : T)
-        → Printed ⟦<T as Print>⟧.meaning (⟦<T as Print>⟧.colors s) o bytes s t
+        → Printed (change ⟦<T as Print>⟧.meaning s t) (⟦<T as Print>⟧.colors s) o bytes
         → GainsText o bytes (view s) (view t) }
 {}

@@ -1,57 +1,29 @@
 -- The errors of printing over a buffer, and the contents of the buffer after them.
-use Rattle.std.proofs.Common.{◌≡◌, ℕ, ◌≤◌, ◌^◌, List, [], ◌∷◌, ◌++◌, length, sym, ap, ◌∙◌, subst, length-append, arith, inl, inr}
-use Rattle.std.specs.List.{AllByRecursion}
+use Rattle.std.proofs.Common.{◌≡◌, ℕ, ◌≤◌, ◌^◌, List, ◌++◌, length, sym, ap, ◌∙◌, subst, length-append, arith, inl, inr}
 use Rattle.std.specs.Prelude.{false, Result, Ok, Err, IfErr, OnOk}
 use Rattle.std.specs.declared.io.Error.{Error as IoError}
 use Rattle.wasmprinter_bytes.specs.declared.error.Error.{Error}
 use Rattle.wasmprinter_bytes.specs.declared.error.Error.TheVariants.{Malformed, Component, TooManyLocals, TooManyFunctions, EmptyTableInit, FoldLegacy, FoldHint, DylinkSubsection, Printer, Memory}
-use Rattle.wasmprinter_spec.specs.Call.{Call, IsUnclaimed, call_text, text_of, atoms}
+use Rattle.wasmprinter_spec.specs.Call.{Call, call_text, text_of}
 use Rattle.wasmprinter_spec.specs.Meaning.{Run}
 use Rattle.wasmprinter_spec.specs.Options.{Options, in_colors}
 use Rattle.wasmprinter_spec.specs.Layout.{layout}
-use Rattle.wasmprinter_spec.proofs.Texts.{alike_texts}
 use Rattle.wasmprinter_print.proofs.Prefixes.{broken_parts}
-use Rattle.wasmprinter_print.specs.Made.{Whole, Broken, Interrupted}
+use Rattle.wasmprinter_print.specs.Made.{Broken}
 use Rattle.wasmprinter.specs.Printed.{Printed}
 use Rattle.wasmprinter.specs.Outcome.{HasListedCause, IsPrintRefusal, Leaves, LeavesBeginning}
-use Rattle.wasmprinter.proofs.Claims.{alike_unclaimed}
-use Rattle.wasmprinter.proofs.Prefixes.{broken_alike}
-use Rattle.wasmprinter.proofs.Texts.{none_claimed, first_unclaimed}
+use Rattle.wasmprinter.proofs.Prefixes.{failed_puts, stopped_puts, refused_puts}
+use Rattle.wasmprinter.proofs.Texts.{first_unclaimed}
 use Rattle.wasmprinter_c.specs.Over.{over}
 use Rattle.wasmprinter_c.specs.Copied.{copied_meaning}
 use Rattle.wasmprinter_c.specs.Lines.{entries}
-use Rattle.wasmprinter_c.specs.Refused.{IsTooLong, HasBufferCause, IsBufferRefusal, HoldsPrefix, LeavesBuffer}
+use Rattle.wasmprinter_c.specs.Refused.{IsTooLong, HasBufferCause, IsBufferRefusal, LeavesBuffer}
 use Rattle.wasmprinter_c.specs.declared.buffer_printer.Copier.{Copier}
-use Rattle.wasmprinter_c.proofs.Runs.{HasCopied, IsFresh, run_copied, claims_never}
+use Rattle.wasmprinter_c.proofs.Runs.{copying, HasCopied, IsFresh, run_copied, claims_never}
 
 -- ---- A printer to which nothing was printed before
 
 module _ (old : Copier) (fresh : IsFresh old) where
-  whole_holds : (new : Copier) (l : List Call) → Whole copied_meaning old new l → new.out.now ≡ over (text_of l) old.out.now
-  whole_holds new l w =
-      let has : HasCopied old (text_of w.calls) (entries 0 w.calls) new = run_copied old new w.calls fresh w.run in
-      has.copied ∙ ap (λ (t : List ℕ). over t old.out.now) (alike_texts w.calls l w.alike)
-
-  -- The printer claims no custom section.
-  run_claims_none : (new : Copier) (calls : List Call) → Run copied_meaning old calls new → AllByRecursion IsUnclaimed calls
-  run_claims_none new calls r = none_claimed copied_meaning claims_never old new calls r
-
-  begun_holds : (new : Copier) (l : List Call) → Interrupted copied_meaning old new l → HoldsPrefix l old.out.now new.out.now
-  begun_holds new l b =
-      let has : HasCopied old (text_of b.calls) (entries 0 b.calls) new = run_copied old new b.calls fresh b.run in
-      record { calls = b.calls; rest = b.rest; alike = b.alike; unclaimed = run_claims_none new b.calls b.run; copied = has.copied }
-
-  broken_holds : (new : Copier) (x : IoError) (l : List Call) → Broken copied_meaning old new x l → HoldsPrefix l old.out.now new.out.now
-  broken_holds new x l b =
-      let has : HasCopied old (text_of b.calls) (entries 0 b.calls) b.before = run_copied old b.before b.calls fresh b.run in
-      record {
-        calls = b.calls;
-        rest = atoms (b.call ∷ []) ++ b.rest;
-        alike = broken_alike copied_meaning old new x l b;
-        unclaimed = run_claims_none b.before b.calls b.run;
-        copied = ap (λ (c : Copier). c.out.now) b.failed.left ∙ has.copied;
-      }
-
   -- If a call failed, the text of the layout can't be counted.
   pub broken_long : (new : Copier) (x : IoError) (l : List Call) → Broken copied_meaning old new x l → 2 ^ 64 ≤ length (text_of l)
   broken_long new x l b =
@@ -64,16 +36,24 @@ module _ (old : Copier) (fresh : IsFresh old) where
       omega (arith, n₁, n₂, n₃, counted, may)
 
   module _ (o : Options) (bytes : List ℕ) (new : Copier) where
-    too_long : (x : IoError) → Leaves copied_meaning false o bytes old new (Printer x) → IsTooLong o bytes
+    -- This text was written over the buffer.
+    abbrev IsWritten : List ℕ → Type 0
+    IsWritten text = new.out.now ≡ over text old.out.now
+
+    runs_written : (calls : List Call) → Run copied_meaning old calls new → IsWritten (text_of calls)
+    runs_written calls r = (run_copied old new calls fresh r).copied
+
+    broken_written : (x : IoError) (l : List Call) (b : Broken copied_meaning old new x l) → IsWritten (text_of b.calls)
+    broken_written x l b = ap (λ (c : Copier). c.out.now) b.failed.left ∙ (run_copied old b.before b.calls fresh b.run).copied
+
+    too_long : (x : IoError) → Leaves (copying old new) false o bytes (Printer x) → IsTooLong o bytes
     too_long x h = record {
-      placed = h.placed;
-      spelled = h.spelled;
-      within = h.within;
+      decoded = h.decoded;
       answers = h.answers;
-      long = broken_long new x (layout (in_colors o false) h.answers h.placed) h.left;
+      long = broken_long new x (layout (in_colors o false) h.answers h.decoded.placed) h.left;
     }
 
-    buffer_cause : (e : Error) → Leaves copied_meaning false o bytes old new e → HasListedCause copied_meaning o bytes old new e → HasBufferCause o bytes e
+    buffer_cause : (e : Error) → Leaves (copying old new) false o bytes e → HasListedCause (copying old new) o bytes e → HasBufferCause o bytes e
     buffer_cause (Malformed place) l h = h
     buffer_cause Component l h = h
     buffer_cause (TooManyLocals place) l h = h
@@ -81,7 +61,7 @@ module _ (old : Copier) (fresh : IsFresh old) where
     buffer_cause (EmptyTableInit place) l h = h
     buffer_cause (FoldLegacy place) l h = h
     buffer_cause (FoldHint place) l h = h
-    buffer_cause (DylinkSubsection id) l h = first_unclaimed copied_meaning false o claims_never bytes old new id l
+    buffer_cause (DylinkSubsection id) l h = first_unclaimed (copying old new) false o claims_never bytes id l
     buffer_cause (Printer x) l h = λ placed s. too_long x l
     buffer_cause Memory l h = λ placed s. inl (h placed s)
     buffer_cause _ l h = absurd l
@@ -89,21 +69,11 @@ module _ (old : Copier) (fresh : IsFresh old) where
     kept : new ≡ old → new.out.now ≡ old.out.now
     kept e = ap (λ (c : Copier). c.out.now) e
 
-    memory_left : LeavesBeginning copied_meaning false o bytes old new → LeavesBuffer o bytes Memory old.out.now new.out.now
+    memory_left : LeavesBeginning (copying old new) false o bytes → LeavesBuffer o bytes Memory old.out.now new.out.now
     memory_left (inl e) = inl (kept e)
-    memory_left (inr h) = inr (
-      h.0,
-      record {
-        placed = h.1.placed;
-        spelled = h.1.spelled;
-        within = h.1.within;
-        foldable = h.1.foldable;
-        answers = h.1.answers;
-        left = begun_holds new (layout (in_colors o false) h.1.answers h.1.placed) h.1.left;
-      },
-    )
+    memory_left (inr h) = inr (h.0, stopped_puts (copying old new) claims_never o bytes IsWritten runs_written h.1)
 
-    leaves_buffer : (e : Error) → Leaves copied_meaning false o bytes old new e → LeavesBuffer o bytes e old.out.now new.out.now
+    leaves_buffer : (e : Error) → Leaves (copying old new) false o bytes e → LeavesBuffer o bytes e old.out.now new.out.now
     leaves_buffer (Malformed place) h = kept h
     leaves_buffer Component h = kept h
     leaves_buffer (TooManyLocals place) h = kept h
@@ -111,36 +81,17 @@ module _ (old : Copier) (fresh : IsFresh old) where
     leaves_buffer (EmptyTableInit place) h = kept h
     leaves_buffer (FoldLegacy place) h = kept h
     leaves_buffer (FoldHint place) h = kept h
-    leaves_buffer (DylinkSubsection id) h = record {
-      placed = h.placed;
-      spelled = h.spelled;
-      within = h.within;
-      foldable = h.foldable;
-      answers = h.answers;
-      left = record {
-        ends = h.left.ends;
-        unclaimed = alike_unclaimed h.left.made.calls (layout (in_colors o false) h.answers h.placed) h.left.made.alike
-            (run_claims_none new h.left.made.calls h.left.made.run);
-        copied = whole_holds new (layout (in_colors o false) h.answers h.placed) h.left.made;
-      };
-    }
-    leaves_buffer (Printer x) h = record {
-      placed = h.placed;
-      spelled = h.spelled;
-      within = h.within;
-      foldable = h.foldable;
-      answers = h.answers;
-      left = broken_holds new x (layout (in_colors o false) h.answers h.placed) h.left;
-    }
+    leaves_buffer (DylinkSubsection id) h = refused_puts (copying old new) claims_never o bytes IsWritten id runs_written h
+    leaves_buffer (Printer x) h = failed_puts (copying old new) claims_never o bytes IsWritten x (broken_written x) h
     leaves_buffer Memory h = memory_left h
     leaves_buffer _ h = absurd h
 
-    pub if_err_refusal : {T : Type 0} (r : Result T Error) → IfErr r (Leaves copied_meaning false o bytes old new) →
-        IfErr r (IsPrintRefusal copied_meaning o bytes old new) → IfErr r (IsBufferRefusal o bytes)
+    pub if_err_refusal : {T : Type 0} (r : Result T Error) → IfErr r (Leaves (copying old new) false o bytes) →
+        IfErr r (IsPrintRefusal (copying old new) o bytes) → IfErr r (IsBufferRefusal o bytes)
     if_err_refusal (Ok x) l h = tt
     if_err_refusal (Err e) l h = record { true_of = h.true_of; caused = buffer_cause e l h.caused }
 
-    pub if_err_left : {T : Type 0} (r : Result T Error) → IfErr r (Leaves copied_meaning false o bytes old new) →
+    pub if_err_left : {T : Type 0} (r : Result T Error) → IfErr r (Leaves (copying old new) false o bytes) →
         IfErr r (λ e. LeavesBuffer o bytes e old.out.now new.out.now)
     if_err_left (Ok x) l = tt
     if_err_left (Err e) l = leaves_buffer e l
@@ -160,11 +111,11 @@ module _ (old : Copier) (fresh : IsFresh old) where
   unchanged_same new e = record { buffer = ap (λ (c : Copier). c.out.ghost_name) e; table = ap (λ (c : Copier). c.lines.ghost_name) e }
 
   module _ (o : Options) (bytes : List ℕ) (new : Copier) where
-    memory_same : LeavesBeginning copied_meaning false o bytes old new → AreSame new
+    memory_same : LeavesBeginning (copying old new) false o bytes → AreSame new
     memory_same (inl e) = unchanged_same new e
     memory_same (inr h) = run_same new h.1.left.calls h.1.left.run
 
-    refused_same : (e : Error) → Leaves copied_meaning false o bytes old new e → AreSame new
+    refused_same : (e : Error) → Leaves (copying old new) false o bytes e → AreSame new
     refused_same (Malformed place) h = unchanged_same new h
     refused_same Component h = unchanged_same new h
     refused_same (TooManyLocals place) h = unchanged_same new h
@@ -177,7 +128,7 @@ module _ (old : Copier) (fresh : IsFresh old) where
     refused_same Memory h = memory_same h
     refused_same _ h = absurd h
 
-    pub either_same : {T : Type 0} (r : Result T Error) → OnOk r (Printed copied_meaning false o bytes old new) →
-        IfErr r (Leaves copied_meaning false o bytes old new) → AreSame new
+    pub either_same : {T : Type 0} (r : Result T Error) → OnOk r (Printed (copying old new) false o bytes) →
+        IfErr r (Leaves (copying old new) false o bytes) → AreSame new
     either_same (Ok x) v l = run_same new v.calls v.run
     either_same (Err e) v l = refused_same e l

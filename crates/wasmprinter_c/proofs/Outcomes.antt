@@ -5,13 +5,13 @@ use Rattle.wasmprinter_bytes.specs.declared.error.Error.{Error}
 use Rattle.wasmprinter_bytes.specs.declared.error.Error.TheVariants.{Malformed, Component, TooManyLocals, TooManyFunctions, EmptyTableInit, FoldLegacy, FoldHint, DylinkSubsection, Unreadable, Printer, Memory}
 use Rattle.wasmprinter_spec.specs.Binary.{IsComponent}
 use Rattle.wasmprinter_spec.specs.Options.{Options}
+use Rattle.wasmprinter.specs.Change.{change}
 use Rattle.wasmprinter.specs.AnsiText.{ansi_text_meaning}
 use Rattle.wasmprinter.proofs.Outcomes.{refusal_cause}
 use Rattle.wasmprinter_c.specs.Over.{over}
-use Rattle.wasmprinter_c.specs.Printing.{HasLinesOver, HasTextOver}
+use Rattle.wasmprinter_c.specs.Printing.{Buffers, HasLinesOver, HasTextOver}
 use Rattle.wasmprinter_c.specs.Refused.{number_of, detail_in, IsCopied, HasBufferCause, IsBufferRefusal, IsTrueOrUncopied, LeavesBuffer}
 use Rattle.wasmprinter_c.specs.Outcomes.{IsOutcome}
-use Rattle.wasmprinter_c.specs.declared.buffer_printer.WasmprinterLine.{WasmprinterLine}
 use Rattle.wasmprinter_c.specs.declared.Outcome.{Outcome}
 
 not_zero : (e : Error) → number_of e ≡ 0 → ⊥
@@ -60,11 +60,15 @@ two_true o bytes Unreadable h n = absurd (omega (arith, n))
 two_true o bytes (Printer x) h n = absurd (omega (arith, n))
 two_true o bytes Memory h n = absurd (omega (arith, n))
 
-module _ (o : Options) (bytes old : List ℕ) (before : List WasmprinterLine) where
+-- The outcome for an error.
+abbrev outcome_of : Error → Outcome
+outcome_of e = record { status = number_of e; length = 0; count = 0; detail = detail_in e }
+
+module _ (o : Options) (bytes : List ℕ) (b : Buffers) where
   -- An error for a module with a valid indent, or for a component, has its outcome.
-  error_outcome : (new : List ℕ) (after : List WasmprinterLine) (e : Error) → IsTrueOrUncopied o bytes e → HasBufferCause o bytes e → LeavesBuffer o bytes e old new →
-      (IsComponent bytes → number_of e ≡ 2) → (¬ IsComponent bytes → IsUtf8 o.indent) → IsOutcome o bytes old new before after (number_of e) 0 0 (detail_in e)
-  error_outcome new after e is_so caused left two valid = record {
+  error_outcome : (e : Error) → IsTrueOrUncopied o bytes e → HasBufferCause o bytes e → LeavesBuffer o bytes e b.old b.new →
+      (IsComponent bytes → number_of e ≡ 2) → (¬ IsComponent bytes → IsUtf8 o.indent) → IsOutcome o bytes b (outcome_of e)
+  error_outcome e is_so caused left two valid = record {
     printed = λ z. absurd (not_zero e z);
     refused = λ z t. record {
       error = e;
@@ -82,70 +86,42 @@ module _ (o : Options) (bytes old : List ℕ) (before : List WasmprinterLine) wh
     no_detail = λ h. absurd (no_such_error e h);
   }
 
-  pub component_outcome : IsComponent bytes → IsOutcome o bytes old old before before (number_of Component) 0 0 (detail_in Component)
-  component_outcome c = error_outcome old before Component (inl c) (refusal_cause ansi_text_meaning o bytes [] Component c) refl (λ h. refl) (λ unmarked. absurd (unmarked c))
+  component_outcome : b.new ≡ b.old → IsComponent bytes → IsOutcome o bytes b (outcome_of Component)
+  component_outcome same c =
+      error_outcome Component (inl c) (refusal_cause (change ansi_text_meaning [] []) o bytes Component c) same (λ h. refl) (λ unmarked. absurd (unmarked c))
 
-  pub memory_outcome : ¬ IsComponent bytes → IsUtf8 o.indent → IsCopied o.indent → IsOutcome o bytes old old before before (number_of Memory) 0 0 (detail_in Memory)
-  memory_outcome unmarked valid copied = error_outcome old before Memory (inr (refl, copied)) (λ placed s. inr copied) (inl refl) (λ c. absurd (unmarked c)) (λ n. valid)
+  memory_outcome : b.new ≡ b.old → ¬ IsComponent bytes → IsUtf8 o.indent → IsCopied o.indent → IsOutcome o bytes b (outcome_of Memory)
+  memory_outcome same unmarked valid copied =
+      error_outcome Memory (inr (refl, copied)) (λ placed s. inr copied) (inl same) (λ c. absurd (unmarked c)) (λ n. valid)
 
-  pub refused_outcome : (new : List ℕ) (after : List WasmprinterLine) (e : Error) → ¬ IsComponent bytes → IsUtf8 o.indent → IsBufferRefusal o bytes e →
-      LeavesBuffer o bytes e old new → IsOutcome o bytes old new before after (number_of e) 0 0 (detail_in e)
-  refused_outcome new after e unmarked valid refused left = error_outcome new after e (inl refused.true_of) refused.caused left (λ c. absurd (unmarked c)) (λ n. valid)
-
-  pub indent_outcome : ¬ IsComponent bytes → ¬ IsUtf8 o.indent → IsOutcome o bytes old old before before 12 0 0 0
-  indent_outcome unmarked wrong = record {
-    printed = λ z. absurd (omega (arith, z));
-    refused = λ z t. absurd (t refl);
-    component = (λ n. absurd (omega (arith, n)), λ c. absurd (unmarked c));
-    wrong_indent = (λ t. (unmarked, wrong), λ w. refl);
-    untouched = λ t. (refl, refl, refl);
-    no_detail = λ h. refl;
-  }
-
-  pub printed_outcome : (new : List ℕ) (after : List WasmprinterLine) (whole count : ℕ) → ¬ IsComponent bytes → IsUtf8 o.indent →
-      HasLinesOver o bytes old new before after whole count → IsOutcome o bytes old new before after 0 whole count 0
-  printed_outcome new after whole count unmarked valid h = record {
-    printed = λ z. h;
-    refused = λ z t. absurd (z refl);
-    component = (λ n. absurd (omega (arith, n)), λ c. absurd (unmarked c));
-    wrong_indent = (λ t. absurd (omega (arith, t)), λ w. absurd (w.1 valid));
-    untouched = λ t. absurd (omega (arith, t));
-    no_detail = λ h. refl;
-  }
+  refused_outcome : (e : Error) → ¬ IsComponent bytes → IsUtf8 o.indent → IsBufferRefusal o bytes e → LeavesBuffer o bytes e b.old b.new →
+      IsOutcome o bytes b (outcome_of e)
+  refused_outcome e unmarked valid refused left = error_outcome e (inl refused.true_of) refused.caused left (λ c. absurd (unmarked c)) (λ n. valid)
 
 -- ---- The result of the function that prints
 
-module _ (bytes old new : List ℕ) (before after : List WasmprinterLine) (r : Outcome) where
-  abbrev Comes : Options → Type 0
-  Comes p = IsOutcome p bytes old new before after r.status r.length r.count r.detail
+module _ (bytes : List ℕ) (b : Buffers) (r : Outcome) (p : Options) where
+  by_result : (e : Error) → r ≡ outcome_of e → IsOutcome p bytes b (outcome_of e) → IsOutcome p bytes b r
+  by_result e is h = subst (IsOutcome p bytes b) (sym is) h
 
-  by_result : (p : Options) (e : Error) → r ≡ record { status = number_of e; length = 0; count = 0; detail = detail_in e } →
-      IsOutcome p bytes old new before after (number_of e) 0 0 (detail_in e) → Comes p
-  by_result p e is h = subst (λ (x : Outcome). IsOutcome p bytes old new before after x.status x.length x.count x.detail) (sym is) h
+  pub marked_by : b.new ≡ b.old → IsComponent bytes → r ≡ outcome_of Component → IsOutcome p bytes b r
+  marked_by same c is = by_result Component is (component_outcome p bytes b same c)
 
-  pub refused_by : (o p : Options) (e : Error) → o ≡ p → ¬ IsComponent bytes → IsUtf8 p.indent → IsBufferRefusal o bytes e →
-      LeavesBuffer o bytes e old new → r ≡ record { status = number_of e; length = 0; count = 0; detail = detail_in e } → Comes p
-  refused_by o p e same unmarked valid refused left is =
-      by_result p e is
-      (refused_outcome p bytes old before new after e unmarked valid (subst (λ (x : Options). IsBufferRefusal x bytes e) same refused)
-      (subst (λ (x : Options). LeavesBuffer x bytes e old new) same left))
+  pub uncopied_by : b.new ≡ b.old → ¬ IsComponent bytes → IsUtf8 p.indent → IsCopied p.indent → r ≡ outcome_of Memory → IsOutcome p bytes b r
+  uncopied_by same unmarked valid copied is = by_result Memory is (memory_outcome p bytes b same unmarked valid copied)
 
-module _ (bytes old : List ℕ) (before : List WasmprinterLine) (r : Outcome) where
-  pub marked_by : (p : Options) → IsComponent bytes → r ≡ record { status = number_of Component; length = 0; count = 0; detail = detail_in Component } →
-      IsOutcome p bytes old old before before r.status r.length r.count r.detail
-  marked_by p c is = by_result bytes old old before before r p Component is (component_outcome p bytes old before c)
-
-  pub uncopied_by : (p : Options) → ¬ IsComponent bytes → IsUtf8 p.indent → IsCopied p.indent →
-      r ≡ record { status = number_of Memory; length = 0; count = 0; detail = detail_in Memory } →
-      IsOutcome p bytes old old before before r.status r.length r.count r.detail
-  uncopied_by p unmarked valid copied is = by_result bytes old old before before r p Memory is (memory_outcome p bytes old before unmarked valid copied)
+  pub refused_by : (o : Options) (e : Error) → o ≡ p → ¬ IsComponent bytes → IsUtf8 p.indent → IsBufferRefusal o bytes e →
+      LeavesBuffer o bytes e b.old b.new → r ≡ outcome_of e → IsOutcome p bytes b r
+  refused_by o e same unmarked valid refused left is =
+      by_result e is
+      (refused_outcome p bytes b e unmarked valid (subst (λ (x : Options). IsBufferRefusal x bytes e) same refused)
+      (subst (λ (x : Options). LeavesBuffer x bytes e b.old b.new) same left))
 
 -- If the text and its lines were printed, the text was printed.
-pub text_over : (o : Options) (bytes old new : List ℕ) (before after : List WasmprinterLine) (whole count : ℕ) →
-    HasLinesOver o bytes old new before after whole count → HasTextOver o bytes old new whole
-text_over o bytes old new before after whole count h = record {
+pub text_over : (o : Options) (bytes : List ℕ) (b : Buffers) (whole count : ℕ) → HasLinesOver o bytes b whole count → HasTextOver o bytes b.old b.new whole
+text_over o bytes b whole count h = record {
   text = h.lines.text;
   printed = h.lines.printed;
-  copied = subst (λ (t : List ℕ). new ≡ over t old) h.lines.appended h.copied;
+  copied = subst (λ (t : List ℕ). b.new ≡ over t b.old) h.lines.appended h.copied;
   counted = subst (λ (t : List ℕ). whole ≡ length t) h.lines.appended h.counted;
 }

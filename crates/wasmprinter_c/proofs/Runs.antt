@@ -6,22 +6,28 @@ use Rattle.wasmprinter_spec.specs.Call.{Call, Text, Newline, Line, Start, Claim,
 use Rattle.wasmprinter_spec.specs.Lines.{TextLine, lines_of, joined_lines, line_places, hint_places, HasFunctionLines}
 use Rattle.wasmprinter_spec.specs.Meaning.{Run}
 use Rattle.wasmprinter_spec.specs.Options.{Options, in_colors}
+use Rattle.wasmprinter_spec.specs.Placed.{PlacedModule}
 use Rattle.wasmprinter_spec.specs.Layout.{layout}
 use Rattle.wasmprinter_spec.proofs.Texts.{alike_texts}
 use Rattle.wasmprinter_laws.proofs.Lines.Starts.{lines_join}
 use Rattle.wasmprinter_laws.proofs.Lines.FunctionLines.{function_lines}
 use Rattle.wasmprinter_writers.specs.Cuts.{lines_at_starts}
+use Rattle.wasmprinter.specs.Change.{Change, change}
 use Rattle.wasmprinter.specs.Printed.{Printed, no_claims}
 use Rattle.wasmprinter.proofs.Texts.{IsPlainly, plainly_printed, module_text}
 use Rattle.wasmprinter_c.specs.Over.{over, over_from}
 use Rattle.wasmprinter_c.specs.Copied.{Grows, Starts, CopiedAfter, copied_meaning}
-use Rattle.wasmprinter_c.specs.Printing.{HasLinesOver}
+use Rattle.wasmprinter_c.specs.Printing.{buffers, HasLinesOver}
 use Rattle.wasmprinter_c.specs.Lines.{entry, entries, line_start}
 use Rattle.wasmprinter_c.specs.declared.buffer_printer.WasmprinterLine.{WasmprinterLine}
 use Rattle.wasmprinter_c.specs.declared.buffer_printer.Copier.{Copier}
 use Rattle.wasmprinter_c.proofs.Overs.{over_more}
 use Rattle.wasmprinter_c.proofs.Cuts.{lines-cut}
 use Rattle.wasmprinter_c.proofs.Bounds.{layout_lines}
+
+-- The change of a printer over a buffer.
+abbrev pub copying : Copier → Copier → Change Copier
+copying old new = change copied_meaning old new
 
 pub claims_never : (s : Copier) (c : Call) (t : Copier) → CopiedAfter s c t → IsUnclaimed c
 claims_never s (Text bytes) t h = tt
@@ -139,16 +145,17 @@ alike_entries k l e = sym (entries-atoms 0 k) ∙ ap (λ (c : List Call). entrie
 
 -- ---- A module that was printed completely
 
-pub printed_over : (o : Options) (bytes : List ℕ) (old new : Copier) → IsFresh old → Printed copied_meaning false o bytes old new →
-    HasLinesOver o bytes old.out.now new.out.now old.lines.now new.lines.now new.written new.count
+pub printed_over : (o : Options) (bytes : List ℕ) (old new : Copier) → IsFresh old → Printed (copying old new) false o bytes →
+    HasLinesOver o bytes (buffers old.out.now new.out.now old.lines.now new.lines.now) new.written new.count
 printed_over o bytes old new fresh v =
     let by : Options = in_colors o false in
-    let own : IsPlainly o v.calls v.placed = plainly_printed copied_meaning o claims_never bytes old new v in
-    let laid : List Call = layout by no_claims v.placed in
+    let placed : PlacedModule = v.decoded.placed in
+    let own : IsPlainly o v.calls placed = plainly_printed v claims_never in
+    let laid : List Call = layout by no_claims placed in
     let has : HasCopied old (text_of v.calls) (entries 0 v.calls) new = run_copied old new v.calls fresh v.run in
     let same : text_of v.calls ≡ text_of laid = alike_texts v.calls laid own.alike in
     let table : entries 0 v.calls ≡ entries 0 laid = alike_entries v.calls laid own.alike in
-    let few : length (entries 0 laid) ≤ length (text_of laid) = layout_lines by no_claims v.placed in
+    let few : length (entries 0 laid) ≤ length (text_of laid) = layout_lines by no_claims placed in
     let counted : new.written ≡ length (text_of laid) = has.counted ∙ ap length same in
     let small = has.small in
     let entered = has.lines (subst (λ (l : List WasmprinterLine). length l < 2 ^ 64) (sym table) (omega (arith, few, counted, small))) in
@@ -158,13 +165,13 @@ printed_over o bytes old new fresh v =
       table = entries 0 laid;
       lines = record {
         text = text_of laid;
-        printed = module_text o bytes v.placed v.spelled v.within v.foldable own.accepted (text_of laid) refl;
+        printed = module_text o v.decoded v.foldable own.accepted (text_of laid) refl;
         appended = refl;
         are = are;
-        joined = ap joined_lines are ∙ lines_join by no_claims v.placed;
+        joined = ap joined_lines are ∙ lines_join by no_claims placed;
         functions = λ whole flat i f e.
-            subst (λ (ls : List TextLine). HasFunctionLines (hint_places v.placed) (line_places ls) f) (sym are)
-            (function_lines bytes v.placed by no_claims v.spelled whole flat own.accepted i f e);
+            subst (λ (ls : List TextLine). HasFunctionLines (hint_places placed) (line_places ls) f) (sym are)
+            (function_lines bytes placed by no_claims v.decoded.spelled whole flat own.accepted i f e);
       };
       starts = refl;
       copied = has.copied ∙ ap (λ (t : List ℕ). over t old.out.now) same;
@@ -174,6 +181,7 @@ printed_over o bytes old new fresh v =
     }
 
 pub on_ok_over : {T : Type 0} (o : Options) (bytes : List ℕ) (old new : Copier) (r : Result T Error) → IsFresh old →
-    OnOk r (Printed copied_meaning false o bytes old new) → OnOk r (HasLinesOver o bytes old.out.now new.out.now old.lines.now new.lines.now new.written new.count)
+    OnOk r (Printed (copying old new) false o bytes) →
+    OnOk r (HasLinesOver o bytes (buffers old.out.now new.out.now old.lines.now new.lines.now) new.written new.count)
 on_ok_over o bytes old new (Ok x) fresh v = printed_over o bytes old new fresh v
 on_ok_over o bytes old new (Err e) fresh v = tt

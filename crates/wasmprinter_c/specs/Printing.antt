@@ -24,8 +24,23 @@ pub record HasTextOver (o : Options) (bytes old new : List ℕ) (whole : ℕ) : 
   -- `whole` is its length in bytes.
   pub counted : whole ≡ length text
 
--- The bytes encode a module. Its text was written over the buffer, and the entries of its lines over a table.
-pub record HasLinesOver (o : Options) (bytes old new : List ℕ) (before after : List WasmprinterLine) (whole count : ℕ) : Type 0 where
+-- A buffer for text and a table for the starts of lines, before and after a call.
+pub record Buffers : Type 0 where
+  -- The contents of the buffer before the call.
+  pub old : List ℕ
+  -- The contents of the buffer after the call.
+  pub new : List ℕ
+  -- The entries of the table before the call.
+  pub before : List WasmprinterLine
+  -- The entries of the table after the call.
+  pub after : List WasmprinterLine
+
+-- The buffer and the table with these contents. The order is that of the fields.
+abbrev pub buffers : List ℕ → List ℕ → List WasmprinterLine → List WasmprinterLine → Buffers
+buffers old new before after = record { old = old; new = new; before = before; after = after }
+
+-- The bytes encode a module. Its text was written over the buffer, and the entries of its lines over the table.
+pub record HasLinesOver (o : Options) (bytes : List ℕ) (b : Buffers) (whole count : ℕ) : Type 0 where
   -- The text of the module.
   pub text : List ℕ
   -- The entries of all its lines.
@@ -34,12 +49,12 @@ pub record HasLinesOver (o : Options) (bytes old new : List ℕ) (before after :
   -- empty storage.
   pub lines : HasLinesAt o bytes [] text (map line_start table)
   -- The entries are those of the lines of the layout.
-  pub starts : table ≡ entries 0 (layout (in_colors o false) no_claims lines.printed.placed)
+  pub starts : table ≡ entries 0 (layout (in_colors o false) no_claims lines.printed.decoded.placed)
   -- The first bytes of the text, as many as fit, were written over the buffer.
-  pub copied : new ≡ over text old
+  pub copied : b.new ≡ over text b.old
   -- `whole` is the length of the text in bytes.
   pub counted : whole ≡ length text
-  -- The first entries, as many as fit, were written over `before`.
-  pub entered : after ≡ over table before
+  -- The first entries, as many as fit, were written over the table.
+  pub entered : b.after ≡ over table b.before
   -- `count` is the number of all entries.
   pub listed : count ≡ length table

@@ -1,16 +1,17 @@
 -- The results of the library for C for a module that is not printed.
-use Rattle.std.specs.List.{AllByRecursion}
-use Rattle.std.specs.Prelude.{◌≡◌, ◌≤◌, ◌^◌, ◌⊎◌, ℕ, List, ◌++◌, true, false, Some, length}
+use Rattle.std.specs.Prelude.{◌≡◌, ◌≤◌, ◌^◌, ◌⊎◌, ℕ, List, true, false, length}
 use Rattle.wasmprinter_bytes.specs.declared.error.Error.{Error}
 use Rattle.wasmprinter_bytes.specs.declared.error.Error.TheVariants.{Malformed, Component, TooManyLocals, TooManyFunctions, EmptyTableInit, FoldLegacy, FoldHint, DylinkSubsection, Unreadable, Printer, Memory}
 use Rattle.wasmprinter_spec.specs.Binary.{Spells}
 use Rattle.wasmprinter_spec.specs.Placed.{PlacedModule}
-use Rattle.wasmprinter_spec.specs.Limits.{IsWithinLimits}
-use Rattle.wasmprinter_spec.specs.Call.{Call, IsUnclaimed, atoms, text_of}
+use Rattle.wasmprinter_spec.specs.Call.{text_of}
 use Rattle.wasmprinter_spec.specs.Options.{Options, Answers, defaults, in_colors}
-use Rattle.wasmprinter_spec.specs.Layout.{layout, refusal}
-use Rattle.wasmprinter.specs.Outcome.{HasPrintReason, print_reasons, causes, FirstIsUnknown, MayGrow, IsSoundRefusal, WhilePrinting}
+use Rattle.wasmprinter_spec.specs.Layout.{layout}
+use Rattle.wasmprinter.specs.Decoded.{Decoded}
+use Rattle.wasmprinter.specs.Outcome.{HasPrintReason, print_reasons, causes, FirstIsUnknown, MayGrow, IsSoundRefusal}
+use Rattle.wasmprinter.specs.Prefix.{PutsPrefix, PutsTextBefore}
 use Rattle.wasmprinter_c.specs.Over.{over}
+use Rattle.wasmprinter_c.specs.declared.Outcome.{Outcome}
 
 -- The number of an error.
 abbrev pub number_of : Error → ℕ
@@ -46,16 +47,12 @@ IsCopied indent = ¬ (indent ≡ defaults.indent)
 
 -- The text of the module is too long to be counted.
 pub record IsTooLong (o : Options) (bytes : List ℕ) : Type 0 where
-  -- The module, with its places.
-  pub placed : PlacedModule
-  -- The bytes encode it.
-  pub spelled : Spells bytes placed
-  -- It is within the limits.
-  pub within : IsWithinLimits placed
+  -- The module that the bytes encode.
+  pub decoded : Decoded bytes
   -- The answers to the claims of its custom sections.
   pub answers : Answers
   -- The text of its layout has 2^64 bytes or more.
-  pub long : 2 ^ 64 ≤ length (text_of (layout (in_colors o false) answers placed))
+  pub long : 2 ^ 64 ≤ length (text_of (layout (in_colors o false) answers decoded.placed))
 
 -- If the bytes encode a module, the error has one of the causes of `HasListedCause`. The printer fails only if the text
 -- is too long. No section is claimed, so the error names the first section that is refused. An allocation may also fail
@@ -78,59 +75,32 @@ pub record IsBufferRefusal (o : Options) (bytes : List ℕ) (e : Error) : Type 0
 abbrev pub IsTrueOrUncopied : Options → List ℕ → Error → Type 0
 IsTrueOrUncopied o bytes e = IsSoundRefusal o bytes e ⊎ ((e ≡ Memory) × IsCopied o.indent)
 
--- The text of calls that are a prefix of a layout was written over the buffer.
-pub record HoldsPrefix (layout : List Call) (old new : List ℕ) : Type 0 where
-  -- The calls whose text was written.
-  pub calls : List Call
-  -- The calls of the layout after them, with each text cut into single bytes.
-  pub rest : List Call
-  -- With each text cut into single bytes, `calls` and then `rest` are the calls of the layout.
-  pub alike : atoms calls ++ rest ≡ atoms layout
-  -- The calls claim no custom section.
-  pub unclaimed : AllByRecursion IsUnclaimed calls
-  -- The first bytes of their text, as many as fit, were written over the buffer.
-  pub copied : new ≡ over (text_of calls) old
-
--- The module that the bytes encode was being printed. The buffer holds a prefix of the text of its layout.
-abbrev pub HoldsPrefixOf : Options → List ℕ → List ℕ → List ℕ → Type 0
-HoldsPrefixOf o bytes old new =
-    WhilePrinting o bytes (λ placed answers. HoldsPrefix (layout (in_colors o false) answers placed) old new)
-
--- The whole text of a layout that ends at a refused `dylink.0` section was written over the buffer.
-pub record HoldsTextBefore (id : ℕ) (o : Options) (old new : List ℕ) (placed : PlacedModule) (answers : Answers) : Type 0 where
-  -- The layout ends at this section because of its subsection with this id.
-  pub ends : refusal o answers placed ≡ Some id
-  -- No custom section is claimed in the layout.
-  pub unclaimed : AllByRecursion IsUnclaimed (layout o answers placed)
-  -- The first bytes of its text, as many as fit, were written over the buffer.
-  pub copied : new ≡ over (text_of (layout o answers placed)) old
-
 -- The contents of the buffer after an error. Of a text that is longer than the buffer, it has the first bytes.
 abbrev pub LeavesBuffer : Options → List ℕ → Error → List ℕ → List ℕ → Type 0
 -- After an unknown subsection of a `dylink.0` section: the text before that section.
-LeavesBuffer o bytes (DylinkSubsection id) old new = WhilePrinting o bytes (HoldsTextBefore id (in_colors o false) old new)
+LeavesBuffer o bytes (DylinkSubsection id) old new = PutsTextBefore id o bytes (λ text. new ≡ over text old)
 -- If the text is too long: a prefix of the text.
-LeavesBuffer o bytes (Printer e) old new = HoldsPrefixOf o bytes old new
+LeavesBuffer o bytes (Printer e) old new = PutsPrefix o bytes (λ text. new ≡ over text old)
 -- If an allocation failed: the buffer is unchanged or, only if operators are folded, has a prefix of the text.
-LeavesBuffer o bytes Memory old new = (new ≡ old) ⊎ ((o.folds ≡ true) × HoldsPrefixOf o bytes old new)
+LeavesBuffer o bytes Memory old new = (new ≡ old) ⊎ ((o.folds ≡ true) × PutsPrefix o bytes (λ text. new ≡ over text old))
 -- After any other error: the buffer is unchanged.
 LeavesBuffer o bytes e old new = new ≡ old
 
--- The module was refused.
-pub record IsRefusedWith (o : Options) (bytes old new : List ℕ) (status whole count detail : ℕ) : Type 0 where
+-- The module was refused with this outcome. `old` and `new` are the contents of the buffer before and after.
+pub record IsRefusedWith (o : Options) (bytes old new : List ℕ) (outcome : Outcome) : Type 0 where
   -- The error.
   pub error : Error
   -- The status is its number.
-  pub numbered : status ≡ number_of error
+  pub numbered : outcome.status ≡ number_of error
   -- The detail is its place, count or id, or 0 if it has none.
-  pub detailed : detail ≡ detail_in error
+  pub detailed : outcome.detail ≡ detail_in error
   -- It is true of the bytes, or the indent was not copied because an allocation failed.
   pub is_so : IsTrueOrUncopied o bytes error
   -- If the bytes encode a module, it has one of the causes of `HasBufferCause`.
   pub caused : HasBufferCause o bytes error
   -- The buffer has the contents that the error leaves.
   pub left : LeavesBuffer o bytes error old new
-  -- `whole`, the length of the text, is 0.
-  pub uncounted : whole ≡ 0
-  -- `count`, the number of lines, is 0.
-  pub unlisted : count ≡ 0
+  -- The length of the text is given as 0.
+  pub uncounted : outcome.length ≡ 0
+  -- The number of lines is given as 0.
+  pub unlisted : outcome.count ≡ 0

@@ -9,7 +9,7 @@ ghost use Rattle.std.specs.Str.{IsUtf8};
 ghost use Rattle.wasmprinter_spec.specs.Binary.{IsComponent};
 ghost use Rattle.wasmprinter_c.specs.Over.{over};
 ghost use Rattle.wasmprinter_c.specs.Messages.{message};
-ghost use Rattle.wasmprinter_c.specs.Printing.{options_of, HasTextOver, HasLinesOver};
+ghost use Rattle.wasmprinter_c.specs.Printing.{options_of, buffers, HasTextOver, HasLinesOver};
 ghost use Rattle.wasmprinter_c.specs.Refused.{number_of, detail_in, IsCopied, IsBufferRefusal, LeavesBuffer, IsRefusedWith};
 ghost use Rattle.wasmprinter_c.specs.Outcomes.{IsOutcome};
 ghost use Rattle.wasmprinter_c.specs.Statuses.{ok_status, component_status, indent_status, library_version};
@@ -116,8 +116,9 @@ fn print_to(
     requires no_line { copier.old.count ≡ 0 }
     ensures same_buffer { copier.new.out.ghost_name ≡ copier.old.out.ghost_name }
     ensures same_table { copier.new.lines.ghost_name ≡ copier.old.lines.ghost_name }
-    ensures printed { OnOk result (HasLinesOver config.now wasm.now copier.old.out.now copier.new.out.now
-        copier.old.lines.now copier.new.lines.now copier.new.written copier.new.count) }
+    ensures printed { OnOk result (HasLinesOver config.now wasm.now
+        (buffers copier.old.out.now copier.new.out.now copier.old.lines.now copier.new.lines.now)
+        copier.new.written copier.new.count) }
     ensures refused { IfErr result (IsBufferRefusal config.now wasm.now) }
     ensures left { IfErr result (λ e. LeavesBuffer config.now wasm.now e copier.old.out.now copier.new.out.now) }
     ensures component { IsErrOf result Error.Component ↔ IsComponent wasm.now }
@@ -134,7 +135,8 @@ fn print_over(
     out: &mut [u8],
     lines: &mut [WasmprinterLine],
 ) -> Result<Extent, Error>
-    ensures printed { IfOk result (λ x. HasLinesOver config.now wasm.now out.old out.new lines.old lines.new x.length x.count) }
+    ensures printed { IfOk result (λ x.
+        HasLinesOver config.now wasm.now (buffers out.old out.new lines.old lines.new) x.length x.count) }
     ensures refused { IfErr result (IsBufferRefusal config.now wasm.now) }
     ensures left { IfErr result (λ e. LeavesBuffer config.now wasm.now e out.old out.new) }
     ensures component { IsErrOf result Error.Component ↔ IsComponent wasm.now }
@@ -169,8 +171,7 @@ fn print_by(
     out: &mut [u8],
     lines: &mut [WasmprinterLine],
 ) -> Outcome
-    ensures { IsOutcome (options_of options.now indent.now) wasm.now out.old out.new lines.old lines.new
-        result.status result.length result.count result.detail }
+    ensures { IsOutcome (options_of options.now indent.now) wasm.now (buffers out.old out.new lines.old lines.new) result }
 {
     if is_component(wasm) {
         return refused(&Error::Component);
@@ -232,7 +233,8 @@ pub extern "C" fn wasmprinter_print(
     ensures printed { result ≡ ok_status → HasTextOver (options_of options.now indent.now) wasm.now out.old out.new length.new }
     // The 0 is the number of lines: this function writes no table of lines.
     ensures refused { ¬ (result ≡ ok_status) → ¬ (result ≡ indent_status) →
-        IsRefusedWith (options_of options.now indent.now) wasm.now out.old out.new result length.new 0 detail.new }
+        IsRefusedWith (options_of options.now indent.now) wasm.now out.old out.new
+        (record { status = result; length = length.new; count = 0; detail = detail.new }) }
     ensures component { result ≡ component_status ↔ IsComponent wasm.now }
     ensures wrong_indent { result ≡ indent_status ↔ ((¬ IsComponent wasm.now) × (¬ IsUtf8 indent.now)) }
     ensures untouched { result ≡ indent_status → (out.new ≡ out.old) × (length.new ≡ 0) }
@@ -263,9 +265,11 @@ pub extern "C" fn wasmprinter_print_lines(
     detail: &mut u64,
 ) -> u32
     ensures printed { result ≡ ok_status →
-        HasLinesOver (options_of options.now indent.now) wasm.now out.old out.new lines.old lines.new length.new count.new }
+        HasLinesOver (options_of options.now indent.now) wasm.now (buffers out.old out.new lines.old lines.new)
+        length.new count.new }
     ensures refused { ¬ (result ≡ ok_status) → ¬ (result ≡ indent_status) →
-        IsRefusedWith (options_of options.now indent.now) wasm.now out.old out.new result length.new count.new detail.new }
+        IsRefusedWith (options_of options.now indent.now) wasm.now out.old out.new
+        (record { status = result; length = length.new; count = count.new; detail = detail.new }) }
     ensures component { result ≡ component_status ↔ IsComponent wasm.now }
     ensures wrong_indent { result ≡ indent_status ↔ ((¬ IsComponent wasm.now) × (¬ IsUtf8 indent.now)) }
     ensures untouched { result ≡ indent_status → (out.new ≡ out.old) × (length.new ≡ 0) × (count.new ≡ 0) }

@@ -1,5 +1,5 @@
 -- The text is empty before the module is printed in color.
-use Rattle.std.proofs.Common.{sym, subst}
+use Rattle.std.proofs.Common.{true, sym, subst}
 use Rattle.wasmprinter.specs.Outcome.{IsTextRefusal}
 use Rattle.wasmprinter.proofs.Outcomes.{text_refusal}
 use Rattle.wasmprinter.proofs.Colors.{printed_in_colors}
@@ -12,4 +12,4 @@ returns-in-Ok-clause-printed c =
 pub returns-in-Err-clause-refused : goal.returns-in-Err-clause-refused
 returns-in-Err-clause-refused c =
     subst (IsTextRefusal c.args.self.now c.args.wasm.now) (sym c.without_printer.ensures)
-    (text_refusal _ _ c.args.self.now (λ s c t h. h.1) c.args.wasm.now _ c.print.new.printer c.in-Err.error c.in-Err.ensures.left c.in-Err.ensures.refused)
+    (text_refusal true c.in-Err.ensures.refused (λ s c t h. h.1) c.in-Err.ensures.left)

@@ -1,4 +1,4 @@
-use Rattle.std.proofs.Common.{sym, subst}
+use Rattle.std.proofs.Common.{false, sym, subst}
 use Rattle.wasmprinter_print.proofs.TextRuns.{takes_none}
 use Rattle.wasmprinter.specs.Plain.{appends}
 use Rattle.wasmprinter.specs.Outcome.{IsTextRefusal}
@@ -13,4 +13,4 @@ returns-in-Ok-clause-printed c =
 pub returns-in-Err-clause-refused : goal.returns-in-Err-clause-refused
 returns-in-Err-clause-refused c =
     subst (IsTextRefusal c.args.self.now c.args.wasm.now) (sym c.without_printer.ensures)
-    (text_refusal _ _ c.args.self.now (takes_none appends) c.args.wasm.now _ c.print.new.printer c.in-Err.error c.in-Err.ensures.left c.in-Err.ensures.refused)
+    (text_refusal false c.in-Err.ensures.refused (takes_none appends) c.in-Err.ensures.left)

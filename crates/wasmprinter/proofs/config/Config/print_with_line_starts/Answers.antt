@@ -1,5 +1,5 @@
 -- The text and the lines that the tracker kept, and the result of `finish`.
-use Rattle.std.proofs.Common.{rules, ◌≡◌, string_bytes, sym, ap, ◌∙◌, subst}
+use Rattle.std.proofs.Common.{rules, ◌≡◌, false, string_bytes, sym, ap, ◌∙◌, subst}
 use Rattle.wasmprinter_writers.specs.Cuts.{lines_at_starts}
 use Rattle.wasmprinter_writers.specs.Tracked.{without_lines}
 use Rattle.wasmprinter_writers.proofs.LineRuns.{claims_never}
@@ -21,10 +21,8 @@ returns-in-Ok-clause-lines c =
 
 pub returns-in-Ok-clause-refused : goal.returns-in-Ok-clause-refused
 returns-in-Ok-clause-refused c =
-    let base = string_bytes c.args.storage.now in
-    let begun : c.new-printer.result ≡ without_lines base = c.new-printer.ensures ∙ ap (λ s. without_lines (string_bytes s)) c.replace-text.ensures.value in
     told_as _ (λ e y h. search rules) c.finish-text.result.1 c.map_err.result c.map_err.ensures.cases (IsTextRefusal c.args.self.now c.args.wasm.now)
-    (memory_refusal c.args.self.now c.args.wasm.now base (string_bytes c.finish-text.result.0) c.new-printer.result c.print-printed.new.printer begun c.finish-text.ensures.text c.in-Ok.ensures.printed)
+    (memory_refusal c.in-Ok.ensures.printed)
 
 pub returns-in-Ok-clause-left : goal.returns-in-Ok-clause-left
 returns-in-Ok-clause-left c =
@@ -38,7 +36,7 @@ returns-in-Ok-clause-left c =
 pub returns-in-Err-clause-refused : goal.returns-in-Err-clause-refused
 returns-in-Err-clause-refused c =
     subst (IsTextRefusal c.args.self.now c.args.wasm.now) (sym c.without_printer.ensures)
-    (text_refusal _ _ c.args.self.now claims_never c.args.wasm.now _ c.print-printed.new.printer c.in-Err.error c.in-Err.ensures.left c.in-Err.ensures.refused)
+    (text_refusal false c.in-Err.ensures.refused claims_never c.in-Err.ensures.left)
 
 pub returns-in-Err-clause-left : goal.returns-in-Err-clause-left
 returns-in-Err-clause-left c =
