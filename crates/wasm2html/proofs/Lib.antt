@@ -1,0 +1,2 @@
+-- Lemmas on the encoding.
+pub mod Inert
