@@ -5,7 +5,7 @@
 -- its byte offset from the start of the module in hexadecimal (or nothing), a space, the encoded text of the line, and
 -- a line feed. Between parts of the encoded text, a control character starts a style: 1 for literals, 2 for names, 3
 -- for keywords, 4 for types, 5 for comments, and 6 for text without a style.
-use Rattle.std.specs.Prelude.{ℕ, ◌+◌, ◌≤◌, ◌≢◌, List, [], ◌∷◌, ◌==◌, nat_lt, codes, flat_map, if◌then◌else◌}
+use Rattle.std.specs.Prelude.{ℕ, ◌+◌, ◌-◌, ◌≤◌, ◌≢◌, List, [], ◌∷◌, ◌==◌, nat_lt, codes, flat_map, if◌then◌else◌}
 use Rattle.std.specs.List.{All}
 
 -- Control characters, `%`, `&` and `<` are represented by a percent sign and the character 64 places after them. For
@@ -21,6 +21,12 @@ escape_byte b =
 -- The text with each byte escaped.
 abbrev pub escaped : List ℕ → List ℕ
 escaped text = flat_map escape_byte text
+
+-- The text that an encoded text represents, as the script of the page reads it.
+abbrev pub unescaped : List ℕ → List ℕ
+unescaped [] = []
+unescaped (b ∷ []) = b ∷ []
+unescaped (b ∷ c ∷ rest) = if b == 37 then (c - 64) ∷ unescaped rest else b ∷ unescaped (c ∷ rest)
 
 -- The byte is no control character, no `&` and no `<`.
 abbrev pub IsInertByte : ℕ → Type 0

@@ -1,6 +1,6 @@
 //! The encoding of text in the data of the page.
-ghost use Rattle.std.specs.Prelude.{◌≡◌, ◌++◌, OnOk};
-ghost use Rattle.wasm2html.specs.Escaped.{escape_byte, escaped, IsInert};
+ghost use Rattle.std.specs.Prelude.{◌≡◌, ℕ, List, ◌++◌, OnOk};
+ghost use Rattle.wasm2html.specs.Escaped.{escape_byte, escaped, unescaped, IsInert};
 
 use std::alloc::AllocError;
 
@@ -26,15 +26,20 @@ fn push_escaped(out: &mut Vec<u8>, byte: u8) -> Result<(), AllocError>
     }
 }
 
-/// Appends the encoding of a text. It has no control character, no `<` and no `&`. So it can't end its element of the
-/// page, and can't start a line of data or change the style.
-#[tactic(auto, using(std::proofs::lemmas::List::take_all, crate::proofs::Inert::escaped_is_inert))]
+/// Appends the encoding of a text.
+#[tactic(auto, using(std::proofs::lemmas::List::take_all))]
 pub fn append_text(out: &mut Vec<u8>, text: &[u8]) -> Result<(), AllocError>
-    ensures text { OnOk result (out.new.items ≡ out.old.items ++ escaped text.now) }
-    ensures inert { IsInert (escaped text.now) }
+    ensures { OnOk result (out.new.items ≡ out.old.items ++ escaped text.now) }
 {
     for byte in text {
         push_escaped(out, *byte)?;
     }
     Ok(())
 }
+
+/// A law: the encoding of a text has no control character, no `<` and no `&`. So it can't end its element of the page,
+/// and can't start a line of data or change the style. The text can be read from its encoding.
+pub fn encoding_is_safe()
+    ensures inert { (text : List ℕ) → IsInert (escaped text) }
+    ensures readable { (text : List ℕ) → unescaped (escaped text) ≡ text }
+{}

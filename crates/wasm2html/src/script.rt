@@ -422,8 +422,7 @@ document.addEventListener("click", (event) => {
   const link = event.target.closest("a");
   // A link to the present anchor changes nothing, so no other event follows.
   if (link?.hash === location.hash) goToAnchor(link.hash);
-  // In a narrow window the contents cover the text.
-  if (link || !event.target.closest("#contents, #toggle-contents")) document.body.classList.remove("show-contents");
+  if (link || !event.target.closest("#contents, #toggle-contents")) showContentsOverText(false);
 });
 
 // ---- The contents ----
@@ -511,7 +510,15 @@ byId("find-text").addEventListener("input", () => {
 
 // ---- The buttons ----
 
-byId("toggle-contents").addEventListener("click", () => document.body.classList.toggle("show-contents"));
+/** Shows or hides the contents in a narrow window. A wide window always shows them. */
+function showContentsOverText(isShown) {
+  document.body.classList.toggle("show-contents", isShown);
+  byId("toggle-contents").setAttribute("aria-expanded", String(isShown));
+}
+
+byId("toggle-contents").addEventListener("click", () => {
+  showContentsOverText(!document.body.classList.contains("show-contents"));
+});
 
 byId("toggle-offsets").addEventListener("click", (event) => {
   const areHidden = document.documentElement.classList.toggle("hide-offsets");

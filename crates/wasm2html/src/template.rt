@@ -141,7 +141,7 @@ pub const BODY: &str = r##"</style>
 </head>
 <body>
 <header>
-<button id="toggle-contents" aria-controls="contents">Contents</button>
+<button id="toggle-contents" aria-controls="contents" aria-expanded="false">Contents</button>
 <h1><span id="title">WebAssembly module</span> <small id="size"></small></h1>
 <form id="find" role="search">
 <input id="find-text" type="search" placeholder="Find in the text" aria-label="Find in the text" autocomplete="off">
