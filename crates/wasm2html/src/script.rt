@@ -1,6 +1,6 @@
-//! The script of the page, which renders the data. No text here depends on the module.
+//! The script of the page, which renders the data. The file `stdout` of the crate contains the same text.
 
-/// The last element of the page. Its functions have one purpose each, and comments as in other code.
+/// The script, which is the last element of the page. It uses no library.
 pub const SCRIPT: &str = r##"<script>
 "use strict";
 // The page's data is inert text: one element for each function, and one for each run of other fields. A line of data

@@ -1,4 +1,4 @@
-//! The HTML and the style sheet of the page. No text here depends on the module.
+//! The HTML and the style sheet of the page. The file `stdout` of the crate contains the same text.
 
 /// The start of the page, up to the style sheet.
 pub const HEAD: &str = r##"<!DOCTYPE html>
