@@ -1,7 +1,7 @@
 -- Encoded text is inert.
-use Rattle.std.specs.Prelude.{◌≡◌, ℕ, ◌+◌, ◌≤◌, ◌≢◌, Bool, true, false, List, [], ◌∷◌, ◌==◌, nat_lt, codes, flat_map, if◌then◌else◌}
-use Rattle.std.proofs.Common.{refl, arith}
-use Rattle.std.proofs.lemmas.Bool.Decides.{nat_tests}
+use Rattle.std.specs.Prelude.{◌≡◌, ℕ, ◌+◌, ◌<◌, ◌≤◌, ◌≢◌, Bool, true, false, List, [], ◌∷◌, ◌==◌, nat_lt, codes, flat_map, if◌then◌else◌}
+use Rattle.std.proofs.Common.{refl, sym, ◌∙◌, arith, true≢false}
+use Rattle.std.proofs.lemmas.Bool.Decides.{nat_tests, Decides-eqb}
 use Rattle.std.proofs.lemmas.List.Elements.{All-nil, All-cons, All-append}
 use Rattle.wasm2html.specs.Escaped.{escape_byte, escaped, IsInertByte, IsInert}
 
@@ -22,14 +22,17 @@ at_least : (b : ℕ) → nat_lt b 32 ≡ false → 32 ≤ b
 at_least b e = grind (arith, nat_tests)
 
 other : (b n : ℕ) → (b == n) ≡ false → b ≢ n
-other b n e = grind (arith, nat_tests)
+other b n e h = true≢false (sym ((Decides-eqb b n).1 h) ∙ e)
+
+above : (a b : ℕ) → a < b → b ≢ a
+above a b h e = omega arith
 
 percent : IsInertByte 37
-percent = inert_byte 37 (omega arith) (omega arith) (omega arith)
+percent = inert_byte 37 (omega arith) (other 37 38 refl) (other 37 60 refl)
 
 -- The byte of a percent sign and the character `n`.
 after_percent : (n : ℕ) → 61 ≤ n → IsInert (37 ∷ (n ∷ []))
-after_percent n h = two 37 n percent (inert_byte n (omega arith) (omega arith) (omega arith))
+after_percent n h = two 37 n percent (inert_byte n (omega arith) (above 38 n (omega arith)) (above 60 n (omega arith)))
 
 itself : (b : ℕ) → nat_lt b 32 ≡ false → (b == 38) ≡ false → (b == 60) ≡ false → IsInert (b ∷ [])
 itself b e f g = one b (inert_byte b (at_least b e) (other b 38 f) (other b 60 g))

@@ -1,7 +1,7 @@
 -- The text can be read from its encoding.
 use Rattle.std.specs.Prelude.{◌≡◌, ℕ, ◌+◌, ◌-◌, Bool, true, false, List, [], ◌∷◌, ◌++◌, ◌==◌, nat_lt, flat_map, if◌then◌else◌}
 use Rattle.std.proofs.Common.{refl, ap, ◌∙◌, arith}
-use Rattle.std.proofs.lemmas.Bool.Decides.{nat_tests}
+use Rattle.std.proofs.lemmas.Bool.Decides.{Decides-eqb}
 use Rattle.wasm2html.specs.Escaped.{escape_byte, escaped, unescaped}
 
 -- What `xs` represents, with `ys` after it, is `b` with what `ys` represents after it.
@@ -14,7 +14,7 @@ by_test true xs ys b zs h k = h refl
 by_test false xs ys b zs h k = k refl
 
 equal : (b n : ℕ) → (b == n) ≡ true → b ≡ n
-equal b n e = grind (arith, nat_tests)
+equal b n e = (Decides-eqb b n).0 e
 
 pair : (n b : ℕ) (ys : List ℕ) → n - 64 ≡ b → Represents (37 ∷ (n ∷ [])) b ys
 pair n b ys h = ap (λ x. x ∷ unescaped ys) h
