@@ -62,7 +62,10 @@ h1 small { margin-left: 6px; color: var(--muted); font-size: 13px; font-weight: 
   position: sticky; top: var(--bar); height: calc(100vh - var(--bar)); overflow: auto; overscroll-behavior: contain;
   padding: 0 0 24px; background: var(--panel); border-right: 1px solid var(--border);
 }
-#contents > input { position: sticky; top: 8px; z-index: 1; display: block; width: calc(100% - 24px); margin: 8px 12px; }
+#contents > input {
+  position: sticky; top: 8px; z-index: 1; display: block; width: calc(100% - 24px); margin: 8px 12px;
+  box-shadow: 0 0 0 8px var(--panel);
+}
 #contents summary { padding: 4px 12px; cursor: pointer; font-weight: 600; }
 #contents summary small, .row small { color: var(--muted); font-size: 12px; font-weight: normal; }
 .row { display: flex; gap: 8px; height: var(--row); padding: 0 12px; white-space: pre; font: 12px/var(--row) var(--mono); }
