@@ -6,7 +6,7 @@ use Rattle.std.proofs.lemmas.List.Elements.{All-nil, All-cons, All-append}
 use Rattle.wasm2html.specs.Escaped.{escape_byte, escaped, IsInertByte, IsInert}
 
 inert_byte : (b : ℕ) → 32 ≤ b → b ≢ 38 → b ≢ 60 → IsInertByte b
-inert_byte b h k m = (h, (k, m))
+inert_byte b h k m = (h, k, m)
 
 one : (b : ℕ) → IsInertByte b → IsInert (b ∷ [])
 one b h = All-cons IsInertByte b [] h (All-nil IsInertByte)

@@ -12,7 +12,7 @@ use Rattle.std.specs.List.{All}
 -- `%` it is `e`, for `&` it is `f`, and for `<` it is `|`. Other bytes represent themselves.
 abbrev pub escape_byte : ℕ → List ℕ
 escape_byte b =
-    if nat_lt b 32 then 37 ∷ (b + 64 ∷ [])
+    if nat_lt b 32 then 37 ∷ ((b + 64) ∷ [])
     else (if b == 37 then codes "%e"
     else (if b == 38 then codes "%f"
     else (if b == 60 then codes "%|"
