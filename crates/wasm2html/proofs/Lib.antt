@@ -1,0 +1,3 @@
+-- Lemmas on the encoding.
+pub mod Inert
+pub mod Reading
