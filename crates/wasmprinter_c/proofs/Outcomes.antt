@@ -1,5 +1,5 @@
 -- The outcome of a call for each of its results.
-use Rattle.std.proofs.Common.{◌≡◌, ◌⊎◌, ℕ, List, [], length, refl, sym, subst, arith, inl, inr}
+use Rattle.std.proofs.Common.{◌≡◌, ◌⊎◌, ℕ, List, [], refl, sym, subst, arith, inl, inr}
 use Rattle.std.specs.Str.{IsUtf8}
 use Rattle.wasmprinter_bytes.specs.declared.error.Error.{Error}
 use Rattle.wasmprinter_bytes.specs.declared.error.Error.TheVariants.{Malformed, Component, TooManyLocals, TooManyFunctions, EmptyTableInit, FoldLegacy, FoldHint, DylinkSubsection, Unreadable, Printer, Memory}
@@ -8,8 +8,7 @@ use Rattle.wasmprinter_spec.specs.Options.{Options}
 use Rattle.wasmprinter.specs.Change.{change}
 use Rattle.wasmprinter.specs.AnsiText.{ansi_text_meaning}
 use Rattle.wasmprinter.proofs.Outcomes.{refusal_cause}
-use Rattle.wasmprinter_c.specs.Over.{over}
-use Rattle.wasmprinter_c.specs.Printing.{Buffers, HasLinesOver, HasTextOver}
+use Rattle.wasmprinter_c.specs.Printing.{Buffers}
 use Rattle.wasmprinter_c.specs.Refused.{number_of, detail_in, IsCopied, HasBufferCause, IsBufferRefusal, IsTrueOrUncopied, LeavesBuffer}
 use Rattle.wasmprinter_c.specs.Outcomes.{IsOutcome}
 use Rattle.wasmprinter_c.specs.declared.Outcome.{Outcome}
@@ -116,12 +115,3 @@ module _ (bytes : List ℕ) (b : Buffers) (r : Outcome) (p : Options) where
       by_result e is
       (refused_outcome p bytes b e unmarked valid (subst (λ (x : Options). IsBufferRefusal x bytes e) same refused)
       (subst (λ (x : Options). LeavesBuffer x bytes e b.old b.new) same left))
-
--- If the text and its lines were printed, the text was printed.
-pub text_over : (o : Options) (bytes : List ℕ) (b : Buffers) (whole count : ℕ) → HasLinesOver o bytes b whole count → HasTextOver o bytes b.old b.new whole
-text_over o bytes b whole count h = record {
-  text = h.lines.text;
-  printed = h.lines.printed;
-  copied = subst (λ (t : List ℕ). b.new ≡ over t b.old) h.lines.appended h.copied;
-  counted = subst (λ (t : List ℕ). whole ≡ length t) h.lines.appended h.counted;
-}

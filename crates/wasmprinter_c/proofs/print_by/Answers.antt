@@ -1,5 +1,5 @@
 -- The outcomes of a component, of an indent that was not copied, and of an error of printing.
-use Rattle.std.proofs.Common.{◌∙◌, true, false, refl, sym, ap, subst, true≢false}
+use Rattle.std.proofs.Common.{◌∙◌, refl, sym, ap, subst, true≢false}
 use Rattle.wasmprinter_c.specs.Printing.{options_of, buffers}
 use Rattle.wasmprinter_c.specs.Refused.{IsCopied}
 use Rattle.wasmprinter_c.proofs.Outcomes.{marked_by, uncopied_by, refused_by}
