@@ -1,7 +1,7 @@
 -- The outcome of a run that ends with an error, and of one that may.
 use Rattle.std.specs.Prelude.{◌≡◌, ℕ, ◌⊎◌, List, Option, Some, None, Result, Ok, Err, IfOk, IfErr}
 use Rattle.std.proofs.Common.{sym, ◌∙◌, arith, inl, inr}
-use Rattle.wasmprinter_bytes.specs.declared.error.Error.{Error}
+use Rattle.wasmprinter_bytes.specs.declared.library_error.Error.{Error}
 use Rattle.printwasm.specs.Words.{named_file, choice_of}
 use Rattle.printwasm.specs.Outcome.{System, FailsToWrite, ReportsError, HasOutcome}
 

@@ -2,6 +2,8 @@
 //! WebAssembly module as text.
 #![tactic(auto)]
 
+#[cfg(test)]
+mod error_line_tests;
 mod error_lines;
 #[cfg(test)]
 mod io_tests;

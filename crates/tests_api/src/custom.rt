@@ -1,5 +1,5 @@
 //! Tests of a user-defined printer and of a user-defined writer with colors.
-ghost use Rattle.std.specs.Prelude.{◌≡◌, None, false, true, Ok};
+ghost use Rattle.std.specs.Prelude.{None, false, true, Ok};
 
 use crate::printing::print_to;
 use std::io;

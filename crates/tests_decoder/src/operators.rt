@@ -6,12 +6,13 @@ mod opcodes;
 use std::alloc::{AllocError, Global};
 use std::test::Fail;
 use wasmprinter_bytes::cursor::Cursor;
-use wasmprinter_bytes::lists::{Decode, Items};
+use wasmprinter_bytes::items::Items;
+use wasmprinter_bytes::lists::Decode;
 use wasmprinter_bytes::{Error, Malformed};
 use wasmprinter_ops::blocks::{BlockType, Catch};
-use wasmprinter_ops::composite::{CompositeType, FieldType, StorageType, SubType, SubTypes};
+use wasmprinter_ops::composite_types::{CompositeType, FieldType, StorageType, SubType, SubTypes};
 use wasmprinter_ops::expression::{Expression, OperatorsReader};
-use wasmprinter_ops::operands::MemArg;
+use wasmprinter_ops::mem_arg::MemArg;
 use wasmprinter_ops::operator::{Immediates, Operator};
 use wasmprinter_ops::{HeapType, RefType, ValType, read_type, read_types};
 

@@ -5,7 +5,7 @@ use Rattle.wasmprinter_spec.specs.Kinds.{Kind}
 use Rattle.wasmprinter_spec.specs.Placed.{PlacedModule}
 use Rattle.wasmprinter_spec.specs.Names.{Names}
 use Rattle.wasmprinter_spec.specs.ModuleNames.{module_names}
-use Rattle.wasmprinter_spec.specs.Options.{Options, Answers, in_colors}
+use Rattle.wasmprinter_spec.specs.Options.{Options, Answers, with_color}
 use Rattle.wasmprinter_spec.specs.Piece.{Piece}
 use Rattle.wasmprinter_spec.specs.Layout.{early_scope, section_order, section_parts, module_parts, refusal}
 use Rattle.wasmprinter_spec.specs.Layout.Customs.{Part, Laid, laid_parts, parts_at}
@@ -31,7 +31,7 @@ module _ (o : Options) (b c : Bool) (answers : Answers) (names : Names) (m : Pla
   customs_end after = record { end = refl }
 
   abbrev parts_by : Bool → Kind → List Part
-  parts_by color = section_parts (in_colors o color) (early_scope (in_colors o color) names m) m answers
+  parts_by color = section_parts (with_color o color) (early_scope (with_color o color) names m) m answers
 
   section_end : (k : Kind) → HaveSameEnd (parts_by b k) (parts_by c k)
   section_end k = record { end = refl }
@@ -40,10 +40,10 @@ module _ (o : Options) (b c : Bool) (answers : Answers) (names : Names) (m : Pla
   sections_end [] = record { end = refl }
   sections_end (k ∷ ks) = both_end (section_end k) (sections_end ks)
 
-  parts_end : HaveSameEnd (module_parts (in_colors o b) answers names m) (module_parts (in_colors o c) answers names m)
+  parts_end : HaveSameEnd (module_parts (with_color o b) answers names m) (module_parts (with_color o c) answers names m)
   unfolding module_parts
   parts_end = both_end (customs_end None) (sections_end section_order)
 
 -- A layout with escape sequences is refused exactly as the layout without them.
-pub refusal-color : (o : Options) (b c : Bool) (answers : Answers) (m : PlacedModule) → refusal (in_colors o b) answers m ≡ refusal (in_colors o c) answers m
+pub refusal-color : (o : Options) (b c : Bool) (answers : Answers) (m : PlacedModule) → refusal (with_color o b) answers m ≡ refusal (with_color o c) answers m
 refusal-color o b c answers m = (parts_end o b c answers (module_names o.synthesizes m) m).end

@@ -5,7 +5,7 @@ use Rattle.wasmprinter_spec.specs.Call.{Call, atoms}
 use Rattle.wasmprinter_spec.specs.Color.{uncolor}
 use Rattle.wasmprinter_spec.specs.Meaning.{Run}
 use Rattle.wasmprinter_spec.specs.Colored.{colored_bytes, colored_text}
-use Rattle.wasmprinter_spec.specs.Options.{Options, in_colors}
+use Rattle.wasmprinter_spec.specs.Options.{Options, with_color}
 use Rattle.wasmprinter_spec.specs.Placed.{PlacedModule}
 use Rattle.wasmprinter_spec.specs.Layout.{layout, refusal}
 use Rattle.wasmprinter_spec.proofs.Texts.{alike_colored}
@@ -29,13 +29,13 @@ colored_run old new (c ∷ calls) r =
 -- sequences.
 pub printed_in_colors : (o : Options) (bytes old new : List ℕ) → old ≡ [] → Printed (change ansi_text_meaning old new) true o bytes → HasColoredTextBy o bytes new
 printed_in_colors o bytes old new empty v =
-    let by : Options = in_colors o true in
+    let by : Options = with_color o true in
     let placed : PlacedModule = v.decoded.placed in
     let own : IsSame by v.answers placed = unclaimed_printed v (λ s c t h. h.1) in
     let laid : List Call = layout by no_claims placed in
     let received : new ≡ colored_text v.calls = colored_run old new v.calls v.run ∙ ap (λ t. t ++ colored_text v.calls) empty in
     let is : new ≡ colored_text laid = received ∙ alike_colored v.calls laid (v.alike ∙ ap atoms own.layout) in
-    let accepted : refusal (in_colors o false) no_claims placed ≡ None = refusal-color o false true no_claims placed ∙ (sym own.refusal ∙ v.accepted) in
+    let accepted : refusal (with_color o false) no_claims placed ≡ None = refusal-color o false true no_claims placed ∙ (sym own.refusal ∙ v.accepted) in
     record {
       decoded = v.decoded;
       foldable = v.foldable;

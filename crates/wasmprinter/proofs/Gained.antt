@@ -5,7 +5,7 @@ use Rattle.std.proofs.Common.{ap, ◌∙◌, sym}
 use Rattle.wasmprinter_spec.specs.Call.{Call, Text, Newline, Line, Start, Claim, IsUnclaimed, atoms, text_of}
 use Rattle.wasmprinter_spec.specs.Color.{uncolor}
 use Rattle.wasmprinter_spec.specs.Colored.{colored_text}
-use Rattle.wasmprinter_spec.specs.Options.{Options, IsBlank, in_colors}
+use Rattle.wasmprinter_spec.specs.Options.{Options, IsBlank, with_color}
 use Rattle.wasmprinter_spec.specs.Placed.{PlacedModule}
 use Rattle.wasmprinter_spec.specs.Layout.{layout}
 use Rattle.wasmprinter_spec.proofs.Texts.{alike_texts, alike_colored}
@@ -43,13 +43,13 @@ module _ {P S U Q R : Type 0} (writer : P → S) (inner : S → U) (told : U →
       Printed (change (colored_meaning plain_writer (TakesWhole plain_told) KeepsColor) x y) false o bytes →
       GainAlike (told (inner (writer s))) (told (inner (writer t))) (plain_told (plain_writer x)) (plain_told (plain_writer y))
   gained_alike o bytes spaces s t x y v u =
-      let by : Options = in_colors o true in
+      let by : Options = with_color o true in
       let m : PlacedModule = v.decoded.placed in
       let n : PlacedModule = u.decoded.placed in
       let own : IsSame by v.answers m = unclaimed_printed v (λ a c b h. leaves_sections own_takes own_colors (writer a) c (writer b) h) in
       let laid : List Call = layout by no_claims m in
       let other : IsPlainly o u.calls n = plainly_printed u (λ a c b h. leaves_sections (TakesWhole plain_told) KeepsColor (plain_writer a) c (plain_writer b) h) in
-      let bare : PlacedModule → List ℕ = λ placed. text_of (layout (in_colors o false) no_claims placed) in
+      let bare : PlacedModule → List ℕ = λ placed. text_of (layout (with_color o false) no_claims placed) in
       record {
         colored = colored_text v.calls;
         plain = text_of u.calls;
@@ -59,7 +59,7 @@ module _ {P S U Q R : Type 0} (writer : P → S) (inner : S → U) (told : U →
             ap uncolor (alike_colored v.calls laid (v.alike ∙ ap atoms own.layout))
             ∙ colored_text_keeps prints_plain_text bytes m by no_claims v.decoded.spelled spaces
             ∙ ap bare (same_module v.decoded n u.decoded.spelled)
-            ∙ sym (alike_texts u.calls (layout (in_colors o false) no_claims n) other.alike);
+            ∙ sym (alike_texts u.calls (layout (with_color o false) no_claims n) other.alike);
       }
 
 -- ---- Text-only printers
@@ -73,5 +73,5 @@ gains_text view writes grows o bytes old new v =
       gained = text_is_gained view writes grows old v.calls new v.run;
       is =
           module_text o v.decoded v.foldable own.accepted (text_of v.calls)
-          (alike_texts v.calls (layout (in_colors o false) no_claims v.decoded.placed) own.alike);
+          (alike_texts v.calls (layout (with_color o false) no_claims v.decoded.placed) own.alike);
     }

@@ -5,7 +5,7 @@ use Rattle.wasmprinter_spec.specs.Binary.{Spells}
 use Rattle.wasmprinter_spec.specs.Placed.{PlacedModule}
 use Rattle.wasmprinter_spec.specs.Call.{text_of}
 use Rattle.wasmprinter_spec.specs.Color.{uncolor}
-use Rattle.wasmprinter_spec.specs.Options.{Options, Answers, IsBlank, in_colors}
+use Rattle.wasmprinter_spec.specs.Options.{Options, Answers, IsBlank, with_color}
 use Rattle.wasmprinter_spec.specs.Plain.{IsPlainText}
 use Rattle.wasmprinter_spec.specs.Folding.Refusals.{IsFoldable}
 use Rattle.wasmprinter_spec.specs.Layout.{layout, refusal}
@@ -23,18 +23,18 @@ use Rattle.wasmprinter.proofs.Claims.{alike_unclaimed, unclaimed_layout}
 use Rattle.wasmprinter.proofs.ColorRefusals.{refusal-color}
 
 -- A module that can be folded can also be folded with escape sequences.
-pub foldable_in : (o : Options) (b : Bool) (m : PlacedModule) → IsFoldable o m → IsFoldable (in_colors o b) m
+pub foldable_in : (o : Options) (b : Bool) (m : PlacedModule) → IsFoldable o m → IsFoldable (with_color o b) m
 foldable_in o b m f = record { legacy = f.legacy; hints = f.hints }
 
 -- If the bytes encode a module and all calls of its layout were made, the module was printed.
 pub printed : {P : Type 0} (printer : Change P) (colors : Bool) (o : Options) {bytes : List ℕ} (d : Decoded bytes) (answers : Answers) → IsFoldable o d.placed →
-    refusal (in_colors o colors) answers d.placed ≡ None → Whole printer.meaning printer.old printer.new (layout (in_colors o colors) answers d.placed) →
+    refusal (with_color o colors) answers d.placed ≡ None → Whole printer.meaning printer.old printer.new (layout (with_color o colors) answers d.placed) →
     Printed printer colors o bytes
 printed printer colors o {bytes} d answers foldable accepted made =
     let placed : PlacedModule = d.placed in
     let spelled : Spells bytes placed = d.spelled in
-    let by : Options = in_colors o colors in
-    let plainly : Options = in_colors o false in
+    let by : Options = with_color o colors in
+    let plainly : Options = with_color o false in
     let same : text_of made.calls ≡ text_of (layout by answers placed) = alike_texts made.calls (layout by answers placed) made.alike in
     let uncolored : IsBlank o.indent → uncolor (text_of made.calls) ≡ text_of (layout plainly answers placed) =
     λ spaces. ap uncolor same ∙ color_adds_sequences prints_plain_text bytes placed by answers spelled spaces in

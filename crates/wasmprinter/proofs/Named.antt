@@ -19,7 +19,7 @@ use Rattle.wasmprinter_spec.specs.ModuleNames.{name_entries, module_names}
 use Rattle.wasmprinter_spec.proofs.Ordered.{picks}
 use Rattle.wasmprinter_wasm.specs.Refusals.{HasCustom, KeepsSome}
 use Rattle.wasmprinter_wasm.specs.Decoding.{HoldsSome, IsRefusal}
-use Rattle.wasmprinter_bytes.specs.declared.error.Error.TheVariants.{Memory}
+use Rattle.wasmprinter_bytes.specs.declared.library_error.Error.TheVariants.{Memory}
 use Rattle.wasmprinter.specs.Decoded.{Decoded}
 
 -- ---- Identifiers

@@ -6,14 +6,14 @@ use Rattle.wasmprinter_spec.specs.Choices.{tested}
 use Rattle.wasmprinter_spec.specs.Binary.{Spells, IsComponent, magic, preamble_bytes}
 use Rattle.wasmprinter_spec.specs.Placed.{PlacedModule}
 use Rattle.wasmprinter_spec.specs.Limits.{IsWithinLimits}
-use Rattle.wasmprinter_spec.specs.Options.{Options, Answers, in_colors}
+use Rattle.wasmprinter_spec.specs.Options.{Options, Answers, with_color}
 use Rattle.wasmprinter_spec.specs.Names.{Names}
 use Rattle.wasmprinter_spec.specs.Piece.{all_calls}
 use Rattle.wasmprinter_spec.specs.Layout.{module_pieces, layout, refusal}
 use Rattle.wasmprinter_spec.specs.Layout.Customs.{Laid}
 use Rattle.wasmprinter_print.specs.Made.{Made, Broken, Interrupted, Ending, Through, AtCall, Stopped, Never, when_out_of_memory}
-use Rattle.wasmprinter_bytes.specs.declared.error.Error.{Error}
-use Rattle.wasmprinter_bytes.specs.declared.error.Error.TheVariants.{Malformed, Component, TooManyLocals, TooManyFunctions, EmptyTableInit, FoldLegacy, FoldHint, DylinkSubsection, Printer, Memory}
+use Rattle.wasmprinter_bytes.specs.declared.library_error.Error.{Error}
+use Rattle.wasmprinter_bytes.specs.declared.library_error.Error.TheVariants.{Malformed, Component, TooManyLocals, TooManyFunctions, EmptyTableInit, FoldLegacy, FoldHint, DylinkSubsection, Printer, Memory}
 use Rattle.std.specs.declared.io.Error.{Error as IoError}
 use Rattle.wasmprinter_wasm.specs.Decoding.{IsRefusal}
 use Rattle.wasmprinter_sections.specs.Endings.{PrintsLaid}
@@ -132,7 +132,7 @@ module _ (o : Options) (answers : Answers) (m : PlacedModule) where
 
 module _ {P : Type 0} (printer : Change P) (colors : Bool) (o : Options) {bytes : List ℕ} (d : Decoded bytes) (foldable : IsFoldable o d.placed) (answers : Answers) where
   abbrev by : Options
-  by = in_colors o colors
+  by = with_color o colors
 
   -- These calls were made, up to how printing ended.
   abbrev AreMade : Ending → List Call → Type 0

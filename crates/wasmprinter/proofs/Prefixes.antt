@@ -4,7 +4,7 @@ use Rattle.std.specs.declared.io.Error.{Error as IoError}
 use Rattle.wasmprinter_spec.specs.Placed.{PlacedModule}
 use Rattle.wasmprinter_spec.specs.Call.{Call, atoms, text_of}
 use Rattle.wasmprinter_spec.specs.Meaning.{Meaning, Run}
-use Rattle.wasmprinter_spec.specs.Options.{Options, Answers, in_colors}
+use Rattle.wasmprinter_spec.specs.Options.{Options, Answers, with_color}
 use Rattle.wasmprinter_spec.specs.Layout.{layout}
 use Rattle.wasmprinter_spec.proofs.Texts.{alike_texts}
 use Rattle.wasmprinter_print.specs.Made.{Broken, Interrupted}
@@ -31,7 +31,7 @@ while_printing h f = record { decoded = h.decoded; foldable = h.foldable; answer
 module _ {P : Type 0} (printer : Change P) (never : ClaimsNone printer.meaning) (o : Options) (bytes : List ℕ) (Put : List ℕ → Type 0) where
   -- The calls that are made for a module without colors.
   abbrev laid : PlacedModule → Answers → List Call
-  laid placed answers = layout (in_colors o false) answers placed
+  laid placed answers = layout (with_color o false) answers placed
 
   abbrev PutsRuns : Type 0
   PutsRuns = (calls : List Call) → Run printer.meaning printer.old calls printer.new → Put (text_of calls)
@@ -76,11 +76,11 @@ module _ {P : Type 0} (printer : Change P) (never : ClaimsNone printer.meaning) 
       )
 
   -- If a `dylink.0` section was refused, the text before it was put.
-  pub refused_puts : (id : ℕ) → PutsRuns → WhilePrinting o bytes (MadeUpTo printer id (in_colors o false)) → PutsTextBefore id o bytes Put
+  pub refused_puts : (id : ℕ) → PutsRuns → WhilePrinting o bytes (MadeUpTo printer id (with_color o false)) → PutsTextBefore id o bytes Put
   refused_puts id puts h = while_printing h before
     where
-      before : (placed : PlacedModule) (answers : Answers) → MadeUpTo printer id (in_colors o false) placed answers →
-          IsPut (IsTextBefore id (in_colors o false) placed answers)
+      before : (placed : PlacedModule) (answers : Answers) → MadeUpTo printer id (with_color o false) placed answers →
+          IsPut (IsTextBefore id (with_color o false) placed answers)
       before placed answers u = (
         text_of (laid placed answers),
         record {

@@ -1,11 +1,11 @@
 -- The text that a printer in memory receives.
 use Rattle.std.specs.Prelude.{◌≡◌, ℕ, List, [], ◌∷◌, ◌++◌, Bool, false, None, Result, Ok, Err, IfOk, refl}
 use Rattle.std.specs.List.{AllByRecursion}
-use Rattle.wasmprinter_bytes.specs.declared.error.Error.{Error}
+use Rattle.wasmprinter_bytes.specs.declared.library_error.Error.{Error}
 use Rattle.std.proofs.Common.{sym, ap, subst, ◌∙◌, inl}
 use Rattle.wasmprinter_spec.specs.Call.{Call, IsUnclaimed, atoms, text_of}
 use Rattle.wasmprinter_spec.specs.Meaning.{Meaning, Run}
-use Rattle.wasmprinter_spec.specs.Options.{Options, defaults, IsBlank, in_colors}
+use Rattle.wasmprinter_spec.specs.Options.{Options, defaults, IsBlank, with_color}
 use Rattle.wasmprinter_spec.specs.Plain.{IsPlainText}
 use Rattle.wasmprinter_spec.specs.Binary.{Spells}
 use Rattle.wasmprinter_spec.specs.Placed.{PlacedModule}
@@ -39,18 +39,18 @@ none_claimed m never old new (c ∷ calls) r = (never old c r.0 r.1.step, none_c
 
 -- If a module was printed to such a printer, its layout is the one without claims.
 pub unclaimed_printed : {P : Type 0} {printer : Change P} {colors : Bool} {o : Options} {bytes : List ℕ} (v : Printed printer colors o bytes) → ClaimsNone printer.meaning →
-    IsSame (in_colors o colors) v.answers v.decoded.placed
+    IsSame (with_color o colors) v.answers v.decoded.placed
 unclaimed_printed {printer = printer} {colors = colors} {o = o} v never =
-    let by : Options = in_colors o colors in
+    let by : Options = with_color o colors in
     unclaimed_layout by v.answers v.decoded.placed
     (alike_unclaimed v.calls (layout by v.answers v.decoded.placed) v.alike (none_claimed printer.meaning never printer.old printer.new v.calls v.run))
 
 -- If printing to such a printer ended at a refused section, that is the first section of the module that is refused for
 -- an unknown subsection.
 pub first_unclaimed : {P : Type 0} (printer : Change P) (colors : Bool) (o : Options) → ClaimsNone printer.meaning → (bytes : List ℕ) (id : ℕ) →
-    WhilePrinting o bytes (MadeUpTo printer id (in_colors o colors)) → (placed : PlacedModule) → Spells bytes placed → FirstIsUnknown id placed.customs
+    WhilePrinting o bytes (MadeUpTo printer id (with_color o colors)) → (placed : PlacedModule) → Spells bytes placed → FirstIsUnknown id placed.customs
 first_unclaimed printer colors o never bytes id h placed s =
-    let by : Options = in_colors o colors in
+    let by : Options = with_color o colors in
     let own : PlacedModule = h.decoded.placed in
     let calls : List Call = h.left.made.calls in
     let same : IsSame by h.answers own =
@@ -61,22 +61,22 @@ first_unclaimed printer colors o never bytes id h placed s =
 
 -- The calls are those of the layout without colors, however text is split. No section of it is claimed or refused.
 pub record IsPlainly (o : Options) (calls : List Call) (placed : PlacedModule) : Type 0 where
-  pub accepted : refusal (in_colors o false) no_claims placed ≡ None
-  pub alike : atoms calls ≡ atoms (layout (in_colors o false) no_claims placed)
+  pub accepted : refusal (with_color o false) no_claims placed ≡ None
+  pub alike : atoms calls ≡ atoms (layout (with_color o false) no_claims placed)
 
 -- If a module was printed to a printer that claims no section and can't write colors, its calls are those of the
 -- layout without colors and without claims.
 pub plainly_printed : {P : Type 0} {printer : Change P} {o : Options} {bytes : List ℕ} (v : Printed printer false o bytes) → ClaimsNone printer.meaning →
     IsPlainly o v.calls v.decoded.placed
 plainly_printed {o = o} v never =
-    let own : IsSame (in_colors o false) v.answers v.decoded.placed = unclaimed_printed v never in
+    let own : IsSame (with_color o false) v.answers v.decoded.placed = unclaimed_printed v never in
     record { accepted = sym own.refusal ∙ v.accepted; alike = v.alike ∙ ap atoms own.layout }
 
 -- The text of the layout without claims is that of the module.
-abbrev pub module_text : (o : Options) {bytes : List ℕ} (d : Decoded bytes) → IsFoldable o d.placed → refusal (in_colors o false) no_claims d.placed ≡ None →
-    (text : List ℕ) → text ≡ text_of (layout (in_colors o false) no_claims d.placed) → IsTextOf o bytes text
+abbrev pub module_text : (o : Options) {bytes : List ℕ} (d : Decoded bytes) → IsFoldable o d.placed → refusal (with_color o false) no_claims d.placed ≡ None →
+    (text : List ℕ) → text ≡ text_of (layout (with_color o false) no_claims d.placed) → IsTextOf o bytes text
 module_text o {bytes} d foldable accepted text is =
-    let by : Options = in_colors o false in
+    let by : Options = with_color o false in
     let placed : PlacedModule = d.placed in
     let can_fold : IsFoldable by placed = foldable_in o false placed foldable in
     record {
@@ -96,7 +96,7 @@ printed_text o bytes old new empty v =
     let received : new ≡ text_of v.calls =
     text_is_gained (λ text. text) appends (λ a piece b h. h) old v.calls new v.run ∙ ap (λ t. t ++ text_of v.calls) empty in
     let own : IsPlainly o v.calls v.decoded.placed = plainly_printed v (takes_none appends) in
-    module_text o v.decoded v.foldable own.accepted new (received ∙ alike_texts v.calls (layout (in_colors o false) no_claims v.decoded.placed) own.alike)
+    module_text o v.decoded v.foldable own.accepted new (received ∙ alike_texts v.calls (layout (with_color o false) no_claims v.decoded.placed) own.alike)
 
 two_spaces : IsBlank defaults.indent
 two_spaces = (inl refl, (inl refl, tt))

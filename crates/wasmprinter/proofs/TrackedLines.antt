@@ -1,16 +1,16 @@
 -- The text and the lines that a tracker keeps.
 use Rattle.std.specs.Prelude.{◌≡◌, ℕ, List, [], ◌++◌, Bool, false, Result, Ok, Err, MatchResult, IsErrAnd, IfOk, IfErr, OnOk}
 use Rattle.std.proofs.Common.{sym, ap, ◌∙◌, subst, append-nil, inl, inr}
-use Rattle.wasmprinter_bytes.specs.declared.error.Error.{Error}
-use Rattle.wasmprinter_bytes.specs.declared.error.Error.TheVariants.{Malformed, Component, TooManyLocals, TooManyFunctions, EmptyTableInit, FoldLegacy, FoldHint, DylinkSubsection, Printer, Memory}
+use Rattle.wasmprinter_bytes.specs.declared.library_error.Error.{Error}
+use Rattle.wasmprinter_bytes.specs.declared.library_error.Error.TheVariants.{Malformed, Component, TooManyLocals, TooManyFunctions, EmptyTableInit, FoldLegacy, FoldHint, DylinkSubsection, Printer, Memory}
 use Rattle.wasmprinter_spec.specs.Placed.{PlacedModule}
 use Rattle.wasmprinter_spec.specs.Call.{Call, text_of, atoms}
 use Rattle.wasmprinter_spec.specs.Meaning.{Run}
-use Rattle.wasmprinter_spec.specs.Options.{Options, in_colors}
+use Rattle.wasmprinter_spec.specs.Options.{Options, with_color}
 use Rattle.wasmprinter_spec.specs.Layout.{layout}
 use Rattle.wasmprinter_spec.specs.Lines.{TextLine, lines_of, joined_lines, line_places, hint_places, HasFunctionLines}
 use Rattle.wasmprinter_spec.proofs.Texts.{alike_texts, alike_lines}
-use Rattle.wasmprinter_writers.specs.declared.lines.LineStart.{LineStart}
+use Rattle.wasmprinter_writers.specs.declared.line_iterator.LineStart.{LineStart}
 use Rattle.wasmprinter_writers.specs.Cuts.{lines_at_starts}
 use Rattle.wasmprinter_writers.specs.Tracked.{Tracked, without_lines}
 use Rattle.wasmprinter_writers.specs.Tracking.{tracked_meaning, Tracks}
@@ -32,7 +32,7 @@ tracking old new = change tracked_meaning old new
 pub printed_lines : (o : Options) (bytes base : List ℕ) (t : Tracked) → t.lost ≡ false → Printed (tracking (without_lines base) t) false o bytes →
     HasLinesBy o bytes base t.text t.lines
 printed_lines o bytes base t kept v =
-    let by : Options = in_colors o false in
+    let by : Options = with_color o false in
     let placed : PlacedModule = v.decoded.placed in
     let own : IsPlainly o v.calls placed = plainly_printed v claims_never in
     let laid : List Call = layout by no_claims placed in

@@ -1,7 +1,7 @@
 -- Definition of the text of a module with ANSI escape sequences.
 use Rattle.std.specs.Prelude.{◌≡◌, ℕ, List, true, None}
 use Rattle.wasmprinter_spec.specs.Color.{uncolor}
-use Rattle.wasmprinter_spec.specs.Options.{Options, IsBlank, in_colors}
+use Rattle.wasmprinter_spec.specs.Options.{Options, IsBlank, with_color}
 use Rattle.wasmprinter_spec.specs.Layout.{layout, refusal}
 use Rattle.wasmprinter_spec.specs.Colored.{colored_text}
 use Rattle.wasmprinter_spec.specs.Folding.Refusals.{IsFoldable}
@@ -16,10 +16,10 @@ pub record HasColoredTextBy (o : Options) (bytes text : List ℕ) : Type 0 where
   -- It can be folded if folding is on.
   pub foldable : IsFoldable o decoded.placed
   -- No `dylink.0` section of it is refused.
-  pub accepted : refusal (in_colors o true) no_claims decoded.placed ≡ None
+  pub accepted : refusal (with_color o true) no_claims decoded.placed ≡ None
   -- The text is that of the layout with the sequences of each style, including those within the text of folded
   -- operators.
-  pub is : text ≡ colored_text (layout (in_colors o true) no_claims decoded.placed)
+  pub is : text ≡ colored_text (layout (with_color o true) no_claims decoded.placed)
   -- With an indent of spaces and tabs: the text without the sequences is the text of a module that the
   -- bytes encode, without colors.
   pub bare : IsBlank o.indent → IsTextOf o bytes (uncolor text)

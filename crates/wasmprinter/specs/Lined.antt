@@ -1,12 +1,12 @@
 -- Definition of a module's text that is appended to a text, with its lines.
 use Rattle.std.specs.Prelude.{◌≡◌, ◌⊎◌, ◌++◌, ℕ, List, false, Some, slice_get}
-use Rattle.wasmprinter_bytes.specs.declared.error.Error.{Error}
-use Rattle.wasmprinter_bytes.specs.declared.error.Error.TheVariants.{DylinkSubsection, Memory}
+use Rattle.wasmprinter_bytes.specs.declared.library_error.Error.{Error}
+use Rattle.wasmprinter_bytes.specs.declared.library_error.Error.TheVariants.{DylinkSubsection, Memory}
 use Rattle.wasmprinter_spec.specs.Placed.{PlacedFunction}
-use Rattle.wasmprinter_spec.specs.Options.{Options, in_colors}
+use Rattle.wasmprinter_spec.specs.Options.{Options, with_color}
 use Rattle.wasmprinter_spec.specs.Layout.{layout}
 use Rattle.wasmprinter_spec.specs.Lines.{TextLine, lines_of, joined_lines, line_places, hint_places, HasFunctionLines}
-use Rattle.wasmprinter_writers.specs.declared.lines.LineStart.{LineStart}
+use Rattle.wasmprinter_writers.specs.declared.line_iterator.LineStart.{LineStart}
 use Rattle.wasmprinter_writers.specs.Cuts.{lines_at_starts}
 use Rattle.wasmprinter.specs.Printed.{IsTextOf, no_claims}
 use Rattle.wasmprinter.specs.Prefix.{PutsPrefix, PutsTextBefore}
@@ -21,7 +21,7 @@ pub record HasLinesBy (o : Options) (bytes old storage : List ℕ) (lines : List
   -- The text was appended to the old text.
   pub appended : storage ≡ old ++ text
   -- The lines are those of the layout.
-  pub are : lines ≡ lines_of (layout (in_colors o false) no_claims printed.decoded.placed)
+  pub are : lines ≡ lines_of (layout (with_color o false) no_claims printed.decoded.placed)
   -- The lines, joined, are the text.
   pub joined : joined_lines lines ≡ text
   -- Without `skeleton` and folding, each defined function has a line for its header, one for its locals if it has any,

@@ -7,13 +7,13 @@ use Rattle.wasmprinter_spec.specs.Customs.{Refused, custom_treatment_of}
 use Rattle.wasmprinter_spec.specs.Limits.{most_functions}
 use Rattle.wasmprinter_spec.specs.Call.{Call, Claim, atoms}
 use Rattle.wasmprinter_spec.specs.Meaning.{Run, Failed}
-use Rattle.wasmprinter_spec.specs.Options.{Options, Answers, in_colors}
+use Rattle.wasmprinter_spec.specs.Options.{Options, Answers, with_color}
 use Rattle.wasmprinter_spec.specs.Layout.{layout, refusal}
 use Rattle.wasmprinter_spec.specs.Folding.Refusals.{IsFirstLegacy, IsFirstMisplaced, IsFoldable}
 use Rattle.wasmprinter_print.specs.Made.{Whole, Broken, Interrupted}
 use Rattle.wasmprinter_bytes.specs.Reasons.{Reasons}
-use Rattle.wasmprinter_bytes.specs.declared.error.Error.{Error}
-use Rattle.wasmprinter_bytes.specs.declared.error.Error.TheVariants.{Malformed, Component, TooManyLocals, TooManyFunctions, EmptyTableInit, FoldLegacy, FoldHint, DylinkSubsection, Unreadable, Printer, Memory}
+use Rattle.wasmprinter_bytes.specs.declared.library_error.Error.{Error}
+use Rattle.wasmprinter_bytes.specs.declared.library_error.Error.TheVariants.{Malformed, Component, TooManyLocals, TooManyFunctions, EmptyTableInit, FoldLegacy, FoldHint, DylinkSubsection, Unreadable, Printer, Memory}
 use Rattle.wasmprinter_wasm.specs.Modules.{bodies_of}
 use Rattle.wasmprinter_wasm.specs.Refusals.{FirstIsOver, FirstIsEmpty}
 use Rattle.wasmprinter_wasm.specs.Decoding.{HoldsSome, module_reasons}
@@ -237,7 +237,7 @@ abbrev pub LeavesBeginning : {P : Type 0} → Change P → Bool → Options → 
 LeavesBeginning printer colors o bytes =
     (printer.new ≡ printer.old)
     ⊎ ((o.folds ≡ true)
-    × WhilePrinting o bytes (λ placed answers. Interrupted printer.meaning printer.old printer.new (layout (in_colors o colors) answers placed)))
+    × WhilePrinting o bytes (λ placed answers. Interrupted printer.meaning printer.old printer.new (layout (with_color o colors) answers placed)))
 
 -- The state of the printer after an error. In these layouts, the styles within the text of a folded operator are ANSI
 -- escape sequences if the printer can write colors as text. Otherwise that text has no styles.
@@ -250,8 +250,8 @@ abbrev pub Leaves : {P : Type 0} → Change P → Bool → Options → List ℕ 
 Leaves printer colors o bytes e =
     HasPrintReason
     (record {
-      failed = λ x. WhilePrinting o bytes (λ placed answers. Broken printer.meaning printer.old printer.new x (layout (in_colors o colors) answers placed));
-      unknown = λ id. WhilePrinting o bytes (MadeUpTo printer id (in_colors o colors));
+      failed = λ x. WhilePrinting o bytes (λ placed answers. Broken printer.meaning printer.old printer.new x (layout (with_color o colors) answers placed));
+      unknown = λ id. WhilePrinting o bytes (MadeUpTo printer id (with_color o colors));
       legacy = λ place. printer.new ≡ printer.old;
       hint = λ place. printer.new ≡ printer.old;
     })

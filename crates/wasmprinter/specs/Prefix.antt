@@ -3,7 +3,7 @@ use Rattle.std.specs.Prelude.{◌≡◌, ◌++◌, ℕ, List, false, Some}
 use Rattle.std.specs.List.{AllByRecursion}
 use Rattle.wasmprinter_spec.specs.Placed.{PlacedModule}
 use Rattle.wasmprinter_spec.specs.Call.{Call, IsUnclaimed, atoms, text_of}
-use Rattle.wasmprinter_spec.specs.Options.{Options, Answers, in_colors}
+use Rattle.wasmprinter_spec.specs.Options.{Options, Answers, with_color}
 use Rattle.wasmprinter_spec.specs.Layout.{layout, refusal}
 use Rattle.wasmprinter.specs.Outcome.{WhilePrinting}
 
@@ -32,10 +32,10 @@ pub record IsTextBefore (id : ℕ) (o : Options) (placed : PlacedModule) (answer
 -- The module that the bytes encode was being printed, and a prefix of its text satisfies `Put`.
 abbrev pub PutsPrefix : Options → List ℕ → (List ℕ → Type 0) → Type 0
 PutsPrefix o bytes Put =
-    WhilePrinting o bytes (λ placed answers. (text : List ℕ) × IsPrefixText (layout (in_colors o false) answers placed) text × Put text)
+    WhilePrinting o bytes (λ placed answers. (text : List ℕ) × IsPrefixText (layout (with_color o false) answers placed) text × Put text)
 
 -- The module that the bytes encode was being printed, and its text before the `dylink.0` section that is refused for
 -- the subsection with this id satisfies `Put`.
 abbrev pub PutsTextBefore : ℕ → Options → List ℕ → (List ℕ → Type 0) → Type 0
 PutsTextBefore id o bytes Put =
-    WhilePrinting o bytes (λ placed answers. (text : List ℕ) × IsTextBefore id (in_colors o false) placed answers text × Put text)
+    WhilePrinting o bytes (λ placed answers. (text : List ℕ) × IsTextBefore id (with_color o false) placed answers text × Put text)

@@ -7,7 +7,7 @@ use Rattle.wasmprinter_spec.specs.Call.{Call, IsUnclaimed, atoms, text_of}
 use Rattle.wasmprinter_spec.specs.Color.{uncolor}
 use Rattle.wasmprinter_spec.specs.Colored.{bare_call}
 use Rattle.wasmprinter_spec.specs.Meaning.{Run}
-use Rattle.wasmprinter_spec.specs.Options.{Options, defaults, Answers, IsBlank, in_colors}
+use Rattle.wasmprinter_spec.specs.Options.{Options, defaults, Answers, IsBlank, with_color}
 use Rattle.wasmprinter_spec.specs.Plain.{IsPlainText}
 use Rattle.wasmprinter_spec.specs.Layout.{layout, refusal}
 use Rattle.wasmprinter_spec.specs.Folding.Refusals.{IsFoldable}
@@ -32,19 +32,19 @@ pub record Printed {P : Type 0} (printer : Change P) (colors : Bool) (o : Option
   -- It can be folded if folding is on.
   pub foldable : IsFoldable o decoded.placed
   -- No `dylink.0` section of it is refused.
-  pub accepted : refusal (in_colors o colors) answers decoded.placed ≡ None
+  pub accepted : refusal (with_color o colors) answers decoded.placed ≡ None
   -- The calls that were made.
   pub calls : List Call
   -- All of them succeeded, and they lead from the state before to the state after.
   pub run : Run printer.meaning printer.old calls printer.new
   -- With each text cut into single bytes, they are the calls of the layout.
-  pub alike : atoms calls ≡ atoms (layout (in_colors o colors) answers decoded.placed)
+  pub alike : atoms calls ≡ atoms (layout (with_color o colors) answers decoded.placed)
   -- With an indent of spaces and tabs: deleting the ANSI escape sequences from the text of each call of the layout
   -- gives the layout without colors.
-  pub bare : IsBlank o.indent → map bare_call (layout (in_colors o colors) answers decoded.placed) ≡ layout (in_colors o false) answers decoded.placed
+  pub bare : IsBlank o.indent → map bare_call (layout (with_color o colors) answers decoded.placed) ≡ layout (with_color o false) answers decoded.placed
   -- With an indent of spaces and tabs: deleting the ANSI escape sequences from the whole text of the calls gives the
   -- text of the layout without colors.
-  pub uncolored : IsBlank o.indent → uncolor (text_of calls) ≡ text_of (layout (in_colors o false) answers decoded.placed)
+  pub uncolored : IsBlank o.indent → uncolor (text_of calls) ≡ text_of (layout (with_color o false) answers decoded.placed)
   -- With an indent of spaces and tabs and without `skeleton`, if the module satisfies `IsIndexed` and no section was
   -- claimed: the text without ANSI escape sequences reads as `module_of decoded.placed`.
   pub reads : IsIndexed (module_of decoded.placed) → o.skeleton ≡ false → IsBlank o.indent → AllByRecursion IsUnclaimed calls →
@@ -64,9 +64,9 @@ pub record IsTextOf (o : Options) (bytes text : List ℕ) : Type 0 where
   -- It can be folded if folding is on.
   pub foldable : IsFoldable o decoded.placed
   -- No `dylink.0` section of it is refused.
-  pub accepted : refusal (in_colors o false) no_claims decoded.placed ≡ None
+  pub accepted : refusal (with_color o false) no_claims decoded.placed ≡ None
   -- The text is that of the layout.
-  pub is : text ≡ text_of (layout (in_colors o false) no_claims decoded.placed)
+  pub is : text ≡ text_of (layout (with_color o false) no_claims decoded.placed)
   -- With an indent of spaces and tabs: the text is plain.
   pub plain : IsBlank o.indent → IsPlainText text
   -- With an indent of spaces and tabs and without `skeleton`, if the module satisfies `IsIndexed`: the text reads as

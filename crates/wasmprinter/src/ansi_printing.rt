@@ -4,9 +4,9 @@ ghost use Rattle.wasmprinter_spec.specs.Binary.{IsComponent};
 ghost use Rattle.wasmprinter.specs.Colored.{HasColoredTextBy};
 ghost use Rattle.wasmprinter.specs.Outcome.{IsTextRefusal};
 
-use crate::ansi_text::AnsiText;
+use crate::ansi_text_printer::AnsiText;
 use crate::config::Config;
-use crate::in_memory::without_printer;
+use crate::string_printing::without_printer;
 use std::alloc::Global;
 use wasmprinter_bytes::Error;
 

@@ -1,14 +1,12 @@
 //! The options of printing, and the calls that print a module with them.
-ghost use Rattle.std.specs.Prelude.{◌≡◌, ◌↔◌, true, OnOk, IfOk, IfErr, IsErrOf, string_bytes};
+ghost use Rattle.std.specs.Prelude.{◌≡◌, ◌↔◌, true, OnOk, IfErr, IsErrOf, string_bytes};
 ghost use Rattle.wasmprinter_spec.specs.Binary.{IsComponent};
 ghost use Rattle.wasmprinter_spec.specs.Folding.Refusals.{IsFoldable};
 ghost use Rattle.wasmprinter_fold.specs.Refused.{HasFoldReason};
 ghost use Rattle.wasmprinter.specs.Change.{change};
-ghost use Rattle.wasmprinter.specs.Printed.{Printed, IsTextOf};
-ghost use Rattle.wasmprinter.specs.Outcome.{IsPrintRefusal, IsTextRefusal, Leaves};
+ghost use Rattle.wasmprinter.specs.Printed.{Printed};
+ghost use Rattle.wasmprinter.specs.Outcome.{IsPrintRefusal, Leaves};
 
-use crate::in_memory::without_printer;
-use crate::plain_text::Plain;
 use std::alloc::Global;
 use std::marker::Model;
 use wasmprinter_bytes::Error;
@@ -153,24 +151,6 @@ impl Config {
         };
         let labels = OpenLabels::new(alloc, identifiers)?;
         print_module(alloc, printer, &self.options, &module, labels)
-    }
-
-    /// Returns the text of a module in the binary format.
-    ///
-    /// # Errors
-    ///
-    /// The errors of [`Config::print`], except that `Printer` is never returned. `Memory` is also returned if the
-    /// text can't grow.
-    pub fn print_to_string(&self, alloc: Global, wasm: &[u8]) -> Result<String, Error>
-        ensures printed { IfOk result (λ text. IsTextOf self.now wasm.now (string_bytes text)) }
-        ensures refused { IfErr result (IsTextRefusal self.now wasm.now) }
-        ensures component { IsErrOf result Error.Component ↔ IsComponent wasm.now }
-    {
-        let mut printer = Plain::new(alloc);
-        match self.print(alloc, wasm, &mut printer) {
-            Ok(()) => Ok(printer.into_string()),
-            Err(error) => Err(without_printer(error)),
-        }
     }
 }
 

@@ -11,20 +11,22 @@
 #![tactic(auto)]
 
 mod ansi_printing;
-mod ansi_text;
+mod ansi_text_printer;
 mod config;
 mod file_printing;
-mod in_memory;
 pub mod laws;
 mod offsets_and_lines;
 mod operator_lines;
-mod plain_text;
+mod plain_text_printer;
+mod source;
+mod string_printing;
 
 pub use config::Config;
-pub use file_printing::{Source, print_file};
-pub use in_memory::print_bytes;
+pub use file_printing::print_file;
 pub use operator_lines::place_of;
 pub use print::{Print, PrintFmtWrite, PrintIoWrite, PrintTermcolor, PrintText};
+pub use source::Source;
+pub use string_printing::print_bytes;
 pub use wasmprinter_bytes::Error;
 pub use wasmprinter_writers::{LineStart, OffsetsAndLines};
 
@@ -46,8 +48,8 @@ pub mod wasm {
     pub use wasmprinter_custom::{Names, Space};
     pub use wasmprinter_ops::blocks::{BlockType, Catch, Catches, Targets};
     pub use wasmprinter_ops::expression::OperatorsReader;
+    pub use wasmprinter_ops::mem_arg::MemArg;
     pub use wasmprinter_ops::opcode::Opcode;
-    pub use wasmprinter_ops::operands::MemArg;
     pub use wasmprinter_ops::operator::{Immediates, Operator};
     pub use wasmprinter_ops::{HeapType, RefType, ValType, ValTypes};
     pub use wasmprinter_wasm::{Body, Module, decode};

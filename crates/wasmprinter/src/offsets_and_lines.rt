@@ -1,12 +1,12 @@
 //! Printing a module as lines, appended to a string.
 ghost use Rattle.std.specs.Prelude.{◌↔◌, IfOk, IfErr, IsErrOf, string_bytes};
 ghost use Rattle.wasmprinter_spec.specs.Binary.{IsComponent};
-ghost use Rattle.wasmprinter_writers.specs.Cuts.{IsCuttable};
+ghost use Rattle.wasmprinter_writers.specs.Cuts.{AreLineStarts};
 ghost use Rattle.wasmprinter.specs.Lined.{HasLinesBy, HasLinesAt, LeavesStorage};
 ghost use Rattle.wasmprinter.specs.Outcome.{IsTextRefusal};
 
 use crate::config::Config;
-use crate::in_memory::without_printer;
+use crate::string_printing::without_printer;
 use std::alloc::Global;
 use std::mem;
 use wasmprinter_bytes::Error;
@@ -38,7 +38,7 @@ impl Config {
     ) -> Result<Vec<LineStart>, Error>
         ensures lines { IfOk result (λ starts.
             HasLinesAt self.now wasm.now (string_bytes storage.old) (string_bytes storage.new) starts.items) }
-        ensures cuttable { IfOk result (λ starts. IsCuttable starts.items (string_bytes storage.new)) }
+        ensures boundaries { IfOk result (λ starts. AreLineStarts starts.items (string_bytes storage.new)) }
         ensures refused { IfErr result (IsTextRefusal self.now wasm.now) }
         ensures component { IsErrOf result Error.Component ↔ IsComponent wasm.now }
         ensures left { IfErr result (λ e. LeavesStorage self.now wasm.now e (string_bytes storage.old) (string_bytes storage.new)) }

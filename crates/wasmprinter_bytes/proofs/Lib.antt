@@ -1,5 +1,5 @@
 pub mod Fronts
 pub mod Grown
-pub mod Items
+pub mod ItemsInBytes
 pub mod Powers
 pub mod Reasons

@@ -1,8 +1,8 @@
 -- Implication between records of reasons.
 use Rattle.std.proofs.Common.{◌≡◌, ℕ, refl}
 use Rattle.wasmprinter_bytes.specs.Reasons.{Reasons, HasReason}
-use Rattle.wasmprinter_bytes.specs.declared.error.Error.{Error}
-use Rattle.wasmprinter_bytes.specs.declared.error.Error.TheVariants as e
+use Rattle.wasmprinter_bytes.specs.declared.library_error.Error.{Error}
+use Rattle.wasmprinter_bytes.specs.declared.library_error.Error.TheVariants as e
 
 -- Each reason of `r` implies the reason of `s` for the same error.
 pub record Implies (r s : Reasons) : Type 0 where

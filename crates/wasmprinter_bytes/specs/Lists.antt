@@ -4,7 +4,7 @@ use Rattle.wasmprinter_spec.specs.Grammar.{Input, ◌>>=◌}
 use Rattle.wasmprinter_spec.specs.Name.{u32}
 use Rattle.wasmprinter_spec.specs.Repeated.{items_at}
 use Rattle.wasmprinter_bytes.specs.Reads.{IsPlaceIn}
-use Rattle.wasmprinter_bytes.specs.declared.error.Error.{Error}
+use Rattle.wasmprinter_bytes.specs.declared.library_error.Error.{Error}
 use Rattle.wasmprinter_bytes.specs.Reasons.{Reasons, HasReason}
 
 -- A count, and that many values.

@@ -1,8 +1,8 @@
 -- The texts of errors, which the standard does not specify.
 use Rattle.std.specs.Prelude.{ℕ, List, ◌++◌, codes, decimal, false}
 use Rattle.std.specs.Fmt.{digits}
-use Rattle.wasmprinter_bytes.specs.declared.error.Error.{Error}
-use Rattle.wasmprinter_bytes.specs.declared.error.Error.TheVariants.{Malformed, Component, TooManyLocals, TooManyFunctions, EmptyTableInit, FoldLegacy, FoldHint, DylinkSubsection, Unreadable, Printer, Memory}
+use Rattle.wasmprinter_bytes.specs.declared.library_error.Error.{Error}
+use Rattle.wasmprinter_bytes.specs.declared.library_error.Error.TheVariants.{Malformed, Component, TooManyLocals, TooManyFunctions, EmptyTableInit, FoldLegacy, FoldHint, DylinkSubsection, Unreadable, Printer, Memory}
 
 -- A place in hexadecimal, after `0x`.
 abbrev pub place_text : ℕ → List ℕ

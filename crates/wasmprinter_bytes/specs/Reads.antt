@@ -1,7 +1,7 @@
 -- The result of a cursor call is the result of reading by a grammar.
 use Rattle.std.specs.Prelude.{◌≡◌, ℕ, ◌+◌, ◌≤◌, length, Option, Some, None, Result, Ok, Err}
 use Rattle.wasmprinter_spec.specs.Grammar.{Input}
-use Rattle.wasmprinter_bytes.specs.declared.error.Malformed.{Malformed}
+use Rattle.wasmprinter_bytes.specs.declared.malformed.Malformed.{Malformed}
 
 -- The place at which the bytes end.
 abbrev pub end_of : Input → ℕ

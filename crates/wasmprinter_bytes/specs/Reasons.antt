@@ -1,7 +1,7 @@
 -- The reasons for errors of decoding: what each error says about the bytes.
 use Rattle.std.specs.Prelude.{ℕ}
-use Rattle.wasmprinter_bytes.specs.declared.error.Error.{Error}
-use Rattle.wasmprinter_bytes.specs.declared.error.Error.TheVariants.{Malformed, Component, TooManyLocals, TooManyFunctions, EmptyTableInit, Memory}
+use Rattle.wasmprinter_bytes.specs.declared.library_error.Error.{Error}
+use Rattle.wasmprinter_bytes.specs.declared.library_error.Error.TheVariants.{Malformed, Component, TooManyLocals, TooManyFunctions, EmptyTableInit, Memory}
 
 -- The reason for each error that decoding may return. The reason is ⊥ for an error that the reader never returns.
 pub record Reasons : Type 1 where

@@ -3,7 +3,10 @@
 #![tactic(auto)]
 
 pub mod cursor;
-mod error;
+pub mod items;
+mod library_error;
 pub mod lists;
+mod malformed;
 
-pub use error::{Error, Malformed};
+pub use library_error::Error;
+pub use malformed::Malformed;

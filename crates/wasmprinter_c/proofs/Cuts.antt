@@ -4,7 +4,7 @@ use Rattle.std.specs.Prelude.{Option, Some, None, map}
 use Rattle.wasmprinter_spec.specs.Call.{Call, Text, Newline, Line, Start, Claim, text_of}
 use Rattle.wasmprinter_spec.specs.Lines.{TextLine, lines_of, text_before_line, joined_lines}
 use Rattle.wasmprinter_writers.specs.Cuts.{lines_at_starts, first_at}
-use Rattle.wasmprinter_writers.specs.declared.lines.LineStart.{LineStart}
+use Rattle.wasmprinter_writers.specs.declared.line_iterator.LineStart.{LineStart}
 use Rattle.wasmprinter_writers.proofs.LineLaws.{joined-lines_of}
 use Rattle.wasmprinter_c.specs.Lines.{entry, entries, line_start}
 

@@ -2,11 +2,11 @@
 use Rattle.std.proofs.Common.{◌≡◌, ℕ, ◌≤◌, ◌^◌, List, ◌++◌, length, sym, ap, ◌∙◌, subst, length-append, arith, inl, inr}
 use Rattle.std.specs.Prelude.{false, Result, Ok, Err, IfErr, OnOk}
 use Rattle.std.specs.declared.io.Error.{Error as IoError}
-use Rattle.wasmprinter_bytes.specs.declared.error.Error.{Error}
-use Rattle.wasmprinter_bytes.specs.declared.error.Error.TheVariants.{Malformed, Component, TooManyLocals, TooManyFunctions, EmptyTableInit, FoldLegacy, FoldHint, DylinkSubsection, Printer, Memory}
+use Rattle.wasmprinter_bytes.specs.declared.library_error.Error.{Error}
+use Rattle.wasmprinter_bytes.specs.declared.library_error.Error.TheVariants.{Malformed, Component, TooManyLocals, TooManyFunctions, EmptyTableInit, FoldLegacy, FoldHint, DylinkSubsection, Printer, Memory}
 use Rattle.wasmprinter_spec.specs.Call.{Call, call_text, text_of}
 use Rattle.wasmprinter_spec.specs.Meaning.{Run}
-use Rattle.wasmprinter_spec.specs.Options.{Options, in_colors}
+use Rattle.wasmprinter_spec.specs.Options.{Options, with_color}
 use Rattle.wasmprinter_spec.specs.Layout.{layout}
 use Rattle.wasmprinter_print.proofs.Prefixes.{broken_parts}
 use Rattle.wasmprinter_print.specs.Made.{Broken}
@@ -50,7 +50,7 @@ module _ (old : Copier) (fresh : IsFresh old) where
     too_long x h = record {
       decoded = h.decoded;
       answers = h.answers;
-      long = broken_long new x (layout (in_colors o false) h.answers h.decoded.placed) h.left;
+      long = broken_long new x (layout (with_color o false) h.answers h.decoded.placed) h.left;
     }
 
     buffer_cause : (e : Error) → Leaves (copying old new) false o bytes e → HasListedCause (copying old new) o bytes e → HasBufferCause o bytes e

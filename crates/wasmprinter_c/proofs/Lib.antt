@@ -5,3 +5,4 @@ pub mod Runs
 pub mod Left
 pub mod Outcomes
 pub mod Texts
+mod FlagRows

@@ -1,8 +1,8 @@
 -- The outcome of a call for each of its results.
 use Rattle.std.proofs.Common.{◌≡◌, ◌⊎◌, ℕ, List, [], refl, sym, subst, arith, inl, inr}
 use Rattle.std.specs.Str.{IsUtf8}
-use Rattle.wasmprinter_bytes.specs.declared.error.Error.{Error}
-use Rattle.wasmprinter_bytes.specs.declared.error.Error.TheVariants.{Malformed, Component, TooManyLocals, TooManyFunctions, EmptyTableInit, FoldLegacy, FoldHint, DylinkSubsection, Unreadable, Printer, Memory}
+use Rattle.wasmprinter_bytes.specs.declared.library_error.Error.{Error}
+use Rattle.wasmprinter_bytes.specs.declared.library_error.Error.TheVariants.{Malformed, Component, TooManyLocals, TooManyFunctions, EmptyTableInit, FoldLegacy, FoldHint, DylinkSubsection, Unreadable, Printer, Memory}
 use Rattle.wasmprinter_spec.specs.Binary.{IsComponent}
 use Rattle.wasmprinter_spec.specs.Options.{Options}
 use Rattle.wasmprinter.specs.Change.{change}
@@ -38,6 +38,19 @@ not_twelve (DylinkSubsection id) h = omega (arith, h)
 not_twelve Unreadable h = omega (arith, h)
 not_twelve (Printer x) h = omega (arith, h)
 not_twelve Memory h = omega (arith, h)
+
+not_thirteen : (e : Error) → number_of e ≡ 13 → ⊥
+not_thirteen (Malformed place) h = omega (arith, h)
+not_thirteen Component h = omega (arith, h)
+not_thirteen (TooManyLocals place) h = omega (arith, h)
+not_thirteen (TooManyFunctions count) h = omega (arith, h)
+not_thirteen (EmptyTableInit place) h = omega (arith, h)
+not_thirteen (FoldLegacy place) h = omega (arith, h)
+not_thirteen (FoldHint place) h = omega (arith, h)
+not_thirteen (DylinkSubsection id) h = omega (arith, h)
+not_thirteen Unreadable h = omega (arith, h)
+not_thirteen (Printer x) h = omega (arith, h)
+not_thirteen Memory h = omega (arith, h)
 
 -- No error has the status of a printed module or of a wrong indent.
 no_such_error : (e : Error) → (number_of e ≡ 0) ⊎ (number_of e ≡ 12) → ⊥
@@ -82,6 +95,7 @@ module _ (o : Options) (bytes : List ℕ) (b : Buffers) where
     component = (two_true o bytes e is_so, two);
     wrong_indent = (λ t. absurd (not_twelve e t), λ w. absurd (w.1 (valid w.0)));
     untouched = λ t. absurd (not_twelve e t);
+    known = not_thirteen e;
     no_detail = λ h. absurd (no_such_error e h);
   }
 

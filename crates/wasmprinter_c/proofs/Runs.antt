@@ -1,11 +1,11 @@
 -- The state of a printer over a buffer after calls that succeed.
 use Rattle.std.proofs.Common.{◌≡◌, ℕ, ◌+◌, ◌^◌, ◌≤◌, ◌<◌, List, [], ◌∷◌, ◌++◌, length, map, refl, sym, ap, ◌∙◌, subst, append_assoc, append-nil, length-append, arith}
 use Rattle.std.specs.Prelude.{false, Option, Result, Ok, Err, OnOk}
-use Rattle.wasmprinter_bytes.specs.declared.error.Error.{Error}
+use Rattle.wasmprinter_bytes.specs.declared.library_error.Error.{Error}
 use Rattle.wasmprinter_spec.specs.Call.{Call, Text, Newline, Line, Start, Claim, IsUnclaimed, text_of, atoms}
 use Rattle.wasmprinter_spec.specs.Lines.{TextLine, lines_of, joined_lines, line_places, hint_places, HasFunctionLines}
 use Rattle.wasmprinter_spec.specs.Meaning.{Run}
-use Rattle.wasmprinter_spec.specs.Options.{Options, in_colors}
+use Rattle.wasmprinter_spec.specs.Options.{Options, with_color}
 use Rattle.wasmprinter_spec.specs.Placed.{PlacedModule}
 use Rattle.wasmprinter_spec.specs.Layout.{layout}
 use Rattle.wasmprinter_spec.proofs.Texts.{alike_texts}
@@ -148,7 +148,7 @@ alike_entries k l e = sym (entries-atoms 0 k) ∙ ap (λ (c : List Call). entrie
 pub printed_over : (o : Options) (bytes : List ℕ) (old new : Copier) → IsFresh old → Printed (copying old new) false o bytes →
     HasLinesOver o bytes (buffers old.out.now new.out.now old.lines.now new.lines.now) new.written new.count
 printed_over o bytes old new fresh v =
-    let by : Options = in_colors o false in
+    let by : Options = with_color o false in
     let placed : PlacedModule = v.decoded.placed in
     let own : IsPlainly o v.calls placed = plainly_printed v claims_never in
     let laid : List Call = layout by no_claims placed in

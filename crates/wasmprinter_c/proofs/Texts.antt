@@ -3,8 +3,8 @@ use Rattle.std.proofs.Common.{◌≡◌, ℕ, ◌≤◌, ◌+◌, List, [], ◌�
 use Rattle.std.specs.Prelude.{Bool, true, false, codes, decimal, Result, Ok, Err, if◌then◌else◌, ◌==◌}
 use Rattle.std.specs.Fmt.{digits}
 use Rattle.std.specs.declared.io.Error.{Error as IoError}
-use Rattle.wasmprinter_bytes.specs.declared.error.Error.{Error}
-use Rattle.wasmprinter_bytes.specs.declared.error.Error.TheVariants.{Printer}
+use Rattle.wasmprinter_bytes.specs.declared.library_error.Error.{Error}
+use Rattle.wasmprinter_bytes.specs.declared.library_error.Error.TheVariants.{Printer}
 use Rattle.wasmprinter_spec.specs.Call.{Text, text_of}
 use Rattle.wasmprinter_spec.proofs.Texts.{alike_texts}
 use Rattle.wasmprinter_text.proofs.Digits.{digits-length}
@@ -18,7 +18,7 @@ use Rattle.wasmprinter_c.proofs.Runs.{HasCopied, IsFresh, run_copied}
 use Rattle.wasmprinter_c.proofs.Left.{broken_long}
 
 -- A text of at most 200 bytes.
-abbrev IsShort : List ℕ → Type 0
+abbrev pub IsShort : List ℕ → Type 0
 IsShort text = length text ≤ 200
 
 short_if : (b : Bool) (x y : List ℕ) → IsShort x → IsShort y → IsShort (if b then x else y)
@@ -39,7 +39,7 @@ short_number before after n h =
     let d : length (decimal n) ≤ 64 = digits-length 10 n in
     omega (arith, h, e₁, e₂, d)
 
-short_message : (status detail : ℕ) → IsShort (message status detail)
+pub short_message : (status detail : ℕ) → IsShort (message status detail)
 short_message status detail =
     short_if (status == 0) _ _ (omega arith)
     (short_if (status == 1) _ _ (short_place (codes "malformed module at byte 0x") (codes "") detail (omega arith))
@@ -53,7 +53,8 @@ short_message status detail =
     (short_if (status == 9) _ _ (omega arith)
     (short_if (status == 10) _ _ (omega arith)
     (short_if (status == 11) _ _ (omega arith)
-    (short_if (status == 12) _ _ (omega arith) (omega arith)))))))))))))
+    (short_if (status == 12) _ _ (omega arith)
+    (short_if (status == 13) _ _ (short_place (codes "unknown options 0x") (codes "") detail (omega arith)) (omega arith))))))))))))))
 
 -- All bytes of a short text are counted, and its first bytes are written over the buffer, as many as fit.
 pub record HasAll (old : Copier) (text : List ℕ) (new : Copier) : Type 0 where

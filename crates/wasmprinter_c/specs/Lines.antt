@@ -1,7 +1,7 @@
 -- The starts of the lines of a text.
 use Rattle.std.specs.Prelude.{ℕ, ◌+◌, ◌==◌, List, [], ◌∷◌, Option, Some, None, if◌then◌else◌, length}
 use Rattle.wasmprinter_spec.specs.Call.{Call, Text, Newline, Line, Start, Claim}
-use Rattle.wasmprinter_writers.specs.declared.lines.LineStart.{LineStart}
+use Rattle.wasmprinter_writers.specs.declared.line_iterator.LineStart.{LineStart}
 use Rattle.wasmprinter_c.specs.declared.buffer_printer.WasmprinterLine.{WasmprinterLine}
 
 -- The entry of a line that starts at this byte of the text.

@@ -1,14 +1,27 @@
--- The outcome of a call that prints a module, as one record.
+-- The outcome of a call that prints a module.
 use Rattle.std.specs.Prelude.{◌≡◌, ◌↔◌, ◌⊎◌, ℕ, List}
 use Rattle.std.specs.Str.{IsUtf8}
 use Rattle.wasmprinter_spec.specs.Binary.{IsComponent}
 use Rattle.wasmprinter_spec.specs.Options.{Options}
 use Rattle.wasmprinter_c.specs.Printing.{Buffers, HasLinesOver}
 use Rattle.wasmprinter_c.specs.Refused.{IsRefusedWith}
-use Rattle.wasmprinter_c.specs.Statuses.{ok_status, component_status, indent_status}
+use Rattle.wasmprinter_c.specs.Statuses.{ok_status, component_status, indent_status, option_status}
 use Rattle.wasmprinter_c.specs.declared.Outcome.{Outcome}
+use Rattle.wasmprinter_c.specs.declared.WasmprinterResult.{WasmprinterResult}
 
--- The outcome of a call that prints a module.
+-- The outcome with this status, and with the lengths and the detail that were stored.
+abbrev pub outcome_with : ℕ → WasmprinterResult → Outcome
+outcome_with status stored = record { status = status; length = stored.length; count = stored.count; detail = stored.detail }
+
+-- The call changed neither the buffer nor the table. It stored 0 as the lengths, and this detail.
+pub record DoesNothing (b : Buffers) (detail : ℕ) (stored : WasmprinterResult) : Type 0 where
+  pub same_buffer : b.new ≡ b.old
+  pub same_table : b.after ≡ b.before
+  pub uncounted : stored.length ≡ 0
+  pub unlisted : stored.count ≡ 0
+  pub detailed : stored.detail ≡ detail
+
+-- The outcome of a call that prints a module, if the flags have no unknown bit.
 pub record IsOutcome (o : Options) (bytes : List ℕ) (b : Buffers) (outcome : Outcome) : Type 0 where
   -- If the status is `ok_status`, the module was printed: the buffer has the first bytes of its text and the table
   -- has its first lines, as many as fit.
@@ -21,5 +34,7 @@ pub record IsOutcome (o : Options) (bytes : List ℕ) (b : Buffers) (outcome : O
   pub wrong_indent : (outcome.status ≡ indent_status) ↔ ((¬ IsComponent bytes) × (¬ IsUtf8 o.indent))
   -- If the status is `indent_status`, the buffer is unchanged, and the counts of bytes and lines are 0.
   pub untouched : outcome.status ≡ indent_status → (b.new ≡ b.old) × (outcome.length ≡ 0) × (outcome.count ≡ 0)
+  -- The status is not the one for an unknown bit.
+  pub known : ¬ (outcome.status ≡ option_status)
   -- If the status is `ok_status` or `indent_status`, the detail is 0.
   pub no_detail : (outcome.status ≡ ok_status) ⊎ (outcome.status ≡ indent_status) → outcome.detail ≡ 0

@@ -1,28 +1,26 @@
 -- Definition of a module's text that was printed over a buffer.
-use Rattle.std.specs.Prelude.{◌≡◌, ℕ, List, [], false, length, map}
-use Rattle.wasmprinter_spec.specs.Options.{Options, defaults, in_colors}
+use Rattle.std.specs.Prelude.{◌≡◌, ◌≤◌, ◌*◌, ◌/◌, ℕ, List, [], false, length, map}
+use Rattle.wasmprinter_spec.specs.Options.{Options, defaults, with_color}
 use Rattle.wasmprinter_spec.specs.Layout.{layout}
-use Rattle.wasmprinter.specs.Printed.{IsTextOf, no_claims}
+use Rattle.wasmprinter_spec.specs.Binary.Limits.{has_bit}
+use Rattle.wasmprinter.specs.Printed.{no_claims}
 use Rattle.wasmprinter.specs.Lined.{HasLinesAt}
 use Rattle.wasmprinter_c.specs.Over.{over}
 use Rattle.wasmprinter_c.specs.Lines.{entries, line_start}
-use Rattle.wasmprinter_c.specs.declared.WasmprinterOptions.{WasmprinterOptions}
 use Rattle.wasmprinter_c.specs.declared.buffer_printer.WasmprinterLine.{WasmprinterLine}
 
--- The options that a caller chose, with this indent.
-abbrev pub options_of : WasmprinterOptions → List ℕ → Options
-options_of c indent = record defaults { offsets = c.offsets; skeleton = c.skeleton; synthesizes = c.name_unnamed; folds = c.fold; indent = indent }
+-- The options that the bits of the flags choose, with this indent.
+abbrev pub options_of : ℕ → List ℕ → Options
+options_of flags indent =
+    record defaults { offsets = has_bit 0 flags; skeleton = has_bit 1 flags; synthesizes = has_bit 2 flags; folds = has_bit 3 flags; indent = indent }
 
--- The bytes encode a module, and its text was written over the buffer.
-pub record HasTextOver (o : Options) (bytes old new : List ℕ) (whole : ℕ) : Type 0 where
-  -- The text of the module.
-  pub text : List ℕ
-  -- It is the text with these options that `Config::print_to_string` returns.
-  pub printed : IsTextOf o bytes text
-  -- Its first bytes, as many as fit, were written over the buffer.
-  pub copied : new ≡ over text old
-  -- `whole` is its length in bytes.
-  pub counted : whole ≡ length text
+-- The bits of the flags that choose no option, as a number.
+abbrev pub unknown_bits : ℕ → ℕ
+unknown_bits flags = flags / 16 * 16
+
+-- The flags have a bit that chooses no option.
+abbrev pub HasUnknownBit : ℕ → Type 0
+HasUnknownBit flags = 16 ≤ flags
 
 -- A buffer for text and a table for the starts of lines, before and after a call.
 pub record Buffers : Type 0 where
@@ -49,7 +47,7 @@ pub record HasLinesOver (o : Options) (bytes : List ℕ) (b : Buffers) (whole co
   -- empty storage.
   pub lines : HasLinesAt o bytes [] text (map line_start table)
   -- The entries are those of the lines of the layout.
-  pub starts : table ≡ entries 0 (layout (in_colors o false) no_claims lines.printed.decoded.placed)
+  pub starts : table ≡ entries 0 (layout (with_color o false) no_claims lines.printed.decoded.placed)
   -- The first bytes of the text, as many as fit, were written over the buffer.
   pub copied : b.new ≡ over text b.old
   -- `whole` is the length of the text in bytes.

@@ -1,11 +1,11 @@
 -- The results of the library for C for a module that is not printed.
 use Rattle.std.specs.Prelude.{◌≡◌, ◌≤◌, ◌^◌, ◌⊎◌, ℕ, List, true, false, length}
-use Rattle.wasmprinter_bytes.specs.declared.error.Error.{Error}
-use Rattle.wasmprinter_bytes.specs.declared.error.Error.TheVariants.{Malformed, Component, TooManyLocals, TooManyFunctions, EmptyTableInit, FoldLegacy, FoldHint, DylinkSubsection, Unreadable, Printer, Memory}
+use Rattle.wasmprinter_bytes.specs.declared.library_error.Error.{Error}
+use Rattle.wasmprinter_bytes.specs.declared.library_error.Error.TheVariants.{Malformed, Component, TooManyLocals, TooManyFunctions, EmptyTableInit, FoldLegacy, FoldHint, DylinkSubsection, Unreadable, Printer, Memory}
 use Rattle.wasmprinter_spec.specs.Binary.{Spells}
 use Rattle.wasmprinter_spec.specs.Placed.{PlacedModule}
 use Rattle.wasmprinter_spec.specs.Call.{text_of}
-use Rattle.wasmprinter_spec.specs.Options.{Options, Answers, defaults, in_colors}
+use Rattle.wasmprinter_spec.specs.Options.{Options, Answers, defaults, with_color}
 use Rattle.wasmprinter_spec.specs.Layout.{layout}
 use Rattle.wasmprinter.specs.Decoded.{Decoded}
 use Rattle.wasmprinter.specs.Outcome.{HasPrintReason, print_reasons, causes, FirstIsUnknown, MayGrow, IsSoundRefusal}
@@ -52,7 +52,7 @@ pub record IsTooLong (o : Options) (bytes : List ℕ) : Type 0 where
   -- The answers to the claims of its custom sections.
   pub answers : Answers
   -- The text of its layout has 2^64 bytes or more.
-  pub long : 2 ^ 64 ≤ length (text_of (layout (in_colors o false) answers decoded.placed))
+  pub long : 2 ^ 64 ≤ length (text_of (layout (with_color o false) answers decoded.placed))
 
 -- If the bytes encode a module, the error has one of the causes of `HasListedCause`. The printer fails only if the text
 -- is too long. No section is claimed, so the error names the first section that is refused. An allocation may also fail

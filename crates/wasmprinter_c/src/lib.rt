@@ -1,49 +1,68 @@
-//! The printer of WebAssembly modules for C, and for languages that call C functions. `include/wasmprinter.h`
-//! declares the exported functions.
+//! The printer of WebAssembly modules for C, and for languages that call C functions. `include/wasmprinter.h` declares
+//! the exported functions, and wraps them.
 //!
 //! No function keeps anything between calls, and none takes a lock.
 #![tactic(auto)]
 
-ghost use Rattle.std.specs.Prelude.{◌≡◌, ◌↔◌, ◌⊎◌, IsTrue, OnOk, OnErr, IfOk, IfErr, IsErrOf, codes, length};
-ghost use Rattle.std.specs.Str.{IsUtf8};
+ghost use Rattle.std.specs.Prelude.{◌≡◌, ◌↔◌, ◌<◌, ◌≤◌, IsTrue, OnOk, OnErr, IfOk, IfErr, IsErrOf, codes, length};
 ghost use Rattle.wasmprinter_spec.specs.Binary.{IsComponent};
+ghost use Rattle.wasmprinter_spec.specs.Binary.Limits.{has_bit as bit_of};
 ghost use Rattle.wasmprinter_c.specs.Over.{over};
 ghost use Rattle.wasmprinter_c.specs.Messages.{message};
-ghost use Rattle.wasmprinter_c.specs.Printing.{options_of, buffers, HasTextOver, HasLinesOver};
-ghost use Rattle.wasmprinter_c.specs.Refused.{number_of, detail_in, IsCopied, IsBufferRefusal, LeavesBuffer, IsRefusedWith};
-ghost use Rattle.wasmprinter_c.specs.Outcomes.{IsOutcome};
-ghost use Rattle.wasmprinter_c.specs.Statuses.{ok_status, component_status, indent_status, library_version};
+ghost use Rattle.wasmprinter_c.specs.Printing.{options_of, unknown_bits, HasUnknownBit, buffers, HasLinesOver};
+ghost use Rattle.wasmprinter_c.specs.Refused.{number_of, detail_in, IsCopied, IsBufferRefusal, LeavesBuffer};
+ghost use Rattle.wasmprinter_c.specs.Outcomes.{IsOutcome, outcome_with, DoesNothing};
+ghost use Rattle.wasmprinter_c.specs.Statuses.{option_status, library_version, library_revision};
 
 mod buffer_printer;
+mod messages;
 mod status;
 
 use buffer_printer::Copier;
 pub use buffer_printer::WasmprinterLine;
-use status::{BAD_INDENT, PRINTED, describe, detail_of, status_of};
+use messages::describe;
+use status::{BAD_INDENT, PRINTED, UNKNOWN_OPTION, detail_of, status_of};
 use std::alloc::{AllocError, Global};
 use wasmprinter::{Config, Error};
+use wasmprinter_wasm::is_component;
 
 /// The version of the library: the major number times 1,000,000, plus the minor number times 1,000, plus the patch
 /// number.
 const VERSION: u32 = 263_000;
 
+/// The number N of the release 0.263.0-rN.
+const REVISION: u32 = 1;
+
 /// The default text of one level of nesting.
 const DEFAULT_INDENT: &str = "  ";
 
-/// The options of printing: those of [`Config`], without the text of the indent.
+/// The bit of the flags for [`Config::print_offsets`].
+const OFFSETS: u32 = 0;
+
+/// The bit of the flags for [`Config::print_skeleton`].
+const SKELETON: u32 = 1;
+
+/// The bit of the flags for [`Config::name_unnamed`].
+const NAME_UNNAMED: u32 = 2;
+
+/// The bit of the flags for [`Config::fold_instructions`].
+const FOLD: u32 = 3;
+
+/// The least flags that choose an unknown option: a power of two. Each bit from this one on is unknown.
+const FIRST_UNKNOWN: u32 = 16;
+
+/// The lengths that printing stores, and the detail of an error.
 #[repr(C)]
-pub struct WasmprinterOptions {
-    /// Whether each line after the first begins with its place.
-    pub offsets: bool,
-    /// Whether bodies, items of element segments, and bytes of data segments and custom sections are left out.
-    pub skeleton: bool,
-    /// Whether identifiers are synthesized for items without a name.
-    pub name_unnamed: bool,
-    /// Whether each operator is in parentheses with its operands.
-    pub fold: bool,
+pub struct WasmprinterResult {
+    /// The length of the whole text in bytes, or 0 after an error.
+    pub length: usize,
+    /// The number of lines of the whole text, or 0 after an error.
+    pub count: usize,
+    /// The place, the count, the id or the bits of an error, or 0 if it has none.
+    pub detail: u64,
 }
 
-/// The result of printing a module.
+/// The result of a call.
 #[derive(Clone, Copy)]
 struct Outcome {
     /// 0, or the number of the error.
@@ -52,7 +71,7 @@ struct Outcome {
     length: usize,
     /// The number of its lines, or 0 after an error.
     count: usize,
-    /// The place, the count or the id of the error, or 0 if it has none.
+    /// The detail of the error, or 0 if it has none.
     detail: u64,
 }
 
@@ -65,11 +84,12 @@ struct Extent {
     count: usize,
 }
 
-/// Returns whether the bytes are marked as a component.
-fn is_component(wasm: &[u8]) -> bool
-    ensures { IsTrue result ↔ IsComponent wasm.now }
+/// Returns whether the bit of the flags is set. Bit 0 is the lowest.
+fn has_bit(flags: u32, bit: u32) -> bool
+    requires { bit < 32 }
+    ensures { result ≡ bit_of bit flags }
 {
-    matches!(wasm, [0x00, 0x61, 0x73, 0x6d, _, _, 0x01, 0x00, ..])
+    flags >> bit & 1 == 1
 }
 
 /// Returns whether this is the default indent.
@@ -79,26 +99,26 @@ fn is_default(indent: &str) -> bool
     indent == DEFAULT_INDENT
 }
 
-/// Returns these options as a `Config`, with the default indent.
-fn config_of(options: &WasmprinterOptions) -> Config
-    ensures { result ≡ options_of options.now (codes "  ") }
+/// Returns the options that the flags choose as a `Config`, with the default indent.
+fn config_of(flags: u32) -> Config
+    ensures { result ≡ options_of flags (codes "  ") }
 {
     let mut config = Config::new();
     config
-        .print_offsets(options.offsets)
-        .print_skeleton(options.skeleton)
-        .name_unnamed(options.name_unnamed)
-        .fold_instructions(options.fold);
+        .print_offsets(has_bit(flags, OFFSETS))
+        .print_skeleton(has_bit(flags, SKELETON))
+        .name_unnamed(has_bit(flags, NAME_UNNAMED))
+        .fold_instructions(has_bit(flags, FOLD));
     config
 }
 
-/// Returns these options as a `Config`, with a copy of an indent. The default indent is not copied. Returns an
-/// error if an allocation failed.
-fn indented(alloc: Global, options: &WasmprinterOptions, indent: &str) -> Result<Config, AllocError>
-    ensures options_of { IfOk result (λ config. config ≡ options_of options.now indent.now) }
+/// Returns the options that the flags choose as a `Config`, with a copy of an indent. The default indent is not
+/// copied. Returns an error if an allocation failed.
+fn indented(alloc: Global, flags: u32, indent: &str) -> Result<Config, AllocError>
+    ensures options_of { IfOk result (λ config. config ≡ options_of flags indent.now) }
     ensures copied { OnErr result (IsCopied indent.now) }
 {
-    let mut config = config_of(options);
+    let mut config = config_of(flags);
     if !is_default(indent) {
         config.indent_text(String::from_str(alloc, indent)?);
     }
@@ -161,17 +181,17 @@ fn refused(error: &Error) -> Outcome
     }
 }
 
-/// Prints a module with these options: the first bytes of its text and its first lines, as many as fit. A
-/// component is reported before an invalid indent.
+/// Prints a module with the options that the flags choose: the first bytes of its text and its first lines, as many
+/// as fit. A component is reported before an invalid indent.
 fn print_by(
     alloc: Global,
     wasm: &[u8],
-    options: &WasmprinterOptions,
+    flags: u32,
     indent: &[u8],
     out: &mut [u8],
     lines: &mut [WasmprinterLine],
 ) -> Outcome
-    ensures { IsOutcome (options_of options.now indent.now) wasm.now (buffers out.old out.new lines.old lines.new) result }
+    ensures { IsOutcome (options_of flags indent.now) wasm.now (buffers out.old out.new lines.old lines.new) result }
 {
     if is_component(wasm) {
         return refused(&Error::Component);
@@ -184,7 +204,7 @@ fn print_by(
             detail: 0,
         };
     };
-    let Ok(config) = indented(alloc, options, indent) else {
+    let Ok(config) = indented(alloc, flags, indent) else {
         return refused(&Error::Memory);
     };
     match print_over(alloc, &config, wasm, out, lines) {
@@ -198,87 +218,58 @@ fn print_by(
     }
 }
 
-/// Prints the text of a module in the binary format over `out`: writes the first bytes of the text, as many as
-/// fit. Returns 0 or the number of an error.
+/// Prints the text of a module in the binary format over `out`: writes the first bytes of the text, as many as fit.
+/// Writes the entries of its lines over `lines`: the first entries, as many as fit. Returns 0 or the number of an
+/// error.
 ///
-/// Stores the length of the whole text in bytes in `length`, or 0 after an error. The text was truncated if it is
-/// longer than `out`. Stores the detail of an error in `detail`, or 0 if there is none.
+/// The bits of `flags` choose options: bit 0 offsets, bit 1 the skeleton, bit 2 synthesized identifiers, bit 3 folded
+/// operators. Stores in `extent` the length of the whole text and the number of its lines, or 0 after an error, and
+/// the detail of an error, or 0 if there is none. The text was truncated if it is longer than `out`.
 ///
 /// # Errors
 ///
+/// - 13: the flags have another bit. The detail has these bits. This error takes precedence over all others.
+/// - 2: the bytes are marked as a component. This error takes precedence over those that follow.
+/// - 12: the indent is not UTF-8. This error takes precedence over those that follow.
 /// - 1: the bytes are not in the binary format. The detail is a place, as `include/wasmprinter.h` describes it.
-/// - 2: the bytes are marked as a component. This error takes precedence over all others.
 /// - 3: a function has more than 50,000 locals. The detail is the place of its body.
 /// - 4: the module has more than 1,000,000 functions. The detail is their number.
 /// - 5: the initialiser of a table has no operators. The detail is the place of the table.
-/// - 6, only with `fold`: an operator of legacy exception handling can't be folded. The detail is its place.
-/// - 7, only with `fold`: folded text has nowhere to put a branch hint. The detail is the place of the hint.
+/// - 6, only if operators are folded: an operator of legacy exception handling can't be folded. The detail is its
+///   place.
+/// - 7, only if operators are folded: folded text has nowhere to put a branch hint. The detail is the place of the
+///   hint.
 /// - 8: a custom section `dylink.0` has an unknown subsection. The detail is its id.
 /// - 10: the text has more than `usize::MAX` bytes.
 /// - 11: an allocation failed.
-/// - 12: the indent is not UTF-8.
 ///
-/// After the errors 8, 10 and, with `fold`, 11, `out` may hold a prefix of the text. After any other error it is
-/// unchanged.
+/// After the errors 8, 10 and, if operators are folded, 11, `out` may hold a prefix of the text. After any other error
+/// it is unchanged. After an error the entries of `lines` are not specified.
 #[unsafe(no_mangle)]
-pub extern "C" fn wasmprinter_print(
+pub extern "C" fn wasmprinter_raw_print(
     alloc: Global,
     wasm: &[u8],
-    options: &WasmprinterOptions,
-    indent: &[u8],
-    out: &mut [u8],
-    length: &mut usize,
-    detail: &mut u64,
-) -> u32
-    ensures printed { result ≡ ok_status → HasTextOver (options_of options.now indent.now) wasm.now out.old out.new length.new }
-    // The 0 is the number of lines: this function writes no table of lines.
-    ensures refused { ¬ (result ≡ ok_status) → ¬ (result ≡ indent_status) →
-        IsRefusedWith (options_of options.now indent.now) wasm.now out.old out.new
-        (record { status = result; length = length.new; count = 0; detail = detail.new }) }
-    ensures component { result ≡ component_status ↔ IsComponent wasm.now }
-    ensures wrong_indent { result ≡ indent_status ↔ ((¬ IsComponent wasm.now) × (¬ IsUtf8 indent.now)) }
-    ensures untouched { result ≡ indent_status → (out.new ≡ out.old) × (length.new ≡ 0) }
-    ensures no_detail { (result ≡ ok_status) ⊎ (result ≡ indent_status) → detail.new ≡ 0 }
-{
-    let outcome = print_by(alloc, wasm, options, indent, out, &mut []);
-    *length = outcome.length;
-    *detail = outcome.detail;
-    outcome.status
-}
-
-/// Does the same as [`wasmprinter_print`], and writes the entries of the lines over `lines`: the first entries, as
-/// many as fit. Stores the number of all lines in `count`, or 0 after an error.
-///
-/// # Errors
-///
-/// The errors of [`wasmprinter_print`]. After an error the entries of `lines` are not specified.
-#[unsafe(no_mangle)]
-pub extern "C" fn wasmprinter_print_lines(
-    alloc: Global,
-    wasm: &[u8],
-    options: &WasmprinterOptions,
+    flags: u32,
     indent: &[u8],
     out: &mut [u8],
     lines: &mut [WasmprinterLine],
-    length: &mut usize,
-    count: &mut usize,
-    detail: &mut u64,
+    extent: &mut WasmprinterResult,
 ) -> u32
-    ensures printed { result ≡ ok_status →
-        HasLinesOver (options_of options.now indent.now) wasm.now (buffers out.old out.new lines.old lines.new)
-        length.new count.new }
-    ensures refused { ¬ (result ≡ ok_status) → ¬ (result ≡ indent_status) →
-        IsRefusedWith (options_of options.now indent.now) wasm.now out.old out.new
-        (record { status = result; length = length.new; count = count.new; detail = detail.new }) }
-    ensures component { result ≡ component_status ↔ IsComponent wasm.now }
-    ensures wrong_indent { result ≡ indent_status ↔ ((¬ IsComponent wasm.now) × (¬ IsUtf8 indent.now)) }
-    ensures untouched { result ≡ indent_status → (out.new ≡ out.old) × (length.new ≡ 0) × (count.new ≡ 0) }
-    ensures no_detail { (result ≡ ok_status) ⊎ (result ≡ indent_status) → detail.new ≡ 0 }
+    ensures unknown { result ≡ option_status ↔ HasUnknownBit flags }
+    ensures nothing { HasUnknownBit flags → DoesNothing (buffers out.old out.new lines.old lines.new) (unknown_bits flags) extent.new }
+    ensures outcome { ¬ HasUnknownBit flags →
+        IsOutcome (options_of flags indent.now) wasm.now (buffers out.old out.new lines.old lines.new) (outcome_with result extent.new) }
 {
-    let outcome = print_by(alloc, wasm, options, indent, out, lines);
-    *length = outcome.length;
-    *count = outcome.count;
-    *detail = outcome.detail;
+    if flags >= FIRST_UNKNOWN {
+        extent.length = 0;
+        extent.count = 0;
+        extent.detail = u64::from(flags / FIRST_UNKNOWN * FIRST_UNKNOWN);
+        return UNKNOWN_OPTION;
+    }
+    let outcome = print_by(alloc, wasm, flags, indent, out, lines);
+    extent.length = outcome.length;
+    extent.count = outcome.count;
+    extent.detail = outcome.detail;
     outcome.status
 }
 
@@ -297,11 +288,12 @@ fn write_description(copier: &mut Copier<'_>, status: u32, detail: u64)
 }
 
 /// Writes the description of a status with its detail over `out`: the first bytes, as many as fit. Returns the
-/// length of the whole description in bytes. The description of a status greater than 12 is `unknown status`.
+/// length of the whole description in bytes. The description of a status greater than 13 is `unknown status`.
 /// Allocates nothing.
 #[unsafe(no_mangle)]
-pub extern "C" fn wasmprinter_error_text(status: u32, detail: u64, out: &mut [u8]) -> usize
+pub extern "C" fn wasmprinter_raw_error_text(status: u32, detail: u64, out: &mut [u8]) -> usize
     ensures whole { result ≡ length (message status detail) }
+    ensures short { result ≤ 200 }
     ensures copied { out.new ≡ over (message status detail) out.old }
 {
     let mut copier = Copier::new(out, &mut []);
@@ -316,4 +308,12 @@ pub extern "C" fn wasmprinter_version() -> u32
     ensures { result ≡ library_version }
 {
     VERSION
+}
+
+/// Returns the number N of the release 0.263.0-rN. Allocates nothing.
+#[unsafe(no_mangle)]
+pub extern "C" fn wasmprinter_revision() -> u32
+    ensures { result ≡ library_revision }
+{
+    REVISION
 }

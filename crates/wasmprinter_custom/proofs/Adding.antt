@@ -24,10 +24,10 @@ use Rattle.wasmprinter_custom.specs.Views.{given_cmp, key_cmp, content_or, store
 use Rattle.wasmprinter_custom.specs.Lookups.{Gains, stored_at}
 use Rattle.wasmprinter_custom.specs.Labels.{AreOfLabels}
 use Rattle.wasmprinter_custom.specs.Holds.{names_given, Holds}
-use Rattle.wasmprinter_custom.specs.declared.store.Given.{Given}
-use Rattle.wasmprinter_custom.specs.declared.store.Key.{Key}
-use Rattle.wasmprinter_custom.specs.declared.store.StoredName.{StoredName}
-use Rattle.wasmprinter_custom.specs.declared.store.NamesBuilder.{NamesBuilder}
+use Rattle.wasmprinter_custom.specs.declared.names.Given.{Given}
+use Rattle.wasmprinter_custom.specs.declared.names.Key.{Key}
+use Rattle.wasmprinter_custom.specs.declared.names.StoredName.{StoredName}
+use Rattle.wasmprinter_custom.specs.declared.names.NamesBuilder.{NamesBuilder}
 
 -- ---- The tests of the set and of the names
 

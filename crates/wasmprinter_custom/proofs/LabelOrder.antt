@@ -12,8 +12,8 @@ use Rattle.std.specs.Map.{keys_of}
 use Rattle.wasmprinter_spec.specs.Names.Section.{label_subsection}
 use Rattle.wasmprinter_custom.specs.Views.{key_cmp, stored_view, item_view, NamedItem}
 use Rattle.wasmprinter_custom.specs.Labels.{NamedLabel, labels_in, IsBefore, Ascend}
-use Rattle.wasmprinter_custom.specs.declared.store.Key.{Key}
-use Rattle.wasmprinter_custom.specs.declared.store.StoredName.{StoredName}
+use Rattle.wasmprinter_custom.specs.declared.names.Key.{Key}
+use Rattle.wasmprinter_custom.specs.declared.names.StoredName.{StoredName}
 
 -- Labels are ordered by function, then by number.
 less_then : (f g m n : ℕ) (r : Ordering) → nat_cmp f g ≡ r → ordering_then r (nat_cmp m n) ≡ Less → (f ≤ g) × (f ≡ g → m < n)

@@ -20,8 +20,8 @@ use Rattle.std.specs.List.{HoldsAt}
 use Rattle.std.specs.List.Sorted.{IsNonDecreasingBy, IsBinarySearchResult}
 use Rattle.wasmprinter_custom.specs.Views.{key_cmp, stored_view, item_view, name_at}
 use Rattle.wasmprinter_custom.specs.Lookups.{Ascends, AllAreBefore, AllAreAfter, stored_at}
-use Rattle.wasmprinter_custom.specs.declared.store.Key.{Key}
-use Rattle.wasmprinter_custom.specs.declared.store.StoredName.{StoredName}
+use Rattle.wasmprinter_custom.specs.declared.names.Key.{Key}
+use Rattle.wasmprinter_custom.specs.declared.names.StoredName.{StoredName}
 use Rattle.wasmprinter_custom.proofs.Adding.{same_key, name_at-lookup}
 
 -- ---- The order of keys

@@ -10,8 +10,8 @@ use Rattle.std.specs.List.{Any, list_any}
 use Rattle.std.specs.BTreeMap.{is_at}
 use Rattle.wasmprinter_custom.specs.Views.{key_cmp, stored_view, item_view, name_at}
 use Rattle.wasmprinter_custom.specs.Lookups.{AreMarked}
-use Rattle.wasmprinter_custom.specs.declared.store.Key.{Key}
-use Rattle.wasmprinter_custom.specs.declared.store.StoredName.{StoredName}
+use Rattle.wasmprinter_custom.specs.declared.names.Key.{Key}
+use Rattle.wasmprinter_custom.specs.declared.names.StoredName.{StoredName}
 use Rattle.wasmprinter_custom.proofs.Adding.{same_key, name_at-lookup}
 use Rattle.wasmprinter_custom.proofs.Lookups.{none_by}
 

@@ -15,8 +15,8 @@ use Rattle.std.specs.Map.{keys_of}
 use Rattle.std.specs.BTreeMap.{is_at}
 use Rattle.wasmprinter_custom.specs.Views.{key_cmp}
 use Rattle.wasmprinter_custom.specs.Lookups.{Ascends, AreDisjoint, stored_at}
-use Rattle.wasmprinter_custom.specs.declared.store.Key.{Key}
-use Rattle.wasmprinter_custom.specs.declared.store.StoredName.{StoredName}
+use Rattle.wasmprinter_custom.specs.declared.names.Key.{Key}
+use Rattle.wasmprinter_custom.specs.declared.names.StoredName.{StoredName}
 use Rattle.wasmprinter_custom.proofs.Lookups.{key_total}
 use Rattle.wasmprinter_custom.proofs.Placing.{stored_either, same_stored}
 

@@ -15,8 +15,8 @@ use Rattle.std.specs.Prelude.{Bool, true, false, Some, None, if◌then◌else◌
 use Rattle.std.specs.BTreeMap.{is_at}
 use Rattle.wasmprinter_custom.specs.Views.{key_cmp}
 use Rattle.wasmprinter_custom.specs.Lookups.{Ascends, AllAreBefore, AreDisjoint, Gains, stored_at}
-use Rattle.wasmprinter_custom.specs.declared.store.Key.{Key}
-use Rattle.wasmprinter_custom.specs.declared.store.StoredName.{StoredName}
+use Rattle.wasmprinter_custom.specs.declared.names.Key.{Key}
+use Rattle.wasmprinter_custom.specs.declared.names.StoredName.{StoredName}
 use Rattle.wasmprinter_custom.proofs.Lookups.{key_total, turned, rises, found, none_by, none_there}
 
 -- ---- A name after all others

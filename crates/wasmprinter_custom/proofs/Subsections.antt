@@ -6,10 +6,10 @@ use Rattle.wasmprinter_spec.specs.Grammar.{Input}
 use Rattle.wasmprinter_spec.specs.Lenient.{Groups}
 use Rattle.wasmprinter_spec.specs.Names.Section.{Entry, subsection, all_of}
 use Rattle.wasmprinter_spec.proofs.NameSections.{subsection_shrinks}
-use Rattle.wasmprinter_bytes.specs.declared.error.Error.{Error}
-use Rattle.wasmprinter_bytes.specs.declared.error.Error.TheVariants.{Malformed, Memory}
+use Rattle.wasmprinter_bytes.specs.declared.library_error.Error.{Error}
+use Rattle.wasmprinter_bytes.specs.declared.library_error.Error.TheVariants.{Malformed, Memory}
 use Rattle.wasmprinter_custom.specs.Adds.{Grows, AddsUpTo, WantsMemory, AddsBefore, AddsAll, GivesSome, AddsAllBefore}
-use Rattle.wasmprinter_custom.specs.declared.store.NamesBuilder.{NamesBuilder}
+use Rattle.wasmprinter_custom.specs.declared.names.NamesBuilder.{NamesBuilder}
 use Rattle.wasmprinter_custom.proofs.Loops.{grows_none, grows_more, left-some, right-some}
 
 -- Adding the remaining subsections completes the entries that were added. If the remaining subsections

@@ -3,10 +3,10 @@ use Rattle.std.specs.Prelude.{◌≡◌, ◌≢◌, List, [], ◌++◌, Option, 
 use Rattle.wasmprinter_spec.specs.Grammar.{Input}
 use Rattle.wasmprinter_spec.specs.Lenient.{Lenient}
 use Rattle.wasmprinter_spec.specs.Names.Section.{Entry, GivesNames}
-use Rattle.wasmprinter_bytes.specs.declared.error.Error.{Error}
-use Rattle.wasmprinter_bytes.specs.declared.error.Error.TheVariants.{Malformed, Memory}
+use Rattle.wasmprinter_bytes.specs.declared.library_error.Error.{Error}
+use Rattle.wasmprinter_bytes.specs.declared.library_error.Error.TheVariants.{Malformed, Memory}
 use Rattle.wasmprinter_custom.specs.Holds.{Holds}
-use Rattle.wasmprinter_custom.specs.declared.store.NamesBuilder.{NamesBuilder}
+use Rattle.wasmprinter_custom.specs.declared.names.NamesBuilder.{NamesBuilder}
 
 -- The store holds these entries, after those that it held before.
 abbrev pub Grows : NamesBuilder → NamesBuilder → List Entry → Type 0

@@ -4,8 +4,8 @@ use Rattle.std.specs.BTreeSet.{contains}
 use Rattle.wasmprinter_spec.specs.Names.Section.{Entry}
 use Rattle.wasmprinter_spec.specs.Names.Content.{is_among, entries_in, name_of}
 use Rattle.wasmprinter_custom.specs.Views.{given_cmp, items_view, name_at}
-use Rattle.wasmprinter_custom.specs.declared.store.Given.{Given}
-use Rattle.wasmprinter_custom.specs.declared.store.NamesBuilder.{NamesBuilder}
+use Rattle.wasmprinter_custom.specs.declared.names.Given.{Given}
+use Rattle.wasmprinter_custom.specs.declared.names.NamesBuilder.{NamesBuilder}
 
 -- The names of these entries, the last one first, before the names given earlier.
 abbrev pub names_given : List (List ℕ) → List Entry → List (List ℕ)

@@ -6,8 +6,8 @@ use Rattle.std.specs.List.Sorted.{IsStrictlySortedBy}
 use Rattle.std.specs.Map.{keys_of, lookup}
 use Rattle.std.specs.BTreeMap.{is_at}
 use Rattle.wasmprinter_custom.specs.Views.{key_cmp}
-use Rattle.wasmprinter_custom.specs.declared.store.Key.{Key}
-use Rattle.wasmprinter_custom.specs.declared.store.StoredName.{StoredName}
+use Rattle.wasmprinter_custom.specs.declared.names.Key.{Key}
+use Rattle.wasmprinter_custom.specs.declared.names.StoredName.{StoredName}
 
 -- The keys are in strictly ascending order.
 abbrev pub Ascends : List (Key × StoredName) → Type 0

@@ -5,9 +5,9 @@ use Rattle.wasmprinter_spec.specs.Names.{Names, names_by}
 use Rattle.wasmprinter_spec.specs.Names.Content.{group_of, index_content}
 use Rattle.wasmprinter_custom.specs.Spaces.{id_of}
 use Rattle.wasmprinter_custom.specs.Views.{name_view, name_at}
-use Rattle.wasmprinter_custom.specs.declared.identifiers.Identifier.{Identifier}
-use Rattle.wasmprinter_custom.specs.declared.identifiers.Identifier.TheVariants.{Given, Synthesized}
-use Rattle.wasmprinter_custom.specs.declared.identifiers.Identifiers.{Identifiers}
+use Rattle.wasmprinter_custom.specs.declared.item_identifiers.Identifier.{Identifier}
+use Rattle.wasmprinter_custom.specs.declared.item_identifiers.Identifier.TheVariants.{Given, Synthesized}
+use Rattle.wasmprinter_custom.specs.declared.item_identifiers.Identifiers.{Identifiers}
 
 -- The synthesized identifier of an item of a subsection.
 abbrev pub synthesized_name : ℕ → ℕ → Named

@@ -6,10 +6,10 @@ use Rattle.std.specs.Ordering.{nat_cmp, ordering_then}
 use Rattle.std.specs.Cmp.Lexicographic.{slice_cmp}
 use Rattle.std.specs.String.{string_bytes}
 use Rattle.wasmprinter_spec.specs.Labels.{Named}
-use Rattle.wasmprinter_custom.specs.declared.store.Given.{Given}
-use Rattle.wasmprinter_custom.specs.declared.store.Key.{Key}
-use Rattle.wasmprinter_custom.specs.declared.store.Name.{Name}
-use Rattle.wasmprinter_custom.specs.declared.store.StoredName.{StoredName}
+use Rattle.wasmprinter_custom.specs.declared.names.Given.{Given}
+use Rattle.wasmprinter_custom.specs.declared.names.Key.{Key}
+use Rattle.wasmprinter_custom.specs.declared.names.Name.{Name}
+use Rattle.wasmprinter_custom.specs.declared.names.StoredName.{StoredName}
 
 -- The order of given names: by the subsection, then by the function or type, then by the name.
 abbrev pub given_cmp : Given → Given → Ordering

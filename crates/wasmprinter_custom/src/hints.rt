@@ -2,7 +2,7 @@
 ghost use Rattle.std.specs.Prelude.{◌≡◌, ◌+◌, ◌<◌, ◌^◌, [], length, codes, bytes_eq};
 ghost use Rattle.wasmprinter_spec.specs.Grammar.{value_with_place};
 ghost use Rattle.wasmprinter_spec.specs.Customs.Hints.{hint as hint_grammar, flag, function_hints, hint_section, hints_given};
-ghost use Rattle.wasmprinter_spec.specs.Customs.Hints.{next_hints, hints_after, next_hint, hint_after};
+ghost use Rattle.wasmprinter_spec.specs.Customs.Hints.{hints_of_next, entries_after, next_hint, hints_after};
 ghost use Rattle.wasmprinter_spec.specs.FirstByte.{only};
 ghost use Rattle.wasmprinter_bytes.specs.Reads.{Decodes};
 
@@ -10,7 +10,8 @@ use crate::encoded_lists::{ItemsIn, ReadFrom};
 use std::marker::Model;
 use wasmprinter_bytes::Malformed;
 use wasmprinter_bytes::cursor::Cursor;
-use wasmprinter_bytes::lists::{Decode, Items, no_items, read_items};
+use wasmprinter_bytes::items::{Items, no_items, read_items};
+use wasmprinter_bytes::lists::Decode;
 
 /// The name of sections with branch hints. If there are several, the last one counts.
 pub(crate) const HINT_SECTION: &str = "metadata.code.branch_hint";
@@ -136,7 +137,7 @@ impl<'a> FunctionHints<'a> {
     /// Takes the next hint if its operator is `offset` bytes after the first byte of the body.
     pub fn next_at(&mut self, offset: u64) -> Option<Hint>
         ensures gives { result ≡ next_hint offset self.old }
-        ensures after { self.new ≡ hint_after offset self.old }
+        ensures after { self.new ≡ hints_after offset self.old }
     {
         let mut after = self.hints.iter();
         match after.next() {
@@ -243,11 +244,12 @@ impl<'a> Hints<'a> {
         }
     }
 
-    /// Takes the hints of the function `number` if its entry is the next, and otherwise returns no hints.
+    /// Removes the next entry and returns its hints if it is that of the function with this index (imports counted).
+    /// Otherwise returns no hints and changes nothing.
     #[tactic(auto, using(crate::proofs::NextEntry::next_is_first))]
     pub fn next_function(&mut self, number: u64) -> FunctionHints<'a>
-        ensures gives { result ≡ next_hints number self.old }
-        ensures after { self.new ≡ hints_after number self.old }
+        ensures gives { result ≡ hints_of_next number self.old }
+        ensures after { self.new ≡ entries_after number self.old }
     {
         match &self.next {
             Some(entry) if u64::from(entry.function) == number => {

@@ -7,32 +7,32 @@
 #![tactic(auto)]
 
 mod dylink;
-mod dylink_names;
+mod dylink_name_list;
 mod encoded_lists;
 mod hints;
 mod identifier_chars;
-mod identifiers;
+mod item_identifiers;
 mod name_section;
-mod names_in_order;
+mod name_subsection_ids;
+mod named_subsections;
+mod names;
 mod position_guesses;
 mod producers;
 mod search;
+mod sorted_names;
 mod space;
-mod store;
-mod subsection_ids;
-mod subsection_marks;
 mod symbol_flags;
 mod treatment;
 
 pub use dylink::{Content, Dylink, ExportInfo, ImportInfo, MemInfo, Subsection};
-pub use dylink_names::DylinkNames;
+pub use dylink_name_list::DylinkNames;
 pub use encoded_lists::{ItemsIn, ReadFrom, ValueSource};
 pub use hints::{FunctionHints, Hint, Hints, is_hint_section};
 pub use identifier_chars::is_id;
-pub use identifiers::{Identifier, Identifiers};
+pub use item_identifiers::{Identifier, Identifiers};
 pub use name_section::read_names;
+pub use names::{LabelName, Name, NameEntries, Names, NamesBuilder};
 pub use producers::{Producers, ProducersField, Value, Values};
 pub use space::Space;
-pub use store::{LabelName, Name, NameEntries, Names, NamesBuilder};
 pub use symbol_flags::{FlagWords, SymbolFlags};
 pub use treatment::{CustomTreatment, custom_treatment};

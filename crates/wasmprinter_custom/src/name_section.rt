@@ -1,13 +1,13 @@
 //! Reads the data of a name section. Reading stops at the first error; the names before it count.
 ghost use Rattle.std.specs.Prelude.{◌≡◌, ◌++◌, List, [], OnOk, IfErr, IsOk};
-ghost use Rattle.wasmprinter_bytes.specs.declared.error.Error.TheVariants.{Memory};
+ghost use Rattle.wasmprinter_bytes.specs.declared.library_error.Error.TheVariants.{Memory};
 ghost use Rattle.wasmprinter_spec.specs.Names.Section.{Entry, entry, module_name, name_map, inner_map, indirect_map, content};
 ghost use Rattle.wasmprinter_spec.specs.Names.Section.{subsection, GivesNames};
 ghost use Rattle.wasmprinter_custom.specs.Holds.{Holds};
 ghost use Rattle.wasmprinter_custom.specs.Adds.{Adds, AddsNames};
 
-use crate::store::NamesBuilder;
-use crate::subsection_ids::{FIELD, LABEL, LOCAL, MODULE, TAG};
+use crate::name_subsection_ids::{FIELD, LABEL, LOCAL, MODULE, TAG};
+use crate::names::NamesBuilder;
 use std::alloc::Global;
 use wasmprinter_bytes::Error;
 use wasmprinter_bytes::cursor::Cursor;
@@ -148,7 +148,7 @@ pub fn read_names<'a>(
     ensures memory { IfErr result (λ e. e ≡ Memory) }
 
     // Only entries need memory.
-    ensures needed { GivesNames section.entry [] → IsOk result }
+    ensures succeeds { GivesNames section.entry [] → IsOk result }
 {
     let mut cursor = section;
     match read_subsections(alloc, builder, &mut cursor) {

@@ -1,7 +1,7 @@
 //! The guessed positions of items in the list of items with names. A guess may be wrong: each lookup verifies it.
 ghost use Rattle.std.specs.Prelude.{◌≡◌, ◌<◌, ◌≤◌, ◌+◌, ◌-◌, [], length, max, OnOk, OnErr, IsOk};
 
-use crate::store::{Key, StoredName};
+use crate::names::{Key, StoredName};
 use std::alloc::{AllocError, Global};
 
 /// The positions of the items of a subsection, by the function or type in which they are numbered.
@@ -68,7 +68,7 @@ pub struct Guesses {
 }
 
 impl Guesses {
-    /// Returns the hints for items with names, given in the order of their keys.
+    /// Returns the guessed positions of the items with names, which are given in the order of their keys.
     ///
     /// # Errors
     ///

@@ -45,7 +45,7 @@ impl<'a> ReadFrom for Value<'a> {
 }
 
 impl<'a> Value<'a> {
-    /// Returns the place of the first byte: a byte offset from the start of the module.
+    /// Returns the place of the value's first byte: a byte offset from the start of the module.
     pub fn place(&self) -> u64
         ensures { result ≡ self.now.place }
     {

@@ -5,7 +5,7 @@ ghost use Rattle.std.specs.declared.cmp.Ordering.TheVariants.{Equal};
 ghost use Rattle.wasmprinter_custom.specs.Lookups.{Ascends, AllAreBefore, AllAreAfter, stored_at};
 ghost use Rattle.wasmprinter_custom.specs.Views.{key_cmp};
 
-use crate::store::{Key, StoredName};
+use crate::names::{Key, StoredName};
 
 /// Reports whether the last entry before a position shows that all entries before it have lower keys than this one.
 pub(crate) fn all_before(entries: &[(Key, StoredName<'_>)], position: usize, key: Key) -> bool

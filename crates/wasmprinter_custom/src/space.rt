@@ -1,7 +1,7 @@
 //! The index spaces whose items can have names.
 ghost use Rattle.std.specs.Prelude.{◌≡◌};
 
-use crate::subsection_ids;
+use crate::name_subsection_ids;
 
 /// An index space whose items can have names. The name of the module itself is in none of them.
 #[derive(Clone, Copy, Debug, PartialEq, Eq)]
@@ -40,17 +40,17 @@ impl Space {
         ensures { result ≡ id_of self }
     {
         match self {
-            Space::Func => subsection_ids::FUNCTION,
-            Space::Local => subsection_ids::LOCAL,
-            Space::Label => subsection_ids::LABEL,
-            Space::Types => subsection_ids::TYPE,
-            Space::Table => subsection_ids::TABLE,
-            Space::Memory => subsection_ids::MEMORY,
-            Space::Global => subsection_ids::GLOBAL,
-            Space::Elem => subsection_ids::ELEM,
-            Space::Data => subsection_ids::DATA,
-            Space::Field => subsection_ids::FIELD,
-            Space::Tag => subsection_ids::TAG,
+            Space::Func => name_subsection_ids::FUNCTION,
+            Space::Local => name_subsection_ids::LOCAL,
+            Space::Label => name_subsection_ids::LABEL,
+            Space::Types => name_subsection_ids::TYPE,
+            Space::Table => name_subsection_ids::TABLE,
+            Space::Memory => name_subsection_ids::MEMORY,
+            Space::Global => name_subsection_ids::GLOBAL,
+            Space::Elem => name_subsection_ids::ELEM,
+            Space::Data => name_subsection_ids::DATA,
+            Space::Field => name_subsection_ids::FIELD,
+            Space::Tag => name_subsection_ids::TAG,
         }
     }
 
@@ -65,6 +65,6 @@ impl Space {
     pub fn word(self) -> &'static str
         ensures { result.now ≡ group_of (id_of self) }
     {
-        subsection_ids::group(self.subsection())
+        name_subsection_ids::group(self.subsection())
     }
 }

@@ -7,7 +7,7 @@ use Rattle.wasmprinter_spec.specs.Operator.{Operator}
 use Rattle.wasmprinter_spec.specs.Table.{role_of}
 use Rattle.wasmprinter_spec.specs.Names.{Names}
 use Rattle.wasmprinter_spec.specs.Labels.{Label, labels_after, count_after}
-use Rattle.wasmprinter_spec.specs.Customs.Hints.{Hint, next_hint, hint_after}
+use Rattle.wasmprinter_spec.specs.Customs.Hints.{Hint, next_hint, hints_after}
 use Rattle.wasmprinter_spec.specs.Piece.{Piece}
 use Rattle.wasmprinter_spec.specs.Layout.Operators.{Setting, level, before_word, operator_pieces, hint_pieces, operators_pieces}
 use Rattle.wasmprinter_print.specs.OutputLaws.{AllThen}
@@ -38,7 +38,7 @@ operators-of : (s : Setting) (hs : List (Placed Hint)) (first : Bool) (n : ℕ) 
     operators_pieces s hs first n xs os
     ≡ hint_pieces (s.nesting + length xs) (next_hint (o.place - s.body) hs)
     ++ (operator_pieces s first (s.names.labels s.function n (length xs)) xs o
-    ++ operators_pieces s (hint_after (o.place - s.body) hs) false (count_after (role_of o.value.opcode) n)
+    ++ operators_pieces s (hints_after (o.place - s.body) hs) false (count_after (role_of o.value.opcode) n)
     (labels_after (role_of o.value.opcode) (s.names.labels s.function n (length xs)) xs) rest)
 unfolding operators_pieces
 operators-of s hs first n xs os rest o e = ap (λ ps. operators_pieces s hs first n xs ps) e
@@ -104,7 +104,7 @@ module _ {S : Type 0} (wrote : S → S → List Piece → Type 0) {a t : S} {s :
       wrote t v
       (hint_pieces (s.nesting + length l.labels) (next_hint (x.0 - s.body) left)
       ++ (operator_pieces (record s { names = names_of l }) first (own_label l) l.labels (placed_view x)
-      ++ operators_pieces s (hint_after (x.0 - s.body) left) false (count_after (role_of x.1.opcode) l.count)
+      ++ operators_pieces s (hints_after (x.0 - s.body) left) false (count_after (role_of x.1.opcode) l.count)
       (labels_after (role_of x.1.opcode) (own_label l) l.labels) rest)) →
       wrote a v (operators_pieces s hints true 0 [] all)
   writes_next rest x e v w =
@@ -116,7 +116,7 @@ module _ {S : Type 0} (wrote : S → S → List Piece → Type 0) {a t : S} {s :
   pub after_next : AllThen wrote → {u k : S} (rest : List (Placed Operator)) (x : ℕ × Operator) → pairs os ≡ x ∷ pairs rest →
       wrote t u (hint_pieces (s.nesting + length l.labels) (next_hint (x.0 - s.body) left)) →
       wrote u k (operator_pieces (record s { names = names_of l }) first (own_label l) l.labels (placed_view x)) → (v : S) →
-      wrote k v (operators_pieces s (hint_after (x.0 - s.body) left) false (count_after (role_of x.1.opcode) l.count)
+      wrote k v (operators_pieces s (hints_after (x.0 - s.body) left) false (count_after (role_of x.1.opcode) l.count)
       (labels_after (role_of x.1.opcode) (own_label l) l.labels) rest) →
       wrote a v (operators_pieces s hints true 0 [] all)
   after_next then {u} {k} rest x e hint operator v w =
@@ -124,7 +124,7 @@ module _ {S : Type 0} (wrote : S → S → List Piece → Type 0) {a t : S} {s :
 
   -- After the hint and the next operator are written, the invariant holds for the others.
   pub goes_on : AllThen wrote → {u w : S} (rest : List (Placed Operator)) (x : ℕ × Operator) (role : Role) (k : Scan) (after : List (Placed Hint)) → pairs os ≡ x ∷ pairs rest →
-      role ≡ role_of x.1.opcode → k ≡ after_operator role l → after ≡ hint_after (x.0 - s.body) left →
+      role ≡ role_of x.1.opcode → k ≡ after_operator role l → after ≡ hints_after (x.0 - s.body) left →
       wrote t u (hint_pieces (s.nesting + length l.labels) (next_hint (x.0 - s.body) left)) →
       wrote u w (operator_pieces (record s { names = names_of l }) first (own_label l) l.labels (placed_view x)) →
       Progress wrote a w s start hints all rest after false k

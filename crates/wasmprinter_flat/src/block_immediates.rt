@@ -1,18 +1,19 @@
 //! The immediates of operators that open a block (section 6.5 of the WebAssembly Core Specification, "Control
-//! Instructions"): the block type, catch clauses, and the comment of the label.
-ghost use Rattle.std.specs.Prelude.{◌∷◌, ◌++◌, None, option_map};
+//! Instructions"): the label, the block type, catch clauses, and the comment of the label.
+ghost use Rattle.std.specs.Prelude.{suc, ◌+◌, ◌<◌, ◌^◌, ◌∷◌, ◌++◌, length, None, option_map};
 ghost use Rattle.wasmprinter_spec.specs.Piece.{OneSpace};
 ghost use Rattle.wasmprinter_spec.specs.Row as row;
 ghost use Rattle.wasmprinter_spec.specs.Layout.Groups.{line_group};
+ghost use Rattle.wasmprinter_spec.specs.Layout.Identifiers.{leading_id_and_name_pieces};
 ghost use Rattle.wasmprinter_spec.specs.Layout.Operators.{named_index, label_pieces, ending_pieces, block_pieces};
 ghost use Rattle.wasmprinter_custom.specs.Shown.{identifier_view};
 ghost use Rattle.wasmprinter_ops.specs.Blocks.{block_type_view, catch_view, catches_view};
-ghost use Rattle.wasmprinter_flat.specs.Contexts.{setting_in, labels_around, labels_within, catch_pieces_in, catches_pieces_in};
+ghost use Rattle.wasmprinter_flat.specs.Contexts.{setting_in, labels_around, labels_within, own_in, catch_pieces_in, catches_pieces_in};
 ghost use Rattle.wasmprinter_flat.specs.Settings.{form_view};
 
 use crate::immediate_context::Context;
 use crate::indices::write_operand;
-use crate::labels::write_label;
+use crate::label_immediates::write_label;
 use crate::operators::Form;
 use crate::type_immediates::write_result;
 use wasmprinter_custom::Identifier;
@@ -20,6 +21,7 @@ use wasmprinter_ops::blocks::{BlockType, Catch, Catches};
 use wasmprinter_ops::opcode::Space;
 use wasmprinter_print::Output;
 use wasmprinter_text::comments::{write_label_block_comment, write_label_line_comment};
+use wasmprinter_text::indices::write_leading_id_and_name;
 use wasmprinter_text::signature::{Signatures, write_type_use};
 use wasmprinter_text::words::{open_group, write_close_paren, write_space};
 
@@ -172,4 +174,43 @@ pub(crate) fn write_catches<O: Output, S: Signatures>(
         }
         write_clause(out, context, clause);
     }
+}
+
+/// Writes the immediates of an operator that opens a block: its label, its type, and the label's comment.
+pub(crate) fn write_block<O: Output, S: Signatures>(
+    out: &mut O,
+    context: &Context<'_, '_, '_, '_, S>,
+    block_type: BlockType,
+)
+    requires { length context.now.labels.now.labels + 1 < 2 ^ 64 }
+    ensures { O.wrote out.old out.new
+        (leading_id_and_name_pieces (own_in context.now)
+        ++ (block_pieces (setting_in S.signature_at context.now) (block_type_view block_type)
+        ++ ending_pieces (form_view context.now.setting.now.form) (own_in context.now) (suc (length (labels_around context.now))))) }
+{
+    let own = context.labels.own();
+    write_leading_id_and_name(out, own);
+    write_block_type(out, context, block_type);
+    write_ending(out, context.setting.form, own, context.block());
+}
+
+/// Writes the immediates of a `try_table`: its label, its type, its catch clauses, and the label's comment.
+pub(crate) fn write_try_table<O: Output, S: Signatures>(
+    out: &mut O,
+    context: &Context<'_, '_, '_, '_, S>,
+    block_type: BlockType,
+    clauses: &Catches<'_>,
+)
+    requires { length context.now.labels.now.labels + 1 < 2 ^ 64 }
+    ensures { O.wrote out.old out.new
+        (leading_id_and_name_pieces (own_in context.now)
+        ++ (block_pieces (setting_in S.signature_at context.now) (block_type_view block_type)
+        ++ (catches_pieces_in S.signature_at context.now (catches_view clauses.now)
+        ++ ending_pieces (form_view context.now.setting.now.form) (own_in context.now) (suc (length (labels_around context.now)))))) }
+{
+    let own = context.labels.own();
+    write_leading_id_and_name(out, own);
+    write_block_type(out, context, block_type);
+    write_catches(out, context, clauses);
+    write_ending(out, context.setting.form, own, context.block());
 }

@@ -1,76 +1,32 @@
 //! Immediates of operators, by their shape (section 6.5 of the WebAssembly Core Specification).
-ghost use Rattle.std.specs.Prelude.{suc, ◌+◌, ◌<◌, ◌^◌, ◌++◌, List, length};
+ghost use Rattle.std.specs.Prelude.{◌+◌, ◌<◌, ◌^◌, List, length};
 ghost use Rattle.wasmprinter_spec.specs.Labels.{Label};
 ghost use Rattle.wasmprinter_spec.specs.Operator.{Index, Indices, Heap, Memory, MemoryLane, Bytes};
-ghost use Rattle.wasmprinter_spec.specs.Layout.Identifiers.{leading_id_and_name_pieces};
 ghost use Rattle.wasmprinter_spec.specs.Layout.Operators as layout;
-ghost use Rattle.wasmprinter_spec.specs.Layout.Operators.{block_pieces, ending_pieces, immediate_pieces};
-ghost use Rattle.wasmprinter_ops.specs.Blocks.{block_type_view, catches_view};
+ghost use Rattle.wasmprinter_spec.specs.Layout.Operators.{immediate_pieces};
 ghost use Rattle.wasmprinter_ops.specs.Immediates.{immediates_view, HasShape};
 ghost use Rattle.wasmprinter_ops.specs.Shapes.{shape_view};
 ghost use Rattle.wasmprinter_ops.specs.ValTypes.{heap_view};
-ghost use Rattle.wasmprinter_flat.specs.Contexts.{setting_in, labels_around, own_in, pieces_in, catches_pieces_in};
-ghost use Rattle.wasmprinter_flat.specs.Settings.{form_view};
+ghost use Rattle.wasmprinter_flat.specs.Contexts.{pieces_in};
 
-use crate::block_immediates::{write_block_type, write_catches, write_ending};
+use crate::block_immediates::{write_block, write_try_table};
 use crate::float_immediates::{write_f32, write_f64};
 use crate::immediate_context::Context;
 use crate::indices::{
     write_call, write_copy, write_default_index, write_field, write_index_and_count,
     write_index_pair, write_operand, write_segment,
 };
-use crate::labels::{write_label, write_labels};
+use crate::label_immediates::{write_label, write_labels};
 use crate::memory::write_mem_arg;
 use crate::type_immediates::{write_cast, write_heap, write_ref, write_select};
 use crate::vectors::{write_lane, write_lanes, write_vector};
-use wasmprinter_ops::blocks::{BlockType, Catches};
+use wasmprinter_ops::mem_arg::MemArg;
 use wasmprinter_ops::opcode::{Shape, Space};
-use wasmprinter_ops::operands::MemArg;
 use wasmprinter_ops::operator::Immediates;
 use wasmprinter_ops::{HeapType, RefType};
 use wasmprinter_print::Output;
-use wasmprinter_text::indices::write_leading_id_and_name;
 use wasmprinter_text::numbers::write_signed;
 use wasmprinter_text::signature::Signatures;
-
-/// Writes the immediates of an operator that opens a block: its label, its type, and the label's comment.
-fn write_block<O: Output, S: Signatures>(
-    out: &mut O,
-    context: &Context<'_, '_, '_, '_, S>,
-    block_type: BlockType,
-)
-    requires { length context.now.labels.now.labels + 1 < 2 ^ 64 }
-    ensures { O.wrote out.old out.new
-        (leading_id_and_name_pieces (own_in context.now)
-        ++ (block_pieces (setting_in S.signature_at context.now) (block_type_view block_type)
-        ++ ending_pieces (form_view context.now.setting.now.form) (own_in context.now) (suc (length (labels_around context.now))))) }
-{
-    let own = context.labels.own();
-    write_leading_id_and_name(out, own);
-    write_block_type(out, context, block_type);
-    write_ending(out, context.setting.form, own, context.block());
-}
-
-/// Writes the immediates of a `try_table`: its label, its type, its catch clauses, and the label's comment.
-fn write_try_table<O: Output, S: Signatures>(
-    out: &mut O,
-    context: &Context<'_, '_, '_, '_, S>,
-    block_type: BlockType,
-    clauses: &Catches<'_>,
-)
-    requires { length context.now.labels.now.labels + 1 < 2 ^ 64 }
-    ensures { O.wrote out.old out.new
-        (leading_id_and_name_pieces (own_in context.now)
-        ++ (block_pieces (setting_in S.signature_at context.now) (block_type_view block_type)
-        ++ (catches_pieces_in S.signature_at context.now (catches_view clauses.now)
-        ++ ending_pieces (form_view context.now.setting.now.form) (own_in context.now) (suc (length (labels_around context.now)))))) }
-{
-    let own = context.labels.own();
-    write_leading_id_and_name(out, own);
-    write_block_type(out, context, block_type);
-    write_catches(out, context, clauses);
-    write_ending(out, context.setting.form, own, context.block());
-}
 
 /// Writes an index by its shape: a label, or an index into another space.
 #[tactic(auto, unfolding(wasmprinter_spec::specs::Layout::Operators::immediate_pieces, wasmprinter_spec::specs::Layout::Operators::operand_pieces))]

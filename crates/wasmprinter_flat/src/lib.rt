@@ -7,7 +7,7 @@ mod float_immediates;
 mod immediate_context;
 mod immediates;
 mod indices;
-mod labels;
+mod label_immediates;
 mod memory;
 pub mod open_labels;
 pub mod operators;

@@ -7,8 +7,8 @@ ghost use Rattle.wasmprinter_flat.specs.Contexts.{setting_in};
 
 use crate::immediate_context::Context;
 use crate::indices::write_default_index;
+use wasmprinter_ops::mem_arg::MemArg;
 use wasmprinter_ops::opcode::Space;
-use wasmprinter_ops::operands::MemArg;
 use wasmprinter_print::Output;
 use wasmprinter_text::numbers::{power, write_numbered_word};
 use wasmprinter_text::signature::Signatures;

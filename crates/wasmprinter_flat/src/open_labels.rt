@@ -102,7 +102,7 @@ impl<'n, 'a> OpenLabels<'n, 'a> {
     /// Returns an error if an allocation fails. If no label has a name, nothing is allocated.
     pub fn new(alloc: Global, identifiers: Identifiers<'n, 'a>) -> Result<Self, AllocError>
         ensures start { IfOk result (λ labels. labels ≡ at_start identifiers.entry 0) }
-        ensures needed { ((f n : ℕ) → name_at identifiers.entry.names.now label_subsection f n ≡ None) → IsOk result }
+        ensures succeeds { ((f n : ℕ) → name_at identifiers.entry.names.now label_subsection f n ≡ None) → IsOk result }
     {
         let labels = numbered_labels(alloc, &identifiers.names.labels(alloc)?)?;
         let named = NamedBlocks::new(alloc, labels.len())?;

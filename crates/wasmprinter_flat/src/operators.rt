@@ -1,6 +1,6 @@
 //! Operators (section 6.5 of the WebAssembly Core Specification), each on a line of its own or all in one line.
 ghost use Rattle.std.specs.Prelude.{◌≡◌, ◌+◌, ◌-◌, ◌<◌, ◌^◌, [], length, true, Some};
-ghost use Rattle.wasmprinter_spec.specs.Customs.Hints.{next_hint, hint_after};
+ghost use Rattle.wasmprinter_spec.specs.Customs.Hints.{next_hint, hints_after};
 ghost use Rattle.wasmprinter_spec.specs.Layout.Operators.{level as level_of, before_word};
 ghost use Rattle.wasmprinter_spec.specs.Layout.Operators.{hint_pieces, operators_pieces};
 ghost use Rattle.wasmprinter_ops.specs.Shapes.{role_view};
@@ -124,7 +124,7 @@ fn write_next_hint<O: Output, S: Signatures>(
 )
     ensures pieces { O.wrote out.old out.new
         (hint_pieces (setting.now.nesting + blocks) (next_hint (place - setting.now.body) hints.old)) }
-    ensures after { hints.new ≡ hint_after (place - setting.now.body) hints.old }
+    ensures after { hints.new ≡ hints_after (place - setting.now.body) hints.old }
 {
     if let Some(hint) = hints.next_at(place.saturating_sub(setting.body)) {
         write_hint(out, setting, blocks, &hint);
@@ -133,6 +133,7 @@ fn write_next_hint<O: Output, S: Signatures>(
 
 /// Writes the operators of an expression, each after its hint if it has one. `labels` is first reset to the start of
 /// `setting.function`, so its earlier use does not matter. Its identifiers are those passed to `OpenLabels::new`.
+// The arguments `true 0 []` say that no operator was written, no block was opened and no label is open.
 pub fn write_operators<O: Output, S: Signatures>(
     out: &mut O,
     setting: &Setting<'_, S>,

@@ -7,13 +7,13 @@ ghost use Rattle.wasmprinter_spec.specs.Layout.ValTypes.{heap_pieces, ref_pieces
 ghost use Rattle.wasmprinter_spec.specs.Text.Items.{the_only};
 ghost use Rattle.wasmprinter_custom.specs.Shown.{names_of_identifiers};
 ghost use Rattle.wasmprinter_ops.specs.Operands.{source_type, target_type};
-ghost use Rattle.wasmprinter_ops.specs.ValTypes.{heap_view, ref_view, type_view, types_view};
+ghost use Rattle.wasmprinter_ops.specs.ValTypes.{heap_view, ref_view, val_type_view, val_types_view};
 ghost use Rattle.wasmprinter_flat.specs.Contexts.{names_in, labels_around, labels_within};
 
 use crate::immediate_context::Context;
-use crate::labels::write_label;
+use crate::label_immediates::write_label;
 use wasmprinter_custom::Identifiers;
-use wasmprinter_ops::operands::{cast_source, cast_target};
+use wasmprinter_ops::casts::{cast_source, cast_target};
 use wasmprinter_ops::{HeapType, RefType, ValType, ValTypes};
 use wasmprinter_print::Output;
 use wasmprinter_text::signature::Signatures;
@@ -28,7 +28,7 @@ pub(crate) fn write_result<O: Output>(
     value_type: ValType,
 )
     ensures { O.wrote out.old out.new
-        (OneSpace ∷ line_group_space (codes "result") (val_pieces (names_of_identifiers identifiers.now) (type_view value_type))) }
+        (OneSpace ∷ line_group_space (codes "result") (val_pieces (names_of_identifiers identifiers.now) (val_type_view value_type))) }
 {
     write_space(out);
     open_group_space(out, "result");
@@ -54,7 +54,7 @@ pub(crate) fn write_select<O: Output>(
     types: &ValTypes<'_>,
 )
     ensures { O.wrote out.old out.new
-        (select_pieces (names_of_identifiers identifiers.now) (types_view types.now)) }
+        (select_pieces (names_of_identifiers identifiers.now) (val_types_view types.now)) }
 {
     match only_type(types) {
         Some(value_type) => write_result(out, identifiers, value_type),

@@ -11,7 +11,7 @@ use Rattle.wasmprinter_spec.specs.Layout.Folded.{text_in_color, has_line_comment
 use Rattle.wasmprinter_spec.specs.Folding.Tree.{NodesOf, Nil, Snoc}
 use Rattle.wasmprinter_fold.specs.declared.nodes.NodeText.{NodeText}
 use Rattle.wasmprinter_fold.specs.Mapping.{map_nodes}
-use Rattle.wasmprinter_fold.specs.declared.node_text.semicolons.Semicolons.{Semicolons}
+use Rattle.wasmprinter_fold.specs.declared.node_text.line_comment_scan.Semicolons.{Semicolons}
 use Rattle.wasmprinter_fold.specs.Shown.{ShownNode, shown_of_calls, shown_of_head, IsIn, AreIn}
 use Rattle.wasmprinter_fold.specs.Buffers.{View, no_semicolons, see, see_all, with_text_begun, GrowsText}
 use Rattle.wasmprinter_fold.proofs.TextLaws.{Adds}

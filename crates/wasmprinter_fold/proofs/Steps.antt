@@ -7,12 +7,12 @@ use Rattle.std.proofs.lemmas.List.Concat.{flat_map_single}
 use Rattle.std.proofs.lemmas.List.{append_assoc}
 use Rattle.std.proofs.lemmas.Grind.{flat_map-append}
 use Rattle.std.proofs.lemmas.Option.{slice_get_within, get_or_from_slice_get}
-use Rattle.wasmprinter_bytes.specs.declared.error.Error.{Error}
+use Rattle.wasmprinter_bytes.specs.declared.library_error.Error.{Error}
 use Rattle.wasmprinter_spec.specs.Grammar.{Placed}
 use Rattle.wasmprinter_spec.specs.Operator.{Operator}
 use Rattle.wasmprinter_spec.specs.Instructions.{Closed}
 use Rattle.wasmprinter_spec.specs.Table.{role_of}
-use Rattle.wasmprinter_spec.specs.Customs.Hints.{Hint, FunctionHints, next_hint, hint_after, next_hints, hints_after, last_named, hints_by, hints_of}
+use Rattle.wasmprinter_spec.specs.Customs.Hints.{Hint, FunctionHints, next_hint, hints_after, hints_of_next, entries_after, last_named, hints_by, hints_of}
 use Rattle.wasmprinter_spec.specs.Placed.{Custom, CustomEntry, Global, PlacedFunction, PlacedModule}
 use Rattle.wasmprinter_spec.specs.Options.{Options}
 use Rattle.wasmprinter_spec.specs.Folding.Code.{is_try}
@@ -53,7 +53,7 @@ legacy_none os e = ap legacy_places_in (no-pair os e)
 -- The places of misplaced hints in a list are that of the first operator's hint, if it is misplaced, and those in
 -- the rest.
 pub misplaced_next : (body : ℕ) (hs : List (Placed Hint)) (os rest : Operators) (place : ℕ) (o : Operator) → pairs os ≡ (place, o) ∷ pairs rest →
-    misplaced_hints_in body hs os ≡ place_if_misplaced (role_of o.opcode) (next_hint (place - body) hs) ++ misplaced_hints_in body (hint_after (place - body) hs) rest
+    misplaced_hints_in body hs os ≡ place_if_misplaced (role_of o.opcode) (next_hint (place - body) hs) ++ misplaced_hints_in body (hints_after (place - body) hs) rest
 misplaced_next body hs os rest place o e = ap (misplaced_hints_in body hs) (first-pair os rest (place, o) e)
 
 -- An empty list has no misplaced hints.
@@ -76,12 +76,12 @@ bodies_next i fs f e = ap (λ (gs : List PlacedFunction). flat_map legacy_places
 -- first and those in the others.
 pub hints_next : (es : List FunctionHints) (k i : ℕ) (fs : List PlacedFunction) (f : PlacedFunction) → slice_get fs i ≡ Some f →
     misplaced_hints_from es (k + i) (drop i fs)
-    ≡ misplaced_hints_in f.body.place (next_hints (k + i) es) f.body.value.operators
-    ++ misplaced_hints_from (hints_after (k + i) es) (k + (i + 1)) (drop (i + 1) fs)
+    ≡ misplaced_hints_in f.body.place (hints_of_next (k + i) es) f.body.value.operators
+    ++ misplaced_hints_from (entries_after (k + i) es) (k + (i + 1)) (drop (i + 1) fs)
 hints_next es k i fs f e =
     let number : (k + i) + 1 ≡ k + (i + 1) = omega (arith) in
     ap (misplaced_hints_from es (k + i)) (function_next i fs f e)
-    ∙ ap (λ n. misplaced_hints_in f.body.place (next_hints (k + i) es) f.body.value.operators ++ misplaced_hints_from (hints_after (k + i) es) n (drop (i + 1) fs)) number
+    ∙ ap (λ n. misplaced_hints_in f.body.place (hints_of_next (k + i) es) f.body.value.operators ++ misplaced_hints_from (entries_after (k + i) es) n (drop (i + 1) fs)) number
 
 -- ---- Hint sections
 

@@ -18,7 +18,7 @@ use Rattle.wasmprinter_print.specs.EffectLaws.{effect_end}
 use Rattle.wasmprinter_print.specs.declared.halt.Halt.{Halt}
 use Rattle.wasmprinter_print.specs.declared.halt.Halt.TheVariants.{Printer, Memory, Refused}
 use Rattle.wasmprinter_spec.specs.Options.{defaults}
-use Rattle.wasmprinter_fold.specs.declared.node_text.semicolons.Semicolons.{Semicolons}
+use Rattle.wasmprinter_fold.specs.declared.node_text.line_comment_scan.Semicolons.{Semicolons}
 use Rattle.wasmprinter_fold.specs.Buffers.{View, see, see_all, with_text, with_sequences, view_after, IsTextual, texts_meaning, GrowsText}
 
 -- ---- The text of lists of calls

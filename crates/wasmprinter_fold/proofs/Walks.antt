@@ -11,7 +11,7 @@ use Rattle.wasmprinter_spec.specs.Nesting.{Nests, Sequence}
 use Rattle.wasmprinter_spec.specs.Instructions.{role_at, roles}
 use Rattle.wasmprinter_spec.specs.Labels.{Label, labels_after, count_after}
 use Rattle.wasmprinter_spec.specs.Options.{defaults}
-use Rattle.wasmprinter_spec.specs.Customs.Hints.{Hint, next_hint, hint_after}
+use Rattle.wasmprinter_spec.specs.Customs.Hints.{Hint, next_hint, hints_after}
 use Rattle.wasmprinter_spec.specs.Layout.Operators.{Setting}
 use Rattle.wasmprinter_spec.specs.Layout.Folded.{item, items, folded_pieces, if_folded}
 use Rattle.wasmprinter_spec.specs.Folding.Arities.{Signatures, OperandCounts, counts_of, label_of_block}
@@ -71,7 +71,7 @@ step-next color other s t next hint names l ls o r e n q =
 items-of : (s : Setting) (t : Signatures) (hs : List (Placed Hint)) (n : ℕ) (xs : List Label) (ls : List (Option ℕ)) (os rest : List (Placed Operator)) (o : Placed Operator) → os ≡ o ∷ rest →
     items s t hs n xs ls os
     ≡ item s t (next_hint (o.place - s.body) hs) (s.names.labels s.function n (length xs)) xs ls o
-    ∷ items s t (hint_after (o.place - s.body) hs) (count_after (role_at o) n) (labels_after (role_at o) (s.names.labels s.function n (length xs)) xs)
+    ∷ items s t (hints_after (o.place - s.body) hs) (count_after (role_at o) n) (labels_after (role_at o) (s.names.labels s.function n (length xs)) xs)
     (labels_after (role_at o) (label_of_block t o.value) ls) rest
 unfolding items
 items-of s t hs n xs ls os rest o e = ap (λ os. items s t hs n xs ls os) e
@@ -145,7 +145,7 @@ module _ {color : Bool} {s : Setting} {t : Signatures} {from : Scan} {hints : Li
 
   -- After the next operator is folded, the invariant holds for the others.
   pub goes_on : (rest : List (Placed Operator)) (x : ℕ × Operator) (role : Role) (k : Scan) (remaining : List (Placed Hint)) (n : GrowingTree) (hint : Option Bool) →
-      pairs os ≡ x ∷ pairs rest → role ≡ role_of x.1.opcode → is_try role ≡ false → k ≡ after_operator role l → remaining ≡ hint_after (x.0 - s.body) left →
+      pairs os ≡ x ∷ pairs rest → role ≡ role_of x.1.opcode → is_try role ≡ false → k ≡ after_operator role l → remaining ≡ hints_after (x.0 - s.body) left →
       hint ≡ option_map (λ h. h.value.taken) (next_hint (x.0 - s.body) left) → n.texts.color ≡ g.texts.color →
       n.labels ≡ labels_after (role_of x.1.opcode) (label_of_block t x.1) g.labels →
       GrowsByStep g n (operator_step g.texts.color (record s { names = names_of l }) l x.0 hint x.1 (counts_of t g.labels x.1)) →
@@ -154,7 +154,7 @@ module _ {color : Bool} {s : Setting} {t : Signatures} {from : Scan} {hints : Li
       let o : Placed Operator = placed_view x in
       let v = shown_head color in
       let next : Option (Placed Hint) = next_hint (x.0 - s.body) left in
-      let after : List (Placed Hint) = hint_after (x.0 - s.body) left in
+      let after : List (Placed Hint) = hints_after (x.0 - s.body) left in
       let r' : Role = role_of x.1.opcode in
       let counted : List (Option ℕ) = labels_after r' (label_of_block t x.1) g.labels in
       let u : StateOf ShownNode = step p.state (step_of v r' (item s t next (own_label l) l.labels g.labels o)) in

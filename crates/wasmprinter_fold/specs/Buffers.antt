@@ -5,7 +5,7 @@ use Rattle.std.specs.declared.io.ErrorKind.TheVariants.{OutOfMemory}
 use Rattle.wasmprinter_spec.specs.Call.{Call, Text, Newline, Line, Start, Claim, IsTextOrStyle}
 use Rattle.wasmprinter_spec.specs.Colored.{colored_bytes}
 use Rattle.wasmprinter_spec.specs.Meaning.{Meaning}
-use Rattle.wasmprinter_fold.specs.declared.node_text.semicolons.Semicolons.{Semicolons}
+use Rattle.wasmprinter_fold.specs.declared.node_text.line_comment_scan.Semicolons.{Semicolons}
 
 -- The texts; whether they contain escape sequences; and the semicolons seen since the last text began, without
 -- escape sequences.

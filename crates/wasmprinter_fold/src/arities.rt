@@ -1,9 +1,40 @@
 //! The number of operands that an operator takes from the stack and of results that it gives, at its position in a
 //! module (section 3.4 of the WebAssembly Core Specification, "Instructions").
+ghost use Rattle.std.specs.Prelude.{◌≡◌};
+ghost use Rattle.wasmprinter_spec.specs.Folding.Arities.{counts_of, signatures_within};
+ghost use Rattle.wasmprinter_fold.specs.Counted.{counts_view};
 
-pub mod blocks;
-pub mod callees;
+pub mod block_types;
+pub mod callee_types;
 pub mod counts;
-pub mod labels;
+mod counts_by_arity;
+pub mod label_arities;
 mod named;
-pub mod operators;
+
+use crate::arities::callee_types::CalleeTypes;
+use crate::arities::counts::{Counts, NOTHING};
+use crate::arities::counts_by_arity::counts_by_arity;
+use crate::arities::label_arities::LabelCounts;
+use wasmprinter_ops::opcode::Listed;
+use wasmprinter_ops::operator::Operator;
+
+/// Returns the number of operands that an operator takes and of results that it gives. `labels` are those open
+/// before it. `own` is the number of results of the enclosing function: 0 in a constant expression, `None` if the
+/// function's type is unknown.
+///
+/// Counts saturate at the greatest 32-bit number. An operator takes and gives nothing if the item that it refers to
+/// is unknown. A block takes nothing, whatever its parameters are.
+pub fn counts_of(
+    callees: &CalleeTypes,
+    own: Option<u32>,
+    labels: &LabelCounts,
+    operator: &Operator<'_>,
+) -> Counts
+    ensures { counts_view result
+        ≡ counts_of (signatures_within callees.now own) labels.now operator.now }
+{
+    let Some(arity) = operator.opcode.arity() else {
+        return NOTHING;
+    };
+    counts_by_arity(callees, own, labels, arity, &operator.immediates).unwrap_or(NOTHING)
+}

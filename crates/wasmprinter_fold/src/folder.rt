@@ -5,8 +5,8 @@ ghost use Rattle.wasmprinter_flat.specs.Settings.{setting_with_names};
 ghost use Rattle.wasmprinter_fold.specs.Gathering.{ImportsFunctionOrTag};
 ghost use Rattle.wasmprinter_fold.specs.Views.{folding_view};
 
-use crate::arities::callees::CalleeTypes;
-use crate::node_text::node_writer::write_nodes;
+use crate::arities::callee_types::CalleeTypes;
+use crate::node_text::write_nodes::write_nodes;
 use crate::tree::GrowingTree;
 use std::alloc::{AllocError, Global};
 use std::marker::Model;

@@ -1,7 +1,7 @@
 //! The tree of a list of operators, which grows with each operator.
 ghost use Rattle.std.specs.Prelude.{◌≡◌, ◌+◌, ◌-◌, ◌<◌, ◌^◌, [], length, option_map, codes, IfOk, OnOk};
 ghost use Rattle.wasmprinter_spec.specs.Table.{role_of};
-ghost use Rattle.wasmprinter_spec.specs.Customs.Hints.{next_hint, hint_after};
+ghost use Rattle.wasmprinter_spec.specs.Customs.Hints.{next_hint, hints_after};
 ghost use Rattle.wasmprinter_spec.specs.Labels.{labels_after};
 ghost use Rattle.wasmprinter_spec.specs.Folding.Arities.{signatures_within, counts_of, label_of_block};
 ghost use Rattle.wasmprinter_spec.specs.Folding.Code.{nested_code_of};
@@ -12,11 +12,10 @@ ghost use Rattle.wasmprinter_fold.specs.Counted.{counts_view};
 ghost use Rattle.wasmprinter_fold.specs.Shown.{ShownNode};
 ghost use Rattle.wasmprinter_fold.specs.Growing.{Shows, GrowsByStep, operator_step, shown_operator, shown_keyword, IsGrown};
 
-use crate::arities::blocks::label_of_block;
-use crate::arities::callees::CalleeTypes;
+use crate::arities::callee_types::CalleeTypes;
 use crate::arities::counts::Counts;
-use crate::arities::labels::LabelCounts;
-use crate::arities::operators::counts;
+use crate::arities::counts_of;
+use crate::arities::label_arities::{LabelCounts, label_of_block};
 use crate::node_text::texts::{HintedOperator, Texts};
 use crate::nodes::Builder;
 use std::alloc::{AllocError, Global};
@@ -43,7 +42,7 @@ pub struct GrowingTree {
 /// that operator's branch is hinted as taken.
 fn take_hint(hints: &mut FunctionHints<'_>, offset: u64) -> Option<bool>
     ensures results { result ≡ option_map (λ h. h.value.taken) (next_hint offset hints.old) }
-    ensures after { hints.new ≡ hint_after offset hints.old }
+    ensures after { hints.new ≡ hints_after offset hints.old }
 {
     match hints.next_at(offset) {
         Some(hint) => Some(hint.is_taken()),
@@ -206,7 +205,7 @@ impl GrowingTree {
             (counts_of (signatures_within callees.now own) self.old.labels next.entry.operator.now))) }
     {
         let operator = next.operator;
-        let counts = counts(callees, own, &self.labels, operator);
+        let counts = counts_of(callees, own, &self.labels, operator);
         self.add(setting, labels, next, counts)?;
         match operator.opcode.role() {
             Role::Plain => Ok(()),

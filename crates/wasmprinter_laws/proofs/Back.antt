@@ -16,7 +16,7 @@ use Rattle.wasmprinter_spec.specs.Limits.{HasNoEmptyInit}
 use Rattle.wasmprinter_spec.specs.Indexed as indexed
 use Rattle.wasmprinter_spec.specs.Indexed.{IsDeclaredSub, Counts, IsIndexed, IsIndexedFunction, IsIndexedImport, IsIndexedTable, IsIndexedGlobal, IsIndexedExport, IsIndexedElement, IsIndexedData, NamesFunction, space_of, counts_of}
 use Rattle.wasmprinter_spec.specs.IndexSpaces.{Identifiers, index_space, space_in, Spaces, Context}
-use Rattle.wasmprinter_spec.specs.Customs.Hints.{Hint, FunctionHints, hints_of, next_hints, hints_after}
+use Rattle.wasmprinter_spec.specs.Customs.Hints.{Hint, FunctionHints, hints_of, hints_of_next, entries_after}
 use Rattle.wasmprinter_spec.specs.Folding.Refusals.{Operators, init_list, offset_list, item_lists, element_lists, data_lists}
 use Rattle.wasmprinter_spec.specs.Layout.Declarations.{Folding, Scope, scope_of}
 use Rattle.wasmprinter_spec.specs.Layout.Expressions.{in_line}
@@ -150,11 +150,11 @@ module _ (folding : Option Folding) (names : Names) (m : PlacedModule) where
   -- The hints that are left after this number of functions
   abbrev pub waiting : ℕ → List FunctionHints
   waiting zero = hints_of m.customs
-  waiting (suc k) = hints_after (before FuncKind + k) (waiting k)
+  waiting (suc k) = entries_after (before FuncKind + k) (waiting k)
 
   -- The hints of function `i`
   abbrev pub own_hints : ℕ → List (Placed Hint)
-  own_hints i = next_hints i (waiting (i - before FuncKind))
+  own_hints i = hints_of_next i (waiting (i - before FuncKind))
 
   abbrev pub own_function : Bool → ℕ → PlacedFunction → Forest
   own_function skeleton i f = function_items skeleton early i (own_hints i) f

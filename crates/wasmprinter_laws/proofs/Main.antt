@@ -12,7 +12,7 @@ use Rattle.wasmprinter_spec.specs.Piece.{Piece, all_calls}
 use Rattle.wasmprinter_spec.specs.Kinds.{Kind, CodeSection}
 use Rattle.wasmprinter_spec.specs.Types.{FuncKind}
 use Rattle.wasmprinter_spec.specs.Customs.{RawCustom, raw_customs}
-use Rattle.wasmprinter_spec.specs.Customs.Hints.{FunctionHints, hints_of, hints_after}
+use Rattle.wasmprinter_spec.specs.Customs.Hints.{FunctionHints, hints_of, entries_after}
 use Rattle.wasmprinter_spec.specs.Placed.{PlacedModule, PlacedFunction}
 use Rattle.wasmprinter_spec.specs.Names.{Names, AreNamed}
 use Rattle.wasmprinter_spec.specs.Labels.{Named}
@@ -73,7 +73,7 @@ plain_row {f = f} w =
 
 functions_row : (skeleton : Bool) (s : Scope) (es : List FunctionHints) (i : ℕ) (fs : List PlacedFunction) → RowReads (functions_hinted skeleton s es i fs) []
 functions_row skeleton s es i [] = refl
-functions_row skeleton s es i (f ∷ fs) = functions_row skeleton s (hints_after i es) (i + 1) fs
+functions_row skeleton s es i (f ∷ fs) = functions_row skeleton s (entries_after i es) (i + 1) fs
 
 id_row : (o : Option Named) → RawRow (id_items o) []
 id_row None = record { reads = refl }

@@ -122,10 +122,10 @@ pub fields-types : (names : Names) (i : ℕ) (gs : List (Placed TypeGroup)) (f :
     fields f ≡ Some m → fields (onto (type_section_items names i gs) f) ≡ Some (record m { types = group_bodies names i gs ++ m.types })
 fields-types names i [] f m h e = e
 fields-types names i (g ∷ gs) f m h e =
-    let group : Forest = type_group_items_by names g.value.written (members_items names i g.value.types) in
+    let group : Forest = type_group_items_by names g.value.explicit (members_items names i g.value.types) in
     let rest : Forest = type_section_items names (i + length g.value.types) gs in
     ap fields (onto_assoc group rest f)
-    ∙ fields-group names g.value.written i g.value.types (onto rest f) _ h.0.single (fields-types names (i + length g.value.types) gs f m h.1 e)
+    ∙ fields-group names g.value.explicit i g.value.types (onto rest f) _ h.0.single (fields-types names (i + length g.value.types) gs f m h.1 e)
 
 -- ---- fields do not start with an identifier
 
@@ -150,7 +150,7 @@ unidentified_group names false i ts f h = unidentified_rows (map_numbered (type_
 pub unidentified_types : (names : Names) (i : ℕ) (gs : List (Placed TypeGroup)) (f : Forest) → IsUnidentified f → IsUnidentified (onto (type_section_items names i gs) f)
 unidentified_types names i [] f h = h
 unidentified_types names i (g ∷ gs) f h =
-    let group : Forest = type_group_items_by names g.value.written (members_items names i g.value.types) in
+    let group : Forest = type_group_items_by names g.value.explicit (members_items names i g.value.types) in
     let rest : Forest = type_section_items names (i + length g.value.types) gs in
     let after : IsUnidentified (onto rest f) = unidentified_types names (i + length g.value.types) gs f h in
-    subst IsUnidentified (sym (onto_assoc group rest f)) (unidentified_group names g.value.written i g.value.types (onto rest f) after)
+    subst IsUnidentified (sym (onto_assoc group rest f)) (unidentified_group names g.value.explicit i g.value.types (onto rest f) after)

@@ -8,7 +8,7 @@ use Rattle.wasmprinter_spec.specs.Names.{Names}
 use Rattle.wasmprinter_spec.specs.ModuleNames.{module_names}
 use Rattle.wasmprinter_spec.specs.Token.{Token, open_paren, close_paren, word}
 use Rattle.wasmprinter_spec.specs.Options.{Options, Answers}
-use Rattle.wasmprinter_spec.specs.Customs.Hints.{Hint, FunctionHints, hints_of, next_hints, hints_after}
+use Rattle.wasmprinter_spec.specs.Customs.Hints.{Hint, FunctionHints, hints_of, hints_of_next, entries_after}
 use Rattle.wasmprinter_spec.specs.Piece.{Piece, EndLine}
 use Rattle.wasmprinter_spec.specs.Placed.{PlacedFunction, PlacedModule}
 use Rattle.wasmprinter_spec.specs.Module.{without_places, imported_types, func_import}
@@ -102,8 +102,8 @@ module _ (o r : Options) (same : o.skeleton ≡ r.skeleton) where
   unfolding functions_pieces
   functions_stay s es i [] = refl
   functions_stay s es i (f ∷ fs) =
-      both_stay (function_pieces o s i (next_hints i es) f) (function_pieces p s i (next_hints i es) f) _ _ (function_pieces_stay s i (next_hints i es) f)
-      (functions_stay s (hints_after i es) (i + 1) fs)
+      both_stay (function_pieces o s i (hints_of_next i es) f) (function_pieces p s i (hints_of_next i es) f) _ _ (function_pieces_stay s i (hints_of_next i es) f)
+      (functions_stay s (entries_after i es) (i + 1) fs)
 
   module _ (answers : Answers) (names : Names) (m : PlacedModule) where
     customs_stay : (place : Option Kind) → PartsStay (parts_at o.skeleton answers place 0 m.customs) (parts_at p.skeleton answers place 0 m.customs)

@@ -9,7 +9,7 @@ use Rattle.wasmprinter_spec.specs.Options.{Options, Answers}
 use Rattle.wasmprinter_spec.specs.Piece.{Piece, Begin, EndLine, Open}
 use Rattle.wasmprinter_spec.specs.Kinds.{Kind, CustomSection, TypeSection, ImportSection, FunctionSection, TableSection, MemorySection, TagSection, GlobalSection, ExportSection, StartSection, ElementSection, DataCountSection, CodeSection, DataSection}
 use Rattle.wasmprinter_spec.specs.Types.{FuncKind, TableKind, MemoryKind, TagKind, GlobalKind, signature_at}
-use Rattle.wasmprinter_spec.specs.Customs.Hints.{Hint, FunctionHints, hints_of, hints_after}
+use Rattle.wasmprinter_spec.specs.Customs.Hints.{Hint, FunctionHints, hints_of, entries_after}
 use Rattle.wasmprinter_spec.specs.Placed.{PlacedModule, PlacedFunction}
 use Rattle.wasmprinter_spec.specs.Names.{Names, AreNamed}
 use Rattle.wasmprinter_spec.specs.Layout.Identifiers.{leading_id_and_name_pieces}
@@ -58,12 +58,12 @@ module _ (folding : Option Folding) (bare : IsUncolored folding) (o : Options) (
 
   -- The hints left after a function are those left before the next function.
   pub next_waiting : (i : ℕ) → before folding names m FuncKind ≤ i →
-      hints_after i (waiting folding names m (i - before folding names m FuncKind)) ≡ waiting folding names m (i + 1 - before folding names m FuncKind)
+      entries_after i (waiting folding names m (i - before folding names m FuncKind)) ≡ waiting folding names m (i + 1 - before folding names m FuncKind)
   next_waiting i low =
       let b : ℕ = before folding names m FuncKind in
       let same : i ≡ b + (i - b) = omega (arith, low) in
       let more : suc (i - b) ≡ i + 1 - b = omega (arith, low) in
-      ap (λ k. hints_after k (waiting folding names m (i - b))) same ∙ ap (waiting folding names m) more
+      ap (λ k. entries_after k (waiting folding names m (i - b))) same ∙ ap (waiting folding names m) more
 
   -- The pieces of functions from index i on, with the hints es left before them, write their items with the hints
   -- that they take.

@@ -25,15 +25,16 @@ EntriesAreGiven = (d : Placed (List ℕ)) → GivesNames (input d.place d.value)
 
 -- The items of a counted list that is read up to the first error: they are encoded one after the other. Either the
 -- count is reached, or the bytes after them encode no further item.
-abbrev pub Listed : {A : Type 0} → Grammar A → ℕ → Input → List A → Option Input → Type 0
-Listed g n at xs end = (after : Input) × Spans (AreItems g) at (xs, after)
+abbrev pub IsReadToFirstError : {A : Type 0} → Grammar A → ℕ → Input → List A → Option Input → Type 0
+IsReadToFirstError g n at xs end = (after : Input) × Spans (AreItems g) at (xs, after)
     × (((length xs ≡ n) × (end ≡ Some after)) ⊎ ((length xs < n) × Lacks g after × (end ≡ None)))
 
--- The entries of a name map are those of a counted list that is read up to the first error.
-abbrev pub NameMapsAreListed : Type 0
-NameMapsAreListed =
+-- The entries of a name map are those of a counted list that is read up to the first error. (`repeat (entry s outer) n`
+-- is a name map after its count n.)
+abbrev pub NameMapsEndAtFirstError : Type 0
+NameMapsEndAtFirstError =
     (s outer n : ℕ) (at : Input) (entries : List Entry) (end : Option Input) → (repeat (entry s outer) n).gives at entries end
-    → (xs : List (ℕ × List ℕ)) × Listed association n at xs end × (entries ≡ map (λ x. entry_of s outer x) xs)
+    → (xs : List (ℕ × List ℕ)) × IsReadToFirstError association n at xs end × (entries ≡ map (λ x. entry_of s outer x) xs)
 
 -- An entry has an index of 32 bits and a name in UTF-8.
 pub record IsEntry (e : Entry) : Type 0 where

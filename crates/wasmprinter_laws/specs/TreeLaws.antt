@@ -11,7 +11,7 @@ use Rattle.wasmprinter_spec.specs.Module.{without_places, imported_types, func_i
 use Rattle.wasmprinter_spec.specs.Call.{text_of}
 use Rattle.wasmprinter_spec.specs.Options.{Options, defaults, Answers, IsBlank}
 use Rattle.wasmprinter_spec.specs.Code.{head}
-use Rattle.wasmprinter_spec.specs.Customs.Hints.{Hint, FunctionHints, hints_of, next_hints, hints_after}
+use Rattle.wasmprinter_spec.specs.Customs.Hints.{Hint, FunctionHints, hints_of, hints_of_next, entries_after}
 use Rattle.wasmprinter_spec.specs.ModuleNames.{module_names}
 use Rattle.wasmprinter_spec.specs.Layout.{scope_after, layout, refusal}
 use Rattle.wasmprinter_spec.specs.Layout.Declarations.{Scope, scope_of, scope_of_function}
@@ -75,7 +75,7 @@ module _ (m : PlacedModule) where
   -- The trees of the bodies of functions from index `i` on, each with its hints
   abbrev pub body_trees : Scope → List FunctionHints → ℕ → List PlacedFunction → List (Option Nodes)
   body_trees s es i [] = []
-  body_trees s es i (f ∷ fs) = body_tree (scope_of_function s i) (next_hints i es) f ∷ body_trees s (hints_after i es) (i + 1) fs
+  body_trees s es i (f ∷ fs) = body_tree (scope_of_function s i) (hints_of_next i es) f ∷ body_trees s (entries_after i es) (i + 1) fs
 
 -- ---- the law
 

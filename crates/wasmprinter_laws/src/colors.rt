@@ -1,5 +1,5 @@
-//! Laws of colors in printed text: colors add only ANSI escape sequences. In each law of modules the indent consists
-//! of spaces and tabs.
+//! Laws of colors in printed text: colors add only ANSI escape sequences. In each law of modules except
+//! [`folded_text_is_by_own_arities`] the indent consists of spaces and tabs.
 
 ghost use Rattle.wasmprinter_spec.specs.Laws.{ColorAddsSequences, TextsContainColors, ColoredTextKeeps};
 ghost use Rattle.wasmprinter_laws.specs.ColoredLaws.{ColoredGroupsAreNodes, ColoredModulesHaveTrees};
@@ -50,8 +50,8 @@ pub fn folded_text_is_by_own_arities()
 {}
 
 /// After the escape sequences are deleted, the folded text and the flat text of a module both read as that module.
-/// This holds for any arities that opcodes are folded by, and for any types of the functions, tags and labels that
-/// they name. The folded text has colors or not.
+/// This holds for any arities that opcodes are folded by, and for any types of the functions, tags, labels and
+/// structures that they name. The folded text has colors or not.
 ///
 /// The module is as in the reading law: every index that it uses is declared, and no table has an empty
 /// initialiser. The text is not a skeleton, its indent consists of spaces and tabs, and the printer claims no

@@ -1,17 +1,17 @@
-//! Laws over the definitions. Each law is the contract of a function with an empty body. The laws contain no code of
-//! the printer: they relate the grammar, the layout and the reader of text.
+//! Laws over the definitions. A law is a theorem: the contract of a function with an empty body, which the toolchain
+//! proves. The laws contain no code of the printer: they relate the grammar, the layout and the reader of text.
 //!
 //! - `reading`: printed text reads back as the module that the bytes encode.
 //! - `lexical`: quoted strings, floats, and lists of calls with one text.
-//! - `places`: the lines of a text and their places in the module.
-//! - `folding`: folding and unfolding lists of operators.
+//! - `line_places`: the lines of a text and their places in the module.
+//! - `folded_trees`: folding and unfolding lists of operators.
 //! - `colors`: colors add only ANSI escape sequences.
 #![tactic(auto)]
 
 mod colors;
-mod folding;
+mod folded_trees;
 mod lexical;
-mod places;
+mod line_places;
 mod reading;
 
 pub use colors::{
@@ -19,7 +19,7 @@ pub use colors::{
     colors_keep_text, folded_text_is_by_own_arities, folded_text_reads_as_flat_by_any_arities,
     texts_contain_colors,
 };
-pub use folding::{
+pub use folded_trees::{
     folding_loses_nothing, nested_operators_are_folded, nested_operators_have_trees,
     operands_are_the_shortest_run, trees_say_their_lists,
 };
@@ -27,16 +27,16 @@ pub use lexical::{
     alike_calls_have_one_text, float_text_reads, floats_are_exact, quoted_bytes_read,
     quoted_text_reads,
 };
-pub use places::{
+pub use line_places::{
     alike_calls_have_the_same_lines, bodies_lie_apart, finds_lines, finds_places,
     functions_have_lines, lines_begin_after_feeds, lines_join_to_the_text,
 };
 pub use reading::{
-    bytes_spell_one_module, entries_are_given, folded_groups_are_nodes, folded_modules_have_trees,
-    folded_operators_read_back, folded_text_reads_as_flat, hints_stay, identifiers_are_apart,
-    identifiers_are_named, identifiers_resolve, labels_mean_their_blocks, modules_have_identifiers,
-    name_maps_are_listed, name_sections_give_entries, name_sections_give_one_list,
-    named_operators_read_back, places_and_indent_keep_tokens, plain_text_has_no_color,
-    plain_text_is_utf8, plain_texts_join, printed_operators_read_back, printed_text_is_plain,
-    printed_text_reads_back, reader_takes_nested_operators,
+    bytes_spell_at_most_one_module, entries_are_given, folded_groups_are_nodes,
+    folded_modules_have_trees, folded_operators_read_back, folded_text_reads_as_flat, hints_stay,
+    identifiers_are_apart, identifiers_are_named, identifiers_resolve, labels_mean_their_blocks,
+    modules_have_identifiers, name_maps_end_at_the_first_error, name_sections_give_entries,
+    name_sections_give_one_list, named_operators_read_back, places_and_indent_keep_tokens,
+    plain_text_has_no_color, plain_text_is_utf8, plain_texts_join, printed_operators_read_back,
+    printed_text_is_plain, printed_text_reads_back, reader_takes_nested_operators,
 };

@@ -1,18 +1,18 @@
 //! Laws of reading: what bytes encode, and that its printed text reads back.
 
-ghost use Rattle.wasmprinter_spec.specs.Laws.{SpellsOne, TakesNested, ReadsBack, TokensStay, HintsStay};
+ghost use Rattle.wasmprinter_spec.specs.Laws.{SpellsAtMostOne, TakesNested, ReadsBack, TokensStay, HintsStay};
 ghost use Rattle.wasmprinter_spec.specs.Laws.{PrintsPlainText, PlainTextIsUtf8, PlainTextHasNoColor, PlainTextsJoin};
 ghost use Rattle.wasmprinter_laws.specs.OperatorLaws.{OperatorsReadBack, NamedOperatorsReadBack};
 ghost use Rattle.wasmprinter_laws.specs.FoldedLaws.{FoldedOperatorsReadBack, FoldedModulesReadAsFlat};
 ghost use Rattle.wasmprinter_laws.specs.NodeLaws.{FoldedGroupsAreNodes};
 ghost use Rattle.wasmprinter_laws.specs.TreeLaws.{FoldedModulesHaveTrees};
-ghost use Rattle.wasmprinter_laws.specs.NameLaws.{NamesAreOneList, EntriesAreGiven, NameMapsAreListed, BytesGiveEntries};
+ghost use Rattle.wasmprinter_laws.specs.NameLaws.{NamesAreOneList, EntriesAreGiven, NameMapsEndAtFirstError, BytesGiveEntries};
 ghost use Rattle.wasmprinter_laws.specs.NameLaws.{IdentifiersAreApart, IdentifiersAreNamed, ModulesHaveIdentifiers, IdentifiersResolve};
 ghost use Rattle.wasmprinter_laws.specs.LabelLaws.{LabelsMeanTheirBlocks};
 
 /// Given bytes encode at most one module with its places (section 5.5 of the standard, "Modules").
-pub fn bytes_spell_one_module()
-    ensures { SpellsOne }
+pub fn bytes_spell_at_most_one_module()
+    ensures { SpellsAtMostOne }
 {}
 
 /// The reader's test of nesting accepts operators exactly if they are well nested.
@@ -37,9 +37,9 @@ pub fn places_and_indent_keep_tokens()
     ensures { TokensStay }
 {}
 
-/// The branch hints of a module whose hint section is well formed are those of its text, each once, directly before
-/// its operator or the group of its operator. The text is not a skeleton and has no colors. Its indent consists of
-/// spaces and tabs. If operators are folded, all can be. No `dylink.0` section is refused.
+/// The branch hints of a module whose branch hints are valid are those of its text, each once, directly before its
+/// operator or the group of its operator. The text is not a skeleton and has no colors. Its indent consists of spaces
+/// and tabs. If operators are folded, all can be. No `dylink.0` section is refused.
 pub fn hints_stay()
     ensures { HintsStay }
 {}
@@ -117,10 +117,10 @@ pub fn entries_are_given()
     ensures { EntriesAreGiven }
 {}
 
-/// The entries of a name map are encoded one after the other, up to the count or to the first entry that is not
-/// encoded.
-pub fn name_maps_are_listed()
-    ensures { NameMapsAreListed }
+/// The entries that a name map gives are encoded one after the other from its start. Either their number is the map's
+/// count, or the bytes after them encode no further entry, and reading ends there with an error.
+pub fn name_maps_end_at_the_first_error()
+    ensures { NameMapsEndAtFirstError }
 {}
 
 /// Each entry that bytes give has an index of 32 bits and a name in UTF-8.

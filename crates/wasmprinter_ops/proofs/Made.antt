@@ -6,7 +6,7 @@ use Rattle.wasmprinter_spec.specs.Name.{u32}
 use Rattle.wasmprinter_spec.specs.Repeated.{items_at}
 use Rattle.wasmprinter_bytes.specs.Lists.{vec_at}
 use Rattle.wasmprinter_bytes.specs.Reads.{Reads}
-use Rattle.wasmprinter_bytes.specs.declared.error.Malformed.{Malformed}
+use Rattle.wasmprinter_bytes.specs.declared.malformed.Malformed.{Malformed}
 
 module _ {A B : Type 0} (make : A → B) (see : B → A) (back : (a : A) → see (make a) ≡ a) (parse : Input → Option (A × Input)) where
   -- The value that was read, as a value of the program.

@@ -1,6 +1,6 @@
 -- Converting immediates to those of the definitions and back gives the original immediates.
 use Rattle.std.proofs.Common.{◌≡◌, ℕ, zero, suc, ◌<◌, List, [], ◌∷◌, map, refl, ap, ap₂, arith}
-use Rattle.wasmprinter_ops.specs.ValTypes.{heap_view, heap_of_view, type_view, type_of_view}
+use Rattle.wasmprinter_ops.specs.ValTypes.{heap_view, heap_of_view, val_type_view, type_of_view}
 use Rattle.wasmprinter_ops.specs.declared.val_types.HeapType.{HeapType}
 use Rattle.wasmprinter_ops.specs.declared.val_types.HeapType.TheVariants as h
 use Rattle.wasmprinter_ops.specs.declared.val_types.ValType.{ValType}
@@ -31,7 +31,7 @@ heap_again h.NoFunc = refl
 heap_again h.NoExn = refl
 heap_again (h.Index n) = refl
 
-type_again : (x : ValType) → type_of_view (type_view x) ≡ x
+type_again : (x : ValType) → type_of_view (val_type_view x) ≡ x
 type_again t.I32 = refl
 type_again t.I64 = refl
 type_again t.F32 = refl
@@ -69,7 +69,7 @@ immediates_again (i.TryTable x cs) has = ap₂ (λ (x : BlockType) (cs : List Ca
 immediates_again (i.Index n) has = refl
 immediates_again (i.Indices n k) has = refl
 immediates_again (i.BrTable ls l) has = refl
-immediates_again (i.Types ts) has = ap (λ (ts : List ValType). i.Types ts) (all_again type_of_view type_view type_again ts)
+immediates_again (i.Types ts) has = ap (λ (ts : List ValType). i.Types ts) (all_again type_of_view val_type_view type_again ts)
 immediates_again (i.Heap x) has = ap (λ (x : HeapType). i.Heap x) (heap_again x)
 immediates_again (i.Cast flags l s t) has = λ j. i.Cast (flags_again flags has j) l (heap_again s j) (heap_again t j)
 immediates_again (i.Memory m) has = refl

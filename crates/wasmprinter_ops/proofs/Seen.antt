@@ -2,7 +2,7 @@
 use Rattle.std.proofs.Common.{◌≡◌, refl, ap}
 use Rattle.wasmprinter_spec.specs.Types.{HeapType, RefType, ref_type, ValType, StorageType, FieldType, field_type}
 use Rattle.wasmprinter_spec.specs.Types as defined
-use Rattle.wasmprinter_ops.specs.ValTypes.{heap_view, heap_of_view, ref_view, ref_of_view, type_view, type_of_view}
+use Rattle.wasmprinter_ops.specs.ValTypes.{heap_view, heap_of_view, ref_view, ref_of_view, val_type_view, type_of_view}
 use Rattle.wasmprinter_ops.specs.Types.{storage_view, storage_of_view, field_view, field_of_view}
 
 heap_seen : (h : HeapType) → heap_view (heap_of_view h) ≡ h
@@ -23,7 +23,7 @@ heap_seen (defined.Index n) = refl
 ref_seen : (r : RefType) → ref_view (ref_of_view r) ≡ r
 ref_seen r = ap (ref_type r.nullable) (heap_seen r.heap)
 
-pub type_seen : (t : ValType) → type_view (type_of_view t) ≡ t
+pub type_seen : (t : ValType) → val_type_view (type_of_view t) ≡ t
 type_seen defined.I32 = refl
 type_seen defined.I64 = refl
 type_seen defined.F32 = refl

@@ -4,7 +4,7 @@ use Rattle.wasmprinter_spec.specs.Grammar.{Input, ◌>>=◌}
 use Rattle.wasmprinter_spec.specs.Operator.{Empty, Value, OfType, One, OneRef, All, AllRef}
 use Rattle.wasmprinter_spec.specs.Operator.{BlockType as DefinedBlockType, Catch as DefinedCatch}
 use Rattle.wasmprinter_spec.specs.Instructions.{catch}
-use Rattle.wasmprinter_ops.specs.ValTypes.{type_view}
+use Rattle.wasmprinter_ops.specs.ValTypes.{val_type_view}
 use Rattle.wasmprinter_ops.specs.declared.blocks.BlockType.{BlockType}
 use Rattle.wasmprinter_ops.specs.declared.blocks.BlockType.TheVariants as block_types
 use Rattle.wasmprinter_ops.specs.declared.blocks.Catch.{Catch}
@@ -13,7 +13,7 @@ use Rattle.wasmprinter_ops.specs.declared.blocks.Catch.TheVariants as catch_clau
 -- The block type that a block type of the program represents.
 abbrev pub block_type_view : BlockType → DefinedBlockType
 block_type_view block_types.Empty = Empty
-block_type_view (block_types.Value t) = Value (type_view t)
+block_type_view (block_types.Value t) = Value (val_type_view t)
 block_type_view (block_types.Func index) = OfType index
 
 -- The catch clause that a catch clause of the program represents.

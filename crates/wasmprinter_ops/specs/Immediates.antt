@@ -7,7 +7,7 @@ use Rattle.wasmprinter_spec.specs.Shapes.{has_shape}
 use Rattle.wasmprinter_spec.specs.Table.{by_opcode}
 use Rattle.wasmprinter_ops.specs.Blocks.{block_type_view, catches_view}
 use Rattle.wasmprinter_ops.specs.Operands.{source_type, target_type}
-use Rattle.wasmprinter_ops.specs.ValTypes.{heap_view, types_view}
+use Rattle.wasmprinter_ops.specs.ValTypes.{heap_view, val_types_view}
 use Rattle.wasmprinter_ops.specs.declared.operator.Immediates.{Immediates}
 use Rattle.wasmprinter_ops.specs.declared.operator.Immediates.TheVariants as i
 
@@ -19,7 +19,7 @@ immediates_view (i.TryTable t cs) = TryTable (block_type_view t) (catches_view c
 immediates_view (i.Index n) = Index n
 immediates_view (i.Indices n k) = Indices n k
 immediates_view (i.BrTable ls l) = BranchTable ls l
-immediates_view (i.Types ts) = Types (types_view ts)
+immediates_view (i.Types ts) = Types (val_types_view ts)
 immediates_view (i.Heap t) = Heap (heap_view t)
 immediates_view (i.Cast flags l s t) = Cast l (source_type flags s) (target_type flags t)
 immediates_view (i.Memory m) = Memory m

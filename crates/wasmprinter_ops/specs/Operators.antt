@@ -7,9 +7,9 @@ use Rattle.wasmprinter_spec.specs.Instructions.{opcode_grammar, operator, expres
 use Rattle.wasmprinter_spec.specs.Nesting.{Nests, Sequence, Open, at_start}
 use Rattle.wasmprinter_spec.specs.Table.{role_of}
 use Rattle.wasmprinter_bytes.specs.Lists.{reader_reasons}
-use Rattle.wasmprinter_bytes.specs.declared.error.Error.{Error}
+use Rattle.wasmprinter_bytes.specs.declared.library_error.Error.{Error}
 use Rattle.wasmprinter_bytes.specs.Reasons.{HasReason}
-use Rattle.wasmprinter_bytes.specs.declared.error.Malformed.{Malformed}
+use Rattle.wasmprinter_bytes.specs.declared.malformed.Malformed.{Malformed}
 use Rattle.wasmprinter_ops.specs.Nesting.{OpensBlock, open_after}
 use Rattle.wasmprinter_ops.specs.Shapes.{role_view}
 use Rattle.wasmprinter_ops.specs.declared.opcode.Role.{Role}
@@ -62,7 +62,7 @@ pub record OperatorsAndEnd (old : Input) (end : ℕ) (new : Input) : Type 0 wher
 
 -- The bytes encode operators of an expression up to one that opens a block. No operator before
 -- it closes the expression.
-pub record HasBlock (at : Input) : Type 0 where
+pub record ReachesBlock (at : Input) : Type 0 where
   pub items : List (Placed Operator)
   pub before : Input
   pub skipped : Spans (Entries (value_with_place operator)) at (items, before)
@@ -77,4 +77,4 @@ pub record HasBlock (at : Input) : Type 0 where
 -- allocation failed at an operator that opens a block.
 abbrev pub SkipsOperators : Input → Result ℕ Error → Input → Type 0
 SkipsOperators old (Ok end) new = OperatorsAndEnd old end new
-SkipsOperators old (Err e) new = HasReason (reader_reasons (expression.parse old ≡ None) (HasBlock old) old) e
+SkipsOperators old (Err e) new = HasReason (reader_reasons (expression.parse old ≡ None) (ReachesBlock old) old) e

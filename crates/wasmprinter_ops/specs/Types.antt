@@ -5,16 +5,16 @@ use Rattle.wasmprinter_spec.specs.Binary.Types.{field}
 use Rattle.wasmprinter_spec.specs.Types.{field_type, FuncComposite, ArrayComposite, StructComposite}
 use Rattle.wasmprinter_spec.specs.Types.{StorageType as DefinedStorage, FieldType as DefinedField, CompositeType as DefinedComposite}
 use Rattle.wasmprinter_spec.specs.Types as defined
-use Rattle.wasmprinter_ops.specs.ValTypes.{type_view, type_of_view}
-use Rattle.wasmprinter_ops.specs.declared.composite.StorageType.{StorageType}
-use Rattle.wasmprinter_ops.specs.declared.composite.StorageType.TheVariants as s
-use Rattle.wasmprinter_ops.specs.declared.composite.FieldType.{FieldType}
-use Rattle.wasmprinter_ops.specs.declared.composite.CompositeType.{CompositeType}
-use Rattle.wasmprinter_ops.specs.declared.composite.CompositeType.TheVariants as c
+use Rattle.wasmprinter_ops.specs.ValTypes.{val_type_view, type_of_view}
+use Rattle.wasmprinter_ops.specs.declared.composite_types.StorageType.{StorageType}
+use Rattle.wasmprinter_ops.specs.declared.composite_types.StorageType.TheVariants as s
+use Rattle.wasmprinter_ops.specs.declared.composite_types.FieldType.{FieldType}
+use Rattle.wasmprinter_ops.specs.declared.composite_types.CompositeType.{CompositeType}
+use Rattle.wasmprinter_ops.specs.declared.composite_types.CompositeType.TheVariants as c
 
 -- The storage type that a storage type of the program represents.
 abbrev pub storage_view : StorageType → DefinedStorage
-storage_view (s.Val t) = defined.Val (type_view t)
+storage_view (s.Val t) = defined.Val (val_type_view t)
 storage_view s.I8 = defined.I8
 storage_view s.I16 = defined.I16
 

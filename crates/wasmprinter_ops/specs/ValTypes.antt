@@ -52,13 +52,13 @@ abbrev pub ref_of_view : DefinedRef → RefType
 ref_of_view r = record { nullable = r.nullable; heap = heap_of_view r.heap }
 
 -- The value type that a value type of the program represents.
-abbrev pub type_view : ValType → DefinedType
-type_view t.I32 = defined.I32
-type_view t.I64 = defined.I64
-type_view t.F32 = defined.F32
-type_view t.F64 = defined.F64
-type_view t.V128 = defined.V128
-type_view (t.Ref r) = defined.Ref (ref_view r)
+abbrev pub val_type_view : ValType → DefinedType
+val_type_view t.I32 = defined.I32
+val_type_view t.I64 = defined.I64
+val_type_view t.F32 = defined.F32
+val_type_view t.F64 = defined.F64
+val_type_view t.V128 = defined.V128
+val_type_view (t.Ref r) = defined.Ref (ref_view r)
 
 -- The value type of the program for one of the definitions.
 abbrev pub type_of_view : DefinedType → ValType
@@ -74,5 +74,5 @@ abbrev pub type_at : Input → Option (ValType × Input)
 type_at at = val_type.parse at >>= λ x. Some (type_of_view x.0, x.1)
 
 -- The value types that value types of the program represent.
-abbrev pub types_view : List ValType → List DefinedType
-types_view ts = map type_view ts
+abbrev pub val_types_view : List ValType → List DefinedType
+val_types_view ts = map val_type_view ts

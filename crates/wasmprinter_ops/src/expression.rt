@@ -5,7 +5,7 @@ ghost use Rattle.wasmprinter_spec.specs.Instructions.{expression, roles};
 ghost use Rattle.wasmprinter_spec.specs.Nesting.{Nests, Sequence};
 ghost use Rattle.wasmprinter_bytes.specs.Reads.{end_of};
 ghost use Rattle.wasmprinter_bytes.specs.Lists.{Takes};
-ghost use Rattle.wasmprinter_ops.specs.Operators.{SkipsOperators, HasBlock};
+ghost use Rattle.wasmprinter_ops.specs.Operators.{SkipsOperators, ReachesBlock};
 
 use crate::nesting::{Blocks, Step};
 use crate::operator::{Operator, pass_operator, read_placed};
@@ -101,9 +101,9 @@ impl<'a> Expression<'a> {
     ///
     /// - `Malformed` if the bytes do not encode well-nested operators with their `end`, with a place as
     ///   [`Error::Malformed`](wasmprinter_bytes::Error::Malformed) describes it.
-    /// - `Memory` if an allocation fails. Only an expression that contains a block allocates.
+    /// - `Memory` if an allocation fails. Nothing is allocated before an operator opens a block.
     pub fn read(alloc: Global, cursor: &mut Cursor<'a>) -> Result<Self, Error>
-        ensures reads { Takes (λ e. e) expression.parse HasBlock cursor.old result cursor.new }
+        ensures reads { Takes (λ e. e) expression.parse ReachesBlock cursor.old result cursor.new }
         ensures end { end_of cursor.new ≡ end_of cursor.old }
         ensures forward { cursor.old.place ≤ cursor.new.place }
     {
@@ -153,7 +153,7 @@ impl<'a> Expression<'a> {
 impl<'a> GrownIn<'a> for Expression<'a> {
     ghost parse = { expression.parse };
 
-    ghost grows = { HasBlock };
+    ghost grows = { ReachesBlock };
 
     fn read(alloc: Global, cursor: &mut Cursor<'a>) -> Result<Expression<'a>, Error> {
         Expression::read(alloc, cursor)

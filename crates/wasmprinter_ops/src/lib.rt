@@ -3,13 +3,15 @@
 #![tactic(auto)]
 
 pub mod blocks;
-pub mod composite;
+pub mod casts;
+pub mod composite_types;
 pub mod expression;
+mod fixed_bytes;
+pub mod mem_arg;
 mod nesting;
 pub mod opcode;
-pub mod operands;
+mod opcode_tables;
 pub mod operator;
-mod tables;
 mod val_types;
 
 pub use val_types::{

@@ -8,8 +8,8 @@ ghost use Rattle.wasmprinter_ops.specs.Arities.{optional_arity_view};
 ghost use Rattle.wasmprinter_ops.specs.ByNumber.{entry_of, each_entry, each_role};
 ghost use Rattle.wasmprinter_ops.specs.Shapes.{optional_shape_view, entry_view, role_view};
 
-use crate::tables;
-use crate::tables::Entry;
+use crate::opcode_tables;
+use crate::opcode_tables::Entry;
 use std::marker::Model;
 
 /// The prefix of operators on structures, arrays and references.
@@ -206,42 +206,42 @@ impl Model for Opcode {
 fn one_byte() -> &'static [Option<Entry>]
     ensures { map entry_view result.now ≡ each_entry 0 }
 {
-    &tables::ONE_BYTE
+    &opcode_tables::ONE_BYTE
 }
 
 /// Returns the table of the opcodes with the prefix `GC`.
 fn gc() -> &'static [Option<Entry>]
     ensures { map entry_view result.now ≡ each_entry 0xfb }
 {
-    &tables::GC
+    &opcode_tables::GC
 }
 
 /// Returns the table of the opcodes with the prefix `BULK`.
 fn bulk() -> &'static [Option<Entry>]
     ensures { map entry_view result.now ≡ each_entry 0xfc }
 {
-    &tables::BULK
+    &opcode_tables::BULK
 }
 
 /// Returns the table of the opcodes with the prefix `VECTORS`.
 fn vectors() -> &'static [Option<Entry>]
     ensures { map entry_view result.now ≡ each_entry 0xfd }
 {
-    &tables::VECTORS
+    &opcode_tables::VECTORS
 }
 
 /// Returns the table of the opcodes with the prefix `ATOMICS`.
 fn atomics() -> &'static [Option<Entry>]
     ensures { map entry_view result.now ≡ each_entry 0xfe }
 {
-    &tables::ATOMICS
+    &opcode_tables::ATOMICS
 }
 
 /// Returns the roles of the one-byte opcodes. All opcodes with a prefix have the role `Plain`.
 fn one_byte_roles() -> &'static [Role]
     ensures { map role_view result.now ≡ each_role 0 }
 {
-    &tables::ROLES
+    &opcode_tables::ROLES
 }
 
 /// Returns the words, immediate shapes and arities of the opcodes with the prefix, by their numbers.

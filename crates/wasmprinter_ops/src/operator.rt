@@ -9,14 +9,16 @@ ghost use Rattle.wasmprinter_ops.specs.Operators.{placed_view, AfterOpcode, Pass
 ghost use Rattle.wasmprinter_ops.specs.Shapes.{shape_view};
 
 use crate::blocks::{BlockType, Catches, Targets, read_block_type, read_catches};
+use crate::casts::MOST_FLAGS;
+use crate::fixed_bytes::{read_bytes, read_f32_bits, read_f64_bits};
+use crate::mem_arg::MemArg;
 use crate::opcode::{Listed, Opcode, Role, Shape, is_prefix};
-use crate::operands::{MOST_FLAGS, MemArg, read_bytes, read_f32_bits, read_f64_bits};
 use crate::{HeapType, ValTypes, read_heap_type, read_types};
 use std::alloc::AllocError;
 use std::marker::Model;
 use wasmprinter_bytes::Malformed;
 use wasmprinter_bytes::cursor::Cursor;
-use wasmprinter_bytes::lists::read_items;
+use wasmprinter_bytes::items::read_items;
 
 /// The immediates after an opcode, in the order of the bytes (section 5.4).
 #[derive(Debug, PartialEq, Drop)]

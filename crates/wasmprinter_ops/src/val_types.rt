@@ -6,11 +6,12 @@ ghost use Rattle.wasmprinter_spec.specs.Name.{vec};
 ghost use Rattle.wasmprinter_spec.specs.Binary.ValTypes.{abstract_heap_of, number_type_of, non_negative, signed_index, heap_type};
 ghost use Rattle.wasmprinter_spec.specs.Binary.ValTypes.{ref_type_after, reference_type, val_type_after, val_type, begins_val_type};
 ghost use Rattle.wasmprinter_bytes.specs.Reads.{Decodes, DecodesFrom};
-ghost use Rattle.wasmprinter_ops.specs.ValTypes.{heap_view, ref_view, type_view, types_view, type_at};
+ghost use Rattle.wasmprinter_ops.specs.ValTypes.{heap_view, ref_view, val_type_view, val_types_view, type_at};
 
 use wasmprinter_bytes::Malformed;
 use wasmprinter_bytes::cursor::Cursor;
-use wasmprinter_bytes::lists::{Decode, Items, read_items};
+use wasmprinter_bytes::items::{Items, read_items};
+use wasmprinter_bytes::lists::Decode;
 
 /// The byte before the heap type of a reference that can't be null.
 const REF: u8 = 0x64;
@@ -212,7 +213,7 @@ pub fn read_ref_type(cursor: &mut Cursor) -> Result<RefType, Malformed>
 impl ValType {
     /// Returns the number type or vector type that the byte encodes.
     fn of_byte(byte: u8) -> Option<ValType>
-        ensures { option_map type_view result ≡ number_type_of byte }
+        ensures { option_map val_type_view result ≡ number_type_of byte }
     {
         match byte {
             0x7f => Some(ValType::I32),
@@ -227,7 +228,7 @@ impl ValType {
     /// Reads the rest of a value type, after its first byte.
     pub(crate) fn read_after(first: First, cursor: &mut Cursor) -> Result<Self, Malformed>
         requires { first.place ≤ cursor.now.place }
-        ensures { DecodesFrom first.place type_view (val_type_after first.byte).parse cursor.old result cursor.new }
+        ensures { DecodesFrom first.place val_type_view (val_type_after first.byte).parse cursor.old result cursor.new }
     {
         match ValType::of_byte(first.byte) {
             Some(val_type) => Ok(val_type),
@@ -253,7 +254,7 @@ pub fn begins_type(byte: u8) -> bool
 /// `Malformed` if the bytes do not encode a value type, with a place as
 /// [`Error::Malformed`](wasmprinter_bytes::Error::Malformed) describes it.
 pub fn read_type(cursor: &mut Cursor) -> Result<ValType, Malformed>
-    ensures { Decodes type_view val_type.parse cursor.old result cursor.new }
+    ensures { Decodes val_type_view val_type.parse cursor.old result cursor.new }
 {
     let first = First::read(cursor)?;
     ValType::read_after(first, cursor)
@@ -274,7 +275,7 @@ impl Decode for ValType {
 /// `Malformed` if the bytes do not encode the count or one of the types, with a place
 /// as [`Error::Malformed`](wasmprinter_bytes::Error::Malformed) describes it.
 pub fn read_types<'a>(cursor: &mut Cursor<'a>) -> Result<ValTypes<'a>, Malformed>
-    ensures { Decodes types_view (vec val_type).parse cursor.old result cursor.new }
+    ensures { Decodes val_types_view (vec val_type).parse cursor.old result cursor.new }
 {
     read_items(cursor)
 }

@@ -1,7 +1,7 @@
 -- The errors that report why printing stopped.
 use Rattle.std.specs.Prelude.{Option, Some, None, Result, Ok, Err}
-use Rattle.wasmprinter_bytes.specs.declared.error.Error.{Error}
-use Rattle.wasmprinter_bytes.specs.declared.error.Error.TheVariants.{DylinkSubsection, Printer, Memory}
+use Rattle.wasmprinter_bytes.specs.declared.library_error.Error.{Error}
+use Rattle.wasmprinter_bytes.specs.declared.library_error.Error.TheVariants.{DylinkSubsection, Printer, Memory}
 use Rattle.wasmprinter_print.specs.declared.halt.Halt.{Halt}
 use Rattle.wasmprinter_print.specs.declared.halt.Halt.TheVariants as halt
 

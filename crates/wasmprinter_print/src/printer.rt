@@ -1,36 +1,41 @@
 //! The output over a printer.
-ghost use Rattle.std.specs.Prelude.{◌≡◌, None};
-ghost use Rattle.wasmprinter_spec.specs.Options.{Options, defaults, in_colors};
+ghost use Rattle.std.specs.Prelude.{◌≡◌, None, false};
+ghost use Rattle.wasmprinter_spec.specs.Options.{Options, defaults, with_color};
 
 use crate::{FoldingOutput, Halt, Output, Print, PrintOptions, Style};
 use std::marker::{Brand, PhantomData};
 
 /// The options of a layout, as contracts know them. A caller picks them by `Brand`.
-pub trait Chosen {
+pub trait LayoutOptions {
     ghost options: { Options };
 }
 
 /// `Brand` has the default options, unless the proof of the caller picks others.
-impl Chosen for Brand {
+impl LayoutOptions for Brand {
     ghost options = { defaults };
 }
 
 /// A printer, the options of the layout, the first error, and whether a line has begun in the innermost open group.
-pub struct Printer<'o, 'p, P, K: Chosen> {
+pub struct Printer<'o, 'p, P, K: LayoutOptions> {
     pub printer: &'p mut P,
     pub options: &'o PrintOptions,
     pub halt: Option<Halt>,
     pub begun: bool,
     pub of: PhantomData<K>,
-    pub ghost chosen: { in_colors options.now K.options.color ≡ K.options },
+    pub ghost agrees: { with_color options.now K.options.color ≡ K.options },
 }
 
-impl<'o, 'p, P, K: Chosen> Printer<'o, 'p, P, K> {
-    /// Creates an output to which nothing was written.
+impl<'o, 'p, P, K: LayoutOptions> Printer<'o, 'p, P, K> {
+    /// Creates an output over `printer`. No error is recorded, and no line has begun.
+    ///
+    /// `K.options` are the options as contracts know them: `options`, and whether the text of folded operators has ANSI
+    /// escape sequences, which `PrintOptions` does not hold.
     pub fn new(printer: &'p mut P, options: &'o PrintOptions) -> Printer<'o, 'p, P, K>
-        requires { in_colors options.now K.options.color ≡ K.options }
+        requires { with_color options.now K.options.color ≡ K.options }
         ensures printer { result.printer ≡ printer.entry }
+        ensures options { result.options ≡ options.entry }
         ensures halt { result.halt ≡ None }
+        ensures begun { result.begun ≡ false }
     {
         Printer {
             printer,
@@ -42,12 +47,10 @@ impl<'o, 'p, P, K: Chosen> Printer<'o, 'p, P, K> {
     }
 }
 
-impl<'o, 'p, P: Print, K: Chosen> Output for Printer<'o, 'p, P, K> {
-    ghost use Rattle.std.specs.Prelude.{◌≡◌, true, false, List, [], ◌∷◌, Some, refl, is_some};
+impl<'o, 'p, P: Print, K: LayoutOptions> Output for Printer<'o, 'p, P, K> {
+    ghost use Rattle.std.specs.Prelude.{◌≡◌, true, false, [], ◌∷◌, Some, refl, is_some};
     ghost use Rattle.std.proofs.Common.{◌∙◌};
-    ghost use Rattle.wasmprinter_spec.specs.Piece.{Piece};
     ghost use Rattle.wasmprinter_print.specs.Effects.{HasEffect, Opened, LeftGroup, state, of_calls, of_pieces, of_parts};
-    ghost use Rattle.wasmprinter_print.specs.OutputLaws.{Closed, ClosedAt};
     ghost use Rattle.wasmprinter_print.specs.EffectLaws.{effect_none, effect_no_text, both_calls, both_texts, one_piece, one_break, both_pieces, closed, closed_parts, shown, stopped, both_parts, skipped};
 
     ghost chosen = { K.options };
@@ -277,7 +280,7 @@ impl<'o, 'p, P: Print, K: Chosen> Output for Printer<'o, 'p, P, K> {
     }
 }
 
-impl<'o, 'p, P: Print, K: Chosen> FoldingOutput for Printer<'o, 'p, P, K> {
+impl<'o, 'p, P: Print, K: LayoutOptions> FoldingOutput for Printer<'o, 'p, P, K> {
     fn run_out_of_memory(&mut self) {
         if self.halt.is_none() {
             self.halt = Some(Halt::Memory);

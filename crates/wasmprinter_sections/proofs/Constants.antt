@@ -1,12 +1,11 @@
 -- Constant expressions, flat and folded.
-use Rattle.std.specs.Prelude.{◌≡◌, ℕ, List, [], ◌∷◌, true, false, Option, Some, None, refl}
+use Rattle.std.specs.Prelude.{◌≡◌, ℕ, List, [], Option, Some, None, refl}
 use Rattle.wasmprinter_spec.specs.Grammar.{Placed}
 use Rattle.wasmprinter_spec.specs.Operator.{Operator}
 use Rattle.wasmprinter_spec.specs.Layout.Operators.{Setting, expression_pieces}
 use Rattle.wasmprinter_spec.specs.Layout.Declarations.{Scope, Folding}
 use Rattle.wasmprinter_spec.specs.Layout.Functions.{body_by}
-use Rattle.wasmprinter_spec.specs.Layout.Expressions.{in_line, constant_by, constant_pieces, grouped_pieces}
-use Rattle.wasmprinter_sections.specs.Scopes.{is_one}
+use Rattle.wasmprinter_spec.specs.Layout.Expressions.{in_line, constant_by, constant_pieces}
 
 constant_by-list : (f : Option Folding) (s : Setting) (os : List (Placed Operator)) → constant_by f s os ≡ body_by f (Some 0) s [] os
 unfolding constant_by body_by expression_pieces

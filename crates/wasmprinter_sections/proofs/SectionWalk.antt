@@ -1,13 +1,12 @@
 -- Sections one after the other, each with its custom sections.
-use Rattle.std.specs.Prelude.{◌≡◌, ℕ, suc, ◌+◌, ◌<◌, ◌≤◌, List, [], ◌∷◌, ◌++◌, length, drop, Some, slice_get, refl}
-use Rattle.std.proofs.Common.{sym, ap, ◌∙◌, add-one, drop-cons, get_or, option_map, arith}
+use Rattle.std.specs.Prelude.{◌≡◌, ℕ, suc, ◌+◌, ◌<◌, ◌≤◌, List, [], ◌∷◌, ◌++◌, length, drop, Some, slice_get}
+use Rattle.std.proofs.Common.{ap, ◌∙◌, add-one, drop-cons, get_or, option_map}
 use Rattle.std.proofs.lemmas.List.{drop_all}
-use Rattle.std.proofs.lemmas.Option.{slice_get-map, slice_get-get_or, slice_get_within, get_or_from_slice_get}
+use Rattle.std.proofs.lemmas.Option.{slice_get-map, slice_get-get_or, get_or_from_slice_get}
 use Rattle.wasmprinter_spec.specs.Kinds.{Kind}
 use Rattle.wasmprinter_spec.specs.Placed.{PlacedModule}
 use Rattle.wasmprinter_spec.specs.Options.{Options, Answers}
 use Rattle.wasmprinter_spec.specs.Layout.Declarations.{Scope}
-use Rattle.wasmprinter_spec.specs.Layout.Customs.{Part}
 use Rattle.wasmprinter_wasm.specs.Places.{section_kind_view}
 use Rattle.wasmprinter_wasm.specs.declared.custom_placement.SectionKind.{SectionKind}
 use Rattle.wasmprinter_wasm.specs.declared.custom_placement.SectionKind.TheVariants as k

@@ -6,7 +6,7 @@ ghost use Rattle.wasmprinter_spec.specs.Layout.Customs.{content_pieces, subsecti
 ghost use Rattle.wasmprinter_custom.specs.Contents.{content_view};
 
 use crate::annotation_strings::{LINE_NESTING, SECTION_NESTING, write_space_strings};
-use crate::symbol_flags::write_flags;
+use crate::symbol_flag_printing::write_flags;
 use wasmprinter_custom::{Content, Dylink, DylinkNames, ExportInfo, ImportInfo, ItemsIn, MemInfo};
 use wasmprinter_print::Output;
 use wasmprinter_text::annotations::open_annotation;

@@ -25,7 +25,7 @@ mod raw;
 mod section_fields;
 mod sections_in_order;
 mod start;
-mod symbol_flags;
+mod symbol_flag_printing;
 mod tables;
 mod tags;
 mod types;

@@ -2,7 +2,7 @@
 ghost use Rattle.std.specs.Prelude.{◌≡◌, ◌+◌, ◌<◌, ◌^◌, false, codes, replicate};
 ghost use Rattle.wasmprinter_spec.specs.Module.{locals_of};
 ghost use Rattle.wasmprinter_spec.specs.Layout.Functions.{locals_place, local_pieces};
-ghost use Rattle.wasmprinter_ops.specs.ValTypes.{type_view};
+ghost use Rattle.wasmprinter_ops.specs.ValTypes.{val_type_view};
 ghost use Rattle.wasmprinter_flat.specs.OpenLabels.Scan.{names_of};
 ghost use Rattle.wasmprinter_text.specs.Variables.{walk_pieces};
 ghost use Rattle.wasmprinter_text.specs.declared.types.variables.Before.TheVariants.{Line};
@@ -47,7 +47,7 @@ fn write_local<O: Output>(
 ) -> Position
     requires { position.number + 1 < 2 ^ 64 }
     ensures pieces { O.wrote out.old out.new
-        (local_parts (names_of scope.now.labels) function position (type_view value_type)) }
+        (local_parts (names_of scope.now.labels) function position (val_type_view value_type)) }
     ensures after { result ≡ after_one ((names_of scope.now.labels).locals function) position }
 {
     let Position { before, number } = position;

@@ -1,7 +1,7 @@
 //! Printing a module to a printer.
-ghost use Rattle.std.specs.Prelude.{◌≡◌, Bool, true, IfOk, IfErr};
-ghost use Rattle.wasmprinter_bytes.specs.declared.error.Error.TheVariants.{Memory};
-ghost use Rattle.wasmprinter_spec.specs.Options.{Options, Answers, in_colors};
+ghost use Rattle.std.specs.Prelude.{◌≡◌, true, IfOk, IfErr};
+ghost use Rattle.wasmprinter_bytes.specs.declared.library_error.Error.TheVariants.{Memory};
+ghost use Rattle.wasmprinter_spec.specs.Options.{Options, Answers, with_color};
 ghost use Rattle.wasmprinter_flat.specs.OpenLabels.Scan.{names_of};
 ghost use Rattle.wasmprinter_sections.specs.Endings.{PrintsLaid};
 ghost use Rattle.wasmprinter_sections.specs.Sections.{module_laid, Folds};
@@ -12,7 +12,7 @@ use std::marker::Brand;
 use wasmprinter_bytes::Error;
 use wasmprinter_flat::open_labels::OpenLabels;
 use wasmprinter_fold::Folder;
-use wasmprinter_print::{Chosen, Print, PrintOptions, Printer};
+use wasmprinter_print::{LayoutOptions, Print, PrintOptions, Printer};
 use wasmprinter_wasm::Module;
 
 /// Returns the folder of a module's operators, or `None` if operators are not folded. It writes ANSI escape
@@ -23,7 +23,7 @@ fn folder_of<'s, 'a>(
     options: &PrintOptions,
     module: &'s Module<'a>,
 ) -> Result<Option<Folder<'s, 'a>>, Error>
-    ensures folds { IfOk result (λ folder. Folds (in_colors options.now color) folder module.now) }
+    ensures folds { IfOk result (λ folder. Folds (with_color options.now color) folder module.now) }
     ensures memory { IfErr result (λ e. (e ≡ Memory) × (options.now.folds ≡ true)) }
 {
     if !options.folds {
@@ -33,14 +33,14 @@ fn folder_of<'s, 'a>(
 }
 
 /// Prints a module with the options that `K` stands for.
-fn print_by<'s, 'a, P: Print, K: Chosen>(
+fn print_by<'s, 'a, P: Print, K: LayoutOptions>(
     p: &mut P,
     options: &PrintOptions,
     module: &'s Module<'a>,
     labels: OpenLabels<'s, 'a>,
     folder: Option<Folder<'s, 'a>>,
 ) -> Result<(), Error>
-    requires options { in_colors options.now K.options.color ≡ K.options }
+    requires options { with_color options.now K.options.color ≡ K.options }
     requires folder { Folds K.options folder module.now }
     ensures { (answers : Answers) × PrintsLaid P.meaning K.options p.old p.new result
         (module_laid K.options answers (names_of labels.entry) module.now) }
@@ -76,7 +76,7 @@ pub fn print_module<'s, 'a, P: Print>(
     module: &'s Module<'a>,
     labels: OpenLabels<'s, 'a>,
 ) -> Result<(), Error>
-    ensures { let chosen : Options = in_colors options.now (P.colors p.old) in
+    ensures { let chosen : Options = with_color options.now (P.colors p.old) in
         (answers : Answers) × PrintsLaid P.meaning chosen p.old p.new result
         (module_laid chosen answers (names_of labels.entry) module.now) }
 {

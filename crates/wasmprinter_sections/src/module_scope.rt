@@ -8,14 +8,14 @@ ghost use Rattle.wasmprinter_spec.specs.Layout.ValTypes.{ref_pieces, val_pieces}
 ghost use Rattle.wasmprinter_spec.specs.Layout.Types.{type_pieces};
 ghost use Rattle.wasmprinter_custom.specs.Shown.{names_of_identifiers};
 ghost use Rattle.wasmprinter_text.specs.Items.{item_of};
-ghost use Rattle.wasmprinter_ops.specs.ValTypes.{ref_view, type_view};
+ghost use Rattle.wasmprinter_ops.specs.ValTypes.{ref_view, val_type_view};
 ghost use Rattle.wasmprinter_flat.specs.OpenLabels.Scan.{names_of};
 ghost use Rattle.wasmprinter_sections.specs.Scopes.{scope_view, item_in};
 
 use wasmprinter_custom::{Identifiers, Space};
 use wasmprinter_flat::open_labels::OpenLabels;
 use wasmprinter_fold::Folder;
-use wasmprinter_ops::composite::{FuncType, SubType};
+use wasmprinter_ops::composite_types::{FuncType, SubType};
 use wasmprinter_ops::{RefType, ValType};
 use wasmprinter_print::Output;
 use wasmprinter_text::indices::{self, write_declaration_of, write_index_of};
@@ -128,12 +128,12 @@ pub fn write_ref_type_in<O: Output>(out: &mut O, scope: &Scope<'_, '_>, ref_type
 /// Writes a value type.
 pub fn write_val_type_in<O: Output>(out: &mut O, scope: &Scope<'_, '_>, value_type: ValType)
     ensures { O.wrote out.old out.new
-        (val_pieces (names_of scope.now.labels) (type_view value_type)) }
+        (val_pieces (names_of scope.now.labels) (val_type_view value_type)) }
 {
     types::write_val_type(out, &scope.identifiers(), value_type);
 }
 
-/// Writes the definition of the type with the given number.
+/// Writes the definition of the type with the given index.
 pub fn write_type_in<O: Output>(
     out: &mut O,
     scope: &Scope<'_, '_>,

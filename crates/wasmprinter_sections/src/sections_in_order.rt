@@ -6,7 +6,7 @@ ghost use Rattle.wasmprinter_spec.specs.Layout.{section_order};
 ghost use Rattle.wasmprinter_spec.specs.Layout.Customs.{parts_at};
 ghost use Rattle.wasmprinter_flat.specs.OpenLabels.Scan.{names_of};
 ghost use Rattle.wasmprinter_sections.specs.Scopes.{scope_view};
-ghost use Rattle.wasmprinter_sections.specs.Sections.{sections_parts, inner_parts, whole_parts, Folds};
+ghost use Rattle.wasmprinter_sections.specs.Sections.{sections_parts, whole_parts, Folds};
 
 use crate::module_scope::{ModuleTypes, Scope};
 use crate::section_fields::write_fields_of;

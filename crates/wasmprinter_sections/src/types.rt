@@ -8,7 +8,7 @@ ghost use Rattle.wasmprinter_flat.specs.OpenLabels.Scan.{names_of};
 ghost use Rattle.wasmprinter_sections.specs.TypeLines.{listed_pieces};
 
 use crate::module_scope::{FIELD_NESTING, Scope, write_type_in};
-use wasmprinter_ops::composite::SubType;
+use wasmprinter_ops::composite_types::SubType;
 use wasmprinter_print::Output;
 use wasmprinter_text::lines::{close_group, write_break};
 use wasmprinter_text::words::open_group;
@@ -26,7 +26,7 @@ fn write_member<O: Output>(
     number: u64,
     sub_type: &SubType<'_>,
 )
-    requires { group.now.value.written ≡ true }
+    requires { group.now.value.explicit ≡ true }
     ensures { O.wrote out.old out.new
         (member_pieces (names_of scope.now.labels) group.now.place number sub_type.now) }
 {
@@ -43,9 +43,9 @@ fn write_listed<O: Output>(
     sub_type: &SubType<'_>,
 )
     ensures { O.wrote out.old out.new
-        (listed_pieces (names_of scope.now.labels) group.now.value.written group.now.place number sub_type.now) }
+        (listed_pieces (names_of scope.now.labels) group.now.value.explicit group.now.place number sub_type.now) }
 {
-    if group.is_written() {
+    if group.is_explicit() {
         write_member(out, scope, group, number, sub_type);
     } else {
         write_type_in(out, scope, number, sub_type);
@@ -56,7 +56,7 @@ fn write_listed<O: Output>(
 fn write_types<O: Output>(out: &mut O, scope: &Scope<'_, '_>, group: &TypeGroup<'_>, first: u64)
     requires { first + length group.now.value.types < 2 ^ 64 }
     ensures { O.wrote out.old out.new
-        (numbered_pieces (listed_pieces (names_of scope.now.labels) group.now.value.written group.now.place) first group.now.value.types) }
+        (numbered_pieces (listed_pieces (names_of scope.now.labels) group.now.value.explicit group.now.place) first group.now.value.types) }
 {
     let mut number = first;
     for sub_type in group.types() {
@@ -74,7 +74,7 @@ fn write_rec<O: Output>(out: &mut O, scope: &Scope<'_, '_>, group: &TypeGroup<'_
     requires { first + length group.now.value.types < 2 ^ 64 }
     ensures { O.wrote out.old out.new
         (group_pieces 1 (codes "rec")
-        (numbered_pieces (listed_pieces (names_of scope.now.labels) group.now.value.written group.now.place) first group.now.value.types)) }
+        (numbered_pieces (listed_pieces (names_of scope.now.labels) group.now.value.explicit group.now.place) first group.now.value.types)) }
 {
     open_group(out, "rec");
     let outer_begun = out.enter_group();
@@ -91,9 +91,9 @@ fn write_group_after<O: Output>(
 )
     requires { first + length group.now.value.types < 2 ^ 64 }
     ensures { O.wrote out.old out.new
-        (group_pieces_by (names_of scope.now.labels) group.now.value.written group.now.place first group.now.value.types) }
+        (group_pieces_by (names_of scope.now.labels) group.now.value.explicit group.now.place first group.now.value.types) }
 {
-    if group.is_written() {
+    if group.is_explicit() {
         write_rec(out, scope, group, first);
     } else {
         write_types(out, scope, group, first);

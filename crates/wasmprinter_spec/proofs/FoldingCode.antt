@@ -6,7 +6,7 @@ use Rattle.wasmprinter_spec.specs.Grammar.{◌>>=◌, bind_some, some_is}
 use Rattle.wasmprinter_spec.specs.Row as row
 use Rattle.wasmprinter_spec.specs.Row.{Role, Opens, OpensIf, OpensTry, Else, Catches, CatchesAll, Delegates, Ends}
 use Rattle.wasmprinter_spec.specs.Nesting.{FramePart, Sequence, Handlers, Nests, none, plain, block, one_armed, two_armed, tried, delegated, no_handler, caught, caught_all}
-use Rattle.wasmprinter_spec.specs.Folding.Code.{Item, NestedCode, Done, Plain, Block, If, IfElse, flat, role, After, Outside, InBlock, InIf, with_code, in_front, after_of, whole, nested_code_of, IsFit, AreWithoutTry, CodeRule, UniqueCodeRule, NestedCodeRule, NestingCodeRule}
+use Rattle.wasmprinter_spec.specs.Folding.Code.{Item, NestedCode, Done, Plain, Block, If, IfElse, flat, role, After, Outside, InBlock, InIf, with_code, in_front, after_of, whole, nested_code_of, IsFit, AreWithoutTry, TreesRepresentLists, TreesAreUnique, NestedOperatorsHaveTrees, TreesAreNested}
 
 -- ---- from a tree to its list and back
 
@@ -74,7 +74,7 @@ after_of-flat (IfElse x body turn other end rest) xs b h e =
     (ap (λ (b : After). Some b) (with_code-twice (IfElse x body turn other end) (code_after rest) b))
 
 -- The tree of the list of a tree is that tree.
-pub nested_code_of-flat : UniqueCodeRule
+pub nested_code_of-flat : TreesAreUnique
 nested_code_of-flat c h =
     let e : after_of (flat c ++ []) ≡ Some (Outside c) =
     after_of-flat c [] (Outside Done) h refl ∙ ap (λ (c : NestedCode). Some (Outside c)) (code_after-done c) in
@@ -180,7 +180,7 @@ after_of-tree (x ∷ xs) b e =
     (top.0 ∙ ap (λ (l : List Item). x ∷ l) t.0, top.1)
 
 -- The tree of a list is well formed and represents the list.
-pub nested_code_of-tree : CodeRule
+pub nested_code_of-tree : TreesRepresentLists
 nested_code_of-tree xs c e =
     let (place, is_after, result) = bind_some (after_of xs) whole c e in
     of_whole place result (after_of-tree xs place is_after)
@@ -310,7 +310,7 @@ grows no_handler = tt
 grows (caught b hs) = tt
 grows (caught_all b) = tt
 
-pub nested_code_of-nested : NestedCodeRule
+pub nested_code_of-nested : NestedOperatorsHaveTrees
 nested_code_of-nested xs n h =
     let t : HasTree xs = grows n xs refl h in
     (t.code, ap nested_code_of (sym t.is_flat) ∙ nested_code_of-flat t.code t.is_fit)
@@ -354,7 +354,7 @@ nested-fit (IfElse x body turn other end rest) h =
       ),
     )
 
-pub nested_code_of-nests : NestingCodeRule
+pub nested_code_of-nests : TreesAreNested
 nested_code_of-nests xs c e =
     let t : (flat c ≡ xs) × IsFit c = nested_code_of-tree xs c e in
     subst (λ (ys : List Item). IsNested (map role ys)) t.0 (nested-fit c t.1)

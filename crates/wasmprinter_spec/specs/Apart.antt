@@ -43,7 +43,7 @@ member_places false place ts = []
 
 -- The place of a group of types and, if it is an explicit `(rec ..)`, a place for each of its types.
 abbrev pub group_places : Placed TypeGroup → List ℕ
-group_places g = g.place ∷ member_places g.value.written g.place g.value.types
+group_places g = g.place ∷ member_places g.value.explicit g.place g.value.types
 
 -- The place of the start function, if there is one.
 abbrev pub start_places : Option (Placed ℕ) → List ℕ

@@ -1,6 +1,6 @@
 -- Every used index is declared: it is below the number of items in its index space (section 2.5 of the standard,
--- "Indices"). The types of functions, tags, blocks with a type index and indirect calls are function types, and a
--- field is one of a structure type. This holds for every valid module.
+-- "Indices"). The types of functions, tags, blocks with a type index and indirect calls are function types. A field
+-- index is below the number of fields of its type, which is a structure type. This holds for every valid module.
 use Rattle.std.specs.Prelude.{◌≡◌, ℕ, ◌+◌, ◌<◌, List, length, Option, Some, None}
 use Rattle.std.specs.List.{AllByRecursion}
 use Rattle.wasmprinter_spec.specs.Types.{FuncType, HeapType, Index, RefType, ValType, Ref, StorageType, Val, FieldType, CompositeType, FuncComposite, ArrayComposite, StructComposite, SubType, ExternKind, FuncKind, TableKind, MemoryKind, GlobalKind, TagKind, ExternType, FuncExtern, TableExtern, MemoryExtern, GlobalExtern, TagExtern, all_types, signature_at, fields_at}

@@ -4,8 +4,8 @@
 use Rattle.std.specs.Prelude.{◌≡◌, ℕ, zero, suc, ◌<◌, ◌^◌, List, [], ◌∷◌, Bool, true, false, ◌||◌, bytes_eq, Option, Some, None}
 use Rattle.wasmprinter_spec.specs.Row.{Role, Opens, OpensIf, OpensTry, Delegates, Ends}
 
--- A label's identifier: the name that it was given, or None if its identifier is synthesized, and the characters
--- after the dollar sign.
+-- The identifier of an item or a label: the name that it was given, or None if its identifier is synthesized, and the
+-- characters after the dollar sign.
 pub record Named : Type 0 where
   pub given : Option (List ℕ)
   pub content : List ℕ

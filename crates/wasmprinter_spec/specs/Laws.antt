@@ -27,8 +27,8 @@ use Rattle.wasmprinter_spec.specs.Text.Hints.{text_hints}
 use Rattle.wasmprinter_spec.specs.Read.{read}
 
 -- Given bytes encode at most one module with its places.
-abbrev pub SpellsOne : Type 0
-SpellsOne = (bytes : List ℕ) (m n : PlacedModule) → Spells bytes m → Spells bytes n → m ≡ n
+abbrev pub SpellsAtMostOne : Type 0
+SpellsAtMostOne = (bytes : List ℕ) (m n : PlacedModule) → Spells bytes m → Spells bytes n → m ≡ n
 
 -- Lists of calls that differ only in how text is split have the same text.
 abbrev pub AlikeHaveOneText : Type 0

@@ -23,8 +23,8 @@ abbrev pub defaults : Options
 defaults = record { offsets = false; skeleton = false; synthesizes = false; folds = false; color = false; indent = codes "  " }
 
 -- The options with or without ANSI escape sequences in the text of folded operators.
-abbrev pub in_colors : Options → Bool → Options
-in_colors o color = record o { color = color }
+abbrev pub with_color : Options → Bool → Options
+with_color o color = record o { color = color }
 
 -- The answer to the claim of each custom section, by the number of the section among the custom sections.
 abbrev pub Answers : Type 0

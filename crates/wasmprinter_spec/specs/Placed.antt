@@ -7,14 +7,14 @@ use Rattle.wasmprinter_spec.specs.Types.{ValType, SubType, RefType, TableType, M
 use Rattle.wasmprinter_spec.specs.Operator.{Operator}
 use Rattle.wasmprinter_spec.specs.Kinds.{Kind}
 
--- A group of types: one that is written as a group (`rec`), or a single type by itself.
+-- A group of types: an explicit one (`rec`), or a single type by itself.
 pub record TypeGroup : Type 0 where
-  pub written : Bool
+  pub explicit : Bool
   pub types : List SubType
 
--- The group of these types. The first argument says whether it is written as a group (`rec`).
+-- The group of these types. The first argument says whether the group is explicit (`rec`).
 abbrev pub type_group : Bool → List SubType → TypeGroup
-type_group written ts = record { written = written; types = ts }
+type_group explicit ts = record { explicit = explicit; types = ts }
 
 -- `count` locals of one type.
 pub record LocalEntry : Type 0 where

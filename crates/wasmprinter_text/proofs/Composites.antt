@@ -9,7 +9,7 @@ use Rattle.wasmprinter_spec.specs.Layout.Groups.{line_group, numbered_pieces}
 use Rattle.wasmprinter_spec.specs.Layout.ValTypes.{type_index_pieces}
 use Rattle.wasmprinter_spec.specs.Layout.Types.{composite_pieces, final_pieces, supertype_pieces, sub_group, sub_pieces_by, sub_pieces}
 use Rattle.wasmprinter_ops.specs.Types.{field_view, fields_view}
-use Rattle.wasmprinter_ops.specs.declared.composite.FieldType.{FieldType}
+use Rattle.wasmprinter_ops.specs.declared.composite_types.FieldType.{FieldType}
 
 module _ (f : ℕ → DefinedField → List Piece) where
   -- An empty list of fields has no pieces.

@@ -9,7 +9,7 @@ use Rattle.wasmprinter_spec.specs.Layout.Groups.{line_group}
 use Rattle.wasmprinter_spec.specs.Layout.ValTypes.{type_list}
 use Rattle.wasmprinter_spec.specs.Layout.Variables.{Variables, Alone, Together, with_variable, variable_groups, variables_pieces, groups_pieces}
 use Rattle.wasmprinter_spec.specs.Layout.Functions.{local_line}
-use Rattle.wasmprinter_ops.specs.ValTypes.{type_view, types_view}
+use Rattle.wasmprinter_ops.specs.ValTypes.{val_type_view, val_types_view}
 use Rattle.wasmprinter_ops.specs.declared.val_types.ValType.{ValType as GivenType}
 use Rattle.wasmprinter_text.specs.declared.types.variables.Before.{Before}
 use Rattle.wasmprinter_text.specs.declared.types.variables.Before.TheVariants as before
@@ -74,12 +74,12 @@ module _ (names : Names) (w : List ℕ) where
 module _ (names : Names) (w : List ℕ) (named : ℕ → Option Named) where
   -- The pass over a list of variables writes the first variable and passes over the others.
   pub walk-next : (b : Before) (k : ℕ) (ts rest : List GivenType) (t : GivenType) → ts ≡ t ∷ rest →
-      walk_pieces names w named b k (types_view ts) ≡ variable_pieces names w b (named k) (type_view t) ++ walk_pieces names w named (before_next (named k)) (k + 1) (types_view rest)
-  walk-next b k ts rest t e = ap (λ xs. walk_pieces names w named b k (types_view xs)) e
+      walk_pieces names w named b k (val_types_view ts) ≡ variable_pieces names w b (named k) (val_type_view t) ++ walk_pieces names w named (before_next (named k)) (k + 1) (val_types_view rest)
+  walk-next b k ts rest t e = ap (λ xs. walk_pieces names w named b k (val_types_view xs)) e
 
   -- The pass over an empty list of variables writes the end of the open group, if there is one.
-  pub walk-none : (b : Before) (k : ℕ) (ts : List GivenType) → ts ≡ [] → walk_pieces names w named b k (types_view ts) ≡ end_pieces b
-  walk-none b k ts e = ap (λ xs. walk_pieces names w named b k (types_view xs)) e
+  pub walk-none : (b : Before) (k : ℕ) (ts : List GivenType) → ts ≡ [] → walk_pieces names w named b k (val_types_view ts) ≡ end_pieces b
+  walk-none b k ts e = ap (λ xs. walk_pieces names w named b k (val_types_view xs)) e
 
 module _ (names : Names) (place : Option ℕ) where
   line_by : (n : Option Named) (t : ValType) (gs : List Variables) →

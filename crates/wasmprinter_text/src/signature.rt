@@ -10,7 +10,7 @@ use crate::indices::write_index_group;
 use crate::types::write_signature;
 use crate::words::write_space;
 use wasmprinter_custom::{Identifiers, Space};
-use wasmprinter_ops::composite::FuncType;
+use wasmprinter_ops::composite_types::FuncType;
 use wasmprinter_print::Output;
 
 /// The types of a module, by which function types are looked up.

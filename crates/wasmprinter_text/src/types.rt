@@ -7,7 +7,7 @@ ghost use Rattle.wasmprinter_spec.specs.Layout.ValTypes.{ref_pieces, val_pieces,
 ghost use Rattle.wasmprinter_spec.specs.Layout.Types.{list_group as group_of_types, signature_pieces};
 ghost use Rattle.wasmprinter_spec.specs.Layout.Groups.{line_group, line_group_space};
 ghost use Rattle.wasmprinter_custom.specs.Shown.{names_of_identifiers};
-ghost use Rattle.wasmprinter_ops.specs.ValTypes.{heap_view, ref_view, type_view, types_view};
+ghost use Rattle.wasmprinter_ops.specs.ValTypes.{heap_view, ref_view, val_type_view, val_types_view};
 
 pub mod composite;
 pub mod variables;
@@ -18,7 +18,7 @@ use crate::words::{
     open_group, open_group_space, write_close_paren, write_space, write_type_word, write_word,
 };
 use wasmprinter_custom::{Identifiers, Space};
-use wasmprinter_ops::composite::FuncType;
+use wasmprinter_ops::composite_types::FuncType;
 use wasmprinter_ops::{HeapType, RefType, ValType, ValTypes};
 use wasmprinter_print::Output;
 
@@ -143,7 +143,7 @@ pub fn write_val_type<O: Output>(
     identifiers: &Identifiers<'_, '_>,
     value_type: ValType,
 )
-    ensures { O.wrote out.old out.new (val_pieces (names_of_identifiers identifiers.now) (type_view value_type)) }
+    ensures { O.wrote out.old out.new (val_pieces (names_of_identifiers identifiers.now) (val_type_view value_type)) }
 {
     match value_type {
         ValType::I32 => write_type_word(out, "i32"),
@@ -162,7 +162,7 @@ pub(crate) fn write_space_val_type<O: Output>(
     value_type: ValType,
 )
     ensures { O.wrote out.old out.new
-        (list_of_types (names_of_identifiers identifiers.now) (type_view value_type ∷ [])) }
+        (list_of_types (names_of_identifiers identifiers.now) (val_type_view value_type ∷ [])) }
 {
     write_space(out);
     write_val_type(out, identifiers, value_type);
@@ -171,7 +171,7 @@ pub(crate) fn write_space_val_type<O: Output>(
 /// Writes value types, with a space before each.
 fn write_type_list<O: Output>(out: &mut O, identifiers: &Identifiers<'_, '_>, types: &ValTypes<'_>)
     ensures { O.wrote out.old out.new
-        (list_of_types (names_of_identifiers identifiers.now) (types_view types.now)) }
+        (list_of_types (names_of_identifiers identifiers.now) (val_types_view types.now)) }
 {
     for value_type in types.iter() {
         if out.has_failed() {
@@ -190,7 +190,7 @@ pub fn write_type_group<O: Output>(
     types: &ValTypes<'_>,
 )
     ensures { O.wrote out.old out.new
-        (OneSpace ∷ line_group keyword.now (list_of_types (names_of_identifiers identifiers.now) (types_view types.now))) }
+        (OneSpace ∷ line_group keyword.now (list_of_types (names_of_identifiers identifiers.now) (val_types_view types.now))) }
 {
     write_space(out);
     open_group(out, keyword);
@@ -206,7 +206,7 @@ fn write_type_group_if_any<O: Output>(
     types: &ValTypes<'_>,
 )
     ensures { O.wrote out.old out.new
-        (group_of_types (names_of_identifiers identifiers.now) keyword.now (types_view types.now)) }
+        (group_of_types (names_of_identifiers identifiers.now) keyword.now (val_types_view types.now)) }
 {
     if types.len() != 0 {
         write_type_group(out, identifiers, keyword, types);

@@ -17,8 +17,8 @@ use Rattle.wasmprinter_spec.specs.Binary.{AreBytes, preamble, types_in, imports_
 use Rattle.wasmprinter_spec.specs.Binary.{counts_data, function_pairs, module_from, module_of_sections, binary, Spells}
 use Rattle.wasmprinter_spec.specs.Limits.{HasFewLocals, IsWithinLimits, most_functions}
 use Rattle.wasmprinter_bytes.specs.Reads.{end_of}
-use Rattle.wasmprinter_bytes.specs.declared.error.Error.{Error}
-use Rattle.wasmprinter_bytes.specs.declared.error.Error.TheVariants as e
+use Rattle.wasmprinter_bytes.specs.declared.library_error.Error.{Error}
+use Rattle.wasmprinter_bytes.specs.declared.library_error.Error.TheVariants as e
 use Rattle.wasmprinter_bytes.specs.Reasons.{HasReason}
 use Rattle.wasmprinter_bytes.proofs.Reasons.{reason_implied, memory_alone}
 use Rattle.wasmprinter_spec.proofs.Each.{all_parts}

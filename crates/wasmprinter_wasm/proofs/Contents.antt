@@ -6,8 +6,8 @@ use Rattle.wasmprinter_spec.specs.Name.{u32}
 use Rattle.wasmprinter_spec.specs.Sized.{front_at}
 use Rattle.wasmprinter_spec.specs.Sections.{Kind, kind_of, Content, Section, holds, content, section}
 use Rattle.wasmprinter_bytes.specs.Reads.{IsPlaceIn}
-use Rattle.wasmprinter_bytes.specs.declared.error.Error.{Error}
-use Rattle.wasmprinter_bytes.specs.declared.error.Error.TheVariants.{Malformed as AtPlace}
+use Rattle.wasmprinter_bytes.specs.declared.library_error.Error.{Error}
+use Rattle.wasmprinter_bytes.specs.declared.library_error.Error.TheVariants.{Malformed as AtPlace}
 use Rattle.wasmprinter_bytes.specs.Reasons.{HasReason}
 use Rattle.wasmprinter_bytes.proofs.Reasons.{reason_implied}
 use Rattle.wasmprinter_wasm.specs.declared.sections.Section.{Section as SectionRead}

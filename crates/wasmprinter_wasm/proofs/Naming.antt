@@ -8,7 +8,7 @@ use Rattle.wasmprinter_spec.specs.Customs.{name_section}
 use Rattle.wasmprinter_spec.specs.Names.Section.{Entry, GivesNames}
 use Rattle.wasmprinter_spec.specs.ModuleNames.{entries_given, custom_entries, name_entries}
 use Rattle.wasmprinter_spec.proofs.NameSections.{gives_some}
-use Rattle.wasmprinter_custom.specs.declared.store.NamesBuilder.{NamesBuilder}
+use Rattle.wasmprinter_custom.specs.declared.names.NamesBuilder.{NamesBuilder}
 use Rattle.wasmprinter_custom.specs.Holds.{Holds}
 
 -- The invariant of the loop: the builder holds the entries of the custom sections before number `i`.

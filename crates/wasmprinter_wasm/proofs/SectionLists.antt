@@ -4,7 +4,7 @@ use Rattle.wasmprinter_spec.specs.Grammar.{Input, Grammar, some_is}
 use Rattle.wasmprinter_spec.specs.Sized.{alone}
 use Rattle.wasmprinter_spec.specs.Name.{u32, vec}
 use Rattle.wasmprinter_spec.specs.Sections.{Section, FunctionSection}
-use Rattle.wasmprinter_bytes.specs.declared.error.Error.{Error}
+use Rattle.wasmprinter_bytes.specs.declared.library_error.Error.{Error}
 use Rattle.wasmprinter_bytes.specs.Reasons.{HasReason}
 use Rattle.wasmprinter_bytes.specs.Lists.{CountsItems, BeginsList, reader_reasons}
 use Rattle.wasmprinter_bytes.proofs.Reasons.{reason_implied}

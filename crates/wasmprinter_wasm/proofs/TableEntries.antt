@@ -12,10 +12,10 @@ use Rattle.wasmprinter_spec.specs.Binary.Tables.{table_type, table_by, table}
 use Rattle.wasmprinter_bytes.specs.Reads.{end_of}
 use Rattle.wasmprinter_bytes.specs.Lists.{Takes, reader_reasons}
 use Rattle.wasmprinter_bytes.specs.Reasons.{HasReason}
-use Rattle.wasmprinter_ops.specs.Operators.{HasBlock}
+use Rattle.wasmprinter_ops.specs.Operators.{ReachesBlock}
 use Rattle.wasmprinter_wasm.specs.Growing.{TableGrows}
 use Rattle.wasmprinter_bytes.proofs.Grown.{part_fault}
-use Rattle.wasmprinter_bytes.specs.declared.error.Error.{Error}
+use Rattle.wasmprinter_bytes.specs.declared.library_error.Error.{Error}
 
 -- A grammar in which every value takes at least one byte.
 module _ {A : Type 0} (h : ℕ → Grammar A) (takes : (b : ℕ) (at : Input) (x : A × Input) → (h b).parse at ≡ Some x → length x.1.bytes < length at.bytes) where
@@ -104,10 +104,10 @@ initialised_entry view at new b s is (Err f) h =
 
 -- An error of the initialiser, after 40 00 and a type, is an error of the entry.
 pub initialiser_fault : (at a b c : Input) (x y : ℕ) (t : TableType) → (only 0x40).parse at ≡ Some (x, a) → (only 0x00).parse a ≡ Some (y, b) → table_type.parse b ≡ Some (t, c)
-    → end_of c ≡ end_of at → at.place ≤ c.place → (f : Error) → HasReason (reader_reasons (expression.parse c ≡ None) (HasBlock c) c) f
+    → end_of c ≡ end_of at → at.place ≤ c.place → (f : Error) → HasReason (reader_reasons (expression.parse c ≡ None) (ReachesBlock c) c) f
     → HasReason (reader_reasons ((value_with_place (table_by 0x40)).parse at ≡ None) (TableGrows at) at) f
 initialiser_fault at a b c x y t first second type ends forward =
-    part_fault (expression.parse c ≡ None) (HasBlock c) ((value_with_place (table_by 0x40)).parse at ≡ None) (TableGrows at) c at (λ none. rw (first, second, type, none) refl)
+    part_fault (expression.parse c ≡ None) (ReachesBlock c) ((value_with_place (table_by 0x40)).parse at ≡ None) (TableGrows at) c at (λ none. rw (first, second, type, none) refl)
     (λ more. record {
       value = x;
       after = a;

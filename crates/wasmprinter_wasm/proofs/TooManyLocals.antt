@@ -12,8 +12,8 @@ use Rattle.wasmprinter_wasm.proofs.Parts.{alone_some, alone_none, sized, sized_n
 use Rattle.wasmprinter_wasm.proofs.LaterPlaces.{many_in_part}
 use Rattle.wasmprinter_bytes.specs.Lists.{reader_reasons}
 use Rattle.wasmprinter_bytes.specs.Reads.{end_of}
-use Rattle.wasmprinter_ops.specs.Operators.{HasBlock}
-use Rattle.wasmprinter_bytes.specs.declared.error.Error.{Error}
+use Rattle.wasmprinter_ops.specs.Operators.{ReachesBlock}
+use Rattle.wasmprinter_bytes.specs.declared.library_error.Error.{Error}
 use Rattle.wasmprinter_bytes.specs.Reasons.{HasReason}
 use Rattle.wasmprinter_bytes.proofs.Reasons.{reason_implied}
 use Rattle.wasmprinter_wasm.specs.Refusals.{HasManyLocals, IsOver}
@@ -71,8 +71,8 @@ module _ (at mid : Input) (locals : Entries) (read : (vec (value_with_place loca
       )
 
   -- An error of the expression is an error of the body.
-  pub body_fault : end_of mid ≡ end_of at → at.place ≤ mid.place → (f : Error) → HasReason (reader_reasons (expression.parse mid ≡ None) (HasBlock mid) mid) f → HasReason (body_reasons (value_with_place body).parse (HasBlocks at) at) f
-  body_fault ends forward = reason_implied (reader_reasons (expression.parse mid ≡ None) (HasBlock mid) mid) (body_reasons (value_with_place body).parse (HasBlocks at) at) (record {
+  pub body_fault : end_of mid ≡ end_of at → at.place ≤ mid.place → (f : Error) → HasReason (reader_reasons (expression.parse mid ≡ None) (ReachesBlock mid) mid) f → HasReason (body_reasons (value_with_place body).parse (HasBlocks at) at) f
+  body_fault ends forward = reason_implied (reader_reasons (expression.parse mid ≡ None) (ReachesBlock mid) mid) (body_reasons (value_with_place body).parse (HasBlocks at) at) (record {
     malformed = λ place h. (rw (read, h.0) refl, omega (arith, h.1, ends, forward));
     component = λ h. h;
     locals = λ place h. absurd h;

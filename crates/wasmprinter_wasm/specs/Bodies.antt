@@ -8,7 +8,7 @@ use Rattle.wasmprinter_spec.specs.Placed.{Body}
 use Rattle.wasmprinter_spec.specs.Binary.Code.{body, code_entry}
 use Rattle.wasmprinter_spec.specs.Limits.{local_count, most_locals}
 use Rattle.wasmprinter_bytes.specs.Reads.{IsPlaceIn}
-use Rattle.wasmprinter_bytes.specs.declared.error.Error.{Error}
+use Rattle.wasmprinter_bytes.specs.declared.library_error.Error.{Error}
 use Rattle.wasmprinter_bytes.specs.Reasons.{Reasons, HasReason}
 use Rattle.wasmprinter_wasm.specs.Growing.{HasBlocks}
 use Rattle.wasmprinter_wasm.specs.Refusals.{HasManyLocals, HasFew, IsOver, FirstIsOver}

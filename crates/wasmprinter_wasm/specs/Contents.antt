@@ -7,10 +7,10 @@ use Rattle.wasmprinter_spec.specs.Placed.{Body}
 use Rattle.wasmprinter_spec.specs.Sections.{CustomSection, TypeSection, ImportSection, FunctionSection, TableSection, MemorySection, TagSection, GlobalSection}
 use Rattle.wasmprinter_spec.specs.Sections.{ExportSection, StartSection, ElementSection, DataCountSection, CodeSection, DataSection}
 use Rattle.wasmprinter_spec.specs.Sections.{Kind, Content, content, holds, content_of, Section as SectionValue}
-use Rattle.wasmprinter_spec.specs.Limits.{local_count, most_locals, most_functions, HasNoEmptyInit}
+use Rattle.wasmprinter_spec.specs.Limits.{most_functions, HasNoEmptyInit}
 use Rattle.wasmprinter_bytes.specs.Reads.{IsPlaceIn}
-use Rattle.wasmprinter_bytes.specs.declared.error.Error.{Error}
-use Rattle.wasmprinter_bytes.specs.declared.error.Malformed.{Malformed}
+use Rattle.wasmprinter_bytes.specs.declared.library_error.Error.{Error}
+use Rattle.wasmprinter_bytes.specs.declared.malformed.Malformed.{Malformed}
 use Rattle.wasmprinter_bytes.specs.Reasons.{Reasons, HasReason}
 use Rattle.wasmprinter_bytes.specs.Lists.{CountsItems}
 use Rattle.wasmprinter_wasm.specs.Refusals.{HasManyLocals, HasEmptyInit, HoldsItems, HasFew, FirstIsOver, PlacedTable, FirstIsEmpty}

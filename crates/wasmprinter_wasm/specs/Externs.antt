@@ -5,7 +5,7 @@ use Rattle.wasmprinter_spec.specs.Types.{limits_of, memory_type_of, table_type_o
 use Rattle.wasmprinter_spec.specs.Types.{Limits as DefinedLimits, MemoryType as DefinedMemory, TableType as DefinedTable, GlobalType as DefinedGlobal, ExternKind as DefinedKind, ExternType as DefinedExtern}
 use Rattle.wasmprinter_spec.specs.Placed.{Import}
 use Rattle.wasmprinter_spec.specs.Module.{without_places, imported_types, func_import, table_import, memory_import, global_import, tag_import}
-use Rattle.wasmprinter_ops.specs.ValTypes.{ref_view, type_view}
+use Rattle.wasmprinter_ops.specs.ValTypes.{ref_view, val_type_view}
 use Rattle.wasmprinter_wasm.specs.declared.limits.Limits.{Limits}
 use Rattle.wasmprinter_wasm.specs.declared.memories.MemoryType.{MemoryType}
 use Rattle.wasmprinter_wasm.specs.declared.table_types.TableType.{TableType}
@@ -29,7 +29,7 @@ table_type_view t = table_type_of t.wide (limits_view t.limits) (ref_view t.elem
 
 -- The global type that a global type of the program represents.
 abbrev pub global_type_view : GlobalType → DefinedGlobal
-global_type_view g = global_type_of g.mutable (type_view g.ty)
+global_type_view g = global_type_of g.mutable (val_type_view g.ty)
 
 -- The type of an import that a type of the program represents.
 abbrev pub extern_view : ExternType → DefinedExtern

@@ -12,7 +12,7 @@ use Rattle.wasmprinter_spec.specs.Sections.{Kind, Content, Section, holds, secti
 use Rattle.wasmprinter_spec.specs.Binary.{types_in, imports_in, type_indices_in, tables_in, memories_in, tags_in, globals_in, exports_in, start_in, elements_in, data_count_in, bodies_in, datas_in, customs_in, counts_data}
 use Rattle.wasmprinter_spec.specs.Limits.{most_functions}
 use Rattle.wasmprinter_bytes.specs.Reads.{IsPlaceIn}
-use Rattle.wasmprinter_bytes.specs.declared.error.Error.{Error}
+use Rattle.wasmprinter_bytes.specs.declared.library_error.Error.{Error}
 use Rattle.wasmprinter_bytes.specs.Reasons.{Reasons, HasReason}
 use Rattle.wasmprinter_wasm.specs.Refusals.{HasManyLocals, HasEmptyInit, BeginsSection, KeepsSome, FirstIsOver, FirstIsEmpty}
 use Rattle.wasmprinter_wasm.specs.Contents.{IsSmall}

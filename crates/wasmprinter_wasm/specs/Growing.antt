@@ -8,7 +8,7 @@ use Rattle.wasmprinter_spec.specs.Binary.Tables.{table_type}
 use Rattle.wasmprinter_spec.specs.Binary.Globals.{global_type}
 use Rattle.wasmprinter_spec.specs.Binary.Code.{local_entry}
 use Rattle.wasmprinter_bytes.specs.Lists.{CountsItems}
-use Rattle.wasmprinter_ops.specs.Operators.{HasBlock}
+use Rattle.wasmprinter_ops.specs.Operators.{ReachesBlock}
 use Rattle.wasmprinter_wasm.specs.Segments.{is_inactive, is_explicit, holds_expressions, omits_kind, mode_by}
 
 -- The bytes begin with a value, and `Holds` holds of it and of the position after it.
@@ -20,21 +20,21 @@ pub record After {A : Type 0} (parse : Input → Option (A × Input)) (Holds : A
 
 -- Reading a body may allocate in the expression after its locals.
 abbrev pub HasBlocks : Input → Type 0
-HasBlocks at = After (vec (value_with_place local_entry)).parse (λ _. HasBlock) at
+HasBlocks at = After (vec (value_with_place local_entry)).parse (λ _. ReachesBlock) at
 
 -- Reading a global may allocate in its initialiser.
 abbrev pub GlobalGrows : Input → Type 0
-GlobalGrows at = After global_type.parse (λ _. HasBlock) at
+GlobalGrows at = After global_type.parse (λ _. ReachesBlock) at
 
 -- Reading a table may allocate in its initialiser, after 40 00 and a type.
 abbrev pub TableGrows : Input → Type 0
-TableGrows at = After (only 0x40).parse (λ _. After (only 0x00).parse (λ _. After table_type.parse (λ _. HasBlock))) at
+TableGrows at = After (only 0x40).parse (λ _. After (only 0x00).parse (λ _. After table_type.parse (λ _. ReachesBlock))) at
 
 -- Reading the mode of an element segment may allocate in the offset of an active segment.
 abbrev pub OffsetGrows : (inactive explicit : Bool) → Input → Type 0
 OffsetGrows true explicit at = ⊥
-OffsetGrows false true at = After u32.parse (λ _. HasBlock) at
-OffsetGrows false false at = HasBlock at
+OffsetGrows false true at = After u32.parse (λ _. ReachesBlock) at
+OffsetGrows false false at = ReachesBlock at
 
 -- The same, by the flags.
 abbrev pub ModeGrows : ℕ → Input → Type 0
@@ -60,9 +60,9 @@ ElementGrows at = After u32.parse SegmentGrows at
 
 -- Reading the mode of a data segment, after its flags, may allocate in the offset of an active segment.
 abbrev pub DataModeGrows : ℕ → Input → Type 0
-DataModeGrows zero at = HasBlock at
+DataModeGrows zero at = ReachesBlock at
 DataModeGrows (suc zero) at = ⊥
-DataModeGrows (suc (suc n)) at = After u32.parse (λ _. HasBlock) at
+DataModeGrows (suc (suc n)) at = After u32.parse (λ _. ReachesBlock) at
 
 -- Reading a data segment may allocate for its mode.
 abbrev pub DataGrows : Input → Type 0

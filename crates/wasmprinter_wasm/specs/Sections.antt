@@ -6,8 +6,8 @@ use Rattle.wasmprinter_spec.specs.Sections.{ExportSection, StartSection, Element
 use Rattle.wasmprinter_spec.specs.Sections.{Kind, content, holds, section, Section as SectionValue}
 use Rattle.wasmprinter_spec.specs.Limits.{most_functions}
 use Rattle.wasmprinter_bytes.specs.Reads.{IsPlaceIn}
-use Rattle.wasmprinter_bytes.specs.declared.error.Error.{Error}
-use Rattle.wasmprinter_bytes.specs.declared.error.Error.TheVariants.{Malformed as AtPlace}
+use Rattle.wasmprinter_bytes.specs.declared.library_error.Error.{Error}
+use Rattle.wasmprinter_bytes.specs.declared.library_error.Error.TheVariants.{Malformed as AtPlace}
 use Rattle.wasmprinter_bytes.specs.Reasons.{Reasons, HasReason}
 use Rattle.wasmprinter_wasm.specs.declared.sections.Section.{Section}
 use Rattle.wasmprinter_wasm.specs.declared.sections.Section.TheVariants as s

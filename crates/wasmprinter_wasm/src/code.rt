@@ -6,7 +6,7 @@ ghost use Rattle.wasmprinter_spec.specs.Instructions.{roles};
 ghost use Rattle.wasmprinter_spec.specs.Limits.{local_count, most_locals};
 ghost use Rattle.wasmprinter_spec.specs.Nesting.{Nests, Sequence};
 ghost use Rattle.wasmprinter_bytes.specs.Reads.{end_of};
-ghost use Rattle.wasmprinter_ops.specs.ValTypes.{type_view};
+ghost use Rattle.wasmprinter_ops.specs.ValTypes.{val_type_view};
 ghost use Rattle.wasmprinter_spec.specs.Sections.{CodeSection};
 ghost use Rattle.wasmprinter_wasm.specs.Bodies.{TakesBody, TakesEntry, TakesBodies};
 ghost use Rattle.wasmprinter_wasm.specs.Contents.{TakesHeld};
@@ -15,7 +15,8 @@ use crate::byte_checks::expect_end;
 use std::alloc::Global;
 use std::marker::Model;
 use wasmprinter_bytes::cursor::Cursor;
-use wasmprinter_bytes::lists::{Decode, Items, read_items};
+use wasmprinter_bytes::items::{Items, read_items};
+use wasmprinter_bytes::lists::Decode;
 use wasmprinter_bytes::{Error, Malformed};
 use wasmprinter_ops::expression::{Expression, OperatorsReader};
 use wasmprinter_ops::{ValType, read_type};
@@ -34,11 +35,11 @@ pub struct LocalEntry {
 impl Model for LocalEntry {
     ghost use Rattle.wasmprinter_spec.specs.Grammar.{Placed};
     ghost use Rattle.wasmprinter_spec.specs.Placed.{LocalEntry as LocalEntryValue};
-    ghost use Rattle.wasmprinter_ops.specs.ValTypes.{type_view};
+    ghost use Rattle.wasmprinter_ops.specs.ValTypes.{val_type_view};
 
     ghost Value = { Placed LocalEntryValue };
 
-    ghost view = { λ e. record { place = e.place; value = record { count = e.count; type = type_view e.val_type } } };
+    ghost view = { λ e. record { place = e.place; value = record { count = e.count; type = val_type_view e.val_type } } };
 }
 
 impl Decode for LocalEntry {
@@ -73,7 +74,7 @@ impl LocalEntry {
 
     /// Returns the type of the locals.
     pub fn val_type(&self) -> ValType
-        ensures { type_view result ≡ self.now.value.type }
+        ensures { val_type_view result ≡ self.now.value.type }
     {
         self.val_type
     }

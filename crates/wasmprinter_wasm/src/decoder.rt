@@ -31,8 +31,8 @@ use wasmprinter_bytes::{Error, Malformed};
 /// The preamble: the magic number and the version.
 const PREAMBLE: [u8; 8] = [0x00, 0x61, 0x73, 0x6d, 0x01, 0x00, 0x00, 0x00];
 
-/// Reports whether the bytes are marked as a component.
-fn is_component(wasm: &[u8]) -> bool
+/// Reports whether the bytes are marked as a component. [`decode`] then returns `Error::Component`.
+pub fn is_component(wasm: &[u8]) -> bool
     ensures { IsTrue result ↔ IsComponent wasm.now }
 {
     matches!(wasm, [0x00, 0x61, 0x73, 0x6d, _, _, 0x01, 0x00, ..])

@@ -5,7 +5,7 @@ ghost use Rattle.wasmprinter_wasm.specs.Externs.{global_type_view};
 
 use wasmprinter_bytes::Malformed;
 use wasmprinter_bytes::cursor::Cursor;
-use wasmprinter_ops::composite::read_mutability;
+use wasmprinter_ops::composite_types::read_mutability;
 use wasmprinter_ops::{ValType, read_type};
 
 /// The type of a global (section 2.3, "Global Types").

@@ -32,7 +32,7 @@ pub use code::{Body, BodyParts, LocalEntry, Locals};
 pub use custom_placement::{CustomEntry, SectionKind};
 pub use customs::Custom;
 pub use data_segments::{Data, DataMode};
-pub use decoder::decode;
+pub use decoder::{decode, is_component};
 pub use elements::{Element, ElementItems, ElementMode};
 pub use exports::{Export, ExternKind};
 pub use function::Function;

@@ -19,7 +19,7 @@ use crate::tables::Table;
 use crate::tags::Tag;
 use crate::types::{TypeGroup, Types};
 use std::marker::Model;
-use wasmprinter_ops::composite::FuncType;
+use wasmprinter_ops::composite_types::FuncType;
 
 /// A decoded module. Its names, expressions and data are slices of the bytes that were decoded.
 #[derive(Drop)]

@@ -1,6 +1,6 @@
 //! The names in the name sections of a module.
 ghost use Rattle.std.specs.Prelude.{◌≡◌, ℕ, [], IsOk, IfOk, IfErr};
-ghost use Rattle.wasmprinter_bytes.specs.declared.error.Error.TheVariants.{Memory};
+ghost use Rattle.wasmprinter_bytes.specs.declared.library_error.Error.TheVariants.{Memory};
 ghost use Rattle.wasmprinter_spec.specs.Names.Content.{name_of};
 ghost use Rattle.wasmprinter_spec.specs.ModuleNames.{name_entries};
 ghost use Rattle.wasmprinter_custom.specs.Views.{name_at};
@@ -22,7 +22,7 @@ impl<'a> Module<'a> {
         ensures memory { IfErr result (λ e. e ≡ Memory) }
 
         // Without a name no allocation is needed.
-        ensures needed { name_entries self.now.customs ≡ [] → IsOk result }
+        ensures succeeds { name_entries self.now.customs ≡ [] → IsOk result }
     {
         let mut builder = NamesBuilder::new(alloc);
         for custom in self.customs() {

@@ -13,7 +13,7 @@ use std::marker::Model;
 use wasmprinter_bytes::cursor::Cursor;
 use wasmprinter_bytes::lists::{DecodeIn, read_list};
 use wasmprinter_bytes::{Error, Malformed};
-use wasmprinter_ops::composite::{CompositeType, FuncType, SubType, SubTypes};
+use wasmprinter_ops::composite_types::{CompositeType, FuncType, SubType, SubTypes};
 
 /// The byte before the types of an explicit group.
 const REC: u8 = 0x4e;
@@ -22,7 +22,7 @@ const REC: u8 = 0x4e;
 #[derive(Drop)]
 pub struct TypeGroup<'a> {
     place: u64,
-    is_written: bool,
+    is_explicit: bool,
     types: SubTypes<'a>,
 }
 
@@ -33,9 +33,9 @@ impl<'a> Model for TypeGroup<'a> {
 
     ghost Value = { Placed TypeGroupValue };
 
-    ghost view = { λ g. record { place = g.place; value = type_group g.is_written g.types } };
+    ghost view = { λ g. record { place = g.place; value = type_group g.is_explicit g.types } };
 
-    ghost invariant = { λ g. g.is_written ≡ true → g.place + 2 < 2 ^ 64 };
+    ghost invariant = { λ g. g.is_explicit ≡ true → g.place + 2 < 2 ^ 64 };
 }
 
 impl<'a> DecodeIn<'a> for TypeGroup<'a> {
@@ -43,8 +43,8 @@ impl<'a> DecodeIn<'a> for TypeGroup<'a> {
 
     fn read(cursor: &mut Cursor<'a>) -> Result<TypeGroup<'a>, Malformed> {
         let start = cursor.fork();
-        let is_written = start.peek() == Some(REC);
-        let types = if is_written {
+        let is_explicit = start.peek() == Some(REC);
+        let types = if is_explicit {
             cursor.u8()?;
             SubTypes::read(cursor)?
         } else {
@@ -52,7 +52,7 @@ impl<'a> DecodeIn<'a> for TypeGroup<'a> {
         };
         Ok(TypeGroup {
             place: start.place(),
-            is_written,
+            is_explicit,
             types,
         })
     }
@@ -66,17 +66,17 @@ impl<'a> TypeGroup<'a> {
         self.place
     }
 
-    /// Reports whether the group is explicit. If not, it is a single type that is not in a group.
-    pub fn is_written(&self) -> bool
-        ensures { result ≡ self.now.value.written }
+    /// Reports whether the bytes mark the group as one (byte 4E). Otherwise it is a single type without that mark.
+    pub fn is_explicit(&self) -> bool
+        ensures { result ≡ self.now.value.explicit }
     {
-        self.is_written
+        self.is_explicit
     }
 
     /// Returns the place after the first two bytes of an explicit group. The lines of all its
     /// types start with this place.
     pub fn types_place(&self) -> u64
-        requires { self.now.value.written ≡ true }
+        requires { self.now.value.explicit ≡ true }
         ensures { result ≡ self.now.place + 2 }
     {
         self.place + 2

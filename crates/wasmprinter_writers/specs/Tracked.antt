@@ -2,7 +2,7 @@
 use Rattle.std.specs.Prelude.{ℕ, List, [], ◌∷◌, ◌++◌, Bool, true, false, Option, Some, None, is_some, length}
 use Rattle.wasmprinter_spec.specs.Lines.{TextLine}
 use Rattle.wasmprinter_writers.specs.Cuts.{lines_at_starts}
-use Rattle.wasmprinter_writers.specs.declared.lines.LineStart.{LineStart}
+use Rattle.wasmprinter_writers.specs.declared.line_iterator.LineStart.{LineStart}
 
 -- The text, its lines, whether the last line has started and got no text yet, and whether a line was lost.
 pub record Tracked : Type 0 where

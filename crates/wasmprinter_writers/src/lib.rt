@@ -3,27 +3,27 @@
 #![tactic(auto)]
 
 mod ansi;
-mod bytes;
-mod color;
 mod color_spec;
 mod io_write;
+mod line_iterator;
 mod line_tracker;
-mod line_tracker_law;
-mod lines;
 mod no_color;
+mod no_line_lost;
 mod output_laws;
 mod termcolor;
+mod terminal_colors;
+mod write_bytes;
 mod write_color;
 
 pub use ansi::Ansi;
-pub use bytes::WriteBytes;
-pub use color::Color;
 pub use color_spec::ColorSpec;
 pub use io_write::PrintIoWrite;
+pub use line_iterator::{LineStart, OffsetsAndLines};
 pub use line_tracker::LineTracker;
-pub use line_tracker_law::no_line_is_lost;
-pub use lines::{LineStart, OffsetsAndLines};
 pub use no_color::NoColor;
+pub use no_line_lost::no_line_is_lost;
 pub use output_laws::{ansi_gains_colored_text, io_write_gains_text, no_color_gains_text};
 pub use termcolor::PrintTermcolor;
+pub use terminal_colors::Color;
+pub use write_bytes::WriteBytes;
 pub use write_color::WriteColor;

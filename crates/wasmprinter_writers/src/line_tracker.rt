@@ -3,7 +3,7 @@ ghost use Rattle.std.specs.Prelude.{◌≡◌, ◌+◌, ◌≤◌, ◌↔◌, fa
 ghost use Rattle.std.specs.String.{string_len, string_capacity};
 ghost use Rattle.wasmprinter_writers.specs.Tracking.{tracked_meaning};
 
-use crate::lines::LineStart;
+use crate::line_iterator::LineStart;
 use std::alloc::{AllocError, Global};
 use std::io;
 use std::marker::Model;
@@ -14,7 +14,7 @@ use wasmprinter_print::Print;
 /// Styles write nothing, and no custom section is claimed. If an allocation fails, a call that writes text returns an
 /// error of the kind `OutOfMemory`, and leaves the text and its lines unchanged; `write_each_char` keeps the
 /// characters before the failure. `start_line` allocates nothing: the line waits for its entry until the next call
-/// that writes text. If another line starts before then, that line is lost, and all later calls that write text fail
+/// that writes text. If another line starts before then, the new line is lost, and all later calls that write text fail
 /// as if out of memory.
 #[derive(Drop)]
 pub struct LineTracker {
@@ -31,13 +31,13 @@ impl Model for LineTracker {
     ghost use Rattle.std.specs.String.{string_bytes};
     ghost use Rattle.std.specs.Prelude.{◌++◌, length};
     ghost use Rattle.wasmprinter_writers.specs.Tracked.{Tracked, waiting_start, tracked_of};
-    ghost use Rattle.wasmprinter_writers.specs.Cuts.{IsCuttable};
+    ghost use Rattle.wasmprinter_writers.specs.Cuts.{AreLineStarts};
 
     ghost Value = { Tracked };
 
     ghost view = { λ t. tracked_of (string_bytes t.text) t.starts.items t.waiting t.lost };
 
-    ghost invariant = { λ t. IsCuttable (t.starts.items ++ waiting_start t.waiting (length (string_bytes t.text))) (string_bytes t.text) };
+    ghost invariant = { λ t. AreLineStarts (t.starts.items ++ waiting_start t.waiting (length (string_bytes t.text))) (string_bytes t.text) };
 }
 
 /// Reports whether a piece fits into the remaining capacity of a text, so that appending it needs no allocation.
@@ -53,7 +53,7 @@ impl LineTracker {
     ghost use Rattle.wasmprinter_spec.specs.Call.{Text};
     ghost use Rattle.wasmprinter_print.specs.Made.{Made, ending};
     ghost use Rattle.wasmprinter_writers.specs.Tracked.{without_lines, with_text};
-    ghost use Rattle.wasmprinter_writers.specs.Cuts.{lines_at_starts, IsCuttable};
+    ghost use Rattle.wasmprinter_writers.specs.Cuts.{lines_at_starts, AreLineStarts};
 
     /// Returns a tracker that appends to `text`, without lines. Allocates no memory.
     pub fn new(alloc: Global, text: String) -> LineTracker
@@ -71,9 +71,9 @@ impl LineTracker {
     /// line was lost.
     fn enter(&mut self) -> Result<(), AllocError>
         ensures ok { OnOk result (self.new ≡ record self.old { new_line = false }) }
-        ensures kept { OnOk result (self.new.lost ≡ false) }
+        ensures none_lost { OnOk result (self.new.lost ≡ false) }
         ensures err { OnErr result (self.new ≡ self.old) }
-        ensures needed { self.old.new_line ≡ false → self.old.lost ≡ false → IsOk result }
+        ensures succeeds { self.old.new_line ≡ false → self.old.lost ≡ false → IsOk result }
     {
         if self.lost {
             return Err(AllocError);
@@ -90,7 +90,7 @@ impl LineTracker {
     /// a line was lost. The text and its lines are then unchanged.
     fn push_str(&mut self, piece: &str) -> Result<(), AllocError>
         ensures ok { OnOk result (self.new ≡ with_text self.old piece.now) }
-        ensures kept { OnOk result (self.new.lost ≡ false) }
+        ensures none_lost { OnOk result (self.new.lost ≡ false) }
         ensures text { OnErr result (self.new.text ≡ self.old.text) }
         ensures lines { OnErr result (self.new.lines ≡ self.old.lines) }
         ensures lost { OnErr result (self.new.lost ≡ self.old.lost) }
@@ -111,7 +111,8 @@ impl LineTracker {
         Ok(())
     }
 
-    /// Returns the text and the starts of its lines. The text is returned even if the line starts are not.
+    /// Returns the text and the starts of its lines. The text is returned even if the line starts are not. The starts do
+    /// not decrease, and each is at a character boundary of the text, so the text can be cut at them.
     ///
     /// # Errors
     ///
@@ -120,9 +121,9 @@ impl LineTracker {
     pub fn finish(mut self) -> (String, Result<Vec<LineStart>, AllocError>)
         ensures text { string_bytes result.0 ≡ self.text }
         ensures lines { IfOk result.1 (λ starts. lines_at_starts starts.items self.text ≡ self.lines) }
-        ensures cuttable { IfOk result.1 (λ starts. IsCuttable starts.items self.text) }
-        ensures kept { OnOk result.1 (self.lost ≡ false) }
-        ensures needed { self.new_line ≡ false → self.lost ≡ false → IsOk result.1 }
+        ensures boundaries { IfOk result.1 (λ starts. AreLineStarts starts.items self.text) }
+        ensures none_lost { OnOk result.1 (self.lost ≡ false) }
+        ensures succeeds { self.new_line ≡ false → self.lost ≡ false → IsOk result.1 }
     {
         let entered = self.enter();
         let LineTracker {

@@ -6,7 +6,7 @@ use std::test::Fail;
 use wasmprinter_bytes::Error;
 use wasmprinter_ops::expression::OperatorsReader;
 use wasmprinter_samples::{IDENTITY, PREAMBLE};
-use wasmprinter_wasm::{Fields, Module, decode};
+use wasmprinter_wasm::{Fields, Module, decode, is_component};
 
 /// A type section with one function type, without parameters and results.
 pub(crate) const TYPES: &[u8] = &[0x01, 0x04, 0x01, 0x60, 0x00, 0x00];
@@ -172,6 +172,39 @@ fn first_other_prefix(alloc: Global, wasm: &[u8]) -> Option<usize> {
 fn prefixes_are_accepted_after_sections_alone(rt: HostRuntime) {
     let other = first_other_prefix(rt.alloc(), IDENTITY);
     assert!(rt; other == None, "at {other:?}");
+}
+
+/// Bytes, and whether they are marked as a component: by the magic number, any version, and the layer 1.
+const MARKS: &[(&[u8], bool)] = &[
+    (&[0x00, 0x61, 0x73, 0x6d, 0x0d, 0x00, 0x01, 0x00], true),
+    (&[0x00, 0x61, 0x73, 0x6d, 0x01, 0x00, 0x01, 0x00], true),
+    (
+        &[0x00, 0x61, 0x73, 0x6d, 0xff, 0xff, 0x01, 0x00, 0x00],
+        true,
+    ),
+    (&[0x00, 0x61, 0x73, 0x6d, 0x01, 0x00, 0x00, 0x00], false),
+    (&[0x00, 0x61, 0x73, 0x6d, 0x0d, 0x00, 0x02, 0x00], false),
+    (&[0x00, 0x61, 0x73, 0x6d, 0x0d, 0x00, 0x01, 0x01], false),
+    (&[0x01, 0x61, 0x73, 0x6d, 0x0d, 0x00, 0x01, 0x00], false),
+    (&[0x00, 0x61, 0x73, 0x6d, 0x0d, 0x00, 0x01], false),
+    (&[], false),
+];
+
+/// Returns the number of the first of these rows, counted from 0, that is judged otherwise, or `None` if there is no
+/// such row.
+fn first_other_mark(rows: &[(&[u8], bool)]) -> Option<usize> {
+    for (number, (bytes, is_marked)) in rows.iter().enumerate() {
+        if is_component(bytes) != *is_marked {
+            return Some(number);
+        }
+    }
+    None
+}
+
+#[test]
+fn recognizes_components(rt: HostRuntime) {
+    let other = first_other_mark(MARKS);
+    assert!(rt; other == None, "row {other:?}");
 }
 
 /// A module: the name of the row, the bytes that it begins with, its sections, and the expected result.

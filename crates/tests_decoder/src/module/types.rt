@@ -5,15 +5,15 @@ use crate::module::modules::{Compared, Expected, are_all, are_as};
 use std::alloc::{AllocError, Global};
 use std::test::Fail;
 use wasmprinter_ops::ValType;
-use wasmprinter_ops::composite::FuncType;
+use wasmprinter_ops::composite_types::FuncType;
 use wasmprinter_wasm::{Fields, Limits, MemoryType, Module, TypeGroup};
 
 /// A group of types: its place, whether it is written as a group, and the number of its types.
 type Group = (u64, bool, u32);
 
 impl Compared<Group> for TypeGroup<'_> {
-    fn is(&self, (place, is_written, len): &Group) -> bool {
-        self.place() == *place && self.is_written() == *is_written && self.types().len() == *len
+    fn is(&self, (place, is_explicit, len): &Group) -> bool {
+        self.place() == *place && self.is_explicit() == *is_explicit && self.types().len() == *len
     }
 }
 

@@ -1,6 +1,6 @@
 //! Tests of the text of custom sections. The bytes and the texts are typed by hand.
 ghost use Rattle.std.specs.Prelude.{◌≡◌, None, false};
-ghost use Rattle.wasmprinter_spec.specs.Options.{in_colors};
+ghost use Rattle.wasmprinter_spec.specs.Options.{with_color};
 
 use crate::parts::printing::finish;
 use std::alloc::Global;
@@ -10,7 +10,7 @@ use std::marker::Brand;
 use std::test::Fail;
 use wasmprinter_bytes::Error;
 use wasmprinter_bytes::cursor::Cursor;
-use wasmprinter_print::{Chosen, Print, PrintOptions, Printer};
+use wasmprinter_print::{LayoutOptions, Print, PrintOptions, Printer};
 use wasmprinter_samples::expect_same;
 use wasmprinter_sections::{write_custom, write_customs};
 use wasmprinter_wasm::custom_placement::{CustomEntry, SectionKind};
@@ -117,12 +117,12 @@ impl<'a> Print for Taker<'a> {
 }
 
 /// Prints a section with the options of `K`. Returns whether a line began, or the error.
-fn print_section_by<K: Chosen>(
+fn print_section_by<K: LayoutOptions>(
     printer: &mut Taker<'_>,
     options: &PrintOptions,
     section: &CustomEntry<'_>,
 ) -> Result<bool, Error>
-    requires { in_colors options.now K.options.color ≡ K.options }
+    requires { with_color options.now K.options.color ≡ K.options }
 {
     let mut out: Printer<'_, '_, Taker<'_>, K> = Printer::new(printer, options);
     write_custom(&mut out, section);

@@ -11,7 +11,7 @@ use wasmprinter_bytes::cursor::Cursor;
 use wasmprinter_custom::{FunctionHints, Hints, Identifiers};
 use wasmprinter_flat::open_labels::OpenLabels;
 use wasmprinter_flat::operators::{Form, Setting, write_operators};
-use wasmprinter_ops::composite::FuncType;
+use wasmprinter_ops::composite_types::FuncType;
 use wasmprinter_ops::expression::Expression;
 use wasmprinter_print::{PrintFmtWrite, PrintOptions, Printer};
 use wasmprinter_samples::expect_same;

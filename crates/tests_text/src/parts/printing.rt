@@ -4,7 +4,7 @@ use std::alloc::Global;
 use wasmprinter_bytes::Error;
 use wasmprinter_bytes::cursor::Cursor;
 use wasmprinter_custom::{Names, NamesBuilder, read_names};
-use wasmprinter_print::{Chosen, Printer};
+use wasmprinter_print::{LayoutOptions, Printer};
 
 /// Returns the names that the content of a name section gives.
 pub(crate) fn names_of<'a>(alloc: Global, section: &'a [u8]) -> Result<Names<'a>, Error> {
@@ -14,7 +14,7 @@ pub(crate) fn names_of<'a>(alloc: Global, section: &'a [u8]) -> Result<Names<'a>
 }
 
 /// Ends printing. Returns whether a line began, or the error.
-pub(crate) fn finish<P, K: Chosen>(out: Printer<'_, '_, P, K>) -> Result<bool, Error> {
+pub(crate) fn finish<P, K: LayoutOptions>(out: Printer<'_, '_, P, K>) -> Result<bool, Error> {
     let Printer {
         printer: _,
         options: _,

@@ -9,7 +9,7 @@ use Rattle.wasmprinter_spec.specs.Names.Section.{label_subsection}
 use Rattle.wasmprinter_custom.specs.Views.{NamedItem, name_at}
 use Rattle.wasmprinter_custom.specs.Labels.{NamedLabel, labels_in, label_at, IsBefore, Ascend, AreOfLabels}
 use Rattle.wasmprinter_custom.specs.LabelViews.{label_view}
-use Rattle.wasmprinter_custom.specs.declared.store.LabelName.{LabelName}
+use Rattle.wasmprinter_custom.specs.declared.names.LabelName.{LabelName}
 use Rattle.wasmprinter_flat.specs.OpenLabels.Stack.{Stack}
 use Rattle.wasmprinter_flat.specs.OpenLabels.Numbers.{AreNumbered}
 use Rattle.wasmprinter_flat.specs.OpenLabels.Inside.{IsAhead, IsCursor, IsKept}

@@ -4,7 +4,7 @@ use Rattle.wasmprinter_spec.specs.Row.{Role}
 use Rattle.wasmprinter_spec.specs.Labels.{Label, labels_after, count_after, labels_outside, labels_inside}
 use Rattle.wasmprinter_spec.specs.Names.{Names, names_by}
 use Rattle.wasmprinter_custom.specs.Views.{NamedItem, name_at}
-use Rattle.wasmprinter_custom.specs.declared.identifiers.Identifiers.{Identifiers}
+use Rattle.wasmprinter_custom.specs.declared.item_identifiers.Identifiers.{Identifiers}
 use Rattle.wasmprinter_flat.specs.OpenLabels.Found.{Found, found_among}
 
 -- The names of the module and whether identifiers are synthesized; the function, the number of blocks opened in

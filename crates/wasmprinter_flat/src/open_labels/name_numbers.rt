@@ -38,7 +38,7 @@ pub(crate) fn numbered_labels<'n>(
 ) -> Result<Vec<NumberedLabel<'n>>, AllocError>
     ensures labels { IfOk result (λ v. map (λ x. x.label) v.items ≡ labels.now) }
     ensures numbers { IfOk result (λ v. AreNumbered v.items) }
-    ensures needed { labels.now ≡ [] → IsOk result }
+    ensures succeeds { labels.now ≡ [] → IsOk result }
 {
     let mut numbers = BTreeMap::new(alloc);
     let mut numbered = Vec::with_capacity(alloc, labels.len())?;

@@ -55,7 +55,7 @@ impl<'n> Model for NamedBlocks<'n> {
 /// Returns a table without a block for each number below `limit`.
 fn no_blocks(alloc: Global, limit: usize) -> Result<Vec<Option<usize>>, AllocError>
     ensures none { IfOk result (λ v. v.items ≡ replicate limit None) }
-    ensures needed { limit ≡ 0 → IsOk result }
+    ensures succeeds { limit ≡ 0 → IsOk result }
 {
     let mut none = Vec::with_capacity(alloc, limit)?;
     for _ in 0..limit {
@@ -70,7 +70,7 @@ impl<'n> NamedBlocks<'n> {
     /// Creates an empty stack with room for `limit` blocks, whose numbers must be below `limit`.
     pub(crate) fn new(alloc: Global, limit: usize) -> Result<Self, AllocError>
         ensures none { IfOk result (λ s. s ≡ record { blocks = []; limit = limit }) }
-        ensures needed { limit ≡ 0 → IsOk result }
+        ensures succeeds { limit ≡ 0 → IsOk result }
     {
         Ok(NamedBlocks {
             blocks: Vec::with_capacity(alloc, limit)?,

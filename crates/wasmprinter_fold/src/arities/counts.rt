@@ -3,7 +3,7 @@ ghost use Rattle.std.specs.Prelude.{◌≡◌, length, option_map};
 ghost use Rattle.wasmprinter_spec.specs.Folding.Arities.{operands_and_results, saturating_sum};
 ghost use Rattle.wasmprinter_fold.specs.Counted.{counts_view};
 
-use wasmprinter_ops::composite::FuncType;
+use wasmprinter_ops::composite_types::FuncType;
 
 /// The number of operands that an operator takes and of results that it gives.
 #[derive(Clone, Copy, Debug, PartialEq, Eq)]

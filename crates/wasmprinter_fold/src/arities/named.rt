@@ -7,9 +7,9 @@ ghost use Rattle.wasmprinter_fold.specs.Named.{index_in, type_in, last_label_in,
 ghost use Rattle.wasmprinter_fold.specs.Named.{function_named, tag_named, type_named};
 ghost use Rattle.wasmprinter_fold.specs.Named.{field_count_named, block_gives_in};
 
-use crate::arities::blocks::block_results;
-use crate::arities::callees::CalleeTypes;
-use wasmprinter_ops::composite::FuncType;
+use crate::arities::block_types::block_results;
+use crate::arities::callee_types::CalleeTypes;
+use wasmprinter_ops::composite_types::FuncType;
 use wasmprinter_ops::operator::Immediates;
 
 /// Returns the index, if it is the only immediate.

@@ -2,7 +2,7 @@
 ghost use Rattle.std.specs.Prelude.{◌≡◌, [], IfOk};
 ghost use Rattle.std.specs.List.{flat_map};
 ghost use Rattle.std.specs.Result.{IfErr};
-ghost use Rattle.wasmprinter_bytes.specs.declared.error.Error.TheVariants.{FoldLegacy, FoldHint};
+ghost use Rattle.wasmprinter_bytes.specs.declared.library_error.Error.TheVariants.{FoldLegacy, FoldHint};
 ghost use Rattle.wasmprinter_spec.specs.Folding.Refusals.{legacy_places_in, legacy_places, lists_before_code, body_lists, misplaced_hints};
 ghost use Rattle.wasmprinter_fold.specs.Refused.{error_of_first, HasFoldReason};
 

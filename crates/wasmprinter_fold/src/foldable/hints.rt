@@ -1,7 +1,7 @@
 //! Branch hints on operators whose folded text can't hold them (Code Metadata, a document beside the
 //! standard).
 ghost use Rattle.std.specs.Prelude.{◌≡◌, None, is_some, codes};
-ghost use Rattle.wasmprinter_bytes.specs.declared.error.Error.TheVariants.{FoldHint};
+ghost use Rattle.wasmprinter_bytes.specs.declared.library_error.Error.TheVariants.{FoldHint};
 ghost use Rattle.wasmprinter_spec.specs.Types.{FuncKind};
 ghost use Rattle.wasmprinter_spec.specs.Customs.Hints.{last_named, hints_of};
 ghost use Rattle.wasmprinter_spec.specs.Folding.Refusals.{is_hintless, place_if_misplaced, misplaced_hints_in, misplaced_hints_from};

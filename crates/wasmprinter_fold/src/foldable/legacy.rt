@@ -1,7 +1,7 @@
 //! Operators of legacy exception handling (the first form of the exception handling proposal), which have no folded
 //! text.
 ghost use Rattle.std.specs.Prelude.{◌≡◌};
-ghost use Rattle.wasmprinter_bytes.specs.declared.error.Error.TheVariants.{FoldLegacy};
+ghost use Rattle.wasmprinter_bytes.specs.declared.library_error.Error.TheVariants.{FoldLegacy};
 ghost use Rattle.wasmprinter_spec.specs.Folding.Refusals.{legacy_places_in};
 ghost use Rattle.wasmprinter_fold.specs.Refused.{error_of_first};
 

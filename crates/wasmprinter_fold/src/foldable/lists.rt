@@ -1,7 +1,7 @@
 //! The lists of operators in a module's definitions (section 2.5 of the WebAssembly Core Specification, "Modules").
 ghost use Rattle.std.specs.Prelude.{◌≡◌, ◌∷◌, [], map};
 ghost use Rattle.std.specs.List.{flat_map};
-ghost use Rattle.wasmprinter_bytes.specs.declared.error.Error.TheVariants.{FoldLegacy};
+ghost use Rattle.wasmprinter_bytes.specs.declared.library_error.Error.TheVariants.{FoldLegacy};
 ghost use Rattle.wasmprinter_spec.specs.Folding.Refusals.{legacy_places_in, init_list, element_lists, offset_list, item_lists, data_lists};
 ghost use Rattle.wasmprinter_wasm.specs.Segments.{element_mode_view, element_items_view};
 ghost use Rattle.wasmprinter_fold.specs.Refused.{error_of_first};

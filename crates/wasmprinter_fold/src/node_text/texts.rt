@@ -2,7 +2,7 @@
 ghost use Rattle.std.specs.Prelude.{◌≡◌, false};
 ghost use Rattle.wasmprinter_fold.specs.Buffers.{texts_meaning};
 
-use crate::node_text::semicolons::{Semicolons, UNSEEN, see_text};
+use crate::node_text::line_comment_scan::{Semicolons, UNSEEN, see_text};
 use crate::nodes::NodeText;
 use std::alloc::{AllocError, Global};
 use std::io;

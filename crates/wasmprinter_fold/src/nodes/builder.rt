@@ -167,8 +167,8 @@ impl Builder {
         Ok(())
     }
 
-    /// Opens an `if` and its first case, whose node gets the head `then`. The last node of the open part becomes the
-    /// predicate.
+    /// Opens an `if` and its first case, whose node gets the head `then`. The last node of the open part, if there is
+    /// one, becomes the predicate.
     ///
     /// # Errors
     ///

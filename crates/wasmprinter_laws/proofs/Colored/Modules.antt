@@ -5,7 +5,7 @@ use Rattle.wasmprinter_spec.specs.Grammar.{Placed}
 use Rattle.wasmprinter_spec.specs.Types.{signature_at}
 use Rattle.wasmprinter_spec.specs.Row.{Func}
 use Rattle.wasmprinter_spec.specs.Kinds.{Kind, CustomSection, TypeSection, ImportSection, FunctionSection, TableSection, MemorySection, TagSection, GlobalSection, ExportSection, StartSection, ElementSection, DataCountSection, CodeSection, DataSection}
-use Rattle.wasmprinter_spec.specs.Customs.Hints.{Hint, FunctionHints, hints_of, next_hints, hints_after}
+use Rattle.wasmprinter_spec.specs.Customs.Hints.{Hint, FunctionHints, hints_of, hints_of_next, entries_after}
 use Rattle.wasmprinter_spec.specs.Names.{Names}
 use Rattle.wasmprinter_spec.specs.ModuleNames.{module_names}
 use Rattle.wasmprinter_spec.specs.Indexed.{parameter_count}
@@ -20,7 +20,7 @@ use Rattle.wasmprinter_spec.specs.Layout.Types.{type_section_pieces}
 use Rattle.wasmprinter_spec.specs.Layout.Functions.{local_pieces, over_lines, result_count, body_pieces, inner_pieces, function_group, function_pieces, functions_pieces}
 use Rattle.wasmprinter_spec.specs.Layout.Imports.{no_numbers}
 use Rattle.wasmprinter_spec.specs.Layout.Customs.{Part, Shown, Stops, parts_at, Laid, laid_parts}
-use Rattle.wasmprinter_spec.specs.Layout.{scope_before, early_scope, section_pieces, section_order, section_parts, module_parts, module_pieces_of, module_pieces_with, module_pieces, parts_by, pieces_by, refusal}
+use Rattle.wasmprinter_spec.specs.Layout.{scope_before, section_pieces, section_order, section_parts, module_parts, module_pieces_of, module_pieces_with, module_pieces, parts_by, pieces_by, refusal}
 use Rattle.wasmprinter_laws.proofs.Colored.Recolored.{Recolored, none, same, same_all, both, after, closed, in_line_group_space, numbered_so}
 use Rattle.wasmprinter_laws.proofs.Colored.Nodes.{Bared, flat, folded, body_so}
 use Rattle.wasmprinter_laws.proofs.Colored.Fields.{in_way, table_so, global_so, element_so, data_so, imports_same, memory_same, header_same, tag_same, export_same, start_same}
@@ -67,7 +67,7 @@ module _ (x y : Option Folding) (d : Bared x y) where
       Recolored (functions_pieces o (in_way s x) es i fs) (functions_pieces (without_color o) (in_way s y) es i fs)
   unfolding functions_pieces
   functions_so o s es i [] = none
-  functions_so o s es i (f ∷ fs) = both (function_so o s i (next_hints i es) f) (functions_so o s (hints_after i es) (i + 1) fs)
+  functions_so o s es i (f ∷ fs) = both (function_so o s i (hints_of_next i es) f) (functions_so o s (entries_after i es) (i + 1) fs)
 
 -- ---- parts
 

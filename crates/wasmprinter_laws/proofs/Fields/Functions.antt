@@ -10,7 +10,7 @@ use Rattle.wasmprinter_spec.specs.Row.{Space, Types, Func}
 use Rattle.wasmprinter_spec.specs.Labels.{Named}
 use Rattle.wasmprinter_spec.specs.Names.{AreNamed, AreDistinct, identifiers_at, identifiers, in_function}
 use Rattle.wasmprinter_spec.specs.Operator.{Operator}
-use Rattle.wasmprinter_spec.specs.Customs.Hints.{Hint, FunctionHints, next_hint, next_hints, hints_after}
+use Rattle.wasmprinter_spec.specs.Customs.Hints.{Hint, FunctionHints, next_hint, hints_of_next, entries_after}
 use Rattle.wasmprinter_spec.specs.Placed.{LocalEntry, PlacedFunction}
 use Rattle.wasmprinter_spec.specs.Module.{without_places, locals_of, function_of}
 use Rattle.wasmprinter_spec.specs.Indexed.{Counts, IsDeclaredVal, IsIndexedOperator, parameter_count}
@@ -79,7 +79,7 @@ function_hinted skeleton s i hs f =
 abbrev pub functions_hinted : Bool → Scope → List FunctionHints → ℕ → List PlacedFunction → Forest
 functions_hinted skeleton s es i [] = End
 functions_hinted skeleton s es i (f ∷ fs) =
-    Group (Word (codes "func") (function_hinted skeleton s i (next_hints i es) f)) (functions_hinted skeleton s (hints_after i es) (i + 1) fs)
+    Group (Word (codes "func") (function_hinted skeleton s i (hints_of_next i es) f)) (functions_hinted skeleton s (entries_after i es) (i + 1) fs)
 
 -- ---- pieces write the items
 

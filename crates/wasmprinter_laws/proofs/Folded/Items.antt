@@ -10,7 +10,7 @@ use Rattle.wasmprinter_spec.specs.Row.{Role, Plain, Opens, OpensIf, OpensTry, El
 use Rattle.wasmprinter_spec.specs.Table.{rows_of, word_of, role_of, shape_of}
 use Rattle.wasmprinter_spec.specs.Labels.{Label, labels_after, count_after, labels_outside, labels_inside}
 use Rattle.wasmprinter_spec.specs.Module.{without_places}
-use Rattle.wasmprinter_spec.specs.Customs.Hints.{Hint, next_hint, hint_after}
+use Rattle.wasmprinter_spec.specs.Customs.Hints.{Hint, next_hint, hints_after}
 use Rattle.wasmprinter_spec.specs.Names.{IsNamedIfAny, AreNamed}
 use Rattle.wasmprinter_spec.specs.Piece.{Piece, Word, flag_byte}
 use Rattle.wasmprinter_spec.specs.Layout.Operators.{Form, Setting, pieces_by}
@@ -200,7 +200,7 @@ module _ (s : Setting) (named : AreNamed s.names) (ranged : AreSignaturesInRange
       let k : IsNamedIfAny own = named.labels s.function n (length xs) in
       let offset : ℕ = o.place - s.body in (
         item_printed (next_hint offset hs) own xs ls o h k l.0,
-        items_printed (hint_after offset hs) (count_after is n) (labels_after is own xs) (labels_after is (label_of_block signatures o.value) ls) os
+        items_printed (hints_after offset hs) (count_after is n) (labels_after is own xs) (labels_after is (label_of_block signatures o.value) ls) os
             (after_labels is own xs k h) l.1,
       )
 
@@ -216,5 +216,5 @@ module _ (s : Setting) (named : AreNamed s.names) (ranged : AreSignaturesInRange
       let k : IsNamedIfAny own = named.labels s.function n (length xs) in
       let offset : ℕ = o.place - s.body in
       ap₂ (λ f cs. chunk (rows_of (word_of o.value.opcode)) f ∷ cs) (item_arguments (next_hint offset hs) own xs ls o h k l.0)
-      (items_chunks (hint_after offset hs) (count_after is n) (labels_after is own xs) (labels_after is (label_of_block signatures o.value) ls) os
+      (items_chunks (hints_after offset hs) (count_after is n) (labels_after is own xs) (labels_after is (label_of_block signatures o.value) ls) os
       (after_labels is own xs k h) l.1)

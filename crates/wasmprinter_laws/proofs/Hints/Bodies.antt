@@ -8,7 +8,7 @@ use Rattle.wasmprinter_spec.specs.Row.{Role}
 use Rattle.wasmprinter_spec.specs.Table.{rows_of, word_of, role_of, shape_of}
 use Rattle.wasmprinter_spec.specs.Labels.{Label, labels_after, count_after, labels_outside, labels_inside}
 use Rattle.wasmprinter_spec.specs.Module.{without_places}
-use Rattle.wasmprinter_spec.specs.Customs.Hints.{Hint, FunctionHints, flag, next_hint, hint_after, next_hints, hints_after}
+use Rattle.wasmprinter_spec.specs.Customs.Hints.{Hint, FunctionHints, flag, next_hint, hints_after, hints_of_next, entries_after}
 use Rattle.wasmprinter_spec.specs.Placed.{PlacedFunction}
 use Rattle.wasmprinter_spec.specs.HintsOfModule.{OperatorHint, operator_hint}
 use Rattle.wasmprinter_spec.specs.Piece.{flag_byte}
@@ -33,12 +33,12 @@ own_hint f k (Some h) = operator_hint f k h.value.taken ∷ []
 -- The hints of operators from k on, in a body that starts at the place `body`
 abbrev pub taken_hints : ℕ → ℕ → ℕ → List (Placed Hint) → List (Placed Operator) → List OperatorHint
 taken_hints f k body hs [] = []
-taken_hints f k body hs (o ∷ os) = own_hint f k (next_hint (o.place - body) hs) ++ taken_hints f (k + 1) body (hint_after (o.place - body) hs) os
+taken_hints f k body hs (o ∷ os) = own_hint f k (next_hint (o.place - body) hs) ++ taken_hints f (k + 1) body (hints_after (o.place - body) hs) os
 
 -- The hints of functions from index i on
 abbrev pub all_taken : List FunctionHints → ℕ → List PlacedFunction → List OperatorHint
 all_taken es i [] = []
-all_taken es i (f ∷ fs) = taken_hints i 0 f.body.place (next_hints i es) f.body.value.operators ++ all_taken (hints_after i es) (i + 1) fs
+all_taken es i (f ∷ fs) = taken_hints i 0 f.body.place (hints_of_next i es) f.body.value.operators ++ all_taken (entries_after i es) (i + 1) fs
 
 -- ---- code
 
@@ -125,7 +125,7 @@ module _ (s : Setting) (f : ℕ) where
       let role : Role = role_of o.value.opcode in
       let own : Label = s.names.labels s.function n (length xs) in
       let ys : List Label = labels_after role own xs in
-      let after : List (Placed Hint) = hint_after (o.place - s.body) hs in
+      let after : List (Placed Hint) = hints_after (o.place - s.body) hs in
       operator_noted (next_hint (o.place - s.body) hs) o.value l.0 (arguments_items s own xs o.value)
       (arguments_by s (labels_inside role xs) (labels_outside role xs) own (shape_of o.value.opcode) o.value.immediates l.0.range)
       (hinted_items s after (count_after role n) ys os) f k (taken_hints f (k + 1) s.body after os)

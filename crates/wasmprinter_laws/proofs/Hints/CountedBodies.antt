@@ -15,7 +15,7 @@ use Rattle.wasmprinter_spec.specs.Labels as labels
 use Rattle.wasmprinter_spec.specs.Labels.{labels_after, count_after, labels_outside, labels_inside}
 use Rattle.wasmprinter_spec.specs.Names.{IsNamedIfAny, AreNamed}
 use Rattle.wasmprinter_spec.specs.Placed.{PlacedFunction}
-use Rattle.wasmprinter_spec.specs.Customs.Hints.{Hint, FunctionHints, next_hint, hint_after, next_hints, hints_after}
+use Rattle.wasmprinter_spec.specs.Customs.Hints.{Hint, FunctionHints, next_hint, hints_after, hints_of_next, entries_after}
 use Rattle.wasmprinter_spec.specs.HintsOfModule.{OperatorHint}
 use Rattle.wasmprinter_spec.specs.Indexed.{parameter_count}
 use Rattle.wasmprinter_spec.specs.Layout.Variables.{variable_groups}
@@ -68,7 +68,7 @@ module _ (s : Setting) (named : AreNamed s.names) (ranged : AreSignaturesInRange
       let own : labels.Label = s.names.labels s.function n (length xs) in
       let own_named : IsNamedIfAny own = named.labels s.function n (length xs) in
       let hint : Option (Placed Hint) = next_hint (o.place - s.body) hs in
-      let after : List (Placed Hint) = hint_after (o.place - s.body) hs in
+      let after : List (Placed Hint) = hints_after (o.place - s.body) hs in
       let a : Forest = arguments_items s own xs o.value in
       let rest : Forest = hinted_items s after (count_after role n) (labels_after role own xs) os in
       hint_count-hint_items hint (Word (word_of o.value.opcode) (onto a rest))
@@ -87,9 +87,9 @@ module _ (s : Setting) (signatures : Signatures) (f : ℕ) where
       let r : Role = role_of o.value.opcode in
       let own : labels.Label = s.names.labels s.function n (length xs) in
       let offset : ℕ = o.place - s.body in
-      let after : List Item = items s signatures (hint_after offset hs) (count_after r n) (labels_after r own xs) (labels_after r (label_of_block signatures o.value) ls) os in
-      taken_count f k (next_hint offset hs) (taken_hints f (k + 1) s.body (hint_after offset hs) os) (item_hints after)
-      (items_count os (hint_after offset hs) (count_after r n) (labels_after r own xs) (labels_after r (label_of_block signatures o.value) ls) (k + 1))
+      let after : List Item = items s signatures (hints_after offset hs) (count_after r n) (labels_after r own xs) (labels_after r (label_of_block signatures o.value) ls) os in
+      taken_count f k (next_hint offset hs) (taken_hints f (k + 1) s.body (hints_after offset hs) os) (item_hints after)
+      (items_count os (hints_after offset hs) (count_after r n) (labels_after r own xs) (labels_after r (label_of_block signatures o.value) ls) (k + 1))
 
   folded_count : AreNamed s.names → AreSignaturesInRange s.signature → (hs : List (Placed Hint)) (os : List (Placed Operator)) → AllByRecursion IsListed (without_places os) →
       Nests Sequence (roles os) → AreWithoutTry (roles os) → misplaced_hints_in s.body hs os ≡ [] →
@@ -144,9 +144,9 @@ module _ (s : Scope) (named : AreNamed s.names) (ranged : AreSignaturesInRange (
       hint_count (functions_hinted false s es i fs) ≡ length (all_taken es i fs)
   functions_count es i [] small k l fit = refl
   functions_count es i (f ∷ fs) small k l fit =
-      let own : List OperatorHint = taken_hints i 0 f.body.place (next_hints i es) f.body.value.operators in
-      let after : List OperatorHint = all_taken (hints_after i es) (i + 1) fs in
-      let parts = λ (e : is_folding s.folding ≡ true). nothing_joined (misplaced_hints_in f.body.place (next_hints i es) f.body.value.operators) (misplaced_hints_from (hints_after i es) (i + 1) fs) (fit e) in
-      let first = function_count i (next_hints i es) f (omega (arith, small)) k.0 l.0 (λ e. (parts e).0) in
-      let rest = functions_count (hints_after i es) (i + 1) fs (omega (arith, small)) k.1 l.1 (λ e. (parts e).1) in
+      let own : List OperatorHint = taken_hints i 0 f.body.place (hints_of_next i es) f.body.value.operators in
+      let after : List OperatorHint = all_taken (entries_after i es) (i + 1) fs in
+      let parts = λ (e : is_folding s.folding ≡ true). nothing_joined (misplaced_hints_in f.body.place (hints_of_next i es) f.body.value.operators) (misplaced_hints_from (entries_after i es) (i + 1) fs) (fit e) in
+      let first = function_count i (hints_of_next i es) f (omega (arith, small)) k.0 l.0 (λ e. (parts e).0) in
+      let rest = functions_count (entries_after i es) (i + 1) fs (omega (arith, small)) k.1 l.1 (λ e. (parts e).1) in
       omega (arith, first, rest, length-append own after)

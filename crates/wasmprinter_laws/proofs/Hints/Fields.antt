@@ -10,7 +10,7 @@ use Rattle.wasmprinter_spec.specs.Names.{Names, AreNamed}
 use Rattle.wasmprinter_spec.specs.Placed.{TypeGroup, Import, PlacedFunction}
 use Rattle.wasmprinter_spec.specs.Module.{without_places, imported_types, with_first_if_any, func_import, locals_of}
 use Rattle.wasmprinter_spec.specs.Indexed.{parameter_count}
-use Rattle.wasmprinter_spec.specs.Customs.Hints.{Hint, FunctionHints, next_hints, hints_after}
+use Rattle.wasmprinter_spec.specs.Customs.Hints.{Hint, FunctionHints, hints_of_next, entries_after}
 use Rattle.wasmprinter_spec.specs.HintsOfModule.{OperatorHint}
 use Rattle.wasmprinter_spec.specs.Code.{chunks_of_forest}
 use Rattle.wasmprinter_spec.specs.Layout.Variables.{Variables, Alone, Together, variable_groups}
@@ -94,10 +94,10 @@ pub types_before : (names : Names) (k : ℕ) (gs : List (Placed TypeGroup)) {i :
     HasHints i (onto (type_section_items names k gs) g) hs
 types_before names k [] h = h
 types_before names k (x ∷ xs) {i = i} {g = g} {hs = hs} h =
-    let group : Forest = type_group_items_by names x.value.written (members_items names k x.value.types) in
+    let group : Forest = type_group_items_by names x.value.explicit (members_items names k x.value.types) in
     let rest : Forest = type_section_items names (k + length x.value.types) xs in
     subst (λ t. HasHints i t hs) (sym (onto_assoc group rest g))
-    (group_before names x.value.written k x.value.types (types_before names (k + length x.value.types) xs h))
+    (group_before names x.value.explicit k x.value.types (types_before names (k + length x.value.types) xs h))
 
 -- ---- imports, in which each function has a number
 
@@ -185,9 +185,9 @@ module _ (s : Scope) (named : AreNamed s.names) (ranged : AreSignaturesInRange (
       HasHints (i + length fs) g hs → HasHints i (onto (functions_hinted false s es i fs) g) (all_taken es i fs ++ hs)
   functions_before es i [] k l fit {g = g} {hs = hs} h = subst (λ j. HasHints j g hs) (omega arith) h
   functions_before es i (f ∷ fs) k l fit {g = g} {hs = hs} h =
-      let rs : List OperatorHint = taken_hints i 0 f.body.place (next_hints i es) f.body.value.operators in
-      let after : List OperatorHint = all_taken (hints_after i es) (i + 1) fs in
-      let parts = λ (e : is_folding s.folding ≡ true). nothing_joined (misplaced_hints_in f.body.place (next_hints i es) f.body.value.operators) (misplaced_hints_from (hints_after i es) (i + 1) fs) (fit e) in
-      let rest = functions_before (hints_after i es) (i + 1) fs k.1 l.1 (λ e. (parts e).1) {g = g} {hs = hs} (subst (λ j. HasHints j g hs) (omega arith) h) in
+      let rs : List OperatorHint = taken_hints i 0 f.body.place (hints_of_next i es) f.body.value.operators in
+      let after : List OperatorHint = all_taken (entries_after i es) (i + 1) fs in
+      let parts = λ (e : is_folding s.folding ≡ true). nothing_joined (misplaced_hints_in f.body.place (hints_of_next i es) f.body.value.operators) (misplaced_hints_from (entries_after i es) (i + 1) fs) (fit e) in
+      let rest = functions_before (entries_after i es) (i + 1) fs k.1 l.1 (λ e. (parts e).1) {g = g} {hs = hs} (subst (λ j. HasHints j g hs) (omega arith) h) in
       subst (HasHints i (onto (functions_hinted false s es i (f ∷ fs)) g)) (sym (append_assoc rs after hs))
-      (function_before i (function_hinted false s i (next_hints i es) f) rs (function_has i (next_hints i es) f k.0 l.0 (λ e. (parts e).0)) rest)
+      (function_before i (function_hinted false s i (hints_of_next i es) f) rs (function_has i (hints_of_next i es) f k.0 l.0 (λ e. (parts e).0)) rest)

@@ -12,7 +12,7 @@ use Rattle.wasmprinter_spec.specs.Module.{without_places}
 use Rattle.wasmprinter_spec.specs.Labels as labels
 use Rattle.wasmprinter_spec.specs.Labels.{labels_after, count_after}
 use Rattle.wasmprinter_spec.specs.Names.{AreNamed}
-use Rattle.wasmprinter_spec.specs.Customs.Hints.{Hint, next_hint, hint_after}
+use Rattle.wasmprinter_spec.specs.Customs.Hints.{Hint, next_hint, hints_after}
 use Rattle.wasmprinter_spec.specs.HintsOfModule.{OperatorHint}
 use Rattle.wasmprinter_spec.specs.Code.{Chunk, chunks_of_forest}
 use Rattle.wasmprinter_spec.specs.Layout.Declarations.{Folding}
@@ -87,8 +87,8 @@ module _ (s : Setting) (signatures : Signatures) (f : ℕ) where
       let offset : ℕ = o.place - s.body in
       let ls2 : List (Option ℕ) = labels_after r (label_of_block signatures o.value) ls in
       chunk_with f k (next_hint offset hs) (item_chunk (item s signatures (next_hint offset hs) own xs ls o)) refl
-      (map (own_chunk true) (items s signatures (hint_after offset hs) (count_after r n) (labels_after r own xs) ls2 os)) (taken_hints f (k + 1) s.body (hint_after offset hs) os)
-      (items_hints os (hint_after offset hs) (count_after r n) (labels_after r own xs) ls2 (k + 1))
+      (map (own_chunk true) (items s signatures (hints_after offset hs) (count_after r n) (labels_after r own xs) ls2 os)) (taken_hints f (k + 1) s.body (hints_after offset hs) os)
+      (items_hints os (hints_after offset hs) (count_after r n) (labels_after r own xs) ls2 (k + 1))
 
   pub all_hintless : (os : List (Placed Operator)) (hs : List (Placed Hint)) (n : ℕ) (xs : List labels.Label) (ls : List (Option ℕ)) → misplaced_hints_in s.body hs os ≡ [] →
       AllByRecursion (IsHintless true) (items s signatures hs n xs ls os)
@@ -97,8 +97,8 @@ module _ (s : Setting) (signatures : Signatures) (f : ℕ) where
   all_hintless (o ∷ os) hs n xs ls e =
       let r : Role = role_of o.value.opcode in
       let hint : Option (Placed Hint) = next_hint (o.place - s.body) hs in
-      let parts = nothing_joined (place_if_misplaced r hint) (misplaced_hints_in s.body (hint_after (o.place - s.body) hs) os) e in
-      (not_misplaced r hint parts.0, all_hintless os (hint_after (o.place - s.body) hs) _ _ _ parts.1)
+      let parts = nothing_joined (place_if_misplaced r hint) (misplaced_hints_in s.body (hints_after (o.place - s.body) hs) os) e in
+      (not_misplaced r hint parts.0, all_hintless os (hints_after (o.place - s.body) hs) _ _ _ parts.1)
 
   folded_hints : AreNamed s.names → AreSignaturesInRange s.signature → (hs : List (Placed Hint)) (os : List (Placed Operator)) → AllByRecursion IsListed (without_places os) →
       Nests Sequence (roles os) → AreWithoutTry (roles os) → misplaced_hints_in s.body hs os ≡ [] → (z : Forest) → Noted z (folded_items true s signatures hs os) →

@@ -12,7 +12,7 @@ use Rattle.wasmprinter_spec.specs.Labels.{Named}
 use Rattle.wasmprinter_spec.specs.Names.{Names}
 use Rattle.wasmprinter_spec.specs.Indexed.{parameter_count}
 use Rattle.wasmprinter_spec.specs.Operator.{Operator}
-use Rattle.wasmprinter_spec.specs.Customs.Hints.{Hint, next_hint, hint_after}
+use Rattle.wasmprinter_spec.specs.Customs.Hints.{Hint, next_hint, hints_after}
 use Rattle.wasmprinter_spec.specs.Placed.{LocalEntry, PlacedFunction}
 use Rattle.wasmprinter_spec.specs.Module.{locals_of}
 use Rattle.wasmprinter_spec.specs.Options.{Options}
@@ -149,11 +149,11 @@ module _ (low high : ℕ) where
   operators_follow body hs (o ∷ os) all =
       let offset : ℕ = o.place - body in
       let hint : List (Option ℕ) = hint_lines (next_hint offset hs) in
-      let rest : List (Option ℕ) = operator_lines body (hint_after offset hs) os in
+      let rest : List (Option ℕ) = operator_lines body (hints_after offset hs) os in
       follows_both low high [] (o.place ∷ places os) hint (Some o.place ∷ rest)
       (follows_elsewhere low high hint (of_next_hint (IsElsewhere low high) offset hs all))
       (follows_both low high (o.place ∷ []) (places os) (Some o.place ∷ []) rest (follows_one low high o.place)
-      (operators_follow body (hint_after offset hs) os (of_hint_after (IsElsewhere low high) offset hs all)))
+      (operators_follow body (hints_after offset hs) os (of_hint_after (IsElsewhere low high) offset hs all)))
 
   closing_follows : (place : ℕ) (b : Bool) → Follows low high (place ∷ []) (closing_lines place b)
   closing_follows place true = follows_one low high place
@@ -200,11 +200,11 @@ module _ (ps : List ℕ) where
   operators_kept body hs (o ∷ os) all own =
       let offset : ℕ = o.place - body in
       let hint : List (Option ℕ) = hint_lines (next_hint offset hs) in
-      let rest : List (Option ℕ) = operator_lines body (hint_after offset hs) os in
+      let rest : List (Option ℕ) = operator_lines body (hints_after offset hs) os in
       lines_without-append ps hint (Some o.place ∷ rest)
       ∙ ap₂ (λ (ls ms : List (Option ℕ)). ls ++ ms) (all_out hint (of_next_hint IsHint offset hs all))
       (kept_in ps (Some o.place) rest own.0
-      ∙ ap (λ (ls : List (Option ℕ)). Some o.place ∷ ls) (operators_kept body (hint_after offset hs) os (of_hint_after IsHint offset hs all) own.1))
+      ∙ ap (λ (ls : List (Option ℕ)). Some o.place ∷ ls) (operators_kept body (hints_after offset hs) os (of_hint_after IsHint offset hs all) own.1))
 
   closing_kept : (place : ℕ) (b : Bool) → IsKept place → lines_without ps (closing_lines place b) ≡ closing_lines place b
   closing_kept place true h = kept_in ps (Some place) [] h

@@ -101,7 +101,7 @@ module _ (low high : ℕ) where
   group_elsewhere : (names : Names) (i : ℕ) (g : Placed TypeGroup) → AllByRecursion (IsOutside low high) (group_places g) →
       AreElsewhere low high (flat_map starts (type_group_pieces names i g))
   unfolding type_group_pieces
-  group_elsewhere names i g h = (h.0, group_by_elsewhere names g.value.written g.place i g.value.types h.1)
+  group_elsewhere names i g h = (h.0, group_by_elsewhere names g.value.explicit g.place i g.value.types h.1)
 
   pub types_elsewhere : (names : Names) (i : ℕ) (gs : List (Placed TypeGroup)) → AllByRecursion (IsOutside low high) (flat_map group_places gs) →
       AreElsewhere low high (flat_map starts (type_section_pieces names i gs))

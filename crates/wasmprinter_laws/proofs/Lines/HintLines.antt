@@ -3,7 +3,7 @@ use Rattle.std.proofs.Common.{ℕ, ◌==◌, List, [], ◌∷◌, Bool, true, fa
 use Rattle.std.specs.Prelude.{if◌then◌else◌}
 use Rattle.std.specs.List.{AllByRecursion}
 use Rattle.wasmprinter_spec.specs.Grammar.{Placed}
-use Rattle.wasmprinter_spec.specs.Customs.Hints.{Hint, FunctionHints, next_hints, hints_after, next_hint, hint_after}
+use Rattle.wasmprinter_spec.specs.Customs.Hints.{Hint, FunctionHints, hints_of_next, entries_after, next_hint, hints_after}
 use Rattle.wasmprinter_spec.specs.Lines.{places, places_of_hints}
 use Rattle.wasmprinter_spec.proofs.Each.{all_parts}
 use Rattle.wasmprinter_laws.proofs.Lines.OperatorLines.{hint_lines}
@@ -28,7 +28,7 @@ module _ (Q : Option ℕ → Type 0) where
   of_next_hint offset [] all = tt
   of_next_hint offset (h ∷ hs) all = if_next (h.value.offset == offset) h all.0
 
-  pub of_hint_after : (offset : ℕ) (hs : List (Placed Hint)) → OfHints hs → OfHints (hint_after offset hs)
+  pub of_hint_after : (offset : ℕ) (hs : List (Placed Hint)) → OfHints hs → OfHints (hints_after offset hs)
   of_hint_after offset [] all = tt
   of_hint_after offset (h ∷ hs) all = if_after (h.value.offset == offset) h hs all
 
@@ -40,10 +40,10 @@ module _ (Q : Option ℕ → Type 0) where
   if_entries true e es all rest = rest
   if_entries false e es all rest = all
 
-  pub of_next_hints : (i : ℕ) (es : List FunctionHints) → OfEntries es → OfHints (next_hints i es)
+  pub of_next_hints : (i : ℕ) (es : List FunctionHints) → OfEntries es → OfHints (hints_of_next i es)
   of_next_hints i [] all = tt
   of_next_hints i (e ∷ es) all = if_hints (e.function == i) e.hints (all_parts (λ p. Q (Some p)) (places e.hints) (places_of_hints es) all).0
 
-  pub of_hints_after : (i : ℕ) (es : List FunctionHints) → OfEntries es → OfEntries (hints_after i es)
+  pub of_hints_after : (i : ℕ) (es : List FunctionHints) → OfEntries es → OfEntries (entries_after i es)
   of_hints_after i [] all = tt
   of_hints_after i (e ∷ es) all = if_entries (e.function == i) e es all (all_parts (λ p. Q (Some p)) (places e.hints) (places_of_hints es) all).1

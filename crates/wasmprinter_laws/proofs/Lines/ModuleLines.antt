@@ -5,7 +5,7 @@ use Rattle.std.specs.List.{AllByRecursion, flat_map}
 use Rattle.std.proofs.lemmas.List.Concat.{flat_map-append}
 use Rattle.wasmprinter_spec.specs.Grammar.{Placed, some_is}
 use Rattle.wasmprinter_spec.specs.Kinds.{Kind, CustomSection, TypeSection, ImportSection, FunctionSection, TableSection, MemorySection, TagSection, GlobalSection, ExportSection, StartSection, ElementSection, DataCountSection, CodeSection, DataSection}
-use Rattle.wasmprinter_spec.specs.Customs.Hints.{FunctionHints, hints_of, next_hints, hints_after}
+use Rattle.wasmprinter_spec.specs.Customs.Hints.{FunctionHints, hints_of, hints_of_next, entries_after}
 use Rattle.wasmprinter_spec.specs.Names.{Names}
 use Rattle.wasmprinter_spec.specs.ModuleNames.{module_names}
 use Rattle.wasmprinter_spec.specs.Placed.{PlacedFunction, PlacedModule}
@@ -44,16 +44,16 @@ functions_follow : (low high : ℕ) (o : Options) (s : Scope) → s.folding ≡ 
 unfolding functions_pieces
 functions_follow low high o s flat whole es all i [] = follows_none low high
 functions_follow low high o s flat whole es all i (f ∷ fs) =
-    let own = function_begins o s flat i (next_hints i es) f whole in
-    let lines : List (Option ℕ) = own_lines own.closes (next_hints i es) f in
-    let rest : List (Option ℕ) = flat_map starts (functions_pieces o s (hints_after i es) (i + 1) fs) in
+    let own = function_begins o s flat i (hints_of_next i es) f whole in
+    let lines : List (Option ℕ) = own_lines own.closes (hints_of_next i es) f in
+    let rest : List (Option ℕ) = flat_map starts (functions_pieces o s (entries_after i es) (i + 1) fs) in
     let joined : flat_map starts (functions_pieces o s es i (f ∷ fs)) ≡ lines ++ rest =
-    flat_map-append starts (function_pieces o s i (next_hints i es) f) (functions_pieces o s (hints_after i es) (i + 1) fs)
+    flat_map-append starts (function_pieces o s i (hints_of_next i es) f) (functions_pieces o s (entries_after i es) (i + 1) fs)
     ∙ ap (λ (ls : List (Option ℕ)). ls ++ rest) own.are in
     subst (Follows low high (body_places f.body ++ flat_map (λ g. body_places g.body) fs)) (sym joined)
     (follows_both low high (body_places f.body) (flat_map (λ g. body_places g.body) fs) lines rest
-    (own_follow low high own.closes (next_hints i es) f (of_next_hints (IsElsewhere low high) i es all))
-    (functions_follow low high o s flat whole (hints_after i es) (of_hints_after (IsElsewhere low high) i es all) (i + 1) fs))
+    (own_follow low high own.closes (hints_of_next i es) f (of_next_hints (IsElsewhere low high) i es all))
+    (functions_follow low high o s flat whole (entries_after i es) (of_hints_after (IsElsewhere low high) i es all) (i + 1) fs))
 
 -- ---- where the lines of a function occur, without those of hints
 
@@ -88,10 +88,10 @@ module _ (ps : List ℕ) (f : PlacedFunction) where
   unfolding functions_pieces
   function_stands o s flat whole body es all n i [] e = absurd cc
   function_stands o s flat whole body es all n zero (g ∷ fs) e =
-      let hs = next_hints n es in
+      let hs = hints_of_next n es in
       let same : g ≡ f = some_is g f e in
       let own = function_begins o s flat n hs g whole in
-      let rest : List Piece = functions_pieces o s (hints_after n es) (n + 1) fs in
+      let rest : List Piece = functions_pieces o s (entries_after n es) (n + 1) fs in
       let its : lines_without ps (own_lines own.closes hs g) ≡ kept_lines own.closes g =
       own_kept ps own.closes hs g (of_next_hints (IsHint ps) n es all)
       (subst (λ (h : PlacedFunction). AllByRecursion (IsKept ps) (body_places h.body)) (sym same) body) in
@@ -105,11 +105,11 @@ module _ (ps : List ℕ) (f : PlacedFunction) where
       subst StandsKept (sym (flat_map-append starts (function_pieces o s n hs g) rest))
       (left_stands (flat_map starts (function_pieces o s n hs g)) (flat_map starts rest) (subst (Stands f) (sym lines) here))
   function_stands o s flat whole body es all n (suc i) (g ∷ fs) e =
-      let own : List Piece = function_pieces o s n (next_hints n es) g in
-      let rest : List Piece = functions_pieces o s (hints_after n es) (n + 1) fs in
+      let own : List Piece = function_pieces o s n (hints_of_next n es) g in
+      let rest : List Piece = functions_pieces o s (entries_after n es) (n + 1) fs in
       subst StandsKept (sym (flat_map-append starts own rest))
       (right_stands (flat_map starts own) (flat_map starts rest)
-      (function_stands o s flat whole body (hints_after n es) (of_hints_after (IsHint ps) n es all) (n + 1) i fs e))
+      (function_stands o s flat whole body (entries_after n es) (of_hints_after (IsHint ps) n es all) (n + 1) i fs e))
 
 -- ---- joined parts
 

@@ -11,7 +11,7 @@ use Rattle.wasmprinter_spec.specs.Labels as labels
 use Rattle.wasmprinter_spec.specs.Labels.{labels_after, count_after, labels_outside, labels_inside}
 use Rattle.wasmprinter_spec.specs.Names.{Names}
 use Rattle.wasmprinter_spec.specs.Indexed.{parameter_count}
-use Rattle.wasmprinter_spec.specs.Customs.Hints.{Hint, FunctionHints, next_hint, hint_after, next_hints, hints_after}
+use Rattle.wasmprinter_spec.specs.Customs.Hints.{Hint, FunctionHints, next_hint, hints_after, hints_of_next, entries_after}
 use Rattle.wasmprinter_spec.specs.Placed.{LocalEntry, PlacedFunction}
 use Rattle.wasmprinter_spec.specs.Module.{locals_of}
 use Rattle.wasmprinter_spec.specs.Options.{Options, defaults}
@@ -56,7 +56,7 @@ module _ (s : Setting) where
       let own : labels.Label = s.names.labels s.function n (length xs) in
       let offset : ℕ = o.place - s.body in
       both_none (hint_none (s.nesting + length xs) (next_hint offset hs))
-      (both_none (operator_none first own xs o) (operators_none (hint_after offset hs) false (count_after role n) (labels_after role own xs) os))
+      (both_none (operator_none first own xs o) (operators_none (hints_after offset hs) false (count_after role n) (labels_after role own xs) os))
 
 -- ---- folded operators
 
@@ -120,5 +120,5 @@ pub functions_none : (o : Options) (s : Scope) (es : List FunctionHints) (i : �
 unfolding functions_pieces function_pieces
 functions_none o s es i [] = nothing_none
 functions_none o s es i (f ∷ fs) =
-    both_none (field_none (Some f.body.place) 1 (function_group_none o.skeleton o.offsets (scope_of_function s i) (next_hints i es) f))
-    (functions_none o s (hints_after i es) (i + 1) fs)
+    both_none (field_none (Some f.body.place) 1 (function_group_none o.skeleton o.offsets (scope_of_function s i) (hints_of_next i es) f))
+    (functions_none o s (entries_after i es) (i + 1) fs)

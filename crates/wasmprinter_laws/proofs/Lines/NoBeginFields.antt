@@ -41,7 +41,7 @@ module _ (names : Names) where
   unfolding type_section_pieces type_group_pieces
   types_none i [] = nothing_none
   types_none i (g ∷ gs) =
-      both_none (field_none (Some g.place) 1 (group_by_none g.value.written g.place i g.value.types)) (types_none (i + length g.value.types) gs)
+      both_none (field_none (Some g.place) 1 (group_by_none g.value.explicit g.place i g.value.types)) (types_none (i + length g.value.types) gs)
 
 -- ---- expressions
 

@@ -9,7 +9,7 @@ use Rattle.wasmprinter_spec.specs.Row.{Role}
 use Rattle.wasmprinter_spec.specs.Table.{word_of, role_of, shape_of}
 use Rattle.wasmprinter_spec.specs.Labels as labels
 use Rattle.wasmprinter_spec.specs.Labels.{labels_after, count_after, labels_outside, labels_inside}
-use Rattle.wasmprinter_spec.specs.Customs.Hints.{Hint, next_hint, hint_after}
+use Rattle.wasmprinter_spec.specs.Customs.Hints.{Hint, next_hint, hints_after}
 use Rattle.wasmprinter_spec.specs.Piece.{Piece, Word}
 use Rattle.wasmprinter_spec.specs.Layout.Operators.{Form, OverLines, InLine, Setting, pieces_by, level, before_word, operator_pieces, hint_pieces, operators_pieces, expression_pieces}
 use Rattle.wasmprinter_spec.proofs.OneLine.{starts, IsOneLine, nothing_stays, both_stay, then_stay, alone_stays}
@@ -51,7 +51,7 @@ hint_lines (Some h) = Some h.place ∷ []
 -- The lines of operators with these hints, in a body that starts at this place
 abbrev pub operator_lines : ℕ → List (Placed Hint) → List (Placed Operator) → List (Option ℕ)
 operator_lines body hs [] = []
-operator_lines body hs (o ∷ os) = hint_lines (next_hint (o.place - body) hs) ++ (Some o.place ∷ operator_lines body (hint_after (o.place - body) hs) os)
+operator_lines body hs (o ∷ os) = hint_lines (next_hint (o.place - body) hs) ++ (Some o.place ∷ operator_lines body (hints_after (o.place - body) hs) os)
 
 hint_begins : (nesting : ℕ) (h : Option (Placed Hint)) → flat_map starts (hint_pieces nesting h) ≡ hint_lines h
 hint_begins nesting None = refl
@@ -78,8 +78,8 @@ module _ (s : Setting) (over : s.form ≡ OverLines) where
       let offset : ℕ = o.place - s.body in
       let hint : List Piece = hint_pieces (s.nesting + length xs) (next_hint offset hs) in
       let here : List Piece = operator_pieces s first own xs o in
-      let rest : List Piece = operators_pieces s (hint_after offset hs) false (count_after role n) (labels_after role own xs) os in
+      let rest : List Piece = operators_pieces s (hints_after offset hs) false (count_after role n) (labels_after role own xs) os in
       flat_map-append starts hint (here ++ rest)
       ∙ ap₂ (λ (ls ms : List (Option ℕ)). ls ++ ms) (hint_begins (s.nesting + length xs) (next_hint offset hs))
       (flat_map-append starts here rest
-      ∙ ap₂ (λ (ls ms : List (Option ℕ)). ls ++ ms) (operator_begins first own xs o) (operators_begin (hint_after offset hs) false (count_after role n) (labels_after role own xs) os))
+      ∙ ap₂ (λ (ls ms : List (Option ℕ)). ls ++ ms) (operator_begins first own xs o) (operators_begin (hints_after offset hs) false (count_after role n) (labels_after role own xs) os))

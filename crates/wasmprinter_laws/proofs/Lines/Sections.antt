@@ -34,16 +34,16 @@ all_same low q high (t ∷ ts) above below = (above, below, all_same low q high 
 
 members_lie : (b : Bool) (first p place : ℕ) (text : List ℕ) (g : TypeGroup) → place + 1 ≡ p →
     (choose b (map_value (type_group true) (vec subtype)) (map_value (λ t. type_group false (t ∷ [])) (sub_type_after first))).spells p text g →
-    Inside place (member_places g.written place g.types) (p + length text)
+    Inside place (member_places g.explicit place g.types) (p + length text)
 members_lie true first p place text g next (types, made, spelled) =
     let count : Lies inside 1 (vec subtype) (λ ts. flat_map (λ t. []) ts) = Lies-vec (Lies-any subtype) in
     let long : p + 1 ≤ p + length text =
     inside_ends (p + 1) (p + length text) (flat_map (λ t. []) types) (count.lie p text types spelled) in
-    subst (λ (x : TypeGroup). Inside place (member_places x.written place x.types) (p + length text))
+    subst (λ (x : TypeGroup). Inside place (member_places x.explicit place x.types) (p + length text))
     (some_is (type_group true types) g made)
     (all_same place (place + 2) (p + length text) types (omega arith) (omega (arith, next, long)))
 members_lie false first p place text g next (type, made, spelled) =
-    subst (λ (x : TypeGroup). Inside place (member_places x.written place x.types) (p + length text))
+    subst (λ (x : TypeGroup). Inside place (member_places x.explicit place x.types) (p + length text))
     (some_is (type_group false (type ∷ [])) g made)
     (omega (arith, next))
 
@@ -53,13 +53,13 @@ group_lies p text g (here, ((first, own), made, (front, back, joined, byte, spel
     let one : length front ≡ 1 = ap length byte in
     let long : length text ≡ length front + length back = omega (arith, ap length joined, length-append front back) in
     let end : ℕ = p + length front + length back in
-    let members : Inside p (member_places own.written p own.types) end =
+    let members : Inside p (member_places own.explicit p own.types) end =
     members_lie (first == 0x4e) first (p + length front) p back own (omega (arith, one)) spelled in
-    let named : Inside p (member_places g.value.written p g.value.types) end =
-    subst (λ (x : TypeGroup). Inside p (member_places x.written p x.types) end) same members in
-    let shown : List ℕ = member_places g.value.written g.place g.value.types in
+    let named : Inside p (member_places g.value.explicit p g.value.types) end =
+    subst (λ (x : TypeGroup). Inside p (member_places x.explicit p x.types) end) same members in
+    let shown : List ℕ = member_places g.value.explicit g.place g.value.types in
     let there : Inside p shown end =
-    subst (λ (q : ℕ). Inside p (member_places g.value.written q g.value.types) end) (sym here) named in (
+    subst (λ (q : ℕ). Inside p (member_places g.value.explicit q g.value.types) end) (sym here) named in (
       omega (arith, here),
       omega (arith, here),
       inside_wider p p end (p + length text) shown (omega arith) (omega (arith, long)) there,

@@ -6,11 +6,11 @@ use Rattle.wasmprinter_spec.specs.Grammar.{Input, Spans, Grammar, some_is}
 use Rattle.wasmprinter_spec.specs.Repeated.{AreItems}
 use Rattle.wasmprinter_spec.specs.Lenient.{Lenient, Repeats, one}
 use Rattle.wasmprinter_spec.specs.Names.Section.{entry_of, association}
-use Rattle.wasmprinter_laws.specs.NameLaws.{Listed, NameMapsAreListed}
+use Rattle.wasmprinter_laws.specs.NameLaws.{IsReadToFirstError, NameMapsEndAtFirstError}
 
 module _ {A E : Type 0} (h : A → E) (g : Grammar A) where
   abbrev Lists : ℕ → Input → List E → Option Input → Type 0
-  Lists n at es end = (xs : List A) × Listed g n at xs end × (es ≡ map h xs)
+  Lists n at es end = (xs : List A) × IsReadToFirstError g n at xs end × (es ≡ map h xs)
 
   items_none : (at : Input) → Spans (AreItems g) at ([], at)
   items_none at = record { text = []; parts = refl; ends = omega arith; spelled = refl }
@@ -49,5 +49,5 @@ module _ {A E : Type 0} (h : A → E) (g : Grammar A) where
       subst (λ (us : List E). Lists (suc n) at us end) (sym joined) (more n at ys zs mid end given (listed n mid zs end repeated))
   listed (suc n) at es end (inr s) = stop n at es end s.0 s.1
 
-pub name_maps_are_listed : NameMapsAreListed
-name_maps_are_listed s outer n at entries end g = listed (λ x. entry_of s outer x) association n at entries end g
+pub name_maps_end_at_the_first_error : NameMapsEndAtFirstError
+name_maps_end_at_the_first_error s outer n at entries end g = listed (λ x. entry_of s outer x) association n at entries end g

@@ -12,7 +12,7 @@ use Rattle.wasmprinter_spec.specs.Nesting.{Nests, Sequence, advance, at_start}
 use Rattle.wasmprinter_spec.specs.NestingSteps.{stops_at_end}
 use Rattle.wasmprinter_spec.specs.Instructions.{roles}
 use Rattle.wasmprinter_spec.specs.Module.{without_places}
-use Rattle.wasmprinter_spec.specs.Customs.Hints.{Hint, next_hint, hint_after}
+use Rattle.wasmprinter_spec.specs.Customs.Hints.{Hint, next_hint, hints_after}
 use Rattle.wasmprinter_spec.specs.Indexed.{Counts, AreDeclared, AreDeclaredBy, IsIndexedOperator}
 use Rattle.wasmprinter_spec.specs.Code.{Chunk, chunk, Instruction, Flat, code_of, with_word, code, chunks_of_instructions, chunks_of_forest}
 use Rattle.wasmprinter_spec.specs.Names.{IsNamedIfAny, AreNamed, AreApart}
@@ -53,7 +53,7 @@ hinted_items s hs n xs [] = End
 hinted_items s hs n xs (o ∷ os) =
     hint_items (next_hint (o.place - s.body) hs)
     (Word (word_of o.value.opcode) (onto (arguments_items s (s.names.labels s.function n (length xs)) xs o.value)
-    (hinted_items s (hint_after (o.place - s.body) hs) (count_after (role_of o.value.opcode) n)
+    (hinted_items s (hints_after (o.place - s.body) hs) (count_after (role_of o.value.opcode) n)
     (labels_after (role_of o.value.opcode) (s.names.labels s.function n (length xs)) xs) os)))
 
 unhinted : (s : Setting) (n : ℕ) (xs : List Label) (os : List (Placed Operator)) → hinted_items s [] n xs os ≡ operators_items s n xs (without_places os)
@@ -190,7 +190,7 @@ operators_write s named ranged hs first n xs (o ∷ os) h l =
     let own : Label = s.names.labels s.function n (length xs) in
     let k : IsNamedIfAny own = named.labels s.function n (length xs) in
     let offset : ℕ = o.place - s.body in
-    let rest = operators_write s named ranged (hint_after offset hs) false (count_after role n) (labels_after role own xs) os (after_labels role own xs k h) l.1 in
+    let rest = operators_write s named ranged (hints_after offset hs) false (count_after role n) (labels_after role own xs) os (after_labels role own xs k h) l.1 in
     hinted_writes s.form first (s.nesting + length xs) (next_hint offset hs)
     (both_write (operator_writes s named ranged first own xs o h k l.0) (goes_on s.form rest))
 

@@ -45,4 +45,4 @@ pub record IsRangedGroup (g : TypeGroup) : Type 0 where
   pub count : length g.types < 2 ^ 32
   pub each : AllByRecursion IsRangedSub g.types
   pub few : AllByRecursion IsFewSub g.types
-  pub single : IsSingle g.written g.types
+  pub single : IsSingle g.explicit g.types

@@ -146,7 +146,7 @@ module _ (names : Names) where
   type_group_items_by false f = f
 
   abbrev pub type_group_items : ℕ → TypeGroup → Forest
-  type_group_items i g = type_group_items_by g.written (members_items i g.types)
+  type_group_items i g = type_group_items_by g.explicit (members_items i g.types)
 
   abbrev pub type_section_items : ℕ → List (Placed TypeGroup) → Forest
   type_section_items i [] = End
@@ -345,7 +345,7 @@ module _ (names : Names) (named : AreNamed names) where
   type_group_writes : (i : ℕ) (g : Placed TypeGroup) → i + length g.value.types ≤ 2 ^ 64 → IsRangedGroup g.value →
       Writes Bound (type_group_pieces names i g) Bound (type_group_items names i g.value)
   unfolding type_group_pieces
-  type_group_writes i g h r = break_writes (loosened (group_by_writes g.value.written g.place i g.value.types h r.each))
+  type_group_writes i g h r = break_writes (loosened (group_by_writes g.value.explicit g.place i g.value.types h r.each))
 
   pub type_section_writes : (i : ℕ) (gs : List (Placed TypeGroup)) → i + length gs * 2 ^ 32 ≤ 2 ^ 64 → AllByRecursion (λ g. IsRangedGroup g.value) gs →
       Writes Bound (type_section_pieces names i gs) Bound (type_section_items names i gs)

@@ -6,19 +6,19 @@ use Rattle.wasmprinter_spec.specs.Sized.{take_bytes, alone, exactly}
 use Rattle.wasmprinter_spec.specs.Name.{u32, vec, name}
 use Rattle.wasmprinter_spec.specs.Lenient.{Lenient, one, repeat, unless_ended}
 
--- The memory and the table space that a module needs: sizes, and alignments as powers of two.
+-- The memory and the table space that a module needs: sizes, and the exponents of alignments, which are powers of two.
 pub record MemInfo : Type 0 where
   pub memory_size : ℕ
   pub memory_alignment : ℕ
   pub table_size : ℕ
   pub table_alignment : ℕ
 
--- The flags of an exported symbol.
+-- An exported symbol: its name and its flags.
 pub record ExportInfo : Type 0 where
   pub name : List ℕ
   pub flags : ℕ
 
--- The flags of an imported symbol, by the name of its module and its name in that module.
+-- An imported symbol: the name of its module, its name in that module, and its flags.
 pub record ImportInfo : Type 0 where
   pub source : List ℕ
   pub name : List ℕ

@@ -75,14 +75,14 @@ hints_of cs = hints_by (last_named (codes "metadata.code.branch_hint") None cs)
 -- ---- Functions and operators take hints in order: one that is not taken blocks the hints after it
 
 -- The hints of the function with index i, if its entry is the next.
-abbrev pub next_hints : ℕ → List FunctionHints → List (Placed Hint)
-next_hints i [] = []
-next_hints i (e ∷ es) = if e.function == i then e.hints else []
+abbrev pub hints_of_next : ℕ → List FunctionHints → List (Placed Hint)
+hints_of_next i [] = []
+hints_of_next i (e ∷ es) = if e.function == i then e.hints else []
 
 -- The entries that are left after the function with index i.
-abbrev pub hints_after : ℕ → List FunctionHints → List FunctionHints
-hints_after i [] = []
-hints_after i (e ∷ es) = if e.function == i then es else e ∷ es
+abbrev pub entries_after : ℕ → List FunctionHints → List FunctionHints
+entries_after i [] = []
+entries_after i (e ∷ es) = if e.function == i then es else e ∷ es
 
 -- The hint of the operator at this offset from the body's first byte, if it is the next.
 abbrev pub next_hint : ℕ → List (Placed Hint) → Option (Placed Hint)
@@ -90,6 +90,6 @@ next_hint offset [] = None
 next_hint offset (h ∷ hs) = if h.value.offset == offset then Some h else None
 
 -- The hints that are left after the operator at this offset.
-abbrev pub hint_after : ℕ → List (Placed Hint) → List (Placed Hint)
-hint_after offset [] = []
-hint_after offset (h ∷ hs) = if h.value.offset == offset then hs else h ∷ hs
+abbrev pub hints_after : ℕ → List (Placed Hint) → List (Placed Hint)
+hints_after offset [] = []
+hints_after offset (h ∷ hs) = if h.value.offset == offset then hs else h ∷ hs

@@ -109,20 +109,20 @@ IsFit (IfElse x body turn other end rest) =
 -- ---- Laws
 
 -- The tree of a list represents that list, and each operator has the role that its position needs.
-abbrev pub CodeRule : Type 0
-CodeRule = (xs : List Item) (code : NestedCode) → nested_code_of xs ≡ Some code → (flat code ≡ xs) × IsFit code
+abbrev pub TreesRepresentLists : Type 0
+TreesRepresentLists = (xs : List Item) (code : NestedCode) → nested_code_of xs ≡ Some code → (flat code ≡ xs) × IsFit code
 
 -- A tree in which each operator has the role that its position needs is the tree of the list that it represents.
 -- So a list has at most one such tree.
-abbrev pub UniqueCodeRule : Type 0
-UniqueCodeRule = (code : NestedCode) → IsFit code → nested_code_of (flat code) ≡ Some code
+abbrev pub TreesAreUnique : Type 0
+TreesAreUnique = (code : NestedCode) → IsFit code → nested_code_of (flat code) ≡ Some code
 
 -- Operators that are well nested and without legacy exception handling have a tree.
-abbrev pub NestedCodeRule : Type 0
-NestedCodeRule =
+abbrev pub NestedOperatorsHaveTrees : Type 0
+NestedOperatorsHaveTrees =
     (xs : List Item) → Nests Sequence (map role xs) → AreWithoutTry (map role xs) → (code : NestedCode) × (nested_code_of xs ≡ Some code)
 
 -- Operators that have a tree are well nested and without legacy exception handling.
-abbrev pub NestingCodeRule : Type 0
-NestingCodeRule =
+abbrev pub TreesAreNested : Type 0
+TreesAreNested =
     (xs : List Item) (code : NestedCode) → nested_code_of xs ≡ Some code → Nests Sequence (map role xs) × AreWithoutTry (map role xs)

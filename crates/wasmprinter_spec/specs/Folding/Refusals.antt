@@ -5,7 +5,7 @@ use Rattle.wasmprinter_spec.specs.Grammar.{Placed}
 use Rattle.wasmprinter_spec.specs.Operator.{Operator}
 use Rattle.wasmprinter_spec.specs.Row.{Role, Opens, Else, Ends}
 use Rattle.wasmprinter_spec.specs.Table.{role_of}
-use Rattle.wasmprinter_spec.specs.Customs.Hints.{Hint, FunctionHints, hints_of, next_hints, hints_after, next_hint, hint_after}
+use Rattle.wasmprinter_spec.specs.Customs.Hints.{Hint, FunctionHints, hints_of, hints_of_next, entries_after, next_hint, hints_after}
 use Rattle.wasmprinter_spec.specs.Placed.{Table, ElementMode, Passive, Declared, Active, Items, Functions, Expressions, ElementEntry, PassiveData, ActiveData, Data, PlacedFunction, PlacedModule}
 use Rattle.wasmprinter_spec.specs.Module.{without_places, imported_types, func_import}
 use Rattle.wasmprinter_spec.specs.Options.{Options}
@@ -92,13 +92,13 @@ abbrev pub misplaced_hints_in : ℕ → List (Placed Hint) → Operators → Lis
 misplaced_hints_in body hs [] = []
 misplaced_hints_in body hs (o ∷ os) =
     place_if_misplaced (role_of o.value.opcode) (next_hint (o.place - body) hs)
-    ++ misplaced_hints_in body (hint_after (o.place - body) hs) os
+    ++ misplaced_hints_in body (hints_after (o.place - body) hs) os
 
 -- The places of misplaced hints in functions from index i on.
 abbrev pub misplaced_hints_from : List FunctionHints → ℕ → List PlacedFunction → List ℕ
 misplaced_hints_from es i [] = []
 misplaced_hints_from es i (f ∷ fs) =
-    misplaced_hints_in f.body.place (next_hints i es) f.body.value.operators ++ misplaced_hints_from (hints_after i es) (i + 1) fs
+    misplaced_hints_in f.body.place (hints_of_next i es) f.body.value.operators ++ misplaced_hints_from (entries_after i es) (i + 1) fs
 
 -- The places of misplaced hints in all bodies that are printed.
 abbrev pub misplaced_hints : Options → PlacedModule → List ℕ

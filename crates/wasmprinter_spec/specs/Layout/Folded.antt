@@ -11,7 +11,7 @@ use Rattle.wasmprinter_spec.specs.Nesting.{Nests, Sequence}
 use Rattle.wasmprinter_spec.specs.Instructions.{roles}
 use Rattle.wasmprinter_spec.specs.Labels as labels
 use Rattle.wasmprinter_spec.specs.Labels.{labels_after, count_after, labels_outside, labels_inside}
-use Rattle.wasmprinter_spec.specs.Customs.Hints.{Hint, next_hint, hint_after}
+use Rattle.wasmprinter_spec.specs.Customs.Hints.{Hint, next_hint, hints_after}
 use Rattle.wasmprinter_spec.specs.Call.{Call, Text, text_of}
 use Rattle.wasmprinter_spec.specs.Colored.{colored_text}
 use Rattle.wasmprinter_spec.specs.Options.{Options, defaults}
@@ -50,7 +50,7 @@ items s signatures hs n xs ls (o ∷ os) =
     let own : labels.Label = s.names.labels s.function n (length xs) in
     let offset : ℕ = o.place - s.body in
     item s signatures (next_hint offset hs) own xs ls o
-    ∷ items s signatures (hint_after offset hs) (count_after role n) (labels_after role own xs)
+    ∷ items s signatures (hints_after offset hs) (count_after role n) (labels_after role own xs)
     (labels_after role (label_of_block signatures o.value) ls) os
 
 -- ---- Nodes

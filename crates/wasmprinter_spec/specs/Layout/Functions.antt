@@ -6,7 +6,7 @@ use Rattle.wasmprinter_spec.specs.Operator.{Operator}
 use Rattle.wasmprinter_spec.specs.Row.{Space, Func}
 use Rattle.wasmprinter_spec.specs.Names.{Names}
 use Rattle.wasmprinter_spec.specs.Indexed.{parameter_count}
-use Rattle.wasmprinter_spec.specs.Customs.Hints.{Hint, FunctionHints, next_hints, hints_after}
+use Rattle.wasmprinter_spec.specs.Customs.Hints.{Hint, FunctionHints, hints_of_next, entries_after}
 use Rattle.wasmprinter_spec.specs.Placed.{LocalEntry, Body, PlacedFunction}
 use Rattle.wasmprinter_spec.specs.Module.{locals_of}
 use Rattle.wasmprinter_spec.specs.Options.{Options}
@@ -77,4 +77,4 @@ function_pieces o s i hs f = Break (Some f.body.place) 1 ∷ function_group o.sk
 -- Functions from index i on, each with its hints: those of the next entry, if it is the entry of that function.
 unfoldable pub functions_pieces : Options → Scope → List FunctionHints → ℕ → List PlacedFunction → List Piece
 functions_pieces o s es i [] = []
-functions_pieces o s es i (f ∷ fs) = function_pieces o s i (next_hints i es) f ++ functions_pieces o s (hints_after i es) (i + 1) fs
+functions_pieces o s es i (f ∷ fs) = function_pieces o s i (hints_of_next i es) f ++ functions_pieces o s (entries_after i es) (i + 1) fs

@@ -13,7 +13,7 @@ use Rattle.wasmprinter_spec.specs.Row.{Space, Label, Shape, BlockShape, TryTable
 use Rattle.wasmprinter_spec.specs.Table.{word_of, role_of, shape_of}
 use Rattle.wasmprinter_spec.specs.Labels as labels
 use Rattle.wasmprinter_spec.specs.Names.{Names, in_function}
-use Rattle.wasmprinter_spec.specs.Customs.Hints.{Hint, next_hint, hint_after}
+use Rattle.wasmprinter_spec.specs.Customs.Hints.{Hint, next_hint, hints_after}
 use Rattle.wasmprinter_spec.specs.Labels.{Named, is_hidden, Target, Around, Own, Nothing, target, labels_after, count_after, labels_outside, labels_inside}
 use Rattle.wasmprinter_spec.specs.Piece.{Piece, Break, OneSpace, Word, SpaceTypeWord, Number, Constant, SpaceLiterals, Float, BlockComment, LineComment, HintAnnotation}
 use Rattle.wasmprinter_spec.specs.Layout.Groups.{line_group, line_group_space}
@@ -246,7 +246,7 @@ operators_pieces s hs first n xs (o ∷ os) =
     let offset : ℕ = o.place - s.body in
     hint_pieces (s.nesting + length xs) (next_hint offset hs)
     ++ (operator_pieces s first own xs o
-    ++ operators_pieces s (hint_after offset hs) false (count_after role n) (labels_after role own xs) os)
+    ++ operators_pieces s (hints_after offset hs) false (count_after role n) (labels_after role own xs) os)
 
 -- A list of operators, with no label open and without hints.
 unfoldable pub expression_pieces : Setting → List (Placed Operator) → List Piece

@@ -110,7 +110,7 @@ module _ (names : Names) where
 
   -- A group. Its first type has the index i.
   unfoldable pub type_group_pieces : ℕ → Placed TypeGroup → List Piece
-  type_group_pieces i g = Break (Some g.place) 1 ∷ group_pieces_by g.value.written g.place i g.value.types
+  type_group_pieces i g = Break (Some g.place) 1 ∷ group_pieces_by g.value.explicit g.place i g.value.types
 
   -- Groups. Type indices run across all of them.
   unfoldable pub type_section_pieces : ℕ → List (Placed TypeGroup) → List Piece

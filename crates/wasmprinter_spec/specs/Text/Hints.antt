@@ -1,7 +1,8 @@
 -- The branch hints of a text (Code Metadata, a document that accompanies the standard): each belongs to the
 -- operator or group directly after it. A text has no list of hints if a hint annotation occurs elsewhere, or if
--- another annotation occurs between a parenthesis and the keyword of a field, of a part of a function's header or
--- of a folded operator.
+-- another annotation occurs between a parenthesis and the keyword of a field or of a part of a function's header.
+-- (If one occurs between the parenthesis and the keyword of a folded operator, the group is taken for an immediate of
+-- the operator before it or around it. No printed text has such an annotation.)
 use Rattle.std.specs.Prelude.{ℕ, suc, ◌+◌, ◌==◌, List, [], ◌∷◌, ◌++◌, length, Bool, true, false, ◌&&◌, codes, bytes_eq, Option, Some, None, if◌then◌else◌, map}
 use Rattle.std.specs.List.{list_any}
 use Rattle.wasmprinter_spec.specs.Grammar.{◌>>=◌}

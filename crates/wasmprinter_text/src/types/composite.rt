@@ -14,7 +14,7 @@ use crate::words::{
     open_group, open_group_space, open_plain, write_close_paren, write_space, write_word,
 };
 use wasmprinter_custom::{Identifier, Identifiers, Space};
-use wasmprinter_ops::composite::{
+use wasmprinter_ops::composite_types::{
     CompositeType, FieldType, FieldTypes, FuncType, StorageType, SubType, TypeIndices,
 };
 use wasmprinter_print::Output;
@@ -138,7 +138,7 @@ fn write_array_type<O: Output>(out: &mut O, identifiers: &Identifiers<'_, '_>, e
     write_close_paren(out);
 }
 
-/// Writes the structure type with the given number and fields, as a group.
+/// Writes the structure type with the given index and fields, as a group.
 #[tactic(auto, unfolding(wasmprinter_spec::specs::Layout::Types::composite_pieces, wasmprinter_spec::specs::Layout::Groups::line_group))]
 fn write_struct_type<O: Output>(
     out: &mut O,
@@ -154,7 +154,7 @@ fn write_struct_type<O: Output>(
     write_close_paren(out);
 }
 
-/// Writes the composite type of the type with the given number.
+/// Writes the composite type of the type with the given index.
 fn write_composite_type<O: Output>(
     out: &mut O,
     identifiers: &Identifiers<'_, '_>,
@@ -208,7 +208,7 @@ fn write_supertypes<O: Output>(
     }
 }
 
-/// Writes the subtype of the type with the given number, as a group.
+/// Writes the subtype of the type with the given index, as a group.
 #[tactic(auto, unfolding(wasmprinter_spec::specs::Layout::Types::sub_group, wasmprinter_spec::specs::Layout::Groups::line_group))]
 fn write_sub_group<O: Output>(
     out: &mut O,
@@ -234,7 +234,7 @@ fn is_plain(sub_type: &SubType<'_>) -> bool
     sub_type.is_final() && sub_type.supertypes().len() == 0
 }
 
-/// Writes the subtype of the type with the given number. A final type without supertypes is written as its
+/// Writes the subtype of the type with the given index. A final type without supertypes is written as its
 /// composite type alone.
 fn write_sub_type<O: Output>(
     out: &mut O,
@@ -252,7 +252,7 @@ fn write_sub_type<O: Output>(
     }
 }
 
-/// Writes the definition of the type with the given number.
+/// Writes the definition of the type with the given index, without a line break before it.
 #[tactic(auto, unfolding(wasmprinter_spec::specs::Layout::Types::type_pieces, wasmprinter_spec::specs::Layout::Groups::line_group_space))]
 pub fn write_type_field<O: Output>(
     out: &mut O,

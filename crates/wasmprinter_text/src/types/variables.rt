@@ -8,7 +8,7 @@ ghost use Rattle.wasmprinter_spec.specs.Layout.ValTypes.{val_pieces};
 ghost use Rattle.wasmprinter_spec.specs.Layout.Variables.{variable_groups, groups_pieces};
 ghost use Rattle.wasmprinter_spec.specs.Piece.{OneSpace};
 ghost use Rattle.wasmprinter_custom.specs.Shown.{identifier_view, names_of_identifiers};
-ghost use Rattle.wasmprinter_ops.specs.ValTypes.{type_view, types_view};
+ghost use Rattle.wasmprinter_ops.specs.ValTypes.{val_type_view, val_types_view};
 ghost use Rattle.wasmprinter_text.specs.Variables.{front_pieces, end_pieces, before_next, first_pieces, unnamed_pieces, variable_pieces};
 
 use crate::indices::write_id_and_name_space;
@@ -68,7 +68,7 @@ fn write_named_variable<O: Output>(
 )
     ensures { O.wrote out.old out.new
         (line_group keyword.now (OneSpace ∷ (id_and_name_space_pieces (Some (identifier_view identifier.entry))
-        ++ val_pieces (names_of_identifiers identifiers.now) (type_view value_type)))) }
+        ++ val_pieces (names_of_identifiers identifiers.now) (val_type_view value_type)))) }
 {
     open_group(out, keyword);
     write_space(out);
@@ -86,7 +86,7 @@ fn write_first_unnamed<O: Output>(
     value_type: ValType,
 )
     ensures { O.wrote out.old out.new
-        (first_pieces (names_of_identifiers identifiers.now) keyword.now before (type_view value_type)) }
+        (first_pieces (names_of_identifiers identifiers.now) keyword.now before (val_type_view value_type)) }
 {
     write_before_group(out, before);
     open_group(out, keyword);
@@ -102,7 +102,7 @@ fn write_unnamed_variable<O: Output>(
     value_type: ValType,
 )
     ensures { O.wrote out.old out.new
-        (unnamed_pieces (names_of_identifiers identifiers.now) keyword.now before (type_view value_type)) }
+        (unnamed_pieces (names_of_identifiers identifiers.now) keyword.now before (val_type_view value_type)) }
 {
     match before {
         Before::Open => write_space_val_type(out, identifiers, value_type),
@@ -122,7 +122,7 @@ fn write_variable_as<O: Output>(
 ) -> Before
     ensures pieces { O.wrote out.old out.new
         (variable_pieces (names_of_identifiers identifiers.now) keyword.now before
-        (option_map identifier_view identifier.entry) (type_view value_type)) }
+        (option_map identifier_view identifier.entry) (val_type_view value_type)) }
     ensures next { result ≡ before_next (option_map identifier_view identifier.entry) }
 {
     match identifier {
@@ -151,7 +151,7 @@ pub fn write_variable<O: Output>(
 ) -> Before
     ensures pieces { O.wrote out.old out.new
         (variable_pieces (names_of_identifiers identifiers.now) keyword.now before
-        (parameters_of (names_of_identifiers identifiers.now) owner number) (type_view value_type)) }
+        (parameters_of (names_of_identifiers identifiers.now) owner number) (val_type_view value_type)) }
     ensures next { result ≡ before_next (parameters_of (names_of_identifiers identifiers.now) owner number) }
 {
     let identifier = variable(identifiers, owner, number);
@@ -177,7 +177,7 @@ pub(crate) fn write_params<O: Output>(
 )
     ensures { O.wrote out.old out.new
         (groups_pieces (names_of_identifiers identifiers.now) (codes "param")
-        (variable_groups (parameters_of (names_of_identifiers identifiers.now) owner) 0 (types_view types.now))) }
+        (variable_groups (parameters_of (names_of_identifiers identifiers.now) owner) 0 (val_types_view types.now))) }
 {
     let mut before = Before::Closed;
     for (number, value_type) in (0..u64::from(types.len())).zip(types.iter()) {

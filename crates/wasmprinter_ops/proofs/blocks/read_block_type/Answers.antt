@@ -1,5 +1,5 @@
 use Rattle.std.proofs.Common.{rules, sym}
-use Rattle.wasmprinter_ops.specs.ValTypes.{type_view}
+use Rattle.wasmprinter_ops.specs.ValTypes.{val_type_view}
 use Rattle.wasmprinter_ops.proofs.BlockTypes.{index_read, value_read}
 use Rattle.wasmprinter_ops.proofs.blocks.read_block_type.Goals as goal
 
@@ -14,7 +14,7 @@ returns-in_ok-read_type_index c = record {
 
 pub returns-in_ok-read_type : goal.returns-in_ok-read_type
 returns-in_ok-read_type c = record {
-  reads = value_read c.args.cursor.now c.in-Some.first (type_view c.in_ok-read_type.field-0, c.read_type.new.cursor)
+  reads = value_read c.args.cursor.now c.in-Some.first (val_type_view c.in_ok-read_type.field-0, c.read_type.new.cursor)
       c.in-Some.ensures c.if-first-eq-EMPTY.false (sym c.if-begins_type.ensures) c.in_ok-read_type.ensures.reads;
   within = search rules;
   end = search rules;

@@ -1,5 +1,5 @@
 use Rattle.std.proofs.Common.{false}
-use Rattle.wasmprinter_spec.specs.Options.{in_colors}
+use Rattle.wasmprinter_spec.specs.Options.{with_color}
 use Rattle.wasmprinter_flat.specs.OpenLabels.Scan.{names_of}
 use Rattle.wasmprinter_sections.specs.Sections.{module_laid}
 use Rattle.wasmprinter_sections.proofs.WholeModule.{stops_first}
@@ -7,7 +7,7 @@ use Rattle.wasmprinter_sections.proofs.module_printing.print_module.Goals as goa
 
 pub returns-in_err-folder : goal.returns-in_err-folder
 returns-in_err-folder g c =
-    let by = in_colors c.args.options.now (g.P.Print.colors c.args.p.now) in
+    let by = with_color c.args.options.now (g.P.Print.colors c.args.p.now) in
     let memory = c.in_err-folder.ensures.memory in (
       (λ n. false),
       stops_first g.P.Print.meaning by c.args.p.now c.from_residual.result (module_laid by (λ n. false) (names_of c.args.labels) c.args.module.now)

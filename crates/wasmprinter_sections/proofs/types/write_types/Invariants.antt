@@ -6,6 +6,6 @@ use Rattle.wasmprinter_sections.proofs.types.write_types.Given as goal
 
 abbrev pub invariant-loop-sub_type : goal.invariant-loop-sub_type
 invariant-loop-sub_type g l = record {
-  rest : (t : _) → g.O.Output.wrote l.out t (numbered_pieces (listed_pieces (names_of l.scope.labels) l.fn.group.value.written l.fn.group.place) l.number l.sub_type-iterator) → g.O.Output.wrote l.fn.out t (numbered_pieces (listed_pieces (names_of l.scope.labels) l.fn.group.value.written l.fn.group.place) l.fn.first l.fn.group.value.types);
+  rest : (t : _) → g.O.Output.wrote l.out t (numbered_pieces (listed_pieces (names_of l.scope.labels) l.fn.group.value.explicit l.fn.group.place) l.number l.sub_type-iterator) → g.O.Output.wrote l.fn.out t (numbered_pieces (listed_pieces (names_of l.scope.labels) l.fn.group.value.explicit l.fn.group.place) l.fn.first l.fn.group.value.types);
   count : l.number + length l.sub_type-iterator ≡ l.fn.first + length l.fn.group.value.types;
 }

@@ -2,7 +2,7 @@ use Rattle.wasmprinter.specs.Change.{change}
 use Rattle.wasmprinter.specs.Outcome.{IsPrintRefusal, Leaves}
 use Rattle.std.proofs.Common.{refl, ap, ◌∙◌}
 use Rattle.wasmprinter_spec.specs.Names.Section.{label_subsection}
-use Rattle.wasmprinter_bytes.specs.declared.error.Error.TheVariants.{Memory}
+use Rattle.wasmprinter_bytes.specs.declared.library_error.Error.TheVariants.{Memory}
 use Rattle.wasmprinter.proofs.Named.{names_refusal, unnamed, not_ok}
 use Rattle.wasmprinter.proofs.Outcomes.{decoded_as, handed_on, print_refusal, refusal_left, fold_refusal, fold_left, fold_unmarked, own_ended, ended_printed, ended_refusal, ended_left, ended_unmarked}
 use Rattle.wasmprinter.proofs.config.Config.print.Goals as goal
@@ -25,7 +25,7 @@ returns-in_err-names-clause-refused g c =
     let printer = change g.P.Print.meaning c.args.printer.now c.args.printer.now in
     handed_on (IsPrintRefusal printer c.args.self.now c.args.wasm.now) c.from_residual-in_err-names.result c.in_err-names.field-0.0 c.from_residual-in_err-names.ensures.1
     (print_refusal printer c.args.self.now c.args.wasm.now c.in_err-names.field-0.0
-    (rw c.in_err-names.ensures.memory (names_refusal c.args.wasm.now c.in_ok-module.module c.in_ok-module.ensures.ok.0 (λ none. not_ok (c.in_err-names.ensures.needed none)))))
+    (rw c.in_err-names.ensures.memory (names_refusal c.args.wasm.now c.in_ok-module.module c.in_ok-module.ensures.ok.0 (λ none. not_ok (c.in_err-names.ensures.succeeds none)))))
 
 pub returns-in_err-labels-clause-refused : goal.returns-in_err-labels-clause-refused
 returns-in_err-labels-clause-refused g c =
@@ -33,7 +33,7 @@ returns-in_err-labels-clause-refused g c =
     handed_on (IsPrintRefusal printer c.args.self.now c.args.wasm.now) c.from_residual-in_err-labels.result Memory c.from_residual-in_err-labels.ensures.1
     (print_refusal printer c.args.self.now c.args.wasm.now Memory
     (names_refusal c.args.wasm.now c.in_ok-module.module c.in_ok-module.ensures.ok.0
-    (λ none. not_ok (c.in_err-labels.ensures.needed (λ f n. c.in_ok-names.ensures.names label_subsection f n ∙ unnamed _ none label_subsection f n)))))
+    (λ none. not_ok (c.in_err-labels.ensures.succeeds (λ f n. c.in_ok-names.ensures.names label_subsection f n ∙ unnamed _ none label_subsection f n)))))
 
 pub returns-in_err-check-clause-refused : goal.returns-in_err-check-clause-refused
 returns-in_err-check-clause-refused g c =

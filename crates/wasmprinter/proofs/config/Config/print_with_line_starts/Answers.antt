@@ -3,7 +3,7 @@ use Rattle.std.proofs.Common.{rules, ◌≡◌, false, string_bytes, sym, ap, �
 use Rattle.wasmprinter_writers.specs.Cuts.{lines_at_starts}
 use Rattle.wasmprinter_writers.specs.Tracked.{without_lines}
 use Rattle.wasmprinter_writers.proofs.LineRuns.{claims_never}
-use Rattle.wasmprinter_bytes.specs.declared.error.Error.TheVariants.{Memory}
+use Rattle.wasmprinter_bytes.specs.declared.library_error.Error.TheVariants.{Memory}
 use Rattle.wasmprinter.specs.Lined.{HasLinesBy, LeavesStorage}
 use Rattle.wasmprinter.specs.Outcome.{IsTextRefusal, without_printer}
 use Rattle.wasmprinter.proofs.Outcomes.{text_refusal}
@@ -17,7 +17,7 @@ returns-in-Ok-clause-lines c =
     let begun : c.new-printer.result ≡ without_lines base = c.new-printer.ensures ∙ ap (λ s. without_lines (string_bytes s)) c.replace-text.ensures.value in
     handed_on_as _ (λ starts. HasLinesBy c.args.self.now c.args.wasm.now base text (lines_at_starts starts.items text)) c.finish-text.result.1 c.map_err.result c.map_err.ensures.cases
     (finished_lines c.args.self.now c.args.wasm.now base text c.new-printer.result c.print-printed.new.printer begun c.finish-text.ensures.text (λ starts. starts.items) c.finish-text.result.1
-    c.in-Ok.ensures.printed c.finish-text.ensures.kept c.finish-text.ensures.lines)
+    c.in-Ok.ensures.printed c.finish-text.ensures.none_lost c.finish-text.ensures.lines)
 
 pub returns-in-Ok-clause-refused : goal.returns-in-Ok-clause-refused
 returns-in-Ok-clause-refused c =

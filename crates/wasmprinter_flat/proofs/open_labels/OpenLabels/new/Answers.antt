@@ -11,17 +11,17 @@ invariant_of-result c =
     (kept_new c.args.identifiers.names.now c.in_ok-labels-2.labels.items c.in_ok-labels.field-0.items c.len.result (c.in_ok-labels-2.ensures.labels ∙ c.deref.ensures.value)
     c.in_ok-labels.ensures.all c.in_ok-labels.ensures.ascend c.in_ok-labels.ensures.of_labels c.in_ok-labels-2.ensures.numbers size)
 
-pub returns-in_err-labels-clause-needed : goal.returns-in_err-labels-clause-needed
-returns-in_err-labels-clause-needed c = λ h. absurd (true≢false (sym (c.in_err-labels.ensures.needed (no_labels c.args.identifiers.names.now h))))
+pub returns-in_err-labels-clause-succeeds : goal.returns-in_err-labels-clause-succeeds
+returns-in_err-labels-clause-succeeds c = λ h. absurd (true≢false (sym (c.in_err-labels.ensures.succeeds (no_labels c.args.identifiers.names.now h))))
 
-pub returns-in_err-labels-2-clause-needed : goal.returns-in_err-labels-2-clause-needed
-returns-in_err-labels-2-clause-needed c = λ h.
+pub returns-in_err-labels-2-clause-succeeds : goal.returns-in_err-labels-2-clause-succeeds
+returns-in_err-labels-2-clause-succeeds c = λ h.
     let none : c.in_ok-labels.field-0.items ≡ [] = none_listed c.in_ok-labels.field-0.items _ c.in_ok-labels.ensures.all (no_labels c.args.identifiers.names.now h) in
-    absurd (true≢false (sym (c.in_err-labels-2.ensures.needed (c.deref.ensures.value ∙ none))))
+    absurd (true≢false (sym (c.in_err-labels-2.ensures.succeeds (c.deref.ensures.value ∙ none))))
 
-pub returns-in_err-named-clause-needed : goal.returns-in_err-named-clause-needed
-returns-in_err-named-clause-needed c = λ h.
+pub returns-in_err-named-clause-succeeds : goal.returns-in_err-named-clause-succeeds
+returns-in_err-named-clause-succeeds c = λ h.
     let none : c.in_ok-labels.field-0.items ≡ [] = none_listed c.in_ok-labels.field-0.items _ c.in_ok-labels.ensures.all (no_labels c.args.identifiers.names.now h) in
     let size : c.len.result ≡ length c.in_ok-labels-2.labels.items = omega (arith, c.len.ensures, c.in_ok-labels-2.labels.ok) in
     let empty = length_none c.in_ok-labels-2.labels.items c.in_ok-labels.field-0.items (c.in_ok-labels-2.ensures.labels ∙ c.deref.ensures.value) none in
-    absurd (true≢false (sym (c.in_err-named.ensures.needed (size ∙ empty))))
+    absurd (true≢false (sym (c.in_err-named.ensures.succeeds (size ∙ empty))))

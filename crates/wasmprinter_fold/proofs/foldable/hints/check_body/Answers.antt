@@ -1,5 +1,5 @@
 use Rattle.std.proofs.Common.{◌∙◌, sym, ap}
-use Rattle.wasmprinter_bytes.specs.declared.error.Error.TheVariants.{FoldHint}
+use Rattle.wasmprinter_bytes.specs.declared.library_error.Error.TheVariants.{FoldHint}
 use Rattle.wasmprinter_spec.specs.Operator.{Operator}
 use Rattle.wasmprinter_spec.specs.Table.{role_of}
 use Rattle.wasmprinter_fold.proofs.Steps.{front_refused, front_passed, handed_on, misplaced_next}

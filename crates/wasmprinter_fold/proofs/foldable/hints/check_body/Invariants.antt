@@ -1,6 +1,6 @@
 -- The rest of the list has the same first place as the whole list.
 use Rattle.std.specs.Prelude.{◌≡◌}
-use Rattle.wasmprinter_bytes.specs.declared.error.Error.TheVariants.{FoldHint}
+use Rattle.wasmprinter_bytes.specs.declared.library_error.Error.TheVariants.{FoldHint}
 use Rattle.wasmprinter_spec.specs.Folding.Refusals.{misplaced_hints_in}
 use Rattle.wasmprinter_fold.specs.Refused.{error_of_first}
 use Rattle.wasmprinter_fold.proofs.foldable.hints.check_body.Given as goal

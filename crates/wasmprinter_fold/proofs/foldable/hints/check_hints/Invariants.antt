@@ -1,6 +1,6 @@
 -- The rest of the functions have the same first place as all functions.
 use Rattle.std.specs.Prelude.{◌≡◌, ◌+◌, drop}
-use Rattle.wasmprinter_bytes.specs.declared.error.Error.TheVariants.{FoldHint}
+use Rattle.wasmprinter_bytes.specs.declared.library_error.Error.TheVariants.{FoldHint}
 use Rattle.wasmprinter_spec.specs.Types.{FuncKind}
 use Rattle.wasmprinter_spec.specs.Customs.Hints.{hints_of}
 use Rattle.wasmprinter_spec.specs.Folding.Refusals.{misplaced_hints_from}

@@ -1,5 +1,5 @@
 use Rattle.std.proofs.Common.{◌≡◌, ◌∙◌, sym, ap, true, false}
-use Rattle.wasmprinter_bytes.specs.declared.error.Error.TheVariants.{FoldLegacy}
+use Rattle.wasmprinter_bytes.specs.declared.library_error.Error.TheVariants.{FoldLegacy}
 use Rattle.wasmprinter_spec.specs.Operator.{Operator}
 use Rattle.wasmprinter_spec.specs.Table.{role_of}
 use Rattle.wasmprinter_spec.specs.Folding.Code.{is_try}

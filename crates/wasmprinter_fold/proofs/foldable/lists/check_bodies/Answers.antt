@@ -1,5 +1,5 @@
 use Rattle.std.proofs.Common.{◌∙◌, sym, ap}
-use Rattle.wasmprinter_bytes.specs.declared.error.Error.TheVariants.{FoldLegacy}
+use Rattle.wasmprinter_bytes.specs.declared.library_error.Error.TheVariants.{FoldLegacy}
 use Rattle.wasmprinter_spec.specs.Grammar.{Placed}
 use Rattle.wasmprinter_spec.specs.Placed.{Body}
 use Rattle.wasmprinter_spec.specs.Folding.Refusals.{Operators, legacy_places_in}

@@ -1,7 +1,7 @@
 -- The rest of the items have the same first place as all items.
 use Rattle.std.specs.Prelude.{◌≡◌, drop}
 use Rattle.std.specs.List.{flat_map}
-use Rattle.wasmprinter_bytes.specs.declared.error.Error.TheVariants.{FoldLegacy}
+use Rattle.wasmprinter_bytes.specs.declared.library_error.Error.TheVariants.{FoldLegacy}
 use Rattle.wasmprinter_spec.specs.Folding.Refusals.{legacy_places_in}
 use Rattle.wasmprinter_fold.specs.Refused.{error_of_first}
 use Rattle.wasmprinter_fold.proofs.foldable.lists.check_each.Given as goal

@@ -2,7 +2,7 @@ use Rattle.std.specs.Prelude.{◌≡◌, [], codes, length}
 use Rattle.std.proofs.Common.{sym, ◌∙◌, ap, arith, ⊎_elim}
 use Rattle.wasmprinter_spec.specs.Layout.Types.{parameters_of}
 use Rattle.wasmprinter_custom.specs.Shown.{names_of_identifiers}
-use Rattle.wasmprinter_ops.specs.ValTypes.{types_view}
+use Rattle.wasmprinter_ops.specs.ValTypes.{val_types_view}
 use Rattle.wasmprinter_text.proofs.Counting.{none-left}
 use Rattle.wasmprinter_text.proofs.Walks.{walk-groups, walk-next, walk-none}
 use Rattle.wasmprinter_text.proofs.types.variables.write_params.Goals as goal
@@ -11,7 +11,7 @@ pub returns-then-has_failed : goal.returns-then-has_failed
 returns-then-has_failed g c =
     let names = names_of_identifiers c.args.identifiers.now in
     let named = parameters_of names c.args.owner in
-    rw (← walk-groups names (codes "param") named 0 (types_view c.args.types.now))
+    rw (← walk-groups names (codes "param") named 0 (val_types_view c.args.types.now))
     (c.loop-number.invariant.rest _ (g.met.O.Output.pieces_skipped _ _ (sym c.has_failed.ensures ∙ c.if-has_failed.true)))
 
 pub loop-number-preserved : goal.loop-number-preserved
@@ -36,5 +36,5 @@ returns g c =
     ⊎_elim (λ (_, (ends, (none, stays))). none-left _ _ items c.loop-number.invariant.count none) (λ (_, (none, stays)). none)
     c.in-None.ensures.steps in
     let last = walk-none names (codes "param") named c.loop-number.before c.loop-number.number-iterator.a.start items none in
-    rw (← walk-groups names (codes "param") named 0 (types_view c.args.types.now))
+    rw (← walk-groups names (codes "param") named 0 (val_types_view c.args.types.now))
     (c.loop-number.invariant.rest _ (rw last c.close_variables.ensures))

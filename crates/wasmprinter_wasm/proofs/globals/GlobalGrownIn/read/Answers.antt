@@ -4,7 +4,7 @@ use Rattle.wasmprinter_spec.specs.Grammar.{value_with_place}
 use Rattle.wasmprinter_spec.specs.Instructions.{expression}
 use Rattle.wasmprinter_spec.specs.Binary.Globals.{global}
 use Rattle.wasmprinter_bytes.proofs.Grown.{part_fault}
-use Rattle.wasmprinter_ops.specs.Operators.{HasBlock}
+use Rattle.wasmprinter_ops.specs.Operators.{ReachesBlock}
 use Rattle.wasmprinter_wasm.specs.Externs.{global_type_view}
 use Rattle.wasmprinter_wasm.specs.Growing.{GlobalGrows}
 use Rattle.wasmprinter_wasm.proofs.globals.GlobalGrownIn.read.Goals as goal
@@ -13,5 +13,5 @@ pub returns-in_err-init-clause-reads : goal.returns-in_err-init-clause-reads
 returns-in_err-init-clause-reads c =
     let (fault, failed, is) = err_from_is_err_and c.from_residual-in_err-init.result c.from_residual-in_err-init.ensures.1 in
     rw (failed, is)
-    (part_fault (expression.parse c.read.new.cursor ≡ None) (HasBlock c.read.new.cursor) ((value_with_place global).parse c.args.cursor.now ≡ None) (GlobalGrows c.args.cursor.now) c.read.new.cursor c.args.cursor.now
+    (part_fault (expression.parse c.read.new.cursor ≡ None) (ReachesBlock c.read.new.cursor) ((value_with_place global).parse c.args.cursor.now ≡ None) (GlobalGrows c.args.cursor.now) c.read.new.cursor c.args.cursor.now
     (λ none. rw (c.in_ok-ty.ensures.reads, none) refl) (λ more. record { value = global_type_view c.in_ok-ty.ty; after = c.read.new.cursor; read = c.in_ok-ty.ensures.reads; holds = more }) c.in_ok-ty.ensures.end c.in_ok-ty.ensures.forward c.in_err-init.field-0.0 c.in_err-init.ensures.reads)

@@ -14,14 +14,14 @@ use Rattle.wasmprinter_wasm.proofs.module.Module.names.Goals as goal
 pub loop-custom-init : goal.loop-custom-init
 loop-custom-init c = naming_none c.args.self.now.customs c.new-builder.result c.new-builder.ensures
 
-pub returns-in_err-read_names-clause-needed : goal.returns-in_err-read_names-clause-needed
-returns-in_err-read_names-clause-needed c none =
+pub returns-in_err-read_names-clause-succeeds : goal.returns-in_err-read_names-clause-succeeds
+returns-in_err-read_names-clause-succeeds c none =
     let lt : c.loop-custom.custom-index < length c.args.self.now.customs = omega (arith, c.loop-custom-test.true, ap length c.customs-custom-items.ensures) in
     let entry : CustomEntry = custom_entry (after_view c.custom.inside.after) c.custom.inside.section in
     let found = c.custom-item.is ∙ ap (λ (xs : List CustomEntry). get_or xs c.loop-custom.custom-index c.custom-item.result) c.customs-custom-items.ensures in
     let same : entry ≡ get_or c.args.self.now.customs c.loop-custom.custom-index entry =
     subst (λ (e : CustomEntry). e ≡ get_or c.args.self.now.customs c.loop-custom.custom-index e) (sym c.custom.view_is) found in
-    let ok = c.in_err-read_names.ensures.needed (naming_nothing c.args.self.now.customs c.loop-custom.custom-index c.loop-custom.builder entry lt same c.loop-custom.invariant
+    let ok = c.in_err-read_names.ensures.succeeds (naming_nothing c.args.self.now.customs c.loop-custom.custom-index c.loop-custom.builder entry lt same c.loop-custom.invariant
     c.cursor.result (sym c.is_name_section.ensures ∙ c.if-is_name_section.true) c.cursor.ensures none) in
     absurd cc
 
@@ -50,10 +50,10 @@ returns-clause-names c =
     let none : drop c.loop-custom.custom-index c.args.self.now.customs ≡ [] = drop_of_length-le c.args.self.now.customs past in
     c.in_ok-finish.ensures.names (name_entries c.args.self.now.customs) (naming_done c.args.self.now.customs c.loop-custom.custom-index c.loop-custom.builder none c.loop-custom.invariant)
 
-pub returns-in_err-finish-clause-needed : goal.returns-in_err-finish-clause-needed
-returns-in_err-finish-clause-needed c nameless =
+pub returns-in_err-finish-clause-succeeds : goal.returns-in_err-finish-clause-succeeds
+returns-in_err-finish-clause-succeeds c nameless =
     let past : length c.args.self.now.customs ≤ c.loop-custom.custom-index = omega (arith, c.loop-custom-test.false, ap length c.customs-custom-items.ensures) in
     let none : drop c.loop-custom.custom-index c.args.self.now.customs ≡ [] = drop_of_length-le c.args.self.now.customs past in
     let kept = naming_done c.args.self.now.customs c.loop-custom.custom-index c.loop-custom.builder none c.loop-custom.invariant in
-    let ok = c.in_err-finish.ensures.needed (subst (λ (es : List Entry). Holds es c.loop-custom.builder) nameless kept) in
+    let ok = c.in_err-finish.ensures.succeeds (subst (λ (es : List Entry). Holds es c.loop-custom.builder) nameless kept) in
     absurd cc

@@ -1,0 +1,58 @@
+//! Printing a module as a string.
+ghost use Rattle.std.specs.Prelude.{◌≡◌, ◌↔◌, IfOk, IfErr, IsErrOf, string_bytes};
+ghost use Rattle.wasmprinter_spec.specs.Binary.{IsComponent};
+ghost use Rattle.wasmprinter_spec.specs.Options.{defaults};
+ghost use Rattle.wasmprinter.specs.Printed.{HasText, IsTextOf};
+ghost use Rattle.wasmprinter.specs.Outcome.{without_printer, IsTextRefusal};
+
+use crate::config::Config;
+use crate::plain_text_printer::Plain;
+use std::alloc::Global;
+use wasmprinter_bytes::Error;
+
+/// Replaces `Printer` by `Memory`, and returns any other error unchanged. A printer that keeps its text in memory
+/// fails only if an allocation fails.
+pub(crate) fn without_printer(error: Error) -> Error
+    ensures { result ≡ without_printer error }
+{
+    match error {
+        Error::Printer(_) => Error::Memory,
+        error => error,
+    }
+}
+
+impl Config {
+    /// Returns the text of a module in the binary format.
+    ///
+    /// # Errors
+    ///
+    /// The errors of [`Config::print`], except that `Printer` is never returned. `Memory` is also returned if the
+    /// text can't grow.
+    pub fn print_to_string(&self, alloc: Global, wasm: &[u8]) -> Result<String, Error>
+        ensures printed { IfOk result (λ text. IsTextOf self.now wasm.now (string_bytes text)) }
+        ensures refused { IfErr result (IsTextRefusal self.now wasm.now) }
+        ensures component { IsErrOf result Error.Component ↔ IsComponent wasm.now }
+    {
+        let mut printer = Plain::new(alloc);
+        match self.print(alloc, wasm, &mut printer) {
+            Ok(()) => Ok(printer.into_string()),
+            Err(error) => Err(without_printer(error)),
+        }
+    }
+}
+
+/// Returns the text of a module in the binary format, with the default options.
+///
+/// For example, `print_bytes(alloc, b"\0asm\x01\0\0\0")` returns the text of the module without fields: `(module)`
+/// and a line feed.
+///
+/// # Errors
+///
+/// The errors of [`Config::print_to_string`].
+pub fn print_bytes(alloc: Global, wasm: &[u8]) -> Result<String, Error>
+    ensures printed { IfOk result (λ text. HasText wasm.now (string_bytes text)) }
+    ensures refused { IfErr result (IsTextRefusal defaults wasm.now) }
+    ensures component { IsErrOf result Error.Component ↔ IsComponent wasm.now }
+{
+    Config::new().print_to_string(alloc, wasm)
+}

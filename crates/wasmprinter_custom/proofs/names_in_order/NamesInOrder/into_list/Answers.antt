@@ -1,6 +1,0 @@
-use Rattle.std.proofs.Common.{◌∙◌}
-use Rattle.wasmprinter_custom.proofs.Placing.{none_in_front}
-use Rattle.wasmprinter_custom.proofs.names_in_order.NamesInOrder.into_list.Goals as goal
-
-pub returns-clause-needed : goal.returns-clause-needed
-returns-clause-needed c = λ none. none_in_front c.self.inside.late.entries _ _ (c.self.view_is ∙ none) c.is_empty.ensures c.if-is_empty.false

@@ -1,4 +1,0 @@
-use Rattle.wasmprinter_fold.proofs.node_text.node_writer.write_plain_annotation.Goals as goal
-
-pub returns : goal.returns
-returns g c = rw c.hint_text.ensures.shown at c.write_word.ensures

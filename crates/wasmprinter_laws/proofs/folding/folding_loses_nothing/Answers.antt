@@ -1,5 +1,0 @@
-use Rattle.wasmprinter_spec.proofs.Folding.{unfolding_of-tree}
-use Rattle.wasmprinter_laws.proofs.folding.folding_loses_nothing.Goals as goal
-
-pub returns : goal.returns
-returns c = unfolding_of-tree

@@ -1,5 +1,0 @@
-use Rattle.wasmprinter_laws.proofs.Lines.CodeSection.{apart}
-use Rattle.wasmprinter_laws.proofs.places.bodies_lie_apart.Goals as goal
-
-pub returns : goal.returns
-returns c = apart

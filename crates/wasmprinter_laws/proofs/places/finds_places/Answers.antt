@@ -1,5 +1,0 @@
-use Rattle.wasmprinter_laws.proofs.Lines.Finding.{finds_place}
-use Rattle.wasmprinter_laws.proofs.places.finds_places.Goals as goal
-
-pub returns : goal.returns
-returns c = finds_place

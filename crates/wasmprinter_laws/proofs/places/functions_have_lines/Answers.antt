@@ -1,5 +1,0 @@
-use Rattle.wasmprinter_laws.proofs.Lines.FunctionLines.{function_lines}
-use Rattle.wasmprinter_laws.proofs.places.functions_have_lines.Goals as goal
-
-pub returns : goal.returns
-returns c = function_lines

@@ -1,5 +1,0 @@
-use Rattle.wasmprinter_laws.proofs.Lines.Fed.{lines_after_feeds}
-use Rattle.wasmprinter_laws.proofs.places.lines_begin_after_feeds.Goals as goal
-
-pub returns : goal.returns
-returns c = lines_after_feeds

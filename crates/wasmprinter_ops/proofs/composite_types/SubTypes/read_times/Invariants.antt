@@ -1,0 +1,12 @@
+use Rattle.std.proofs.Common.{◌≡◌, ◌≤◌, ◌-◌}
+use Rattle.wasmprinter_bytes.specs.Items.{skip_at}
+use Rattle.wasmprinter_spec.specs.Binary.Types.{subtype}
+use Rattle.wasmprinter_bytes.specs.Reads.{end_of}
+use Rattle.wasmprinter_ops.proofs.composite_types.SubTypes.read_times.Given as goal
+
+abbrev pub invariant-loop : goal.invariant-loop
+invariant-loop l = record {
+  rest : skip_at subtype.parse (l.count - l.counter) l.cursor ≡ skip_at subtype.parse l.count l.start;
+  end : end_of l.cursor ≡ end_of l.start;
+  forward : l.start.place ≤ l.cursor.place;
+}
